@@ -24,7 +24,7 @@ pub use Rattle.std.specs.Prelude.{Vec}
 pub use Rattle.std.proofs.lemmas.List.Sums.{sum_by-cons, length-filter, count_by-le-length, sum_by_push}
 pub use Rattle.std.proofs.lemmas.List.{length-map, length_push, length-take-le, take_more}
 pub use Rattle.core_records.specs.declared.index.Keyed.{Keyed}
-pub use Rattle.core_records.specs.Indexing.{are_sorted, AreKeysOf, IsIndex, passes, without_id, termed_at, termed_of, first_key, moves_stop}
+pub use Rattle.core_records.specs.Indexing.{are_sorted, AreKeysOf, IsIndex, passes, without_id, child_of, termed_at, termed_of, first_key, moves_child, moves_stop}
 pub use Rattle.std.proofs.lemmas.List.Folds.{list_all-append, list_any-append}
 pub use Rattle.std.specs.List.Sorted.{IsPartitionedBy, IsPartitionPoint}
 pub use Rattle.core_records.specs.declared.counts.Counts.{Counts}

@@ -1,16 +1,23 @@
--- The records by the times of the SIGTERMs to their children.
-use Rattle.std.specs.Prelude.{◌≡◌, ◌≤◌, ℕ, Bool, true, false, not, ◌&&◌, if◌then◌else◌, List, [], ◌∷◌, filter, length, nat_lt, Option, Some, None, Vec}
+-- The records by a number that some of them have: their children by their numbers, and the SIGTERMs by their times.
+use Rattle.std.specs.Prelude.{◌≡◌, ◌≤◌, ℕ, Bool, true, false, ◌==◌, not, ◌&&◌, if◌then◌else◌, List, [], ◌∷◌, filter, length, nat_lt, Option, Some, None, Vec}
 use Rattle.std.specs.List.{list_any, count_by, filter_map}
+use Rattle.std.specs.Option.{option_map}
 use Rattle.std.specs.Vec.{vec_capacity}
+use Rattle.core_records.specs.declared.children.KnownChild.{KnownChild}
 use Rattle.core_records.specs.declared.children.Stop.{Stop}
 use Rattle.core_records.specs.declared.children.Stop.TheVariants.{Termed}
 use Rattle.init_words.specs.declared.orders.Answer.{Answer}
 use Rattle.init_words.specs.declared.orders.Answer.TheVariants.{Born, Ended, Hit}
 use Rattle.init_words.specs.Ids.{same_id}
 use Rattle.core_records.specs.declared.index.Keyed.{Keyed}
+use Rattle.core_records.specs.declared.index.Found.{Found}
+use Rattle.core_records.specs.declared.index.Found.TheVariants as found
 use Rattle.core_records.specs.State.{RecordState}
 
--- the time of the SIGTERM to the child, if that was its last signal
+-- the number of the child, and the time of the SIGTERM to it, if that was its last signal
+abbrev pub child_of : RecordState → Option Keyed
+child_of slot = option_map (λ (child : KnownChild). record { key = child.number; id = slot.id }) slot.child
+
 abbrev pub termed_at : List ℕ → Option Stop → Option Keyed
 termed_at id (Some (Termed time)) = Some (record { key = time; id = id })
 termed_at id _ = None
@@ -47,14 +54,31 @@ passes test (Some c) = if test c then 1 else 0
 abbrev pub without_id : List ℕ → List Keyed → List Keyed
 without_id id cs = filter (λ (c : Keyed). not (same_id id c.id)) cs
 
--- an answer after which the stop of the id's child may be another
+-- an answer after which the id may have another child, or none, and one after which its stop may be another
+abbrev pub moves_child : Answer → Bool
+moves_child (Born number) = true
+moves_child (Ended status) = true
+moves_child _ = false
+
 abbrev pub moves_stop : Answer → Bool
 moves_stop (Born number) = true
 moves_stop (Ended status) = true
 moves_stop Hit = true
 moves_stop _ = false
 
+-- there is an item, and it has the key
+abbrev pub is_at : ℕ → Option Keyed → Bool
+is_at key None = false
+is_at key (Some c) = c.key == key
+
 -- the key of the first
 abbrev pub first_key : List Keyed → Option ℕ
 first_key [] = None
 first_key (c ∷ cs) = Some c.key
+
+-- no item has the key, or one alone has it, that of the id
+abbrev pub IsFound : ℕ → List Keyed → Found → Type 0
+IsFound key cs found.None = count_by (λ (c : Keyed). c.key == key) cs ≡ 0
+IsFound key cs (found.One id) = (count_by (λ (c : Keyed). c.key == key) cs ≡ 1)
+    × (count_by (λ (c : Keyed). c.key == key && same_id id c.id) cs ≡ 1)
+IsFound key cs found.Several = Unit {0}

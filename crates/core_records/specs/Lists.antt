@@ -1,6 +1,7 @@
 -- The records in their order, one an id: how one is found and changed, and what an answer makes of them all.
 use Rattle.std.specs.Prelude.{ℕ, Bool, true, false, not, ◌&&◌, ◌==◌, if◌then◌else◌, List, [], ◌∷◌, map, filter, find, Option, Some, None, is_some, Result, Ok, Err}
 use Rattle.std.specs.List.{list_any}
+use Rattle.std.specs.Option.{option_map}
 use Rattle.init_words.specs.declared.orders.OrderKind.{OrderKind}
 use Rattle.init_words.specs.declared.orders.OrderKind.TheVariants.{Look}
 use Rattle.init_words.specs.declared.orders.Answer.{Answer}
@@ -51,6 +52,10 @@ order_in id slots = order_of (record_by_id id slots)
 abbrev pub is_numbered : ℕ → Option KnownChild → Bool
 is_numbered number None = false
 is_numbered number (Some child) = child.number == number
+
+abbrev pub id_of_child : ℕ → List RecordState → Option (List ℕ)
+id_of_child number slots =
+    option_map (λ (slot : RecordState). slot.id) (find (λ (slot : RecordState). is_numbered number slot.child) slots)
 
 -- an open order is a start or a signal; a quiet point is one without such orders
 abbrev pub is_busy : Option OrderKind → Bool

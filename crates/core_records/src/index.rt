@@ -1,11 +1,11 @@
-//! An index of the records that were sent TERM, by the time at which KILL is due.
+//! Indexes of the records: of those with a child by its number, and of those that were sent SIGTERM by its time.
 
-ghost use Rattle.std.specs.Prelude.{◌≡◌, ◌≤◌, ◌+◌, Bool, if◌then◌else◌, nat_lt, true, false, length, OnOk};
+ghost use Rattle.std.specs.Prelude.{◌≡◌, ◌≤◌, ◌+◌, Bool, if◌then◌else◌, nat_lt, slice_get, true, false, length, OnOk};
 ghost use Rattle.std.specs.List.{count_by};
 ghost use Rattle.std.specs.List.Sorted.{IsPartitionPoint};
 ghost use Rattle.std.specs.Vec.{vec_capacity};
 ghost use Rattle.core_records.specs.declared.index.Keyed.{Keyed};
-ghost use Rattle.core_records.specs.Indexing.{are_sorted, termed_of, passes, without_id, moves_stop, first_key, IsIndex};
+ghost use Rattle.core_records.specs.Indexing.{are_sorted, child_of, termed_of, passes, without_id, moves_child, moves_stop, is_at, first_key, IsFound, IsIndex};
 
 use crate::children::Stop;
 use crate::record::Record;
@@ -17,6 +17,17 @@ use std::alloc::Allocator;
 pub(crate) struct Keyed {
     pub(crate) key: u64,
     pub(crate) id: Id,
+}
+
+/// The number of the record's child, if it has one.
+pub(crate) fn child_of(slot: &Record) -> Option<Keyed>
+    ensures { result ≡ child_of slot.now }
+{
+    let number = slot.child()?;
+    Some(Keyed {
+        key: u64::from(number.0),
+        id: slot.id(),
+    })
 }
 
 /// The time of the SIGTERM to the record's child, if that was its last signal.
@@ -32,11 +43,25 @@ pub(crate) fn termed_of(slot: &Record) -> Option<Keyed>
     }
 }
 
+/// The id may have another child after the answer, or none.
+pub(crate) fn moves_child(answer: &Answer) -> bool
+    ensures { result ≡ moves_child answer.now }
+{
+    matches!(answer, Answer::Born(_) | Answer::Ended(_))
+}
+
 /// The stop of the id's child may be another after the answer.
 pub(crate) fn moves_stop(answer: &Answer) -> bool
     ensures { result ≡ moves_stop answer.now }
 {
     matches!(answer, Answer::Born(_) | Answer::Ended(_) | Answer::Hit)
+}
+
+/// The records with a key.
+pub(crate) enum Found {
+    None,
+    One(Id),
+    Several,
 }
 
 /// The place of the first item with the key or a greater one.
@@ -47,6 +72,30 @@ fn first_from(items: &[Keyed], key: u64) -> usize
         (λ (item : Keyed). nat_lt item.key key ≡ false) items.now result }
 {
     items.partition_point(|item: &Keyed| item.key < key)
+}
+
+fn has_key(items: &[Keyed], place: usize, key: u64) -> bool
+    ensures { result ≡ is_at key (slice_get items.now place) }
+{
+    match items.get(place) {
+        Some(item) => item.key == key,
+        None => false,
+    }
+}
+
+/// The records with the key, found by halving.
+pub(crate) fn with_key(items: &[Keyed], key: u64) -> Found
+    requires { are_sorted items.now ≡ true }
+    ensures { IsFound key items.now result }
+{
+    let first = first_from(items, key);
+    if !has_key(items, first, key) {
+        return Found::None;
+    }
+    if has_key(items, first + 1, key) {
+        return Found::Several;
+    }
+    Found::One(items[first].id)
 }
 
 /// The least key, which is that of the first item.

@@ -6,7 +6,8 @@ ghost use Rattle.respawn_limit.specs.declared.TheConstants.{CLOCK_LIMIT};
 
 use crate::counts::{Counts, count_due, count_excluded};
 use crate::index::{
-    Keyed, first_key, forget, index_termed, make_room, moves_stop, note, put, termed_of,
+    Found, Keyed, child_of, first_key, forget, index_termed, make_room, moves_child, moves_stop,
+    note, put, termed_of, with_key,
 };
 use crate::record::Record;
 use indexmap::IndexMap;
@@ -24,7 +25,9 @@ use std::marker::Model;
 pub struct Records<A: Allocator = Global> {
     records: IndexMap<Id, Record, BuildHasherDefault<FoldHasher>, A>,
     counts: Counts,
-    // The times of SIGTERMs that were the last signal, sorted, with room for one a record.
+    // The children by their numbers, sorted, and the times of SIGTERMs that were the last signal, with room for one of
+    // each a record.
+    children: Vec<Keyed, A>,
     termed: Vec<Keyed, A>,
 }
 
@@ -36,7 +39,7 @@ impl<A: Allocator> Model for Records<A> {
     ghost use Rattle.core_records.specs.Lists.{ids_of_records};
     ghost use Rattle.core_records.specs.Times.{are_timely};
     ghost use Rattle.core_records.specs.Counting.{counts_of};
-    ghost use Rattle.core_records.specs.Indexing.{termed_of, IsIndex};
+    ghost use Rattle.core_records.specs.Indexing.{child_of, termed_of, IsIndex};
 
     ghost Value = { List RecordState };
 
@@ -45,6 +48,7 @@ impl<A: Allocator> Model for Records<A> {
     ghost invariant = { λ slots. (keys slots.records ≡ ids_of_records (values slots.records))
         × (are_timely CLOCK_LIMIT (values slots.records) ≡ true)
         × (slots.counts ≡ counts_of (values slots.records))
+        × IsIndex child_of (values slots.records) slots.children
         × IsIndex termed_of (values slots.records) slots.termed };
 }
 
@@ -56,6 +60,7 @@ impl<A: Allocator + Copy> Records<A> {
         Records {
             records: IndexMap::new(alloc),
             counts: Counts::none(),
+            children: Vec::new(alloc),
             termed: Vec::new(alloc),
         }
     }
@@ -67,6 +72,7 @@ impl<A: Allocator + Copy> Records<A> {
         Ok(Records {
             records: IndexMap::with_capacity(alloc, room)?,
             counts: Counts::none(),
+            children: Vec::with_capacity(alloc, room)?,
             termed: Vec::with_capacity(alloc, room)?,
         })
     }
@@ -80,7 +86,7 @@ impl<A: Allocator + Copy> Records<A> {
 impl<A: Allocator> Records<A> {
     ghost use Rattle.std.specs.List.{list_any};
     ghost use Rattle.core_records.specs.State.{RecordState};
-    ghost use Rattle.core_records.specs.Lists.{are_distinct, record_by_id, has_record_of, can_ask, order_in, is_quiet, with_changed, without, refusal_of, is_over_in, after_told};
+    ghost use Rattle.core_records.specs.Lists.{are_distinct, record_by_id, has_record_of, can_ask, order_in, id_of_child, is_quiet, with_changed, without, refusal_of, is_over_in, after_told};
     ghost use Rattle.core_records.specs.Times.{is_timely, are_timely};
     ghost use Rattle.core_records.specs.Changes.{after_order, after_hold, after_call, after_enter, after_begin_round, after_answer};
     ghost use Rattle.core_records.specs.Judging.{after_judge};
@@ -120,6 +126,28 @@ impl<A: Allocator> Records<A> {
         ensures timely { IfSome result (λ slot. is_timely CLOCK_LIMIT slot.now ≡ true) }
     {
         self.records.get(id)
+    }
+
+    /// The id of the first record whose child has the number.
+    pub fn by_child(&self, number: ChildNumber) -> Option<Id>
+        ensures { result ≡ id_of_child number self.now }
+    {
+        match with_key(self.children.as_slice(), u64::from(number.0)) {
+            Found::None => None,
+            Found::One(id) => Some(id),
+            // The system gave the number anew, and the end of the child that had it before isn't told yet.
+            Found::Several => self.first_with(number),
+        }
+    }
+
+    fn first_with(&self, number: ChildNumber) -> Option<Id>
+        ensures { result ≡ id_of_child number self.now }
+    {
+        let slot = self
+            .records
+            .values()
+            .find(|slot| slot.child() == Some(number))?;
+        Some(slot.id())
     }
 
     /// No start and no signal is unanswered; looks may be.
@@ -252,7 +280,9 @@ impl<A: Allocator> Records<A> {
         self.counts.subtract(Counts::of(slot));
         slot.note_answer(answer, now);
         self.counts.add(Counts::of(slot));
+        let child = child_of(slot);
         let termed = termed_of(slot);
+        note(&mut self.children, &id, moves_child(&answer), child);
         note(&mut self.termed, &id, moves_stop(&answer), termed);
     }
 
@@ -261,6 +291,7 @@ impl<A: Allocator> Records<A> {
     {
         if let Some(slot) = self.records.shift_remove(&id) {
             self.counts.subtract(Counts::of(&slot));
+            forget(&mut self.children, id);
             forget(&mut self.termed, id);
         }
     }
@@ -345,13 +376,16 @@ impl<A: Allocator> Records<A> {
     {
         let id = slot.id();
         let counts = Counts::of(&slot);
+        let child = child_of(&slot);
         let termed = termed_of(&slot);
         let records = self.records.len() + 1;
+        make_room(&mut self.children, records)?;
         make_room(&mut self.termed, records)?;
         self.records.insert(id, slot)?;
         // `len` says that the records are few enough to count, as `insert` doesn't.
         let _ = self.records.len();
         self.counts.add(counts);
+        put(&mut self.children, child);
         put(&mut self.termed, termed);
         Ok(())
     }

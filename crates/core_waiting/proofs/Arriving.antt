@@ -182,7 +182,7 @@ staged goal past rest = at (stage_of past) refl where
     dawn none = cc
 
 -- at a rest with no order open no other level is wished for
-unwished : (goal : Goal) (past : List Event) → AtRest goal past → is_idle past ≡ true → is_some (level_wish past) ≡ false
+pub unwished : (goal : Goal) (past : List Event) → AtRest goal past → is_idle past ≡ true → is_some (level_wish past) ≡ false
 unwished goal past rest idle = falsely (is_some (level_wish past)) (wish_stands past) (λ wish. or_left (wants_reexec past || wants_reread past || is_some (level_wish past)) (in_run (stage_of past) && keeps_news past) (or_right (wants_reexec past || wants_reread past) (is_some (level_wish past)) wish)) (rest_heard goal past rest idle)
 
 course_of : (goal : Goal) (round past : List Event) → is_sound goal (round ++ past) ≡ true → AtRest goal past → is_idle past ≡ true → Parts round past → Course goal round past

@@ -47,7 +47,7 @@ use Rattle.core_waiting.proofs.Progress.{same_stage as stage_stays, excluded_sti
 use Rattle.core_waiting.proofs.Rounds.{fewer, fewer_to_come}
 
 -- what a step that is due and that is this one says
-abbrev Unless : Step → Type 0 → Step → Type 0
+abbrev pub Unless : Step → Type 0 → Step → Type 0
 Unless it F x = same_step it x ≡ true → F
 
 unless : (it : Step) (F : Type 0) (xs : List Step) → Each (Unless it F) xs → list_any (same_step it) xs ≡ true → F
@@ -55,12 +55,12 @@ unless it F [] each h = absurd (false≢true h)
 unless it F (x ∷ xs) each h = or_either (same_step it x) (list_any (same_step it) xs) h each.0 (unless it F xs each.1)
 
 -- a step that is no order, no hold, no announcement, and no wish to read inittab or to be re-executed
-record Moves (it : Step) : Type 0 where
-  orders : (id : List ℕ) (ask : OrderKind) → same_step it (step.Order id ask) ≡ false
-  holds : (id : List ℕ) → same_step it (step.Hold id) ≡ false
-  settles : (level : Level) → same_step it (step.Settle level) ≡ false
-  reexecs : same_step it step.Reexec ≡ false
-  rereads : same_step it step.Reread ≡ false
+pub record Moves (it : Step) : Type 0 where
+  pub orders : (id : List ℕ) (ask : OrderKind) → same_step it (step.Order id ask) ≡ false
+  pub holds : (id : List ℕ) → same_step it (step.Hold id) ≡ false
+  pub settles : (level : Level) → same_step it (step.Settle level) ≡ false
+  pub reexecs : same_step it step.Reexec ≡ false
+  pub rereads : same_step it step.Reread ≡ false
 
 never : {F : Type 0} (b : Bool) → b ≡ false → b ≡ true → F
 never b other own = both_ways b own other
@@ -101,20 +101,20 @@ settles_each it F moves (Some stage.Sysinit) past = tt
 settles_each it F moves (Some stage.Boot) past = tt
 settles_each it F moves (Some (stage.Run level)) past = each_step_if (Unless it F) (is_settled level (known_children past) past) (step.Settle level) (λ _. never (same_step it (step.Settle level)) (moves.settles level))
 
-powers_each : (it : Step) (F : Type 0) (kinds : List PowerKind) (past : List Event) → (list_any (λ k. keeps_power k past) kinds ≡ true → (kind : PowerKind) → same_step it (step.Power kind) ≡ true → F) → Each (Unless it F) (power_steps kinds past)
+pub powers_each : (it : Step) (F : Type 0) (kinds : List PowerKind) (past : List Event) → (list_any (λ k. keeps_power k past) kinds ≡ true → (kind : PowerKind) → same_step it (step.Power kind) ≡ true → F) → Each (Unless it F) (power_steps kinds past)
 powers_each it F [] past say = tt
 powers_each it F (kind ∷ kinds) past say = each_append (Unless it F) (step_if (keeps_power kind past) (step.Power kind)) (power_steps kinds past) (each_step_if (Unless it F) (keeps_power kind past) (step.Power kind) (λ own. say (or_left (keeps_power kind past) (list_any (λ k. keeps_power k past) kinds) own) kind)) (powers_each it F kinds past (λ more. say (or_right (keeps_power kind past) (list_any (λ k. keeps_power k past) kinds) more)))
 
-calls_each : (it : Step) (F : Type 0) (called : List Letter) (past : List Event) → (list_any (λ l. keeps_letter l past) called ≡ true → (letter : Letter) → same_step it (step.Call letter) ≡ true → F) → Each (Unless it F) (letter_steps called past)
+pub calls_each : (it : Step) (F : Type 0) (called : List Letter) (past : List Event) → (list_any (λ l. keeps_letter l past) called ≡ true → (letter : Letter) → same_step it (step.Call letter) ≡ true → F) → Each (Unless it F) (letter_steps called past)
 calls_each it F [] past say = tt
 calls_each it F (letter ∷ called) past say = each_append (Unless it F) (step_if (keeps_letter letter past) (step.Call letter)) (letter_steps called past) (each_step_if (Unless it F) (keeps_letter letter past) (step.Call letter) (λ own. say (or_left (keeps_letter letter past) (list_any (λ l. keeps_letter l past) called) own) letter)) (calls_each it F called past (λ more. say (or_right (keeps_letter letter past) (list_any (λ l. keeps_letter l past) called) more)))
 
-whole : (it : Step) (F : Type 0) (xs : List Step) → (list_any (same_step it) xs ≡ true → F) → Each (Unless it F) xs
+pub whole : (it : Step) (F : Type 0) (xs : List Step) → (list_any (same_step it) xs ≡ true → F) → Each (Unless it F) xs
 whole it F [] within = tt
 whole it F (x ∷ xs) within = ((λ own. within (or_left (same_step it x) (list_any (same_step it) xs) own)), whole it F xs (λ more. within (or_right (same_step it x) (list_any (same_step it) xs) more)))
 
 -- rank by rank
-why_due : (goal : Goal) (past : List Event) (it : Step) (F : Type 0) → Moves it → Each (Unless it F) (due_first goal (stage_of past) past) → Each (Unless it F) (due_level past) → Each (Unless it F) (due_news past) → Each (Unless it F) (due_stage goal past) → is_due goal it past ≡ true → F
+pub why_due : (goal : Goal) (past : List Event) (it : Step) (F : Type 0) → Moves it → Each (Unless it F) (due_first goal (stage_of past) past) → Each (Unless it F) (due_level past) → Each (Unless it F) (due_news past) → Each (Unless it F) (due_stage goal past) → is_due goal it past ≡ true → F
 why_due goal past it F moves first level news over h = unless it F (due goal past) all h where
   Q : Step → Type 0
   Q = Unless it F
@@ -292,7 +292,7 @@ same_stage-is stage.Boot stage.Boot h = refl
 same_stage-is (stage.Run k) (stage.Run l) h = ap stage.Run (same_level-is k l h)
 same_stage-is _ _ h = absurd (false≢true h)
 
-one_step : (s x : Stage) (g grace : ℕ) → (same_stage s x && g == grace || false) ≡ true → s ≡ x
+pub one_step : (s x : Stage) (g grace : ℕ) → (same_stage s x && g == grace || false) ≡ true → s ≡ x
 one_step s x g grace h = same_stage-is s x (and_parts (same_stage s x) (g == grace) (sym (or_false (same_stage s x && g == grace)) ∙ h)).0
 
 record Climb (level : Level) (o : Option Stage) (s : Stage) : Type 0 where

@@ -1,5 +1,7 @@
 pub mod ArrivalRows
 pub mod Arriving
+pub mod Asking
+pub mod AskingRows
 pub mod Awaiting
 pub mod Climbing
 pub mod Coming

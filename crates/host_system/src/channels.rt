@@ -74,6 +74,11 @@ impl<A: Allocator> Channel<A> {
         self.lock = Some(lock);
     }
 
+    /// The path of the channel.
+    pub(crate) fn path(&self) -> &str {
+        self.path.as_str()
+    }
+
     /// It has a request that was not read, or is shorter than what was read. Of a file that stood at its path when it was
     /// read last the length alone is asked for: that another file stands there now is seen when it is read again.
     pub(crate) fn has_news<R: Files>(&self, rt: &R) -> bool {

@@ -5,6 +5,7 @@ ghost use Rattle.std.specs.Process.{exit_code, exit_signal};
 ghost use Rattle.host_system.specs.News.{end_news, sent_text};
 
 use init_words::SignalKind;
+use itoa::Buffer;
 use std::fmt;
 use std::os::unix::process::ExitStatusExt;
 use std::process::ExitStatus;
@@ -33,11 +34,16 @@ impl fmt::Display for News {
     ghost output = { λ news. Some (news_text news) };
 
     fn fmt<W: fmt::Write>(&self, f: &mut fmt::Formatter<W>) -> fmt::Result {
+        let mut digits = Buffer::new();
         match *self {
-            News::Started(number) => write!(f, "started, {number}"),
-            News::StartedAgain(number, count) => write!(f, "started, {number} (start {count})"),
-            News::Ended(code) => write!(f, "ended with {code}"),
-            News::Killed(signal) => write!(f, "killed by signal {signal}"),
+            News::Started(number) => write!(f, "started, {}", digits.format(number)),
+            News::StartedAgain(number, count) => {
+                let mut counted = Buffer::new();
+                let number = digits.format(number);
+                write!(f, "started, {number} (start {})", counted.format(count))
+            }
+            News::Ended(code) => write!(f, "ended with {}", digits.format(code)),
+            News::Killed(signal) => write!(f, "killed by signal {}", digits.format(signal)),
             News::Gone => f.write_str("ended"),
             News::Sent(signal) => f.write_str(sent_text(signal)),
         }
@@ -82,7 +88,7 @@ impl fmt::Display for LastEnd {
             ),
             News::Ended(126) => f.write_str("exit 126: its program could not be executed"),
             News::Ended(127) => f.write_str("exit 127: its program was not found"),
-            News::Ended(code) => write!(f, "exit {code}"),
+            News::Ended(code) => write!(f, "exit {}", Buffer::new().format(code)),
             end => write!(f, "{end}"),
         }
     }

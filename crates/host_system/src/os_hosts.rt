@@ -83,7 +83,7 @@ impl<R: Processes + Files<File = File> + Clock + Print + Eprint + Drop, A: Alloc
     /// A host without children, which says what fails by the name of the program, over the paths of the inittab, of the
     /// channel of requests, of the text of init's state and of the folder of the inittab's further files, where it has
     /// one, which `with_folder` reads. A text of the state is written to the path with `.new` after it before it is put
-    /// in its place. Each of its pauses lasts a second.
+    /// in its place; where something else than a plain file stands at one of the two it is refused. Each of its pauses lasts a second.
     pub fn new(
         rt: R,
         alloc: A,
@@ -127,6 +127,24 @@ impl<R: Processes + Files<File = File> + Clock + Print + Eprint + Drop, A: Alloc
         ensures { IfOk result (λ host. host ≡ self) }
     {
         self.pauses.grow_to(length);
+        Ok(self)
+    }
+
+    /// The host with pauses for one child that is waited for: each lasts a tenth of the time since the child was born or
+    /// sent a signal, a ten-thousandth of a second to a second.
+    pub fn waiting(mut self) -> OsHost<R, A>
+        ensures { result ≡ self }
+    {
+        self.pauses = Pauses::of_a_tenth();
+        self
+    }
+
+    /// The host that puts no text of its state over the file at this path, as over no other of its own, and that tells
+    /// on standard error where no text could be put at the state's path as things stand.
+    pub fn sparing(mut self, path: &str) -> Result<OsHost<R, A>, Memory>
+        ensures { IfOk result (λ host. host ≡ self) }
+    {
+        self.spare(path)?;
         Ok(self)
     }
 
@@ -183,6 +201,15 @@ impl<R: Processes + Files<File = File> + Clock + Print + Eprint + Drop, A: Alloc
     R,
     A,
 > {
+    fn spare(&mut self, path: &str) -> Result<(), Memory>
+        ensures { self.new ≡ self.old }
+    {
+        let alloc = self.alloc;
+        self.paths.spare(alloc, path)?;
+        let _ = self.paths.tell_blocked(&self.rt, self.channel.path());
+        Ok(())
+    }
+
     fn tell_all(&mut self)
         ensures { self.new ≡ self.old }
     {
@@ -393,7 +420,8 @@ impl<R: Processes + Files<File = File> + Clock + Print + Eprint + Drop, A: Alloc
         ensures cause { HasCause self.old.faults self.new.faults (is_err result) }
         ensures kept { self.new ≡ record self.old { faults = self.new.faults } }
     {
-        let back = host_result(self.paths.carry(&self.rt, alloc, text));
+        let back = self.paths.carry(&self.rt, alloc, self.channel.path(), text);
+        let back = host_result(back);
         self.faults = counted(self.faults, back.is_err());
         back
     }

@@ -3,10 +3,10 @@
 use crate::folders::{FolderFault, PassedNames, with_folder};
 use crate::troubles::Trouble;
 use init_words::{Memory, Part};
-use program_io::{read_file, refuse_special, write_text};
+use program_io::{are_one_file, read_file, write_text};
 use std::alloc::Allocator;
-use std::fs::{File, OpenFile};
-use std::io::ErrorKind;
+use std::fs::{OpenFile, OpenOptions};
+use std::io::{Error, ErrorKind};
 use std::rt::Files;
 use std::{fs, io};
 
@@ -22,6 +22,8 @@ pub(crate) struct Paths<A: Allocator> {
     state: String<A>,
     /// Where a text of the state is written first.
     beside: String<A>,
+    /// A further file that no text of the state replaces.
+    spared: String<A>,
     carrying: Trouble,
 }
 
@@ -42,6 +44,7 @@ impl<A: Allocator + Copy> Paths<A> {
             passed: PassedNames::new(alloc, false),
             state: String::from_str(alloc, state)?,
             beside: format!(in alloc; "{state}.new")?,
+            spared: String::new(alloc),
             carrying: Trouble::new(program, "write and read back", "written and read back"),
         })
     }
@@ -100,13 +103,51 @@ impl<A: Allocator + Copy> Paths<A> {
         }
     }
 
+    /// From now on no text of the state replaces the file at this path.
+    pub(crate) fn spare(&mut self, alloc: A, path: &str) -> Result<(), Memory> {
+        self.spared = String::from_str(alloc, path)?;
+        Ok(())
+    }
+
+    /// Why no text of the state can be put in its place as things stand, which is told: something else than a plain file
+    /// stands there or beside it, or the file beside it is another of the run's.
+    pub(crate) fn tell_blocked<R: Files + Eprint>(
+        &mut self,
+        rt: &R,
+        channel: &str,
+    ) -> io::Result<()> {
+        if let Err(error) = self.refuse(rt, self.state.as_str(), channel) {
+            self.carrying.tell_begun(rt, self.state.as_str(), &error);
+            return Err(error);
+        }
+        if let Err(error) = self.refuse(rt, self.beside.as_str(), channel) {
+            self.carrying.tell_begun(rt, self.beside.as_str(), &error);
+            return Err(error);
+        }
+        Ok(())
+    }
+
+    /// Refuses a link, what is no plain file, and another file of the run.
+    fn refuse<R: Files>(&self, rt: &R, path: &str, channel: &str) -> io::Result<()> {
+        refuse_other(rt, path)?;
+        if are_one_file(rt, path, self.inittab.as_str())
+            || are_one_file(rt, path, channel)
+            || are_one_file(rt, path, self.spared.as_str())
+        {
+            return Err(refusal("it is another file of this run"));
+        }
+        Ok(())
+    }
+
     /// Writes the text beside the state's path and puts it there whole; then reads what is there.
     pub(crate) fn carry<R: Files + Eprint, B: Allocator>(
         &mut self,
         rt: &R,
         alloc: B,
+        channel: &str,
         text: &[u8],
     ) -> io::Result<Vec<u8, B>> {
+        self.tell_blocked(rt, channel)?;
         let back = self.written_and_read(rt, alloc, text);
         self.carrying.tell(rt, self.state.as_str(), &back);
         back
@@ -140,10 +181,32 @@ fn path_copy<A: Allocator>(alloc: A, path: Option<&str>) -> Result<Option<String
     }
 }
 
-/// Writes a file that has the text, and waits until it is on the disk.
+/// Refuses a link, and what is no plain file.
+fn refuse_other<R: Files>(rt: &R, path: &str) -> io::Result<()> {
+    match fs::symlink_metadata(rt, path) {
+        Ok(found) if found.is_symlink() => {
+            Err(refusal("it is a link: name the file that it leads to"))
+        }
+        Ok(found) if !found.is_file() => Err(refusal("it is no plain file")),
+        _ => Ok(()),
+    }
+}
+
+fn refusal(reason: &'static str) -> Error {
+    Error::new(ErrorKind::InvalidInput, reason)
+}
+
+/// Writes a file anew that has the text, and waits until it is on the disk. What stood at the path is taken away first,
+/// so that nothing is written through it.
 fn write_whole<R: Files>(rt: &R, path: &str, text: &[u8]) -> io::Result<()> {
-    refuse_special(rt, path)?;
-    let mut file = File::create(rt, path)?;
+    match fs::remove_file(rt, path) {
+        Err(error) if error.kind() != ErrorKind::NotFound => return Err(error),
+        _ => {}
+    }
+    let mut file = OpenOptions::new()
+        .write(true)
+        .create_new(true)
+        .open(rt, path)?;
     write_text(&mut file, text)?;
     file.sync_all()
 }

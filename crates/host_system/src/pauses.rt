@@ -30,6 +30,8 @@ pub(crate) struct Pauses {
     next: u64,
     /// Something happened since the last pause.
     stirred: bool,
+    /// The length of all pauses since something happened, where each is a tenth of those before it.
+    passed: Option<u64>,
 }
 
 impl Pauses {
@@ -40,6 +42,18 @@ impl Pauses {
             longest: SECOND,
             next: SECOND,
             stirred: false,
+            passed: None,
+        }
+    }
+
+    /// Pauses that are each a tenth of the time since something happened, a ten-thousandth of a second to a second.
+    pub(crate) fn of_a_tenth() -> Pauses {
+        Pauses {
+            shortest: SHORT,
+            longest: SECOND,
+            next: SHORT,
+            stirred: false,
+            passed: Some(0),
         }
     }
 
@@ -62,15 +76,23 @@ impl Pauses {
     }
 
     /// The length of the pause that is due over so many children, in microseconds: after a turn in which something
-    /// happened the shortest, or less where the children are few, and else twice the one before, up to the longest.
+    /// happened the shortest, or less where the children are few, and else twice the one before, or a tenth of those
+    /// before, up to the longest.
     pub(crate) fn next(&mut self, children: usize) -> u64 {
         let length = if self.stirred {
             self.shortest_over(children)
         } else {
             self.next
         };
+        if let Some(passed) = self.passed {
+            let passed = if self.stirred { 0 } else { passed };
+            let passed = passed.saturating_add(length);
+            self.passed = Some(passed);
+            self.next = (passed / 10).max(self.shortest).min(self.longest);
+        } else {
+            self.next = length.saturating_mul(2).min(self.longest);
+        }
         self.stirred = false;
-        self.next = length.saturating_mul(2).min(self.longest);
         length
     }
 

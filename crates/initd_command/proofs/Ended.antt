@@ -12,7 +12,7 @@ use Rattle.initd_command.specs.declared.run.RunFault.{RunFault}
 use Rattle.initd_command.specs.declared.run.RunFault.TheVariants as why
 use Rattle.init_words.specs.Parts.{NamedText, texts_of}
 use Rattle.inittab_text.specs.Parts.{are_readable, faults_of_parts, table_of_texts}
-use Rattle.initd_command.specs.Endings.{Ending, busy, done, flawed, lawful, no_memory, shared, stopped, too_many, torn, turned, uncreated, unflushed, unlawful, unlisted, unlocked, unread, untold, unversioned, unwritten, usage, within}
+use Rattle.initd_command.specs.Endings.{Ending, busy, done, flawed, lawful, no_memory, shared, stopped, too_many, torn, turned, uncreated, unfinished, unflushed, unlawful, unlisted, unlocked, unread, untold, unversioned, unwritten, usage}
 use Rattle.initd_command.specs.Turned.{End}
 use Rattle.host_system.specs.LineFaults.{faults_text}
 use Rattle.initd_options.specs.Options.{RunSaid}
@@ -68,7 +68,7 @@ told_runs text_at service parts unflushed old new are read taken ends = (parts, 
 told_runs text_at service parts (lawful left) old new are read taken ends = (parts, are, (read, taken, ends))
 told_runs text_at service parts (unlawful message left) old new are read taken ends = (parts, are, (read, taken, ends))
 told_runs text_at service parts (torn line) old new are read taken ends = (parts, are, (read, taken, ends))
-told_runs text_at service parts (within path) old new are read taken ends = (parts, are, (read, taken, ends))
+told_runs text_at service parts (unfinished line verdict) old new are read taken ends = (parts, are, (read, taken, ends))
 told_runs text_at service parts unwritten old new are read taken ends = (parts, are, (read, taken, ends))
 told_runs text_at service parts (turned unled end) old new are read taken ends = (parts, are, (read, taken, ends))
 told_runs text_at service parts (uncreated path why) old new are read taken ends = (parts, are, (read, taken, ends))

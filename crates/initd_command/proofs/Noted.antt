@@ -12,7 +12,7 @@ use Rattle.host_trace.specs.Point.{point_after}
 use Rattle.host_calls.specs.Record.{Since}
 use Rattle.trace_log_wrappers.specs.declared.run_notes.LastEnd.TheVariants.{Unnoted}
 use Rattle.trace_log_wrappers.specs.Ends.{last_end}
-use Rattle.trace_log_wrappers.specs.Notes.{Notes, NotesOf, end_in, last_noted, last_of}
+use Rattle.trace_log_wrappers.specs.Notes.{IsRunning, Notes, NotesOf, end_in, last_noted, last_of}
 use Rattle.trace_log_wrappers.proofs.Noted.{last_by_notes}
 use Rattle.init_turns.specs.declared.serving.Served.{Served}
 use Rattle.trace_events.specs.declared.steps.Goal.{Goal}
@@ -54,10 +54,15 @@ noted_of_trace : (notes : Notes) (waiting : List ℕ) (judgement : Option Judgem
 noted_of_trace notes waiting judgement past of waits finds = record {
   births = of.births;
   last = λ id. known id notes.complete refl;
+  running = going notes.complete refl;
   waiting = waits;
   judgement = finds;
 }
   where
+    going : (complete : Bool) → notes.complete ≡ complete → IfSome (if complete then Some notes.running else None) (λ running. IsRunning running past)
+    going true all = of.running all
+    going false none = tt
+
     known : (id : List ℕ) (complete : Bool) → notes.complete ≡ complete → (last_noted id notes ≡ Unnoted) ⊎ (last_noted id notes ≡ last_of (last_end id past))
     known id true all = inr (last_by_notes notes id past of all)
     known id false none = inl (ap (λ complete. if complete then last_of (end_in id notes.ends) else Unnoted) none)

@@ -13,7 +13,7 @@ use Rattle.init_turns.specs.Opening.{IsOpeningOf, OpeningState}
 use Rattle.initd_command.specs.declared.run.Inittab.{Inittab}
 use Rattle.initd_command.specs.declared.run.RunFault.{RunFault}
 use Rattle.initd_command.specs.declared.run.RunFault.TheVariants as why
-use Rattle.initd_command.specs.Endings.{Ending, busy, done, flawed, lawful, no_memory, shared, stopped, too_many, torn, turned, uncreated, unflushed, unlawful, unlisted, unlocked, unread, untold, unversioned, unwritten, usage, within}
+use Rattle.initd_command.specs.Endings.{Ending, busy, done, flawed, lawful, no_memory, shared, stopped, too_many, torn, turned, uncreated, unfinished, unflushed, unlawful, unlisted, unlocked, unread, untold, unversioned, unwritten, usage}
 use Rattle.initd_command.specs.Turned.{End}
 use Rattle.initd_command.specs.Services.{AreFiles, EndsRun, FailsBy, FailsToRead, FailsToTake, HasInittab, IsOfFault, IsReadOf, has_result}
 use Rattle.initd_command.specs.Ran.{AsksSaid, RanBy, RanOver}
@@ -37,7 +37,7 @@ ran_by text_at service opening unflushed old new (parts, are, read, opens) made 
 ran_by text_at service opening (lawful left) old new (parts, are, read, opens) made own is = made (table_of_texts (texts_of parts)) opens
 ran_by text_at service opening (unlawful message left) old new (parts, are, read, opens) made own is = made (table_of_texts (texts_of parts)) opens
 ran_by text_at service opening (torn line) old new (parts, are, read, opens) made own is = made (table_of_texts (texts_of parts)) opens
-ran_by text_at service opening (within path) old new (parts, are, read, opens) made own is = made (table_of_texts (texts_of parts)) opens
+ran_by text_at service opening (unfinished line verdict) old new (parts, are, read, opens) made own is = made (table_of_texts (texts_of parts)) opens
 ran_by text_at service opening unwritten old new (parts, are, read, opens) made own is = made (table_of_texts (texts_of parts)) opens
 ran_by text_at service opening (busy path holder) old new (parts, are, read, opens) made own is = made (table_of_texts (texts_of parts)) opens
 ran_by text_at service opening (shared one other) old new (parts, are, read, opens) made own is = made (table_of_texts (texts_of parts)) opens
@@ -76,7 +76,7 @@ unasked text_at service own fault unflushed old new is same = same
 unasked text_at service own fault (lawful left) old new is same = same
 unasked text_at service own fault (unlawful message left) old new is same = same
 unasked text_at service own fault (torn line) old new is same = same
-unasked text_at service own fault (within path) old new is same = same
+unasked text_at service own fault (unfinished line verdict) old new is same = same
 unasked text_at service own fault unwritten old new is same = same
 unasked text_at service own fault (busy path holder) old new is same = same
 unasked text_at service own fault (shared one other) old new is same = same

@@ -17,6 +17,13 @@ pub reported_why : {T E : Type 0} (message : Result T E) (bytes : T → List ℕ
 reported_why (Ok text) bytes told old new (why, is) part none = (why, inl (subst (AppendsPrefix old new) is part))
 reported_why (Err error) bytes told old new is part none = ([], inr none)
 
+-- a message of this text is reported, or that there was no memory for it
+pub reported_text : {T E : Type 0} (message : Result T E) (bytes : T → List ℕ) (told : List ℕ) (old new : Option (List ℕ))
+    → IfOk message (λ text. bytes text ≡ told) → IfOk message (λ text. AppendsPrefix old new (bytes text))
+    → OnErr message (AppendsPrefix old new NO_MEMORY.now) → ReportsText told old new
+reported_text (Ok text) bytes told old new is part none = inl (subst (AppendsPrefix old new) is part)
+reported_text (Err error) bytes told old new is part none = inr none
+
 pub reported_unlogged : (service : RunSaid) (noted : Noted) (served : Served) (old said mid new : Option (List ℕ)) → served.logged ≡ false
     → AppendsPrefix old said UNLOGGED.now → ReportsText noted.waiting said mid → ReportsJudgement false noted.judgement mid new
     → ReportsEnd (end_of service noted served) old new

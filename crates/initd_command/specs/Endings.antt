@@ -16,16 +16,18 @@ use Rattle.initd_command.specs.declared.run.TheConstants.{UNLED, UNTOLD}
 use Rattle.initd_command.specs.Turned.{End, ReportsEnd, ReportsText, end_status}
 use Rattle.command_words.specs.Faults.{usage_report}
 
--- of a trace that was judged: the line at which its last happening isn't finished, if at any, and how many are
+-- of a trace that was judged: its path, if it begins within a run; the line at which its last happening isn't finished,
+-- if at any; and how many are
 pub record Judged : Type 0 where
+  pub within : Option (List ℕ)
   pub left : Option ℕ
   pub count : ℕ
 
 -- done; the words are no command line, and why, or memory ran out; the file of a path was not read, and why; the inittab
 -- has too many files, or faults that these lines tell, or no entry of this id; the run over this script ended before its
 -- end; the writer could not be flushed; a trace is lawful, or unlawful, of which this is told, so far as it was judged; its
--- line of this number is none; the trace of this path begins within a run; the verdict could not
--- be written; the channel of a run over the operating system is in use, by whom where that is known, or two of its files
+-- line of this number is none; its happening at this line isn't finished, and this is the verdict up to it; the verdict
+-- could not be written; the channel of a run over the operating system is in use, by whom where that is known, or two of its files
 -- are one, or the channel was not locked, and why; its turns ended so, where nothing names its level or something does;
 -- the file of its trace was not created, and why; the faults of its inittab could not be written; the version could not be
 -- written
@@ -42,7 +44,7 @@ pub data Ending : Type 0 where
   lawful : Judged → Ending
   unlawful : List ℕ → Judged → Ending
   torn : ℕ → Ending
-  within : List ℕ → Ending
+  unfinished : ℕ → List ℕ → Ending
   unwritten : Ending
   busy : List ℕ → Option ℕ → Ending
   shared : List ℕ → List ℕ → Ending
@@ -72,7 +74,7 @@ status_of unflushed = DEVICE_FAULT
 status_of (lawful judged) = DONE
 status_of (unlawful message judged) = UNLAWFUL
 status_of (torn line) = REFUSED
-status_of (within path) = REFUSED
+status_of (unfinished line verdict) = REFUSED
 status_of unwritten = DEVICE_FAULT
 status_of (busy path holder) = DEVICE_FAULT
 status_of (shared one other) = REFUSED
@@ -105,12 +107,18 @@ torn_message line = codes "initd: trace line " ++ decimal line ++ codes " is not
 
 abbrev pub within_message : List ℕ → List ℕ
 within_message path =
-    codes "initd: " ++ path ++ codes " begins within a run: judge it behind the piece before it\n"
+    codes "initd: " ++ path ++ codes " begins within a run: judged as if nothing had come before it\n"
 
-abbrev pub unfinished_message : ℕ → List ℕ
-unfinished_message line =
+abbrev pub left_message : ℕ → List ℕ
+left_message line =
     codes "initd: the happening at trace line " ++ decimal line
     ++ codes " is not finished: judged up to the line before it\n"
+
+-- with the verdict on what stands before it
+abbrev pub unfinished_message : ℕ → List ℕ → List ℕ
+unfinished_message line verdict =
+    codes "initd: the happening at trace line " ++ decimal line
+    ++ codes " is not finished: --growing judges what stands before it: " ++ verdict
 
 -- by the number of the process that holds it, where that is known
 abbrev pub busy_message : List ℕ → Option ℕ → List ℕ
@@ -141,15 +149,21 @@ ReportsUnled true old new = AppendsPrefix old new UNLED.now
 -- what is told of a happening that isn't finished
 abbrev pub ReportsLeft : Option ℕ → Option (List ℕ) → Option (List ℕ) → Type 0
 ReportsLeft None old new = Keeps old new
-ReportsLeft (Some line) old new = ReportsText (unfinished_message line) old new
+ReportsLeft (Some line) old new = ReportsText (left_message line) old new
+
+-- what is told of a trace that begins within a run
+abbrev pub ReportsWithin : Option (List ℕ) → Option (List ℕ) → Option (List ℕ) → Type 0
+ReportsWithin None old new = Keeps old new
+ReportsWithin (Some path) old new = ReportsText (within_message path) old new
 
 abbrev pub count_message : ℕ → List ℕ
 count_message count = codes "initd: " ++ decimal count ++ codes " happenings\n"
 
--- what is told of a trace that was judged: how many happenings it has, and what isn't finished
+-- what is told of a trace that was judged: that it begins within a run, how many happenings it has, what isn't finished
 abbrev pub ReportsJudged : Judged → Option (List ℕ) → Option (List ℕ) → Type 0
 ReportsJudged judged old new =
-    (mid : Option (List ℕ)) × ReportsText (count_message judged.count) old mid × ReportsLeft judged.left mid new
+    (first : Option (List ℕ)) × ReportsWithin judged.within old first
+    × (mid : Option (List ℕ)) × ReportsText (count_message judged.count) first mid × ReportsLeft judged.left mid new
 
 -- what is reported of an ending
 abbrev pub Reports : Ending → Option (List ℕ) → Option (List ℕ) → Type 0
@@ -166,7 +180,7 @@ Reports (lawful judged) old new = ReportsJudged judged old new
 Reports (unlawful message judged) old new =
     (mid : Option (List ℕ)) × AppendsPrefix old mid message × ReportsJudged judged mid new
 Reports (torn line) old new = ReportsText (torn_message line) old new
-Reports (within path) old new = ReportsText (within_message path) old new
+Reports (unfinished line verdict) old new = ReportsText (unfinished_message line verdict) old new
 Reports unwritten old new = AppendsPrefix old new UNWRITTEN.now
 Reports (busy path holder) old new = ReportsText (busy_message path holder) old new
 Reports (shared one other) old new = ReportsText (shared_message one other) old new

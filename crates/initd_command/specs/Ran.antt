@@ -1,5 +1,5 @@
 -- Which calls a run of init makes of its host.
-use Rattle.std.specs.Prelude.{◌≡◌, ℕ, List, Option, Some, IfSome}
+use Rattle.std.specs.Prelude.{◌≡◌, ℕ, true, IsTrue, List, Option, Some, IfSome}
 use Rattle.init_words.specs.Parts.{texts_of}
 use Rattle.init_words.specs.declared.entries.Entry.{Entry}
 use Rattle.inittab_text.specs.Parts.{table_of_texts}
@@ -10,11 +10,25 @@ use Rattle.host_calls.specs.Calls.{HostCall}
 use Rattle.host_calls.specs.Record.{Since}
 use Rattle.host_trace.specs.Fronts.{EachFront, GoesSoFar}
 use Rattle.host_trace.specs.Turns.{AreTurns}
-use Rattle.init_turns.specs.Opening.{IsOpening}
+use Rattle.init_words.specs.declared.levels.Level.{Level}
+use Rattle.core_model.specs.State.{CoreState, opening_goal}
+use Rattle.core_model.specs.Decide.{is_drained}
+use Rattle.core_model.specs.Fit.{FitsAll}
+use Rattle.host_trace.specs.Leads.{are_carried, is_allowed}
+use Rattle.host_trace.specs.Point.{point_after}
+use Rattle.init_turns.specs.Opening.{IsOpening, opening_point}
 use Rattle.init_turns.specs.declared.serving.Served.{Served}
 use Rattle.initd_command.specs.Turned.{End}
 use Rattle.initd_command.specs.Endings.{Ending, turned}
 use Rattle.initd_command.specs.Services.{HasInittab, IsJudged, IsServed, Noted, end_of}
+
+-- behind these calls from the opening on init is drained, as far as the answers were possible: a core that fits there is so
+abbrev pub EndsDrained : Option Level → List Entry → List HostCall → Type 0
+EndsDrained level table calls =
+    IsTrue (is_allowed (opening_goal level table) (point_after calls (opening_point table)).past)
+    → IsTrue (are_carried calls (opening_point table))
+    → (core : CoreState) × FitsAll core (opening_goal level table) (point_after calls (opening_point table)).past
+    × (is_drained core ≡ true)
 
 -- the calls are those of turns from the opening over this table on, as many as the words of the run say, or fewer
 -- where it ended drained; up to each call all went well as far as the answers until then were possible; and the turns
@@ -24,6 +38,7 @@ pub record MakesTurns (service : RunSaid) (table : List Entry) (end : End) (call
   pub noted : Noted
   pub turns : AreTurns service.drain (IsOpening service.level table) served.turns calls
   pub fronts : EachFront (GoesSoFar (IsOpening service.level table)) calls
+  pub drains : served.drained ≡ true → EndsDrained service.level table calls
   pub most : IsServed service served
   pub asked : IsJudged service noted
   pub ends : end ≡ end_of service noted served

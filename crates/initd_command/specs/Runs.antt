@@ -35,7 +35,7 @@ EndsVersion _ old new = ⊥
 abbrev pub EndsSaid : KnownTexts → InitdSaid → Ending → Option (List ℕ) → Option (List ℕ) → Type 0
 EndsSaid text_at version ending old new = EndsVersion ending old new
 EndsSaid text_at (simulates run) ending old new = EndsSimulate text_at run ending old new
-EndsSaid text_at (judges path) ending old new = EndsCheck text_at path ending old new
+EndsSaid text_at (judges check) ending old new = EndsCheck text_at check ending old new
 EndsSaid text_at (runs service) ending old new = EndsRun text_at service ending old new
 
 -- how words end: they are no command line or memory ran out, and nothing is written, or they end by what they say

@@ -15,7 +15,7 @@ use Rattle.trace_log_wrappers.specs.declared.run_notes.LastEnd.{LastEnd}
 use Rattle.trace_log_wrappers.specs.declared.run_notes.LastEnd.TheVariants.{Unnoted}
 use Rattle.trace_log_wrappers.specs.declared.run_notes.TheConstants.{BIRTHS_LIMIT}
 use Rattle.trace_log_wrappers.specs.Ends.{births, last_end}
-use Rattle.trace_log_wrappers.specs.Notes.{Notes, last_noted, last_of}
+use Rattle.trace_log_wrappers.specs.Notes.{IsRunning, Notes, last_noted, last_of}
 use Rattle.simulator.specs.declared.running.SimFault.TheVariants as fault
 use Rattle.trace_events.specs.Event.{Event}
 use Rattle.trace_events.specs.declared.steps.Goal.{Goal}
@@ -114,6 +114,7 @@ Turns service status old new =
 pub record IsNoted (noted : Noted) (past : List Event) : Type 0 where
   pub births : noted.births ≡ min (births past) BIRTHS_LIMIT
   pub last : (id : List ℕ) → (noted.last id ≡ Unnoted) ⊎ (noted.last id ≡ last_of (last_end id past))
+  pub running : IfSome noted.running (λ running. IsRunning running past)
   pub waiting : (goal : Goal) × (core : CoreState) × FitsAll core goal past × (noted.waiting ≡ waiting_text core)
   pub judgement : IfSome noted.judgement (λ judgement. Finds judgement past)
 
@@ -245,6 +246,8 @@ FailsToRead text_at service (why.Unlisted id) =
 FailsToRead text_at service fault = FailsToGet service fault
 
 abbrev pub FailsOver : RunSaid → RunFault → Type 0
+FailsOver service (why.Busy holder) = ⊤
+FailsOver service (why.Channel error) = ⊤
 FailsOver service (why.Trace error) = IsSome service.trace
 FailsOver service why.Memory = ⊤
 FailsOver service _ = ⊥

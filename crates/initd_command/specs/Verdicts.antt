@@ -1,5 +1,5 @@
 -- How a trace is judged: the verdict that is written, and what is told of a breach.
-use Rattle.std.specs.Prelude.{◌≡◌, ◌==◌, not, ℕ, Bool, true, false, List, [], ◌∷◌, ◌++◌, codes, decimal, Option, Some, None}
+use Rattle.std.specs.Prelude.{◌≡◌, ◌==◌, ◌&&◌, if◌then◌else◌, not, nat_lt, ℕ, Bool, true, false, List, [], ◌∷◌, ◌++◌, codes, decimal, Option, Some, None}
 use Rattle.std.specs.Io.KnownBytes.{Appends, Keeps}
 use Rattle.program_io.specs.Writing.{AppendsPrefix}
 use Rattle.program_io.specs.Known.{IsTextAt, KnownTexts}
@@ -8,8 +8,9 @@ use Rattle.trace_verdict.specs.declared.findings.Finding.{Finding}
 use Rattle.trace_verdict.specs.declared.findings.Finding.TheVariants.{Lawful, Breach, Torn}
 use Rattle.trace_verdict.specs.Answers.{Named, Answers}
 use Rattle.trace_verdict.specs.Judges.{HasTaken, TextState}
+use Rattle.initd_options.specs.CommandLine.{CheckSaid}
 use Rattle.initd_command.specs.Lines.{front_line}
-use Rattle.initd_command.specs.Endings.{Ending, Judged, no_memory, unread, lawful, unlawful, torn, within, unwritten}
+use Rattle.initd_command.specs.Endings.{Ending, Judged, no_memory, unread, lawful, unlawful, torn, unfinished, unwritten}
 
 -- the verdicts
 abbrev pub lawful_text : List ℕ
@@ -21,6 +22,12 @@ verdict_text place law =
 
 abbrev pub unlawful_text : Named → List ℕ
 unlawful_text breach = verdict_text breach.place (law_number breach.law)
+
+-- the verdict by what is found; on a text of which a line is none there is none
+abbrev pub verdict_of : Finding Named → List ℕ
+verdict_of Lawful = lawful_text
+verdict_of (Breach breach) = unlawful_text breach
+verdict_of (Torn number) = []
 
 -- a line, its number and what is said of it
 abbrev pub message_of : ℕ → List ℕ → List ℕ → List ℕ
@@ -35,10 +42,11 @@ abbrev pub first_byte : List ℕ → Option ℕ
 first_byte [] = None
 first_byte (byte ∷ text) = Some byte
 
--- a text with this first byte begins within a run: a run begins with `use`, and no other happening's text with a `u`
-abbrev pub is_within : Option ℕ → Bool
-is_within None = false
-is_within (Some byte) = not (byte == 117)
+-- the path of a text that begins within a run, by its first byte and how many happenings it has: a run begins with
+-- `use`, and no other happening's text with a `u`
+abbrev pub within_of : List ℕ → Option ℕ → ℕ → Option (List ℕ)
+within_of path None count = None
+within_of path (Some byte) count = if not (byte == 117) && nat_lt 0 count then Some path else None
 
 -- a judge has taken the text, and this is its first byte
 abbrev pub IsJudge : TextState → Option ℕ → List ℕ → Type 0
@@ -68,28 +76,33 @@ EndsFound Lawful judged ending old new = EndsLawful judged ending old new
 EndsFound (Breach breach) judged ending old new = EndsBreach breach judged ending old new
 EndsFound (Torn number) judged ending old new = EndsTorn number ending old new
 
--- how a text ends that begins within a run: it has no verdict
-abbrev pub EndsUnjudged : List ℕ → Ending → Option (List ℕ) → Option (List ℕ) → Type 0
-EndsUnjudged path (within told) old new = (told ≡ path) × Keeps old new
-EndsUnjudged path _ old new = ⊥
+-- the line at which a text isn't finished, where that counts: one that is growing is judged up to it
+abbrev pub cut_at : Bool → Option ℕ → Option ℕ
+cut_at true left = None
+cut_at false left = left
 
-abbrev pub EndsWithin : List ℕ → Finding Named → Ending → Option (List ℕ) → Option (List ℕ) → Type 0
-EndsWithin path (Torn number) ending old new = EndsTorn number ending old new
-EndsWithin path _ ending old new = EndsUnjudged path ending old new
+-- how a text ends that isn't finished at this line: it is no trace, and what is found up to it is told
+abbrev pub EndsUnfinished : ℕ → Finding Named → Ending → Option (List ℕ) → Option (List ℕ) → Type 0
+EndsUnfinished line finding (unfinished at verdict) old new =
+    (at ≡ line) × (verdict ≡ verdict_of finding) × Keeps old new
+EndsUnfinished line finding _ old new = ⊥
 
--- how a text ends of which this is found, and which begins within a run or not
-abbrev pub EndsTold : Bool → List ℕ → Finding Named → Judged → Ending → Option (List ℕ) → Option (List ℕ) → Type 0
-EndsTold true path finding judged ending old new = EndsWithin path finding ending old new
-EndsTold false path finding judged ending old new = EndsFound finding judged ending old new
+abbrev pub EndsTold : Option ℕ → Finding Named → Judged → Ending → Option (List ℕ) → Option (List ℕ) → Type 0
+EndsTold None finding judged ending old new = EndsFound finding judged ending old new
+EndsTold (Some line) finding judged ending old new = EndsUnfinished line finding ending old new
 
--- how the text of a path ends: by the answer on it
-abbrev pub EndsTrace : List ℕ → List ℕ → Ending → Option (List ℕ) → Option (List ℕ) → Type 0
-EndsTrace path text ending old new = (finding : Finding Named) × (left : Option ℕ) × (count : ℕ)
+-- how a text ends: by the answer on it
+abbrev pub EndsTrace : CheckSaid → List ℕ → Ending → Option (List ℕ) → Option (List ℕ) → Type 0
+EndsTrace said text ending old new = (finding : Finding Named) × (left : Option ℕ) × (count : ℕ)
     × Answers text finding left count
-    × EndsTold (is_within (first_byte text)) path finding (record { left = left; count = count }) ending old new
+    × EndsTold (cut_at said.growing left) finding (record {
+      within = within_of said.trace (first_byte text) count;
+      left = left;
+      count = count;
+    }) ending old new
 
 -- how the text at a path ends: it is not read, or it ends so
-abbrev pub EndsCheck : KnownTexts → List ℕ → Ending → Option (List ℕ) → Option (List ℕ) → Type 0
-EndsCheck text_at path (unread told why) old new = (told ≡ path) × Keeps old new
-EndsCheck text_at path ending old new =
-    (text : List ℕ) × IsTextAt text_at path text × EndsTrace path text ending old new
+abbrev pub EndsCheck : KnownTexts → CheckSaid → Ending → Option (List ℕ) → Option (List ℕ) → Type 0
+EndsCheck text_at said (unread told why) old new = (told ≡ said.trace) × Keeps old new
+EndsCheck text_at said ending old new =
+    (text : List ℕ) × IsTextAt text_at said.trace text × EndsTrace said text ending old new

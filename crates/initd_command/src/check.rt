@@ -1,13 +1,17 @@
 //! `initd check`: a trace file, judged.
 
-ghost use Rattle.std.specs.Prelude.{◌≡◌, ◌++◌, ℕ, List, Some, [], string_bytes, IfOk};
-ghost use Rattle.initd_command.specs.Endings.{Ending, Reports, ReportsJudged, ReportsLeft, count_message, status_of, torn_message, unfinished_message, within_message};
+ghost use Rattle.std.specs.Prelude.{◌≡◌, ◌++◌, ℕ, List, Some, [], option_map, string_bytes, IfOk, OnOk};
+ghost use Rattle.initd_options.specs.CommandLine.{check_of};
+ghost use Rattle.initd_command.specs.Endings.{Ending, Reports, ReportsJudged, ReportsLeft, ReportsWithin, status_of, left_message, torn_message, unfinished_message, within_message};
 ghost use Rattle.initd_command.specs.Turned.{ReportsText};
-ghost use Rattle.initd_command.specs.Verdicts.{EndsBreach, EndsCheck, EndsFound, EndsLawful, EndsTold, EndsWithin, IsJudge, breach_message, first_byte, is_within, message_of, unlawful_text, verdict_text};
+ghost use Rattle.initd_command.specs.Verdicts.{EndsBreach, EndsCheck, EndsFound, EndsLawful, EndsTold, IsJudge, breach_message, cut_at, first_byte, message_of, unlawful_text, verdict_of, verdict_text, within_of};
 
 use crate::lines::front_line;
-use crate::reports::{report, report_bytes, report_cannot, report_made, report_memory, tell};
+use crate::reports::{
+    numbered, report, report_bytes, report_cannot, report_lines, report_made, report_memory, tell,
+};
 use init_words::Memory;
+use initd_options::CheckWords;
 use itoa::Buffer;
 use program_io::{DEVICE_FAULT, DONE, PieceTaker, REFUSED, Texts, UNLAWFUL};
 use std::alloc::{AllocError, Global};
@@ -54,115 +58,99 @@ impl PieceTaker for FileJudge {
     }
 }
 
-/// Reads the trace of a path and judges it.
+/// Reads a trace and judges it.
 pub(crate) fn check_file<T: Texts, W: Write, E: Write>(
     texts: &T,
     alloc: Global,
-    path: &str,
+    said: &CheckWords,
     out: &mut W,
     err: &mut E,
 ) -> u8
     ensures { (ending : Ending) × (result ≡ status_of ending)
-        × EndsCheck (T.text_at texts.now) path.now ending (W.contents out.old) (W.contents out.new)
+        × EndsCheck (T.text_at texts.now) (check_of said.now) ending
+        (W.contents out.old) (W.contents out.new)
         × Reports ending (E.contents err.old) (E.contents err.new) }
 {
     let mut file = FileJudge {
         judge: TextJudge::new(alloc),
         first: None,
     };
-    judge_text(texts, alloc, path, &mut file, out, err)
+    judge_text(texts, alloc, said, &mut file, out, err)
 }
 
-/// Hands the text of a path to a judge that has taken none, and tells what it found.
+/// Hands a trace to a judge that has taken none, and tells what it found.
 fn judge_text<T: Texts, W: Write, E: Write>(
     texts: &T,
     alloc: Global,
-    path: &str,
+    said: &CheckWords,
     file: &mut FileJudge,
     out: &mut W,
     err: &mut E,
 ) -> u8
     requires { IsJudge file.old.judge file.old.first [] }
     ensures { (ending : Ending) × (result ≡ status_of ending)
-        × EndsCheck (T.text_at texts.now) path.now ending (W.contents out.old) (W.contents out.new)
+        × EndsCheck (T.text_at texts.now) (check_of said.now) ending
+        (W.contents out.old) (W.contents out.new)
         × Reports ending (E.contents err.old) (E.contents err.new) }
 {
+    let path = said.trace.as_str();
     match texts.read_pieces(path, file) {
         Ok(()) => {
             let (finding, left, count) = file.judge.answer();
-            tell_text(
-                alloc,
-                path,
-                is_within(file.first),
-                finding,
-                left,
-                count,
-                out,
-                err,
-            )
+            let within = within_of(path, file.first, count);
+            tell_text(alloc, said.growing, finding, within, left, count, out, err)
         }
         Err(error) => report_cannot(alloc, "read", path, &error, err),
     }
 }
 
-/// A text with this first byte begins within a run.
-fn is_within(first: Option<u8>) -> bool
-    ensures { result ≡ is_within first }
+/// The path of a text that begins within a run: its first happening is not a table's.
+fn within_of(path: &str, first: Option<u8>, count: u64) -> Option<&str>
+    ensures { option_map (λ path. path.now) result ≡ within_of path.now first count }
 {
     match first {
-        Some(byte) => byte != b'u',
-        None => false,
+        Some(byte) if byte != b'u' && count > 0 => Some(path),
+        _ => None,
     }
 }
 
-/// Tells what is found of the text of a path, or that it begins within a run.
+/// The line at which a text isn't finished, where that counts: it isn't growing.
+fn cut_at(growing: bool, left: Option<u64>) -> Option<u64>
+    ensures { result ≡ cut_at growing left }
+{
+    if growing { None } else { left }
+}
+
+/// Tells what is found of a text, or that it isn't finished.
 fn tell_text<W: Write, E: Write>(
     alloc: Global,
-    path: &str,
-    within: bool,
+    growing: bool,
     finding: &Finding,
+    within: Option<&str>,
     left: Option<u64>,
     count: u64,
     out: &mut W,
     err: &mut E,
 ) -> u8
     ensures { (ending : Ending) × (result ≡ status_of ending)
-        × EndsTold within path.now finding.now (record {
+        × EndsTold (cut_at growing left) finding.now (record {
+          within = option_map (λ path. path.now) within.entry;
           left = left;
           count = count;
         }) ending (W.contents out.old) (W.contents out.new)
         × Reports ending (E.contents err.old) (E.contents err.new) }
 {
-    if within {
-        tell_within(alloc, path, finding, out, err)
-    } else {
-        tell_finding(alloc, finding, left, count, out, err)
+    match cut_at(growing, left) {
+        Some(line) => report_unfinished(alloc, line, finding, err),
+        None => tell_finding(alloc, finding, within, left, count, out, err),
     }
 }
 
-/// Tells that the text of a path begins within a run, or which of its lines is none.
-fn tell_within<W: Write, E: Write>(
-    alloc: Global,
-    path: &str,
-    finding: &Finding,
-    out: &mut W,
-    err: &mut E,
-) -> u8
-    ensures { (ending : Ending) × (result ≡ status_of ending)
-        × EndsWithin path.now finding.now ending (W.contents out.old) (W.contents out.new)
-        × Reports ending (E.contents err.old) (E.contents err.new) }
-{
-    match finding {
-        Finding::Lawful => report_within(alloc, path, err),
-        Finding::Breach(_) => report_within(alloc, path, err),
-        Finding::Torn(number) => report_torn(alloc, *number, err),
-    }
-}
-
-/// Tells what is found of a text, how many happenings it has, and the line at which its last one isn't finished.
+/// Tells what is found of a text, and beside it what else there is to tell.
 fn tell_finding<W: Write, E: Write>(
     alloc: Global,
     finding: &Finding,
+    within: Option<&str>,
     left: Option<u64>,
     count: u64,
     out: &mut W,
@@ -170,14 +158,15 @@ fn tell_finding<W: Write, E: Write>(
 ) -> u8
     ensures { (ending : Ending) × (result ≡ status_of ending)
         × EndsFound finding.now (record {
+          within = option_map (λ path. path.now) within.entry;
           left = left;
           count = count;
         }) ending (W.contents out.old) (W.contents out.new)
         × Reports ending (E.contents err.old) (E.contents err.new) }
 {
     match finding {
-        Finding::Lawful => tell_lawful(alloc, left, count, out, err),
-        Finding::Breach(breach) => tell_breach(alloc, breach, left, count, out, err),
+        Finding::Lawful => tell_lawful(alloc, within, left, count, out, err),
+        Finding::Breach(breach) => tell_breach(alloc, breach, within, left, count, out, err),
         Finding::Torn(number) => report_torn(alloc, *number, err),
     }
 }
@@ -188,6 +177,7 @@ const UNWRITTEN: &str = "initd: the verdict could not be written\n";
 /// Writes that the trace is lawful.
 fn tell_lawful<W: Write, E: Write>(
     alloc: Global,
+    within: Option<&str>,
     left: Option<u64>,
     count: u64,
     out: &mut W,
@@ -195,6 +185,7 @@ fn tell_lawful<W: Write, E: Write>(
 ) -> u8
     ensures { (ending : Ending) × (result ≡ status_of ending)
         × EndsLawful (record {
+          within = option_map (λ path. path.now) within.entry;
           left = left;
           count = count;
         }) ending (W.contents out.old) (W.contents out.new)
@@ -204,7 +195,7 @@ fn tell_lawful<W: Write, E: Write>(
         report(UNWRITTEN, err);
         return DEVICE_FAULT;
     }
-    report_judged(alloc, left, count, err);
+    report_judged(alloc, within, left, count, err);
     DONE
 }
 
@@ -212,6 +203,7 @@ fn tell_lawful<W: Write, E: Write>(
 fn tell_breach<W: Write, E: Write>(
     alloc: Global,
     breach: &Breach,
+    within: Option<&str>,
     left: Option<u64>,
     count: u64,
     out: &mut W,
@@ -219,6 +211,7 @@ fn tell_breach<W: Write, E: Write>(
 ) -> u8
     ensures { (ending : Ending) × (result ≡ status_of ending)
         × EndsBreach breach.now (record {
+          within = option_map (λ path. path.now) within.entry;
           left = left;
           count = count;
         }) ending (W.contents out.old) (W.contents out.new)
@@ -230,25 +223,45 @@ fn tell_breach<W: Write, E: Write>(
     let Ok(message) = breach_message(alloc, breach) else {
         return report_memory(err);
     };
-    if !tell(verdict.as_bytes(), out) {
+    if !tell(&verdict, out) {
         report(UNWRITTEN, err);
         return DEVICE_FAULT;
     }
     report_bytes(&message, err);
-    report_judged(alloc, left, count, err);
+    report_judged(alloc, within, left, count, err);
     UNLAWFUL
 }
 
-fn verdict_line(alloc: Global, breach: &Breach) -> Result<String, AllocError>
-    ensures { IfOk result (λ text. string_bytes text ≡ unlawful_text breach.now) }
+fn verdict_line(alloc: Global, breach: &Breach) -> Result<Vec<u8>, AllocError>
+    ensures { IfOk result (λ text. text.items ≡ unlawful_text breach.now) }
 {
-    verdict_text(alloc, breach.place(), breach.law().number())
+    let mut text = Vec::new(alloc);
+    add_unlawful(&mut text, breach.place(), breach.law().number())?;
+    Ok(text)
 }
 
-fn verdict_text(alloc: Global, place: u64, law: u8) -> Result<String, AllocError>
-    ensures { IfOk result (λ text. string_bytes text ≡ verdict_text place law) }
+/// Adds the verdict on a trace whose happening of this place, from 0, breaks this law.
+fn add_unlawful(text: &mut Vec<u8>, place: u64, law: u8) -> Result<(), AllocError>
+    ensures { OnOk result (text.new.items ≡ text.old.items ++ verdict_text place law) }
 {
-    format!(in alloc; "unlawful: happening {place}, law {law}\n")
+    let mut digits = Buffer::new();
+    text.extend_from_slice(b"unlawful: happening ")?;
+    text.extend_from_slice(digits.format(place).as_bytes())?;
+    text.extend_from_slice(b", law ")?;
+    text.extend_from_slice(digits.format(law).as_bytes())?;
+    text.push(b'\n')?;
+    Ok(())
+}
+
+/// Adds the verdict by what is found.
+fn add_verdict(text: &mut Vec<u8>, finding: &Finding) -> Result<(), AllocError>
+    ensures { OnOk result (text.new.items ≡ text.old.items ++ verdict_of finding.now) }
+{
+    match finding {
+        Finding::Lawful => text.extend_from_slice(b"lawful\n"),
+        Finding::Breach(breach) => add_unlawful(text, breach.place(), breach.law().number()),
+        Finding::Torn(_) => Ok(()),
+    }
 }
 
 /// The line of the trace at fault with its number, and the law in words.
@@ -274,37 +287,42 @@ fn message_of(alloc: Global, number: u64, line: &[u8], why: &[u8]) -> Result<Vec
     Ok(text)
 }
 
-/// Tells how many happenings of a trace were judged, and the line at which the last one isn't finished.
-fn report_judged<E: Write>(alloc: Global, left: Option<u64>, count: u64, err: &mut E)
+/// Tells of a trace that was judged that it begins within a run, how many happenings it has, and the line at which the
+/// last one isn't finished.
+fn report_judged<E: Write>(
+    alloc: Global,
+    within: Option<&str>,
+    left: Option<u64>,
+    count: u64,
+    err: &mut E,
+)
     ensures { ReportsJudged (record {
+      within = option_map (λ path. path.now) within.entry;
       left = left;
       count = count;
     }) (E.contents err.old) (E.contents err.new) }
 {
-    report_made(count_text(alloc, count), err);
+    report_within(alloc, within, err);
+    report_lines(numbered(alloc, b"initd: ", count, b" happenings\n"), err);
     report_left(alloc, left, err);
 }
 
-/// Reports that the trace of a path begins within a run, and gives the exit status.
-fn report_within<E: Write>(alloc: Global, path: &str, err: &mut E) -> u8
-    ensures status { result ≡ REFUSED }
-    ensures reported { ReportsText (within_message path.now)
+/// Tells that the trace of a path begins within a run.
+fn report_within<E: Write>(alloc: Global, within: Option<&str>, err: &mut E)
+    ensures { ReportsWithin (option_map (λ path. path.now) within.entry)
         (E.contents err.old) (E.contents err.new) }
 {
-    report_made(within_text(alloc, path), err);
-    REFUSED
+    if let Some(path) = within {
+        report_made(within_text(alloc, path), err);
+    }
 }
 
 fn within_text(alloc: Global, path: &str) -> Result<String, AllocError>
     ensures { IfOk result (λ text. string_bytes text ≡ within_message path.now) }
 {
-    format!(in alloc; "initd: {path} begins within a run: judge it behind the piece before it\n")
-}
-
-fn count_text(alloc: Global, count: u64) -> Result<String, AllocError>
-    ensures { IfOk result (λ text. string_bytes text ≡ count_message count) }
-{
-    format!(in alloc; "initd: {count} happenings\n")
+    format!(in alloc;
+        "initd: {path} begins within a run: judged as if nothing had come before it\n"
+    )
 }
 
 /// Tells the line at which the last happening of a trace isn't finished.
@@ -312,16 +330,43 @@ fn report_left<E: Write>(alloc: Global, left: Option<u64>, err: &mut E)
     ensures { ReportsLeft left (E.contents err.old) (E.contents err.new) }
 {
     if let Some(line) = left {
-        report_made(unfinished_text(alloc, line), err);
+        report_lines(left_text(alloc, line), err);
     }
 }
 
-fn unfinished_text(alloc: Global, line: u64) -> Result<String, AllocError>
-    ensures { IfOk result (λ text. string_bytes text ≡ unfinished_message line) }
+fn left_text(alloc: Global, line: u64) -> Result<Vec<u8>, AllocError>
+    ensures { IfOk result (λ text. text.items ≡ left_message line) }
 {
-    format!(in alloc;
-        "initd: the happening at trace line {line} is not finished: judged up to the line before it\n"
+    numbered(
+        alloc,
+        b"initd: the happening at trace line ",
+        line,
+        b" is not finished: judged up to the line before it\n",
     )
+}
+
+/// Reports that the happening at a line of a trace isn't finished, and what is found up to it, and gives the exit status.
+fn report_unfinished<E: Write>(alloc: Global, line: u64, finding: &Finding, err: &mut E) -> u8
+    ensures status { result ≡ REFUSED }
+    ensures reported { ReportsText (unfinished_message line (verdict_of finding.now))
+        (E.contents err.old) (E.contents err.new) }
+{
+    report_lines(unfinished_text(alloc, line, finding), err);
+    REFUSED
+}
+
+fn unfinished_text(alloc: Global, line: u64, finding: &Finding) -> Result<Vec<u8>, AllocError>
+    ensures { IfOk result (λ text.
+        text.items ≡ unfinished_message line (verdict_of finding.now)) }
+{
+    let mut text = numbered(
+        alloc,
+        b"initd: the happening at trace line ",
+        line,
+        b" is not finished: --growing judges what stands before it: ",
+    )?;
+    add_verdict(&mut text, finding)?;
+    Ok(text)
 }
 
 /// Reports that a line of a trace is none, and gives the exit status.
@@ -329,12 +374,9 @@ fn report_torn<E: Write>(alloc: Global, number: u64, err: &mut E) -> u8
     ensures status { result ≡ REFUSED }
     ensures reported { ReportsText (torn_message number) (E.contents err.old) (E.contents err.new) }
 {
-    report_made(torn_text(alloc, number), err);
+    report_lines(
+        numbered(alloc, b"initd: trace line ", number, b" is not a line\n"),
+        err,
+    );
     REFUSED
-}
-
-fn torn_text(alloc: Global, number: u64) -> Result<String, AllocError>
-    ensures { IfOk result (λ text. string_bytes text ≡ torn_message number) }
-{
-    format!(in alloc; "initd: trace line {number} is not a line\n")
 }

@@ -22,7 +22,7 @@ use std::rt::{Clock, Files};
 /// What standard error gets of words that are no command line, after a line that says why.
 pub const USAGE: &str = "usage: initd run [OPTION]..
        initd simulate [--level L] TABLE SCRIPT
-       initd check TRACE
+       initd check [--growing] TRACE
        initd --version
   --inittab P      the inittab(5); inittab where it is left out
   --inittab-dir DIR
@@ -52,6 +52,7 @@ pub const USAGE: &str = "usage: initd run [OPTION]..
   --strict         take no inittab that has a faulty line: the run is refused at its opening, and
                    later the inittab before stays in force
   --stamp          put the time in front of each line that the run prints while it goes on
+  --growing        judge a trace that is still written up to its last whole happening
   TABLE            an inittab(5)
   SCRIPT           what the system did, one happening a line
   TRACE            a trace of init, which is judged
@@ -93,7 +94,7 @@ where
     match read_words(alloc, words.as_slice()) {
         Ok(Words::Version) => tell_version(out, err),
         Ok(Words::Simulate(said)) => simulate_files(texts, alloc, &said, out, err),
-        Ok(Words::Check(path)) => check_file(texts, alloc, path.as_str(), out, err),
+        Ok(Words::Check(said)) => check_file(texts, alloc, &said, out, err),
         Ok(Words::Run(said)) => run_files(rt, texts, hosts, alloc, &said, out, err),
         Err(WordFault::Usage(reason)) => {
             report_refused_words("initd", reason.as_str(), USAGE, err)

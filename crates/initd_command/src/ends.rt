@@ -1,12 +1,12 @@
 //! How the turns of a run ended, as it is reported, and the exit status.
 
-ghost use Rattle.std.specs.Prelude.{◌≡◌, ◌++◌, ◌&&◌, [], None, Some, string_bytes, true, IfOk, OnOk};
+ghost use Rattle.std.specs.Prelude.{◌≡◌, ◌++◌, ◌&&◌, [], None, Some, true, IfOk, OnOk};
 ghost use Rattle.initd_options.specs.Options.{run_of};
 ghost use Rattle.initd_command.specs.Services.{end_at, end_of, entry_end, noted_of};
 ghost use Rattle.core_waiting.specs.Lines.{waiting_text};
 ghost use Rattle.initd_command.specs.Turned.{ReportsEnd, ReportsIdle, ReportsJudgement, ReportsResult, ReportsRunning, ReportsText, ReportsTurns, breach_text, child_text, drained_status, end_status, judged_status, judgement_text, last_text, lawful_text, result_status, result_text, running_text, turns_status};
 
-use crate::reports::{report, report_lines, report_made};
+use crate::reports::{numbered, report, report_lines};
 use core_steps::Core;
 use core_waiting::waiting_lines;
 use init_turns::Served;
@@ -120,33 +120,51 @@ fn report_judgement<E: Write>(alloc: Global, whole: bool, judgement: Option<Judg
     ensures { ReportsJudgement whole judgement (E.contents err.old) (E.contents err.new) }
 {
     if let Some(judgement) = judgement {
-        report_made(judgement_text(alloc, whole, judgement), err);
+        report_lines(judgement_text(alloc, whole, judgement), err);
     }
 }
 
-fn judgement_text(alloc: Global, whole: bool, judgement: Judgement) -> Result<String, AllocError>
-    ensures { IfOk result (λ text. string_bytes text ≡ judgement_text whole judgement) }
+fn judgement_text(alloc: Global, whole: bool, judgement: Judgement) -> Result<Vec<u8>, AllocError>
+    ensures { IfOk result (λ text. text.items ≡ judgement_text whole judgement) }
 {
     match judgement {
         Judgement::Lawful(count) => lawful_text(alloc, whole, count),
         Judgement::Breach(place, law) => breach_text(alloc, place, law.words()),
-        Judgement::Unjudged => String::from_str(alloc, UNJUDGED),
+        Judgement::Unjudged => Vec::from_slice(alloc, UNJUDGED.as_bytes()),
     }
 }
 
-fn lawful_text(alloc: Global, whole: bool, count: u64) -> Result<String, AllocError>
-    ensures { IfOk result (λ text. string_bytes text ≡ lawful_text whole count) }
+fn lawful_text(alloc: Global, whole: bool, count: u64) -> Result<Vec<u8>, AllocError>
+    ensures { IfOk result (λ text. text.items ≡ lawful_text whole count) }
 {
     if whole {
-        return format!(in alloc; "initd: the run was lawful: {count} happenings\n");
+        return numbered(
+            alloc,
+            b"initd: the run was lawful: ",
+            count,
+            b" happenings\n",
+        );
     }
-    format!(in alloc; "initd: what was judged of the run was lawful: {count} happenings\n")
+    numbered(
+        alloc,
+        b"initd: what was judged of the run was lawful: ",
+        count,
+        b" happenings\n",
+    )
 }
 
-fn breach_text(alloc: Global, place: u64, why: &str) -> Result<String, AllocError>
-    ensures { IfOk result (λ text. string_bytes text ≡ breach_text place why.now) }
+fn breach_text(alloc: Global, place: u64, why: &str) -> Result<Vec<u8>, AllocError>
+    ensures { IfOk result (λ text. text.items ≡ breach_text place why.now) }
 {
-    format!(in alloc; "initd: the run was unlawful: happening {place}: {why}\n")
+    let mut text = numbered(
+        alloc,
+        b"initd: the run was unlawful: happening ",
+        place,
+        b": ",
+    )?;
+    text.extend_from_slice(why.as_bytes())?;
+    text.push(b'\n')?;
+    Ok(text)
 }
 
 /// Reports that nothing was started, where that is so.
@@ -190,18 +208,20 @@ fn result_text(alloc: Global, id: &Id, last: LastEnd) -> Result<Vec<u8>, AllocEr
     let mut text = Vec::new(alloc);
     text.extend_from_slice(b"initd: ")?;
     text.extend_from_slice(id.as_bytes())?;
-    text.extend_from_slice(how.as_bytes())?;
+    text.extend_from_slice(&how)?;
     Ok(text)
 }
 
-fn last_text(alloc: Global, last: LastEnd) -> Result<String, AllocError>
-    ensures { IfOk result (λ text. string_bytes text ≡ last_text last) }
+fn last_text(alloc: Global, last: LastEnd) -> Result<Vec<u8>, AllocError>
+    ensures { IfOk result (λ text. text.items ≡ last_text last) }
 {
     match last {
-        LastEnd::Ended(Status::Exit(code)) => format!(in alloc; " ended with {code}\n"),
-        LastEnd::Ended(Status::Killed) => String::from_str(alloc, " was killed\n"),
-        LastEnd::Never => String::from_str(alloc, " never ended\n"),
-        LastEnd::Unnoted => String::from_str(alloc, UNNOTED),
+        LastEnd::Ended(Status::Exit(code)) => {
+            numbered(alloc, b" ended with ", u64::from(code), b"\n")
+        }
+        LastEnd::Ended(Status::Killed) => Vec::from_slice(alloc, b" was killed\n"),
+        LastEnd::Never => Vec::from_slice(alloc, b" never ended\n"),
+        LastEnd::Unnoted => Vec::from_slice(alloc, UNNOTED.as_bytes()),
     }
 }
 

@@ -44,6 +44,37 @@ impl EndedLog for NoLog {
 /// How many bytes of a trace are kept while its file can't be written.
 const KEPT_LIMIT: usize = 1_048_576;
 
+/// A file that is begun anew where the first bytes come: what stood in it is there until then.
+#[derive(Drop)]
+struct AnewFile {
+    file: File,
+    is_begun: bool,
+}
+
+impl AnewFile {
+    /// Empties a plain file. Of what is none nothing is left to lose.
+    fn begin(&mut self) -> io::Result<()> {
+        if self.file.metadata()?.is_file() {
+            self.file.set_len(0)?;
+        }
+        self.is_begun = true;
+        Ok(())
+    }
+}
+
+impl Write for AnewFile {
+    fn write(&mut self, buf: &[u8]) -> io::Result<usize> {
+        if !self.is_begun {
+            self.begin()?;
+        }
+        self.file.write(buf)
+    }
+
+    fn flush(&mut self) -> io::Result<()> {
+        self.file.flush()
+    }
+}
+
 /// A file, and how many bytes it took.
 #[derive(Drop)]
 struct Counted<F: Write + Drop> {
@@ -103,6 +134,15 @@ impl<F: Write + Drop> TraceFile<F> {
     }
 }
 
+/// The file of a trace that is begun anew, and bytes that are to stand there first.
+fn anew(file: File, kept: Vec<u8>) -> TraceFile<AnewFile> {
+    let file = AnewFile {
+        file,
+        is_begun: false,
+    };
+    TraceFile::new(file, kept)
+}
+
 /// The bytes behind so many.
 fn rest_of(kept: &[u8], count: usize) -> &[u8] {
     kept.get(count..).unwrap_or(&[])
@@ -142,7 +182,7 @@ pub(crate) struct FileLog<'a, R> {
     rt: &'a R,
     alloc: Global,
     path: &'a str,
-    log: StreamLog<TraceFile<File>>,
+    log: StreamLog<TraceFile<AnewFile>>,
     /// It was told that bytes are kept.
     is_waiting: bool,
     /// A part of the trace stands in no piece.
@@ -150,13 +190,13 @@ pub(crate) struct FileLog<'a, R> {
 }
 
 impl<'a, R: Files<File = File> + Eprint> FileLog<'a, R> {
-    /// The log of a file that was created at the path.
+    /// The log of the file at the path, which is begun anew.
     pub(crate) fn new(rt: &'a R, alloc: Global, path: &'a str, file: File) -> FileLog<'a, R> {
         FileLog {
             rt,
             alloc,
             path,
-            log: StreamLog::new(alloc, TraceFile::new(file, Vec::new(alloc))),
+            log: StreamLog::new(alloc, anew(file, Vec::new(alloc))),
             is_waiting: false,
             is_torn: false,
         }
@@ -250,7 +290,7 @@ impl<'a, R: Files<File = File> + Eprint> FileLog<'a, R> {
                 Vec::new(self.alloc)
             }
         };
-        self.log = StreamLog::new(self.alloc, TraceFile::new(file, kept));
+        self.log = StreamLog::new(self.alloc, anew(file, kept));
     }
 }
 

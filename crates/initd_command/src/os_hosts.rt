@@ -5,7 +5,7 @@ ghost use Rattle.initd_options.specs.Options.{run_of};
 ghost use Rattle.initd_command.specs.Hosts.{host_said};
 
 use crate::hosts::Hosts;
-use crate::run::folder_of;
+use crate::run::{folder_of, trace_of};
 use host_system::{OsHost, StampedRuntime};
 use host_telling::{CallList, Noted, Telling, no_calls};
 use init_words::Memory;
@@ -107,7 +107,9 @@ where
         state,
         folder_of(said),
     )?;
-    let host = host.with_pause(said.pause.as_str())?;
+    let host = host
+        .with_pause(said.pause.as_str())?
+        .sparing(trace_of(said))?;
     let host = if said.fresh { host.fresh() } else { host };
     let host = if said.verbose { host.verbose() } else { host };
     let host = if said.strict { host.strict() } else { host };

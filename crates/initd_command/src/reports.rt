@@ -1,6 +1,6 @@
 //! Messages about files and faults.
 
-ghost use Rattle.std.specs.Prelude.{◌≡◌, true, ℕ, List, None, Some, OnOk, OnErr, string_bytes, IfOk, ◌++◌};
+ghost use Rattle.std.specs.Prelude.{◌≡◌, true, ℕ, List, None, Some, OnOk, OnErr, string_bytes, IfOk, ◌++◌, decimal};
 ghost use Rattle.std.specs.Io.KnownBytes.{Appends};
 ghost use Rattle.program_io.specs.Writing.{AppendsPrefix};
 ghost use Rattle.initd_command.specs.Endings.{ReportsFlawed, busy_message, cannot_message, fault_message, fault_status, reason_message, shared_message, unlisted_message};
@@ -8,6 +8,7 @@ ghost use Rattle.initd_command.specs.Turned.{ReportsText};
 
 use crate::lines::{line_at, line_told};
 use init_words::Id;
+use itoa::Buffer;
 use program_io::{DEVICE_FAULT, REFUSED, write_text};
 use simulator::{Objection, SimFault};
 use std::alloc::{AllocError, Global};
@@ -169,6 +170,23 @@ fn shared_message(alloc: Global, one: &str, other: &str) -> Result<String, Alloc
     ensures { IfOk result (λ text. string_bytes text ≡ shared_message one.now other.now) }
 {
     format!(in alloc; "initd: {one} and {other} are one file: give each its own\n")
+}
+
+/// A number in a text.
+pub(crate) fn numbered(
+    alloc: Global,
+    front: &[u8],
+    number: u64,
+    behind: &[u8],
+) -> Result<Vec<u8>, AllocError>
+    ensures { IfOk result (λ text. text.items ≡ front.now ++ decimal number ++ behind.now) }
+{
+    let mut text = Vec::new(alloc);
+    let mut digits = Buffer::new();
+    text.extend_from_slice(front)?;
+    text.extend_from_slice(digits.format(number).as_bytes())?;
+    text.extend_from_slice(behind)?;
+    Ok(text)
 }
 
 /// Reports a message that was made, or that there was no memory to make it.

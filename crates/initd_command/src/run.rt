@@ -28,13 +28,14 @@ use init_turns::{Opening, Served};
 use init_words::{Id, Level, Memory, Part};
 use initd_options::RunWords;
 use inittab_text::{Table, TableFault, read_parts};
-use program_io::{ChannelLock, DEVICE_FAULT, Texts, lock_channel, lock_holder, refuse_special};
+use program_io::{
+    ChannelLock, DEVICE_FAULT, Texts, are_one_file, lock_channel, lock_holder, refuse_special,
+};
 use simulator::SimFault;
 use std::alloc::{AllocError, Global};
-use std::fs::{File, metadata};
+use std::fs::{File, OpenOptions, remove_file, symlink_metadata};
 use std::io;
-use std::io::Write;
-use std::os::unix::fs::MetadataExt;
+use std::io::{ErrorKind, Write};
 use std::rt::{Clock, Files};
 use trace_log::EndedLog;
 use trace_log_wrappers::{BriefLog, JudgedLog, Judgement, NotedLog};
@@ -67,7 +68,7 @@ enum RunFault {
     Flawed(Vec<u8>),
     /// The inittab has no entry of the id whose result the run's is to be.
     Unlisted(Id),
-    /// The file of the trace could not be created.
+    /// The file of the trace could not be opened or made.
     Trace(io::Error),
     /// Out of memory.
     Memory,
@@ -102,6 +103,13 @@ struct Inittab {
     faults: Vec<u8>,
 }
 
+/// What a run made before its first turn, and takes away again where it is refused.
+#[derive(Clone, Copy)]
+struct Made {
+    channel: bool,
+    trace: bool,
+}
+
 /// A run before its first turn.
 #[derive(Drop)]
 struct Run<H> {
@@ -109,14 +117,15 @@ struct Run<H> {
     host: H,
     /// The file of the trace, where one is to be written.
     trace: Option<File>,
+    made: Made,
     /// The lines that tell the faults of the inittab.
     faults: Vec<u8>,
     /// Nothing names a level.
     is_unled: bool,
 }
 
-/// Runs init over the operating system: reads the inittab, takes the lock of the channel, creates the trace anew, and
-/// makes the turns.
+/// Runs init over the operating system: reads the inittab, opens the trace, takes the lock of the channel, and makes the
+/// turns.
 pub(crate) fn run_files<R, T: Texts, H: Host + Drop, S: Hosts<H>, W: Write, E: Write>(
     rt: &R,
     texts: &T,
@@ -141,8 +150,8 @@ where
     }
 }
 
-/// A run with all that it stands on. Nothing is written before its inittab is read, and nothing but an empty channel,
-/// where there is none, before it has the channel's lock.
+/// A run with all that it stands on. A run that is refused leaves what was there: no channel and no trace is made, and
+/// nothing is written.
 fn open_run<R, T: Texts, H: Host + Drop, S: Hosts<H>>(
     rt: &R,
     texts: &T,
@@ -163,17 +172,15 @@ where
 {
     refuse_shared(rt, alloc, said)?;
     let inittab = read_inittab(rt, texts, alloc, said)?;
-    let lock = take_lock(rt, alloc, said.initctl.as_str())?;
-    open_over(rt, hosts, alloc, said, lock, inittab)
+    open_over(rt, hosts, alloc, said, inittab)
 }
 
-/// A run over an inittab that was read, under the lock of the channel.
+/// A run over an inittab that was read.
 fn open_over<R, H: Host + Drop, S: Hosts<H>>(
     rt: &R,
     hosts: &mut S,
     alloc: Global,
     said: &RunWords,
-    lock: ChannelLock,
     inittab: Inittab,
 ) -> Result<Run<H>, RunFault>
 where
@@ -188,11 +195,11 @@ where
     let Inittab { table, faults } = inittab;
     let is_unled = is_unled(said.level, &table);
     let opening = Opening::new(alloc, table, said.level)?;
-    let host = hosts.open(alloc, said, lock)?;
-    let trace = match create_trace(rt, said) {
-        Ok(trace) => trace,
+    let (trace, made_trace) = open_trace(rt, said)?;
+    let (host, made_channel) = match open_host(rt, hosts, alloc, said) {
+        Ok(opened) => opened,
         Err(fault) => {
-            hosts.close(host);
+            take_away(rt, trace_of(said), made_trace);
             return Err(fault);
         }
     };
@@ -200,9 +207,43 @@ where
         opening,
         host,
         trace,
+        made: Made {
+            channel: made_channel,
+            trace: made_trace,
+        },
         faults,
         is_unled,
     })
+}
+
+/// The host under the lock of the channel, and whether the channel was made.
+fn open_host<R: Files<File = File>, H: Host + Drop, S: Hosts<H>>(
+    rt: &R,
+    hosts: &mut S,
+    alloc: Global,
+    said: &RunWords,
+) -> Result<(H, bool), RunFault>
+    ensures host { IfOk result (λ opened. H.told opened.0 ≡ S.told hosts.old) }
+    ensures unasked { OnErr result (S.told hosts.new ≡ S.told hosts.old) }
+    ensures err { IfErr result (FailsOver (run_of said.now)) }
+{
+    let path = said.initctl.as_str();
+    let lock = take_lock(rt, alloc, path)?;
+    let was_made = lock.was_made();
+    match hosts.open(alloc, said, lock) {
+        Ok(host) => Ok((host, was_made)),
+        Err(Memory) => {
+            take_away(rt, path, was_made);
+            Err(RunFault::Memory)
+        }
+    }
+}
+
+/// Removes a file that the run made, where it did. A link stays.
+fn take_away<R: Files>(rt: &R, path: &str, was_made: bool) {
+    if was_made && symlink_metadata(rt, path).is_ok_and(|found| found.is_file()) {
+        let _ = remove_file(rt, path);
+    }
 }
 
 /// Nothing names a level: neither the words nor the table.
@@ -231,23 +272,12 @@ fn refuse_shared<R: Files>(rt: &R, alloc: Global, said: &RunWords) -> Result<(),
         (initctl, trace),
         (state, trace),
     ];
-    let Some((one, other)) = pairs.iter().find(|pair| are_one(rt, pair.0, pair.1)) else {
+    let Some((one, other)) = pairs.iter().find(|pair| are_one_file(rt, pair.0, pair.1)) else {
         return Ok(());
     };
     let one = String::from_str(alloc, one)?;
     let other = String::from_str(alloc, other)?;
     Err(RunFault::Shared(one, other))
-}
-
-/// Two paths are the same, or lead to one file.
-fn are_one<R: Files>(rt: &R, one: &str, other: &str) -> bool {
-    if one == other {
-        return true;
-    }
-    match (metadata(rt, one), metadata(rt, other)) {
-        (Ok(one), Ok(other)) => one.dev() == other.dev() && one.ino() == other.ino(),
-        _ => false,
-    }
 }
 
 /// The lock of the channel of requests.
@@ -306,7 +336,7 @@ fn files_of<R: Files + Eprint, T: Texts>(
         AreFiles (T.text_at texts.now) (run_of said.now) parts.items) }
     ensures err { IfErr result (FailsToGet (run_of said.now)) }
 {
-    let bytes = match texts.read(alloc, said.inittab.as_str()) {
+    let bytes = match texts.read_file(alloc, said.inittab.as_str()) {
         Ok(bytes) => bytes,
         Err(error) => return Err(RunFault::Inittab(error)),
     };
@@ -373,25 +403,40 @@ fn read_inittab<R: Files + Eprint, T: Texts>(
     taken(said, inittab)
 }
 
-/// The file of the trace, created anew, where one is to be written.
-fn create_trace<R: Files<File = File>>(rt: &R, said: &RunWords) -> Result<Option<File>, RunFault>
+/// The file of the trace as it is, where one is to be written, and whether it was made.
+fn open_trace<R: Files<File = File>>(
+    rt: &R,
+    said: &RunWords,
+) -> Result<(Option<File>, bool), RunFault>
     ensures { IfErr result (FailsOver (run_of said.now)) }
 {
     let Some(path) = &said.trace else {
-        return Ok(None);
+        return Ok((None, false));
     };
-    match created(rt, path.as_str()) {
-        Ok(file) => Ok(Some(file)),
+    match opened(rt, path.as_str()) {
+        Ok((file, was_made)) => Ok((Some(file), was_made)),
         Err(error) => Err(RunFault::Trace(error)),
     }
 }
 
-/// A file, created anew. Outside of `/dev/` a FIFO is refused, since it would wait for its reader, and a device.
-fn created<R: Files>(rt: &R, path: &str) -> io::Result<R::File> {
+/// A file to write to, as it is, and whether it was made. Outside of `/dev/` a FIFO is refused, since it would wait for
+/// its reader, and a device.
+fn opened<R: Files>(rt: &R, path: &str) -> io::Result<(R::File, bool)> {
     if !path.starts_with("/dev/") {
         refuse_special(rt, path)?;
     }
-    File::create(rt, path)
+    let made = OpenOptions::new()
+        .write(true)
+        .create_new(true)
+        .open(rt, path);
+    match made {
+        Ok(file) => Ok((file, true)),
+        Err(error) if error.kind() == ErrorKind::AlreadyExists => {
+            let file = OpenOptions::new().write(true).create(true).open(rt, path)?;
+            Ok((file, false))
+        }
+        Err(error) => Err(error),
+    }
 }
 
 /// Reports why a run ended before its first turn, and gives the exit status.
@@ -421,7 +466,7 @@ fn report_run_fault<E: Write>(alloc: Global, said: &RunWords, fault: &RunFault, 
 }
 
 /// The path of the trace; nothing where none is to be written.
-fn trace_of(said: &RunWords) -> &str
+pub(crate) fn trace_of(said: &RunWords) -> &str
     ensures { result.now ≡ unwrap_or (run_of said.now).trace [] }
 {
     match &said.trace {
@@ -454,11 +499,14 @@ where
         opening,
         mut host,
         trace,
+        made,
         faults,
         is_unled,
     } = run;
     if !tell(&faults, out) {
         report(UNTOLD, err);
+        take_away(rt, said.initctl.as_str(), made.channel);
+        take_away(rt, trace_of(said), made.trace);
         hosts.close(host);
         return DEVICE_FAULT;
     }

@@ -1,13 +1,14 @@
--- The command lines `initd simulate [--level L] TABLE SCRIPT`, `initd check TRACE` and `initd run ..`, and `initd
--- --version`. What they take is said by clap's own words; they are opaque, since a goal that sees them sees the whole
+-- The command lines `initd simulate [--level L] TABLE SCRIPT`, `initd check [--growing] TRACE` and `initd run ..`, and
+-- `initd --version`. What they take is said by clap's own words; they are opaque, since a goal that sees them sees the whole
 -- parser.
-use Rattle.std.specs.Prelude.{true, if◌then◌else◌, List, [], ◌∷◌, codes, Option, Some, None, option_map, length, ◌==◌, string_bytes}
+use Rattle.std.specs.Prelude.{Bool, true, if◌then◌else◌, List, [], ◌∷◌, codes, Option, Some, None, option_map, length, ◌==◌, string_bytes}
 use Rattle.std.specs.Str.{bytes_eq}
 use Rattle.clap.specs.Words.{App, Row, Text, fault_of, new_app, subcommand_of, with_subcommand}
-use Rattle.command_words.specs.CommandLines.{asks_version, program_app, value_rule, with_rules, word_rule}
+use Rattle.command_words.specs.CommandLines.{asks_version, program_app, switch_rule, value_rule, with_rules, word_rule}
 use Rattle.init_words.specs.declared.levels.Level.{Level}
 use Rattle.initd_options.specs.Options.{RunSaid, run_line, run_of, run_said}
-use Rattle.initd_options.specs.Values.{level_said, value_said}
+use Rattle.initd_options.specs.Values.{is_set, level_said, value_said}
+use Rattle.initd_options.specs.declared.command.CheckWords.{CheckWords}
 use Rattle.initd_options.specs.declared.command.SimulateWords.{SimulateWords}
 use Rattle.initd_options.specs.declared.command.Words.{Words}
 use Rattle.initd_options.specs.declared.command.Words.TheVariants.{Version, Simulate, Check, Run as Serve}
@@ -17,7 +18,7 @@ simulate_line = with_rules (new_app (codes "simulate")) (
     value_rule (codes "level") ∷ word_rule (codes "table") ∷ word_rule (codes "script") ∷ [])
 
 unfoldable pub check_line : App
-check_line = with_rules (new_app (codes "check")) (word_rule (codes "trace") ∷ [])
+check_line = with_rules (new_app (codes "check")) (switch_rule (codes "growing") ∷ word_rule (codes "trace") ∷ [])
 
 -- the words name a subcommand
 unfoldable pub command_line : App
@@ -32,20 +33,28 @@ pub record SimulateSaid : Type 0 where
   pub table : Text
   pub script : Text
 
--- the version, a simulated run of init, the path of a trace that is judged, or a run over the operating system
+-- whether the trace may be unfinished, and its path
+pub record CheckSaid : Type 0 where
+  pub growing : Bool
+  pub trace : Text
+
+-- the version, a simulated run of init, a trace that is judged, or a run over the operating system
 pub data InitdSaid : Type 0 where
   version : InitdSaid
   simulates : SimulateSaid → InitdSaid
-  judges : Text → InitdSaid
+  judges : CheckSaid → InitdSaid
   runs : RunSaid → InitdSaid
 
 abbrev pub simulation_of : SimulateWords → SimulateSaid
 simulation_of words = record { level = words.level; table = string_bytes words.table; script = string_bytes words.script }
 
+abbrev pub check_of : CheckWords → CheckSaid
+check_of words = record { growing = words.growing; trace = string_bytes words.trace }
+
 abbrev pub said_of : Words → InitdSaid
 said_of Version = version
 said_of (Simulate words) = simulates (simulation_of words)
-said_of (Check trace) = judges (string_bytes trace)
+said_of (Check words) = judges (check_of words)
 said_of (Serve said) = runs (run_of said)
 
 -- what the words after `simulate` say
@@ -59,8 +68,8 @@ simulation_said rows =
     (level_said rows)
 
 -- what the words after `check` say
-abbrev pub trace_said : List Row → InitdSaid
-trace_said rows = judges (value_said (codes "trace") rows)
+abbrev pub check_said : List Row → CheckSaid
+check_said rows = record { growing = is_set (codes "growing") rows; trace = value_said (codes "trace") rows }
 
 abbrev pub run_said_by : Option (Text × List Row) → Option InitdSaid
 run_said_by None = None
@@ -69,7 +78,7 @@ run_said_by (Some entered) = if bytes_eq entered.0 (codes "run") then option_map
 abbrev pub judged_by : Option (Text × List Row) → Option InitdSaid
 judged_by None = None
 judged_by (Some entered) =
-    if bytes_eq entered.0 (codes "check") then Some (trace_said entered.1) else run_said_by (Some entered)
+    if bytes_eq entered.0 (codes "check") then Some (judges (check_said entered.1)) else run_said_by (Some entered)
 
 abbrev pub initd_said_by : Option (Text × List Row) → Option InitdSaid
 initd_said_by None = None

@@ -1,5 +1,5 @@
 -- The options of `initd run`, by clap's own words, and what they say.
-use Rattle.std.specs.Prelude.{◌≡◌, ℕ, Bool, true, false, ◌+◌, ◌-◌, ◌*◌, ◌&&◌, if◌then◌else◌, nat_lt, nat_le, List, [], ◌∷◌, map, codes, Option, Some, None, option_and_then, option_map, string_bytes}
+use Rattle.std.specs.Prelude.{◌≡◌, ℕ, Bool, true, false, ◌+◌, ◌-◌, ◌*◌, ◌==◌, ◌&&◌, if◌then◌else◌, nat_lt, nat_le, List, [], ◌∷◌, map, codes, Option, Some, None, option_and_then, option_map, string_bytes}
 use Rattle.std.specs.Borrow.{Bor}
 use Rattle.std.specs.Char.{is_ascii_digit}
 use Rattle.clap.specs.declared.builder.command.Command.{Command, out-Command}
@@ -56,10 +56,15 @@ run_rules =
 unfoldable pub run_line : App
 run_line = with_rules (new_app (codes "run")) run_rules
 
+-- a word without the zeros in front of it
+abbrev pub without_zeros : Text → Text
+without_zeros [] = []
+without_zeros (byte ∷ word) = if byte == 48 then without_zeros word else byte ∷ word
+
 -- a number of turns: 1 to the limit
 abbrev pub turns_read : Text → Option ℕ
 turns_read word =
-    option_and_then (λ turns. if nat_lt 0 turns then Some turns else None) (number_read (TURNS_LIMIT + 1) word)
+    option_and_then (λ turns. if nat_lt 0 turns then Some turns else None) (number_read (TURNS_LIMIT + 1) (without_zeros word))
 
 -- the greatest number of turns, by whether it has no limit and by the word that is given, of which one may be
 abbrev pub turns_in : Bool → Option Text → Option ℕ

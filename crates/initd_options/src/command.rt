@@ -4,13 +4,13 @@ ghost use Rattle.std.specs.Prelude.{◌≡◌, map, string_bytes, IfErr, IfOk, I
 ghost use Rattle.clap.specs.Words.{FailsBy, app_of, fault_of, found_of, rows_of, subcommand_of, subcommand_rows_of};
 ghost use Rattle.command_words.specs.CommandLines.{IsLine};
 ghost use Rattle.command_words.specs.Faults.{reason_of};
-ghost use Rattle.initd_options.specs.CommandLine.{check_line, command_line, judged_by, line_said, initd_read_of, run_said_by, initd_said_by, said_of, simulate_line, simulation_of, simulation_said, trace_said};
+ghost use Rattle.initd_options.specs.CommandLine.{check_line, command_line, judged_by, line_said, initd_read_of, run_said_by, initd_said_by, said_of, simulate_line, simulation_of, simulation_said, check_of, check_said};
 
 use crate::options::{RunWords, read_run, run_line};
-use crate::values::read_level_option;
+use crate::values::{is_set, read_level_option};
 use clap::{ArgMatches, Command, Error};
 use command_words::{
-    WordFault, is_version, program_line, value_of, with_value, with_word, word_fault,
+    WordFault, is_version, program_line, value_of, with_switch, with_value, with_word, word_fault,
 };
 use init_words::Level;
 use std::alloc::{AllocError, Global};
@@ -26,6 +26,15 @@ pub struct SimulateWords {
     pub script: String,
 }
 
+/// What a command line of `initd check` says.
+#[derive(Drop)]
+pub struct CheckWords {
+    /// The trace is still written: it is judged up to its last whole happening.
+    pub growing: bool,
+    /// The path of the trace.
+    pub trace: String,
+}
+
 /// What a command line of `initd` says.
 #[derive(Drop)]
 pub enum Words {
@@ -33,8 +42,8 @@ pub enum Words {
     Version,
     /// Run init over an inittab and a script.
     Simulate(SimulateWords),
-    /// Judge the trace of this path.
-    Check(String),
+    /// Judge a trace.
+    Check(CheckWords),
     /// Run init over the operating system.
     Run(RunWords),
 }
@@ -79,7 +88,8 @@ fn simulate_line<'a>(alloc: Global) -> Result<Command<'a>, AllocError>
 fn check_line<'a>(alloc: Global) -> Result<Command<'a>, AllocError>
     ensures { IfOk result (IsLine check_line) }
 {
-    with_word(alloc, Command::new(alloc, "check"), "trace")
+    let line = with_switch(alloc, Command::new(alloc, "check"), "growing")?;
+    with_word(alloc, line, "trace")
 }
 
 /// The command line of `initd`.
@@ -125,7 +135,7 @@ fn read_check(alloc: Global, matches: &ArgMatches) -> Result<Words, WordFault>
         → judged_by (subcommand_rows_of matches.now) ≡ None) }
 {
     match matches.subcommand_matches("check") {
-        Some(check) => Ok(read_trace(alloc, check)?),
+        Some(check) => Ok(Words::Check(read_trace(alloc, check)?)),
         None => read_serving(alloc, matches),
     }
 }
@@ -151,10 +161,13 @@ fn no_subcommand(alloc: Global) -> WordFault {
     }
 }
 
-fn read_trace(alloc: Global, matches: &ArgMatches) -> Result<Words, AllocError>
-    ensures { IfOk result (λ said. said_of said ≡ trace_said (rows_of (found_of matches.now))) }
+fn read_trace(alloc: Global, matches: &ArgMatches) -> Result<CheckWords, AllocError>
+    ensures { IfOk result (λ said. check_of said ≡ check_said (rows_of (found_of matches.now))) }
 {
-    Ok(Words::Check(String::from_str(alloc, value_of(matches, "trace"))?))
+    Ok(CheckWords {
+        growing: is_set(matches, "growing"),
+        trace: String::from_str(alloc, value_of(matches, "trace"))?,
+    })
 }
 
 fn read_simulate(alloc: Global, matches: &ArgMatches) -> Result<SimulateWords, WordFault>

@@ -5,6 +5,6 @@ mod command;
 mod options;
 mod values;
 
-pub use command::{SimulateWords, Words, read_words};
+pub use command::{CheckWords, SimulateWords, Words, read_words};
 pub use command_words::WordFault;
 pub use options::RunWords;

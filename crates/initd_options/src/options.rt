@@ -4,7 +4,7 @@ ghost use Rattle.std.specs.Prelude.{◌≡◌, ◌<◌, codes, option_map, strin
 ghost use Rattle.clap.specs.Words.{first_of, found_of, rows_of};
 ghost use Rattle.command_words.specs.CommandLines.{AddsArgument, IsLine};
 ghost use Rattle.command_words.specs.Faults.{reason_of};
-ghost use Rattle.initd_options.specs.Options.{AddsAll, brief_said, digit_read, hundredths_read, is_pause, part_read, pause_said, result_said, rule_of, rules_of, run_line, run_of, run_said, turns_read, turns_said};
+ghost use Rattle.initd_options.specs.Options.{AddsAll, brief_said, digit_read, hundredths_read, is_pause, part_read, pause_said, result_said, rule_of, rules_of, run_line, run_of, run_said, turns_read, turns_said, without_zeros};
 ghost use Rattle.initd_options.specs.Values.{is_set};
 
 use crate::values::{is_set, read_level_option, refused, word_of};
@@ -201,11 +201,22 @@ fn read_turns_option(alloc: Global, matches: &ArgMatches) -> Result<u64, WordFau
     }
 }
 
+/// A word without the zeros in front of it.
+fn without_zeros(word: &[u8]) -> &[u8]
+    ensures { result.now ≡ without_zeros word.now }
+{
+    let mut rest = word;
+    while let [b'0', more @ ..] = rest {
+        rest = more;
+    }
+    rest
+}
+
 /// The number of turns of a word, 1 to 1,000,000,000.
 fn read_turns(word: &str) -> Option<u64>
     ensures { result ≡ turns_read word.now }
 {
-    let turns = read_below(word.as_bytes(), TURNS_LIMIT + 1)?;
+    let turns = read_below(without_zeros(word.as_bytes()), TURNS_LIMIT + 1)?;
     if turns > 0 { Some(turns) } else { None }
 }
 

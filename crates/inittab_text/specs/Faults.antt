@@ -3,6 +3,7 @@ use Rattle.std.specs.Prelude.{ℕ, List, ◌++◌, codes, decimal}
 use Rattle.inittab_text.specs.declared.faults.LineKind.{LineKind}
 use Rattle.inittab_text.specs.declared.faults.LineKind.TheVariants as kind
 use Rattle.inittab_text.specs.declared.faults.LineFault.{LineFault}
+use Rattle.inittab_text.specs.declared.faults.PartFault.{PartFault}
 use Rattle.inittab_text.specs.declared.faults.TableFault.{TableFault}
 use Rattle.inittab_text.specs.declared.faults.TableFault.TheVariants as table
 
@@ -20,6 +21,12 @@ kind_text kind.Many = codes "too many entries"
 -- the line's number, and the first check that it fails
 abbrev pub line_fault_text : LineFault → List ℕ
 line_fault_text fault = codes "inittab line " ++ decimal fault.line ++ codes ": " ++ kind_text fault.kind
+
+-- the part's number too, from 0
+abbrev pub part_fault_text : PartFault → List ℕ
+part_fault_text fault =
+    codes "inittab part " ++ decimal fault.part ++ codes " line " ++ decimal fault.line ++ codes ": "
+    ++ kind_text fault.kind
 
 abbrev pub table_fault_text : TableFault → List ℕ
 table_fault_text table.TooLong = codes "inittab is longer than 1048576 bytes"

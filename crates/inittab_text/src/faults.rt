@@ -38,7 +38,7 @@ pub struct LineFault {
 }
 
 /// A line that was left out of one of several parts.
-#[derive(Clone, Copy, PartialEq, Eq)]
+#[derive(Clone, Copy, Debug, PartialEq, Eq)]
 pub struct PartFault {
     /// The part's number, from 0.
     pub part: u32,
@@ -93,6 +93,20 @@ impl fmt::Display for LineFault {
     }
 }
 
+impl fmt::Display for PartFault {
+    ghost use Rattle.std.specs.Prelude.{Some};
+    ghost use Rattle.inittab_text.specs.Faults.{part_fault_text};
+
+    ghost output = { λ fault. Some (part_fault_text fault) };
+
+    fn fmt<W: fmt::Write>(&self, f: &mut fmt::Formatter<W>) -> fmt::Result {
+        let part = self.part;
+        let line = self.line;
+        let kind = self.kind;
+        write!(f, "inittab part {part} line {line}: {kind}")
+    }
+}
+
 impl fmt::Display for TableFault {
     ghost use Rattle.std.specs.Prelude.{Some};
     ghost use Rattle.inittab_text.specs.Faults.{table_fault_text};
@@ -111,6 +125,8 @@ impl fmt::Display for TableFault {
 impl Error for LineKind {}
 
 impl Error for LineFault {}
+
+impl Error for PartFault {}
 
 impl Error for TableFault {}
 

@@ -6,7 +6,6 @@ use Rattle.trace_text.specs.Lines.{trace_text}
 use Rattle.trace_check.specs.declared.laws.Law.{Law}
 use Rattle.trace_verdict.specs.Fronts.{line_left}
 use Rattle.trace_verdict.specs.Readers.{capped}
-use Rattle.trace_verdict.proofs.Fronts.{never_more}
 use Rattle.trace_view.specs.declared.text_views.Stop.{Stop}
 use Rattle.trace_view.specs.declared.text_views.Stop.TheVariants.{Breach, Torn}
 use Rattle.trace_view.specs.Shown.{IsBefore, IsShown, IsUpTo}
@@ -35,11 +34,12 @@ up_to_more : (trace : List Event) (number : ℕ) (text more : List ℕ) → IsUp
 up_to_more trace number text more up = (
   record {
     trace = up.0.trace;
-    rest = up.0.rest ++ more;
+    rest = up.0.rest;
+    behind = up.0.behind ++ more;
     are = up.0.are;
-    whole = sym (append_assoc (trace_text up.0.trace) up.0.rest more) ∙ ap (λ t. t ++ more) up.0.whole;
+    whole = sym (append_assoc (trace_text up.0.trace ++ up.0.rest) up.0.behind more) ∙ ap (λ t. t ++ more) up.0.whole;
     counted = up.0.counted;
-    none = never_more up.0.rest more up.0.none;
+    none = up.0.none;
   },
   up.1,
 )

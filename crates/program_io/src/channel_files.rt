@@ -76,12 +76,17 @@ impl Channel {
 #[derive(Drop)]
 pub struct ChannelLock {
     /// It stays open, so that no other file gets its number.
-    _channel: Channel,
+    channel: Channel,
     /// The device and the number of the file.
     file: (u64, u64),
 }
 
 impl ChannelLock {
+    /// The channel was missing, and was made.
+    pub fn was_made(&self) -> bool {
+        self.channel.was_made
+    }
+
     /// It is the lock of this file, which stands at the channel's path.
     pub fn is_of(&self, found: &Metadata) -> bool {
         self.file == (found.dev(), found.ino())
@@ -106,7 +111,7 @@ pub fn lock_channel<R: Files<File = File>>(rt: &R, path: &str) -> io::Result<Opt
 fn locked(channel: Channel) -> io::Result<ChannelLock> {
     let found = channel.file.metadata()?;
     Ok(ChannelLock {
-        _channel: channel,
+        channel,
         file: (found.dev(), found.ino()),
     })
 }

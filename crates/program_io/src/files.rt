@@ -6,6 +6,7 @@ ghost use Rattle.std.specs.Io.KnownBytes.{IsAtEnd};
 use std::alloc::Allocator;
 use std::fs::File;
 use std::io::{Error, ErrorKind, Read};
+use std::os::unix::fs::MetadataExt;
 use std::rt::Files;
 use std::{fs, io};
 
@@ -39,6 +40,17 @@ pub fn refuse_special<R: Files>(rt: &R, path: &str) -> io::Result<()> {
             Err(Error::new(ErrorKind::InvalidInput, "it is no plain file"))
         }
         _ => Ok(()),
+    }
+}
+
+/// Two paths are the same, or lead to one file.
+pub fn are_one_file<R: Files>(rt: &R, one: &str, other: &str) -> bool {
+    if one == other {
+        return true;
+    }
+    match (fs::metadata(rt, one), fs::metadata(rt, other)) {
+        (Ok(one), Ok(other)) => one.dev() == other.dev() && one.ino() == other.ino(),
+        _ => false,
     }
 }
 

@@ -102,6 +102,10 @@ impl<A: Allocator> Texts for KeptTexts<A> {
         }
     }
 
+    fn read_file<B: Allocator>(&self, alloc: B, path: &str) -> io::Result<Vec<u8, B>> {
+        self.read(alloc, path)
+    }
+
     /// It is handed over as one piece. One at which none is kept is refused as not found.
     fn read_pieces<P: PieceTaker>(&self, path: &str, taker: &mut P) -> io::Result<()>
         ensures text { OnOk result ((text : List ℕ) × (length text < 2 ^ 64)

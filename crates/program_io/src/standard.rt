@@ -1,6 +1,6 @@
 //! Standard input, output and error, which no file that a program opens takes the place of.
 
-use std::fs::{File, OpenOptions};
+use std::fs::File;
 use std::os::fd::AsRawFd;
 use std::rt::Files;
 
@@ -8,7 +8,8 @@ use std::rt::Files;
 const LAST_STANDARD: i32 = 2;
 
 /// The null device in place of those of standard input, output and error that were closed when the program began. It
-/// is held as long as the program runs: else a file that is opened takes the place, and has messages written into it.
+/// is held as long as the program runs: else a file that is opened takes the place, and has messages written into it. It
+/// is open to be read alone, so that what is written there is a fault of the output.
 #[derive(Drop)]
 pub struct StandardFiles {
     _files: [Option<File>; 3],
@@ -25,11 +26,7 @@ impl StandardFiles {
 
 /// The null device, where it took one of the three places.
 fn filler<R: Files<File = File>>(rt: &R) -> Option<File> {
-    let null = OpenOptions::new()
-        .read(true)
-        .write(true)
-        .open(rt, "/dev/null")
-        .ok()?;
+    let null = File::open(rt, "/dev/null").ok()?;
     if null.as_raw_fd() <= LAST_STANDARD {
         Some(null)
     } else {

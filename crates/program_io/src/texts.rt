@@ -25,6 +25,12 @@ pub trait Texts {
         ensures refused { IfErr result (λ why. IsSome (text_at self.now path.now)
             → error_kind why ≡ ErrorKind.OutOfMemory) };
 
+    /// The same, of a file alone: `-` is the name of one.
+    fn read_file<A: Allocator>(&self, alloc: A, path: &str) -> io::Result<Vec<u8, A>>
+        ensures text { IfOk result (λ text. IsTextAt (text_at self.now) path.now text.items) }
+        ensures refused { IfErr result (λ why. IsSome (text_at self.now path.now)
+            → error_kind why ≡ ErrorKind.OutOfMemory) };
+
     /// Hands the text at a path to a taker that has taken none, in pieces. A text that is known is refused only for
     /// lack of memory.
     fn read_pieces<P: PieceTaker>(&self, path: &str, taker: &mut P) -> io::Result<()>
@@ -35,13 +41,21 @@ pub trait Texts {
             → error_kind why ≡ ErrorKind.OutOfMemory) };
 }
 
-/// Opens what a path names: standard input for `-`, what the system or a shell gives by a path below `/dev/`, and any
-/// other only where it is a plain file, since a FIFO would wait for its writer.
+/// Opens a file: what the system or a shell gives by a path below `/dev/`, and any other only where it is a plain file,
+/// since a FIFO would wait for its writer.
+fn open_file<R: Files>(rt: &R, path: &str) -> io::Result<R::File> {
+    if path.starts_with("/dev/") {
+        File::open(rt, path)
+    } else {
+        open_plain(rt, path)
+    }
+}
+
+/// Opens what a path names: standard input for `-`, else a file.
 fn open<R: Files>(rt: &R, path: &str) -> io::Result<R::File> {
     match path {
         "-" => File::open(rt, "/dev/stdin"),
-        _ if path.starts_with("/dev/") => File::open(rt, path),
-        _ => open_plain(rt, path),
+        _ => open_file(rt, path),
     }
 }
 
@@ -53,6 +67,10 @@ impl<R: Files> Texts for R {
 
     fn read<A: Allocator>(&self, alloc: A, path: &str) -> io::Result<Vec<u8, A>> {
         read_all(alloc, &mut open(self, path)?)
+    }
+
+    fn read_file<A: Allocator>(&self, alloc: A, path: &str) -> io::Result<Vec<u8, A>> {
+        read_all(alloc, &mut open_file(self, path)?)
     }
 
     fn read_pieces<P: PieceTaker>(&self, path: &str, taker: &mut P) -> io::Result<()> {

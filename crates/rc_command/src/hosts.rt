@@ -13,9 +13,6 @@ use std::marker::Model;
 use std::process::Processes;
 use std::rt::{Clock, Files};
 
-/// The seconds of the longest pause; behind something that happened it is a thousandth of it.
-const PAUSE: &str = "0.1";
-
 /// Where the host of a run comes from, and who takes it back behind it.
 ///
 /// A contract sees of it the calls that its hosts were asked, where they tell them.
@@ -83,7 +80,7 @@ impl<R: Processes + Files<File = File> + Clock + Print + Eprint + Clone + Drop> 
             return Err(Memory);
         };
         let host = OsHost::new(rt, alloc, "rc", "", "", "", None)?;
-        Ok(Telling::after(&self.calls, host.with_pause(PAUSE)?))
+        Ok(Telling::after(&self.calls, host.waiting()))
     }
 
     fn close(&mut self, host: Telling<OsHost<R>>) {

@@ -27,8 +27,8 @@ use std::alloc::Global;
 use std::io;
 use std::io::Write;
 
-/// The greatest number of pauses of a run, of a tenth of a second at most.
-pub const PAUSES_LIMIT: u32 = 1_000_000;
+/// The greatest number of pauses of a run: of a second at most, they are some 27 hours of one script.
+pub const PAUSES_LIMIT: u32 = 100_000;
 
 /// Exit status: all scripts came to their ends, and one of them failed.
 pub const SCRIPT_FAILED: u8 = 2;
@@ -483,7 +483,7 @@ fn write_limit<E: Write>(path: &str, link: &str, err: &mut E) -> io::Result<()>
     write_text(err, link.as_bytes())?;
     write_text(
         err,
-        b" has not ended after 1000000 pauses of a tenth of a second: it runs on, \
+        b" has not ended after 100000 pauses, of a second at most: it runs on, \
           and no script behind it was run\n",
     )
 }

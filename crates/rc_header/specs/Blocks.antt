@@ -1,6 +1,6 @@
 -- The lines of a header, their checks and what they say (LSB Core 5.0).
-use Rattle.std.specs.Prelude.{ℕ, ◌+◌, ◌==◌, Bool, not, if◌then◌else◌, List, [], ◌∷◌, ◌++◌, drop, Option, Some, None, codes}
-use Rattle.std.specs.List.{list_any, filter_map, starts_with}
+use Rattle.std.specs.Prelude.{ℕ, ◌+◌, Bool, not, if◌then◌else◌, List, [], ◌∷◌, ◌++◌, drop, Option, Some, None, codes}
+use Rattle.std.specs.List.{list_any, filter_map}
 use Rattle.std.specs.Option.{option_or}
 use Rattle.std.specs.Str.{bytes_eq}
 use Rattle.init_words.specs.declared.levels.Level.{Level}
@@ -17,9 +17,9 @@ use Rattle.text_lines.specs.Lines.{lines_of, trim, trim_end}
 unfoldable pub is_begin : List ℕ → Bool
 is_begin line = bytes_eq (trim_end line) (codes "### BEGIN INIT INFO")
 
--- the line that ends the header, whatever stands behind its words
+-- the line that ends the header
 unfoldable pub is_end : List ℕ → Bool
-is_end line = starts_with ◌==◌ line (codes "### END INIT INFO")
+is_end line = bytes_eq (trim_end line) (codes "### END INIT INFO")
 
 -- the lines after the first that begins a header, and the number of that line; the first line here has this number
 abbrev pub begun : ℕ → List (List ℕ) → Option (ℕ × List (List ℕ))

@@ -16,12 +16,12 @@ fn is_begin(line: &[u8]) -> bool
     without_tail(line) == b"### BEGIN INIT INFO".as_slice()
 }
 
-/// The line that ends the header, whatever stands behind its words.
+/// The line that ends the header.
 #[tactic(auto, unfolding(crate::specs::Blocks::is_end))]
 fn is_end(line: &[u8]) -> bool
     ensures { result ≡ is_end line.now }
 {
-    line.starts_with(b"### END INIT INFO")
+    without_tail(line) == b"### END INIT INFO".as_slice()
 }
 
 /// The text after the line that begins the header, and the number of that line.

@@ -1,11 +1,15 @@
 -- What the paths of scripts give.
-use Rattle.std.proofs.Common.{◌≡◌, inl, inr, ℕ, suc, List, [], ◌∷◌, ◌++◌, length, get_or, slice_get, unwrap_or, None, Some, Contains, refl, ap, sym, subst, append_assoc, arith}
+use Rattle.std.proofs.Common.{◌≡◌, ◌⊎◌, inl, inr, ℕ, suc, Bool, true, false, List, [], ◌∷◌, ◌++◌, length, slice_get, unwrap_or, None, Some, refl, ap, sym, subst, ◌∙◌, append_assoc, append-nil, arith, map, string_bytes, String, Global, get_or, take, ◌+◌, ◌<◌}
+use Rattle.std.specs.Bool.{◌==◌}
+use Rattle.std.proofs.lemmas.Bool.{both_ways}
+use Rattle.std.proofs.lemmas.List.{map-append}
 use Rattle.std.proofs.lemmas.Option.{none-some}
 use Rattle.program_io.specs.Known.{KnownTexts}
+use Rattle.rc_links.proofs.NameLemmas.{cut_at}
 use Rattle.rc_links.specs.ScriptText.{ScriptText}
 use Rattle.rclinks_command.specs.Command.{AreScripts, HasRefused}
-use Rattle.rclinks_command.specs.Files.{IsNoScriptAt, file_status}
-use Rattle.rclinks_command.specs.Reading.{Reads, ReadsOne}
+use Rattle.rclinks_command.specs.Files.{IsNoScriptAt, IsScriptAt, file_status}
+use Rattle.rclinks_command.specs.Reading.{Reads, ReadsOne, ReadsTo}
 use Rattle.rclinks_command.specs.declared.files.FileFault.{FileFault}
 
 nil_is_no_cons : {X : Type 0} (x : X) (xs : List X) → [] ≡ x ∷ xs → ⊥
@@ -19,36 +23,69 @@ all_scripts text_at (path ∷ paths) scripts read = elim read [
   | inr bad ↦ absurd (nil_is_no_cons bad.0 bad.1 bad.2)
 ]
 
--- the first fault is that of one of the paths' files
+-- where no file has a fault, or all paths are read whatever comes, all were read
+pub all_read : (goes_on : Bool) (text_at : KnownTexts) (paths : List (List ℕ)) (scripts : List ScriptText) (faults : List FileFault)
+    → ReadsTo goes_on text_at paths scripts faults → (goes_on ≡ true) ⊎ (faults ≡ []) → Reads text_at paths scripts faults
+all_read goes_on text_at paths scripts faults reads whole = elim reads.4 [
+  | inl none ↦ subst (λ ps. Reads text_at ps scripts faults) (sym (reads.2 ∙ ap (λ l. reads.0 ++ l) none ∙ append-nil reads.0)) reads.3
+  | inr part ↦ absurd (elim whole [ inl on ↦ both_ways goes_on part.0 on | inr none ↦ part.1 none ])
+]
+
+-- the first fault is that of the first path that gives no script
 pub first_fault : (text_at : KnownTexts) (paths : List (List ℕ)) (scripts : List ScriptText) (found : FileFault) (faults : List FileFault)
-    → Reads text_at paths scripts (found ∷ faults) → (path : List ℕ) × Contains paths path × IsNoScriptAt text_at path found
+    → Reads text_at paths scripts (found ∷ faults)
+    → (before later : List (List ℕ)) × (path : List ℕ) × (paths ≡ before ++ path ∷ later)
+    × ((firsts : List ScriptText) × AreScripts text_at before firsts) × IsNoScriptAt text_at path found
 first_fault text_at [] scripts found faults read = absurd (nil_is_no_cons found faults (sym read.1))
 first_fault text_at (path ∷ paths) scripts found faults read = elim read [
   | inl one ↦ (let more = first_fault text_at paths one.1 found faults one.4 in
-      (more.0, (suc more.1.0, omega (arith, more.1.1), more.1.2), more.2))
-  | inr bad ↦ (path, (0, omega arith, refl), subst (λ f. IsNoScriptAt text_at path f) (sym (ap (λ fs. get_or fs 0 found) bad.2)) bad.3)
+      (path ∷ more.0, more.1, more.2, ap (λ ps. path ∷ ps) more.3, (one.0 ∷ more.4.0, (one.3, more.4.1)), more.5))
+  | inr bad ↦ ([], paths, path, refl, ([], tt), subst (λ f. IsNoScriptAt text_at path f) (sym (ap (λ fs. get_or fs 0 found) bad.2)) bad.3)
 ]
 
 -- one more path gives a script, or a fault
-pub reads_more : (text_at : KnownTexts) (path : List ℕ) (paths : List (List ℕ)) (old new : List ScriptText) (before after : List FileFault)
-    → ReadsOne text_at path old new before after
-    → (more : List ScriptText) (later : List FileFault) → Reads text_at paths more later
-    → (all : List (List ℕ))
-    → ((rest : List ScriptText) (faults : List FileFault) → Reads text_at (path ∷ paths) rest faults → Reads text_at all (old ++ rest) (before ++ faults))
-    → Reads text_at all (new ++ more) (after ++ later)
-reads_more text_at path paths old new before after one more later read all behind = elim one [
-  | inl good ↦ rw (good.2, good.3, append_assoc old (good.0 ∷ []) more)
-      (behind (good.0 ∷ more) later (inl (good.0, more, refl, good.1, read)))
-  | inr bad ↦ rw (bad.2, bad.3, append_assoc before (bad.0 ∷ []) later)
-      (behind more (bad.0 ∷ later) (inr (bad.0, later, refl, bad.1, read)))
+push_script : (text_at : KnownTexts) (paths : List (List ℕ)) (scripts : List ScriptText) (faults : List FileFault) (path : List ℕ) (s : ScriptText)
+    → Reads text_at paths scripts faults → IsScriptAt text_at path s → Reads text_at (paths ++ path ∷ []) (scripts ++ s ∷ []) faults
+push_script text_at [] scripts faults path s read is = inl (s, [], ap (λ ss. ss ++ s ∷ []) read.0, is, (refl, read.1))
+push_script text_at (first ∷ paths) scripts faults path s read is = elim read [
+  | inl one ↦ inl (one.0, one.1 ++ s ∷ [], ap (λ ss. ss ++ s ∷ []) one.2, one.3, push_script text_at paths one.1 faults path s one.4 is)
+  | inr bad ↦ inr (bad.0, bad.1, bad.2, bad.3, push_script text_at paths scripts bad.1 path s bad.4 is)
 ]
 
+push_fault : (text_at : KnownTexts) (paths : List (List ℕ)) (scripts : List ScriptText) (faults : List FileFault) (path : List ℕ) (found : FileFault)
+    → Reads text_at paths scripts faults → IsNoScriptAt text_at path found → Reads text_at (paths ++ path ∷ []) scripts (faults ++ found ∷ [])
+push_fault text_at [] scripts faults path found read is = inr (found, [], ap (λ fs. fs ++ found ∷ []) read.1, is, (read.0, refl))
+push_fault text_at (first ∷ paths) scripts faults path found read is = elim read [
+  | inl one ↦ inl (one.0, one.1, one.2, one.3, push_fault text_at paths one.1 faults path found one.4 is)
+  | inr bad ↦ inr (bad.0, bad.1 ++ found ∷ [], ap (λ fs. fs ++ found ∷ []) bad.2, bad.3, push_fault text_at paths scripts bad.1 path found bad.4 is)
+]
+
+pub reads_push : (text_at : KnownTexts) (paths : List (List ℕ)) (path : List ℕ) (old new : List ScriptText) (before after : List FileFault)
+    → Reads text_at paths old before → ReadsOne text_at path old new before after → Reads text_at (paths ++ path ∷ []) new after
+reads_push text_at paths path old new before after read one = elim one [
+  | inl good ↦ rw (good.2, good.3) (push_script text_at paths old before path good.0 read good.1)
+  | inr bad ↦ rw (bad.2, bad.3) (push_fault text_at paths old before path bad.0 read bad.1)
+]
+
+-- the next word's path gives a script, or a fault
+pub reads_next : (text_at : KnownTexts) (words : List (String Global)) (n : ℕ) (word : String Global) (old new : List ScriptText) (before after : List FileFault)
+    → n < length words → word ≡ get_or words n word → Reads text_at (map string_bytes (take n words)) old before
+    → ReadsOne text_at (string_bytes word) old new before after → Reads text_at (map string_bytes (take (n + 1) words)) new after
+reads_next text_at words n word old new before after within is read one =
+    let next = ap (λ ws. map string_bytes ws) (cut_at words n word within is).1 ∙ map-append string_bytes (take n words) (word ∷ []) in
+    subst (λ ps. Reads text_at ps new after) (sym next) (reads_push text_at (map string_bytes (take n words)) (string_bytes word) old new before after read one)
+
+-- some faults are none where their count is not 0
+pub no_fault_counts : (faults : List FileFault) → (length faults == 0) ≡ false → faults ≡ [] → ⊥
+no_fault_counts [] counts none = both_ways true counts refl
+no_fault_counts (found ∷ faults) counts none = nil_is_no_cons found faults (sym none)
+
 -- the first fault refuses a run for its file
-pub refused_first : (text_at : KnownTexts) (paths : List (List ℕ)) (scripts : List ScriptText) (faults more : List FileFault) (found : FileFault)
-    → Reads text_at paths scripts faults → faults ≡ found ∷ more → file_status found ≡ 1 → HasRefused text_at paths
-refused_first text_at paths scripts faults more found read first status =
-    let at = first_fault text_at paths scripts found more (subst (λ fs. Reads text_at paths scripts fs) first read) in
-    (at.0, at.1, found, at.2, status)
+pub refused_first : (text_at : KnownTexts) (paths read later : List (List ℕ)) (scripts : List ScriptText) (faults more : List FileFault) (found : FileFault)
+    → paths ≡ read ++ later → Reads text_at read scripts faults → faults ≡ found ∷ more → file_status found ≡ 1 → HasRefused text_at paths
+refused_first text_at paths read later scripts faults more found is reads first status =
+    let at = first_fault text_at read scripts found more (subst (λ fs. Reads text_at read scripts fs) first reads) in
+    (at.0, at.1 ++ later, at.2, is ∙ ap (λ ps. ps ++ later) at.3 ∙ append_assoc at.0 (at.2 ∷ at.1) later, at.4, found, at.5, status)
 
 -- no fault is the first
 pub none_first : (faults : List FileFault) → None ≡ slice_get faults 0 → faults ≡ []

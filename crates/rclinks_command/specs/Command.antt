@@ -1,5 +1,5 @@
 -- Runs of rclinks over the paths of init scripts.
-use Rattle.std.specs.Prelude.{◌≡◌, ◌⊎◌, ℕ, Bool, true, false, not, ◌||◌, ◌&&◌, if◌then◌else◌, List, [], ◌∷◌, Option, Some, None, Contains, codes}
+use Rattle.std.specs.Prelude.{◌≡◌, ◌⊎◌, ℕ, Bool, true, false, not, ◌||◌, ◌&&◌, if◌then◌else◌, List, [], ◌∷◌, ◌++◌, Option, Some, None, codes}
 use Rattle.std.specs.Option.{is_some}
 use Rattle.std.specs.List.{list_any}
 use Rattle.std.specs.Str.{bytes_eq}
@@ -52,32 +52,38 @@ plan_status plan_fault.Memory = 4
 abbrev pub HasNoPlan : List ScriptText → Type 0
 HasNoPlan scripts = (found : PlanFault Global) × IsRefused scripts found × (plan_status found ≡ 1)
 
--- one of the files is refused for its name or its header
+-- the first of the files that gives no script is refused for its name or its header
 abbrev pub HasRefused : KnownTexts → List (List ℕ) → Type 0
-HasRefused text_at paths =
-    (path : List ℕ) × Contains paths path × (found : FileFault) × IsNoScriptAt text_at path found
-    × (file_status found ≡ 1)
+HasRefused text_at paths = (before later : List (List ℕ)) × (path : List ℕ) × (paths ≡ before ++ path ∷ later)
+    × ((scripts : List ScriptText) × AreScripts text_at before scripts)
+    × (found : FileFault) × IsNoScriptAt text_at path found × (file_status found ≡ 1)
 
--- what words ask for: that scripts which can't be read or planned are left out, that changes of folders are printed
--- and not made, the directory of the folders that are written, and the paths of the files
+-- what words ask for: that all faults are told, that scripts which can't be read or planned are left out, that changes
+-- of folders are printed and not made, the directory of the folders that are written, and the paths of the files
 pub record Line : Type 0 where
+  pub all : Bool
   pub skips : Bool
   pub dry : Bool
   pub dir : Option (List ℕ)
   pub files : List (List ℕ)
+
+-- a fault doesn't end the run
+abbrev pub goes_on : Line → Bool
+goes_on line = line.skips || line.all
 
 -- options, and then files; behind --write stands the directory
 abbrev pub line_from : Bool → Line → List (List ℕ) → Line
 line_from awaits line [] = record line { files = [] }
 line_from true line (word ∷ words) = line_from false (record line { dir = Some word }) words
 line_from false line (word ∷ words) =
-    if bytes_eq word (codes "--skip") then line_from false (record line { skips = true }) words
+    if bytes_eq word (codes "--all") then line_from false (record line { all = true }) words
+    else if bytes_eq word (codes "--skip") then line_from false (record line { skips = true }) words
     else if bytes_eq word (codes "-n") then line_from false (record line { dry = true }) words
     else if bytes_eq word (codes "--write") then line_from true line words
     else record line { files = word ∷ words }
 
 abbrev pub line_of : List (List ℕ) → Line
-line_of words = line_from false (record { skips = false; dry = false; dir = None; files = [] }) words
+line_of words = line_from false (record { all = false; skips = false; dry = false; dir = None; files = [] }) words
 
 -- scripts that have this are those of all of the files; or those of the files that give one, without some of them, each
 -- left out since there was no plan with it

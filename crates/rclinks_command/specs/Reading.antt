@@ -1,5 +1,5 @@
 -- The scripts of paths, some of which may give none.
-use Rattle.std.specs.Prelude.{◌≡◌, ◌⊎◌, ℕ, List, [], ◌∷◌, ◌++◌}
+use Rattle.std.specs.Prelude.{◌≡◌, ◌≢◌, ◌⊎◌, ℕ, Bool, false, List, [], ◌∷◌, ◌++◌}
 use Rattle.program_io.specs.Known.{KnownTexts}
 use Rattle.rc_links.specs.ScriptText.{ScriptText}
 use Rattle.rclinks_command.specs.Files.{IsNoScriptAt, IsScriptAt}
@@ -19,3 +19,8 @@ Reads text_at (path ∷ paths) scripts faults =
     × Reads text_at paths more faults)
     ⊎ ((found : FileFault) × (more : List FileFault) × (faults ≡ found ∷ more) × IsNoScriptAt text_at path found
     × Reads text_at paths scripts more)
+
+-- the same of all paths; or, where it doesn't go on behind a fault, of those up to the first one
+abbrev pub ReadsTo : Bool → KnownTexts → List (List ℕ) → List ScriptText → List FileFault → Type 0
+ReadsTo goes_on text_at paths scripts faults = (read later : List (List ℕ)) × (paths ≡ read ++ later)
+    × Reads text_at read scripts faults × ((later ≡ []) ⊎ (goes_on ≡ false) × (faults ≢ []))

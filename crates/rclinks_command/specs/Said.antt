@@ -6,6 +6,7 @@ use Rattle.rclinks_command.specs.declared.command.Line.{Line}
 
 abbrev pub line_said : Line → command.Line
 line_said line = record {
+  all = line.all;
   skips = line.skips;
   dry = line.dry;
   dir = option_map (λ dir. dir.now) line.dir;

@@ -10,13 +10,13 @@ ghost use Rattle.command_words.specs.Faults.{usage_report};
 ghost use Rattle.rc_links.specs.Links.{plan_text};
 ghost use Rattle.rc_links.specs.Plans.{IsPlan};
 ghost use Rattle.rclinks_command.specs.Said.{line_said};
-ghost use Rattle.rclinks_command.specs.Command.{Does, DoesBy, DoesPart, HasNoPlan, IsRefusedFor, IsRefusedRun, PartBy, ScriptsOf, TakenBy, is_help, line_from, line_of, plan_status, usage_reason, wants_usage, writes};
+ghost use Rattle.rclinks_command.specs.Command.{goes_on, Does, DoesBy, DoesPart, HasNoPlan, IsRefusedFor, IsRefusedRun, PartBy, ScriptsOf, TakenBy, is_help, line_from, line_of, plan_status, usage_reason, wants_usage, writes};
 ghost use Rattle.rclinks_command.specs.Skipping.{LeavesSome};
 
 use crate::files::FileFault;
 use crate::folders::LinkFolders;
 use crate::reading::read_files;
-use crate::skipping::plan_rest;
+use crate::skipping::{plan_rest, tell_first};
 use crate::telling::tell_system_names;
 use crate::writing::{preview, write_folders};
 use command_words::{is_version, print_version, report_refused_words};
@@ -26,8 +26,9 @@ use std::alloc::Global;
 use std::io::Write;
 
 /// What is told of words that are no command line, behind a line that says why, and where help is asked for.
-pub const USAGE: &str = "usage: rclinks [--skip] [--write DIR] [-n] FILE..
+pub const USAGE: &str = "usage: rclinks [--all] [--skip] [--write DIR] [-n] FILE..
        rclinks --version
+  --all        tell all faults, and not the first alone
   --skip       leave out the scripts that can't be read or planned, and plan the others
   --write DIR  make the links in DIR, in rc0.d to rc9.d and rcS.d, and take away the scripts' other numbered links
   -n           print what --write would do, and change nothing
@@ -36,6 +37,8 @@ pub const USAGE: &str = "usage: rclinks [--skip] [--write DIR] [-n] FILE..
 /// What words ask for.
 #[derive(Clone, Copy)]
 struct Line<'w> {
+    /// All faults are told, and not the first alone.
+    all: bool,
     /// A script that can't be read or planned is left out.
     skips: bool,
     /// Changes of folders are printed, and not made.
@@ -44,6 +47,15 @@ struct Line<'w> {
     dir: Option<&'w str>,
     /// The paths of the scripts.
     files: &'w [String],
+}
+
+impl<'w> Line<'w> {
+    /// A fault doesn't end the run.
+    fn goes_on(&self) -> bool
+        ensures { result ≡ goes_on (line_said self.now) }
+    {
+        self.skips || self.all
+    }
 }
 
 /// What more words ask for: options, and then files.
@@ -65,6 +77,10 @@ fn line_from<'w>(line: Line<'w>, words: &'w [String]) -> Line<'w>
                 rest,
             )
         }
+        [word, rest @ ..] if word.as_str() == "--all" => line_from(
+            Line { all: true, ..line },
+            rest,
+        ),
         [word, rest @ ..] if word.as_str() == "-n" => line_from(Line { dry: true, ..line }, rest),
         [word, dir, rest @ ..] if word.as_str() == "--write" => line_from(
             Line {
@@ -90,6 +106,7 @@ fn line_of(words: &[String]) -> Line<'_>
 {
     line_from(
         Line {
+            all: false,
             skips: false,
             dry: false,
             dir: None,
@@ -148,9 +165,11 @@ fn tell_faults<'w, E: Write>(
     let _ = plan_rest(alloc, scripts, paths, false, err);
 }
 
-/// The plan of the scripts; the exit status where they have none. All faults are told on `err`.
+/// The plan of the scripts; the exit status where they have none. The first fault is told on `err`, or all where that is
+/// asked for.
 fn plan_all<'w, E: Write>(
     alloc: Global,
+    all: bool,
     scripts: &mut Vec<Script>,
     paths: &mut Vec<&'w str>,
     err: &mut E,
@@ -162,7 +181,11 @@ fn plan_all<'w, E: Write>(
     match plan(alloc, scripts.as_slice()) {
         Ok(plan) => Ok(plan),
         Err(fault) => {
-            tell_faults(alloc, scripts, paths, err);
+            if all {
+                tell_faults(alloc, scripts, paths, err);
+            } else {
+                tell_first(&fault, scripts.as_slice(), paths.as_slice(), err);
+            }
             Err(status_of(&fault))
         }
     }
@@ -250,6 +273,7 @@ fn plan_of<T: Texts, E: Write>(
         alloc,
         line.files,
         line.skips,
+        line.goes_on(),
         &mut scripts,
         &mut paths,
         err,
@@ -257,14 +281,18 @@ fn plan_of<T: Texts, E: Write>(
     let Ok(faults) = read else {
         return Err(report_no_memory("rclinks", err));
     };
-    tell_system_names(scripts.as_slice(), paths.as_slice(), err);
+    if line.goes_on() || faults.is_empty() {
+        tell_system_names(scripts.as_slice(), paths.as_slice(), err);
+    }
     if line.skips {
         return plan_left(alloc, &mut scripts, &mut paths, err);
     }
     match faults.first() {
-        None => plan_all(alloc, &mut scripts, &mut paths, err),
+        None => plan_all(alloc, line.all, &mut scripts, &mut paths, err),
         Some(fault) => {
-            tell_faults(alloc, &mut scripts, &mut paths, err);
+            if line.all {
+                tell_faults(alloc, &mut scripts, &mut paths, err);
+            }
             Err(fault.status())
         }
     }
@@ -324,9 +352,9 @@ fn do_by<F: LinkFolders, W: Write, E: Write>(
 /// Runs rclinks on its words, options and then the paths of init scripts, and gives its exit status: 0 where their
 /// links were printed on `out`, or the version, where the one word is `--version`; 1 where there are no files or one is
 /// `--help` or `-h`, where a script's name or header or the plan is refused, or where a name of a link is taken; 4 where
-/// a file can't be read, a folder can't be listed or changed, the output fails or memory runs out. All faults are told
-/// on `err`, and the status is that of the first. With `--skip` a script that can't be read or planned is left out. With
-/// `--write DIR` the links are not printed but made in the folders of a directory, and numbered links of the scripts
+/// a file can't be read, a folder can't be listed or changed, the output fails or memory runs out. The first fault ends
+/// the run, and is told on `err`; with `--all` all faults are told there, and the status is that of the first. With
+/// `--skip` a script that can't be read or planned is left out. With `--write DIR` the links are not printed but made in the folders of a directory, and numbered links of the scripts
 /// that the plan doesn't have are taken away; with `-n` besides what would be changed is printed, and nothing is
 /// changed. What is odd in a header is told on `err` too, whatever the status.
 pub fn run_words<T: Texts, F: LinkFolders, W: Write, E: Write>(

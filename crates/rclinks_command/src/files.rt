@@ -5,7 +5,7 @@ ghost use Rattle.rc_header.specs.Headers.{frame_fault};
 ghost use Rattle.rc_links.specs.Names.{is_name};
 ghost use Rattle.rclinks_command.specs.Files.{IsNoScript, IsNoScriptAt, IsScriptAt, IsScriptOf, file_status, last_part, refusal_of};
 
-use crate::remarks::tell_odd_lines;
+use crate::remarks::{behind_end, tell_odd_lines};
 use init_words::Memory;
 use program_io::{DEVICE_FAULT, REFUSED, Texts};
 use rc_header::{HeaderFault, second_line};
@@ -120,21 +120,53 @@ pub fn script_in(alloc: Global, name: &[u8], text: &[u8]) -> Result<Script, File
     }
 }
 
-/// Reads the script of a path. What is odd in the lines of its header is told.
+/// Writes why a file of this text gives no script: a line that is always the same, and one that says the reason, the
+/// line of the file that it is about, and what to write in its place; and that it is left out, where it is.
+fn tell_refusal<E: Write>(path: &str, text: &[u8], fault: &FileFault, skips: bool, err: &mut E) {
+    let line = match fault {
+        FileFault::Memory => return,
+        FileFault::Unread(_) => "cannot read",
+        FileFault::Name | FileFault::Header(_, _) => "bad header",
+    };
+    let _ = writeln!(err, "rclinks: {line}: {path}");
+    let _ = match behind_end(text, fault) {
+        Some((number, more)) => writeln!(
+            err,
+            "rclinks: {path}: line {number}: \"{more}\" stands behind \"### END INIT INFO\", which ends no header then"
+        ),
+        None => writeln!(err, "rclinks: {path}: {fault}"),
+    };
+    if skips {
+        let _ = writeln!(err, "rclinks: {path}: left out");
+    }
+}
+
+/// Reads the script of a path. What is odd in the lines of its header is told, and why it gives none.
 pub(crate) fn script_of<T: Texts, E: Write>(
     texts: &T,
     alloc: Global,
     path: &str,
+    skips: bool,
     err: &mut E,
 ) -> Result<Script, FileFault>
     ensures script { IfOk result (IsScriptAt (T.text_at texts.now) path.now) }
     ensures fault { IfErr result (IsNoScriptAt (T.text_at texts.now) path.now) }
 {
-    match texts.read(alloc, path) {
+    match texts.read_file(alloc, path) {
         Ok(text) => {
             tell_odd_lines(path, text.as_slice(), err);
-            script_in(alloc, last_part(path.as_bytes()), text.as_slice())
+            match script_in(alloc, last_part(path.as_bytes()), text.as_slice()) {
+                Ok(script) => Ok(script),
+                Err(fault) => {
+                    tell_refusal(path, text.as_slice(), &fault, skips, err);
+                    Err(fault)
+                }
+            }
         }
-        Err(error) => Err(FileFault::Unread(error)),
+        Err(error) => {
+            let fault = FileFault::Unread(error);
+            tell_refusal(path, &[], &fault, skips, err);
+            Err(fault)
+        }
     }
 }

@@ -1,7 +1,7 @@
 //! All files of a command line, read; what can't be read is told.
 
 ghost use Rattle.std.specs.Prelude.{◌≡◌, [], map, string_bytes, IfOk, OnOk};
-ghost use Rattle.rclinks_command.specs.Reading.{Reads, ReadsOne};
+ghost use Rattle.rclinks_command.specs.Reading.{ReadsOne, ReadsTo};
 
 use crate::files::{FileFault, script_of};
 use crate::remarks::tell_odd_header;
@@ -10,19 +10,6 @@ use program_io::Texts;
 use rc_links::Script;
 use std::alloc::Global;
 use std::io::Write;
-
-/// Writes why a file gives no script: a line that is always the same, and one that says the reason, the line of the
-/// file that it is about, and what to write in its place; and that it is left out, where it is.
-fn tell_refusal<E: Write>(path: &str, fault: &FileFault, skips: bool, err: &mut E) {
-    let line = match fault {
-        FileFault::Unread(_) | FileFault::Memory => "cannot read",
-        FileFault::Name | FileFault::Header(_, _) => "bad header",
-    };
-    let _ = writeln!(err, "rclinks: {line}: {path}\nrclinks: {path}: {fault}");
-    if skips {
-        let _ = writeln!(err, "rclinks: {path}: left out");
-    }
-}
 
 /// Reads the script of a path; a file that gives none is told.
 fn read_one<'w, T: Texts, E: Write>(
@@ -38,39 +25,41 @@ fn read_one<'w, T: Texts, E: Write>(
     ensures { OnOk result (ReadsOne (T.text_at texts.now) path.now scripts.old.items
         scripts.new.items faults.old.items faults.new.items) }
 {
-    match script_of(texts, alloc, path, err) {
+    match script_of(texts, alloc, path, skips, err) {
         Ok(script) => {
             tell_odd_header(path, script.header(), err);
             scripts.push(script)?;
             paths.push(path)?;
         }
         Err(FileFault::Memory) => return Err(Memory),
-        Err(fault) => {
-            tell_refusal(path, &fault, skips, err);
-            faults.push(fault)?;
-        }
+        Err(fault) => faults.push(fault)?,
     }
     Ok(())
 }
 
-/// Reads the scripts of the paths, in order, and gives the faults of the files that give none, which are told.
+/// Reads the scripts of the paths, in order, and gives the faults of the files that give none, which are told. Where it
+/// doesn't go on, the first fault is the last that is read.
 pub(crate) fn read_files<'w, T: Texts, E: Write>(
     texts: &T,
     alloc: Global,
     words: &'w [String],
     skips: bool,
+    goes_on: bool,
     scripts: &mut Vec<Script>,
     paths: &mut Vec<&'w str>,
     err: &mut E,
 ) -> Result<Vec<FileFault>, Memory>
     requires { scripts.old.items ≡ [] }
-    ensures { IfOk result (λ faults. Reads (T.text_at texts.now) (map string_bytes words.now)
-        scripts.new.items faults.items) }
+    ensures { IfOk result (λ faults. ReadsTo goes_on (T.text_at texts.now)
+        (map string_bytes words.now) scripts.new.items faults.items) }
 {
     let mut faults = Vec::new(alloc);
     for word in words {
         let path = word.as_str();
         read_one(texts, alloc, path, skips, scripts, paths, &mut faults, err)?;
+        if !goes_on && !faults.is_empty() {
+            return Ok(faults);
+        }
     }
     Ok(faults)
 }

@@ -1,7 +1,8 @@
 //! Warnings: what stands in a header and counts for nothing.
 
+use crate::files::FileFault;
 use init_words::Level;
-use rc_header::{Header, Keyword, begun, block_line, known_of};
+use rc_header::{Header, HeaderFault, Keyword, begun, block_line, known_of};
 use std::io::Write;
 use std::str;
 use text_lines::next_word;
@@ -18,6 +19,28 @@ pub(crate) fn tell_odd_lines<E: Write>(path: &str, text: &[u8], err: &mut E) {
         tell_odd_line(path, number, line, err);
         rest = more;
     }
+}
+
+/// What stands behind the words of the line by which a header that has this fault would end, and the number of that line.
+pub(crate) fn behind_end<'t>(text: &'t [u8], fault: &FileFault) -> Option<(usize, &'t str)> {
+    let last = match fault {
+        FileFault::Header(HeaderFault::NoEnd, _) => usize::MAX,
+        FileFault::Header(HeaderFault::BadLine(number), _) => *number,
+        _ => return None,
+    };
+    let (begin, body) = begun(text)?;
+    let mut number = begin;
+    let mut rest = body;
+    while let Some((line, more)) = block_line(rest) {
+        number = number.saturating_add(1);
+        if let Some(behind) = line.strip_prefix(b"### END INIT INFO")
+            && number <= last
+        {
+            return Some((number, str::from_utf8(behind).unwrap_or("?")));
+        }
+        rest = more;
+    }
+    None
 }
 
 /// Tells what is odd in a line of a header.

@@ -5,11 +5,24 @@ ghost use Rattle.rc_links.specs.Plans.{IsPlan, IsRefused};
 ghost use Rattle.rclinks_command.specs.Skipping.{LeavesSome};
 
 use crate::faulty::place_of;
-use crate::telling::{tell_fault, tell_last};
+use crate::telling::{tell_fault, tell_last, tell_who};
 use init_words::Memory;
 use rc_links::{Plan, PlanFault, Script, plan};
 use std::alloc::Global;
 use std::io::Write;
+
+/// Tells a fault of scripts that have no plan, and who is at fault.
+pub(crate) fn tell_first<E: Write>(
+    fault: &PlanFault,
+    scripts: &[Script],
+    paths: &[&str],
+    err: &mut E,
+) {
+    match place_of(scripts, fault) {
+        Some(place) => tell_who(fault, scripts, paths, place, &[], true, err),
+        None => tell_last(fault, err),
+    }
+}
 
 /// Takes a script out, with its path, and keeps it among those that are left out.
 fn leave_out<'w>(

@@ -32,6 +32,24 @@ pub(crate) fn tell_fault<E: Write>(
     {
         return;
     }
+    tell_who(fault, scripts, paths, place, outs, false, err);
+    if skips {
+        let path = path_at(paths, place);
+        let _ = writeln!(err, "rclinks: {path}: left out");
+    }
+}
+
+/// Tells a fault, and who is at fault with whom: the script at the place; of the names that it misses the first alone, or
+/// all.
+pub(crate) fn tell_who<E: Write>(
+    fault: &PlanFault,
+    scripts: &[Script],
+    paths: &[&str],
+    place: usize,
+    outs: &[Script],
+    first: bool,
+    err: &mut E,
+) {
     let _ = writeln!(err, "rclinks: {fault}");
     let Some(script) = scripts.get(place) else {
         return;
@@ -41,12 +59,12 @@ pub(crate) fn tell_fault<E: Write>(
         PlanFault::DoubleProvide(name) => {
             tell_double(name.as_str(), scripts, paths, place, path, err);
         }
-        PlanFault::Missing(_) => tell_missing(script, path, scripts, outs, err),
+        PlanFault::Missing(name) => {
+            let only = if first { Some(name.as_str()) } else { None };
+            tell_missing(script, path, only, scripts, outs, err);
+        }
         PlanFault::Cycle(names) => tell_cycle(names.as_slice(), scripts, err),
         PlanFault::TooDeep | PlanFault::Memory => {}
-    }
-    if skips {
-        let _ = writeln!(err, "rclinks: {path}: left out");
     }
 }
 
@@ -85,10 +103,11 @@ fn tell_double<E: Write>(
     }
 }
 
-/// Tells the names that a script requires and that are missing.
+/// Tells the names that a script requires and that are missing, or only the one.
 fn tell_missing<E: Write>(
     script: &Script,
     path: &str,
+    only: Option<&str>,
     scripts: &[Script],
     outs: &[Script],
     err: &mut E,
@@ -98,6 +117,7 @@ fn tell_missing<E: Write>(
         path,
         "Required-Start",
         header.required_start(),
+        only,
         scripts,
         outs,
         err,
@@ -106,24 +126,29 @@ fn tell_missing<E: Write>(
         path,
         "Required-Stop",
         header.required_stop(),
+        only,
         scripts,
         outs,
         err,
     );
 }
 
-/// Tells those of the names of a keyword that no script provides.
+/// Tells those of the names of a keyword that no script provides, or only the one.
 fn tell_absent<E: Write>(
     path: &str,
     keyword: &str,
     names: &[String],
+    only: Option<&str>,
     scripts: &[Script],
     outs: &[Script],
     err: &mut E,
 ) {
     for name in names {
         let name = name.as_str();
-        if name.starts_with('$') || is_provided(scripts, name) {
+        if name.starts_with('$')
+            || is_provided(scripts, name)
+            || only.is_some_and(|one| one != name)
+        {
             continue;
         }
         let reason = if is_provided(outs, name) {

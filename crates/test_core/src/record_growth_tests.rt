@@ -2,8 +2,8 @@
 //! with room again succeeds.
 
 use crate::shown::add_records;
-use core_records::{Record, Records};
-use init_words::{Act, Answer, ChildNumber, Id, Level, Memory, OrderKind, Stage};
+use core_records::{Record, Records, Stop};
+use init_words::{Act, Answer, ChildNumber, Id, Level, Memory, OrderKind, Stage, Status};
 use inittab_text::Table;
 use linked_list_allocator::LocalHeap;
 use respawn_limit::CLOCK_LIMIT;
@@ -14,11 +14,11 @@ const BEFORE: &[u8] = b"a:3:respawn:x\nb:3:once:y\n";
 
 const AFTER: &[u8] = b"b:3:once:z\nc:3:wait:w\n";
 
-/// One child is to be stopped, and a SIGTERM is open for the other, whose entry is an orphan then.
-const SHOWN_BEFORE: &[u8] = b"a 5-da----/b 1tda----/";
+/// One child was sent SIGTERM, and a SIGTERM is open for the other, whose entry is an orphan then.
+const SHOWN_BEFORE: &[u8] = b"a 5-ta----/b 1tda----/";
 
 /// The other table has one entry as it was, and the other not any more.
-const SHOWN_AFTER: &[u8] = b"b 1tda----/c --------/a 5-d----x/";
+const SHOWN_AFTER: &[u8] = b"b 1tda----/c --------/a 5-t----x/";
 
 /// Bytes that keep an adoption from growing, and that are enough for it.
 const FILLER: usize = 8192;
@@ -47,13 +47,37 @@ struct Ids {
     second: Id,
 }
 
-/// The children have their numbers, and the first has so many starts in its limit of respawns.
-fn are_kept(slots: &Records<&LocalHeap>, ids: &Ids, starts: usize) -> bool {
+/// The children have their numbers, and are found by them. Of the first there is when it was sent SIGTERM, how the child
+/// before it ended, and these starts and this hold.
+fn are_kept(
+    slots: &Records<&LocalHeap>,
+    ids: &Ids,
+    starts: &[u64],
+    held_until: Option<u64>,
+) -> bool {
     let Ids { first, second } = *ids;
     number_of(slots, &first) == Some(FIRST)
         && number_of(slots, &second) == Some(SECOND)
-        && matches!(slots.by_id(&first), Some(slot) if slot.starts().len() == starts)
+        && slots.by_child(FIRST) == Some(first)
+        && slots.by_child(SECOND) == Some(second)
+        && matches!(slots.by_id(&first), Some(slot) if has_times(slot, starts, held_until))
 }
+
+fn has_times(slot: &Record, starts: &[u64], held_until: Option<u64>) -> bool {
+    slot.starts() == starts
+        && slot.held_until() == held_until
+        && slot.last() == Some(Status::Exit(3))
+        && matches!(slot.stop(), Some(Stop::Termed(TERMED)))
+}
+
+/// When the first child was sent SIGTERM.
+const TERMED: u64 = 7;
+
+/// When it and the child before it were started.
+const STARTS: &[u64] = &[CLOCK_LIMIT, CLOCK_LIMIT];
+
+/// A hold from the second start on lasts five minutes.
+const HELD_UNTIL: u64 = CLOCK_LIMIT + 300;
 
 const FIRST: ChildNumber = ChildNumber(4_294_967_295);
 
@@ -72,18 +96,35 @@ fn is_born(slots: &mut Records<&LocalHeap>, id: Id, number: ChildNumber) -> bool
         && slots.told(id, Answer::Born(number), CLOCK_LIMIT) == Ok(())
 }
 
-/// Two children that another level excludes, and the signal to one.
+fn is_held(slots: &mut Records<&LocalHeap>, id: Id) -> bool {
+    if slots.by_id(&id).is_none() {
+        return false;
+    }
+    slots.hold(id, CLOCK_LIMIT);
+    true
+}
+
+/// Two children that another level excludes, one of them the second of its id, and the signals to them.
 fn is_begun<'a>(
     slots: &mut Records<&'a LocalHeap>,
     table: &Table<&'a LocalHeap>,
     ids: &Ids,
 ) -> bool {
     let Ids { first, second } = *ids;
-    if !is_born(slots, first, FIRST) || !is_born(slots, second, SECOND) {
+    let ended = Answer::Ended(Status::Exit(3));
+    if !is_born(slots, first, SECOND)
+        || !is_ordered(slots, first, OrderKind::Look)
+        || slots.told(first, ended, CLOCK_LIMIT) != Ok(())
+        || !is_born(slots, first, FIRST)
+        || !is_born(slots, second, SECOND)
+    {
         return false;
     }
     slots.judge(table, Stage::Run(Level::L4));
-    is_ordered(slots, second, OrderKind::Term)
+    is_held(slots, first)
+        && is_ordered(slots, first, OrderKind::Term)
+        && slots.told(first, Answer::Hit, TERMED) == Ok(())
+        && is_ordered(slots, second, OrderKind::Term)
 }
 
 /// Whether an adoption is refused while the filler stands.
@@ -117,11 +158,11 @@ fn refused_then_made<'a>(
     if !is_refused(heap, slots, table)? {
         return Ok(Refused::Nothing);
     }
-    if !shows(alloc, slots, SHOWN_BEFORE)? || !are_kept(slots, ids, 1) {
+    if !shows(alloc, slots, SHOWN_BEFORE)? || !are_kept(slots, ids, STARTS, Some(HELD_UNTIL)) {
         return Ok(Refused::Wrong);
     }
     slots.adopt(table)?;
-    if shows(alloc, slots, SHOWN_AFTER)? && are_kept(slots, ids, 0) {
+    if shows(alloc, slots, SHOWN_AFTER)? && are_kept(slots, ids, &[], None) {
         Ok(Refused::Adoption)
     } else {
         Ok(Refused::Wrong)

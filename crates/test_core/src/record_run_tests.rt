@@ -45,6 +45,8 @@ enum Call {
     Enter,
     Adopt(&'static [u8]),
     Judge(&'static [u8], Stage),
+    /// The first id whose child has the number.
+    Child(u32, Option<&'static [u8]>),
     Quiet(bool),
     /// A child that is to be stopped got no signal yet.
     Due(bool),
@@ -140,6 +142,7 @@ fn is_made(alloc: Global, slots: &mut Records, call: &Call) -> bool {
         }
         Call::Adopt(text) => adopt(alloc, slots, text),
         Call::Judge(text, stage) => judge(alloc, slots, text, stage),
+        Call::Child(number, id) => slots.by_child(ChildNumber(number)) == id.and_then(Id::read),
         Call::Quiet(quiet) => slots.quiet() == quiet,
         Call::Due(due) => slots.has_due() == due,
         Call::FirstTermed(time) => slots.first_termed() == time,
@@ -214,13 +217,16 @@ const RUNS: &[(&[u8], &[Call], &[u8])] = &[
     (
         BOTH,
         &[
+            Call::Child(700, None),
             Call::Ask(b"a", OrderKind::Start),
             Call::Ask(b"b", OrderKind::Start),
             Call::Born(b"a", 700),
             Call::Nudge,
             Call::Ask(b"a", OrderKind::Look),
             Call::Born(b"b", 700),
+            Call::Child(700, Some(b"a")),
             Call::Told(b"a", Told::Ended(Status::Exit(0))),
+            Call::Child(700, Some(b"b")),
         ],
         b"a ---a----/b 0--a----/",
     ),

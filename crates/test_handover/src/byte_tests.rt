@@ -1,9 +1,10 @@
 //! Each byte of three texts, of both versions, is changed to each other: what is left is taken over, and handed over again
 //! as it stands, or refused by the first check that fails.
 
+use crate::cores::{not_taken, opened, taken};
 use crate::texts::{STARTED, STARTED_NOW};
 use core_handover::StateFault::{self, Cut, Generation, Line, Unfit, Version};
-use core_handover::{hand_over, take_over};
+use core_handover::hand_over;
 use core_steps::Core;
 use init_words::Memory;
 use std::alloc::Global;
@@ -300,22 +301,25 @@ fn is_again(again: &[u8], text: &[u8], behind: &[u8]) -> bool {
     news.next().is_none()
 }
 
+fn hands_again(alloc: Global, core: &mut Core, text: &[u8], behind: &str) -> bool {
+    match hand_over(alloc, core) {
+        Ok(again) => is_again(&again, text, behind.as_bytes()),
+        Err(_) => false,
+    }
+}
+
 /// What is answered to the text; and where it is taken over, whether it is handed over again as it stands.
-fn answer(alloc: Global, text: &[u8], behind: &str) -> Result<(Option<StateFault>, bool), Memory> {
-    let mut core = match take_over(alloc, text, 1) {
-        Ok(core) => core,
-        Err(why) => return Ok((Some(why), true)),
-    };
-    match hand_over(alloc, &mut core) {
-        Ok(again) => Ok((None, is_again(&again, text, behind.as_bytes()))),
-        Err(_) => Ok((None, false)),
+fn answer(alloc: Global, text: &[u8], behind: &str) -> (Option<StateFault>, bool) {
+    match taken(alloc, alloc, text, 1) {
+        Ok(mut core) => (None, hands_again(alloc, &mut core, text, behind)),
+        Err(why) => (Some(why), true),
     }
 }
 
 /// Whether the text is answered as its rows say with this byte at the place.
 fn is_answered(alloc: Global, part: &Part, place: &Place, byte: u8) -> Result<bool, Memory> {
     let made = changed(alloc, part.text, place.at, byte)?;
-    let (got, whole) = answer(alloc, &made, part.behind)?;
+    let (got, whole) = answer(alloc, &made, part.behind);
     Ok(got == wanted(part, place.line, place.column, byte) && whole)
 }
 
@@ -437,23 +441,22 @@ const WHOLE: &[(&str, u64, Option<StateFault>)] = &[
 ];
 
 #[test]
-fn whole_texts(rt: HostRuntime) -> Result<(), Fail> {
+fn whole_texts(rt: HostRuntime) {
     for (text, generation, want) in WHOLE {
-        let got = take_over(rt.alloc(), text.as_bytes(), *generation).err();
+        let got = not_taken(rt.alloc(), text.as_bytes(), *generation);
         assert!(rt; got == *want, "{generation}: {text}");
     }
     for part in PARTS {
-        let got = answer(rt.alloc(), part.text.as_bytes(), part.behind)?;
+        let got = answer(rt.alloc(), part.text.as_bytes(), part.behind);
         assert!(rt; got == (None, true), "{}", part.text);
     }
-    Ok(())
 }
 
 /// The length of the first proper front of a text, the empty one among them, that isn't refused as cut.
 fn uncut(alloc: Global, text: &[u8]) -> Option<usize> {
     for length in 0..text.len() {
         let front = text.get(..length)?;
-        if take_over(alloc, front, 1).err() != Some(Cut) {
+        if not_taken(alloc, front, 1) != Some(Cut) {
             return Some(length);
         }
     }
@@ -487,16 +490,19 @@ fn lines_are_exchanged(rt: HostRuntime) -> Result<(), Fail> {
     for (old, new, want) in LINES {
         let (front, back) = STARTED.split_once(old).ok_or("no such line")?;
         let text = format!(in rt.alloc(); "{front}{new}{back}")?;
-        let got = take_over(rt.alloc(), text.as_bytes(), 1).err();
+        let got = not_taken(rt.alloc(), text.as_bytes(), 1);
         assert!(rt; got == *want, "{new}");
     }
     Ok(())
 }
 
 /// The core of which the text says: a start of `a` and one of `b` were asked for.
-fn started(alloc: Global) -> Result<Core, Fail> {
-    let (table, _) = inittab_text::read(alloc, b"id:3:initdefault:\na:3:respawn:x\nb:3:once:y\n")?;
-    let mut core = Core::new(alloc, table, None)?;
+fn started(alloc: Global) -> Result<Box<Core>, Fail> {
+    let mut core = opened(
+        alloc,
+        b"id:3:initdefault:\na:3:respawn:x\nb:3:once:y\n",
+        None,
+    )?;
     for _ in 0..5 {
         let _ = core.next();
     }
@@ -509,8 +515,8 @@ fn the_written_core_is_taken_over(rt: HostRuntime) -> Result<(), Fail> {
     let mut written = started(rt.alloc())?;
     let text = hand_over(rt.alloc(), &mut written)?;
     assert!(rt; is_again(&text, STARTED.as_bytes(), b" -"));
-    let mut taken = take_over(rt.alloc(), STARTED.as_bytes(), 1)?;
-    let same = hand_over(rt.alloc(), &mut taken)? == hand_over(rt.alloc(), &mut written)?;
-    assert!(rt; same && taken.next() == written.next());
+    let mut again = taken(rt.alloc(), rt.alloc(), STARTED.as_bytes(), 1)?;
+    let same = hand_over(rt.alloc(), &mut again)? == hand_over(rt.alloc(), &mut written)?;
+    assert!(rt; same && again.next() == written.next());
     Ok(())
 }

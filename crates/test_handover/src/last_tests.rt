@@ -1,6 +1,7 @@
 //! How the last children ended, handed over and taken over.
 
-use core_handover::{StateFault, hand_over, take_over};
+use crate::cores::{opened, taken};
+use core_handover::{StateFault, hand_over};
 use core_steps::Core;
 use init_words::{Answer, ChildNumber, Id, Status};
 use std::alloc::Global;
@@ -31,9 +32,8 @@ fn step(core: &mut Core, steps: u32) {
 }
 
 /// Both entries are started, and the child of the first ends before the second is born, with its number.
-fn ended(alloc: Global) -> Result<Core, Fail> {
-    let (table, _) = inittab_text::read(alloc, INITTAB)?;
-    let mut core = Core::new(alloc, table, None)?;
+fn ended(alloc: Global) -> Result<Box<Core>, Fail> {
+    let mut core = opened(alloc, INITTAB, None)?;
     let first = id_of(b"a")?;
     step(&mut core, 5);
     core.answer(first, Answer::Born(ChildNumber(700)))?;
@@ -77,7 +77,7 @@ const TAKEN: &[(u64, &str, Option<StateFault>, Option<Status>)] = &[
 
 /// Why the text is not taken over, and the last status of `a` where it is.
 fn answer(alloc: Global, text: &str) -> Result<(Option<StateFault>, Option<Status>), Fail> {
-    match take_over(alloc, text.as_bytes(), 1) {
+    match taken(alloc, alloc, text.as_bytes(), 1) {
         Ok(core) => Ok((None, last_of(&core, b"a")?)),
         Err(why) => Ok((Some(why), None)),
     }

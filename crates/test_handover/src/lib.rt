@@ -5,6 +5,8 @@
 #[cfg(test)]
 mod byte_tests;
 #[cfg(test)]
+mod cores;
+#[cfg(test)]
 mod last_tests;
 #[cfg(test)]
 mod line_tests;

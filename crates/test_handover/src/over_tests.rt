@@ -1,7 +1,8 @@
 //! States and their texts, worked out by hand.
 
+use crate::cores::{not_taken, opened, taken};
 use crate::states::{INITTAB, SETTLED, settle};
-use core_handover::{StateFault, generation_of, hand_over, take_over};
+use core_handover::{StateFault, generation_of, hand_over};
 use core_steps::{Core, Step};
 use init_words::{Answer, Id, Letter, Level, OrderKind, Stage, Status};
 use initctl_frame::HeardRequest;
@@ -106,14 +107,6 @@ const STATES: &[(&str, &str, bool)] = &[
     ),
 ];
 
-/// Why a text is not taken over, if it isn't.
-fn refused(alloc: Global, text: &[u8], generation: u64) -> Option<StateFault> {
-    match take_over(alloc, text, generation) {
-        Ok(_) => None,
-        Err(why) => Some(why),
-    }
-}
-
 #[test]
 fn states(rt: HostRuntime) -> Result<(), Fail> {
     for (heads, slots, fits) in STATES {
@@ -121,15 +114,14 @@ fn states(rt: HostRuntime) -> Result<(), Fail> {
             "initd-state 1\ngeneration 1\nclock 7\n{heads}{TABLE}{slots}"
         )?;
         let want = if *fits { None } else { Some(StateFault::Unfit) };
-        assert!(rt; refused(rt.alloc(), text.as_bytes(), 1) == want, "{text}");
+        assert!(rt; not_taken(rt.alloc(), text.as_bytes(), 1) == want, "{text}");
     }
     Ok(())
 }
 
 /// A core that init is to be re-executed with.
-fn settled(alloc: Global) -> Result<Core, Fail> {
-    let (table, _) = inittab_text::read(alloc, INITTAB)?;
-    let mut core = Core::new(alloc, table, Some(Level::L3))?;
+fn settled(alloc: Global) -> Result<Box<Core>, Fail> {
+    let mut core = opened(alloc, INITTAB, Some(Level::L3))?;
     settle(&mut core)?;
     core.got(HeardRequest::Reexec);
     Ok(core)
@@ -154,7 +146,7 @@ fn handed_on(rt: HostRuntime) -> Result<(), Fail> {
 #[test]
 fn taken_over(rt: HostRuntime) -> Result<(), Fail> {
     let text = format!(in rt.alloc(); "initd-state 2\ngeneration 1\n{SETTLED}")?;
-    let mut core = take_over(rt.alloc(), text.as_bytes(), 1)?;
+    let mut core = taken(rt.alloc(), rt.alloc(), text.as_bytes(), 1)?;
     assert!(rt; matches!(core.next(), Step::Idle));
     assert!(rt; hands_on(rt.alloc(), &mut core, 2)?);
     Ok(())
@@ -163,15 +155,17 @@ fn taken_over(rt: HostRuntime) -> Result<(), Fail> {
 #[test]
 fn other_texts(rt: HostRuntime) -> Result<(), Fail> {
     let text = format!(in rt.alloc(); "initd-state 2\ngeneration 1\n{SETTLED}")?;
-    assert!(rt; refused(rt.alloc(), text.as_bytes(), 2) == Some(StateFault::Generation));
-    assert!(rt; refused(rt.alloc(), b"initd-state 1\ngeneration 1\n", 1) == Some(StateFault::Cut));
+    assert!(rt; not_taken(rt.alloc(), text.as_bytes(), 2) == Some(StateFault::Generation));
+    assert!(rt;
+        not_taken(rt.alloc(), b"initd-state 1\ngeneration 1\n", 1) == Some(StateFault::Cut)
+    );
     Ok(())
 }
 
 #[test]
 fn last_generation(rt: HostRuntime) -> Result<(), Fail> {
     let text = format!(in rt.alloc(); "initd-state 2\ngeneration {}\n{SETTLED}", u64::MAX)?;
-    let mut core = take_over(rt.alloc(), text.as_bytes(), u64::MAX)?;
+    let mut core = taken(rt.alloc(), rt.alloc(), text.as_bytes(), u64::MAX)?;
     assert!(rt; hand_over(rt.alloc(), &mut core) == Err(StateFault::Worn));
     assert!(rt; core.generation() == u64::MAX);
     Ok(())
@@ -185,10 +179,10 @@ const SIGNALLED: &str = "initd-state 1\ngeneration 1\nclock 7\nstage none 0\ngoa
 /// taken.
 #[test]
 fn a_signal_open_before_the_first_stage(rt: HostRuntime) -> Result<(), Fail> {
-    let mut core = take_over(rt.alloc(), SIGNALLED.as_bytes(), 1)?;
+    let mut core = taken(rt.alloc(), rt.alloc(), SIGNALLED.as_bytes(), 1)?;
     assert!(rt; matches!(core.next(), Step::Idle));
     let text = hand_over(rt.alloc(), &mut core)?;
-    let mut core = take_over(rt.alloc(), &text, 2)?;
+    let mut core = taken(rt.alloc(), rt.alloc(), &text, 2)?;
     assert!(rt; matches!(core.next(), Step::Idle));
     let id = Id::read(b"s").ok_or("no id")?;
     core.answer(id, Answer::Hit)?;
@@ -217,7 +211,7 @@ fn records_of_a_called_entry(rt: HostRuntime) -> Result<(), Fail> {
     for (slot, fits) in CALLED {
         let text = format!(in rt.alloc(); "{ON_CALL}{slot}\nend 10\n")?;
         let want = if *fits { None } else { Some(StateFault::Unfit) };
-        assert!(rt; refused(rt.alloc(), text.as_bytes(), 1) == want, "{slot}");
+        assert!(rt; not_taken(rt.alloc(), text.as_bytes(), 1) == want, "{slot}");
     }
     Ok(())
 }
@@ -240,9 +234,9 @@ fn after_the_end(core: &mut Core) -> Option<Step> {
 }
 
 /// An ondemand entry with a child, which is not called.
-fn lived_on(alloc: Global) -> Result<Core, Fail> {
+fn lived_on(alloc: Global) -> Result<Box<Core>, Fail> {
     let text = format!(in alloc; "{ON_CALL}slot d 700 ondemand - - 1000 - -\nend 10\n")?;
-    Ok(take_over(alloc, text.as_bytes(), 1)?)
+    Ok(taken(alloc, alloc, text.as_bytes(), 1)?)
 }
 
 #[test]

@@ -1,13 +1,15 @@
 //! Growths are refused in turn, on heaps of more and more room. A refused hand-over leaves the core as it was.
 
+use crate::cores::{parts_of, taken};
 use crate::states::SETTLED;
-use core_handover::{StateFault, hand_over, take_over};
+use core_handover::{StateFault, hand_over};
+use core_model::Parts;
 use core_steps::{Core, Rebuild};
-use core_text::read_state;
 use init_words::Refusal;
 use linked_list_allocator::LocalHeap;
 use std::alloc::{Allocator, Global};
 use std::test::Fail;
+use test_support::boxed;
 
 /// From one heap to the next there is less more room than the least growth takes, so that each growth is refused on
 /// some heap.
@@ -55,7 +57,7 @@ end 15
 /// Whether the core hands its state on over a heap of the given number of bytes. Where it doesn't, it is as it was: what
 /// it hands over with room says so.
 fn hands_on(alloc: Global, room: usize) -> Result<bool, Fail> {
-    let mut core = take_over(alloc, BUSY.as_bytes(), 1)?;
+    let mut core = taken(alloc, alloc, BUSY.as_bytes(), 1)?;
     let heap = LocalHeap::new(alloc, room)?;
     let given = hand_over(&heap, &mut core);
     match given {
@@ -91,21 +93,29 @@ fn a_refused_hand_over_changes_nothing(rt: HostRuntime) -> Result<(), Fail> {
 /// Whether a text is taken over on a heap of the given number of bytes.
 fn is_taken(alloc: Global, text: &str, room: usize) -> Result<bool, Fail> {
     let heap = LocalHeap::new(alloc, room)?;
-    match take_over(&heap, text.as_bytes(), 1) {
+    match taken(alloc, &heap, text.as_bytes(), 1) {
         Ok(_) => Ok(true),
         Err(StateFault::Memory) => Ok(false),
         Err(_) => Err(Fail::from("another refusal")),
     }
 }
 
+fn rebuilt<'h>(
+    alloc: Global,
+    heap: &'h LocalHeap,
+    parts: Box<Parts<&'h LocalHeap>>,
+) -> Result<Box<Core<&'h LocalHeap>>, Rebuild> {
+    Ok(boxed(alloc, Core::rebuilt(heap, Box::into_inner(parts))?)?)
+}
+
 /// Whether a core is rebuilt of what a text says, on a heap of the given number of bytes; None where the text isn't
 /// read there.
 fn is_rebuilt(alloc: Global, text: &str, room: usize) -> Result<Option<bool>, Fail> {
     let heap = LocalHeap::new(alloc, room)?;
-    let Ok(parts) = read_state(&heap, text.as_bytes(), 1) else {
+    let Ok(parts) = parts_of(alloc, &heap, text.as_bytes(), 1) else {
         return Ok(None);
     };
-    match Core::rebuilt(&heap, parts) {
+    match rebuilt(alloc, &heap, parts) {
         Ok(_) => Ok(Some(true)),
         Err(Rebuild::Memory) => Ok(Some(false)),
         Err(_) => Err(Fail::from("another refusal")),
@@ -188,7 +198,7 @@ enum Refused {
 /// What is refused to a core on a heap, to which a table is given. Where that is the adoption, the core is as it was:
 /// what it hands over with room says so.
 fn refused_on(alloc: Global, heap: &LocalHeap) -> Refused {
-    match take_over(heap, QUIET.as_bytes(), 1) {
+    match taken(alloc, heap, QUIET.as_bytes(), 1) {
         Ok(mut core) => refused_to(alloc, heap, &mut core),
         Err(_) => Refused::Before,
     }

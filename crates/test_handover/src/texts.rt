@@ -1,4 +1,5 @@
-use core_text::{StateFault, read_state};
+use crate::cores::parts_of;
+use core_text::StateFault;
 use std::alloc::{AllocError, Global};
 
 /// The state of an init with two starts under way, in runlevel 3, that was re-executed once.
@@ -51,7 +52,7 @@ end 8
 
 /// Why a text of this generation is refused, none where it is read.
 pub(crate) fn refusal(alloc: Global, text: &[u8], generation: u64) -> Option<StateFault> {
-    read_state(alloc, text, generation).err()
+    parts_of(alloc, alloc, text, generation).err()
 }
 
 /// The text with these lines in place of the one of a number, counted from 1; an empty text is no line.

@@ -1,12 +1,12 @@
 //! What is written of a core, and the values that a text is read as.
 
+use crate::cores::{opened, parts_of};
 use crate::texts::STARTED;
 use core_model::{CoreFields, News, Parts, PlainRecord};
 use core_records::Stop;
 use core_steps::Core;
-use core_text::{StateFault, generation_of, read_state, write_state};
+use core_text::{StateFault, generation_of, write_state};
 use init_words::{Act, ChildNumber, Level, Memory, OrderKind, Stage, Status};
-use inittab_text::Table;
 use std::alloc::Global;
 use std::test::Fail;
 use trace_events::Goal;
@@ -172,9 +172,8 @@ const BUSY_HEADS: CoreFields = CoreFields {
 };
 
 /// The core right after it ordered its second start: three stages were entered, and two starts ordered.
-fn started(alloc: Global) -> Result<Core, Fail> {
-    let (table, _) = inittab_text::read(alloc, TABLE.as_bytes())?;
-    let mut core = Core::new(alloc, table, None)?;
+fn started(alloc: Global) -> Result<Box<Core>, Fail> {
+    let mut core = opened(alloc, TABLE.as_bytes(), None)?;
     for _ in 0..5 {
         core.next();
     }
@@ -182,33 +181,33 @@ fn started(alloc: Global) -> Result<Core, Fail> {
 }
 
 /// The heads of that core.
-fn started_heads() -> CoreFields {
-    CoreFields {
-        generation: 1,
-        time: 0,
-        stage: Some(Stage::Run(Level::L3)),
+const STARTED_HEADS: CoreFields = CoreFields {
+    generation: 1,
+    time: 0,
+    stage: Some(Stage::Run(Level::L3)),
+    grace: 5,
+    goal: Goal {
+        level: Level::L3,
         grace: 5,
-        goal: Goal {
-            level: Level::L3,
-            grace: 5,
-        },
-        booted: true,
-        announced: false,
-        reread: false,
-        reexec: false,
-        level_wish: None,
-        news: News::new(),
-    }
-}
+    },
+    booted: true,
+    announced: false,
+    reread: false,
+    reexec: false,
+    level_wish: None,
+    news: News {
+        fail: false,
+        fail_now: false,
+        ok: false,
+        a: false,
+        b: false,
+        c: false,
+    },
+};
 
-/// What the core tells of its heads, and the rest by hand.
-fn heads_of(core: &Core) -> CoreFields {
-    CoreFields {
-        time: core.time(),
-        stage: core.stage(),
-        goal: core.goal(),
-        ..started_heads()
-    }
+/// The core tells this of its heads.
+fn tells(core: &Core, heads: &CoreFields) -> bool {
+    core.time() == heads.time && core.stage() == heads.stage && core.goal() == heads.goal
 }
 
 fn text_of(alloc: Global, heads: &CoreFields, core: &Core) -> Result<Vec<u8>, Memory> {
@@ -299,20 +298,21 @@ fn is_said(
     table: &str,
     kept: &[Kept],
 ) -> Result<bool, StateFault> {
-    let parts = read_state(alloc, text.as_bytes(), heads.generation)?;
+    let parts = parts_of(alloc, alloc, text.as_bytes(), heads.generation)?;
     Ok(are_parts(&parts, heads, kept) && is_table(alloc, &parts, table)?)
 }
 
 #[test]
 fn a_core_is_written(rt: HostRuntime) -> Result<(), Fail> {
     let core = started(rt.alloc())?;
-    assert!(rt; is_written(rt.alloc(), &heads_of(&core), &core, STARTED_FIRST)?);
+    assert!(rt; tells(&core, &STARTED_HEADS));
+    assert!(rt; is_written(rt.alloc(), &STARTED_HEADS, &core, STARTED_FIRST)?);
     Ok(())
 }
 
 #[test]
 fn each_head_is_written(rt: HostRuntime) -> Result<(), Fail> {
-    let core = Core::new(rt.alloc(), Table::new(rt.alloc()), None)?;
+    let core = opened(rt.alloc(), b"", None)?;
     assert!(rt; is_written(rt.alloc(), &BUSY_HEADS, &core, BUSY_ALONE)?);
     Ok(())
 }
@@ -321,8 +321,7 @@ const BUSY_TABLE: &str = "p:S012:powerokwait:+run it: now\n";
 
 #[test]
 fn each_word_is_read(rt: HostRuntime) {
-    let heads = started_heads();
-    let started = is_said(rt.alloc(), STARTED, &heads, TABLE, STARTED_RECORDS);
+    let started = is_said(rt.alloc(), STARTED, &STARTED_HEADS, TABLE, STARTED_RECORDS);
     assert!(rt; started == Ok(true), "the same");
     let busy = is_said(rt.alloc(), BUSY, &BUSY_HEADS, BUSY_TABLE, BUSY_RECORDS);
     assert!(rt; busy == Ok(true), "each word");

@@ -103,16 +103,26 @@ const OVER_KEPT: &[(&[u8], &[u8], &str, u8, (&str, &str))] = &[
         b"",
         b"settle 3\n",
         "check said",
-        1,
+        2,
         (
-            "",
-            "initd: said begins within a run: judge it behind the piece before it\n",
+            "unlawful: happening 0, law 5\n",
+            "line 1: settle 3: the level is not settled\ninitd: said begins within a run: judged as if nothing had come before it\ninitd: 1 happenings\n",
         ),
     ),
     (
         b"",
         b"use 0\nnud",
         "check said",
+        1,
+        (
+            "",
+            "initd: the happening at trace line 2 is not finished: --growing judges what stands before it: lawful\n",
+        ),
+    ),
+    (
+        b"",
+        b"use 0\nnud",
+        "check --growing said",
         0,
         (
             "lawful\n",
@@ -121,8 +131,8 @@ const OVER_KEPT: &[(&[u8], &[u8], &str, u8, (&str, &str))] = &[
     ),
     (
         b"",
-        b"nudge\n\xff\xfe",
-        "check said",
+        b"use 0\n\xff\xfe\n",
+        "check --growing said",
         1,
         ("", "initd: trace line 2 is not a line\n"),
     ),

@@ -3,13 +3,14 @@
 ghost use Rattle.std.specs.Prelude.{option_and_then};
 
 use crate::driving_tests::{are_calls, give_looks, give_starts};
+use command_words::{KIT, VERSION};
 use host_calls::Host;
 use host_scripted::MemoryHost;
 use init_words::{Level, Memory};
-use rc_command::{KeptFolders, KeptLevel, ScriptHosts, run_words};
+use rc_command::{KeptFolders, KeptLevel, LevelFiles, ScriptHosts, run_words};
 use std::alloc::Global;
 use std::test::Fail;
-use test_support::words_of;
+use test_support::{Slow, words_of};
 
 /// A source of one host, which is there again behind the run.
 #[derive(Drop)]
@@ -113,6 +114,67 @@ fn a_run_makes_these_calls(rt: HostRuntime) -> Result<(), Fail> {
     let folders = folders_of(rt.alloc())?;
     for row in ROWS {
         assert!(rt; is_made(rt.alloc(), &folders, row)?, "{}", row.4);
+    }
+    Ok(())
+}
+
+/// The status of these words over a host that is given nothing.
+fn status_over(
+    alloc: Global,
+    level: &mut KeptLevel,
+    line: &[&str],
+    out: &mut Slow,
+    err: &mut Vec<u8>,
+) -> Result<u8, Fail> {
+    let mut hosts = OneHost {
+        host: Some(MemoryHost::new(alloc)),
+    };
+    let words = words_of(alloc, line)?;
+    Ok(run_words(
+        &mut hosts,
+        &KeptFolders::new(alloc),
+        level,
+        alloc,
+        words,
+        out,
+        err,
+    ))
+}
+
+/// The level stands in its file behind a run of no script.
+#[test]
+fn the_level_is_kept(rt: HostRuntime) -> Result<(), Fail> {
+    let mut level = KeptLevel::new(rt.alloc(), "level")?;
+    let mut out = Slow::new(rt.alloc(), 0, true, false);
+    let mut err = Vec::new(rt.alloc());
+    let line = &["--level-file", "level", "k", "3"];
+    let status = status_over(rt.alloc(), &mut level, line, &mut out, &mut err)?;
+    let kept = level.read(rt.alloc(), "level")?;
+    assert!(rt; status == 0 && matches!(&kept, Some(text) if text.as_slice() == b"3\n".as_slice()));
+    Ok(())
+}
+
+/// The room of a writer, and the status and the report of a run that writes the version there.
+const VERSIONS: &[(usize, u8, &str)] = &[(100, 0, ""), (7, 4, "rc: cannot write\n")];
+
+fn is_version_written(alloc: Global, line: &str, row: &(usize, u8, &str)) -> Result<bool, Fail> {
+    let (room, status, report) = *row;
+    let mut level = KeptLevel::new(alloc, "level")?;
+    let mut out = Slow::new(alloc, room, true, false);
+    let mut err = Vec::new(alloc);
+    let ended = status_over(alloc, &mut level, &["--version"], &mut out, &mut err)?;
+    Ok(ended == status && err.as_slice() == report.as_bytes() && out.has_line(line))
+}
+
+#[test]
+fn the_version_is_written(rt: HostRuntime) -> Result<(), Fail> {
+    let line = format!(in rt.alloc(); "rc {VERSION} ({KIT})\n")?;
+    for row in VERSIONS {
+        assert!(rt;
+            is_version_written(rt.alloc(), line.as_str(), row)?,
+            "{}",
+            row.0
+        );
     }
     Ok(())
 }

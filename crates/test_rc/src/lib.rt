@@ -1,9 +1,7 @@
-//! The tests of rc: which scripts of a folder are run and in which order, their run over a scripted host, and its
-//! command line with real children.
+//! The tests of rc: which scripts of a folder are run and in which order, and their run over a scripted host. Its command
+//! lines with real children: tools/pages.d/rc-lines and rc.
 #![tactic(auto)]
 
-#[cfg(test)]
-mod command_tests;
 #[cfg(test)]
 mod driving_tests;
 #[cfg(test)]

@@ -404,14 +404,18 @@ const TEXTS: Faults = &[
         b"### BEGIN INIT INFO\n# Provides: a\n### END INIT INFO",
         None,
     ),
-    // What stands behind the words of the last line is no part of the header.
+    // Behind the words of the last line blanks and tabs alone are passed over.
     (
         b"### BEGIN INIT INFO\n# Provides: a\n### END INIT INFO#\nx\n### END INIT INFO\n",
-        None,
+        Some(HeaderFault::BadLine(3)),
+    ),
+    (
+        b"### BEGIN INIT INFO\n# Provides: a\n### END INIT INFO foo\n",
+        Some(HeaderFault::NoEnd),
     ),
     (
         b"### BEGIN INIT INFO\n# Provides: a\n### END INIT INFO\r\n",
-        None,
+        Some(HeaderFault::NoEnd),
     ),
     (
         b"### BEGIN INIT INFO\n# Provides: a\n### END INIT INFO\nx\n### BEGIN INIT INFO\n",

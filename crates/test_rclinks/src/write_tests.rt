@@ -1,10 +1,9 @@
-//! Runs of rclinks over folders that are kept in memory, and over those of the system.
+//! Runs of rclinks over folders that are kept in memory. Those of the system: tools/pages.d/rclinks.
 
 use init_words::Level;
 use program_io::KeptTexts;
-use rclinks_command::{KeptLinks, LinkFolders, SystemFolders, run_words};
+use rclinks_command::{KeptLinks, LinkFolders, run_words};
 use std::alloc::{AllocError, Global};
-use std::fs;
 use std::process::Abort;
 use std::test::Fail;
 use test_support::words_of;
@@ -214,32 +213,5 @@ fn folders_are_written(rt: HostRuntime) -> Result<(), Fail> {
     for row in ROWS {
         is_written(&rt, rt.alloc(), &texts, row)?;
     }
-    Ok(())
-}
-
-/// Runs over a directory of the system.
-const WORDS: &[&str] = &["--write", "written", "init.d/net", "init.d/web"];
-
-#[test]
-fn folders_of_the_system_are_written(rt: HostRuntime) -> Result<(), Fail> {
-    let texts = texts_of(rt.alloc())?;
-    let words = words_of(rt.alloc(), WORDS)?;
-    fs::create_dir(&rt, "written")?;
-    let mut links = SystemFolders::new(&rt);
-    let mut out: Vec<u8> = Vec::new(rt.alloc());
-    let mut err: Vec<u8> = Vec::new(rt.alloc());
-    let alloc = rt.alloc();
-    let status = run_words(
-        &texts,
-        &mut links,
-        alloc,
-        words.as_slice(),
-        &mut out,
-        &mut err,
-    );
-    assert!(rt; (status, out.as_slice(), err.as_slice()) == (0, b"".as_slice(), b"".as_slice()));
-    assert!(rt; links.entries(alloc, "written", Level::L0)?.len() == 1);
-    assert!(rt; links.entries(alloc, "written", Level::L3)?.len() == 2);
-    assert!(rt; links.entries(alloc, "written", Level::L4)?.is_empty());
     Ok(())
 }

@@ -1,6 +1,6 @@
 //! The verdict on a text is the same however it is cut: on each text below, in pieces of each size.
 
-use crate::pieces::hand_over;
+use crate::pieces::{hand_over, judge_over};
 use linked_list_allocator::LocalHeap;
 use std::alloc::{Allocator, Global};
 use std::process::Abort;
@@ -17,42 +17,31 @@ enum Said {
     Torn(u64),
 }
 
+/// As many bytes as the longest line of a trace has, and one more.
+const LONGEST: &str =
+    "reaped abcdefgh 4294967295 exit 255 reaped abcdefgh 4294967295 exit 255 reaped abcdefgh 4294967295 exit 255 reaped abcdefgh 4294967295 exit 255 reaped abcdefgh 4";
+
+const TOO_LONG: &str =
+    "reaped abcdefgh 4294967295 exit 255 reaped abcdefgh 4294967295 exit 255 reaped abcdefgh 4294967295 exit 255 reaped abcdefgh 4294967295 exit 255 reaped abcdefgh 42";
+
 /// Texts, what is found of each, and the line at which its last happening isn't finished, 0 for none.
 const TEXTS: &[(&str, Said, u64)] = &[
     ("", Said::Lawful, 0),
     ("nudge\n", Said::Lawful, 0),
     ("nudge", Said::Lawful, 1),
     ("nudge\nnud", Said::Lawful, 2),
-    // Nothing that comes behind it makes it a line.
-    ("no line", Said::Torn(1), 0),
-    ("nudge\ngarbage", Said::Torn(2), 0),
-    ("settle 3\ngarbage", Said::Torn(2), 0),
-    ("nudge ", Said::Torn(1), 0),
-    ("\u{7f}ELF", Said::Torn(1), 0),
-    ("hold abcdefgh", Said::Lawful, 1),
-    ("hold abcdefghi", Said::Torn(1), 0),
-    ("hold a ", Said::Torn(1), 0),
-    ("birth a 4294967295", Said::Lawful, 1),
-    ("birth a 4294967296", Said::Torn(1), 0),
-    ("birth a 01", Said::Torn(1), 0),
-    ("clock 18446744073709551615", Said::Lawful, 1),
-    ("clock 18446744073709551616", Said::Torn(1), 0),
-    ("enter sys", Said::Lawful, 1),
-    ("enter 3 3600", Said::Lawful, 1),
-    ("enter 3 3601", Said::Torn(1), 0),
-    ("enter s", Said::Lawful, 1),
-    ("settle s", Said::Torn(1), 0),
-    ("got lev", Said::Lawful, 1),
-    ("got level 3 ", Said::Lawful, 1),
-    ("got nothing 5", Said::Torn(1), 0),
-    ("handed cut 12", Said::Lawful, 1),
-    ("handed whole ", Said::Torn(1), 0),
-    ("reaped a 12 e", Said::Lawful, 1),
-    ("reaped a 12 exit 255", Said::Lawful, 1),
-    ("reaped a 12 exit 256", Said::Torn(1), 0),
-    ("use ", Said::Lawful, 1),
-    ("use 4096", Said::Lawful, 1),
-    ("use 4097", Said::Torn(1), 0),
+    // No line of a trace is so long.
+    ("nudge\ngarbage", Said::Lawful, 2),
+    (
+        "settle 3\ngarbage",
+        Said::Breach(0, Law::NotSettled, 1, "settle 3\n"),
+        2,
+    ),
+    (LONGEST, Said::Lawful, 1),
+    (TOO_LONG, Said::Torn(1), 0),
+    ("reaped a 12 exit 256", Said::Lawful, 1),
+    ("reaped a 12 exit 256\n", Said::Torn(1), 0),
+    ("use 4097", Said::Lawful, 1),
     ("\n", Said::Torn(1), 0),
     ("nudge\nno line\nnudge\n", Said::Torn(2), 0),
     // Of a table all lines have to be there.
@@ -62,10 +51,12 @@ const TEXTS: &[(&str, Said, u64)] = &[
     ("use 4096\na:3:once:x\n", Said::Lawful, 1),
     ("use 0\nuse 0\nsettle", Said::Lawful, 3),
     ("use 3\na:3:once:x\nb", Said::Lawful, 1),
-    // A whole line of it is that of no entry, or of one more of an id.
-    ("use 2\na:3:bogus:x\n", Said::Torn(1), 0),
-    ("nudge\nuse 3\na:3:once:x\na:1:once:y\n", Said::Torn(2), 0),
-    ("settle 3\nuse 9\nnudge\nuse 9", Said::Torn(2), 0),
+    ("use 2\na:3:bogus:x\n", Said::Lawful, 1),
+    (
+        "settle 3\nuse 9\nnudge\nuse 9",
+        Said::Breach(0, Law::NotSettled, 1, "settle 3\n"),
+        2,
+    ),
     // No table has so many, or two of an id, or these lines.
     ("use 4097\n", Said::Torn(1), 0),
     ("use 2\na:3:once:x\na:1:once:y\n", Said::Torn(1), 0),
@@ -127,7 +118,7 @@ fn is_judged(
     said: Said,
     left: u64,
 ) -> Result<(), Fail> {
-    let mut judge = TextJudge::new(alloc);
+    let mut judge = judge_over(alloc, alloc)?;
     hand_over(&mut judge, text.as_bytes(), size)?;
     assert!(rt;
         is_answered(&judge, said, left),
@@ -154,21 +145,21 @@ const TRACE: &str =
 const STEP: usize = 16;
 
 /// Whether the heap had room for the judge; where it had, the answer is right.
-fn is_done(rt: &impl Abort, heap: &LocalHeap) -> bool {
-    let mut judge = TextJudge::new(heap);
+fn is_done(rt: &impl Abort, alloc: Global, heap: &LocalHeap) -> Result<bool, Fail> {
+    let mut judge = judge_over(alloc, heap)?;
     if hand_over(&mut judge, TRACE.as_bytes(), 7).is_err() {
-        return false;
+        return Ok(false);
     }
     let said = Said::Breach(7, Law::BesideExcluded, 10, "birth b 11\n");
     assert!(rt; is_answered(&judge, said, 0));
-    true
+    Ok(true)
 }
 
 #[test]
 fn refused_growths_in_pieces(rt: HostRuntime) -> Result<(), Fail> {
     for refused in 0..8192usize {
         let heap = LocalHeap::new(rt.alloc(), STEP * refused)?;
-        if is_done(&rt, &heap) {
+        if is_done(&rt, rt.alloc(), &heap)? {
             assert!(rt; refused > 8, "{refused}");
             return Ok(());
         }

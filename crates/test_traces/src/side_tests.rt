@@ -1,8 +1,10 @@
 use crate::texts::{first_line, is_said};
 use init_words::{Answer, ChildNumber, Id, OrderKind, Status};
 use simulator::{Objection, SimulatedSystem};
-use std::alloc::Global;
+use std::alloc::{AllocError, Global};
 use std::process::Abort;
+use std::test::Fail;
+use test_support::boxed;
 use trace_events::HappeningIn;
 
 /// What is done with the system's side, or asked of it.
@@ -78,11 +80,23 @@ fn goes(alloc: Global, side: &mut SimulatedSystem, turn: &Turn) -> bool {
     }
 }
 
-fn follow(rt: &impl Abort, alloc: Global, turns: &[Turn]) {
-    let mut side = SimulatedSystem::new(alloc);
+fn system_side(alloc: Global) -> Result<Box<SimulatedSystem>, AllocError> {
+    boxed(alloc, SimulatedSystem::new(alloc))
+}
+
+fn all_go(alloc: Global, side: &mut SimulatedSystem, turns: &[Turn]) -> bool {
     for turn in turns {
-        assert!(rt; goes(alloc, &mut side, turn));
+        if !goes(alloc, side, turn) {
+            return false;
+        }
     }
+    true
+}
+
+fn follow(rt: &impl Abort, alloc: Global, turns: &[Turn]) -> Result<(), Fail> {
+    let mut side = system_side(alloc)?;
+    assert!(rt; all_go(alloc, &mut side, turns));
+    Ok(())
 }
 
 /// The children born for a and b take the number 7 in turn: it is free only once the first is reaped.
@@ -191,16 +205,16 @@ const OBJECTIONS: &[Turn] = &[
 ];
 
 #[test]
-fn number_of_two_children(rt: HostRuntime) {
-    follow(&rt, rt.alloc(), IN_TURN);
+fn number_of_two_children(rt: HostRuntime) -> Result<(), Fail> {
+    follow(&rt, rt.alloc(), IN_TURN)
 }
 
 #[test]
-fn two_children_at_once(rt: HostRuntime) {
-    follow(&rt, rt.alloc(), AT_ONCE);
+fn two_children_at_once(rt: HostRuntime) -> Result<(), Fail> {
+    follow(&rt, rt.alloc(), AT_ONCE)
 }
 
 #[test]
-fn each_objection(rt: HostRuntime) {
-    follow(&rt, rt.alloc(), OBJECTIONS);
+fn each_objection(rt: HostRuntime) -> Result<(), Fail> {
+    follow(&rt, rt.alloc(), OBJECTIONS)
 }

@@ -1,13 +1,13 @@
 //! A text with a line changed, and what is said of it: read whole, in pieces, and in its brief form.
 
+use crate::brief_logs::finished;
 use crate::pieces::judged_in_pieces;
 use crate::texts::add_line;
 use init_words::Memory;
 use std::alloc::{AllocError, Global};
 use trace_check::{Law, Verdict};
 use trace_events::HappeningIn;
-use trace_log::{EndedLog, ListLog, Log};
-use trace_log_wrappers::BriefLog;
+use trace_log::ListLog;
 use trace_text::ReadFault;
 
 /// What is done to a line of a trace.
@@ -59,22 +59,10 @@ fn law_of(alloc: Global, trace: &[HappeningIn<Global>]) -> Result<Option<Law>, M
     }
 }
 
-/// Hands a log the happenings of a trace: whether it took them all.
-fn is_taken<L: Log>(log: &mut L, trace: &[HappeningIn<Global>]) -> bool {
-    for happening in trace {
-        if log.failed() || log.take(happening).is_err() {
-            return false;
-        }
-    }
-    true
-}
-
 /// The trace and its brief form break the same law first, or none.
 fn is_alike(alloc: Global, trace: &[HappeningIn<Global>]) -> Result<bool, Memory> {
-    let mut brief = BriefLog::new(ListLog::new(alloc));
-    let all = is_taken(&mut brief, trace);
-    let (brief, whole) = brief.end();
-    if !(all && whole) {
+    let (brief, all) = finished(ListLog::new(alloc), trace);
+    if !all {
         return Err(Memory);
     }
     Ok(brief.len() <= trace.len() && law_of(alloc, brief.as_slice())? == law_of(alloc, trace)?)

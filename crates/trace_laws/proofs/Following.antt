@@ -1,5 +1,5 @@
 -- The law of plans: behind the steps so far stand the starts that are coming in the stage, and the stages after it.
-use Rattle.trace_laws.proofs.Words.{◌≡◌, refl, sym, ◌∙◌, ap, subst, ℕ, Bool, true, false, not, ◌&&◌, ◌||◌, List, [], ◌∷◌, ◌++◌, map, filter, Option, Some, None, append_assoc, arith, list_any, list_all, false≢true, and_parts, not-true, or_from, append-nil, Entry, Act, Level, Mark, At, Start, Stage, starts_by, wanted_by, served_by, waited_of, names, same_level-is, falsely, NewTable, Asked, Step, Goal, Event, table_of, stage_of, is_of, has_child, is_quiet, kept_children, known_children, is_asked, is_wanted, is_owed, is_owed_before, is_excluded, is_held, is_level, wish_stands, none_excluded, steps_if, starts_among, due_starts, is_over, due, first, is_announced, is_served, is_next, is_run, may_come, is_started, started_in, start_of, boot_before, steps_along, plan_of, BeginsWith, is_undisturbed, taken}
+use Rattle.trace_laws.proofs.Words.{◌≡◌, refl, sym, ◌∙◌, ap, subst, ℕ, Bool, true, false, not, ◌&&◌, ◌||◌, List, [], ◌∷◌, ◌++◌, map, filter, Option, Some, None, append_assoc, arith, list_any, list_all, false≢true, and_parts, not-true, or_from, append-nil, Entry, Act, Level, Mark, At, Start, Stage, starts_by, wanted_by, served_by, waited_of, names, same_level-is, falsely, NewTable, Asked, Step, Goal, Event, table_of, stage_of, is_of, has_child, is_quiet, kept_children, known_children, is_asked, is_wanted, is_owed, is_owed_before, is_excluded, is_held, is_level, wish_stands, none_excluded, steps_if, starts_among, due_starts, is_over, due, first, is_announced, is_served, keeps_order, is_orderly, may_come, is_started, started_in, start_of, boot_before, steps_along, plan_of, BeginsWith, is_undisturbed, taken}
 use Rattle.init_words.specs.declared.stages.Stage.TheVariants as stage
 use Rattle.trace_events.specs.declared.happenings.Happening.TheVariants.{Enter, Settle}
 use Rattle.trace_events.specs.declared.steps.Step.TheVariants as step
@@ -77,7 +77,7 @@ start_left goal past id comes = in_stage (stage_of past) refl where
 abbrev Follows : Goal → List Event → Type 0
 Follows goal past = taken past ++ left_of goal past ≡ plan_of goal (table_of past)
 
-follows : (goal : Goal) (past : List Event) → is_run goal past ≡ true → is_undisturbed past ≡ true → Follows goal past
+follows : (goal : Goal) (past : List Event) → is_orderly goal past ≡ true → is_undisturbed past ≡ true → Follows goal past
 follows goal past runs mild = plain_ind goal (Follows goal) (λ table distinct. refl) goes past runs mild where
   one_more : (steps rest before all : List Step) (taken_now : Step) → before ≡ taken_now ∷ rest → steps ++ before ≡ all → (steps ++ taken_now ∷ []) ++ rest ≡ all
   one_more steps rest before all taken_now is so = append_assoc steps (taken_now ∷ []) rest ∙ ap (λ xs. steps ++ xs) (sym is) ∙ so
@@ -88,7 +88,7 @@ follows goal past runs mild = plain_ind goal (Follows goal) (λ table distinct. 
   goes (Asked id Start) p comes before = one_more (taken p) (left_of goal (Asked id Start ∷ p)) (left_of goal p) (plan_of goal (table_of p)) (step.Order id Start) (start_left goal p id comes) before
   goes (_) p comes before = before
 
-pub begins : (goal : Goal) (past : List Event) → is_run goal past ≡ true → is_undisturbed past ≡ true → BeginsWith (taken past) (plan_of goal (table_of past))
+pub begins : (goal : Goal) (past : List Event) → is_orderly goal past ≡ true → is_undisturbed past ≡ true → BeginsWith (taken past) (plan_of goal (table_of past))
 begins goal past runs mild = (left_of goal past, follows goal past runs mild)
 
 -- where a level is settled, nothing is left
@@ -134,7 +134,7 @@ settle_left goal past level comes = in_stage (stage_of past) refl there.0 where
 abbrev Whole : Goal → List Event → Type 0
 Whole goal past = is_announced past ≡ true → left_of goal past ≡ []
 
-whole : (goal : Goal) (past : List Event) → is_run goal past ≡ true → is_undisturbed past ≡ true → Whole goal past
+whole : (goal : Goal) (past : List Event) → is_orderly goal past ≡ true → is_undisturbed past ≡ true → Whole goal past
 whole goal past runs mild = plain_ind goal (Whole goal) (λ table distinct h. absurd (false≢true h)) goes past runs mild where
   goes : (happening : Event) (p : List Event) → Comes goal happening p → Whole goal p → Whole goal (happening ∷ p)
   goes (NewTable table) p comes before h = absurd (false≢true comes.mild)
@@ -143,12 +143,12 @@ whole goal past runs mild = plain_ind goal (Whole goal) (λ table distinct h. ab
   goes (Asked id Start) p comes before h = let empty : [] ≡ step.Order id Start ∷ left_of goal (Asked id Start ∷ p) = sym (before h) ∙ start_left goal p id comes in absurd (cc)
   goes (_) p comes before h = before h
 
-pub settled : (goal : Goal) (past : List Event) → is_run goal past ≡ true → is_undisturbed past ≡ true → is_announced past ≡ true → taken past ≡ plan_of goal (table_of past)
+pub settled : (goal : Goal) (past : List Event) → is_orderly goal past ≡ true → is_undisturbed past ≡ true → is_announced past ≡ true → taken past ≡ plan_of goal (table_of past)
 settled goal past runs mild announced =
     sym (append-nil (taken past)) ∙ ap (λ xs. taken past ++ xs) (sym (whole goal past runs mild announced)) ∙ follows goal past runs mild
 
-pub in_turn : (goal : Goal) (past : List Event) (id : List ℕ) → is_run goal (Asked id Start ∷ past) ≡ true → is_owed_before id past ≡ false
+pub in_turn : (goal : Goal) (past : List Event) (id : List ℕ) → is_orderly goal (Asked id Start ∷ past) ≡ true → is_owed_before id past ≡ false
 in_turn goal past id runs =
-    let all = and_parts (is_next (first (due goal past)) (Asked id Start) && may_come goal (Asked id Start) past) (is_run goal past) runs in
-    let may : MayStart id (table_of past) past = due_facts goal past (step.Order id Start) (and_parts (is_next (first (due goal past)) (Asked id Start)) (may_come goal (Asked id Start) past) all.0).1 in
+    let all = and_parts (keeps_order (first (due goal past)) (Asked id Start) && may_come goal (Asked id Start) past) (is_orderly goal past) runs in
+    let may : MayStart id (table_of past) past = due_facts goal past (step.Order id Start) (and_parts (keeps_order (first (due goal past)) (Asked id Start)) (may_come goal (Asked id Start) past) all.0).1 in
     may.run.ahead

@@ -14,6 +14,7 @@ pub mod Orders
 pub mod Pace
 pub mod Pairs
 pub mod Plain
+pub mod PlanRows
 pub mod Records
 pub mod Runs
 pub mod Seconds

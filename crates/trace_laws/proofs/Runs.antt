@@ -1,14 +1,29 @@
--- A run is sound, and the first step of a due list is due.
-use Rattle.trace_laws.proofs.Words.{◌≡◌, true, false, ◌&&◌, List, [], ◌∷◌, arith, list_any, false≢true, and_parts, and_from, NewTable, Step, Idle, Goal, Event, due, first, same_step, is_due, may_come, is_sound, is_lawful, is_next, is_run, same_id-self, same_ask-self, same_level-self, same_power-self, same_stage-self}
+-- A run is sound, as each orderly trace is, and the first step of a due list is due.
+use Rattle.trace_laws.proofs.Words.{◌≡◌, true, false, ◌&&◌, List, [], ◌∷◌, arith, list_any, false≢true, and_parts, and_from, NewTable, Step, Idle, Goal, Event, due, first, same_step, is_due, may_come, is_sound, is_lawful, is_next, is_run, keeps_order, is_orderly, same_id-self, same_ask-self, same_level-self, same_power-self, same_stage-self}
 use Rattle.trace_laws.proofs.Laws.{sound_lawful}
 
-pub run_sound : (goal : Goal) (past : List Event) → is_run goal past ≡ true → is_sound goal past ≡ true
-run_sound goal [] h = absurd (false≢true h)
-run_sound goal (NewTable table ∷ []) h = h
-run_sound goal (happening ∷ past) h =
+pub orderly_sound : (goal : Goal) (past : List Event) → is_orderly goal past ≡ true → is_sound goal past ≡ true
+orderly_sound goal [] h = absurd (false≢true h)
+orderly_sound goal (NewTable table ∷ []) h = h
+orderly_sound goal (happening ∷ past) h =
+    let all = and_parts (keeps_order (first (due goal past)) happening && may_come goal happening past) (is_orderly goal past) h in
+    let two = and_parts (keeps_order (first (due goal past)) happening) (may_come goal happening past) all.0 in
+    and_from (may_come goal happening past) (is_sound goal past) two.1 (orderly_sound goal past all.1)
+
+next_keeps : (step : Step) (happening : Event) → is_next step happening ≡ true → keeps_order step happening ≡ true
+next_keeps step happening h = grind arith
+
+run_orderly : (goal : Goal) (past : List Event) → is_run goal past ≡ true → is_orderly goal past ≡ true
+run_orderly goal [] h = absurd (false≢true h)
+run_orderly goal (NewTable table ∷ []) h = h
+run_orderly goal (happening ∷ past) h =
     let all = and_parts (is_next (first (due goal past)) happening && may_come goal happening past) (is_run goal past) h in
     let two = and_parts (is_next (first (due goal past)) happening) (may_come goal happening past) all.0 in
-    and_from (may_come goal happening past) (is_sound goal past) two.1 (run_sound goal past all.1)
+    and_from (keeps_order (first (due goal past)) happening && may_come goal happening past) (is_orderly goal past)
+    (and_from (keeps_order (first (due goal past)) happening) (may_come goal happening past) (next_keeps (first (due goal past)) happening two.0) two.1) (run_orderly goal past all.1)
+
+pub run_sound : (goal : Goal) (past : List Event) → is_run goal past ≡ true → is_sound goal past ≡ true
+run_sound goal past h = orderly_sound goal past (run_orderly goal past h)
 
 pub run_lawful : (goal : Goal) (past : List Event) → is_run goal past ≡ true → is_lawful past ≡ true
 run_lawful goal past h = sound_lawful goal past (run_sound goal past h)

@@ -11,6 +11,7 @@ pub use Rattle.trace_events.specs.Due.{due, first, same_step, is_due, step_if, s
 pub use Rattle.trace_events.specs.Sound.{may_come, is_sound}
 pub use Rattle.trace_events.specs.Lawful.{is_lawful, is_limited_id, is_free, is_due_hold, is_placed, may_term, may_kill, is_alone, is_in_turn, are_spared, broken, first_breach}
 pub use Rattle.trace_events.specs.Run.{is_next, is_run}
+pub use Rattle.trace_laws.specs.Orderly.{keeps_order, is_orderly}
 pub use Rattle.init_words.proofs.Same.{same_id-self, same_ask-self, same_level-self, same_power-self, same_stage-self, same_id-is, same_ask-is, same_level-is, same_id-apart, same_id-sym, same_id-from}
 pub use Rattle.std.specs.Option.{option_map_or, option_map}
 pub use Rattle.init_words.specs.declared.entries.Entry.{Entry}

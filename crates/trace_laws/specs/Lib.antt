@@ -1,5 +1,6 @@
 pub mod Belonging
 pub mod Moments
+pub mod Orderly
 pub mod Plans
 pub mod Runs
 pub mod Stretches

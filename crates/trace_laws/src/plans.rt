@@ -11,19 +11,20 @@ ghost use Rattle.trace_events.specs.Event.{Event};
 ghost use Rattle.trace_events.specs.Past.{table_of};
 ghost use Rattle.trace_events.specs.Wanted.{is_owed_before};
 ghost use Rattle.trace_events.specs.Due.{is_announced};
-ghost use Rattle.trace_events.specs.Run.{is_run};
+ghost use Rattle.trace_laws.specs.Orderly.{is_orderly};
 ghost use Rattle.trace_laws.specs.Plans.{plan_of};
 ghost use Rattle.trace_laws.specs.Runs.{BeginsWith, is_undisturbed, taken};
 
-/// In a run of first due steps that nothing disturbs, the stages entered and the starts ordered so far are the first of
-/// the plan, in its order; once the level is announced settled they are all of it; and where an entry is started, the
-/// ends of all waited ones that stand before it in the table have come. It does nothing: its contract is the law.
+/// In a trace whose steps of init are each the first that was due, and that nothing disturbs, whatever the system did
+/// meanwhile, the stages entered and the starts ordered so far are the first of the plan, in its order; once the level
+/// is announced settled they are all of it; and where an entry is started, the ends of all waited ones that stand before
+/// it in the table have come. It does nothing: its contract is the law.
 pub fn law_of_plans()
-    ensures beginning { (goal : Goal) (past : List Event) → IsTrue (is_run goal past)
+    ensures beginning { (goal : Goal) (past : List Event) → IsTrue (is_orderly goal past)
         → IsTrue (is_undisturbed past) → BeginsWith (taken past) (plan_of goal (table_of past)) }
-    ensures whole { (goal : Goal) (past : List Event) → IsTrue (is_run goal past)
+    ensures whole { (goal : Goal) (past : List Event) → IsTrue (is_orderly goal past)
         → IsTrue (is_undisturbed past) → IsTrue (is_announced past)
         → taken past ≡ plan_of goal (table_of past) }
     ensures waits { (goal : Goal) (past : List Event) (id : List ℕ)
-        → IsTrue (is_run goal (Asked id Start ∷ past)) → is_owed_before id past ≡ false }
+        → IsTrue (is_orderly goal (Asked id Start ∷ past)) → is_owed_before id past ≡ false }
 {}

@@ -1,9 +1,9 @@
 -- The text of a happening is read as the happening, and what is read has this text.
-use Rattle.std.proofs.Common.{◌≡◌, ℕ, ◌+◌, ◌-◌, ◌<◌, ◌≤◌, ◌^◌, Bool, true, false, cond, not, ◌==◌, ◌&&◌, nat_lt, nat_le, List, [], ◌∷◌, ◌++◌, length, Option, Some, None, option_and_then, refl, sym, ap, ◌∙◌, arith, codes, decimal, subst, append-nil, lit<}
-use Rattle.std.specs.Option.{option_map}
+use Rattle.std.proofs.Common.{◌≡◌, ℕ, ◌+◌, ◌*◌, ◌-◌, ◌<◌, ◌≤◌, ◌^◌, Bool, true, false, cond, not, ◌==◌, ◌&&◌, nat_lt, nat_le, List, [], ◌∷◌, ◌++◌, length, Option, Some, None, option_and_then, refl, sym, ap, ◌∙◌, arith, codes, decimal, subst, append-nil, length-append, lit<, lit≤}
+use Rattle.std.specs.Option.{option_map, option_map_or}
 use Rattle.std.specs.List.{list_all, join_with_byte}
-use Rattle.std.proofs.lemmas.Bool.{and_parts, and_from, or_from, ne_eqb, ltb-true, leb-true, lt-ltb, not-true}
-use Rattle.std.proofs.lemmas.Fmt.{decimal_digit}
+use Rattle.std.proofs.lemmas.Bool.{and_parts, and_from, or_from, ne_eqb, ltb-true, leb-true, le-leb, lt-ltb, not-true}
+use Rattle.std.proofs.lemmas.Fmt.{decimal_digit, length-decimal-le}
 use Rattle.std.proofs.lemmas.List.{append_assoc}
 use Rattle.std.proofs.lemmas.List.Splits.{join_with_byte-slice_split}
 use Rattle.std.proofs.lemmas.Option.{option_and_then_some, some_pair_parts}
@@ -33,11 +33,13 @@ use Rattle.initctl_frame.specs.declared.requests.HeardRequest.{HeardRequest as R
 use Rattle.initctl_frame.specs.declared.requests.HeardRequest.TheVariants as got
 use Rattle.initctl_frame.specs.declared.requests.Cause.{Cause}
 use Rattle.initctl_frame.specs.declared.requests.Cause.TheVariants as cause
+use Rattle.inittab_text.specs.declared.reading.TheConstants.{TEXT_LIMIT}
 use Rattle.inittab_text.specs.declared.tables.TheConstants.{ENTRY_LIMIT}
 use Rattle.inittab_text.specs.Written.{is_table, table_begun, text_of}
 use Rattle.inittab_text.proofs.Entries.{table_parts}
 use Rattle.inittab_text.proofs.ReadLemmas.{option_map_some}
 use Rattle.inittab_text.proofs.LineLemmas.{begun_back, begun_own, newlines-text}
+use Rattle.inittab_text.proofs.SizeLemmas.{text_short}
 use Rattle.trace_events.specs.declared.happenings.Happening.TheVariants.{NewTable, NotRead, Enter, Call, Power, Asked, Hold, Settle, Birth, NoBirth, Death, Reaped, Still, NoLook, Hit, Miss, Told, Clock, Nudge, Got, Handed}
 use Rattle.trace_events.specs.declared.happenings.Handed.{Handed as HandOver}
 use Rattle.trace_events.specs.declared.happenings.Handed.TheVariants as handed
@@ -45,21 +47,22 @@ use Rattle.trace_events.specs.Event.{Event}
 use Rattle.trace_text.specs.Lines.{words_of, words_behind, line_of_words, table_lines, event_text, level_word, letter_word, stage_word, order_word, power_word, cause_number, status_words, got_words, handed_words}
 use Rattle.trace_events.specs.Range.{is_in_range, is_number, is_status, is_request, is_hand_over}
 use Rattle.trace_text.specs.Texts.{Begun, line_count}
+use Rattle.trace_text.specs.declared.reading.TheConstants.{LINE_LIMIT}
 use Rattle.trace_text.specs.Reading.{level_of_word, letter_of_word, stage_of_word, order_of_word, power_of_word, cause_of_word, words_read, words_in, entries_brought, use_begun, begun_by, begun}
 use Rattle.trace_text.proofs.LineWords.{words_read-of}
 
 -- THE WORDS OF A HAPPENING ARE WORDS
 
--- no blank and no newline is in it
+-- no blank and no newline is in it, and it isn't long
 clean : List ℕ → Bool
-clean word = not (has_byte 32 word) && not (has_byte 10 word)
+clean word = not (has_byte 32 word) && not (has_byte 10 word) && nat_le (length word) 20
 
 all_clean : List (List ℕ) → Type 0
 all_clean words = list_all clean words ≡ true
 
-clean_from : (word : List ℕ) → has_byte 32 word ≡ false → has_byte 10 word ≡ false → clean word ≡ true
+clean_from : (word : List ℕ) → has_byte 32 word ≡ false → has_byte 10 word ≡ false → length word ≤ 20 → clean word ≡ true
 unfolding clean
-clean_from word blank newline = rw (blank, newline) refl
+clean_from word blank newline short = rw (blank, newline) (le-leb (length word) 20 short)
 
 pub lacks_low : (byte : ℕ) (bytes : List ℕ) → byte < 33 → list_all is_id_byte bytes ≡ true → has_byte byte bytes ≡ false
 lacks_low byte [] low are = refl
@@ -71,11 +74,11 @@ lacks_low byte (b ∷ bytes) low are =
 
 clean_id : (id : List ℕ) → is_id id ≡ true → clean id ≡ true
 clean_id id is =
-    let bytes = (id_parts id is).bytes in
-    clean_from id (lacks_low 32 id (lit< tt) bytes) (lacks_low 10 id (lit< tt) bytes)
+    let parts = id_parts id is in
+    clean_from id (lacks_low 32 id (lit< tt) parts.bytes) (lacks_low 10 id (lit< tt) parts.bytes) (omega (arith, parts.few))
 
 clean_number : (n : ℕ) → n < 2 ^ 64 → clean (decimal n) ≡ true
-clean_number n small = clean_from (decimal n) (decimal-lacks 32 n (lit< tt) small) (decimal-lacks 10 n (lit< tt) small)
+clean_number n small = clean_from (decimal n) (decimal-lacks 32 n (lit< tt) small) (decimal-lacks 10 n (lit< tt) small) (length-decimal-le 20 n (omega arith) (omega arith) small)
 
 clean_level : (level : Level) → clean (level_word level) ≡ true
 unfolding clean
@@ -348,20 +351,52 @@ text_begins h more =
     ∙ append_assoc (line (words_of h) ++ 10 ∷ []) (table_lines h) more
     ∙ append_assoc (line (words_of h)) (10 ∷ []) (table_lines h ++ more)
 
--- clean words joined have no newline, and are its pieces
+-- clean words joined have no newline, are its pieces, and aren't long
+unblank : (word : List ℕ) → clean word ≡ true → (has_byte 32 word ≡ false) × (has_byte 10 word ≡ false) × (length word ≤ 20)
+unfolding clean
+unblank word is =
+    let sized = and_parts (not (has_byte 32 word) && not (has_byte 10 word)) (nat_le (length word) 20) is in
+    let parts = and_parts (not (has_byte 32 word)) (not (has_byte 10 word)) sized.0 in
+    (not-true (has_byte 32 word) parts.0, not-true (has_byte 10 word) parts.1, leb-true (length word) 20 sized.1)
+
 no_newline : (word : List ℕ) (words : List (List ℕ)) → all_clean (word ∷ words) → has_byte 10 (join_with_byte 32 (word ∷ words)) ≡ false
-unfolding all_clean clean
-no_newline word [] are = not-true (has_byte 10 word) (and_parts (not (has_byte 32 word)) (not (has_byte 10 word)) (and_parts (clean word) true are).0).1
+unfolding all_clean
+no_newline word [] are = (unblank word (and_parts (clean word) true are).0).1
 no_newline word (next ∷ words) are =
     let parts = and_parts (clean word) (list_all clean (next ∷ words)) are in
-    has_byte-append 10 word (32 ∷ join_with_byte 32 (next ∷ words)) (not-true (has_byte 10 word) (and_parts (not (has_byte 32 word)) (not (has_byte 10 word)) parts.0).1) (no_newline next words parts.1)
+    has_byte-append 10 word (32 ∷ join_with_byte 32 (next ∷ words)) (unblank word parts.0).1 (no_newline next words parts.1)
 
 no_blanks : (words : List (List ℕ)) → all_clean words → list_all (λ w. not (has_byte 32 w)) words ≡ true
-unfolding all_clean clean
+unfolding all_clean
 no_blanks [] are = refl
 no_blanks (word ∷ words) are =
     let parts = and_parts (clean word) (list_all clean words) are in
-    and_from (not (has_byte 32 word)) _ (and_parts (not (has_byte 32 word)) (not (has_byte 10 word)) parts.0).0 (no_blanks words parts.1)
+    and_from (not (has_byte 32 word)) _ (ap not (unblank word parts.0).0) (no_blanks words parts.1)
+
+joined_short : (word : List ℕ) (words : List (List ℕ)) → all_clean (word ∷ words) → length (join_with_byte 32 (word ∷ words)) ≤ length (word ∷ words) * 21
+unfolding all_clean
+joined_short word [] are = omega (arith, (unblank word (and_parts (clean word) true are).0).2)
+joined_short word (next ∷ words) are =
+    let parts = and_parts (clean word) (list_all clean (next ∷ words)) are in
+    omega (arith, (unblank word parts.0).2, joined_short next words parts.1, length-append word (32 ∷ join_with_byte 32 (next ∷ words)))
+
+few_got : (request : Request) → length (got_words request) ≤ 4
+few_got (got.Level level seconds) = lit≤ tt
+few_got _ = lit≤ tt
+
+few_handed : (how : HandOver) → length (handed_words how) ≤ 4
+few_handed handed.Whole = lit≤ tt
+few_handed _ = lit≤ tt
+
+few_statuses : (status : Status) → length (status_words status) ≤ 2
+few_statuses (Exit code) = lit≤ tt
+few_statuses Killed = lit≤ tt
+
+few_words : (h : Event) → length (words_of h) ≤ 5
+few_words (Got request) = omega (arith, few_got request)
+few_words (Handed how) = omega (arith, few_handed how)
+few_words (Reaped id number status) = omega (arith, few_statuses status)
+few_words _ = lit≤ tt
 
 line_lacks : (h : Event) → is_in_range h ≡ true → has_byte 10 (line (words_of h)) ≡ false
 unfolding line
@@ -375,9 +410,42 @@ line_pieces h is =
     let own = spoken h in
     rw own.2 (pieces_of-joined 32 own.0 own.1 (no_blanks (own.0 ∷ own.1) (subst all_clean own.2 (clean_words h is))))
 
+line_short : (h : Event) → is_in_range h ≡ true → length (line (words_of h)) ≤ 105
+unfolding line
+line_short h is =
+    let own = spoken h in
+    let few : length (own.0 ∷ own.1) ≤ 5 = subst (λ words. length words ≤ 5) own.2 (few_words h) in
+    let short = joined_short own.0 own.1 (subst all_clean own.2 (clean_words h is)) in
+    rw own.2 (omega (arith, few, short))
+
 -- the first line of a text that begins with a happening
 first_line : (h : Event) (more : List ℕ) → is_in_range h ≡ true → cut 10 (event_text h ++ more) ≡ Some (line (words_of h), table_lines h ++ more)
 first_line h more is = ap (cut 10) (text_begins h more) ∙ cut-append 10 (line (words_of h)) (table_lines h ++ more) (line_lacks h is)
+
+-- it is short, and so is the text of the happening
+pub record FirstLine (h : Event) (more : List ℕ) : Type 0 where
+  pub line : List ℕ
+  pub first : cut 10 (event_text h ++ more) ≡ Some (line, table_lines h ++ more)
+  pub brings : option_map_or (λ count. count + 1) (entries_brought (words_in line)) 1 ≡ line_count h
+  pub short : length line ≤ LINE_LIMIT
+  pub size : length (event_text h) ≤ LINE_LIMIT + TEXT_LIMIT
+
+table_short : (h : Event) → is_in_range h ≡ true → length (table_lines h) ≤ TEXT_LIMIT
+table_short (NewTable table) is = text_short table is
+table_short _ is = lit≤ tt
+
+brings : (h : Event) → Said h → option_map_or (λ count. count + 1) (entries_brought (words_of h)) 1 ≡ line_count h
+brings (NewTable table) own = ap (λ o. option_map_or (λ count. count + 1) o 1) own
+brings _ own = ap (λ o. option_map_or (λ count. count + 1) o 1) own.0
+
+pub line_first : (h : Event) (more : List ℕ) → is_in_range h ≡ true → FirstLine h more
+line_first h more is = record {
+  line = line (words_of h);
+  first = first_line h more is;
+  brings = ap (λ words. option_map_or (λ count. count + 1) (entries_brought words) 1) (line_pieces h is) ∙ brings h (said h is);
+  short = omega (arith, line_short h is);
+  size = omega (arith, line_short h is, table_short h is, ap length (line_text h), length-append (line (words_of h)) (10 ∷ []), length-append (line_of_words (words_of h)) (table_lines h));
+}
 
 -- what begins a text is found
 table_found : (table : List Entry) (more : List ℕ) → is_table table ≡ true → use_begun (length table) (text_of table ++ more) ≡ Some (NewTable table, more)

@@ -16,6 +16,9 @@ use text_lines::cut;
 use thiserror::Error;
 use trace_events::{Happening, HappeningIn};
 
+/// The bytes of the longest line of a trace without its newline, that of an inittab entry.
+pub const LINE_LIMIT: usize = 161;
+
 /// Why the text of a trace is not read.
 #[derive(Clone, Copy, Debug, PartialEq, Eq, Error)]
 pub enum ReadFault {

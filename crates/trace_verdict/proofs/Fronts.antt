@@ -1,23 +1,26 @@
 -- What stays so when more of a text comes.
-use Rattle.std.proofs.Common.{◌≡◌, ℕ, ◌+◌, ◌-◌, ◌≤◌, true, false, nat_lt, List, [], ◌∷◌, ◌++◌, length, take, drop, Option, Some, None, option_and_then, append-nil, refl, sym, ap, ◌∙◌, subst, arith, length-append}
+use Rattle.std.proofs.Common.{◌≡◌, ℕ, zero, suc, ◌+◌, ◌-◌, ◌<◌, ◌≤◌, true, false, ◌&&◌, nat_lt, nat_le, List, [], ◌∷◌, ◌++◌, length, take, drop, Option, Some, None, option_and_then, refl, sym, ap, ◌∙◌, subst, arith, length-append}
 use Rattle.std.specs.Option.{option_map, option_map_or}
+use Rattle.std.proofs.lemmas.Bool.{ltb-true}
 use Rattle.std.proofs.lemmas.Bool.Decides.{nat_tests}
 use Rattle.std.proofs.lemmas.List.{append_assoc, take-append-drop}
-use Rattle.std.proofs.lemmas.Option.{none-some}
+use Rattle.std.proofs.lemmas.Option.{none-some, some_pair_parts}
 use Rattle.init_words.specs.declared.entries.Entry.{Entry}
-use Rattle.text_lines.specs.Lines.{cut, newlines, after_lines}
-use Rattle.text_lines.proofs.PieceLemmas.{newlines-append, Front, after_lines-front, take-front}
+use Rattle.text_lines.specs.Lines.{cut, has_byte, newlines, after_lines}
+use Rattle.text_lines.proofs.CutLemmas.{cut-parts}
+use Rattle.text_lines.proofs.PieceLemmas.{newlines-append, newlines-line, Front, after_lines-front, take-front}
+use Rattle.inittab_text.specs.declared.reading.TheConstants.{TEXT_LIMIT}
 use Rattle.inittab_text.specs.Written.{table_written, table_begun}
-use Rattle.trace_events.specs.declared.happenings.Happening.TheVariants.{NewTable, Nudge}
+use Rattle.trace_events.specs.declared.happenings.Happening.TheVariants.{NewTable}
 use Rattle.trace_events.specs.Event.{Event}
-use Rattle.trace_text.specs.Lines.{event_text}
+use Rattle.trace_text.specs.declared.reading.TheConstants.{LINE_LIMIT}
+use Rattle.trace_text.specs.Lines.{event_text, table_lines}
 use Rattle.trace_events.specs.Range.{is_in_range}
 use Rattle.trace_text.specs.Texts.{Begun, line_count, BeginsNone}
 use Rattle.trace_text.specs.Reading.{entries_brought, words_in, words_read, begun_by, begun}
-use Rattle.trace_text.proofs.LineTexts.{begun-text, text-begun, newlines-event}
-use Rattle.trace_text.specs.Fronts.{NeverBegins}
+use Rattle.trace_text.proofs.LineTexts.{FirstLine, line_first, begun-text, text-begun, newlines-event}
 use Rattle.trace_text.proofs.LineFronts.{cut-more, newlines-cut, newlines-uncut, after_lines-some, after_lines-more}
-use Rattle.trace_verdict.specs.Fronts.{lines_of, lines_due, is_unfinished}
+use Rattle.trace_verdict.specs.Fronts.{lines_of, lines_due, is_unfinished, size_limit, BeginsNever}
 
 -- a happening has a line
 some_lines : (o : Option ℕ) → 1 ≤ option_map_or (λ count. count + 1) o 1
@@ -146,15 +149,77 @@ pub none_more : (text more : List ℕ) → is_unfinished text ≡ false → Begi
 none_more text more finished none = λ happening rest ranged same.
     none-some (happening, rest) (sym (begun_more text more finished (unbegun text none)) ∙ ap begun (sym same) ∙ begun-text happening rest ranged)
 
--- what no happening begins, whatever comes behind
-pub finished_never : (text : List ℕ) → is_unfinished text ≡ false → BeginsNone text → NeverBegins text
-finished_never text finished none = λ more. none_more text more finished none
+-- what no happening begins, whatever comes behind: a finished one that is none, and what is too long for one
+pub finished_never : (text : List ℕ) → is_unfinished text ≡ false → BeginsNone text → BeginsNever text
+finished_never text finished none = (ap (λ b. b && nat_le (length text) (size_limit (newlines text))) finished, λ more. none_more text more finished none)
 
-pub never_more : (text piece : List ℕ) → NeverBegins text → NeverBegins (text ++ piece)
-never_more text piece never = λ more. subst BeginsNone (sym (append_assoc text piece more)) (never (piece ++ more))
+-- a text that begins with a shorter one
+begins_with : (xs ys zs ws : List ℕ) → xs ++ ys ≡ zs ++ ws → length xs ≤ length zs → (s : List ℕ) × (zs ≡ xs ++ s)
+begins_with [] ys zs ws same shorter = (zs, refl)
+begins_with (x ∷ xs) ys [] ws same shorter = absurd (omega (arith, shorter))
+begins_with (x ∷ xs) ys (z ∷ zs) ws same shorter =
+    let first : x ≡ z = cc in
+    let others : xs ++ ys ≡ zs ++ ws = cc in
+    let further = begins_with xs ys zs ws others (omega (arith, shorter)) in
+    (further.0, ap (λ t. z ∷ t) further.1 ∙ ap (λ b. b ∷ (xs ++ further.0)) (sym first))
 
-pub never_some : (text : List ℕ) → NeverBegins text → 1 ≤ length text
-never_some [] never = absurd (never (event_text Nudge) Nudge [] refl (append-nil (event_text Nudge)))
+limit_behind : (n : ℕ) → 1 ≤ n → size_limit n ≡ LINE_LIMIT + TEXT_LIMIT
+limit_behind zero some = absurd (omega (arith, some))
+limit_behind (suc n) some = refl
+
+-- no happening has a first line that is so long
+long_line : (text more tail : List ℕ) (h : Event) → cut 10 text ≡ None → size_limit (newlines text) < length text → is_in_range h ≡ true → event_text h ++ tail ≡ text ++ more → ⊥
+long_line text more tail h whole long is same = omega (arith, none, newlines-line first.line parts.1, newlines-append (first.line ++ 10 ∷ []) begins.0, ap newlines begins.1) where
+  none : newlines text ≡ 0
+  none = newlines-uncut text whole
+
+  over : LINE_LIMIT < length text
+  over = subst (λ n. size_limit n < length text) none long
+
+  first : FirstLine h tail
+  first = line_first h tail is
+
+  parts : (event_text h ++ tail ≡ first.line ++ 10 ∷ (table_lines h ++ tail)) × (has_byte 10 first.line ≡ false)
+  parts = cut-parts 10 (event_text h ++ tail) first.line (table_lines h ++ tail) first.first
+
+  split : (first.line ++ 10 ∷ []) ++ (table_lines h ++ tail) ≡ text ++ more
+  split = append_assoc first.line (10 ∷ []) (table_lines h ++ tail) ∙ sym parts.0 ∙ same
+
+  begins : (s : List ℕ) × (text ≡ (first.line ++ 10 ∷ []) ++ s)
+  begins = begins_with (first.line ++ 10 ∷ []) (table_lines h ++ tail) text more split (omega (arith, over, first.short, length-append first.line (10 ∷ [])))
+
+-- and none so many bytes before its last line is whole
+long_table : (text more tail line rest : List ℕ) (h : Event) → cut 10 text ≡ Some (line, rest) → is_unfinished text ≡ true → size_limit (newlines text) < length text → is_in_range h ≡ true → event_text h ++ tail ≡ text ++ more → ⊥
+long_table text more tail line rest h at cut_off long is same = omega (arith, few, due, newlines-event h is, newlines-append (event_text h) begins.0, ap newlines begins.1) where
+  few : newlines text < lines_due text
+  few = ltb-true (newlines text) (lines_due text) cut_off
+
+  over : LINE_LIMIT + TEXT_LIMIT < length text
+  over = subst (λ n. n < length text) (limit_behind (newlines text) (omega (arith, newlines-cut text line rest at))) long
+
+  first : FirstLine h tail
+  first = line_first h tail is
+
+  own : line ≡ first.line
+  own = (some_pair_parts line first.line (rest ++ more) (table_lines h ++ tail) (sym (cut-more text more line rest at) ∙ ap (cut 10) (sym same) ∙ first.first)).0
+
+  due : lines_due text ≡ line_count h
+  due = due_cut text line rest at ∙ ap lines_of own ∙ first.brings
+
+  begins : (s : List ℕ) × (text ≡ event_text h ++ s)
+  begins = begins_with (event_text h) tail text more same (omega (arith, over, first.size))
+
+pub long_never : (text : List ℕ) → is_unfinished text ≡ true → size_limit (newlines text) < length text → BeginsNever text
+long_never text cut_off long = (ap (λ b. b && nat_le (length text) (size_limit (newlines text))) cut_off ∙ not-le (length text) (size_limit (newlines text)) long, λ more h tail is same. by more h tail is same (cut 10 text) refl) where
+  not-le : (n k : ℕ) → k < n → nat_le n k ≡ false
+  not-le n k less = grind (arith, nat_tests)
+
+  by : (more : List ℕ) (h : Event) (tail : List ℕ) → is_in_range h ≡ true → event_text h ++ tail ≡ text ++ more → (o : Option (List ℕ × List ℕ)) → cut 10 text ≡ o → ⊥
+  by more h tail is same None at = long_line text more tail h at long is same
+  by more h tail is same (Some parts) at = long_table text more tail parts.0 parts.1 h at cut_off long is same
+
+pub never_some : (text : List ℕ) → BeginsNever text → 1 ≤ length text
+never_some [] never = absurd (cc)
 never_some (byte ∷ text) never = omega arith
 
 -- what a reader has behind it, and what it has before it

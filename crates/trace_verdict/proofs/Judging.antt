@@ -1,5 +1,5 @@
 -- One happening more, and a piece more.
-use Rattle.std.proofs.Common.{◌≡◌, ℕ, zero, suc, ◌+◌, ◌^◌, ◌<◌, ◌≤◌, true, List, [], ◌∷◌, ◌++◌, length, reverse, slice_get, Option, Some, refl, sym, ap, ◌∙◌, subst, arith, lit≤, length-append}
+use Rattle.std.proofs.Common.{◌≡◌, ℕ, zero, suc, ◌+◌, ◌^◌, ◌<◌, ◌≤◌, true, List, [], ◌∷◌, ◌++◌, length, reverse, slice_get, Option, Some, append-nil, refl, sym, ap, ◌∙◌, subst, arith, lit≤, length-append}
 use Rattle.std.specs.Option.{option_map, option_map_or}
 use Rattle.std.proofs.lemmas.Bool.{and_parts}
 use Rattle.std.proofs.lemmas.List.{append_assoc, reverse-append, length-reverse, take-append-le}
@@ -21,12 +21,11 @@ use Rattle.trace_check.specs.Judging.{Judging, Judged}
 use Rattle.trace_check.proofs.Passing.{breach_here}
 use Rattle.trace_verdict.specs.declared.findings.Finding.{Finding}
 use Rattle.trace_verdict.specs.declared.findings.Finding.TheVariants.{Lawful, Breach, Torn}
-use Rattle.trace_text.specs.Fronts.{NeverBegins}
-use Rattle.trace_verdict.specs.Fronts.{IsLeft, line_left, IsFront, IsTorn}
+use Rattle.trace_verdict.specs.Fronts.{is_open, BeginsNever, line_left, IsFront, IsTorn}
 use Rattle.trace_verdict.specs.Answers.{Named, IsFirst, Answers}
 use Rattle.trace_verdict.specs.Readers.{Reading, capped, ReadsNext}
 use Rattle.trace_verdict.specs.Judges.{TextState, IsFound, HasRead, AtBy, TakenBy, left_of}
-use Rattle.trace_verdict.proofs.Fronts.{never_more, never_some}
+use Rattle.trace_verdict.proofs.Fronts.{never_some}
 
 pub capped_is : (n : ℕ) → n < 2 ^ 64 → capped n ≡ n
 capped_is n small = min-eq_left (omega (arith, small))
@@ -99,11 +98,12 @@ trace_at (Torn number) state text not at = absurd (not number refl)
 torn_more : (text piece : List ℕ) (number : ℕ) → IsTorn text number → IsTorn (text ++ piece) number
 torn_more text piece number torn = record {
   trace = torn.trace;
-  rest = torn.rest ++ piece;
+  rest = torn.rest;
+  behind = torn.behind ++ piece;
   are = torn.are;
-  whole = sym (append_assoc (trace_text torn.trace) torn.rest piece) ∙ ap (λ t. t ++ piece) torn.whole;
+  whole = sym (append_assoc (trace_text torn.trace ++ torn.rest) torn.behind piece) ∙ ap (λ t. t ++ piece) torn.whole;
   counted = torn.counted;
-  none = never_more torn.rest piece torn.none;
+  none = torn.none;
 }
 
 pub still_torn : (finding : Finding Named) (state : TextState) (text piece : List ℕ) (number : ℕ) → finding ≡ Torn number → AtBy finding state text → AtBy finding state (text ++ piece)
@@ -150,12 +150,13 @@ next_line state trace text small read some =
 pub line_of : (old : TextState) (new : Reading) (trace : List Event) (text : List ℕ) (h : Event) → length text < 2 ^ 64 → HasRead old trace text → ReadsNext old.reading new (Some h) → capped (old.reading.lines + 1) ≡ newlines (trace_text trace) + 1
 line_of old new trace text h small read next = next_line old trace text small read (omega (arith, shorter h new.over old.reading.over next.0 next.1))
 
-pub torn_here : (state : TextState) (text : List ℕ) (number : ℕ) (trace : List Event) → length text < 2 ^ 64 → HasRead state trace text → number ≡ capped (state.reading.lines + 1) → NeverBegins state.reading.over → IsTorn text number
+pub torn_here : (state : TextState) (text : List ℕ) (number : ℕ) (trace : List Event) → length text < 2 ^ 64 → HasRead state trace text → number ≡ capped (state.reading.lines + 1) → BeginsNever state.reading.over → IsTorn text number
 torn_here state text number trace small read is none = record {
   trace = trace;
   rest = state.reading.over;
+  behind = [];
   are = read.are;
-  whole = read.whole;
+  whole = append-nil (trace_text trace ++ state.reading.over) ∙ read.whole;
   counted = is ∙ next_line state trace text small read (never_some state.reading.over none);
   none = none;
 }
@@ -165,7 +166,7 @@ left_is : (state : TextState) (trace : List Event) (text over : List ℕ) → le
 left_is state trace text [] small read is = refl
 left_is state trace text (byte ∷ over) small read is = ap Some (next_line state trace text small read (omega (arith, ap length is)))
 
-front : (state : TextState) (trace : List Event) (text : List ℕ) (left : Option ℕ) → length text < 2 ^ 64 → HasRead state trace text → IsLeft state.reading.over → left ≡ option_map capped (line_left state.reading.lines state.reading.over) → IsFront trace left text
+front : (state : TextState) (trace : List Event) (text : List ℕ) (left : Option ℕ) → length text < 2 ^ 64 → HasRead state trace text → is_open state.reading.over ≡ true → left ≡ option_map capped (line_left state.reading.lines state.reading.over) → IsFront trace left text
 front state trace text left small read short is = record {
   over = state.reading.over;
   are = read.are;

@@ -1,12 +1,14 @@
 -- A text that ends within a happening, and one of which a line begins none.
-use Rattle.std.specs.Prelude.{◌≡◌, ℕ, ◌+◌, Bool, true, nat_lt, List, [], ◌∷◌, ◌++◌, Option, Some, None}
+use Rattle.std.specs.Prelude.{◌≡◌, ℕ, zero, suc, ◌+◌, Bool, true, false, ◌&&◌, nat_lt, nat_le, List, [], ◌∷◌, ◌++◌, length, Option, Some, None}
 use Rattle.std.specs.Option.{option_map_or}
 use Rattle.text_lines.specs.Lines.{cut, newlines}
 use Rattle.trace_events.specs.Event.{Event}
 use Rattle.trace_text.specs.Lines.{trace_text}
 use Rattle.trace_events.specs.Range.{are_in_range}
+use Rattle.trace_text.specs.Texts.{BeginsNone}
 use Rattle.trace_text.specs.Reading.{entries_brought, words_in}
-use Rattle.trace_text.specs.Fronts.{CanGoOn, NeverBegins}
+use Rattle.trace_text.specs.declared.reading.TheConstants.{LINE_LIMIT}
+use Rattle.inittab_text.specs.declared.reading.TheConstants.{TEXT_LIMIT}
 
 -- how many lines the happening has that begins with this one: its own, and one for each entry that it brings
 abbrev pub lines_of : List ℕ → ℕ
@@ -20,9 +22,18 @@ lines_due text = option_map_or (λ parts. lines_of parts.0) (cut 10 text) 1
 abbrev pub is_unfinished : List ℕ → Bool
 is_unfinished text = nat_lt (newlines text) (lines_due text)
 
--- it does, and some text behind it may finish it
-abbrev pub IsLeft : List ℕ → Type 0
-IsLeft text = (is_unfinished text ≡ true) × CanGoOn text
+-- how many bytes there may be of it, behind so many newlines: a line, or the lines of a table behind their own
+abbrev pub size_limit : ℕ → ℕ
+size_limit zero = LINE_LIMIT
+size_limit (suc lines) = LINE_LIMIT + TEXT_LIMIT
+
+-- the text ends within its first happening, and isn't longer than one may be there
+abbrev pub is_open : List ℕ → Bool
+is_open text = is_unfinished text && nat_le (length text) (size_limit (newlines text))
+
+-- it isn't so, and whatever comes behind it, no happening begins it
+abbrev pub BeginsNever : List ℕ → Type 0
+BeginsNever text = (is_open text ≡ false) × ((more : List ℕ) → BeginsNone (text ++ more))
 
 -- the number of the line, behind so many, at which what is over begins; none where nothing is
 abbrev pub line_left : ℕ → List ℕ → Option ℕ
@@ -34,15 +45,16 @@ pub record IsFront (trace : List Event) (left : Option ℕ) (text : List ℕ) : 
   pub over : List ℕ
   pub are : are_in_range trace ≡ true
   pub whole : trace_text trace ++ over ≡ text
-  pub unfinished : IsLeft over
+  pub unfinished : is_open over ≡ true
   pub at : left ≡ line_left (newlines (trace_text trace)) over
 
--- the text is that of a trace up to its line of this number, counted from 1, and whatever follows the text, no happening
--- begins there
+-- the text is that of a trace up to its line of this number, counted from 1, and whatever follows what is there of it,
+-- no happening begins there
 pub record IsTorn (text : List ℕ) (number : ℕ) : Type 0 where
   pub trace : List Event
   pub rest : List ℕ
+  pub behind : List ℕ
   pub are : are_in_range trace ≡ true
-  pub whole : trace_text trace ++ rest ≡ text
+  pub whole : trace_text trace ++ rest ++ behind ≡ text
   pub counted : number ≡ newlines (trace_text trace) + 1
-  pub none : NeverBegins rest
+  pub none : BeginsNever rest

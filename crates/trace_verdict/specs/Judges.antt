@@ -7,7 +7,7 @@ use Rattle.trace_events.specs.Range.{are_in_range}
 use Rattle.trace_check.specs.Judging.{Judging, Judged}
 use Rattle.trace_verdict.specs.declared.findings.Finding.{Finding}
 use Rattle.trace_verdict.specs.declared.findings.Finding.TheVariants.{Lawful, Breach, Torn}
-use Rattle.trace_verdict.specs.Fronts.{IsLeft, IsTorn}
+use Rattle.trace_verdict.specs.Fronts.{is_open, IsTorn}
 use Rattle.trace_verdict.specs.Answers.{Named, IsFirst}
 use Rattle.trace_verdict.specs.Readers.{Reading}
 
@@ -41,11 +41,11 @@ AtBy _ state text = (trace : List Event) × HasRead state trace text
 abbrev pub IsAt : TextState → List ℕ → Type 0
 IsAt state text = AtBy state.finding state text
 
--- it has taken the text: besides, what it has not read is less than a happening, and may become one
+-- it has taken the text: besides, what it has not read ends within a happening
 abbrev pub TakenBy : Finding Named → TextState → List ℕ → Type 0
 TakenBy (Torn number) state text = IsTorn text number
 TakenBy _ state text =
-    (trace : List Event) × HasRead state trace text × IsLeft state.reading.over
+    (trace : List Event) × HasRead state trace text × (is_open state.reading.over ≡ true)
 
 abbrev pub HasTaken : TextState → List ℕ → Type 0
 HasTaken state text = TakenBy state.finding state text

@@ -6,8 +6,7 @@ use Rattle.trace_events.specs.Event.{Event}
 use Rattle.trace_text.specs.Lines.{event_text}
 use Rattle.trace_events.specs.Range.{is_in_range}
 use Rattle.trace_text.specs.Texts.{line_count}
-use Rattle.trace_text.specs.Fronts.{NeverBegins}
-use Rattle.trace_verdict.specs.Fronts.{IsLeft}
+use Rattle.trace_verdict.specs.Fronts.{is_open, BeginsNever}
 
 -- what it has not read, and how many lines it has read, as far as numbers go
 pub record Reading : Type 0 where
@@ -18,21 +17,21 @@ pub record Reading : Type 0 where
 abbrev pub capped : ℕ → ℕ
 capped sum = min sum (2 ^ 64 - 1)
 
--- the next happening stands there, with a text of this length; none is whole, and one may be yet
+-- the next happening stands there, with a text of this length; the text ends within it
 abbrev pub IsNext : Reading → Option (Event × ℕ) → Type 0
-IsNext reading None = IsLeft reading.over
+IsNext reading None = is_open reading.over ≡ true
 IsNext reading (Some found) =
     (is_in_range found.0 ≡ true) × (event_text found.0 ++ drop found.1 reading.over ≡ reading.over)
     × (found.1 ≤ length reading.over)
 
--- the next happening is read off; none is whole, and one may be yet; no happening begins there, whatever comes behind
+-- the next happening is read off; the text ends within it; no happening begins there, whatever comes behind
 abbrev pub ReadsNext : Reading → Reading → Option Event → Type 0
-ReadsNext old new None = (new ≡ old) × IsLeft old.over
+ReadsNext old new None = (new ≡ old) × (is_open old.over ≡ true)
 ReadsNext old new (Some happening) =
     (is_in_range happening ≡ true) × (event_text happening ++ new.over ≡ old.over)
     × (new.lines ≡ capped (old.lines + line_count happening))
 
 abbrev pub ReadsNone : Reading → ReadFault → Type 0
 ReadsNone old (fault.Line number) =
-    (number ≡ capped (old.lines + 1)) × NeverBegins old.over
+    (number ≡ capped (old.lines + 1)) × BeginsNever old.over
 ReadsNone old fault.Memory = Unit {0}

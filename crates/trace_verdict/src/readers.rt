@@ -1,20 +1,21 @@
 //! A reader of happenings over a text that comes in pieces.
 
 ghost use Rattle.std.specs.Prelude.{◌≡◌, ◌≤◌, drop, length, ◌++◌, [], Some, true, OnOk, OnErr, IfOk, IfErr, option_map};
-ghost use Rattle.trace_verdict.specs.Fronts.{is_unfinished, line_left, IsLeft};
+ghost use Rattle.trace_verdict.specs.Fronts.{is_open, is_unfinished, line_left, size_limit};
 ghost use Rattle.trace_verdict.specs.Readers.{capped, IsNext, ReadsNext, ReadsNone};
 
 use crate::lines::lines_due;
+use inittab_text::TEXT_LIMIT;
 use std::alloc::{AllocError, Allocator};
 use std::marker::Model;
 use text_lines::newlines;
 use trace_events::HappeningIn;
-use trace_text::{ReadFault, first_happening, is_front, line_count};
+use trace_text::{LINE_LIMIT, ReadFault, first_happening, line_count};
 
 /// A reader of the happenings of a text that comes in pieces. It keeps what it has not read.
 ///
-/// A happening that isn't whole is tried again once it has as many lines as it says. What is there of it has to be the
-/// front of one.
+/// A happening that isn't whole is tried again once it has as many lines as it says. What is there of it may be as long
+/// as one.
 #[derive(Drop)]
 pub struct TextReader<A: Allocator> {
     alloc: A,
@@ -71,6 +72,16 @@ fn move_on<A: Allocator + Copy>(
     Ok(())
 }
 
+/// How many bytes there may be of a happening that isn't whole, with so many newlines.
+fn size_limit(newlines: usize) -> usize
+    ensures { result ≡ size_limit newlines }
+{
+    match newlines {
+        0 => LINE_LIMIT,
+        _ => LINE_LIMIT + TEXT_LIMIT,
+    }
+}
+
 impl<A: Allocator + Copy> TextReader<A> {
     /// A reader of nothing. It takes no memory.
     pub fn new(alloc: A) -> TextReader<A>
@@ -116,20 +127,20 @@ impl<A: Allocator + Copy> TextReader<A> {
         Ok(())
     }
 
-    /// A happening that isn't whole is waited for. Where nothing that comes makes it one, it is a line that begins none.
+    /// A happening that isn't whole is waited for, unless what is there of it is longer than one may be.
     fn wait(&self) -> Result<(), ReadFault>
         requires { is_unfinished self.now.over ≡ true }
-        ensures left { OnOk result (IsLeft self.now.over) }
+        ensures unfinished { OnOk result (is_open self.now.over ≡ true) }
         ensures none { IfErr result (λ fault. ReadsNone self.now fault) }
     {
-        if is_front(self.alloc, rest_of(&self.bytes, self.at))? {
+        if self.bytes.len() - self.at <= size_limit(self.whole) {
             return Ok(());
         }
         Err(ReadFault::Line(self.lines.saturating_add(1)))
     }
 
-    /// The next happening, with the length of its text in bytes; None where none is whole, and what is there may become
-    /// one. Nothing is read off.
+    /// The next happening, with the length of its text in bytes; None where the text ends within it. Nothing is read
+    /// off.
     pub(crate) fn peek(&mut self) -> Result<Option<(HappeningIn<A>, usize)>, ReadFault>
         ensures same { self.new ≡ self.old }
         ensures next { IfOk result (λ found. IsNext self.old found) }
@@ -164,8 +175,8 @@ impl<A: Allocator + Copy> TextReader<A> {
         self.lines = self.lines.saturating_add(lines);
     }
 
-    /// Reads the next happening off; None where none is whole, and what is there may become one. Where it begins none,
-    /// whatever comes, nothing is read.
+    /// Reads the next happening off; None where the text ends within it. Where none begins, whatever comes, nothing is
+    /// read.
     pub fn next(&mut self) -> Result<Option<HappeningIn<A>>, ReadFault>
         ensures next { IfOk result (λ found. ReadsNext self.old self.new found) }
         ensures none { IfErr result (λ fault.

@@ -1,5 +1,5 @@
 -- One happening more, and a piece more.
-use Rattle.std.proofs.Common.{◌≡◌, ℕ, ◌+◌, ◌^◌, ◌<◌, ◌≤◌, true, false, is_some, List, [], ◌∷◌, ◌++◌, length, reverse, Option, Some, None, refl, sym, ap, ◌∙◌, subst, arith}
+use Rattle.std.proofs.Common.{◌≡◌, ℕ, ◌+◌, ◌^◌, ◌<◌, ◌≤◌, true, false, is_some, List, [], ◌∷◌, ◌++◌, length, reverse, Option, Some, None, append-nil, refl, sym, ap, ◌∙◌, subst, arith}
 use Rattle.std.specs.Option.{option_map}
 use Rattle.std.proofs.lemmas.List.{append_assoc}
 use Rattle.text_lines.specs.Lines.{newlines}
@@ -10,11 +10,10 @@ use Rattle.trace_text.specs.Texts.{line_count}
 use Rattle.trace_text.proofs.ReadTexts.{trace_text-push, are_in_range-push, shorter}
 use Rattle.trace_check.specs.declared.laws.Law.{Law}
 use Rattle.trace_check.specs.Laws.{law_number}
-use Rattle.trace_text.specs.Fronts.{NeverBegins}
-use Rattle.trace_verdict.specs.Fronts.{line_left}
+use Rattle.trace_verdict.specs.Fronts.{BeginsNever, line_left}
 use Rattle.trace_verdict.specs.Readers.{Reading, capped, ReadsNext}
 use Rattle.trace_verdict.proofs.Judging.{capped_is, lines_push, lines_within, past_push}
-use Rattle.trace_verdict.proofs.Fronts.{never_more, never_some}
+use Rattle.trace_verdict.proofs.Fronts.{never_some}
 use Rattle.trace_view.specs.Viewing.{ViewState, Viewed}
 use Rattle.trace_view.specs.declared.text_views.Stop.{Stop}
 use Rattle.trace_view.specs.declared.text_views.Stop.TheVariants.{Breach, Torn}
@@ -87,14 +86,15 @@ pub none_seen : (next : Option Event) (old new : TextState) (text : List ℕ) �
 none_seen (Some h) old new text is goes at = absurd (cc)
 none_seen None old new text is goes at = (at.0, goes at.0 at.1)
 
-pub torn_here : (reading : Reading) (viewing : ViewState) (trace : List Event) (text : List ℕ) (number : ℕ) → length text < 2 ^ 64 → number ≡ capped (reading.lines + 1) → NeverBegins reading.over → HasSeen reading viewing trace text → StopsBy (Torn number) viewing trace text
+pub torn_here : (reading : Reading) (viewing : ViewState) (trace : List Event) (text : List ℕ) (number : ℕ) → length text < 2 ^ 64 → number ≡ capped (reading.lines + 1) → BeginsNever reading.over → HasSeen reading viewing trace text → StopsBy (Torn number) viewing trace text
 torn_here reading viewing trace text number small is none seen = (
   (
     record {
       trace = trace;
       rest = reading.over;
+      behind = [];
       are = seen.are;
-      whole = seen.whole;
+      whole = append-nil (trace_text trace ++ reading.over) ∙ seen.whole;
       counted = is ∙ next_line reading viewing trace text small seen (never_some reading.over none);
       none = none;
     },
@@ -119,11 +119,12 @@ stops_more (Torn number) viewing trace text piece stops = (
   (
     record {
       trace = stops.0.0.trace;
-      rest = stops.0.0.rest ++ piece;
+      rest = stops.0.0.rest;
+      behind = stops.0.0.behind ++ piece;
       are = stops.0.0.are;
-      whole = sym (append_assoc (trace_text stops.0.0.trace) stops.0.0.rest piece) ∙ ap (λ t. t ++ piece) stops.0.0.whole;
+      whole = sym (append_assoc (trace_text stops.0.0.trace ++ stops.0.0.rest) stops.0.0.behind piece) ∙ ap (λ t. t ++ piece) stops.0.0.whole;
       counted = stops.0.0.counted;
-      none = never_more stops.0.0.rest piece stops.0.0.none;
+      none = stops.0.0.none;
     },
     stops.0.1,
   ),

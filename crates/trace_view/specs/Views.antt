@@ -6,7 +6,7 @@ use Rattle.trace_events.specs.Lawful.{broken}
 use Rattle.trace_events.specs.Range.{are_in_range}
 use Rattle.trace_check.specs.Laws.{law_number}
 use Rattle.trace_text.specs.Lines.{trace_text}
-use Rattle.trace_verdict.specs.Fronts.{IsLeft}
+use Rattle.trace_verdict.specs.Fronts.{is_open}
 use Rattle.trace_verdict.specs.Readers.{Reading}
 use Rattle.trace_view.specs.Viewing.{ViewState, Viewed}
 use Rattle.trace_view.specs.declared.text_views.Stop.{Stop}
@@ -39,9 +39,9 @@ AtBy (Some stop) state trace text = StopsBy stop state.viewing trace text
 abbrev pub IsAt : TextState → List Event → List ℕ → Type 0
 IsAt state trace text = AtBy state.stop state trace text
 
--- it has taken the text, and seen this trace: besides, what it has not read is less than a happening, and may become one
+-- it has taken the text, and seen this trace: besides, what it has not read ends within a happening
 abbrev pub TakenBy : Option Stop → TextState → List Event → List ℕ → Type 0
-TakenBy None state trace text = HasSeen state.reading state.viewing trace text × IsLeft state.reading.over
+TakenBy None state trace text = HasSeen state.reading state.viewing trace text × (is_open state.reading.over ≡ true)
 TakenBy (Some stop) state trace text = StopsBy stop state.viewing trace text
 
 abbrev pub HasShown : TextState → List Event → List ℕ → Type 0

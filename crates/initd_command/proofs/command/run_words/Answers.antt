@@ -1,36 +1,35 @@
-use Rattle.std.proofs.Common.{◌≡◌, refl, sym, subst, rules, Bool, true, false, List, ℕ, Option, Some, None, map, string_bytes}
+use Rattle.std.proofs.Common.{◌≡◌, refl, sym, subst, rules, List, ℕ, Option, Some, None, map, string_bytes}
 use Rattle.std.proofs.KnownBytes.{Keeps-refl}
 use Rattle.program_io.specs.Known.{KnownTexts}
-use Rattle.initd_options.specs.CommandLine.{InitdSaid, judges, initd_read_of, simulation_of, simulates, runs, version}
-use Rattle.initd_command.specs.Endings.{Ending, Judged, busy, done, flawed, lawful, no_memory, shared, stopped, too_many, torn, turned, uncreated, unflushed, unlawful, unlisted, unlocked, unread, untold, unversioned, unwritten, usage, within}
+use Rattle.initd_options.specs.CommandLine.{CheckSaid, InitdSaid, check_of, judges, initd_read_of, simulation_of, simulates, runs, version}
+use Rattle.initd_command.specs.Endings.{Ending, Judged, busy, done, flawed, lawful, no_memory, shared, stopped, too_many, torn, turned, uncreated, unfinished, unflushed, unlawful, unlisted, unlocked, unread, untold, unversioned, unwritten, usage}
 use Rattle.initd_options.specs.Options.{run_of}
 use Rattle.std.specs.Io.KnownBytes.{Keeps}
 use Rattle.trace_verdict.specs.declared.findings.Finding.{Finding}
 use Rattle.trace_verdict.specs.declared.findings.Finding.TheVariants.{Lawful, Breach, Torn}
 use Rattle.trace_verdict.specs.Answers.{Named}
-use Rattle.initd_command.specs.Verdicts.{EndsTold, first_byte, is_within}
+use Rattle.initd_command.specs.Verdicts.{EndsTold, cut_at, first_byte, within_of}
 use Rattle.initd_command.specs.Ran.{AsksSaid}
 use Rattle.initd_command.specs.Runs.{EndsBy, EndsSaid}
 use Rattle.initd_command.proofs.Ran.{none_asked}
 use Rattle.initd_command.proofs.command.run_words.Goals as goal
 
 -- a verdict is no usage fault
-no_usage : (within : Bool) (path : List ℕ) (finding : Finding Named) (judged : Judged) (reason : List ℕ) (old new : Option (List ℕ)) → EndsTold within path finding judged (usage reason) old new → ⊥
-no_usage true path Lawful judged reason old new none = none
-no_usage true path (Breach breach) judged reason old new none = none
-no_usage true path (Torn number) judged reason old new none = none
-no_usage false path Lawful judged reason old new none = none
-no_usage false path (Breach breach) judged reason old new none = none
-no_usage false path (Torn number) judged reason old new none = none
+no_usage : (cut : Option ℕ) (finding : Finding Named) (judged : Judged) (reason : List ℕ) (old new : Option (List ℕ)) → EndsTold cut finding judged (usage reason) old new → ⊥
+no_usage None Lawful judged reason old new none = none
+no_usage None (Breach breach) judged reason old new none = none
+no_usage None (Torn number) judged reason old new none = none
+no_usage (Some line) finding judged reason old new none = none
 
 -- a finding that memory ran out leaves what was written
-no_room : (within : Bool) (path : List ℕ) (finding : Finding Named) (judged : Judged) (old new : Option (List ℕ)) → EndsTold within path finding judged no_memory old new → Keeps old new
-no_room true path Lawful judged old new none = absurd none
-no_room true path (Breach breach) judged old new none = absurd none
-no_room true path (Torn number) judged old new none = absurd none
-no_room false path Lawful judged old new none = absurd none
-no_room false path (Breach breach) judged old new kept = kept
-no_room false path (Torn number) judged old new none = absurd none
+no_room : (cut : Option ℕ) (finding : Finding Named) (judged : Judged) (old new : Option (List ℕ)) → EndsTold cut finding judged no_memory old new → Keeps old new
+no_room None Lawful judged old new none = absurd none
+no_room None (Breach breach) judged old new kept = kept
+no_room None (Torn number) judged old new none = absurd none
+no_room (Some line) finding judged old new none = absurd none
+
+abbrev judged_of : CheckSaid → List ℕ → Option ℕ → ℕ → Judged
+judged_of said text left count = record { within = within_of said.trace (first_byte text) count; left = left; count = count }
 
 -- an ending of what was read
 ends_by : (text_at : KnownTexts) (words : List (List ℕ)) (said : InitdSaid) → initd_read_of words ≡ Some said → (ending : Ending) (old new : Option (List ℕ))
@@ -38,12 +37,12 @@ ends_by : (text_at : KnownTexts) (words : List (List ℕ)) (said : InitdSaid) �
 ends_by text_at words said is done old new ends = (said, is, ends)
 ends_by text_at words version is (usage reason) old new ends = absurd ends
 ends_by text_at words (simulates run) is (usage reason) old new ends = absurd ends.4
-ends_by text_at words (judges path) is (usage reason) old new ends = absurd (no_usage (is_within (first_byte ends.0)) path ends.2.0 (record { left = ends.2.1; count = ends.2.2 }) reason old new ends.2.4)
+ends_by text_at words (judges check) is (usage reason) old new ends = absurd (no_usage (cut_at check.growing ends.2.1) ends.2.0 (judged_of check ends.0 ends.2.1 ends.2.2) reason old new ends.2.4)
 ends_by text_at words (runs service) is (usage reason) old new ends = let wrong = ends.2.2.1 in absurd (cc)
 ends_by text_at words version is no_memory old new ends = absurd ends
 ends_by text_at words (runs service) is no_memory old new ends = ends
 ends_by text_at words (simulates run) is no_memory old new ends = absurd ends.4
-ends_by text_at words (judges path) is no_memory old new ends = no_room (is_within (first_byte ends.0)) path ends.2.0 (record { left = ends.2.1; count = ends.2.2 }) old new ends.2.4
+ends_by text_at words (judges check) is no_memory old new ends = no_room (cut_at check.growing ends.2.1) ends.2.0 (judged_of check ends.0 ends.2.1 ends.2.2) old new ends.2.4
 ends_by text_at words said is (unread path why) old new ends = (said, is, ends)
 ends_by text_at words said is too_many old new ends = (said, is, ends)
 ends_by text_at words said is (flawed told) old new ends = (said, is, ends)
@@ -53,7 +52,7 @@ ends_by text_at words said is unflushed old new ends = (said, is, ends)
 ends_by text_at words said is (lawful left) old new ends = (said, is, ends)
 ends_by text_at words said is (unlawful message left) old new ends = (said, is, ends)
 ends_by text_at words said is (torn line) old new ends = (said, is, ends)
-ends_by text_at words said is (within path) old new ends = (said, is, ends)
+ends_by text_at words said is (unfinished line verdict) old new ends = (said, is, ends)
 ends_by text_at words said is unwritten old new ends = (said, is, ends)
 ends_by text_at words said is (busy path holder) old new ends = (said, is, ends)
 ends_by text_at words said is (shared one other) old new ends = (said, is, ends)
@@ -72,8 +71,8 @@ returns-in-Ok-Simulate g c =
 pub returns-in-Ok-Check : goal.returns-in-Ok-Check
 returns-in-Ok-Check g c =
     let (ending, status, ends, reported) = c.check_file.ensures in
-    let is : initd_read_of (map string_bytes c.args.words.items) ≡ Some (judges c.as_str.result.now) = search rules in
-    (ending, status, ends_by (g.T.Texts.text_at c.args.texts.now) (map string_bytes c.args.words.items) (judges c.as_str.result.now) is ending (g.W.Write.contents c.args.out.now) (g.W.Write.contents c.check_file.new.out) ends, reported, subst (λ said. AsksSaid (g.T.Texts.text_at c.args.texts.now) said g.S.Hosts.own ending (g.S.Hosts.told c.args.hosts.now) (g.S.Hosts.told c.args.hosts.now)) (sym is) refl)
+    let is : initd_read_of (map string_bytes c.args.words.items) ≡ Some (judges (check_of c.in-Ok-Check.said)) = search rules in
+    (ending, status, ends_by (g.T.Texts.text_at c.args.texts.now) (map string_bytes c.args.words.items) (judges (check_of c.in-Ok-Check.said)) is ending (g.W.Write.contents c.args.out.now) (g.W.Write.contents c.check_file.new.out) ends, reported, subst (λ said. AsksSaid (g.T.Texts.text_at c.args.texts.now) said g.S.Hosts.own ending (g.S.Hosts.told c.args.hosts.now) (g.S.Hosts.told c.args.hosts.now)) (sym is) refl)
 
 pub returns-in-Ok-Run : goal.returns-in-Ok-Run
 returns-in-Ok-Run g c =
@@ -90,7 +89,7 @@ returns-in-Ok-Version g c =
 pub returns-in-Err-Usage : goal.returns-in-Err-Usage
 returns-in-Err-Usage g c =
     let none : initd_read_of (map string_bytes c.args.words.items) ≡ None = search rules in
-    (usage c.as_str-in-Err-Usage.result.now, c.report_refused_words.ensures.status, (none, Keeps-refl (g.W.Write.contents c.args.out.now)), c.report_refused_words.ensures.report, subst (λ said. AsksSaid (g.T.Texts.text_at c.args.texts.now) said g.S.Hosts.own (usage c.as_str-in-Err-Usage.result.now) (g.S.Hosts.told c.args.hosts.now) (g.S.Hosts.told c.args.hosts.now)) (sym none) refl)
+    (usage c.as_str.result.now, c.report_refused_words.ensures.status, (none, Keeps-refl (g.W.Write.contents c.args.out.now)), c.report_refused_words.ensures.report, subst (λ said. AsksSaid (g.T.Texts.text_at c.args.texts.now) said g.S.Hosts.own (usage c.as_str.result.now) (g.S.Hosts.told c.args.hosts.now) (g.S.Hosts.told c.args.hosts.now)) (sym none) refl)
 
 pub returns : goal.returns
 returns g c = (no_memory, c.report_memory.ensures.status, Keeps-refl (g.W.Write.contents c.args.out.now), c.report_memory.ensures.reported, none_asked (g.T.Texts.text_at c.args.texts.now) (initd_read_of (map string_bytes c.args.words.items)) g.S.Hosts.own (g.S.Hosts.told c.args.hosts.now))

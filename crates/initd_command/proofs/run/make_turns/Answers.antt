@@ -1,4 +1,5 @@
-use Rattle.std.proofs.Common.{◌≡◌, ℕ, Bool, not, refl, sym, subst, reverse}
+use Rattle.std.proofs.Common.{◌≡◌, ℕ, Bool, not, refl, sym, ◌∙◌, ap, subst, reverse}
+use Rattle.init_turns.specs.declared.serving.Served.{Served}
 use Rattle.trace_log_wrappers.specs.Judgements.{FindsBy, JudgedBy, judged_state}
 use Rattle.trace_log_wrappers.specs.Notes.{Notes, NotesOf, noted_state}
 use Rattle.initd_options.specs.Options.{run_of}
@@ -42,6 +43,7 @@ returns-clause-made g c =
         noted = noted;
         turns = served_still (λ (turns : ℕ) (drained : Bool). AreTurns service.drain (IsOpening service.level table) turns calls) c.serve-core.result.0 c.ended_with-served.result _ c.ended_with-served.ensures made.0;
         fronts = λ later earlier next call is apart. (made.2 later earlier next call is apart).0;
+        drains = λ is allowed carried. (c.serve-core.result.1, ((made.1 allowed).1 carried).fits.0.fits, sym c.serve-core.ensures.drained ∙ (sym (ap (λ (s : Served). s.drained) c.ended_with-served.ensures) ∙ is));
         most = most;
         asked = asked;
         ends = refl;

@@ -1,5 +1,5 @@
-use Rattle.core_records.proofs.Words.{◌≡◌, ap, subst, true, sym, ◌∙◌, option_copied_mut, both_ways, CLOCK_LIMIT, can_ask, can_ask_of, after_order, counts_of, termed_of}
-use Rattle.core_records.proofs.Changed.{id-after_order, termed-after_order}
+use Rattle.core_records.proofs.Words.{◌≡◌, ap, subst, true, sym, ◌∙◌, option_copied_mut, both_ways, CLOCK_LIMIT, can_ask, can_ask_of, after_order, counts_of, child_of, termed_of}
+use Rattle.core_records.proofs.Changed.{child-after_order, id-after_order, termed-after_order}
 use Rattle.core_records.proofs.Counted.{found_within, recount}
 use Rattle.core_records.proofs.Found.{absent_in, found_in, written}
 use Rattle.core_records.proofs.Timely.{timely_found, timely_order}
@@ -31,7 +31,8 @@ invariant_of-self g c =
       left.own,
       left.timely CLOCK_LIMIT (λ s kept. timely_order c.args.ask c.args.now CLOCK_LIMIT c.requires.limit s kept) (rw c.self.view_is at c.self.invariant.1),
       c.add.ensures ∙ (recount c.self.inside.records c.args.id (after_order c.args.ask c.args.now) c.in-Some.slot.now c.note_order.new.self c.args.self.now c.self.inside.counts c.of.result c.subtract.new.self c.of-2.result c.self.invariant.0 c.get_mut.ensures.unique (rw c.len.ensures.len at c.len.ensures.small) c.self.view_is c.in-Some.ensures.value c.self.invariant.2 c.of.ensures c.subtract.ensures c.note_order.ensures c.of-2.ensures).exact ∙ sym (ap counts_of left.values),
-      same_index_at termed_of c.args.id (after_order c.args.ask c.args.now) (λ s. termed-after_order c.args.ask c.args.now s) c.self.inside.termed c.self.view_is left.values c.self.invariant.3,
+      same_index_at child_of c.args.id (after_order c.args.ask c.args.now) (λ s. child-after_order c.args.ask c.args.now s) c.self.inside.children c.self.view_is left.values c.self.invariant.3,
+      same_index_at termed_of c.args.id (after_order c.args.ask c.args.now) (λ s. termed-after_order c.args.ask c.args.now s) c.self.inside.termed c.self.view_is left.values c.self.invariant.4,
     )
 
 pub returns : goal.returns

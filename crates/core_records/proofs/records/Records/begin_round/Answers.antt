@@ -1,4 +1,4 @@
-use Rattle.core_records.proofs.Words.{rules, refl, ap, sym, ◌∙◌, map_same_pairs, CLOCK_LIMIT, after_begin_round, counts_of, termed_of}
+use Rattle.core_records.proofs.Words.{rules, refl, ap, sym, ◌∙◌, map_same_pairs, CLOCK_LIMIT, after_begin_round, counts_of, child_of, termed_of}
 use Rattle.core_records.proofs.Counted.{same_counts}
 use Rattle.core_records.proofs.Found.{all_written}
 use Rattle.core_records.proofs.Indexes.{same_index}
@@ -10,7 +10,8 @@ invariant_of-self g c =
       left.own,
       left.timely CLOCK_LIMIT (λ s kept. kept) (rw c.self.view_is at c.self.invariant.1),
       c.self.invariant.2 ∙ ap counts_of c.self.view_is ∙ same_counts after_begin_round (λ s. refl) (λ s. refl) c.args.self.now ∙ sym (ap counts_of left.values),
-      same_index termed_of after_begin_round (λ s. refl) c.self.inside.termed c.self.view_is left.values c.self.invariant.3,
+      same_index child_of after_begin_round (λ s. refl) c.self.inside.children c.self.view_is left.values c.self.invariant.3,
+      same_index termed_of after_begin_round (λ s. refl) c.self.inside.termed c.self.view_is left.values c.self.invariant.4,
     )
 
 pub returns : goal.returns

@@ -1,4 +1,4 @@
-use Rattle.core_records.proofs.Words.{ap, refl, sym, ◌∙◌, option_copied_mut, both_ways, CLOCK_LIMIT, has_record_of, after_call, counts_of, termed_of}
+use Rattle.core_records.proofs.Words.{ap, refl, sym, ◌∙◌, option_copied_mut, both_ways, CLOCK_LIMIT, has_record_of, after_call, counts_of, child_of, termed_of}
 use Rattle.std.specs.Option.{is_some}
 use Rattle.core_records.proofs.Counted.{same_changed}
 use Rattle.core_records.proofs.Found.{absent_in, written}
@@ -16,7 +16,8 @@ invariant_of-self g c =
       left.own,
       left.timely CLOCK_LIMIT (λ s kept. kept) (rw c.self.view_is at c.self.invariant.1),
       c.self.invariant.2 ∙ ap counts_of c.self.view_is ∙ same_changed c.args.id after_call (λ s. refl) (λ s. refl) c.args.self.now ∙ sym (ap counts_of left.values),
-      same_index_at termed_of c.args.id after_call (λ s. refl) c.self.inside.termed c.self.view_is left.values c.self.invariant.3,
+      same_index_at child_of c.args.id after_call (λ s. refl) c.self.inside.children c.self.view_is left.values c.self.invariant.3,
+      same_index_at termed_of c.args.id after_call (λ s. refl) c.self.inside.termed c.self.view_is left.values c.self.invariant.4,
     )
 
 pub returns : goal.returns

@@ -1,4 +1,4 @@
-use Rattle.core_records.proofs.Words.{rules, refl, ap, sym, ◌∙◌, map_same_pairs, CLOCK_LIMIT, after_enter, counts_of, termed_of}
+use Rattle.core_records.proofs.Words.{rules, refl, ap, sym, ◌∙◌, map_same_pairs, CLOCK_LIMIT, after_enter, counts_of, child_of, termed_of}
 use Rattle.core_records.proofs.Changed.{timely_enter}
 use Rattle.core_records.proofs.Counted.{same_counts}
 use Rattle.core_records.proofs.Found.{all_written}
@@ -11,7 +11,8 @@ invariant_of-self g c =
       left.own,
       left.timely CLOCK_LIMIT (λ s kept. timely_enter CLOCK_LIMIT s kept) (rw c.self.view_is at c.self.invariant.1),
       c.self.invariant.2 ∙ ap counts_of c.self.view_is ∙ same_counts after_enter (λ s. refl) (λ s. refl) c.args.self.now ∙ sym (ap counts_of left.values),
-      same_index termed_of after_enter (λ s. refl) c.self.inside.termed c.self.view_is left.values c.self.invariant.3,
+      same_index child_of after_enter (λ s. refl) c.self.inside.children c.self.view_is left.values c.self.invariant.3,
+      same_index termed_of after_enter (λ s. refl) c.self.inside.termed c.self.view_is left.values c.self.invariant.4,
     )
 
 pub returns : goal.returns

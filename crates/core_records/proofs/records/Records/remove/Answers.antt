@@ -1,7 +1,7 @@
-use Rattle.core_records.proofs.Words.{sym, same_id, CLOCK_LIMIT, termed_of}
+use Rattle.core_records.proofs.Words.{sym, same_id, CLOCK_LIMIT, child_of, termed_of}
 use Rattle.core_records.proofs.Counted.{found_within, removed_counts}
 use Rattle.core_records.proofs.Found.{found_in, removed}
-use Rattle.core_records.proofs.Keys.{own_termed}
+use Rattle.core_records.proofs.Keys.{own_child, own_termed}
 use Rattle.core_records.proofs.Indexes.{removed_index}
 use Rattle.core_records.proofs.records.Records.remove.Goals as goal
 
@@ -14,7 +14,8 @@ invariant_of-self g c =
       left.own,
       left.timely CLOCK_LIMIT (rw c.self.view_is at c.self.invariant.1),
       rw (c.subtract.ensures, c.of.ensures, c.self.invariant.2, c.shift_remove.ensures.entries) (removed_counts (same_id c.args.id) c.in-Some.slot c.self.inside.records.entries (sym c.in-Some.ensures.value)),
-      removed_index termed_of own_termed c.args.id c.self.inside.termed c.forget.new.items c.self.view_is left.values c.forget.ensures.items c.forget.ensures.sorted c.forget.ensures.room c.self.invariant.3,
+      removed_index child_of own_child c.args.id c.self.inside.children c.forget.new.items c.self.view_is left.values c.forget.ensures.items c.forget.ensures.sorted c.forget.ensures.room c.self.invariant.3,
+      removed_index termed_of own_termed c.args.id c.self.inside.termed c.forget-in-Some.new.items c.self.view_is left.values c.forget-in-Some.ensures.items c.forget-in-Some.ensures.sorted c.forget-in-Some.ensures.room c.self.invariant.4,
     )
 
 pub returns-in-Some : goal.returns-in-Some

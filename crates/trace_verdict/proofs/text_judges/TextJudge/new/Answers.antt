@@ -1,6 +1,5 @@
 use Rattle.std.proofs.Common.{refl, []}
-use Rattle.trace_text.proofs.FrontLemmas.{nil-goes}
 use Rattle.trace_verdict.proofs.text_judges.TextJudge.new.Goals as goal
 
 pub returns : goal.returns
-returns g c = rw c.new.ensures ([], record { are = refl; whole = refl; lines = refl; place = refl; found = c.new-2.ensures.judged }, (refl, nil-goes))
+returns g c = rw c.new.ensures ([], record { are = refl; whole = refl; lines = refl; place = refl; found = c.new-2.ensures.judged }, refl)

@@ -1,8 +1,8 @@
 use Rattle.std.proofs.Common.{rules, ◌≡◌, ◌+◌, Some, ◌++◌, ◌∷◌, [], refl, subst}
 use Rattle.text_lines.specs.Lines.{newlines}
 use Rattle.trace_text.specs.Lines.{trace_text}
-use Rattle.trace_text.specs.Fronts.{NeverBegins}
 use Rattle.trace_text.proofs.ReadTexts.{shorter}
+use Rattle.trace_verdict.specs.Fronts.{BeginsNever}
 use Rattle.trace_verdict.specs.Readers.{capped, ReadsNext}
 use Rattle.trace_verdict.specs.Judges.{TextState, IsFound}
 use Rattle.trace_verdict.proofs.Judging.{trace_at, at_trace, read_next, line_of, torn_here}
@@ -30,7 +30,7 @@ returns-in_ok-judge_next-in-Ok-Some g c =
 pub returns-in-Err-Line : goal.returns-in-Err-Line
 returns-in-Err-Line g c =
     let old : TextState = record { reading = c.self.inside.reader; judging = c.self.inside.judge; place = c.self.inside.place; finding = c.self.inside.finding } in
-    let none : (c.in-Err-Line.number ≡ capped (old.reading.lines + 1)) × NeverBegins old.reading.over = search rules in
+    let none : (c.in-Err-Line.number ≡ capped (old.reading.lines + 1)) × BeginsNever old.reading.over = search rules in
     rw (← c.self.view_is) (record {
       goes = λ text small at.
           let before = trace_at old.finding old text c.in_default.not-Torn at in

@@ -1,9 +1,8 @@
 use Rattle.std.proofs.Common.{refl, []}
-use Rattle.trace_text.proofs.FrontLemmas.{nil-goes}
 use Rattle.trace_view.proofs.text_views.TextView.new.Goals as goal
 
 pub returns : goal.returns
 returns g c = rw c.new.ensures (record {
-  taken = ([], (record { are = refl; whole = refl; lines = refl; seen = c.new-2.ensures.seen }, (refl, nil-goes)));
-  shown = (record { are = refl; whole = refl; lines = refl; seen = c.new-2.ensures.seen }, (refl, nil-goes));
+  taken = ([], (record { are = refl; whole = refl; lines = refl; seen = c.new-2.ensures.seen }, refl));
+  shown = (record { are = refl; whole = refl; lines = refl; seen = c.new-2.ensures.seen }, refl);
 })

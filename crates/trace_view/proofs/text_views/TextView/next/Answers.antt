@@ -1,6 +1,6 @@
 use Rattle.std.proofs.Common.{rules, ◌≡◌, ◌+◌, Some}
-use Rattle.trace_text.specs.Fronts.{NeverBegins}
 use Rattle.trace_text.proofs.ReadTexts.{shorter}
+use Rattle.trace_verdict.specs.Fronts.{BeginsNever}
 use Rattle.trace_verdict.specs.Readers.{capped, ReadsNext}
 use Rattle.trace_view.specs.Views.{TextState}
 use Rattle.trace_view.proofs.SeenTexts.{at_none, goes_next, torn_here}
@@ -21,7 +21,7 @@ returns-in_ok-stop-in-Ok-Some g c =
 pub returns-in-Err-Line : goal.returns-in-Err-Line
 returns-in-Err-Line g c =
     let old : TextState = record { reading = c.self.inside.reader; viewing = c.self.inside.view; stop = c.self.inside.stop } in
-    let none : (c.in-Err-Line.number ≡ capped (old.reading.lines + 1)) × NeverBegins old.reading.over = search rules in
+    let none : (c.in-Err-Line.number ≡ capped (old.reading.lines + 1)) × BeginsNever old.reading.over = search rules in
     rw (← c.self.view_is) (record {
       goes = λ trace text small at. torn_here old.reading old.viewing trace text c.in-Err-Line.number small none.0 none.1 (at_none old.stop old trace text c.in_default.is at);
       shorter = λ no. absurd (cc);

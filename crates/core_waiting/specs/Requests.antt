@@ -1,0 +1,17 @@
+-- Requests for a level, and what comes after them.
+use Rattle.std.specs.Prelude.{Bool, true, false, List, [], ◌∷◌}
+use Rattle.initctl_frame.specs.declared.requests.HeardRequest.TheVariants as got
+use Rattle.trace_events.specs.declared.happenings.Happening.TheVariants.{Enter, Got}
+use Rattle.trace_events.specs.Event.{Event}
+
+-- no level is asked for in the stretch
+abbrev pub is_no_level_asked : List Event → Bool
+is_no_level_asked [] = true
+is_no_level_asked (Got (got.Level level grace) ∷ stretch) = false
+is_no_level_asked (happening ∷ stretch) = is_no_level_asked stretch
+
+-- a stage is entered in the stretch
+abbrev pub is_stage_entered : List Event → Bool
+is_stage_entered [] = false
+is_stage_entered (Enter stage grace ∷ stretch) = true
+is_stage_entered (happening ∷ stretch) = is_stage_entered stretch

@@ -1,0 +1,37 @@
+//! No request for a level is lost (telinit(8)).
+
+ghost use Rattle.std.specs.Prelude.{◌≡◌, ◌⊎◌, ℕ, IsTrue, false, List, ◌∷◌, ◌++◌, Some};
+ghost use Rattle.init_words.specs.declared.levels.Level.{Level};
+ghost use Rattle.init_words.specs.declared.stages.Stage.{Stage};
+ghost use Rattle.init_words.specs.declared.stages.Stage.TheVariants.{Boot, Run};
+ghost use Rattle.init_words.specs.Levels.{same_level};
+ghost use Rattle.initctl_frame.specs.declared.requests.HeardRequest.TheVariants.{Level as LevelAsked};
+ghost use Rattle.trace_events.specs.declared.happenings.Happening.TheVariants.{Enter, Got};
+ghost use Rattle.trace_events.specs.declared.steps.Goal.{Goal};
+ghost use Rattle.trace_events.specs.Event.{Event};
+ghost use Rattle.trace_events.specs.Past.{stage_of, is_idle};
+ghost use Rattle.trace_events.specs.Wishes.{goal_of};
+ghost use Rattle.trace_events.specs.Sound.{is_sound};
+ghost use Rattle.core_waiting.specs.Rest.{AtRest};
+ghost use Rattle.core_waiting.specs.Requests.{is_no_level_asked, is_stage_entered};
+
+/// A request for another level than the one in force is carried out. It does nothing: its contract says the laws.
+pub fn law_of_request()
+    // where init rests with no order open after such a request, and no other level was asked for since, a stage was
+    // entered
+    ensures heard { (goal : Goal) (between before : List Event) (level now : Level) (grace : ℕ)
+        → stage_of before ≡ Some (Run now) → same_level level now ≡ false
+        → IsTrue (is_no_level_asked between)
+        → AtRest goal (between ++ Got (LevelAsked level grace) ∷ before)
+        → IsTrue (is_idle (between ++ Got (LevelAsked level grace) ∷ before))
+        → IsTrue (is_stage_entered between) }
+    // the first that is entered is that level, or Boot with that level as the goal; with the request's seconds
+    ensures entered { (goal : Goal) (later between before : List Event) (level now : Level)
+        (grace seconds : ℕ) (stage : Stage) → IsTrue (is_sound goal
+        (later ++ Enter stage seconds ∷ (between ++ Got (LevelAsked level grace) ∷ before)))
+        → stage_of before ≡ Some (Run now) → same_level level now ≡ false
+        → IsTrue (is_no_level_asked between) → is_stage_entered between ≡ false
+        → ((stage ≡ Run level)
+        ⊎ (stage ≡ Boot) × ((goal_of goal (between ++ Got (LevelAsked level grace) ∷ before)).level
+        ≡ level)) × (seconds ≡ grace) }
+{}

@@ -1,0 +1,28 @@
+#!/bin/sh
+# Makes the two traces beside it, of runs that no init of this repository makes.
+cd "$(dirname "$0")" || exit 4
+
+# A run as `initd simulate` makes it, and behind it a second birth of an id that has a child.
+printf 'id:3:initdefault:\nr:3:respawn:serv\n' >inittab
+printf '%s\n' 'birth r 10' 'told r' nudge 'still r' 'told r' >script
+initd simulate inittab script >second-birth.trace || exit
+printf '%s\n' 'ask r start' 'birth r 11' >>second-birth.trace
+rm inittab script
+
+# What sysvinit 3.06 did: the seconds of its starts of an entry whose child runs for 118 seconds once, and then for 0.4
+# each time, until it disabled the entry.
+echo 0 118 118 118 119 119 120 120 120 121 121 122 122 122 123 | awk '
+    function ended(child) {
+        print "death " child "\nnudge\nask r look\nreaped r " child " exit 0\ntold r"
+    }
+    {
+        print "use 2\nid:2:initdefault:\nr:2:respawn:/bin/ramp\nclock 0\nenter sysinit 3\nenter boot 3\nenter 2 3"
+        for (start = 1; start <= NF; start++) {
+            if (start > 1 && $start != $(start - 1)) print "clock " $start
+            if (start > 1) ended(99 + start)
+            print "ask r start\nbirth r " 100 + start "\ntold r"
+            if (start == 1) print "settle 2"
+        }
+        ended(100 + NF)
+        print "hold r"
+    }' >sysvinit-respawn.trace
