@@ -1,5 +1,5 @@
 -- What calls a turn of init makes of its host, and what calls many turns make (init(8)). The newest stand first.
-use Rattle.std.specs.Prelude.{◌≡◌, ◌≤◌, ◌⊎◌, ◌+◌, ℕ, zero, suc, Bool, true, false, ◌&&◌, ◌||◌, ◌==◌, nat_le, nat_lt, IsTrue, List, [], ◌∷◌, ◌++◌, length, Some, None, Result, Ok, Err}
+use Rattle.std.specs.Prelude.{◌≡◌, ◌≤◌, ◌⊎◌, ◌+◌, ℕ, zero, suc, Bool, true, false, ◌&&◌, ◌||◌, ◌==◌, not, nat_le, nat_lt, IsTrue, List, [], ◌∷◌, ◌++◌, drop, length, Option, Some, None, Result, Ok, Err}
 use Rattle.std.specs.List.{list_all}
 use Rattle.trace_events.specs.declared.happenings.Happening.TheVariants.{NotRead, Handed}
 use Rattle.trace_events.specs.declared.steps.Goal.{Goal}
@@ -8,13 +8,13 @@ use Rattle.trace_events.specs.Due.{due, first}
 use Rattle.trace_events.specs.Sound.{is_sound}
 use Rattle.core_model.specs.State.{CoreState}
 use Rattle.core_model.specs.Decide.{is_drained}
-use Rattle.core_model.specs.Fit.{FitsAll}
 use Rattle.host_calls.specs.declared.calls.Call.TheVariants.{Start, Look, Signal, Late, Clock, TakeBytes, ReadTables, Carry, Announce, Pause}
 use Rattle.host_calls.specs.declared.calls.HostFault.{HostFault}
 use Rattle.host_calls.specs.Calls.{HostCall, TextRead}
+use Rattle.host_calls.specs.Record.{Since}
 use Rattle.host_trace.specs.declared.TheConstants.{BYTE_LIMIT, PIECE, LATE_LIMIT, STEP_LIMIT}
-use Rattle.host_trace.specs.Point.{Point, point_after, has_trace}
-use Rattle.host_trace.specs.Leads.{AreTexts, are_carried, is_allowed}
+use Rattle.host_trace.specs.Point.{Point, point_after}
+use Rattle.host_trace.specs.Leads.{Tracks, are_carried, is_allowed}
 
 -- a call that takes no bytes
 abbrev pub takes_none : HostCall → Bool
@@ -92,37 +92,28 @@ pub record IsTurn (done : Bool) (calls : List HostCall) : Type 0 where
   pub most : count ≤ STEP_LIMIT
   pub ended : IsTrue done ⊎ (count ≡ STEP_LIMIT)
 
--- up to these calls, whatever comes after them: from each point whose trace is sound and fitted, where the answers to
--- them were possible, each text that was carried was that of init's state; and where these came back as they may, each
--- call was in its place, the trace with them is sound, and a core fits it
-pub record WentWell (goal : Goal) (p : Point) (calls : List HostCall) : Type 0 where
-  pub in_place : IsTrue (has_trace goal calls p)
-  pub sound : IsTrue (is_sound goal (point_after calls p).past)
-  pub core : CoreState
-  pub fits : FitsAll core goal (point_after calls p).past
-
-abbrev pub GoesWell : (Goal → Point → Type 0) → List HostCall → Type 0
-GoesWell fitted calls = (goal : Goal) (p : Point) → IsTrue (is_sound goal p.past) → fitted goal p
-    → IsTrue (is_allowed goal (point_after calls p).past)
-    → AreTexts goal calls p × (IsTrue (are_carried calls p) → WentWell goal p calls)
-
--- nothing is due after the calls: from each point whose trace is sound and fitted, where the answers were possible
-abbrev pub Rests : (Goal → Point → Type 0) → List HostCall → Type 0
-Rests fitted calls = (goal : Goal) (p : Point) → IsTrue (is_sound goal p.past) → fitted goal p
+-- the core is init's after these calls: from each point whose trace is sound and fitted, where the answers to them were
+-- possible, and the texts that were carried came back as they may, it tracks the trace with them; and where they were
+-- done, nothing is due
+abbrev pub TracksTo : (Goal → Point → Type 0) → Bool → CoreState → List HostCall → Type 0
+TracksTo fitted done core calls = (goal : Goal) (p : Point) → IsTrue (is_sound goal p.past) → fitted goal p
     → IsTrue (is_allowed goal (point_after calls p).past) → IsTrue (are_carried calls p)
-    → first (due goal (point_after calls p).past) ≡ Idle
+    → Tracks core goal (point_after calls p)
+    × (IsTrue done → first (due goal (point_after calls p).past) ≡ Idle)
 
--- after the calls there is something left to do, or something runs: a core that fits there is not drained
-abbrev pub Undrained : (Goal → Point → Type 0) → List HostCall → Type 0
-Undrained fitted calls = (goal : Goal) (p : Point) → IsTrue (is_sound goal p.past) → fitted goal p
-    → IsTrue (is_allowed goal (point_after calls p).past) → IsTrue (are_carried calls p)
-    → (core : CoreState) × FitsAll core goal (point_after calls p).past × (is_drained core ≡ false)
+-- turns, with a pause after each, and the core that init had after each, the newest first
+abbrev pub AreTurns : (Goal → Point → Type 0) → List CoreState → List HostCall → Type 0
+AreTurns fitted [] calls = calls ≡ []
+AreTurns fitted (core ∷ cores) calls = (done : Bool) × (last before : List HostCall) × (calls ≡ Pause ∷ (last ++ before))
+    × IsTurn done last × TracksTo fitted done core (last ++ before) × AreTurns fitted cores before
 
--- The given number of turns, with a pause after each. Up to each of them all goes well, as far as the answers until
--- then were possible, whatever is answered later. After each that is done nothing is due; and where they end when
--- init is drained, none but the last left it so.
-abbrev pub AreTurns : Bool → (Goal → Point → Type 0) → ℕ → List HostCall → Type 0
-AreTurns drain fitted zero calls = calls ≡ []
-AreTurns drain fitted (suc n) calls = (done : Bool) × (last before : List HostCall) × (calls ≡ Pause ∷ (last ++ before))
-    × IsTurn done last × GoesWell fitted (last ++ before) × (IsTrue done → Rests fitted (last ++ before))
-    × (IsTrue drain → (n ≡ 0) ⊎ Undrained fitted before) × AreTurns drain fitted n before
+-- there is something left to do, or something runs
+abbrev pub is_busy : CoreState → Bool
+is_busy core = not (is_drained core)
+
+-- The given number of turns were made, and somebody who looks saw the core after each. Where they end when init is
+-- drained, none but the last left it so.
+abbrev pub MadeTurns : Bool → (Goal → Point → Type 0) → ℕ → Option (List CoreState) → Option (List CoreState)
+    → List HostCall → Type 0
+MadeTurns drain fitted turns saw now_saw calls = Since saw now_saw (λ cores. (length cores ≡ turns)
+    × AreTurns fitted cores calls × (drain ≡ true → list_all is_busy (drop 1 cores) ≡ true))

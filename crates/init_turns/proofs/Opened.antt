@@ -1,5 +1,5 @@
 -- A run from its opening.
-use Rattle.std.proofs.Common.{◌≡◌, refl, sym, subst, ℕ, zero, suc, inl, inr, Bool, true, List, [], ◌∷◌, Option}
+use Rattle.std.proofs.Common.{◌≡◌, refl, sym, subst, ℕ, Bool, true, List, [], ◌∷◌, Option}
 use Rattle.init_words.specs.declared.entries.Entry.{Entry}
 use Rattle.init_words.specs.declared.levels.Level.{Level}
 use Rattle.inittab_text.specs.Tables.{is_distinct}
@@ -13,7 +13,7 @@ use Rattle.host_calls.specs.Calls.{HostCall}
 use Rattle.host_trace.specs.Fronts.{Fronts}
 use Rattle.host_trace.specs.Leads.{Leads, Logs, Went}
 use Rattle.host_trace.specs.Point.{Point, point_after}
-use Rattle.host_trace.specs.Turns.{AreTurns}
+use Rattle.host_trace.specs.Turns.{AreTurns, MadeTurns}
 use Rattle.host_calls.proofs.Record.{Since-map}
 use Rattle.host_trace.proofs.Fronts.{Began-then}
 use Rattle.host_trace.proofs.Taking.{Took-then}
@@ -21,32 +21,33 @@ use Rattle.init_turns.specs.Parts.{Fresh, LeftBy, Makes}
 use Rattle.init_turns.specs.Opening.{FrontsFrom, IsOpening, IsOpeningOf, LeadsFrom, OpeningState, Opens, opening_point}
 
 -- turns that are said of what fitted are said of what is narrower
-turns_narrower : (drain : Bool) (f g : Goal → Point → Type 0) → ((goal : Goal) (p : Point) → g goal p → f goal p) → (n : ℕ) (calls : List HostCall) → AreTurns drain f n calls → AreTurns drain g n calls
-turns_narrower drain f g narrower zero calls turns = turns
-turns_narrower drain f g narrower (suc n) calls (done, last, before, is, turn, well, rests, going, earlier) = (
+turns_narrower : (f g : Goal → Point → Type 0) → ((goal : Goal) (p : Point) → g goal p → f goal p) → (cores : List CoreState) (calls : List HostCall) → AreTurns f cores calls → AreTurns g cores calls
+turns_narrower f g narrower [] calls turns = turns
+turns_narrower f g narrower (core ∷ cores) calls (done, last, before, is, turn, tracks, earlier) = (
   done,
   last,
   before,
   is,
   turn,
-  (λ goal p sound fits. well goal p sound (narrower goal p fits)),
-  (λ ended goal p sound fits. rests ended goal p sound (narrower goal p fits)),
-  (λ drains. elim (going drains) [ inl none ↦ inl none | inr still ↦ inr (λ goal p sound fits. still goal p sound (narrower goal p fits)) ]),
-  turns_narrower drain f g narrower n before earlier,
+  (λ goal p sound fits. tracks goal p sound (narrower goal p fits)),
+  turns_narrower f g narrower cores before earlier,
 )
+
+made_narrower : (drain : Bool) (f g : Goal → Point → Type 0) → ((goal : Goal) (p : Point) → g goal p → f goal p) → (n : ℕ) (saw now_saw : Option (List CoreState)) (calls : List HostCall) → MadeTurns drain f n saw now_saw calls → MadeTurns drain g n saw now_saw calls
+made_narrower drain f g narrower n saw now_saw calls (cores, seen, (count, turns, busy)) = (cores, seen, (count, turns_narrower f g narrower cores calls turns, busy))
 
 -- the core of an opening is fresh at it
 pub opening_fresh : (level : Option Level) (table : List Entry) → is_distinct table ≡ true → Fresh (opening_state table (opening_goal level table)) (opening_goal level table) (opening_point table)
 opening_fresh level table distinct = (record { fits = fits_opening table (opening_goal level table) distinct; short = refl; own = refl }, refl)
 
-pub opened : (told now_told : Option (List HostCall)) (l₀ l₁ l₂ : LogState) (level : Option Level) (table : List Entry) (drain : Bool) (n : ℕ) (core new : CoreState)
+pub opened : (told now_told : Option (List HostCall)) (l₀ l₁ l₂ : LogState) (level : Option Level) (table : List Entry) (drain : Bool) (n : ℕ) (saw now_saw : Option (List CoreState)) (core new : CoreState)
     → Fresh core (opening_goal level table) (opening_point table) → is_distinct table ≡ true
-    → Logs l₀ l₁ [] (NewTable table ∷ []) → Makes told now_told l₁ l₂ (AreTurns drain (Fresh core) n) (Fresh core) (LeftBy new)
-    → Opens told now_told l₀ l₂ level table drain n new
-opened told now_told l₀ l₁ l₂ level table drain n core new fresh distinct took makes =
-    Since-map told now_told (λ calls. AreTurns drain (Fresh core) n calls × Leads (Fresh core) (LeftBy new) l₁ l₂ calls × Fronts (Fresh core) l₁ l₂ calls)
-    (λ calls. AreTurns drain (IsOpening level table) n calls × LeadsFrom level table new l₀ l₂ calls × FrontsFrom level table l₀ l₂ calls) makes
-    (λ calls made. (turns_narrower drain (Fresh core) (IsOpening level table) narrower n calls made.0, leads calls made.1, fronts calls made.2))
+    → Logs l₀ l₁ [] (NewTable table ∷ []) → Makes told now_told l₁ l₂ (MadeTurns drain (Fresh core) n saw now_saw) (Fresh core) (LeftBy new)
+    → Opens told now_told l₀ l₂ level table (MadeTurns drain (IsOpening level table) n saw now_saw) new
+opened told now_told l₀ l₁ l₂ level table drain n saw now_saw core new fresh distinct took makes =
+    Since-map told now_told (λ calls. MadeTurns drain (Fresh core) n saw now_saw calls × Leads (Fresh core) (LeftBy new) l₁ l₂ calls × Fronts (Fresh core) l₁ l₂ calls)
+    (λ calls. MadeTurns drain (IsOpening level table) n saw now_saw calls × LeadsFrom level table new l₀ l₂ calls × FrontsFrom level table l₀ l₂ calls) makes
+    (λ calls made. (made_narrower drain (Fresh core) (IsOpening level table) narrower n saw now_saw calls made.0, leads calls made.1, fronts calls made.2))
   where
     narrower : (goal : Goal) (p : Point) → IsOpening level table goal p → Fresh core goal p
     narrower goal p (of_goal, of_point) = subst (λ q. Fresh core goal q) (sym of_point) (subst (λ o. Fresh core o (opening_point table)) (sym of_goal) fresh)
@@ -75,10 +76,10 @@ opened told now_told l₀ l₁ l₂ level table drain n core new fresh distinct 
         )
 
 -- of an opening, the log and the turns
-pub opened_by : (told now_told : Option (List HostCall)) (l₀ l₁ l₂ : LogState) (drain : Bool) (n : ℕ) (o : OpeningState) (new : CoreState)
-    → Logs l₀ l₁ [] (o.told ∷ []) → Makes told now_told l₁ l₂ (AreTurns drain (Fresh o.core) n) (Fresh o.core) (LeftBy new)
-    → (level : Option Level) (table : List Entry) → IsOpeningOf level table o → Opens told now_told l₀ l₂ level table drain n new
-opened_by told now_told l₀ l₁ l₂ drain n o new took makes level table is =
-    opened told now_told l₀ l₁ l₂ level table drain n o.core new
+pub opened_by : (told now_told : Option (List HostCall)) (l₀ l₁ l₂ : LogState) (drain : Bool) (n : ℕ) (saw now_saw : Option (List CoreState)) (o : OpeningState) (new : CoreState)
+    → Logs l₀ l₁ [] (o.told ∷ []) → Makes told now_told l₁ l₂ (MadeTurns drain (Fresh o.core) n saw now_saw) (Fresh o.core) (LeftBy new)
+    → (level : Option Level) (table : List Entry) → IsOpeningOf level table o → Opens told now_told l₀ l₂ level table (MadeTurns drain (IsOpening level table) n saw now_saw) new
+opened_by told now_told l₀ l₁ l₂ drain n saw now_saw o new took makes level table is =
+    opened told now_told l₀ l₁ l₂ level table drain n saw now_saw o.core new
     (subst (λ c. Fresh c (opening_goal level table) (opening_point table)) (sym is.core) (opening_fresh level table is.distinct)) is.distinct
     (subst (λ t. Logs l₀ l₁ [] (t ∷ [])) is.told took) makes

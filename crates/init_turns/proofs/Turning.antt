@@ -1,5 +1,5 @@
 -- The parts of a turn, and turns one behind the other.
-use Rattle.std.proofs.Common.{◌≡◌, refl, sym, ap, ◌∙◌, subst, ℕ, zero, suc, ◌⊎◌, ◌==◌, inl, inr, nat_lt, Bool, true, false, ◌&&◌, List, [], ◌∷◌, ◌++◌, length, Option, None, Result}
+use Rattle.std.proofs.Common.{◌≡◌, refl, sym, ap, ◌∙◌, subst, ℕ, zero, suc, ◌==◌, nat_lt, Bool, true, false, not, ◌&&◌, List, [], ◌∷◌, ◌++◌, drop, length, Option, None, Result}
 use Rattle.std.specs.List.{list_all}
 use Rattle.std.proofs.lemmas.Bool.{false≢true, and_from, and_parts}
 use Rattle.std.proofs.lemmas.List.Folds.{list_all-append}
@@ -21,11 +21,11 @@ use Rattle.core_text.specs.Range.{has_short_seconds}
 use Rattle.host_trace.specs.Fronts.{Fronts}
 use Rattle.host_trace.specs.Grows.{Grows, HasRead}
 use Rattle.host_trace.specs.Leads.{At, Counted, IsOver, Leads, Tracks, Went}
-use Rattle.host_trace.specs.Turns.{AreSteps, AreTurns, IsTurn, GoesWell, Undrained, are_full, are_lates, are_takes, bytes_taken, has_come, is_room, is_step, takes_none}
+use Rattle.host_trace.specs.Turns.{AreSteps, AreTurns, IsTurn, MadeTurns, are_full, are_lates, are_takes, bytes_taken, has_come, is_busy, is_room, is_step, takes_none}
 use Rattle.host_trace.proofs.Fronts.{fronts_one, fronts_then}
 use Rattle.host_trace.proofs.Growing.{Grows-none}
 use Rattle.host_trace.proofs.Leading.{Leads-beside, Leads-frame, Leads-still, Leads-then, Leads-weaken, bytes_counted}
-use Rattle.host_calls.proofs.Record.{Since-map, Since-one, Since-then}
+use Rattle.host_calls.proofs.Record.{Since-map, Since-none, Since-one, Since-then}
 use Rattle.host_trace.proofs.Requests.{calls_bring}
 use Rattle.init_turns.specs.Parts.{AndRests, AreAllSteps, Fresh, IsReading, Left, LeftBy, Makes}
 use Rattle.init_turns.proofs.Carried.{Leads-left}
@@ -143,10 +143,21 @@ turn_made done t₀ t₁ t₂ t₃ t₄ l₀ l₁ l₂ l₃ l₄ c₀ c₁ c₂ 
 
 -- ---- turns
 
+-- so many turns were made, and where the run ends when init is drained, none left it so
+abbrev pub Going : Bool → (Goal → Point → Type 0) → ℕ → Option (List CoreState) → Option (List CoreState) → List HostCall → Type 0
+Going drain fitted n saw now_saw calls = Since saw now_saw (λ cores. (length cores ≡ n)
+    × AreTurns fitted cores calls × (drain ≡ true → list_all is_busy cores ≡ true))
+
+-- a turn more was made, and left this core
+abbrev pub Gone : Bool → (Goal → Point → Type 0) → ℕ → CoreState → Option (List CoreState) → Option (List CoreState) → List HostCall → Type 0
+Gone drain fitted n core saw now_saw calls = Since saw now_saw (λ all. (cores : List CoreState) × (all ≡ core ∷ cores)
+    × (length cores ≡ n) × AreTurns fitted (core ∷ cores) calls × (drain ≡ true → list_all is_busy cores ≡ true))
+
 -- before the first turn
-pub turns_none : (drain : Bool) (now : Option (List HostCall)) (log : LogState) (c : CoreState) (b : Begun) → Stands b [] → Makes now now log log (AreTurns drain (Fresh c) 0) (Fresh c) (At c b)
-turns_none drain now log c b stands = Makes-map now now log log (AreTurns drain (Fresh c) 0) (AreTurns drain (Fresh c) 0) (Fresh c) (Fresh c) (Fresh c) (At c b) (λ goal p sound fits. fits)
-    (Makes-none now log (AreTurns drain (Fresh c) 0) (Fresh c) refl)
+pub turns_none : (drain : Bool) (now : Option (List HostCall)) (log : LogState) (saw : Option (List CoreState)) (c : CoreState) (b : Begun) → Stands b [] → Makes now now log log (Going drain (Fresh c) 0 saw saw) (Fresh c) (At c b)
+turns_none drain now log saw c b stands = Makes-map now now log log (Going drain (Fresh c) 0 saw saw) (Going drain (Fresh c) 0 saw saw) (Fresh c) (Fresh c) (Fresh c) (At c b) (λ goal p sound fits. fits)
+    (Makes-none now log (Going drain (Fresh c) 0 saw saw) (Fresh c)
+    (Since-none saw (λ cores. (length cores ≡ 0) × AreTurns (Fresh c) cores [] × (drain ≡ true → list_all is_busy cores ≡ true)) (refl, refl, λ drains. refl)))
     (λ calls none leads. (
       none,
       Leads-weaken (Fresh c) (Fresh c) (Fresh c) (At c b) log log calls (λ goal p fits. fits)
@@ -154,44 +165,68 @@ turns_none drain now log c b stands = Makes-map now now log log (AreTurns drain 
     ))
 
 -- the last turn behind the others
-abbrev IsLast : Bool → Bool → CoreState → ℕ → List HostCall → Type 0
-IsLast drain done c₀ n calls = (last earlier : List HostCall) × (calls ≡ last ++ earlier) × IsTurn done last
-    × (drain ≡ true → (n ≡ 0) ⊎ Undrained (Fresh c₀) earlier) × AreTurns drain (Fresh c₀) n earlier
+abbrev IsLast : Bool → Bool → CoreState → ℕ → Option (List CoreState) → Option (List CoreState) → List HostCall → Type 0
+IsLast drain done c₀ n saw now_saw calls = (last earlier : List HostCall) × (calls ≡ last ++ earlier) × IsTurn done last
+    × Going drain (Fresh c₀) n saw now_saw earlier
 
--- a turn more, and the pause behind it
-pub turns_more : (drain done : Bool) (n : ℕ) (t₀ t₁ t₂ t₃ : Option (List HostCall)) (l₀ l₁ l₂ : LogState) (c₀ c c' : CoreState) (b b' : Begun) → Makes t₀ t₁ l₀ l₁ (AreTurns drain (Fresh c₀) n) (Fresh c₀) (At c b) → (drain ≡ true → (n ≡ 0) ⊎ (is_drained c ≡ false)) → Makes t₁ t₂ l₁ l₂ (IsTurn done) (At c b) (Left done c' b') → (has_short_seconds c₀ ≡ true → Grows l₁ l₂) → AddsCall t₂ t₃ Pause → Makes t₀ t₃ l₀ l₂ (AreTurns drain (Fresh c₀) (suc n)) (Fresh c₀) (At c' b')
-turns_more drain done n t₀ t₁ t₂ t₃ l₀ l₁ l₂ c₀ c c' b b' before undrained turn grows pause =
-    Since-then t₀ t₂ t₃ (λ calls. IsLast drain done c₀ n calls × Leads (Fresh c₀) (Left done c' b') l₀ l₂ calls × Fronts (Fresh c₀) l₀ l₂ calls) (λ calls. calls ≡ Pause ∷ []) (λ calls. AreTurns drain (Fresh c₀) (suc n) calls × Leads (Fresh c₀) (At c' b') l₀ l₂ calls × Fronts (Fresh c₀) l₀ l₂ calls)
-    (Since-then t₀ t₁ t₂ (λ calls. AreTurns drain (Fresh c₀) n calls × Leads (Fresh c₀) (At c b) l₀ l₁ calls × Fronts (Fresh c₀) l₀ l₁ calls) (λ calls. IsTurn done calls × Leads (At c b) (Left done c' b') l₁ l₂ calls × Fronts (At c b) l₁ l₂ calls)
-    (λ calls. IsLast drain done c₀ n calls × Leads (Fresh c₀) (Left done c' b') l₀ l₂ calls × Fronts (Fresh c₀) l₀ l₂ calls) before turn
-    (λ xs ys was is. ((ys, xs, refl, is.0, (λ drains. still xs was.1 (undrained drains)), was.0), Leads-then (Fresh c₀) (At c b) (Left done c' b') l₀ l₁ l₂ xs ys was.1 is.1, fronts_then (Fresh c₀) (At c b) l₀ l₁ l₂ xs ys was.1 was.2 is.2 (λ goal p fits. grows fits.0.short))))
+-- a turn more, a look, and the pause behind it
+pub turns_more : (drain done : Bool) (n : ℕ) (t₀ t₁ t₂ t₃ : Option (List HostCall)) (l₀ l₁ l₂ : LogState) (s₀ s₁ s₂ : Option (List CoreState)) (c₀ c c' : CoreState) (b b' : Begun) → Makes t₀ t₁ l₀ l₁ (Going drain (Fresh c₀) n s₀ s₁) (Fresh c₀) (At c b) → Makes t₁ t₂ l₁ l₂ (IsTurn done) (At c b) (Left done c' b') → (has_short_seconds c₀ ≡ true → Grows l₁ l₂) → Since s₁ s₂ (λ cores. cores ≡ c' ∷ []) → AddsCall t₂ t₃ Pause → Makes t₀ t₃ l₀ l₂ (Gone drain (Fresh c₀) n c' s₀ s₂) (Fresh c₀) (At c' b')
+turns_more drain done n t₀ t₁ t₂ t₃ l₀ l₁ l₂ s₀ s₁ s₂ c₀ c c' b b' before turn grows look pause =
+    Since-then t₀ t₂ t₃ (λ calls. IsLast drain done c₀ n s₀ s₁ calls × Leads (Fresh c₀) (Left done c' b') l₀ l₂ calls × Fronts (Fresh c₀) l₀ l₂ calls) (λ calls. calls ≡ Pause ∷ []) (λ calls. Gone drain (Fresh c₀) n c' s₀ s₂ calls × Leads (Fresh c₀) (At c' b') l₀ l₂ calls × Fronts (Fresh c₀) l₀ l₂ calls)
+    (Since-then t₀ t₁ t₂ (λ calls. Going drain (Fresh c₀) n s₀ s₁ calls × Leads (Fresh c₀) (At c b) l₀ l₁ calls × Fronts (Fresh c₀) l₀ l₁ calls) (λ calls. IsTurn done calls × Leads (At c b) (Left done c' b') l₁ l₂ calls × Fronts (At c b) l₁ l₂ calls)
+    (λ calls. IsLast drain done c₀ n s₀ s₁ calls × Leads (Fresh c₀) (Left done c' b') l₀ l₂ calls × Fronts (Fresh c₀) l₀ l₂ calls) before turn
+    (λ xs ys was is. ((ys, xs, refl, is.0, was.0), Leads-then (Fresh c₀) (At c b) (Left done c' b') l₀ l₁ l₂ xs ys was.1 is.1, fronts_then (Fresh c₀) (At c b) l₀ l₁ l₂ xs ys was.1 was.2 is.2 (λ goal p fits. grows fits.0.short))))
     (Since-one t₂ t₃ Pause (λ calls. calls ≡ Pause ∷ []) pause refl)
     paused
   where
-    still : (xs : List HostCall) → Leads (Fresh c₀) (At c b) l₀ l₁ xs → (n ≡ 0) ⊎ (is_drained c ≡ false) → (n ≡ 0) ⊎ Undrained (Fresh c₀) xs
-    still xs leads (inl none) = inl none
-    still xs leads (inr busy) = inr (λ goal p sound fits allowed carried. (c, ((leads goal p sound fits allowed).1 carried).fits.0.fits, busy))
+    seen : (last earlier calls : List HostCall) → calls ≡ Pause ∷ (last ++ earlier) → IsTurn done last → Leads (Fresh c₀) (Left done c' b') l₀ l₂ (last ++ earlier) → Going drain (Fresh c₀) n s₀ s₁ earlier → Gone drain (Fresh c₀) n c' s₀ s₂ calls
+    seen last earlier calls is made leads going = Since-then s₀ s₁ s₂ (λ cores. (length cores ≡ n) × AreTurns (Fresh c₀) cores earlier × (drain ≡ true → list_all is_busy cores ≡ true)) (λ cores. cores ≡ c' ∷ [])
+        (λ all. (cores : List CoreState) × (all ≡ c' ∷ cores) × (length cores ≡ n) × AreTurns (Fresh c₀) (c' ∷ cores) calls × (drain ≡ true → list_all is_busy cores ≡ true)) going look
+        (λ cores newest was one. (
+          cores,
+          ap (λ front. front ++ cores) one,
+          was.0,
+          (done, last, earlier, is, made, (λ goal p sound fits allowed carried. let went : Went (Left done c' b') l₀ l₂ goal p (last ++ earlier) = (leads goal p sound fits allowed).1 carried in (went.fits.at.0, went.fits.rests)), was.1),
+          was.2,
+        ))
 
-    well : {xs : List HostCall} → Leads (Fresh c₀) (Left done c' b') l₀ l₂ xs → GoesWell (Fresh c₀) xs
-    well {xs} leads goal p sound fits allowed =
-        let led = leads goal p sound fits allowed in (
-          led.0,
-          λ carried.
-              let went : Went (Left done c' b') l₀ l₂ goal p xs = led.1 carried in
-              record { in_place = went.in_place; sound = went.sound; core = c'; fits = went.fits.at.0.fits },
-        )
+    paused : (xs ys : List HostCall) → IsLast drain done c₀ n s₀ s₁ xs × Leads (Fresh c₀) (Left done c' b') l₀ l₂ xs × Fronts (Fresh c₀) l₀ l₂ xs → ys ≡ Pause ∷ [] → Gone drain (Fresh c₀) n c' s₀ s₂ (ys ++ xs) × Leads (Fresh c₀) (At c' b') l₀ l₂ (ys ++ xs) × Fronts (Fresh c₀) l₀ l₂ (ys ++ xs)
+    paused xs ys ((last, earlier, is, made, going), leads, fronts) one = (
+      seen last earlier (ys ++ xs) (λ i. one i ++ is i) made (subst (Leads (Fresh c₀) (Left done c' b') l₀ l₂) is leads) going,
+      subst (λ zs. Leads (Fresh c₀) (At c' b') l₀ l₂ (zs ++ xs)) (sym one)
+          (Leads-then (Fresh c₀) (Left done c' b') (At c' b') l₀ l₂ l₂ xs (Pause ∷ []) leads
+          (Leads-weaken (Left done c' b') (Left done c' b') (Left done c' b') (At c' b') l₂ l₂ (Pause ∷ []) (λ goal p fits. fits) (λ goal p fits. fits.at)
+          (Leads-still (Left done c' b') l₂ Pause (λ p. refl) (λ goal so_far. refl) (λ goal p. tt)))),
+      subst (λ zs. Fronts (Fresh c₀) l₀ l₂ (zs ++ xs)) (sym one)
+          (fronts_then (Fresh c₀) (Left done c' b') l₀ l₂ l₂ xs (Pause ∷ []) leads fronts (fronts_one (Left done c' b') l₂ l₂ Pause) (λ goal p fits. Grows-none l₂)),
+    )
 
-    paused : (xs ys : List HostCall) → IsLast drain done c₀ n xs × Leads (Fresh c₀) (Left done c' b') l₀ l₂ xs × Fronts (Fresh c₀) l₀ l₂ xs → ys ≡ Pause ∷ [] → AreTurns drain (Fresh c₀) (suc n) (ys ++ xs) × Leads (Fresh c₀) (At c' b') l₀ l₂ (ys ++ xs) × Fronts (Fresh c₀) l₀ l₂ (ys ++ xs)
-    paused xs ys ((last, earlier, is, made, rested, turns), leads, fronts) one =
-        let rests : Leads (Fresh c₀) (Left done c' b') l₀ l₂ (last ++ earlier) = subst (Leads (Fresh c₀) (Left done c' b') l₀ l₂) is leads in (
-          (done, last, earlier, (λ i. one i ++ is i), made, well rests, (λ ended goal p sound fits allowed carried. ((rests goal p sound fits allowed).1 carried).fits.rests ended), rested, turns),
-          subst (λ zs. Leads (Fresh c₀) (At c' b') l₀ l₂ (zs ++ xs)) (sym one)
-              (Leads-then (Fresh c₀) (Left done c' b') (At c' b') l₀ l₂ l₂ xs (Pause ∷ []) leads
-              (Leads-weaken (Left done c' b') (Left done c' b') (Left done c' b') (At c' b') l₂ l₂ (Pause ∷ []) (λ goal p fits. fits) (λ goal p fits. fits.at)
-              (Leads-still (Left done c' b') l₂ Pause (λ p. refl) (λ goal so_far. refl) (λ goal p. tt)))),
-          subst (λ zs. Fronts (Fresh c₀) l₀ l₂ (zs ++ xs)) (sym one)
-              (fronts_then (Fresh c₀) (Left done c' b') l₀ l₂ l₂ xs (Pause ∷ []) leads fronts (fronts_one (Left done c' b') l₂ l₂ Pause) (λ goal p fits. Grows-none l₂)),
-        )
+-- turns of another shape
+shaped : (t₀ t₁ : Option (List HostCall)) (l₀ l₁ : LogState) (P Q : List HostCall → Type 0) (f₀ f₁ : Goal → Point → Type 0) → ((calls : List HostCall) → P calls → Q calls) → Makes t₀ t₁ l₀ l₁ P f₀ f₁ → Makes t₀ t₁ l₀ l₁ Q f₀ f₁
+shaped t₀ t₁ l₀ l₁ P Q f₀ f₁ more makes = Makes-map t₀ t₁ l₀ l₁ P Q f₀ f₁ f₀ f₁ (λ goal p sound fits. fits) makes (λ calls shape leads. (more calls shape, leads))
+
+-- the run goes on, or ends there
+pub turns_on : (drain : Bool) (n m : ℕ) (t₀ t₁ : Option (List HostCall)) (l₀ l₁ : LogState) (s₀ s₁ : Option (List CoreState)) (f₀ f₁ : Goal → Point → Type 0) (c : CoreState) → suc n ≡ m → (drain ≡ true → is_drained c ≡ false) → Makes t₀ t₁ l₀ l₁ (Gone drain f₀ n c s₀ s₁) f₀ f₁ → Makes t₀ t₁ l₀ l₁ (Going drain f₀ m s₀ s₁) f₀ f₁
+turns_on drain n m t₀ t₁ l₀ l₁ s₀ s₁ f₀ f₁ c next busy = shaped t₀ t₁ l₀ l₁ (Gone drain f₀ n c s₀ s₁) (Going drain f₀ m s₀ s₁) f₀ f₁
+    (λ calls (all, told, (cores, is, count, turns, earlier)). (
+      all, told, (ap length is ∙ ap suc count ∙ next, subst (λ a. AreTurns f₀ a calls) (sym is) turns,
+      (λ drains. ap (list_all is_busy) is ∙ and_from (is_busy c) (list_all is_busy cores) (ap not (busy drains)) (earlier drains))),
+    ))
+
+pub turns_end : (drain : Bool) (n m : ℕ) (t₀ t₁ : Option (List HostCall)) (l₀ l₁ : LogState) (s₀ s₁ : Option (List CoreState)) (f₀ f₁ : Goal → Point → Type 0) (c : CoreState) → suc n ≡ m → Makes t₀ t₁ l₀ l₁ (Gone drain f₀ n c s₀ s₁) f₀ f₁ → Makes t₀ t₁ l₀ l₁ (MadeTurns drain f₀ m s₀ s₁) f₀ f₁
+turns_end drain n m t₀ t₁ l₀ l₁ s₀ s₁ f₀ f₁ c next = shaped t₀ t₁ l₀ l₁ (Gone drain f₀ n c s₀ s₁) (MadeTurns drain f₀ m s₀ s₁) f₀ f₁
+    (λ calls (all, told, (cores, is, count, turns, earlier)). (
+      all, told, (ap length is ∙ ap suc count ∙ next, subst (λ a. AreTurns f₀ a calls) (sym is) turns,
+      (λ drains. ap (λ a. list_all is_busy (drop 1 a)) is ∙ earlier drains)),
+    ))
+
+pub turns_limit : (drain : Bool) (n m : ℕ) (t₀ t₁ : Option (List HostCall)) (l₀ l₁ : LogState) (s₀ s₁ : Option (List CoreState)) (f₀ f₁ : Goal → Point → Type 0) → n ≡ m → Makes t₀ t₁ l₀ l₁ (Going drain f₀ n s₀ s₁) f₀ f₁ → Makes t₀ t₁ l₀ l₁ (MadeTurns drain f₀ m s₀ s₁) f₀ f₁
+turns_limit drain n m t₀ t₁ l₀ l₁ s₀ s₁ f₀ f₁ same = shaped t₀ t₁ l₀ l₁ (Going drain f₀ n s₀ s₁) (MadeTurns drain f₀ m s₀ s₁) f₀ f₁
+    (λ calls (cores, told, (count, turns, busy)). (cores, told, (count ∙ same, turns, λ drains. others cores (busy drains))))
+  where
+    others : (cores : List CoreState) → list_all is_busy cores ≡ true → list_all is_busy (drop 1 cores) ≡ true
+    others [] all = refl
+    others (core ∷ cores) all = (and_parts (is_busy core) (list_all is_busy cores) all).1
 
 -- what fits a sound trace counts the children that are not reaped
 pub turns_left : (t₀ t₁ : Option (List HostCall)) (l₀ l₁ : LogState) (Shape : List HostCall → Type 0) (c₀ c : CoreState) (b : Begun) → Makes t₀ t₁ l₀ l₁ Shape (Fresh c₀) (At c b) → Makes t₀ t₁ l₀ l₁ Shape (Fresh c₀) (LeftBy c)

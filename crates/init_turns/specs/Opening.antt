@@ -15,7 +15,6 @@ use Rattle.host_trace.specs.Fronts.{Began, EachFront, GoesSoFar}
 use Rattle.host_trace.specs.Leads.{AreTexts, Took, are_carried, is_allowed}
 use Rattle.host_trace.specs.Point.{Point, has_trace, point_after}
 use Rattle.host_calls.specs.Record.{Since}
-use Rattle.host_trace.specs.Turns.{AreTurns}
 use Rattle.init_turns.specs.Parts.{LeftBy}
 
 -- a run begins with the table that is in force
@@ -67,10 +66,9 @@ abbrev pub FrontsFrom : Option Level → List Entry → LogState → LogState �
 FrontsFrom level table old new calls =
     EachFront (λ earlier. GoesSoFar (IsOpening level table) earlier × LogsFrom level table old new earlier) calls
 
--- the calls made, which are those told where the host tells them, are those of the given number of turns; so it went,
--- and so it did up to each of them, whatever was answered later
+-- the calls made, which are those told where the host tells them, are such turns; so it went, and so it did up to each of
+-- them, whatever was answered later
 abbrev pub Opens : Option (List HostCall) → Option (List HostCall) → LogState → LogState → Option Level → List Entry
-    → Bool → ℕ → CoreState → Type 0
-Opens told now_told old new level table drain turns core = Since told now_told (λ calls.
-    AreTurns drain (IsOpening level table) turns calls × LeadsFrom level table core old new calls
-    × FrontsFrom level table old new calls)
+    → (List HostCall → Type 0) → CoreState → Type 0
+Opens told now_told old new level table Turns core = Since told now_told (λ calls.
+    Turns calls × LeadsFrom level table core old new calls × FrontsFrom level table old new calls)

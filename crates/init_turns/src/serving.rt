@@ -1,13 +1,14 @@
 //! Turns, one after another.
 
-ghost use Rattle.std.specs.Prelude.{◌≡◌, ◌&&◌, ◌≤◌, ◌<◌, [], not, true, false};
+ghost use Rattle.std.specs.Prelude.{◌≡◌, ◌∷◌, ◌&&◌, ◌≤◌, ◌<◌, List, Option, [], not, true, false};
 ghost use Rattle.core_model.specs.Decide.{is_drained};
+ghost use Rattle.core_model.specs.State.{CoreState};
 ghost use Rattle.host_trace.specs.Grows.{GrowsBy, GrowsReading};
 ghost use Rattle.host_trace.specs.Leads.{At};
 ghost use Rattle.host_trace.specs.Point.{Point};
 ghost use Rattle.host_calls.specs.Record.{Since};
 ghost use Rattle.host_trace.specs.Requests.{Brings};
-ghost use Rattle.host_trace.specs.Turns.{AreTurns, IsTurn};
+ghost use Rattle.host_trace.specs.Turns.{IsTurn, MadeTurns};
 ghost use Rattle.init_turns.specs.Parts.{Fresh, Left, LeftBy, Makes};
 
 use crate::hearing::{hear_clock, hear_lates, hear_requests};
@@ -20,14 +21,22 @@ use trace_log::Log;
 
 /// Somebody who looks at what init keeps after each turn, before the pause.
 pub trait Watch<A: Allocator> {
+    /// What init kept at each look, the newest first. None from the first look on that isn't told.
+    ghost seen: { Self → Option (List CoreState) };
+
     /// A turn was made, and this is what init keeps behind it.
-    fn look(&mut self, core: &Core<A>);
+    fn look(&mut self, core: &Core<A>)
+        ensures seen { Since (seen self.old) (seen self.new) (λ cores. cores ≡ core.now ∷ []) };
 }
 
 /// Nobody looks.
 pub struct Unwatched {}
 
 impl<A: Allocator> Watch<A> for Unwatched {
+    ghost use Rattle.std.specs.Prelude.{None};
+
+    ghost seen = { λ _. None };
+
     fn look(&mut self, _core: &Core<A>) {}
 }
 
@@ -96,7 +105,8 @@ pub fn serve<A: Allocator + Copy, H: Host, L: Log, W: Watch<A>>(
     watch: &mut W,
 ) -> Served
     ensures trace { Makes (H.told host.old) (H.told host.new) (L.state log.old) (L.state log.new)
-        (AreTurns drain (Fresh core.old) result.turns) (Fresh core.old) (LeftBy core.new) }
+        (MadeTurns drain (Fresh core.old) result.turns (W.seen watch.old) (W.seen watch.new))
+        (Fresh core.old) (LeftBy core.new) }
     ensures requests { Since (H.told host.old) (H.told host.new) (λ calls. (p : Point)
         → p.over ≡ [] → Brings [] calls p) }
     ensures most { result.turns ≤ turns }

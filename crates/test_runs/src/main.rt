@@ -12,7 +12,6 @@ use runs::tried;
 use std::io;
 use std::io::ErrorKind;
 use std::process::ExitCode;
-use text_lines::cut;
 
 /// What was run.
 #[derive(Clone, Copy)]
@@ -24,10 +23,8 @@ struct Counts {
 /// Runs each row, and counts what was run; None where a row answers otherwise, which is told.
 fn run_rows(rt: &HostRuntime, text: &[u8]) -> io::Result<Option<Counts>> {
     let mut counts = Counts { rows: 0, handed: 0 };
-    let mut rest = text;
-    while let Some((line, more)) = cut(b'\n', rest) {
-        rest = more;
-        if line.starts_with(b"#") {
+    for line in text.split(|byte| *byte == b'\n') {
+        if line.is_empty() || line.starts_with(b"#") {
             continue;
         }
         counts.rows = counts.rows.saturating_add(1);

@@ -19,16 +19,16 @@ pub(crate) struct Row {
 /// The text of a field, in which `\n` is a newline.
 fn text_of(alloc: Global, field: &[u8]) -> Result<Vec<u8>, AllocError> {
     let mut text = Vec::new(alloc);
-    let mut rest = field;
-    while let Some((part, more)) = cut(b'\\', rest) {
-        text.extend_from_slice(part)?;
-        text.push(b'\n')?;
-        rest = match more {
-            [b'n', behind @ ..] => behind,
-            _ => more,
+    for (place, part) in field.split(|byte| *byte == b'\\').enumerate() {
+        let line = match part {
+            [b'n', line @ ..] if place > 0 => line,
+            _ => part,
         };
+        if place > 0 {
+            text.push(b'\n')?;
+        }
+        text.extend_from_slice(line)?;
     }
-    text.extend_from_slice(rest)?;
     Ok(text)
 }
 

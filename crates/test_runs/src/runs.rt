@@ -4,11 +4,10 @@ use crate::rows::Row;
 use init_words::Memory;
 use simulator::{SimFault, Untold, simulate};
 use std::alloc::{AllocError, Global};
-use text_lines::cut;
 use trace_text::first_happening;
 
 /// The line of a hand-over in a script and in a trace.
-const HANDED: &[u8] = b"handed whole";
+const HANDED: &[u8] = b"handed whole\n";
 
 /// The run ended so.
 fn is_end(alloc: Global, ended: Result<(), SimFault>, fault: &[u8]) -> Result<bool, AllocError> {
@@ -33,14 +32,11 @@ fn run_over(alloc: Global, row: &Row, script: &[u8]) -> Result<(Vec<u8>, bool), 
 fn without_handed(alloc: Global, trace: &[u8]) -> Result<(Vec<u8>, u64), AllocError> {
     let mut text = Vec::new(alloc);
     let mut count: u64 = 0;
-    let mut rest = trace;
-    while let Some((line, more)) = cut(b'\n', rest) {
-        rest = more;
+    for line in trace.split_inclusive(|byte| *byte == b'\n') {
         if line == HANDED {
             count = count.saturating_add(1);
         } else {
             text.extend_from_slice(line)?;
-            text.push(b'\n')?;
         }
     }
     Ok((text, count))
@@ -50,7 +46,6 @@ fn without_handed(alloc: Global, trace: &[u8]) -> Result<(Vec<u8>, u64), AllocEr
 fn is_same(alloc: Global, row: &Row, front: &[u8], behind: &[u8]) -> Result<bool, AllocError> {
     let mut script = Vec::from_slice(alloc, front)?;
     script.extend_from_slice(HANDED)?;
-    script.push(b'\n')?;
     script.extend_from_slice(behind)?;
     let (trace, is_end) = run_over(alloc, row, &script)?;
     let (text, count) = without_handed(alloc, &trace)?;
@@ -92,12 +87,5 @@ pub(crate) fn tried(alloc: Global, row: &Row) -> Result<Option<u64>, Memory> {
 
 /// A line of the script tells of a hand-over.
 fn has_handed(script: &[u8]) -> bool {
-    let mut rest = script;
-    while let Some((line, more)) = cut(b'\n', rest) {
-        if line.starts_with(b"handed") {
-            return true;
-        }
-        rest = more;
-    }
-    false
+    script.split(|byte| *byte == b'\n').any(|line| line.starts_with(b"handed"))
 }
