@@ -85,6 +85,11 @@ opened_runs text_at service unled faults ending old new (parts, are, read, (told
     (subst (λ b. EndsTold service b faults ending old new) led ends))
 
 -- the endings that faults are which end a run before its first turn
+pub of_held : (service : RunSaid) (fault : RunFault) (path : List ℕ) (holder : Option ℕ) → fault ≡ why.Held holder → path ≡ unwrap_or service.trace []
+    → IsOfFault service fault (busy path holder)
+of_held service fault path holder is at =
+    subst (λ f. IsOfFault service f (busy path holder)) (sym is) (ap (λ p. busy p holder) at)
+
 pub of_busy : (service : RunSaid) (fault : RunFault) (path : List ℕ) (holder : Option ℕ) → fault ≡ why.Busy holder → path ≡ service.initctl
     → IsOfFault service fault (busy path holder)
 of_busy service fault path holder is at =

@@ -9,7 +9,6 @@ use Rattle.trace_log.specs.Logs.{LogState}
 use Rattle.host_calls.specs.Calls.{HostCall}
 use Rattle.host_trace.specs.Leads.{Takes}
 use Rattle.host_trace.specs.Point.{point_after}
-use Rattle.host_calls.specs.Record.{Since}
 use Rattle.trace_log_wrappers.specs.declared.run_notes.LastEnd.TheVariants.{Unnoted}
 use Rattle.trace_log_wrappers.specs.Ends.{last_end}
 use Rattle.trace_log_wrappers.specs.Notes.{IsRunning, Notes, NotesOf, end_in, last_noted, last_of}
@@ -19,12 +18,11 @@ use Rattle.trace_events.specs.declared.steps.Goal.{Goal}
 use Rattle.core_model.specs.State.{CoreState, opening_goal}
 use Rattle.core_model.specs.Fit.{FitsAll}
 use Rattle.core_waiting.specs.Lines.{waiting_text}
-use Rattle.init_turns.specs.Opening.{Opens, opening_point}
+use Rattle.init_turns.specs.Opening.{LeadsFrom, opening_point}
 use Rattle.initd_options.specs.Options.{RunSaid}
-use Rattle.initd_command.specs.Turned.{ReportsEnd, end_status}
 use Rattle.trace_log_wrappers.specs.declared.judgements.Judgement.{Judgement}
 use Rattle.trace_log_wrappers.specs.Judgements.{Finds}
-use Rattle.initd_command.specs.Services.{IsNoted, IsServed, LogEnds, TurnsFrom, TurnsOver, end_of, judgement_for, noted_of}
+use Rattle.initd_command.specs.Services.{IsNoted, IsServed, LogEnds, TurnsFrom, judgement_for, noted_of}
 
 -- where a run is to be judged, what was found counts
 found_for : (service : RunSaid) (found : Judgement) (past : List Event) → Finds found past → IfSome (judgement_for service found) (λ judgement. Finds judgement past)
@@ -92,39 +90,26 @@ module _ (has_ended : Bool → List Event → Type 0) (whole : Bool) (past misse
       by false kept is none = (reverse took, reverse missed, front, whole, ends)
 
 -- turns over a log that had taken nothing, which was ended behind them
-pub turns_over : (has_ended : Bool → List Event → Type 0) (Found : List Event → Type 0) (taken : List Event → Type 0) (notes : Notes) (found : Judgement) (failed whole : Bool)
-    (core : CoreState) (old : LogState) (service : RunSaid) (level : Option Level) (table : List Entry) (served ended : Served) (judgement : Option Judgement) (status : ℕ)
-    (told now_told : Option (List HostCall)) (err now_err : Option (List ℕ))
+pub noted_over : (has_ended : Bool → List Event → Type 0) (Found : List Event → Type 0) (taken : List Event → Type 0) (notes : Notes) (found : Judgement) (failed whole : Bool)
+    (core : CoreState) (old : LogState) (service : RunSaid) (level : Option Level) (table : List Entry) (served ended : Served) (judgement : Option Judgement) (calls : List HostCall)
     → ended ≡ record served { logged = served.logged && whole } → judgement ≡ judgement_for service found
-    → old.taken [] → served.logged ≡ not failed → IsServed service served
+    → old.taken [] → served.logged ≡ not failed
     → ((trace : List Event) → Found (reverse trace) × taken trace → Finds found (reverse trace)) → ((trace : List Event) → taken trace → has_ended whole trace)
-    → status ≡ end_status (end_of service (noted_of notes (waiting_text core) judgement) ended)
-    → ReportsEnd (end_of service (noted_of notes (waiting_text core) judgement) ended) err now_err
-    → Opens told now_told old (record { taken = λ trace. NotesOf notes (reverse trace) × (Found (reverse trace) × taken trace); failed = failed }) level table service.drain served.turns core
-    → Since told now_told (λ calls. TurnsFrom level table calls (TurnsOver has_ended service status err now_err))
-turns_over has_ended Found taken notes found failed whole core old service level table served ended judgement status told now_told err now_err goes asked none logged limits finds ends is reports (calls, are_told, (turns, leads, fronts)) = (
-  calls,
-  are_told,
-  λ allowed carried.
-      let went = (leads allowed).1 carried in
-      let past = (point_after calls (opening_point table)).past in
-      let took = went.log in
-      let takes : Takes old (record { taken = λ trace. NotesOf notes (reverse trace) × (Found (reverse trace) × taken trace); failed = failed }) [] took.came = took.log [] none in
-      let parts : past ≡ takes.missed ++ takes.took = took.grown ∙ append-nil took.came ∙ takes.parts in
-      let all : served.logged ≡ true → takes.missed ≡ [] = λ h. takes.whole (not_so failed (sym logged ∙ h)) in
-      let so : ended.logged ≡ (served.logged && whole) = ap (λ s. s.logged) goes in (
-        ended,
-        noted_of notes (waiting_text core) judgement,
-        is,
-        is_served service served ended _ goes limits,
-        judged_still service found judgement asked,
-        (λ h.
-            let every : takes.took ≡ past = sym (parts ∙ ap (λ m. m ++ takes.took) (all (and_parts served.logged whole (sym so ∙ h)).0)) in
-            let same : reverse (reverse takes.took) ≡ past = reverse-reverse takes.took ∙ every in
-            noted_of_trace notes (waiting_text core) judgement past (subst (NotesOf notes) same takes.told.0)
-            (opening_goal level table, core, went.fits.0.fits, refl)
-            (subst (λ j. IfSome j (λ given. Finds given past)) (sym asked) (found_for service found past (subst (Finds found) same (finds (reverse takes.took) takes.told.1))))),
-        subst (λ b. LogEnds has_ended b (reverse past)) (sym so) (log_ends has_ended whole past takes.missed takes.took parts (ends (reverse takes.took) takes.told.1.1) served.logged all),
-        reports,
-      ),
-)
+    → LeadsFrom level table core old (record { taken = λ trace. NotesOf notes (reverse trace) × (Found (reverse trace) × taken trace); failed = failed }) calls
+    → TurnsFrom level table calls (λ past. (ended.logged ≡ true → IsNoted (noted_of notes (waiting_text core) judgement) past) × LogEnds has_ended ended.logged (reverse past))
+noted_over has_ended Found taken notes found failed whole core old service level table served ended judgement calls goes asked none logged finds ends leads = λ allowed carried.
+    let went = (leads allowed).1 carried in
+    let past = (point_after calls (opening_point table)).past in
+    let took = went.log in
+    let takes : Takes old (record { taken = λ trace. NotesOf notes (reverse trace) × (Found (reverse trace) × taken trace); failed = failed }) [] took.came = took.log [] none in
+    let parts : past ≡ takes.missed ++ takes.took = took.grown ∙ append-nil took.came ∙ takes.parts in
+    let all : served.logged ≡ true → takes.missed ≡ [] = λ h. takes.whole (not_so failed (sym logged ∙ h)) in
+    let so : ended.logged ≡ (served.logged && whole) = ap (λ s. s.logged) goes in (
+      (λ h.
+          let every : takes.took ≡ past = sym (parts ∙ ap (λ m. m ++ takes.took) (all (and_parts served.logged whole (sym so ∙ h)).0)) in
+          let same : reverse (reverse takes.took) ≡ past = reverse-reverse takes.took ∙ every in
+          noted_of_trace notes (waiting_text core) judgement past (subst (NotesOf notes) same takes.told.0)
+          (opening_goal level table, core, went.fits.0.fits, refl)
+          (subst (λ j. IfSome j (λ given. Finds given past)) (sym asked) (found_for service found past (subst (Finds found) same (finds (reverse takes.took) takes.told.1))))),
+      subst (λ b. LogEnds has_ended b (reverse past)) (sym so) (log_ends has_ended whole past takes.missed takes.took parts (ends (reverse takes.took) takes.told.1.1) served.logged all),
+    )

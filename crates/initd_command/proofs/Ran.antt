@@ -1,89 +1,78 @@
 -- Which calls a run made, by how it ended: none but where it came to its turns.
-use Rattle.std.proofs.Common.{◌≡◌, refl, sym, subst, ◌∙◌, Bool, false, List, [], ℕ, Option, Some, None, inl, inr}
+use Rattle.std.proofs.Common.{◌≡◌, refl, sym, ap, subst, ◌∙◌, Bool, false, List, [], ◌∷◌, ℕ, Option, Some, None, inl, inr, ⊤}
 use Rattle.std.proofs.KnownBytes.{Keeps-refl}
+use Rattle.std.specs.Io.KnownBytes.{Appends}
 use Rattle.std.specs.Prelude.{IfSome, IsSome, unwrap_or}
 use Rattle.init_words.specs.Parts.{NamedText, texts_of}
 use Rattle.init_words.specs.declared.entries.Entry.{Entry}
-use Rattle.inittab_text.specs.Parts.{table_of_texts}
+use Rattle.inittab_text.specs.Parts.{faults_of_parts, table_of_texts}
 use Rattle.program_io.specs.Known.{KnownTexts}
+use Rattle.trace_events.specs.Event.{Event}
 use Rattle.host_calls.specs.Calls.{HostCall}
+use Rattle.host_calls.specs.Record.{Since}
+use Rattle.host_system.specs.LineFaults.{faults_text}
 use Rattle.initd_options.specs.CommandLine.{InitdSaid, judges, runs, simulates, version}
 use Rattle.initd_options.specs.Options.{RunSaid}
 use Rattle.init_turns.specs.Opening.{IsOpeningOf, OpeningState}
 use Rattle.initd_command.specs.declared.run.Inittab.{Inittab}
 use Rattle.initd_command.specs.declared.run.RunFault.{RunFault}
 use Rattle.initd_command.specs.declared.run.RunFault.TheVariants as why
-use Rattle.initd_command.specs.Endings.{Ending, busy, done, flawed, lawful, no_memory, shared, stopped, too_many, torn, turned, uncreated, unfinished, unflushed, unlawful, unlisted, unlocked, unread, untold, unversioned, unwritten, usage}
+use Rattle.initd_command.specs.Endings.{Ending, turned}
 use Rattle.initd_command.specs.Turned.{End}
-use Rattle.initd_command.specs.Services.{AreFiles, EndsRun, FailsBy, FailsToRead, FailsToTake, HasInittab, IsOfFault, IsReadOf, has_result}
-use Rattle.initd_command.specs.Ran.{AsksSaid, RanBy, RanOver}
+use Rattle.initd_command.specs.Services.{AreFiles, EndsRun, EndsTold, FailsBy, FailsToRead, FailsToTake, HasInittab, IsOfFault, IsReadOf, has_result}
+use Rattle.initd_command.specs.Ran.{AsksSaid, MakesLogged, MakesTurns, RanBy, RanOver, RanTo, RunTold, turned_end}
+
+-- turns over a log that was fresh
+pub made_fresh : {fresh : Type 0} (has_ended : Bool → List Event → Type 0) (service : RunSaid) (table : List Entry) (end : End) (calls : List HostCall)
+    → fresh → MakesLogged fresh has_ended service table end calls → MakesTurns ⊤ service table end calls
+made_fresh has_ended service table end calls is (made, ended) = record {
+  served = made.served;
+  noted = made.noted;
+  turns = made.turns;
+  fronts = made.fronts;
+  drains = made.drains;
+  notes = λ so. made.notes is;
+  most = made.most;
+  asked = made.asked;
+  ends = made.ends;
+}
 
 -- what a run makes over each table that its opening is of, it makes over the inittab at its paths
-pub ran_by : (text_at : KnownTexts) (service : RunSaid) (opening : OpeningState) (ending : Ending) (old new : Option (List HostCall))
-    → HasInittab text_at service (λ parts. IsOpeningOf service.level (table_of_texts (texts_of parts)) opening)
-    → ((table : List Entry) → IsOpeningOf service.level table opening → RanOver service table ending old new)
-    → (own : List HostCall → Type 0) → IfSome new own → RanBy text_at service own ending old new
-ran_by text_at service opening (turned unled end) old new (parts, are, read, opens) made own is =
-    ((parts, are, read, made (table_of_texts (texts_of parts)) opens), is)
-ran_by text_at service opening done old new (parts, are, read, opens) made own is = made (table_of_texts (texts_of parts)) opens
-ran_by text_at service opening (usage reason) old new (parts, are, read, opens) made own is = made (table_of_texts (texts_of parts)) opens
-ran_by text_at service opening no_memory old new (parts, are, read, opens) made own is = made (table_of_texts (texts_of parts)) opens
-ran_by text_at service opening (unread path why) old new (parts, are, read, opens) made own is = made (table_of_texts (texts_of parts)) opens
-ran_by text_at service opening too_many old new (parts, are, read, opens) made own is = made (table_of_texts (texts_of parts)) opens
-ran_by text_at service opening (flawed told) old new (parts, are, read, opens) made own is = made (table_of_texts (texts_of parts)) opens
-ran_by text_at service opening (unlisted id) old new (parts, are, read, opens) made own is = made (table_of_texts (texts_of parts)) opens
-ran_by text_at service opening (stopped script f) old new (parts, are, read, opens) made own is = made (table_of_texts (texts_of parts)) opens
-ran_by text_at service opening unflushed old new (parts, are, read, opens) made own is = made (table_of_texts (texts_of parts)) opens
-ran_by text_at service opening (lawful left) old new (parts, are, read, opens) made own is = made (table_of_texts (texts_of parts)) opens
-ran_by text_at service opening (unlawful message left) old new (parts, are, read, opens) made own is = made (table_of_texts (texts_of parts)) opens
-ran_by text_at service opening (torn line) old new (parts, are, read, opens) made own is = made (table_of_texts (texts_of parts)) opens
-ran_by text_at service opening (unfinished line verdict) old new (parts, are, read, opens) made own is = made (table_of_texts (texts_of parts)) opens
-ran_by text_at service opening unwritten old new (parts, are, read, opens) made own is = made (table_of_texts (texts_of parts)) opens
-ran_by text_at service opening (busy path holder) old new (parts, are, read, opens) made own is = made (table_of_texts (texts_of parts)) opens
-ran_by text_at service opening (shared one other) old new (parts, are, read, opens) made own is = made (table_of_texts (texts_of parts)) opens
-ran_by text_at service opening (unlocked path why) old new (parts, are, read, opens) made own is = made (table_of_texts (texts_of parts)) opens
-ran_by text_at service opening (uncreated path why) old new (parts, are, read, opens) made own is = made (table_of_texts (texts_of parts)) opens
-ran_by text_at service opening untold old new (parts, are, read, opens) made own is = made (table_of_texts (texts_of parts)) opens
-ran_by text_at service opening unversioned old new (parts, are, read, opens) made own is = made (table_of_texts (texts_of parts)) opens
+pub ran_to : (text_at : KnownTexts) (service : RunSaid) (own : List HostCall → Type 0) (opening : OpeningState) (end : Option End) (old new : RunTold)
+    → HasInittab text_at service (λ parts. IsOpeningOf service.level (table_of_texts (texts_of parts)) opening
+    × IfSome end (λ made. Appends old.out new.out (faults_text parts (faults_of_parts (texts_of parts)))))
+    → Since old.opened new.opened (λ saids. saids ≡ service ∷ [])
+    → ((table : List Entry) → IsOpeningOf service.level table opening → RanOver service table end old.calls new.calls)
+    → IfSome new.calls own → RanTo text_at service own end old new
+ran_to text_at service own opening (Some end) old new (parts, are, read, (opens, told)) by made is =
+    ((parts, are, read, (made (table_of_texts (texts_of parts)) opens, told)), by, is)
+ran_to text_at service own opening None old new (parts, are, read, (opens, told)) by made is = made (table_of_texts (texts_of parts)) opens
+
+-- a run that comes to its turns has told the faults of its inittab
+pub faults_told : (service : RunSaid) (unled : Bool) (told : List ℕ) (ending : Ending) (old new : Option (List ℕ))
+    → EndsTold service unled told ending old new → IfSome (turned_end ending) (λ end. Appends old new told)
+faults_told service unled told (turned b end) old new ends = ends.3
+faults_told service unled told _ old new ends = tt
 
 -- a fault is no end of turns
-no_turns : (service : RunSaid) (fault : RunFault) (unled : Bool) (end : End) → IsOfFault service fault (turned unled end) → ⊥
-no_turns service (why.Busy holder) unled end is = absurd (cc)
-no_turns service (why.Shared one other) unled end is = absurd (cc)
-no_turns service why.TooMany unled end is = absurd (cc)
-no_turns service why.TooLong unled end is = absurd (cc)
-no_turns service (why.Flawed lines) unled end is = absurd (cc)
-no_turns service (why.Unlisted id) unled end is = absurd (cc)
-no_turns service why.Memory unled end is = absurd (cc)
-no_turns service (why.Channel error) unled end is = let wrong = is.1 in absurd (cc)
-no_turns service (why.Inittab error) unled end is = let wrong = is.1 in absurd (cc)
-no_turns service (why.Folder path error) unled end is = let wrong = is.1 in absurd (cc)
-no_turns service (why.Trace error) unled end is = let wrong = is.1 in absurd (cc)
+no_turns : (service : RunSaid) (fault : RunFault) (ending : Ending) → IsOfFault service fault ending → turned_end ending ≡ None
+no_turns service (why.Busy holder) ending is = ap turned_end is
+no_turns service (why.Held holder) ending is = ap turned_end is
+no_turns service (why.Shared one other) ending is = ap turned_end is
+no_turns service why.TooMany ending is = ap turned_end is
+no_turns service why.TooLong ending is = ap turned_end is
+no_turns service (why.Flawed lines) ending is = ap turned_end is
+no_turns service (why.Unlisted id) ending is = ap turned_end is
+no_turns service why.Memory ending is = ap turned_end is
+no_turns service (why.Channel error) ending is = ap turned_end is.1
+no_turns service (why.Inittab error) ending is = ap turned_end is.1
+no_turns service (why.Folder path error) ending is = ap turned_end is.1
+no_turns service (why.Trace error) ending is = ap turned_end is.1
 
 -- a run that a fault ended asked nothing
 pub unasked : (text_at : KnownTexts) (service : RunSaid) (own : List HostCall → Type 0) (fault : RunFault) (ending : Ending)
-    (old new : Option (List HostCall)) → IsOfFault service fault ending → new ≡ old → RanBy text_at service own ending old new
-unasked text_at service own fault (turned unled end) old new is same = absurd (no_turns service fault unled end is)
-unasked text_at service own fault done old new is same = same
-unasked text_at service own fault (usage reason) old new is same = same
-unasked text_at service own fault no_memory old new is same = same
-unasked text_at service own fault (unread path why) old new is same = same
-unasked text_at service own fault too_many old new is same = same
-unasked text_at service own fault (flawed told) old new is same = same
-unasked text_at service own fault (unlisted id) old new is same = same
-unasked text_at service own fault (stopped script f) old new is same = same
-unasked text_at service own fault unflushed old new is same = same
-unasked text_at service own fault (lawful left) old new is same = same
-unasked text_at service own fault (unlawful message left) old new is same = same
-unasked text_at service own fault (torn line) old new is same = same
-unasked text_at service own fault (unfinished line verdict) old new is same = same
-unasked text_at service own fault unwritten old new is same = same
-unasked text_at service own fault (busy path holder) old new is same = same
-unasked text_at service own fault (shared one other) old new is same = same
-unasked text_at service own fault (unlocked path why) old new is same = same
-unasked text_at service own fault (uncreated path why) old new is same = same
-unasked text_at service own fault untold old new is same = same
-unasked text_at service own fault unversioned old new is same = same
+    (old new : RunTold) → IsOfFault service fault ending → new.calls ≡ old.calls → RanBy text_at service own ending old new
+unasked text_at service own fault ending old new is same = subst (λ end. RanTo text_at service own end old new) (sym (no_turns service fault ending is)) same
 
 some_path : (path : Option (List ℕ)) → IsSome path → path ≡ Some (unwrap_or path [])
 some_path None some = absurd (cc)
@@ -96,6 +85,7 @@ fails_to_take text_at service parts read (why.Flawed lines) are is fails = (read
 fails_to_take text_at service parts read (why.Unlisted id) are is fails = (read, (parts, are, is), fails)
 fails_to_take text_at service parts read (why.Busy holder) are is fails = absurd fails
 fails_to_take text_at service parts read (why.Shared one other) are is fails = absurd fails
+fails_to_take text_at service parts read (why.Held holder) are is fails = absurd fails
 fails_to_take text_at service parts read (why.Channel error) are is fails = absurd fails
 fails_to_take text_at service parts read (why.Inittab error) are is fails = absurd fails
 fails_to_take text_at service parts read (why.Folder path error) are is fails = absurd fails
@@ -107,7 +97,8 @@ fails_to_take text_at service parts read why.Memory are is fails = absurd fails
 -- how a run ends that a fault ended
 pub failed : (text_at : KnownTexts) (service : RunSaid) (fault : RunFault) (ending : Ending) (old : Option (List ℕ))
     → FailsBy text_at service fault → IsOfFault service fault ending → EndsRun text_at service ending old old
-failed text_at service (why.Busy holder) ending old fails is = subst (λ e. EndsRun text_at service e old old) (sym is) (refl, Keeps-refl old)
+failed text_at service (why.Busy holder) ending old fails is = subst (λ e. EndsRun text_at service e old old) (sym is) (inl refl, Keeps-refl old)
+failed text_at service (why.Held holder) ending old fails is = subst (λ e. EndsRun text_at service e old old) (sym is) (inr (some_path service.trace fails), Keeps-refl old)
 failed text_at service (why.Shared one other) ending old fails is = subst (λ e. EndsRun text_at service e old old) (sym is) (Keeps-refl old)
 failed text_at service (why.Channel error) ending old fails is = subst (λ e. EndsRun text_at service e old old) (sym is.1) (refl, Keeps-refl old)
 failed text_at service (why.Inittab error) ending old fails is = subst (λ e. EndsRun text_at service e old old) (sym is.1) (inl refl, Keeps-refl old)
@@ -122,11 +113,11 @@ failed text_at service (why.Trace error) ending old (some, (parts, are, read, ta
     subst (λ e. EndsRun text_at service e old old) (sym is.1) (parts, are, (read, taken, (some_path service.trace some, Keeps-refl old)))
 failed text_at service why.Memory ending old fails is = subst (λ e. EndsRun text_at service e old old) (sym is) (Keeps-refl old)
 
--- where memory runs out nothing is asked, whatever the words say
-pub none_asked : (text_at : KnownTexts) (said : Option InitdSaid) (own : List HostCall → Type 0) (now : Option (List HostCall))
-    → AsksSaid text_at said own no_memory now now
-none_asked text_at None own now = refl
-none_asked text_at (Some version) own now = refl
-none_asked text_at (Some (simulates run)) own now = refl
-none_asked text_at (Some (judges path)) own now = refl
-none_asked text_at (Some (runs service)) own now = refl
+-- where a run has no end of turns nothing is asked, whatever the arguments say
+pub none_asked : (text_at : KnownTexts) (said : Option InitdSaid) (own : List HostCall → Type 0) (ending : Ending) (old new : RunTold)
+    → turned_end ending ≡ None → new.calls ≡ old.calls → AsksSaid text_at said own ending old new
+none_asked text_at None own ending old new none same = same
+none_asked text_at (Some version) own ending old new none same = same
+none_asked text_at (Some (simulates run)) own ending old new none same = same
+none_asked text_at (Some (judges path)) own ending old new none same = same
+none_asked text_at (Some (runs service)) own ending old new none same = subst (λ end. RanTo text_at service own end old new) (sym none) same

@@ -27,8 +27,8 @@ pub record Judged : Type 0 where
 -- has too many files, or faults that these lines tell, or no entry of this id; the run over this script ended before its
 -- end; the writer could not be flushed; a trace is lawful, or unlawful, of which this is told, so far as it was judged; its
 -- line of this number is none; its happening at this line isn't finished, and this is the verdict up to it; the verdict
--- could not be written; the channel of a run over the operating system is in use, by whom where that is known, or two of its files
--- are one, or the channel was not locked, and why; its turns ended so, where nothing names its level or something does;
+-- could not be written; the channel or the trace of a run over the operating system is in use, by whom where that is known,
+-- or two of its files are one, or the channel was not locked, and why; its turns ended so, where nothing names its level or something does;
 -- the file of its trace was not created, and why; the faults of its inittab could not be written; the version could not be
 -- written
 pub data Ending : Type 0 where
@@ -124,10 +124,10 @@ unfinished_message line verdict =
 abbrev pub busy_message : List ℕ → Option ℕ → List ℕ
 busy_message path None =
     codes "initd: " ++ path
-    ++ codes " is in use by another initd run: end that one, or give another --initctl\n"
+    ++ codes " is in use by another initd run: end that one, or give this one a file of its own\n"
 busy_message path (Some holder) =
     codes "initd: " ++ path ++ codes " is in use by initd run " ++ decimal holder
-    ++ codes ": end that one, or give another --initctl\n"
+    ++ codes ": end that one, or give this one a file of its own\n"
 
 abbrev pub shared_message : List ℕ → List ℕ → List ℕ
 shared_message one other =

@@ -1,68 +1,85 @@
 -- Which calls a run of init makes of its host.
-use Rattle.std.specs.Prelude.{◌≡◌, ℕ, true, IsTrue, List, Option, Some, IfSome}
+use Rattle.std.specs.Prelude.{◌≡◌, ℕ, Bool, true, List, [], ◌∷◌, reverse, Option, Some, None, IfSome, ⊤}
+use Rattle.std.specs.Io.KnownBytes.{Appends}
 use Rattle.init_words.specs.Parts.{texts_of}
 use Rattle.init_words.specs.declared.entries.Entry.{Entry}
-use Rattle.inittab_text.specs.Parts.{table_of_texts}
+use Rattle.inittab_text.specs.Parts.{faults_of_parts, table_of_texts}
 use Rattle.program_io.specs.Known.{KnownTexts}
 use Rattle.initd_options.specs.CommandLine.{InitdSaid, initd_read_of, runs}
 use Rattle.initd_options.specs.Options.{RunSaid}
+use Rattle.trace_events.specs.Event.{Event}
 use Rattle.host_calls.specs.Calls.{HostCall}
 use Rattle.host_calls.specs.Record.{Since}
+use Rattle.host_system.specs.LineFaults.{faults_text}
 use Rattle.host_trace.specs.Fronts.{EachFront, GoesSoFar}
-use Rattle.host_trace.specs.Turns.{AreTurns}
+use Rattle.host_trace.specs.Turns.{MadeTurns}
 use Rattle.init_words.specs.declared.levels.Level.{Level}
 use Rattle.core_model.specs.State.{CoreState, opening_goal}
 use Rattle.core_model.specs.Decide.{is_drained}
 use Rattle.core_model.specs.Fit.{FitsAll}
-use Rattle.host_trace.specs.Leads.{are_carried, is_allowed}
-use Rattle.host_trace.specs.Point.{point_after}
-use Rattle.init_turns.specs.Opening.{IsOpening, opening_point}
+use Rattle.init_turns.specs.Opening.{IsOpening}
 use Rattle.init_turns.specs.declared.serving.Served.{Served}
 use Rattle.initd_command.specs.Turned.{End}
 use Rattle.initd_command.specs.Endings.{Ending, turned}
-use Rattle.initd_command.specs.Services.{HasInittab, IsJudged, IsServed, Noted, end_of}
+use Rattle.initd_command.specs.Services.{HasInittab, IsJudged, IsNoted, IsServed, LogEnds, Noted, TurnsFrom, end_of}
 
--- behind these calls from the opening on init is drained, as far as the answers were possible: a core that fits there is so
+-- after these calls from the opening on init is drained, as far as the answers were possible: a core that fits there is so
 abbrev pub EndsDrained : Option Level → List Entry → List HostCall → Type 0
-EndsDrained level table calls =
-    IsTrue (is_allowed (opening_goal level table) (point_after calls (opening_point table)).past)
-    → IsTrue (are_carried calls (opening_point table))
-    → (core : CoreState) × FitsAll core (opening_goal level table) (point_after calls (opening_point table)).past
-    × (is_drained core ≡ true)
+EndsDrained level table calls = TurnsFrom level table calls (λ past.
+    (core : CoreState) × FitsAll core (opening_goal level table) past × (is_drained core ≡ true))
 
--- the calls are those of turns from the opening over this table on, as many as the words of the run say, or fewer
--- where it ended drained; up to each call all went well as far as the answers until then were possible; and the turns
--- ended so
-pub record MakesTurns (service : RunSaid) (table : List Entry) (end : End) (calls : List HostCall) : Type 0 where
+-- The calls are those of turns from the opening over this table on, as many as the arguments of the run say, or fewer
+-- where it ended drained; up to each call all went well as far as the answers until then were possible; the turns ended
+-- so; and where their log was fresh, and took all of their trace, what is noted of the run is noted of that.
+pub record MakesTurns (fresh : Type 0) (service : RunSaid) (table : List Entry) (end : End) (calls : List HostCall)
+    : Type 0 where
   pub served : Served
   pub noted : Noted
-  pub turns : AreTurns service.drain (IsOpening service.level table) served.turns calls
+  pub turns : MadeTurns service.drain (IsOpening service.level table) served.turns None None calls
   pub fronts : EachFront (GoesSoFar (IsOpening service.level table)) calls
   pub drains : served.drained ≡ true → EndsDrained service.level table calls
+  pub notes : fresh → served.logged ≡ true → TurnsFrom service.level table calls (IsNoted noted)
   pub most : IsServed service served
   pub asked : IsJudged service noted
   pub ends : end ≡ end_of service noted served
 
+-- such turns, and how their log ended, if it was fresh
+abbrev pub MakesLogged : Type 0 → (Bool → List Event → Type 0) → RunSaid → List Entry → End → List HostCall → Type 0
+MakesLogged fresh has_ended service table end calls = (made : MakesTurns fresh service table end calls)
+    × (fresh → TurnsFrom service.level table calls (λ past. LogEnds has_ended made.served.logged (reverse past)))
+
+-- the end of turns, where it is one
+abbrev pub turned_end : Ending → Option End
+turned_end (turned unled end) = Some end
+turned_end _ = None
+
 -- a run over this table that comes to its turns makes them; any other asks nothing of a host
-abbrev pub RanOver : RunSaid → List Entry → Ending → Option (List HostCall) → Option (List HostCall) → Type 0
-RanOver service table (turned unled end) old new = Since old new (MakesTurns service table end)
-RanOver service table _ old new = new ≡ old
+abbrev pub RanOver : RunSaid → List Entry → Option End → Option (List HostCall) → Option (List HostCall) → Type 0
+RanOver service table (Some end) old new = Since old new (MakesTurns ⊤ service table end)
+RanOver service table None old new = new ≡ old
 
--- a run that comes to its turns makes them over the inittab at its paths, and of all the calls that are told then `own`
--- is so; any other asks nothing of a host
-abbrev pub RanBy : KnownTexts → RunSaid → (List HostCall → Type 0) → Ending → Option (List HostCall)
-    → Option (List HostCall) → Type 0
-RanBy text_at service own (turned unled end) old new =
-    HasInittab text_at service (λ parts. Since old new (MakesTurns service (table_of_texts (texts_of parts)) end))
-    × IfSome new own
-RanBy text_at service own _ old new = new ≡ old
+-- what is told of a run: the arguments by which its hosts were opened, the calls that these were asked, and what it wrote
+pub record RunTold : Type 0 where
+  pub opened : Option (List RunSaid)
+  pub calls : Option (List HostCall)
+  pub out : Option (List ℕ)
 
--- what words ask of hosts: those of a run what the run asks, any others nothing
-abbrev pub AsksSaid : KnownTexts → Option InitdSaid → (List HostCall → Type 0) → Ending → Option (List HostCall)
-    → Option (List HostCall) → Type 0
+-- A run that comes to its turns makes them over the inittab at its paths, whose faults it tells, by a host that is
+-- opened by its arguments; and of all the calls that are told then `own` is so. Any other asks nothing of a host.
+abbrev pub RanTo : KnownTexts → RunSaid → (List HostCall → Type 0) → Option End → RunTold → RunTold → Type 0
+RanTo text_at service own (Some end) old new =
+    HasInittab text_at service (λ parts. Since old.calls new.calls (MakesTurns ⊤ service (table_of_texts (texts_of parts)) end)
+    × Appends old.out new.out (faults_text parts (faults_of_parts (texts_of parts))))
+    × Since old.opened new.opened (λ saids. saids ≡ service ∷ []) × IfSome new.calls own
+RanTo text_at service own None old new = new.calls ≡ old.calls
+
+abbrev pub RanBy : KnownTexts → RunSaid → (List HostCall → Type 0) → Ending → RunTold → RunTold → Type 0
+RanBy text_at service own ending old new = RanTo text_at service own (turned_end ending) old new
+
+-- what arguments ask of hosts: those of a run what the run asks, any others nothing
+abbrev pub AsksSaid : KnownTexts → Option InitdSaid → (List HostCall → Type 0) → Ending → RunTold → RunTold → Type 0
 AsksSaid text_at (Some (runs service)) own ending old new = RanBy text_at service own ending old new
-AsksSaid text_at _ own ending old new = new ≡ old
+AsksSaid text_at _ own ending old new = new.calls ≡ old.calls
 
-abbrev pub AsksBy : KnownTexts → List (List ℕ) → (List HostCall → Type 0) → Ending → Option (List HostCall)
-    → Option (List HostCall) → Type 0
+abbrev pub AsksBy : KnownTexts → List (List ℕ) → (List HostCall → Type 0) → Ending → RunTold → RunTold → Type 0
 AsksBy text_at words own ending old new = AsksSaid text_at (initd_read_of words) own ending old new

@@ -105,11 +105,6 @@ EndsServed service end =
     (served : Served) × (noted : Noted) × (end ≡ end_of service noted served) × IsServed service served
     × IsJudged service noted
 
--- turns were made, with this exit status, and this was reported of their end
-abbrev pub Turns : RunSaid → ℕ → Option (List ℕ) → Option (List ℕ) → Type 0
-Turns service status old new =
-    (end : End) × (status ≡ end_status end) × EndsServed service end × ReportsEnd end old new
-
 -- they are the notes of this trace, the newest happening first
 pub record IsNoted (noted : Noted) (past : List Event) : Type 0 where
   pub births : noted.births ≡ min (births past) BIRTHS_LIMIT
@@ -125,16 +120,8 @@ LogEnds has_ended true trace = has_ended true trace
 LogEnds has_ended false trace = (taken : List Event) × (missed : List Event) × (taken ++ missed ≡ trace)
     × (whole : Bool) × has_ended whole taken
 
--- the same of turns that made this trace: where it was taken whole, what is noted is noted of it; and so its log has
--- ended
-abbrev pub TurnsOver : (Bool → List Event → Type 0) → RunSaid → ℕ → Option (List ℕ) → Option (List ℕ) → List Event
-    → Type 0
-TurnsOver has_ended service status old new past =
-    (served : Served) × (noted : Noted) × (status ≡ end_status (end_of service noted served)) × IsServed service served
-    × IsJudged service noted × (served.logged ≡ true → IsNoted noted past)
-    × LogEnds has_ended served.logged (reverse past) × ReportsEnd (end_of service noted served) old new
-
--- the same over a host that tells the calls that were made of it, where they are those of an opening
+-- so it is of the trace of these calls from the opening on, as far as the answers to them were possible, and the texts
+-- that were carried came back as they may
 abbrev pub TurnsFrom : Option Level → List Entry → List HostCall → (List Event → Type 0) → Type 0
 TurnsFrom level table calls So =
     IsTrue (is_allowed (opening_goal level table) (point_after calls (opening_point table)).past)
@@ -172,10 +159,11 @@ EndsOver service parts ending old new =
     × EndsTold service (is_unled service.level (table_of_texts (texts_of parts)))
     (faults_text parts (faults_of_parts (texts_of parts))) ending old new
 
--- how a run ends: two of its files are one, or its channel is in use or not locked, or a file of its inittab not read, or
--- there is no memory to read them, and nothing written, or it ends over what was read
+-- how a run ends: two of its files are one, or its channel or its trace is in use, or its channel not locked, or a file of
+-- its inittab not read, or there is no memory to read them, and nothing written, or it ends over what was read
 abbrev pub EndsRun : KnownTexts → RunSaid → Ending → Option (List ℕ) → Option (List ℕ) → Type 0
-EndsRun text_at service (busy path holder) old new = (path ≡ service.initctl) × Keeps old new
+EndsRun text_at service (busy path holder) old new =
+    ((path ≡ service.initctl) ⊎ (service.trace ≡ Some path)) × Keeps old new
 EndsRun text_at service (shared one other) old new = Keeps old new
 EndsRun text_at service (unlocked path why) old new = (path ≡ service.initctl) × Keeps old new
 EndsRun text_at service (unread path why) old new =
@@ -249,6 +237,7 @@ abbrev pub FailsOver : RunSaid → RunFault → Type 0
 FailsOver service (why.Busy holder) = ⊤
 FailsOver service (why.Channel error) = ⊤
 FailsOver service (why.Trace error) = IsSome service.trace
+FailsOver service (why.Held holder) = IsSome service.trace
 FailsOver service why.Memory = ⊤
 FailsOver service _ = ⊥
 
@@ -256,6 +245,7 @@ abbrev pub FailsBy : KnownTexts → RunSaid → RunFault → Type 0
 FailsBy text_at service (why.Busy holder) = ⊤
 FailsBy text_at service (why.Shared one other) = ⊤
 FailsBy text_at service (why.Channel error) = ⊤
+FailsBy text_at service (why.Held holder) = IsSome service.trace
 FailsBy text_at service (why.Trace error) =
     IsSome service.trace × HasInittab text_at service (λ parts.
     is_taken service (faults_text parts (faults_of_parts (texts_of parts))) (table_of_texts (texts_of parts)) ≡ true)
@@ -264,6 +254,7 @@ FailsBy text_at service fault = FailsToRead text_at service fault
 -- the ending that such a fault is
 abbrev pub IsOfFault : RunSaid → RunFault → Ending → Type 0
 IsOfFault service (why.Busy holder) ending = ending ≡ busy service.initctl holder
+IsOfFault service (why.Held holder) ending = ending ≡ busy (unwrap_or service.trace []) holder
 IsOfFault service (why.Shared one other) ending = ending ≡ shared (string_bytes one) (string_bytes other)
 IsOfFault service (why.Channel error) ending = (reason : List ℕ) × (ending ≡ unlocked service.initctl reason)
 IsOfFault service (why.Inittab error) ending = (reason : List ℕ) × (ending ≡ unread service.inittab reason)

@@ -78,7 +78,7 @@ pub fn run_words<R, T, H, S, W, E>(
     err: &mut E,
 ) -> u8
 where
-    R: Files<File = File> + Eprint + Clock,
+    R: Files<File = File> + Alloc + Eprint + Clock,
     T: Texts,
     H: Host + Drop,
     S: Hosts<H>,
@@ -89,7 +89,8 @@ where
         (W.contents out.old) (W.contents out.new)
         × Reports ending (E.contents err.old) (E.contents err.new)
         × AsksBy (T.text_at texts.now) (map string_bytes words.items) S.own ending
-        (S.told hosts.old) (S.told hosts.new) }
+        (record { opened = S.opened hosts.old; calls = S.told hosts.old; out = W.contents out.old })
+        (record { opened = S.opened hosts.new; calls = S.told hosts.new; out = W.contents out.new }) }
 {
     match read_words(alloc, words.as_slice()) {
         Ok(Words::Version) => tell_version(out, err),

@@ -1,7 +1,9 @@
 //! Where the host of a run comes from.
 
-ghost use Rattle.std.specs.Prelude.{◌≡◌, List, Option, IfOk, IfSome, OnErr};
+ghost use Rattle.std.specs.Prelude.{◌≡◌, ◌∷◌, [], List, Option, IfOk, IfSome, OnErr, OnOk};
 ghost use Rattle.host_calls.specs.Calls.{HostCall};
+ghost use Rattle.host_calls.specs.Record.{Since};
+ghost use Rattle.initd_options.specs.Options.{RunSaid, run_of};
 
 use host_calls::Host;
 use init_words::Memory;
@@ -17,16 +19,22 @@ pub trait Hosts<H: Host> {
     /// The calls of its hosts with their answers, the newest first. None from the first call that isn't told.
     ghost told: { Self → Option (List HostCall) };
 
+    /// The arguments by which its hosts were opened, the newest first. None from the first opening that isn't told.
+    ghost opened: { Self → Option (List RunSaid) };
+
     /// What is so of all the calls that its hosts were asked, where they are told.
     ghost own: { List HostCall → Type 0 };
 
-    /// The host that the words of a run name, under the lock of its channel. It tells what was told before.
+    /// The host that the arguments of a run name, under the lock of its channel. It tells what was told before.
     fn open(&mut self, alloc: Global, said: &RunWords, lock: ChannelLock) -> Result<H, Memory>
         ensures told { IfOk result (λ host. H.told host ≡ told self.old) }
+        ensures opened { OnOk result (Since (opened self.old) (opened self.new)
+            (λ saids. saids ≡ run_of said.now ∷ [])) }
         ensures err { OnErr result (told self.new ≡ told self.old) };
 
     /// Takes a host back.
     fn close(&mut self, host: H)
         ensures told { told self.new ≡ H.told host }
+        ensures opened { opened self.new ≡ opened self.old }
         ensures own { IfSome (told self.new) own };
 }

@@ -2,7 +2,7 @@
 
 use program_io::write_text;
 use std::alloc::{Allocator, Global};
-use std::fs::{File, OpenOptions};
+use std::fs::{File, OpenOptions, TryLockError};
 use std::io;
 use std::io::{ErrorKind, Write};
 use std::rt::Files;
@@ -39,6 +39,24 @@ impl EndedLog for NoLog {
     fn end(self) -> ((), bool) {
         ((), true)
     }
+}
+
+/// How often the lock of a trace is asked for, since one that asks whether an init lives holds it too, for a moment.
+const LOCK_TRIES: u32 = 100;
+
+/// Another run holds the lock of a trace, a plain file. Else it is taken, where the file system has locks: it is released
+/// where the file is dropped, and tells until then that init lives.
+pub(crate) fn is_held(file: &File) -> bool {
+    if !file.metadata().is_ok_and(|found| found.is_file()) {
+        return false;
+    }
+    for _ in 0..LOCK_TRIES {
+        match file.try_lock() {
+            Err(TryLockError::WouldBlock) => {}
+            Ok(()) | Err(TryLockError::Error(_)) => return false,
+        }
+    }
+    true
 }
 
 /// How many bytes of a trace are kept while its file can't be written.
@@ -261,6 +279,7 @@ impl<'a, R: Files<File = File> + Eprint> FileLog<'a, R> {
             .open(self.rt, path);
         let _ = match created {
             Ok(file) => {
+                let _ = is_held(&file);
                 self.go_on_in(file, is_torn);
                 say_resumed(self.rt, path, is_torn)
             }

@@ -55,12 +55,14 @@ impl<R: Processes + Files<File = File> + Clock + Print + Eprint + Clone + Drop> 
 impl<R: Processes + Files<File = File> + Clock + Print + Eprint + Clone + Drop> Hosts<
     Telling<OsHost<StampedRuntime<R>>>,
 > for OsHosts<R> {
-    ghost use Rattle.std.specs.Prelude.{◌≡◌, Some, IfOk};
+    ghost use Rattle.std.specs.Prelude.{◌≡◌, Some, None, IfOk};
     ghost use Rattle.host_calls.specs.Held.{AreOwn, HeldChildren};
     ghost use Rattle.initd_options.specs.Options.{run_of};
     ghost use Rattle.initd_command.specs.Hosts.{host_said};
 
     ghost told = { λ hosts. Some hosts };
+
+    ghost opened = { λ _. None };
 
     ghost own = { λ calls. (held : HeldChildren) × AreOwn calls held };
 

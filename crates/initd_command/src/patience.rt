@@ -47,6 +47,10 @@ impl<'a, R> Patience<'a, R> {
 }
 
 impl<'a, R: Eprint> Watch<Global> for Patience<'a, R> {
+    ghost use Rattle.std.specs.Prelude.{None};
+
+    ghost seen = { λ _. None };
+
     fn look(&mut self, core: &Core) {
         if !self.is_asked || !self.is_over(core) {
             return;

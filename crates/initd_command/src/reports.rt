@@ -115,8 +115,8 @@ fn cannot_message_with(
     format!(in alloc; "initd: cannot {verb} {path}: {why}\n")
 }
 
-/// Reports that another run reads the channel of requests, by its process number where that is known, and gives the
-/// exit status.
+/// Reports that another run has the channel of requests or the trace, by its process number where that is known, and
+/// gives the exit status.
 pub(crate) fn report_busy<E: Write>(
     alloc: Global,
     path: &str,
@@ -144,7 +144,7 @@ fn held_message(alloc: Global, path: &str, number: u32) -> Result<String, AllocE
     ensures { IfOk result (λ text. string_bytes text ≡ busy_message path.now (Some number)) }
 {
     format!(in alloc;
-        "initd: {path} is in use by initd run {number}: end that one, or give another --initctl\n"
+        "initd: {path} is in use by initd run {number}: end that one, or give this one a file of its own\n"
     )
 }
 
@@ -152,7 +152,7 @@ fn unheld_message(alloc: Global, path: &str) -> Result<String, AllocError>
     ensures { IfOk result (λ text. string_bytes text ≡ busy_message path.now None) }
 {
     format!(in alloc;
-        "initd: {path} is in use by another initd run: end that one, or give another --initctl\n"
+        "initd: {path} is in use by another initd run: end that one, or give this one a file of its own\n"
     )
 }
 

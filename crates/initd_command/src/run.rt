@@ -1,22 +1,21 @@
 //! `initd run`: what it stands on, and its turns.
 
-ghost use Rattle.std.specs.Prelude.{◌≡◌, ◌∷◌, ◌&&◌, true, List, Option, None, Some, [], option_map, unwrap_or, IfErr, IfOk, IfSome, OnErr};
+ghost use Rattle.std.specs.Prelude.{◌≡◌, ◌∷◌, ◌&&◌, true, List, Option, None, Some, [], option_map, unwrap_or, IfErr, IfOk, IfSome, OnErr, OnOk, ⊤};
 ghost use Rattle.init_words.specs.Parts.{NamedText, texts_of};
 ghost use Rattle.inittab_text.specs.Parts.{faults_of_parts, table_of_texts};
 ghost use Rattle.initd_command.specs.Endings.{Ending, Reports, ReportsUnled, status_of};
-ghost use Rattle.initd_command.specs.Ran.{MakesTurns, RanBy, RanOver};
+ghost use Rattle.initd_command.specs.Ran.{MakesLogged, MakesTurns, RanBy, RanOver, turned_end};
 ghost use Rattle.initd_command.specs.Turned.{End, ReportsEnd, end_status};
 ghost use Rattle.init_words.specs.declared.entries.Entry.{Entry};
-ghost use Rattle.init_words.specs.declared.levels.Level.{Level};
 ghost use Rattle.host_calls.specs.Record.{Since};
 ghost use Rattle.init_turns.specs.Opening.{IsOpeningOf};
 ghost use Rattle.host_system.specs.LineFaults.{faults_text};
 ghost use Rattle.initd_options.specs.Options.{run_of};
-ghost use Rattle.initd_command.specs.Services.{AreFiles, EndsRun, EndsServed, EndsTold, FailsBy, FailsOn, FailsOver, FailsToGet, FailsToLock, FailsToPart, FailsToRead, FailsToTake, HasInittab, IsInittab, IsOfFault, IsReadOf, Turns, TurnsFrom, TurnsOver, has_result, is_taken, is_unled, judgement_for};
+ghost use Rattle.initd_command.specs.Services.{AreFiles, EndsRun, EndsServed, EndsTold, FailsBy, FailsOn, FailsOver, FailsToGet, FailsToLock, FailsToPart, FailsToRead, FailsToTake, HasInittab, IsInittab, IsOfFault, IsReadOf, has_result, is_taken, is_unled, judgement_for};
 
 use crate::ends::report_end;
 use crate::hosts::Hosts;
-use crate::logs::{FileLog, NoLog};
+use crate::logs::{FileLog, NoLog, is_held};
 use crate::patience::Patience;
 use crate::reports::{
     report, report_busy, report_cannot, report_fault, report_flawed, report_memory, report_shared,
@@ -33,9 +32,9 @@ use program_io::{
 };
 use simulator::SimFault;
 use std::alloc::{AllocError, Global};
-use std::fs::{File, OpenOptions, remove_file, symlink_metadata};
+use std::fs::{File, OpenOptions, canonicalize, metadata, remove_file};
 use std::io;
-use std::io::{ErrorKind, Write};
+use std::io::Write;
 use std::rt::{Clock, Files};
 use trace_log::EndedLog;
 use trace_log_wrappers::{BriefLog, JudgedLog, Judgement, NotedLog};
@@ -70,6 +69,8 @@ enum RunFault {
     Unlisted(Id),
     /// The file of the trace could not be opened or made.
     Trace(io::Error),
+    /// Another run writes the trace; its process number, where that is known.
+    Held(Option<u32>),
     /// Out of memory.
     Memory,
 }
@@ -136,13 +137,14 @@ pub(crate) fn run_files<R, T: Texts, H: Host + Drop, S: Hosts<H>, W: Write, E: W
     err: &mut E,
 ) -> u8
 where
-    R: Files<File = File> + Eprint + Clock,
+    R: Files<File = File> + Alloc + Eprint + Clock,
     ensures { (ending : Ending) × (result ≡ status_of ending)
         × EndsRun (T.text_at texts.now) (run_of said.now) ending
         (W.contents out.old) (W.contents out.new)
         × Reports ending (E.contents err.old) (E.contents err.new)
-        × RanBy (T.text_at texts.now) (run_of said.now) S.own ending (S.told hosts.old)
-        (S.told hosts.new) }
+        × RanBy (T.text_at texts.now) (run_of said.now) S.own ending
+        (record { opened = S.opened hosts.old; calls = S.told hosts.old; out = W.contents out.old })
+        (record { opened = S.opened hosts.new; calls = S.told hosts.new; out = W.contents out.new }) }
 {
     match open_run(rt, texts, hosts, alloc, said) {
         Ok(run) => make_run(rt, hosts, alloc, said, run, out, err),
@@ -160,13 +162,15 @@ fn open_run<R, T: Texts, H: Host + Drop, S: Hosts<H>>(
     said: &RunWords,
 ) -> Result<Run<H>, RunFault>
 where
-    R: Files<File = File> + Eprint,
+    R: Files<File = File> + Alloc + Eprint,
     ensures ok { IfOk result (λ run. HasInittab (T.text_at texts.now) (run_of said.now)
         (λ parts. (run.faults.items ≡ faults_text parts (faults_of_parts (texts_of parts)))
         × (run.is_unled ≡ is_unled said.now.level (table_of_texts (texts_of parts)))
         × (is_taken (run_of said.now) run.faults.items (table_of_texts (texts_of parts)) ≡ true)
         × IsOpeningOf said.now.level (table_of_texts (texts_of parts)) run.opening)) }
     ensures host { IfOk result (λ run. H.told run.host ≡ S.told hosts.old) }
+    ensures opened { OnOk result (Since (S.opened hosts.old) (S.opened hosts.new)
+        (λ saids. saids ≡ run_of said.now ∷ [])) }
     ensures err { IfErr result (FailsBy (T.text_at texts.now) (run_of said.now)) }
     ensures unasked { OnErr result (S.told hosts.new ≡ S.told hosts.old) }
 {
@@ -184,9 +188,11 @@ fn open_over<R, H: Host + Drop, S: Hosts<H>>(
     inittab: Inittab,
 ) -> Result<Run<H>, RunFault>
 where
-    R: Files<File = File>,
+    R: Files<File = File> + Alloc,
     ensures opening { IfOk result (λ run. IsOpeningOf said.now.level inittab.table run.opening) }
     ensures host { IfOk result (λ run. H.told run.host ≡ S.told hosts.old) }
+    ensures opened { OnOk result (Since (S.opened hosts.old) (S.opened hosts.new)
+        (λ saids. saids ≡ run_of said.now ∷ [])) }
     ensures unasked { OnErr result (S.told hosts.new ≡ S.told hosts.old) }
     ensures faults { IfOk result (λ run. run.faults.items ≡ inittab.faults.items) }
     ensures unled { IfOk result (λ run. run.is_unled ≡ is_unled said.now.level inittab.table) }
@@ -195,7 +201,7 @@ where
     let Inittab { table, faults } = inittab;
     let is_unled = is_unled(said.level, &table);
     let opening = Opening::new(alloc, table, said.level)?;
-    let (trace, made_trace) = open_trace(rt, said)?;
+    let (trace, made_trace) = open_trace(rt, alloc, said)?;
     let (host, made_channel) = match open_host(rt, hosts, alloc, said) {
         Ok(opened) => opened,
         Err(fault) => {
@@ -217,13 +223,15 @@ where
 }
 
 /// The host under the lock of the channel, and whether the channel was made.
-fn open_host<R: Files<File = File>, H: Host + Drop, S: Hosts<H>>(
+fn open_host<R: Files<File = File> + Alloc, H: Host + Drop, S: Hosts<H>>(
     rt: &R,
     hosts: &mut S,
     alloc: Global,
     said: &RunWords,
 ) -> Result<(H, bool), RunFault>
     ensures host { IfOk result (λ opened. H.told opened.0 ≡ S.told hosts.old) }
+    ensures opened { OnOk result (Since (S.opened hosts.old) (S.opened hosts.new)
+        (λ saids. saids ≡ run_of said.now ∷ [])) }
     ensures unasked { OnErr result (S.told hosts.new ≡ S.told hosts.old) }
     ensures err { IfErr result (FailsOver (run_of said.now)) }
 {
@@ -239,10 +247,13 @@ fn open_host<R: Files<File = File>, H: Host + Drop, S: Hosts<H>>(
     }
 }
 
-/// Removes a file that the run made, where it did. A link stays.
-fn take_away<R: Files>(rt: &R, path: &str, was_made: bool) {
-    if was_made && symlink_metadata(rt, path).is_ok_and(|found| found.is_file()) {
-        let _ = remove_file(rt, path);
+/// Removes a file that the run made, where it did. Where a link leads to it, the link stays.
+fn take_away<R: Files + Alloc>(rt: &R, path: &str, was_made: bool) {
+    if !was_made {
+        return;
+    }
+    if let Ok(file) = canonicalize(rt, path) {
+        let _ = remove_file(rt, file);
     }
 }
 
@@ -403,9 +414,10 @@ fn read_inittab<R: Files + Eprint, T: Texts>(
     taken(said, inittab)
 }
 
-/// The file of the trace as it is, where one is to be written, and whether it was made.
+/// The file of the trace as it is, under its lock, where one is to be written, and whether it was made.
 fn open_trace<R: Files<File = File>>(
     rt: &R,
+    alloc: Global,
     said: &RunWords,
 ) -> Result<(Option<File>, bool), RunFault>
     ensures { IfErr result (FailsOver (run_of said.now)) }
@@ -414,29 +426,24 @@ fn open_trace<R: Files<File = File>>(
         return Ok((None, false));
     };
     match opened(rt, path.as_str()) {
-        Ok((file, was_made)) => Ok((Some(file), was_made)),
+        Ok((Some(file), was_made)) => Ok((Some(file), was_made)),
+        Ok((None, _)) => Err(RunFault::Held(lock_holder(rt, alloc, path.as_str()))),
         Err(error) => Err(RunFault::Trace(error)),
     }
 }
 
-/// A file to write to, as it is, and whether it was made. Outside of `/dev/` a FIFO is refused, since it would wait for
-/// its reader, and a device.
-fn opened<R: Files>(rt: &R, path: &str) -> io::Result<(R::File, bool)> {
+/// A file to write to, as it is, and whether it was made; no file where another run holds its lock. Outside of `/dev/` a
+/// FIFO is refused, since it would wait for its reader, and a device.
+fn opened<R: Files<File = File>>(rt: &R, path: &str) -> io::Result<(Option<File>, bool)> {
     if !path.starts_with("/dev/") {
         refuse_special(rt, path)?;
     }
-    let made = OpenOptions::new()
-        .write(true)
-        .create_new(true)
-        .open(rt, path);
-    match made {
-        Ok(file) => Ok((file, true)),
-        Err(error) if error.kind() == ErrorKind::AlreadyExists => {
-            let file = OpenOptions::new().write(true).create(true).open(rt, path)?;
-            Ok((file, false))
-        }
-        Err(error) => Err(error),
+    let was_missing = metadata(rt, path).is_err();
+    let file = OpenOptions::new().write(true).create(true).open(rt, path)?;
+    if is_held(&file) {
+        return Ok((None, false));
     }
+    Ok((Some(file), was_missing))
 }
 
 /// Reports why a run ended before its first turn, and gives the exit status.
@@ -461,6 +468,7 @@ fn report_run_fault<E: Write>(alloc: Global, said: &RunWords, fault: &RunFault, 
         RunFault::Flawed(faults) => report_flawed(faults, err),
         RunFault::Unlisted(id) => report_unlisted(alloc, id, err),
         RunFault::Trace(error) => report_cannot(alloc, "create", trace_of(said), error, err),
+        RunFault::Held(holder) => report_busy(alloc, trace_of(said), *holder, err),
         RunFault::Memory => report_memory(err),
     }
 }
@@ -486,14 +494,16 @@ fn make_run<R, H: Host + Drop, S: Hosts<H>, W: Write, E: Write>(
     err: &mut E,
 ) -> u8
 where
-    R: Files<File = File> + Eprint + Clock,
+    R: Files<File = File> + Alloc + Eprint + Clock,
     ensures ended { (ending : Ending) × (result ≡ status_of ending)
         × EndsTold (run_of said.now) run.is_unled run.faults.items ending
         (W.contents out.old) (W.contents out.new)
         × Reports ending (E.contents err.old) (E.contents err.new)
         × ((table : List Entry) → IsOpeningOf (run_of said.now).level table run.opening
-        → RanOver (run_of said.now) table ending (H.told run.host) (S.told hosts.new)) }
+        → RanOver (run_of said.now) table (turned_end ending) (H.told run.host)
+        (S.told hosts.new)) }
     ensures own { IfSome (S.told hosts.new) S.own }
+    ensures opened { S.opened hosts.new ≡ S.opened hosts.old }
 {
     let Run {
         opening,
@@ -532,7 +542,7 @@ where
     ensures { (end : End) × (result ≡ end_status end) × EndsServed (run_of said.now) end
         × ReportsEnd end (E.contents err.old) (E.contents err.new)
         × ((table : List Entry) → IsOpeningOf (run_of said.now).level table opening
-        → Since (H.told host.old) (H.told host.new) (MakesTurns (run_of said.now) table end)) }
+        → Since (H.told host.old) (H.told host.new) (MakesTurns ⊤ (run_of said.now) table end)) }
 {
     let Some(file) = trace else {
         return make_turns(rt, alloc, said, opening, host, NoLog {}, err).0;
@@ -568,16 +578,11 @@ pub fn make_turns<R: Eprint, H: Host, L: EndedLog, E: Write>(
 ) -> (u8, L::Left)
 where
     L: Drop,
-    ensures turns { Turns (run_of said.now) result.0 (E.contents err.old) (E.contents err.new) }
-    ensures made { (end : End) × (result.0 ≡ end_status end) × EndsServed (run_of said.now) end
+    ensures { (end : End) × (result.0 ≡ end_status end) × EndsServed (run_of said.now) end
         × ReportsEnd end (E.contents err.old) (E.contents err.new)
         × ((table : List Entry) → IsOpeningOf (run_of said.now).level table opening
-        → Since (H.told host.old) (H.told host.new) (MakesTurns (run_of said.now) table end)) }
-    ensures told { (level : Option Level) (table : List Entry) → IsOpeningOf level table opening
-        → (L.state log).taken []
-        → Since (H.told host.old) (H.told host.new) (λ calls. TurnsFrom level table calls
-        (TurnsOver (L.has_ended result.1) (run_of said.now) result.0
-        (E.contents err.old) (E.contents err.new))) }
+        → Since (H.told host.old) (H.told host.new) (MakesLogged ((L.state log).taken [])
+        (L.has_ended result.1) (run_of said.now) table end)) }
 {
     let judged = JudgedLog::new(rt, alloc, log, said.judge);
     let mut noted = NotedLog::new(alloc, judged);

@@ -1,6 +1,6 @@
 //! Whole command lines of `initd run` over a scripted host and texts in memory: which calls a run makes of its host.
 
-ghost use Rattle.std.specs.Prelude.{⊤, option_and_then};
+ghost use Rattle.std.specs.Prelude.{⊤, None, option_and_then};
 
 use host_calls::{Call, Host, Reply};
 use host_scripted::MemoryHost;
@@ -20,6 +20,8 @@ struct OneHost {
 
 impl Hosts<MemoryHost> for OneHost {
     ghost told = { λ one. option_and_then ⟦<MemoryHost as Host>⟧.told one.host };
+
+    ghost opened = { λ _. None };
 
     ghost own = { λ _. ⊤ };
 

@@ -66,30 +66,30 @@ pub returns-in-Ok-Simulate : goal.returns-in-Ok-Simulate
 returns-in-Ok-Simulate g c =
     let (ending, status, ends, reported) = c.simulate_files.ensures in
     let is : initd_read_of (map string_bytes c.args.words.items) ≡ Some (simulates (simulation_of c.in-Ok-Simulate.said)) = search rules in
-    (ending, status, ends_by (g.T.Texts.text_at c.args.texts.now) (map string_bytes c.args.words.items) (simulates (simulation_of c.in-Ok-Simulate.said)) is ending (g.W.Write.contents c.args.out.now) (g.W.Write.contents c.simulate_files.new.out) ends, reported, subst (λ said. AsksSaid (g.T.Texts.text_at c.args.texts.now) said g.S.Hosts.own ending (g.S.Hosts.told c.args.hosts.now) (g.S.Hosts.told c.args.hosts.now)) (sym is) refl)
+    (ending, status, ends_by (g.T.Texts.text_at c.args.texts.now) (map string_bytes c.args.words.items) (simulates (simulation_of c.in-Ok-Simulate.said)) is ending (g.W.Write.contents c.args.out.now) (g.W.Write.contents c.simulate_files.new.out) ends, reported, subst (λ said. AsksSaid (g.T.Texts.text_at c.args.texts.now) said g.S.Hosts.own ending _ _) (sym is) refl)
 
 pub returns-in-Ok-Check : goal.returns-in-Ok-Check
 returns-in-Ok-Check g c =
     let (ending, status, ends, reported) = c.check_file.ensures in
     let is : initd_read_of (map string_bytes c.args.words.items) ≡ Some (judges (check_of c.in-Ok-Check.said)) = search rules in
-    (ending, status, ends_by (g.T.Texts.text_at c.args.texts.now) (map string_bytes c.args.words.items) (judges (check_of c.in-Ok-Check.said)) is ending (g.W.Write.contents c.args.out.now) (g.W.Write.contents c.check_file.new.out) ends, reported, subst (λ said. AsksSaid (g.T.Texts.text_at c.args.texts.now) said g.S.Hosts.own ending (g.S.Hosts.told c.args.hosts.now) (g.S.Hosts.told c.args.hosts.now)) (sym is) refl)
+    (ending, status, ends_by (g.T.Texts.text_at c.args.texts.now) (map string_bytes c.args.words.items) (judges (check_of c.in-Ok-Check.said)) is ending (g.W.Write.contents c.args.out.now) (g.W.Write.contents c.check_file.new.out) ends, reported, subst (λ said. AsksSaid (g.T.Texts.text_at c.args.texts.now) said g.S.Hosts.own ending _ _) (sym is) refl)
 
 pub returns-in-Ok-Run : goal.returns-in-Ok-Run
 returns-in-Ok-Run g c =
     let (ending, status, ends, reported, ran) = c.run_files.ensures in
     let is : initd_read_of (map string_bytes c.args.words.items) ≡ Some (runs (run_of c.in-Ok-Run.said)) = search rules in
-    (ending, status, ends_by (g.T.Texts.text_at c.args.texts.now) (map string_bytes c.args.words.items) (runs (run_of c.in-Ok-Run.said)) is ending (g.W.Write.contents c.args.out.now) (g.W.Write.contents c.run_files.new.out) ends, reported, subst (λ said. AsksSaid (g.T.Texts.text_at c.args.texts.now) said g.S.Hosts.own ending (g.S.Hosts.told c.args.hosts.now) (g.S.Hosts.told c.run_files.new.hosts)) (sym is) ran)
+    (ending, status, ends_by (g.T.Texts.text_at c.args.texts.now) (map string_bytes c.args.words.items) (runs (run_of c.in-Ok-Run.said)) is ending (g.W.Write.contents c.args.out.now) (g.W.Write.contents c.run_files.new.out) ends, reported, subst (λ said. AsksSaid (g.T.Texts.text_at c.args.texts.now) said g.S.Hosts.own ending _ _) (sym is) ran)
 
 pub returns-in-Ok-Version : goal.returns-in-Ok-Version
 returns-in-Ok-Version g c =
     let (ending, status, ends, reported) = c.tell_version.ensures in
     let is : initd_read_of (map string_bytes c.args.words.items) ≡ Some version = search rules in
-    (ending, status, ends_by (g.T.Texts.text_at c.args.texts.now) (map string_bytes c.args.words.items) version is ending (g.W.Write.contents c.args.out.now) (g.W.Write.contents c.tell_version.new.out) ends, reported, subst (λ said. AsksSaid (g.T.Texts.text_at c.args.texts.now) said g.S.Hosts.own ending (g.S.Hosts.told c.args.hosts.now) (g.S.Hosts.told c.args.hosts.now)) (sym is) refl)
+    (ending, status, ends_by (g.T.Texts.text_at c.args.texts.now) (map string_bytes c.args.words.items) version is ending (g.W.Write.contents c.args.out.now) (g.W.Write.contents c.tell_version.new.out) ends, reported, subst (λ said. AsksSaid (g.T.Texts.text_at c.args.texts.now) said g.S.Hosts.own ending _ _) (sym is) refl)
 
 pub returns-in-Err-Usage : goal.returns-in-Err-Usage
 returns-in-Err-Usage g c =
     let none : initd_read_of (map string_bytes c.args.words.items) ≡ None = search rules in
-    (usage c.as_str.result.now, c.report_refused_words.ensures.status, (none, Keeps-refl (g.W.Write.contents c.args.out.now)), c.report_refused_words.ensures.report, subst (λ said. AsksSaid (g.T.Texts.text_at c.args.texts.now) said g.S.Hosts.own (usage c.as_str.result.now) (g.S.Hosts.told c.args.hosts.now) (g.S.Hosts.told c.args.hosts.now)) (sym none) refl)
+    (usage c.as_str.result.now, c.report_refused_words.ensures.status, (none, Keeps-refl (g.W.Write.contents c.args.out.now)), c.report_refused_words.ensures.report, subst (λ said. AsksSaid (g.T.Texts.text_at c.args.texts.now) said g.S.Hosts.own (usage c.as_str.result.now) _ _) (sym none) refl)
 
 pub returns : goal.returns
-returns g c = (no_memory, c.report_memory.ensures.status, Keeps-refl (g.W.Write.contents c.args.out.now), c.report_memory.ensures.reported, none_asked (g.T.Texts.text_at c.args.texts.now) (initd_read_of (map string_bytes c.args.words.items)) g.S.Hosts.own (g.S.Hosts.told c.args.hosts.now))
+returns g c = (no_memory, c.report_memory.ensures.status, Keeps-refl (g.W.Write.contents c.args.out.now), c.report_memory.ensures.reported, none_asked (g.T.Texts.text_at c.args.texts.now) (initd_read_of (map string_bytes c.args.words.items)) g.S.Hosts.own no_memory _ _ refl refl)

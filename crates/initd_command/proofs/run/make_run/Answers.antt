@@ -1,4 +1,4 @@
-use Rattle.std.proofs.Common.{rules, refl, sym, subst}
+use Rattle.std.proofs.Common.{rules, refl, sym, subst, ⊤}
 use Rattle.std.specs.Io.KnownBytes.{Appends}
 use Rattle.program_io.specs.Writing.{AppendsPrefix}
 use Rattle.host_calls.specs.Record.{Since}
@@ -27,5 +27,5 @@ returns-clause-ended g c =
       told_ends service c.args.run.is_unled c.args.run.faults.items (g.W.Write.contents c.args.out.now) (g.W.Write.contents c.tell.new.out) end served
           (subst (Appends (g.W.Write.contents c.args.out.now) (g.W.Write.contents c.tell.new.out)) c.deref.ensures.value told),
       (g.E.Write.contents c.report_unled.new.err, c.report_unled.ensures, reported),
-      λ table opens. subst (λ now. Since (g.H.Host.told c.args.run.host) now (MakesTurns service table end)) (sym c.close-2.ensures.told) (made table opens),
+      λ table opens. subst (λ now. Since (g.H.Host.told c.args.run.host) now (MakesTurns ⊤ service table end)) (sym c.close-2.ensures.told) (made table opens),
     )

@@ -3,7 +3,7 @@ use Rattle.std.proofs.Common.{[], ap, subst, sym, ◌∙◌, string_bytes}
 use Rattle.initd_options.specs.Options.{run_of}
 use Rattle.initd_command.specs.Endings.{busy, flawed, no_memory, shared, stopped, too_many, uncreated, unlisted, unlocked, unread}
 use Rattle.initd_command.specs.Services.{IsOfFault}
-use Rattle.initd_command.proofs.Ended.{of_busy, of_channel, of_inittab, of_long, of_many, of_memory, of_trace, of_unlisted}
+use Rattle.initd_command.proofs.Ended.{of_busy, of_channel, of_held, of_inittab, of_long, of_many, of_memory, of_trace, of_unlisted}
 use Rattle.initd_command.proofs.run.report_run_fault.Goals as goal
 
 pub returns-in-Busy : goal.returns-in-Busy
@@ -97,6 +97,15 @@ returns-in-Trace g c =
       c.report_cannot-in-Trace.ensures.status,
       of_trace (run_of c.args.said.now) c.args.fault.now c.in-Trace.error path reason c.in-Trace.is c.trace_of.ensures,
       reported,
+    )
+
+pub returns-in-Held : goal.returns-in-Held
+returns-in-Held g c =
+    let path = c.trace_of-in-Held.result.now in (
+      busy path c.in-Held.holder,
+      c.report_busy-in-Held.ensures.status,
+      of_held (run_of c.args.said.now) c.args.fault.now path c.in-Held.holder c.in-Held.is c.trace_of-in-Held.ensures,
+      c.report_busy-in-Held.ensures.reported,
     )
 
 pub returns-in-Memory : goal.returns-in-Memory
