@@ -1,8 +1,8 @@
 -- Which calls a run made, by how it ended: none but where it came to its turns.
-use Rattle.std.proofs.Common.{◌≡◌, refl, sym, ap, subst, ◌∙◌, Bool, false, List, [], ◌∷◌, ℕ, Option, Some, None, inl, inr, ⊤}
+use Rattle.std.proofs.Common.{◌≡◌, refl, sym, ap, subst, ◌∙◌, Bool, false, List, [], ◌∷◌, ℕ, Option, Some, None, inl, inr}
 use Rattle.std.proofs.KnownBytes.{Keeps-refl}
 use Rattle.std.specs.Io.KnownBytes.{Appends}
-use Rattle.std.specs.Prelude.{IfSome, IsSome, unwrap_or}
+use Rattle.std.specs.Prelude.{IfSome, IsSome, unwrap_or, ⊤}
 use Rattle.init_words.specs.Parts.{NamedText, texts_of}
 use Rattle.init_words.specs.declared.entries.Entry.{Entry}
 use Rattle.inittab_text.specs.Parts.{faults_of_parts, table_of_texts}
@@ -11,7 +11,7 @@ use Rattle.trace_events.specs.Event.{Event}
 use Rattle.host_calls.specs.Calls.{HostCall}
 use Rattle.host_calls.specs.Record.{Since}
 use Rattle.host_system.specs.LineFaults.{faults_text}
-use Rattle.initd_options.specs.CommandLine.{InitdSaid, judges, runs, simulates, version}
+use Rattle.initd_options.specs.CommandLine.{InitdSaid, initd_read_of, judges, runs, simulates, version}
 use Rattle.initd_options.specs.Options.{RunSaid}
 use Rattle.init_turns.specs.Opening.{IsOpeningOf, OpeningState}
 use Rattle.initd_command.specs.declared.run.Inittab.{Inittab}
@@ -20,7 +20,7 @@ use Rattle.initd_command.specs.declared.run.RunFault.TheVariants as why
 use Rattle.initd_command.specs.Endings.{Ending, turned}
 use Rattle.initd_command.specs.Turned.{End}
 use Rattle.initd_command.specs.Services.{AreFiles, EndsRun, EndsTold, FailsBy, FailsToRead, FailsToTake, HasInittab, IsOfFault, IsReadOf, has_result}
-use Rattle.initd_command.specs.Ran.{AsksSaid, MakesLogged, MakesTurns, RanBy, RanOver, RanTo, RunTold, turned_end}
+use Rattle.initd_command.specs.Ran.{AsksBy, AsksSaid, MakesLogged, MakesTurns, RanBy, RanOver, RanTo, RunTold, turned_end}
 
 -- turns over a log that was fresh
 pub made_fresh : {fresh : Type 0} (has_ended : Bool → List Event → Type 0) (service : RunSaid) (table : List Entry) (end : End) (calls : List HostCall)
@@ -112,6 +112,11 @@ failed text_at service (why.Unlisted id) ending old (given, (parts, are, (read, 
 failed text_at service (why.Trace error) ending old (some, (parts, are, read, taken)) is =
     subst (λ e. EndsRun text_at service e old old) (sym is.1) (parts, are, (read, taken, (some_path service.trace some, Keeps-refl old)))
 failed text_at service why.Memory ending old fails is = subst (λ e. EndsRun text_at service e old old) (sym is) (Keeps-refl old)
+
+-- what arguments ask
+pub asks_by : (text_at : KnownTexts) (words : List (List ℕ)) (said : Option InitdSaid) (own : List HostCall → Type 0) (ending : Ending) (old new : RunTold)
+    → initd_read_of words ≡ said → AsksSaid text_at said own ending old new → AsksBy text_at words own ending old new
+asks_by text_at words said own ending old new is asks = subst (λ s. AsksSaid text_at s own ending old new) (sym is) asks
 
 -- where a run has no end of turns nothing is asked, whatever the arguments say
 pub none_asked : (text_at : KnownTexts) (said : Option InitdSaid) (own : List HostCall → Type 0) (ending : Ending) (old new : RunTold)

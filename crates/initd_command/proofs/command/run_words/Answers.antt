@@ -3,15 +3,16 @@ use Rattle.std.proofs.KnownBytes.{Keeps-refl}
 use Rattle.program_io.specs.Known.{KnownTexts}
 use Rattle.initd_options.specs.CommandLine.{CheckSaid, InitdSaid, check_of, judges, initd_read_of, simulation_of, simulates, runs, version}
 use Rattle.initd_command.specs.Endings.{Ending, Judged, busy, done, flawed, lawful, no_memory, shared, stopped, too_many, torn, turned, uncreated, unfinished, unflushed, unlawful, unlisted, unlocked, unread, untold, unversioned, unwritten, usage}
-use Rattle.initd_options.specs.Options.{run_of}
+use Rattle.initd_options.specs.Options.{RunSaid, run_of}
+use Rattle.host_calls.specs.Calls.{HostCall}
+use Rattle.initd_command.specs.Ran.{RunTold}
 use Rattle.std.specs.Io.KnownBytes.{Keeps}
 use Rattle.trace_verdict.specs.declared.findings.Finding.{Finding}
 use Rattle.trace_verdict.specs.declared.findings.Finding.TheVariants.{Lawful, Breach, Torn}
 use Rattle.trace_verdict.specs.Answers.{Named}
 use Rattle.initd_command.specs.Verdicts.{EndsTold, cut_at, first_byte, within_of}
-use Rattle.initd_command.specs.Ran.{AsksSaid}
 use Rattle.initd_command.specs.Runs.{EndsBy, EndsSaid}
-use Rattle.initd_command.proofs.Ran.{none_asked}
+use Rattle.initd_command.proofs.Ran.{asks_by, none_asked}
 use Rattle.initd_command.proofs.command.run_words.Goals as goal
 
 -- a verdict is no usage fault
@@ -62,34 +63,39 @@ ends_by text_at words said is unversioned old new ends = (said, is, ends)
 ends_by text_at words said is (uncreated path why) old new ends = (said, is, ends)
 ends_by text_at words said is untold old new ends = (said, is, ends)
 
+abbrev told : Option (List RunSaid) → Option (List HostCall) → Option (List ℕ) → RunTold
+told opened calls out = record { opened = opened; calls = calls; out = out }
+
 pub returns-in-Ok-Simulate : goal.returns-in-Ok-Simulate
 returns-in-Ok-Simulate g c =
     let (ending, status, ends, reported) = c.simulate_files.ensures in
     let is : initd_read_of (map string_bytes c.args.words.items) ≡ Some (simulates (simulation_of c.in-Ok-Simulate.said)) = search rules in
-    (ending, status, ends_by (g.T.Texts.text_at c.args.texts.now) (map string_bytes c.args.words.items) (simulates (simulation_of c.in-Ok-Simulate.said)) is ending (g.W.Write.contents c.args.out.now) (g.W.Write.contents c.simulate_files.new.out) ends, reported, subst (λ said. AsksSaid (g.T.Texts.text_at c.args.texts.now) said g.S.Hosts.own ending _ _) (sym is) refl)
+    (ending, status, ends_by (g.T.Texts.text_at c.args.texts.now) (map string_bytes c.args.words.items) (simulates (simulation_of c.in-Ok-Simulate.said)) is ending (g.W.Write.contents c.args.out.now) (g.W.Write.contents c.simulate_files.new.out) ends, reported, asks_by (g.T.Texts.text_at c.args.texts.now) (map string_bytes c.args.words.items) (Some (simulates (simulation_of c.in-Ok-Simulate.said))) g.S.Hosts.own ending (told (g.S.Hosts.opened c.args.hosts.now) (g.S.Hosts.told c.args.hosts.now) (g.W.Write.contents c.args.out.now)) (told (g.S.Hosts.opened c.args.hosts.now) (g.S.Hosts.told c.args.hosts.now) (g.W.Write.contents c.simulate_files.new.out)) is refl)
 
 pub returns-in-Ok-Check : goal.returns-in-Ok-Check
 returns-in-Ok-Check g c =
     let (ending, status, ends, reported) = c.check_file.ensures in
     let is : initd_read_of (map string_bytes c.args.words.items) ≡ Some (judges (check_of c.in-Ok-Check.said)) = search rules in
-    (ending, status, ends_by (g.T.Texts.text_at c.args.texts.now) (map string_bytes c.args.words.items) (judges (check_of c.in-Ok-Check.said)) is ending (g.W.Write.contents c.args.out.now) (g.W.Write.contents c.check_file.new.out) ends, reported, subst (λ said. AsksSaid (g.T.Texts.text_at c.args.texts.now) said g.S.Hosts.own ending _ _) (sym is) refl)
+    (ending, status, ends_by (g.T.Texts.text_at c.args.texts.now) (map string_bytes c.args.words.items) (judges (check_of c.in-Ok-Check.said)) is ending (g.W.Write.contents c.args.out.now) (g.W.Write.contents c.check_file.new.out) ends, reported, asks_by (g.T.Texts.text_at c.args.texts.now) (map string_bytes c.args.words.items) (Some (judges (check_of c.in-Ok-Check.said))) g.S.Hosts.own ending (told (g.S.Hosts.opened c.args.hosts.now) (g.S.Hosts.told c.args.hosts.now) (g.W.Write.contents c.args.out.now)) (told (g.S.Hosts.opened c.args.hosts.now) (g.S.Hosts.told c.args.hosts.now) (g.W.Write.contents c.check_file.new.out)) is refl)
 
 pub returns-in-Ok-Run : goal.returns-in-Ok-Run
 returns-in-Ok-Run g c =
     let (ending, status, ends, reported, ran) = c.run_files.ensures in
     let is : initd_read_of (map string_bytes c.args.words.items) ≡ Some (runs (run_of c.in-Ok-Run.said)) = search rules in
-    (ending, status, ends_by (g.T.Texts.text_at c.args.texts.now) (map string_bytes c.args.words.items) (runs (run_of c.in-Ok-Run.said)) is ending (g.W.Write.contents c.args.out.now) (g.W.Write.contents c.run_files.new.out) ends, reported, subst (λ said. AsksSaid (g.T.Texts.text_at c.args.texts.now) said g.S.Hosts.own ending _ _) (sym is) ran)
+    (ending, status, ends_by (g.T.Texts.text_at c.args.texts.now) (map string_bytes c.args.words.items) (runs (run_of c.in-Ok-Run.said)) is ending (g.W.Write.contents c.args.out.now) (g.W.Write.contents c.run_files.new.out) ends, reported, asks_by (g.T.Texts.text_at c.args.texts.now) (map string_bytes c.args.words.items) (Some (runs (run_of c.in-Ok-Run.said))) g.S.Hosts.own ending (told (g.S.Hosts.opened c.args.hosts.now) (g.S.Hosts.told c.args.hosts.now) (g.W.Write.contents c.args.out.now)) (told (g.S.Hosts.opened c.run_files.new.hosts) (g.S.Hosts.told c.run_files.new.hosts) (g.W.Write.contents c.run_files.new.out)) is ran)
 
 pub returns-in-Ok-Version : goal.returns-in-Ok-Version
 returns-in-Ok-Version g c =
     let (ending, status, ends, reported) = c.tell_version.ensures in
     let is : initd_read_of (map string_bytes c.args.words.items) ≡ Some version = search rules in
-    (ending, status, ends_by (g.T.Texts.text_at c.args.texts.now) (map string_bytes c.args.words.items) version is ending (g.W.Write.contents c.args.out.now) (g.W.Write.contents c.tell_version.new.out) ends, reported, subst (λ said. AsksSaid (g.T.Texts.text_at c.args.texts.now) said g.S.Hosts.own ending _ _) (sym is) refl)
+    (ending, status, ends_by (g.T.Texts.text_at c.args.texts.now) (map string_bytes c.args.words.items) version is ending (g.W.Write.contents c.args.out.now) (g.W.Write.contents c.tell_version.new.out) ends, reported, asks_by (g.T.Texts.text_at c.args.texts.now) (map string_bytes c.args.words.items) (Some version) g.S.Hosts.own ending (told (g.S.Hosts.opened c.args.hosts.now) (g.S.Hosts.told c.args.hosts.now) (g.W.Write.contents c.args.out.now)) (told (g.S.Hosts.opened c.args.hosts.now) (g.S.Hosts.told c.args.hosts.now) (g.W.Write.contents c.tell_version.new.out)) is refl)
 
 pub returns-in-Err-Usage : goal.returns-in-Err-Usage
 returns-in-Err-Usage g c =
     let none : initd_read_of (map string_bytes c.args.words.items) ≡ None = search rules in
-    (usage c.as_str.result.now, c.report_refused_words.ensures.status, (none, Keeps-refl (g.W.Write.contents c.args.out.now)), c.report_refused_words.ensures.report, subst (λ said. AsksSaid (g.T.Texts.text_at c.args.texts.now) said g.S.Hosts.own (usage c.as_str.result.now) _ _) (sym none) refl)
+    (usage c.as_str.result.now, c.report_refused_words.ensures.status, (none, Keeps-refl (g.W.Write.contents c.args.out.now)), c.report_refused_words.ensures.report, asks_by (g.T.Texts.text_at c.args.texts.now) (map string_bytes c.args.words.items) None g.S.Hosts.own (usage c.as_str.result.now) (told (g.S.Hosts.opened c.args.hosts.now) (g.S.Hosts.told c.args.hosts.now) (g.W.Write.contents c.args.out.now)) (told (g.S.Hosts.opened c.args.hosts.now) (g.S.Hosts.told c.args.hosts.now) (g.W.Write.contents c.args.out.now)) none refl)
 
 pub returns : goal.returns
-returns g c = (no_memory, c.report_memory.ensures.status, Keeps-refl (g.W.Write.contents c.args.out.now), c.report_memory.ensures.reported, none_asked (g.T.Texts.text_at c.args.texts.now) (initd_read_of (map string_bytes c.args.words.items)) g.S.Hosts.own no_memory _ _ refl refl)
+returns g c =
+    let now : RunTold = told (g.S.Hosts.opened c.args.hosts.now) (g.S.Hosts.told c.args.hosts.now) (g.W.Write.contents c.args.out.now) in
+    (no_memory, c.report_memory.ensures.status, Keeps-refl (g.W.Write.contents c.args.out.now), c.report_memory.ensures.reported, none_asked (g.T.Texts.text_at c.args.texts.now) (initd_read_of (map string_bytes c.args.words.items)) g.S.Hosts.own no_memory now now refl refl)

@@ -1,4 +1,5 @@
-use Rattle.std.proofs.Common.{rules, refl, sym, subst, ⊤}
+use Rattle.std.proofs.Common.{rules, refl, sym, subst}
+use Rattle.std.specs.Prelude.{⊤}
 use Rattle.std.specs.Io.KnownBytes.{Appends}
 use Rattle.program_io.specs.Writing.{AppendsPrefix}
 use Rattle.host_calls.specs.Record.{Since}

@@ -1,4 +1,4 @@
-use Rattle.std.proofs.Common.{sym, subst, IfSome}
+use Rattle.std.proofs.Common.{◌≡◌, sym, subst, [], ◌∷◌, IfSome}
 use Rattle.std.specs.Io.KnownBytes.{Appends}
 use Rattle.host_calls.specs.Record.{Since}
 use Rattle.initd_options.specs.Options.{run_of}
@@ -24,7 +24,7 @@ returns-in-Ok g c =
           (record { opened = g.S.Hosts.opened c.args.hosts.now; calls = g.S.Hosts.told c.args.hosts.now; out = out })
           (record { opened = g.S.Hosts.opened c.make_run.new.hosts; calls = g.S.Hosts.told c.make_run.new.hosts; out = now_out })
           (parts, are, read, (opens, subst (λ text. IfSome (turned_end ending) (λ end. Appends out now_out text)) lines (faults_told service run.is_unled run.faults.items ending out now_out told)))
-          (subst (λ now. Since (g.S.Hosts.opened c.args.hosts.now) now _) (sym c.make_run.ensures.opened) c.in-Ok.ensures.opened)
+          (subst (λ now. Since (g.S.Hosts.opened c.args.hosts.now) now (λ saids. saids ≡ service ∷ [])) (sym c.make_run.ensures.opened) c.in-Ok.ensures.opened)
           (λ table opening. subst (λ now. RanOver service table (turned_end ending) now (g.S.Hosts.told c.make_run.new.hosts)) c.in-Ok.ensures.host (ran table opening))
           c.make_run.ensures.own,
     )
