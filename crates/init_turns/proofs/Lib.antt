@@ -1,3 +1,4 @@
+pub mod Arriving
 pub mod Carried
 pub mod Grown
 pub mod HandOvers

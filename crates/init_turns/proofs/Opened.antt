@@ -1,5 +1,5 @@
 -- A run from its opening.
-use Rattle.std.proofs.Common.{◌≡◌, refl, sym, subst, ℕ, Bool, true, List, [], ◌∷◌, Option}
+use Rattle.std.proofs.Common.{◌≡◌, ◌<◌, ◌+◌, refl, sym, subst, ℕ, Bool, true, List, [], ◌∷◌, Option}
 use Rattle.init_words.specs.declared.entries.Entry.{Entry}
 use Rattle.init_words.specs.declared.levels.Level.{Level}
 use Rattle.inittab_text.specs.Tables.{is_distinct}
@@ -18,18 +18,21 @@ use Rattle.host_calls.proofs.Record.{Since-map}
 use Rattle.host_trace.proofs.Fronts.{Began-then}
 use Rattle.host_trace.proofs.Taking.{Took-then}
 use Rattle.init_turns.specs.Parts.{Fresh, LeftBy, Makes}
+use Rattle.init_turns.specs.Arriving.{Arrives, ServesTurns}
+use Rattle.init_turns.proofs.Arriving.{arrives_up}
 use Rattle.init_turns.specs.Opening.{FrontsFrom, IsOpening, IsOpeningOf, LeadsFrom, OpeningState, Opens, opening_point}
 
 -- turns that are said of what fitted are said of what is narrower
 turns_narrower : (f g : Goal → Point → Type 0) → ((goal : Goal) (p : Point) → g goal p → f goal p) → (cores : List CoreState) (calls : List HostCall) → AreTurns f cores calls → AreTurns g cores calls
 turns_narrower f g narrower [] calls turns = turns
-turns_narrower f g narrower (core ∷ cores) calls (done, last, before, is, turn, tracks, earlier) = (
+turns_narrower f g narrower (core ∷ cores) calls (done, last, before, is, turn, tracks, more, earlier) = (
   done,
   last,
   before,
   is,
   turn,
   (λ goal p sound fits. tracks goal p sound (narrower goal p fits)),
+  (λ goal p sound fits. more goal p sound (narrower goal p fits)),
   turns_narrower f g narrower cores before earlier,
 )
 
@@ -43,14 +46,18 @@ opening_fresh level table distinct = (record { fits = fits_opening table (openin
 pub opened : (told now_told : Option (List HostCall)) (l₀ l₁ l₂ : LogState) (level : Option Level) (table : List Entry) (drain : Bool) (n : ℕ) (saw now_saw : Option (List CoreState)) (core new : CoreState)
     → Fresh core (opening_goal level table) (opening_point table) → is_distinct table ≡ true
     → Logs l₀ l₁ [] (NewTable table ∷ []) → Makes told now_told l₁ l₂ (MadeTurns drain (Fresh core) n saw now_saw) (Fresh core) (LeftBy new)
-    → Opens told now_told l₀ l₂ level table (MadeTurns drain (IsOpening level table) n saw now_saw) new
+    → Opens told now_told l₀ l₂ level table (ServesTurns drain level table n saw now_saw) new
 opened told now_told l₀ l₁ l₂ level table drain n saw now_saw core new fresh distinct took makes =
     Since-map told now_told (λ calls. MadeTurns drain (Fresh core) n saw now_saw calls × Leads (Fresh core) (LeftBy new) l₁ l₂ calls × Fronts (Fresh core) l₁ l₂ calls)
-    (λ calls. MadeTurns drain (IsOpening level table) n saw now_saw calls × LeadsFrom level table new l₀ l₂ calls × FrontsFrom level table l₀ l₂ calls) makes
-    (λ calls made. (made_narrower drain (Fresh core) (IsOpening level table) narrower n saw now_saw calls made.0, leads calls made.1, fronts calls made.2))
+    (λ calls. ServesTurns drain level table n saw now_saw calls × LeadsFrom level table new l₀ l₂ calls × FrontsFrom level table l₀ l₂ calls) makes
+    (λ calls made. ((made_narrower drain (Fresh core) (IsOpening level table) narrower n saw now_saw calls made.0, there calls made.0), leads calls made.1, fronts calls made.2))
   where
     narrower : (goal : Goal) (p : Point) → IsOpening level table goal p → Fresh core goal p
     narrower goal p (of_goal, of_point) = subst (λ q. Fresh core goal q) (sym of_point) (subst (λ o. Fresh core o (opening_point table)) (sym of_goal) fresh)
+
+    there : (calls : List HostCall) → MadeTurns drain (Fresh core) n saw now_saw calls → Arrives level table n calls
+    there calls (cores, seen, (count, turns, busy)) later k room =
+        arrives_up (Fresh core) (opening_goal level table) (opening_point table) distinct fresh refl later k cores calls turns (subst (λ m. later + k < m) (sym count) room)
 
     leads : (calls : List HostCall) → Leads (Fresh core) (LeftBy new) l₁ l₂ calls → LeadsFrom level table new l₀ l₂ calls
     leads calls all allowed =
@@ -78,7 +85,7 @@ opened told now_told l₀ l₁ l₂ level table drain n saw now_saw core new fre
 -- of an opening, the log and the turns
 pub opened_by : (told now_told : Option (List HostCall)) (l₀ l₁ l₂ : LogState) (drain : Bool) (n : ℕ) (saw now_saw : Option (List CoreState)) (o : OpeningState) (new : CoreState)
     → Logs l₀ l₁ [] (o.told ∷ []) → Makes told now_told l₁ l₂ (MadeTurns drain (Fresh o.core) n saw now_saw) (Fresh o.core) (LeftBy new)
-    → (level : Option Level) (table : List Entry) → IsOpeningOf level table o → Opens told now_told l₀ l₂ level table (MadeTurns drain (IsOpening level table) n saw now_saw) new
+    → (level : Option Level) (table : List Entry) → IsOpeningOf level table o → Opens told now_told l₀ l₂ level table (ServesTurns drain level table n saw now_saw) new
 opened_by told now_told l₀ l₁ l₂ drain n saw now_saw o new took makes level table is =
     opened told now_told l₀ l₁ l₂ level table drain n saw now_saw o.core new
     (subst (λ c. Fresh c (opening_goal level table) (opening_point table)) (sym is.core) (opening_fresh level table is.distinct)) is.distinct

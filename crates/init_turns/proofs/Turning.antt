@@ -20,11 +20,13 @@ use Rattle.host_trace.specs.Requests.{Brings}
 use Rattle.core_text.specs.Range.{has_short_seconds}
 use Rattle.host_trace.specs.Fronts.{Fronts}
 use Rattle.host_trace.specs.Grows.{Grows, HasRead}
-use Rattle.host_trace.specs.Leads.{At, Counted, IsOver, Leads, Tracks, Went}
-use Rattle.host_trace.specs.Turns.{AreSteps, AreTurns, IsTurn, MadeTurns, are_full, are_lates, are_takes, bytes_taken, has_come, is_busy, is_room, is_step, takes_none}
+use Rattle.host_trace.specs.Leads.{At, Counted, IsOver, Leads, Took, Tracks, Went, is_allowed}
+use Rattle.host_trace.specs.Turns.{AddsTo, AreSteps, AreTurns, IsTurn, MadeTurns, are_full, are_lates, are_takes, bytes_taken, has_come, is_busy, is_room, is_step, takes_none}
 use Rattle.host_trace.proofs.Fronts.{fronts_one, fronts_then}
 use Rattle.host_trace.proofs.Growing.{Grows-none}
-use Rattle.host_trace.proofs.Leading.{Leads-beside, Leads-frame, Leads-still, Leads-then, Leads-weaken, bytes_counted}
+use Rattle.host_trace.proofs.Point.{point_after-append}
+use Rattle.host_trace.proofs.Seconds.{short_then}
+use Rattle.host_trace.proofs.Leading.{calls_allowed, carried_parts, Leads-beside, Leads-frame, Leads-still, Leads-then, Leads-weaken, bytes_counted}
 use Rattle.host_calls.proofs.Record.{Since-map, Since-none, Since-one, Since-then}
 use Rattle.host_trace.proofs.Requests.{calls_bring}
 use Rattle.init_turns.specs.Parts.{AndRests, AreAllSteps, Fresh, IsReading, Left, LeftBy, Makes}
@@ -167,7 +169,7 @@ turns_none drain now log saw c b stands = Makes-map now now log log (Going drain
 -- the last turn behind the others
 abbrev IsLast : Bool → Bool → CoreState → ℕ → Option (List CoreState) → Option (List CoreState) → List HostCall → Type 0
 IsLast drain done c₀ n saw now_saw calls = (last earlier : List HostCall) × (calls ≡ last ++ earlier) × IsTurn done last
-    × Going drain (Fresh c₀) n saw now_saw earlier
+    × AddsTo (Fresh c₀) earlier (last ++ earlier) × Going drain (Fresh c₀) n saw now_saw earlier
 
 -- a turn more, a look, and the pause behind it
 pub turns_more : (drain done : Bool) (n : ℕ) (t₀ t₁ t₂ t₃ : Option (List HostCall)) (l₀ l₁ l₂ : LogState) (s₀ s₁ s₂ : Option (List CoreState)) (c₀ c c' : CoreState) (b b' : Begun) → Makes t₀ t₁ l₀ l₁ (Going drain (Fresh c₀) n s₀ s₁) (Fresh c₀) (At c b) → Makes t₁ t₂ l₁ l₂ (IsTurn done) (At c b) (Left done c' b') → (has_short_seconds c₀ ≡ true → Grows l₁ l₂) → Since s₁ s₂ (λ cores. cores ≡ c' ∷ []) → AddsCall t₂ t₃ Pause → Makes t₀ t₃ l₀ l₂ (Gone drain (Fresh c₀) n c' s₀ s₂) (Fresh c₀) (At c' b')
@@ -175,24 +177,34 @@ turns_more drain done n t₀ t₁ t₂ t₃ l₀ l₁ l₂ s₀ s₁ s₂ c₀ c
     Since-then t₀ t₂ t₃ (λ calls. IsLast drain done c₀ n s₀ s₁ calls × Leads (Fresh c₀) (Left done c' b') l₀ l₂ calls × Fronts (Fresh c₀) l₀ l₂ calls) (λ calls. calls ≡ Pause ∷ []) (λ calls. Gone drain (Fresh c₀) n c' s₀ s₂ calls × Leads (Fresh c₀) (At c' b') l₀ l₂ calls × Fronts (Fresh c₀) l₀ l₂ calls)
     (Since-then t₀ t₁ t₂ (λ calls. Going drain (Fresh c₀) n s₀ s₁ calls × Leads (Fresh c₀) (At c b) l₀ l₁ calls × Fronts (Fresh c₀) l₀ l₁ calls) (λ calls. IsTurn done calls × Leads (At c b) (Left done c' b') l₁ l₂ calls × Fronts (At c b) l₁ l₂ calls)
     (λ calls. IsLast drain done c₀ n s₀ s₁ calls × Leads (Fresh c₀) (Left done c' b') l₀ l₂ calls × Fronts (Fresh c₀) l₀ l₂ calls) before turn
-    (λ xs ys was is. ((ys, xs, refl, is.0, was.0), Leads-then (Fresh c₀) (At c b) (Left done c' b') l₀ l₁ l₂ xs ys was.1 is.1, fronts_then (Fresh c₀) (At c b) l₀ l₁ l₂ xs ys was.1 was.2 is.2 (λ goal p fits. grows fits.0.short))))
+    (λ xs ys was is. ((ys, xs, refl, is.0, adds xs ys was.1 is.1, was.0), Leads-then (Fresh c₀) (At c b) (Left done c' b') l₀ l₁ l₂ xs ys was.1 is.1, fronts_then (Fresh c₀) (At c b) l₀ l₁ l₂ xs ys was.1 was.2 is.2 (λ goal p fits. grows fits.0.short))))
     (Since-one t₂ t₃ Pause (λ calls. calls ≡ Pause ∷ []) pause refl)
     paused
   where
-    seen : (last earlier calls : List HostCall) → calls ≡ Pause ∷ (last ++ earlier) → IsTurn done last → Leads (Fresh c₀) (Left done c' b') l₀ l₂ (last ++ earlier) → Going drain (Fresh c₀) n s₀ s₁ earlier → Gone drain (Fresh c₀) n c' s₀ s₂ calls
-    seen last earlier calls is made leads going = Since-then s₀ s₁ s₂ (λ cores. (length cores ≡ n) × AreTurns (Fresh c₀) cores earlier × (drain ≡ true → list_all is_busy cores ≡ true)) (λ cores. cores ≡ c' ∷ [])
+    adds : (xs ys : List HostCall) → Leads (Fresh c₀) (At c b) l₀ l₁ xs → Leads (At c b) (Left done c' b') l₁ l₂ ys → AddsTo (Fresh c₀) xs (ys ++ xs)
+    adds xs ys one two goal p sound fits allowed carried short =
+        let joined : point_after (ys ++ xs) p ≡ point_after ys (point_after xs p) = point_after-append ys xs p in
+        let later : is_allowed goal (point_after ys (point_after xs p)).past ≡ true = ap (λ (q : Point). is_allowed goal q.past) (sym joined) ∙ allowed in
+        let parts = carried_parts ys xs p carried in
+        let first : Went (At c b) l₀ l₁ goal p xs = (one goal p sound fits (calls_allowed goal ys (point_after xs p) later)).1 parts.1 in
+        let second : Went (Left done c' b') l₁ l₂ goal (point_after xs p) ys = (two goal (point_after xs p) first.sound first.fits later).1 parts.0 in
+        let took : Took l₁ l₂ (point_after xs p).past (point_after ys (point_after xs p)).past = second.log (short_then goal xs p first.sound short) in
+        (took.came, ap (λ (q : Point). q.past) joined ∙ took.grown)
+
+    seen : (last earlier calls : List HostCall) → calls ≡ Pause ∷ (last ++ earlier) → IsTurn done last → AddsTo (Fresh c₀) earlier (last ++ earlier) → Leads (Fresh c₀) (Left done c' b') l₀ l₂ (last ++ earlier) → Going drain (Fresh c₀) n s₀ s₁ earlier → Gone drain (Fresh c₀) n c' s₀ s₂ calls
+    seen last earlier calls is made more leads going = Since-then s₀ s₁ s₂ (λ cores. (length cores ≡ n) × AreTurns (Fresh c₀) cores earlier × (drain ≡ true → list_all is_busy cores ≡ true)) (λ cores. cores ≡ c' ∷ [])
         (λ all. (cores : List CoreState) × (all ≡ c' ∷ cores) × (length cores ≡ n) × AreTurns (Fresh c₀) (c' ∷ cores) calls × (drain ≡ true → list_all is_busy cores ≡ true)) going look
         (λ cores newest was one. (
           cores,
           ap (λ front. front ++ cores) one,
           was.0,
-          (done, last, earlier, is, made, (λ goal p sound fits allowed carried. let went : Went (Left done c' b') l₀ l₂ goal p (last ++ earlier) = (leads goal p sound fits allowed).1 carried in (went.fits.at.0, went.fits.rests)), was.1),
+          (done, last, earlier, is, made, (λ goal p sound fits allowed carried. let went : Went (Left done c' b') l₀ l₂ goal p (last ++ earlier) = (leads goal p sound fits allowed).1 carried in (went.sound, went.fits.at.0, went.fits.rests)), more, was.1),
           was.2,
         ))
 
     paused : (xs ys : List HostCall) → IsLast drain done c₀ n s₀ s₁ xs × Leads (Fresh c₀) (Left done c' b') l₀ l₂ xs × Fronts (Fresh c₀) l₀ l₂ xs → ys ≡ Pause ∷ [] → Gone drain (Fresh c₀) n c' s₀ s₂ (ys ++ xs) × Leads (Fresh c₀) (At c' b') l₀ l₂ (ys ++ xs) × Fronts (Fresh c₀) l₀ l₂ (ys ++ xs)
-    paused xs ys ((last, earlier, is, made, going), leads, fronts) one = (
-      seen last earlier (ys ++ xs) (λ i. one i ++ is i) made (subst (Leads (Fresh c₀) (Left done c' b') l₀ l₂) is leads) going,
+    paused xs ys ((last, earlier, is, made, more, going), leads, fronts) one = (
+      seen last earlier (ys ++ xs) (λ i. one i ++ is i) made more (subst (Leads (Fresh c₀) (Left done c' b') l₀ l₂) is leads) going,
       subst (λ zs. Leads (Fresh c₀) (At c' b') l₀ l₂ (zs ++ xs)) (sym one)
           (Leads-then (Fresh c₀) (Left done c' b') (At c' b') l₀ l₂ l₂ xs (Pause ∷ []) leads
           (Leads-weaken (Left done c' b') (Left done c' b') (Left done c' b') (At c' b') l₂ l₂ (Pause ∷ []) (λ goal p fits. fits) (λ goal p fits. fits.at)
@@ -209,15 +221,25 @@ shaped t₀ t₁ l₀ l₁ P Q f₀ f₁ more makes = Makes-map t₀ t₁ l₀ l
 pub turns_on : (drain : Bool) (n m : ℕ) (t₀ t₁ : Option (List HostCall)) (l₀ l₁ : LogState) (s₀ s₁ : Option (List CoreState)) (f₀ f₁ : Goal → Point → Type 0) (c : CoreState) → suc n ≡ m → (drain ≡ true → is_drained c ≡ false) → Makes t₀ t₁ l₀ l₁ (Gone drain f₀ n c s₀ s₁) f₀ f₁ → Makes t₀ t₁ l₀ l₁ (Going drain f₀ m s₀ s₁) f₀ f₁
 turns_on drain n m t₀ t₁ l₀ l₁ s₀ s₁ f₀ f₁ c next busy = shaped t₀ t₁ l₀ l₁ (Gone drain f₀ n c s₀ s₁) (Going drain f₀ m s₀ s₁) f₀ f₁
     (λ calls (all, told, (cores, is, count, turns, earlier)). (
-      all, told, (ap length is ∙ ap suc count ∙ next, subst (λ a. AreTurns f₀ a calls) (sym is) turns,
-      (λ drains. ap (list_all is_busy) is ∙ and_from (is_busy c) (list_all is_busy cores) (ap not (busy drains)) (earlier drains))),
+      all,
+      told,
+      (
+        ap length is ∙ ap suc count ∙ next,
+        subst (λ a. AreTurns f₀ a calls) (sym is) turns,
+        (λ drains. ap (list_all is_busy) is ∙ and_from (is_busy c) (list_all is_busy cores) (ap not (busy drains)) (earlier drains)),
+      ),
     ))
 
 pub turns_end : (drain : Bool) (n m : ℕ) (t₀ t₁ : Option (List HostCall)) (l₀ l₁ : LogState) (s₀ s₁ : Option (List CoreState)) (f₀ f₁ : Goal → Point → Type 0) (c : CoreState) → suc n ≡ m → Makes t₀ t₁ l₀ l₁ (Gone drain f₀ n c s₀ s₁) f₀ f₁ → Makes t₀ t₁ l₀ l₁ (MadeTurns drain f₀ m s₀ s₁) f₀ f₁
 turns_end drain n m t₀ t₁ l₀ l₁ s₀ s₁ f₀ f₁ c next = shaped t₀ t₁ l₀ l₁ (Gone drain f₀ n c s₀ s₁) (MadeTurns drain f₀ m s₀ s₁) f₀ f₁
     (λ calls (all, told, (cores, is, count, turns, earlier)). (
-      all, told, (ap length is ∙ ap suc count ∙ next, subst (λ a. AreTurns f₀ a calls) (sym is) turns,
-      (λ drains. ap (λ a. list_all is_busy (drop 1 a)) is ∙ earlier drains)),
+      all,
+      told,
+      (
+        ap length is ∙ ap suc count ∙ next,
+        subst (λ a. AreTurns f₀ a calls) (sym is) turns,
+        (λ drains. ap (λ a. list_all is_busy (drop 1 a)) is ∙ earlier drains),
+      ),
     ))
 
 pub turns_limit : (drain : Bool) (n m : ℕ) (t₀ t₁ : Option (List HostCall)) (l₀ l₁ : LogState) (s₀ s₁ : Option (List CoreState)) (f₀ f₁ : Goal → Point → Type 0) → n ≡ m → Makes t₀ t₁ l₀ l₁ (Going drain f₀ n s₀ s₁) f₀ f₁ → Makes t₀ t₁ l₀ l₁ (MadeTurns drain f₀ m s₀ s₁) f₀ f₁

@@ -4,8 +4,8 @@ ghost use Rattle.std.specs.Prelude.{◌≡◌, ◌≤◌, ◌<◌, List, Option,
 ghost use Rattle.core_model.specs.Decide.{is_drained};
 ghost use Rattle.init_words.specs.declared.entries.Entry.{Entry};
 ghost use Rattle.init_words.specs.declared.levels.Level.{Level};
-ghost use Rattle.host_trace.specs.Turns.{MadeTurns};
-ghost use Rattle.init_turns.specs.Opening.{IsOpening, IsOpeningOf, Opens};
+ghost use Rattle.init_turns.specs.Arriving.{ServesTurns};
+ghost use Rattle.init_turns.specs.Opening.{IsOpeningOf, Opens};
 
 use crate::answering::write;
 use crate::serving::{Served, Watch, serve};
@@ -58,8 +58,8 @@ impl<A: Allocator + Copy> Opening<A> {
     ) -> (Served, Core<A>)
         ensures trace { (level : Option Level) (table : List Entry) → IsOpeningOf level table self
             → Opens (H.told host.old) (H.told host.new) (L.state log.old) (L.state log.new)
-            level table (MadeTurns drain (IsOpening level table) result.0.turns
-            (W.seen watch.old) (W.seen watch.new)) result.1 }
+            level table (ServesTurns drain level table result.0.turns (W.seen watch.old)
+            (W.seen watch.new)) result.1 }
         ensures most { result.0.turns ≤ turns }
         ensures fewer { result.0.turns < turns → (drain ≡ true) × (result.0.drained ≡ true) }
         ensures drained { result.0.drained ≡ is_drained result.1 }
