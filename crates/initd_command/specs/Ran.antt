@@ -12,11 +12,11 @@ use Rattle.host_calls.specs.Calls.{HostCall}
 use Rattle.host_calls.specs.Record.{Since}
 use Rattle.host_system.specs.LineFaults.{faults_text}
 use Rattle.host_trace.specs.Fronts.{EachFront, GoesSoFar}
-use Rattle.host_trace.specs.Turns.{MadeTurns}
 use Rattle.init_words.specs.declared.levels.Level.{Level}
 use Rattle.core_model.specs.State.{CoreState, opening_goal}
 use Rattle.core_model.specs.Decide.{is_drained}
 use Rattle.core_model.specs.Fit.{FitsAll}
+use Rattle.init_turns.specs.Arriving.{ServesTurns}
 use Rattle.init_turns.specs.Opening.{IsOpening}
 use Rattle.init_turns.specs.declared.serving.Served.{Served}
 use Rattle.initd_command.specs.Turned.{End}
@@ -29,13 +29,14 @@ EndsDrained level table calls = TurnsFrom level table calls (λ past.
     (core : CoreState) × FitsAll core (opening_goal level table) past × (is_drained core ≡ true))
 
 -- The calls are those of turns from the opening over this table on, as many as the arguments of the run say, or fewer
--- where it ended drained; up to each call all went well as far as the answers until then were possible; the turns ended
--- so; and where their log was fresh, and took all of their trace, what is noted of the run is noted of that.
+-- where it ended drained, in which a level is settled where the system does its part; up to each call all went well as
+-- far as the answers until then were possible; the turns ended so; and where their log was fresh, and took all of their
+-- trace, what is noted of the run is noted of that.
 pub record MakesTurns (fresh : Type 0) (service : RunSaid) (table : List Entry) (end : End) (calls : List HostCall)
     : Type 0 where
   pub served : Served
   pub noted : Noted
-  pub turns : MadeTurns service.drain (IsOpening service.level table) served.turns None None calls
+  pub turns : ServesTurns service.drain service.level table served.turns None None calls
   pub fronts : EachFront (GoesSoFar (IsOpening service.level table)) calls
   pub drains : served.drained ≡ true → EndsDrained service.level table calls
   pub notes : fresh → served.logged ≡ true → TurnsFrom service.level table calls (IsNoted noted)

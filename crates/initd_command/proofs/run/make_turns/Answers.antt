@@ -6,8 +6,8 @@ use Rattle.initd_options.specs.Options.{run_of}
 use Rattle.core_waiting.specs.Lines.{waiting_text}
 use Rattle.initd_command.specs.Services.{IsNoted, LogEnds, TurnsFrom, end_of, noted_of}
 use Rattle.host_calls.proofs.Record.{Since-map}
-use Rattle.host_trace.specs.Turns.{MadeTurns}
-use Rattle.init_turns.specs.Opening.{IsOpening, LeadsFrom}
+use Rattle.init_turns.specs.Arriving.{ServesTurns}
+use Rattle.init_turns.specs.Opening.{LeadsFrom}
 use Rattle.initd_command.proofs.Noted.{is_served, judged_still, noted_over, served_still}
 use Rattle.initd_command.proofs.run.make_turns.Goals as goal
 
@@ -38,7 +38,7 @@ returns g c =
             record {
               served = c.ended_with-served.result;
               noted = noted;
-              turns = served_still (λ (turns : ℕ) (drained : Bool). MadeTurns service.drain (IsOpening service.level table) turns None None calls) c.serve-core.result.0 c.ended_with-served.result _ c.ended_with-served.ensures made.0;
+              turns = served_still (λ (turns : ℕ) (drained : Bool). ServesTurns service.drain service.level table turns None None calls) c.serve-core.result.0 c.ended_with-served.result _ c.ended_with-served.ensures made.0;
               fronts = λ later earlier next call is apart. (made.2 later earlier next call is apart).0;
               drains = λ is allowed carried. (c.serve-core.result.1, ((made.1 allowed).1 carried).fits.0.fits, sym c.serve-core.ensures.drained ∙ (sym (ap (λ (s : Served). s.drained) c.ended_with-served.ensures) ∙ is));
               notes = λ none whole allowed carried. (over none allowed carried).0 whole;
