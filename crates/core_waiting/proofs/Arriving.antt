@@ -251,7 +251,7 @@ pub falls : (goal : Goal) (later round past : List Event) → is_sound goal (lat
 falls goal later round past sound rest idle let_be rest_later idle_later untold = falls_at goal round past (sound_rest goal later (round ++ past) sound rest_later) rest idle let_be rest_later idle_later untold
 
 -- over rounds
-last_rest : (goal : Goal) (rounds : List (List Event)) (past : List Event) → AreUndisturbed goal rounds past → AtRest goal (after_rounds rounds past) × (is_idle (after_rounds rounds past) ≡ true)
+pub last_rest : (goal : Goal) (rounds : List (List Event)) (past : List Event) → AreUndisturbed goal rounds past → AtRest goal (after_rounds rounds past) × (is_idle (after_rounds rounds past) ≡ true)
 last_rest goal [] past are = are
 last_rest goal (round ∷ earlier) past are = (are.2, are.3)
 

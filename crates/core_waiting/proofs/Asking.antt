@@ -33,12 +33,12 @@ heard_still (Got (got.Level level grace) ∷ between) past unasked none = absurd
 heard_still (Enter now grace ∷ between) past unasked none = absurd (false≢true (sym none))
 heard_still (happening ∷ between) past unasked none = heard_still between past unasked none
 
-stage_still : (between past : List Event) → is_stage_entered between ≡ false → stage_of (between ++ past) ≡ stage_of past
+pub stage_still : (between past : List Event) → is_stage_entered between ≡ false → stage_of (between ++ past) ≡ stage_of past
 stage_still [] past none = refl
 stage_still (Enter now grace ∷ between) past none = absurd (false≢true (sym none))
 stage_still (happening ∷ between) past none = stage_still between past none
 
-goal_still : (goal : Goal) (between past : List Event) → is_no_level_asked between ≡ true → goal_of goal (between ++ past) ≡ goal_of goal past
+pub goal_still : (goal : Goal) (between past : List Event) → is_no_level_asked between ≡ true → goal_of goal (between ++ past) ≡ goal_of goal past
 goal_still goal [] past unasked = refl
 goal_still goal (Got (got.Level level grace) ∷ between) past unasked = absurd (false≢true unasked)
 goal_still goal (happening ∷ between) past unasked = goal_still goal between past unasked

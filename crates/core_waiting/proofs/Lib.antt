@@ -1,3 +1,4 @@
+pub mod Answered
 pub mod ArrivalRows
 pub mod Arriving
 pub mod Asking

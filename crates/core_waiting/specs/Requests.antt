@@ -1,5 +1,9 @@
 -- Requests for a level, and what comes after them.
-use Rattle.std.specs.Prelude.{Bool, true, false, List, [], ◌∷◌}
+use Rattle.std.specs.Prelude.{Bool, true, false, not, List, [], ◌∷◌, Option, Some}
+use Rattle.init_words.specs.declared.levels.Level.{Level}
+use Rattle.init_words.specs.declared.stages.Stage.{Stage}
+use Rattle.init_words.specs.declared.stages.Stage.TheVariants.{Run}
+use Rattle.init_words.specs.Levels.{same_level}
 use Rattle.initctl_frame.specs.declared.requests.HeardRequest.TheVariants as got
 use Rattle.trace_events.specs.declared.happenings.Happening.TheVariants.{Enter, Got}
 use Rattle.trace_events.specs.Event.{Event}
@@ -15,3 +19,8 @@ abbrev pub is_stage_entered : List Event → Bool
 is_stage_entered [] = false
 is_stage_entered (Enter stage grace ∷ stretch) = true
 is_stage_entered (happening ∷ stretch) = is_stage_entered stretch
+
+-- another run level is in force than this one, or none yet
+abbrev pub is_elsewhere : Level → Option Stage → Bool
+is_elsewhere level (Some (Run now)) = not (same_level level now)
+is_elsewhere level _ = true
