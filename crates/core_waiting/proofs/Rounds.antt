@@ -1,8 +1,8 @@
 -- A level is announced after one round more than there are waited entries to come.
-use Rattle.std.proofs.Common.{◌≡◌, ◌≤◌, ◌<◌, ◌+◌, refl, sym, ◌∙◌, ap, subst, ℕ, suc, Bool, true, false, not, ◌&&◌, ◌||◌, cond, List, [], ◌∷◌, ◌++◌, filter, length, Some, arith}
+use Rattle.std.proofs.Common.{◌≡◌, ◌≤◌, ◌<◌, refl, sym, ◌∙◌, ap, subst, ℕ, Bool, true, false, not, ◌&&◌, ◌||◌, cond, List, [], ◌∷◌, ◌++◌, filter, length, Some, arith}
 use Rattle.std.specs.List.{list_any}
 use Rattle.std.specs.Option.{option_map_or}
-use Rattle.std.proofs.lemmas.Bool.{false≢true, false_from_ne_true, true_from_ne_false, and_parts, and_from, or_left, or_right}
+use Rattle.std.proofs.lemmas.Bool.{false≢true, false_from_ne_true, and_parts, and_from, or_left, or_right}
 use Rattle.std.proofs.lemmas.Option.{none-some, same_Some}
 use Rattle.init_words.specs.declared.entries.Entry.{Entry}
 use Rattle.init_words.specs.declared.orders.OrderKind.TheVariants.{Start}
@@ -10,13 +10,13 @@ use Rattle.init_words.specs.Ids.{same_id}
 use Rattle.init_words.specs.Actions.{is_limited}
 use Rattle.init_words.specs.Entries.{waited_of}
 use Rattle.init_words.proofs.Same.{same_id-self}
-use Rattle.init_words.proofs.Tests.{falsely, or_either, not_from}
+use Rattle.init_words.proofs.Tests.{or_either, not_from}
 use Rattle.inittab_text.specs.Tables.{entry_of}
 use Rattle.trace_events.specs.declared.happenings.Happening.TheVariants.{NewTable, Enter, Call, Power, Asked, Settle}
 use Rattle.trace_events.specs.declared.steps.Goal.{Goal}
 use Rattle.trace_events.specs.declared.steps.Step.TheVariants as step
 use Rattle.trace_events.specs.Event.{Event}
-use Rattle.trace_events.specs.Past.{table_of, stage_of, is_idle}
+use Rattle.trace_events.specs.Past.{table_of, stage_of}
 use Rattle.trace_events.specs.Wanted.{is_wanted}
 use Rattle.trace_events.specs.Wishes.{in_run}
 use Rattle.trace_events.specs.Due.{is_announced}
@@ -24,11 +24,11 @@ use Rattle.trace_events.specs.Sound.{is_sound}
 use Rattle.trace_laws.proofs.Dues.{MayRun, due_facts}
 use Rattle.trace_laws.proofs.Keeps.{sound_holds}
 use Rattle.trace_laws.proofs.Births.{at_moment}
-use Rattle.core_waiting.specs.Rest.{AtRest, is_level_announced, is_calm, is_start_of, is_waited_start, is_waited_id, is_to_come, to_come, after_rounds, AreRounds}
-use Rattle.core_waiting.proofs.Rest.{waited_free, idle_quiet, not_first}
+use Rattle.core_waiting.specs.Rest.{AtRest, is_level_announced, is_calm, is_start_of, is_waited_start, is_waited_id, is_to_come, to_come}
+use Rattle.core_waiting.proofs.Rest.{waited_free, not_first}
 use Rattle.core_waiting.proofs.Settled.{found_id}
 use Rattle.core_waiting.proofs.Once.{wanted_before, same_table}
-use Rattle.core_waiting.proofs.Progress.{Next, next_of, Quit, quit_at, same_stage, progress}
+use Rattle.core_waiting.proofs.Progress.{Next, next_of, Quit, quit_at, same_stage}
 
 -- fewer pass the narrower test
 pub fewer : (p q : Entry → Bool) → ((e : Entry) → p e ≡ true → q e ≡ true) → (es : List Entry) → length (filter p es) ≤ length (filter q es)
@@ -126,27 +126,5 @@ still_level between past calm h =
     let parts = and_parts (in_run (stage_of past)) (is_announced past) h in
     and_from (in_run (stage_of (between ++ past))) (is_announced (between ++ past)) (ap in_run (same_stage between past calm) ∙ parts.0) (still_announced between past calm parts.1)
 
--- rounds
-at_last : (goal : Goal) (rounds : List (List Event)) (past : List Event) → AreRounds goal rounds past → AtRest goal (after_rounds rounds past) × (is_idle (after_rounds rounds past) ≡ true)
-at_last goal [] past are = are
-at_last goal (round ∷ earlier) past are = (are.3, are.4)
-
 pub sound_rest : (goal : Goal) (later past : List Event) → is_sound goal (later ++ past) ≡ true → AtRest goal past → is_sound goal past ≡ true
 sound_rest goal later past sound rest = at_moment goal (λ x. AtRest goal x → is_sound goal x ≡ true) (λ h. absurd (not_first goal h)) (λ x ok h. ok) later past sound rest
-
-count : (goal : Goal) (rounds : List (List Event)) (past : List Event) → is_sound goal (after_rounds rounds past) ≡ true → AreRounds goal rounds past → is_level_announced (after_rounds rounds past) ≡ false → length rounds + to_come (after_rounds rounds past) ≤ to_come past
-count goal [] past sound are untold = omega arith
-count goal (round ∷ earlier) past sound are untold =
-    let last = at_last goal earlier past are.0 in
-    let sound_before : is_sound goal (after_rounds earlier past) ≡ true = sound_rest goal round (after_rounds earlier past) sound last.0 in
-    let untold_before : is_level_announced (after_rounds earlier past) ≡ false = falsely (is_level_announced (after_rounds earlier past)) (is_level_announced (round ++ after_rounds earlier past)) (still_level round (after_rounds earlier past) are.1) untold in
-    let most : length earlier + to_come (after_rounds earlier past) ≤ to_come past = count goal earlier past sound_before are.0 untold_before in
-    let fewer_now : to_come (round ++ after_rounds earlier past) < to_come (after_rounds earlier past) = fewer_to_come goal round (after_rounds earlier past) sound are.1 (progress goal round (after_rounds earlier past) sound are.1 (idle_quiet (after_rounds earlier past) last.1) are.3 are.4 are.2 untold) in
-    add (length earlier) (to_come past) (to_come (after_rounds earlier past)) (to_come (round ++ after_rounds earlier past)) most fewer_now where
-      add : (n w b a : ℕ) → n + b ≤ w → a < b → suc n + a ≤ w
-      add n w b a most less = omega arith
-
-pub rounds_bound : (goal : Goal) (later : List Event) (rounds : List (List Event)) (past : List Event) → is_sound goal (later ++ after_rounds rounds past) ≡ true → AreRounds goal rounds past → to_come past < length rounds → is_level_announced (after_rounds rounds past) ≡ true
-rounds_bound goal later rounds past sound are enough = true_from_ne_false (is_level_announced (after_rounds rounds past)) (λ untold. wrong (length rounds) (to_come (after_rounds rounds past)) (to_come past) (count goal rounds past (sound_rest goal later (after_rounds rounds past) sound (at_last goal rounds past are).0) are untold) enough) where
-  wrong : (n a w : ℕ) → n + a ≤ w → w < n → ⊥
-  wrong n a w most enough = omega arith

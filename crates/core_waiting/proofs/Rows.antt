@@ -21,7 +21,8 @@ use Rattle.trace_events.specs.Due.{due}
 use Rattle.trace_events.specs.Sound.{is_sound}
 use Rattle.core_waiting.specs.declared.rests.Why.{Why}
 use Rattle.core_waiting.specs.declared.rests.Why.TheVariants.{Excluded, WaitedFor, InTheWay}
-use Rattle.core_waiting.specs.Rest.{why_awaited, awaited_children, is_level_announced, is_on_power, to_come, after_rounds, AreRounds}
+use Rattle.core_waiting.specs.Rest.{why_awaited, awaited_children, is_level_announced, is_on_power, to_come, after_rounds}
+use Rattle.core_waiting.specs.Arrival.{AreUndisturbed}
 
 abbrev pub entry : List ℕ → List Mark → Act → Entry
 entry id levels action = record { id = id; levels = record { items = levels }; act = action; process = record { items = codes "x" } }
@@ -382,8 +383,8 @@ second_ends = Settle level.L3 ∷ started (codes "r") 9 ++ ended (codes "w") 8 +
 two_rounds-are_sound : is_sound (opening level.L3) (after_rounds (second_ends ∷ first_ends ∷ []) first_runs) ≡ true
 two_rounds-are_sound = refl
 
-two_rounds-are_rounds : AreRounds (opening level.L3) (second_ends ∷ first_ends ∷ []) first_runs
-two_rounds-are_rounds = (((refl, refl), refl, refl, refl, refl), refl, refl, refl, refl)
+two_rounds-are_undisturbed : AreUndisturbed (opening level.L3) (second_ends ∷ first_ends ∷ []) first_runs
+two_rounds-are_undisturbed = (((refl, refl), refl, refl, refl), refl, refl, refl)
 
 first_runs-to_come : to_come first_runs ≡ 1
 first_runs-to_come = refl

@@ -1,6 +1,6 @@
 -- Where init is at rest, and which children's ends it awaits there, each with why.
 use Rattle.std.specs.Prelude.{◌≡◌, ℕ, Bool, true, false, not, ◌&&◌, ◌||◌, ◌++◌, IsTrue, if◌then◌else◌, List, [], ◌∷◌, filter, length, Option, Some, None, is_some}
-use Rattle.std.specs.List.{list_any, list_all}
+use Rattle.std.specs.List.{list_any}
 use Rattle.std.specs.Option.{option_map_or}
 use Rattle.init_words.specs.declared.entries.Entry.{Entry}
 use Rattle.init_words.specs.declared.actions.Act.{Act}
@@ -135,12 +135,3 @@ to_come past = length (filter (is_to_come past) (table_of past))
 abbrev pub after_rounds : List (List Event) → List Event → List Event
 after_rounds [] past = past
 after_rounds (round ∷ earlier) past = round ++ after_rounds earlier past
-
--- from a rest each round leads to a rest, with no order open there; it is calm, and no child that was awaited before it
--- is left behind it
-abbrev pub AreRounds : Goal → List (List Event) → List Event → Type 0
-AreRounds goal [] past = AtRest goal past × IsTrue (is_idle past)
-AreRounds goal (round ∷ earlier) past =
-    AreRounds goal earlier past × IsTrue (is_calm round)
-    × IsTrue (list_all (is_gone round (after_rounds earlier past)) (awaited_children (after_rounds earlier past)))
-    × AtRest goal (round ++ after_rounds earlier past) × IsTrue (is_idle (round ++ after_rounds earlier past))

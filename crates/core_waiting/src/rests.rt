@@ -1,10 +1,10 @@
-//! Where init is at rest, and whose end it awaits there: init never waits for nothing, and a level is settled at last.
+//! Where init is at rest, and whose end it awaits there: init never waits for nothing.
 //!
 //! The words are those of `trace_events`, and of `specs/Rest`. A trace is a list of happenings, the newest first. The laws
 //! stand for all readings of the clock and whatever is asked of init, before a stretch of which they say that nothing is
 //! asked in it.
 
-ghost use Rattle.std.specs.Prelude.{◌≡◌, ◌<◌, ℕ, Bool, IsTrue, false, not, ◌||◌, List, ◌++◌, length, filter_map};
+ghost use Rattle.std.specs.Prelude.{◌≡◌, ℕ, Bool, IsTrue, false, not, ◌||◌, List, ◌++◌, filter_map};
 ghost use Rattle.std.specs.List.{list_any, list_all};
 ghost use Rattle.trace_events.specs.declared.steps.Goal.{Goal};
 ghost use Rattle.trace_events.specs.declared.steps.Step.TheVariants.{Idle};
@@ -22,7 +22,7 @@ ghost use Rattle.core_model.specs.Fit.{StillFits, OnEachTrace};
 ghost use Rattle.core_model.specs.Work.{work_left};
 ghost use Rattle.core_waiting.specs.Awaiting.{with_why, in_record_order, awaited_known, awaited_by};
 ghost use Rattle.core_waiting.specs.Coming.{with_own_steps, after_own_steps};
-ghost use Rattle.core_waiting.specs.Rest.{AtRest, AtEachRest, is_level_announced, awaited_children, is_empty, is_stopping, is_looked_at, is_on_power, is_waited_id, BetweenCalmStarts, is_gone, is_waited_start, BetweenRests, to_come, after_rounds, AreRounds};
+ghost use Rattle.core_waiting.specs.Rest.{AtRest, AtEachRest, is_level_announced, awaited_children, is_empty, is_stopping, is_looked_at, is_on_power, is_waited_id, BetweenCalmStarts, is_gone, is_waited_start, BetweenRests};
 ghost use Rattle.core_waiting.specs.declared.rests.Awaited.{Awaited};
 
 use init_words::{ChildNumber, Id};
@@ -81,11 +81,6 @@ pub fn law_of_rest()
         IsTrue (list_all (is_gone between past) (awaited_children past))
         → is_level_announced (between ++ past) ≡ false
         → IsTrue (list_any (is_waited_start past) between)) }
-    // so after more such rounds than waited entries were to come at the first rest, the level is announced
-    ensures bound { (goal : Goal) (later : List Event)
-        (rounds : List (List Event)) (past : List Event)
-        → IsTrue (is_sound goal (later ++ after_rounds rounds past)) → AreRounds goal rounds past
-        → to_come past < length rounds → IsTrue (is_level_announced (after_rounds rounds past)) }
 {}
 
 /// Init's own steps end, and where they end it rests. It does nothing: its contract says the laws.

@@ -11,7 +11,7 @@ use Rattle.trace_log.specs.Logs.{LogState}
 use Rattle.host_calls.specs.Calls.{HostCall}
 use Rattle.host_trace.specs.Point.{Point, point_after}
 use Rattle.host_trace.specs.Leads.{AreTexts, Leads, Takes, Took, Went, are_carried, is_allowed}
-use Rattle.host_trace.specs.Fronts.{BeginsWith, Began, EachFront, Fronts, GoesSoFar, LogsSoFar, WentSoFar, says_of}
+use Rattle.host_trace.specs.Fronts.{BeginsWith, Began, Fronts, GoesSoFar, LogsSoFar, WentSoFar, says_of}
 use Rattle.host_trace.specs.Grows.{Grows}
 use Rattle.host_trace.proofs.Leading.{calls_allowed, carried_parts, texts_then}
 use Rattle.host_trace.proofs.Point.{point_after-append, has_trace-append}

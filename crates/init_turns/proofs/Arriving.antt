@@ -1,22 +1,15 @@
 -- Turns as rounds, and the level that they come to.
-use Rattle.std.proofs.Common.{◌≡◌, refl, sym, ap, ◌∙◌, subst, ℕ, zero, suc, ◌+◌, ◌-◌, ◌<◌, ◌≤◌, ◌⊎◌, ◌==◌, inl, inr, Bool, true, false, ◌&&◌, nat_lt, List, [], ◌∷◌, ◌++◌, length, take, Option, None, Some, Result, arith, length-append}
+use Rattle.std.proofs.Common.{◌≡◌, refl, sym, ap, ◌∙◌, subst, ℕ, zero, suc, ◌+◌, ◌-◌, ◌<◌, ◌≤◌, ◌==◌, inl, inr, Bool, true, false, ◌&&◌, nat_lt, List, [], ◌∷◌, ◌++◌, length, take, None, arith, length-append}
 use Rattle.std.specs.List.{list_all}
 use Rattle.std.proofs.lemmas.Bool.{false≢true, and_from, and_parts, ltb-true}
-use Rattle.std.proofs.lemmas.List.{append_assoc}
 use Rattle.std.proofs.lemmas.List.Folds.{list_all-append}
-use Rattle.init_words.specs.declared.entries.Entry.{Entry}
-use Rattle.init_words.specs.declared.levels.Level.{Level}
-use Rattle.init_words.specs.declared.stages.Stage.TheVariants.{Run}
 use Rattle.trace_events.specs.declared.steps.Goal.{Goal}
-use Rattle.trace_events.specs.declared.steps.Step.TheVariants.{Idle}
 use Rattle.trace_events.specs.Event.{Event}
-use Rattle.trace_events.specs.Due.{due, first}
-use Rattle.trace_events.specs.Past.{is_idle, stage_of}
+use Rattle.trace_events.specs.Past.{is_idle}
 use Rattle.trace_events.specs.Sound.{is_sound}
-use Rattle.trace_events.specs.Wishes.{goal_of}
-use Rattle.core_model.specs.State.{CoreState, opening_goal}
-use Rattle.core_waiting.specs.Arrival.{AreUndisturbed, destination, is_undisturbed, rounds_to_come}
-use Rattle.core_waiting.specs.Rest.{AtRest, after_rounds, is_level_announced}
+use Rattle.core_model.specs.State.{CoreState}
+use Rattle.core_waiting.specs.Arrival.{AreUndisturbed, is_undisturbed}
+use Rattle.core_waiting.specs.Rest.{AtRest, after_rounds}
 use Rattle.core_waiting.proofs.Arriving.{arrives, arrives_there}
 use Rattle.core_waiting.proofs.Idle.{idle_none_due}
 use Rattle.host_calls.specs.declared.calls.Call.TheVariants.{Start, Look, Signal, Late, Clock, TakeBytes, ReadTables, Carry, Announce, Pause}
@@ -25,10 +18,9 @@ use Rattle.host_calls.specs.Calls.{HostCall}
 use Rattle.host_trace.specs.declared.TheConstants.{STEP_LIMIT, LATE_LIMIT}
 use Rattle.host_trace.specs.Leads.{are_carried, are_seconds_short, is_allowed}
 use Rattle.host_trace.specs.Point.{Point, point_after}
-use Rattle.host_trace.specs.Turns.{AddsTo, AreSteps, AreTurns, IsTurn, are_full, are_lates, are_takes, bytes_taken, bytes_in, has_come, is_room, is_step}
+use Rattle.host_trace.specs.Turns.{AreSteps, AreTurns, IsTurn, are_full, are_lates, are_takes, bytes_taken, has_come, is_room, is_step}
 use Rattle.host_trace.proofs.Leading.{calls_allowed, carried_parts}
 use Rattle.host_trace.proofs.Point.{point_after-append}
-use Rattle.init_turns.specs.Opening.{IsOpening, opening_point}
 use Rattle.init_turns.specs.Arriving.{ArrivesIn, IsSettled, are_undisturbed_turns, is_answered_turn, past_after, round_of, up_to_pause, without_turn, without_turns}
 
 -- ---- a turn has no pause

@@ -1,4 +1,5 @@
 pub mod Arriving
+pub mod ArrivingRows
 pub mod Carried
 pub mod Grown
 pub mod HandOvers

@@ -7,7 +7,6 @@ use Rattle.core_waiting.proofs.Settled.{announced_power, announced_spared}
 use Rattle.core_waiting.proofs.Stops.{rest_stopping, rest_looked}
 use Rattle.core_waiting.proofs.Once.{starts_once}
 use Rattle.core_waiting.proofs.Progress.{rests_progress}
-use Rattle.core_waiting.proofs.Rounds.{rounds_bound}
 use Rattle.core_waiting.proofs.rests.law_of_rest.Goals as goal
 
 pub returns-clause-rest : goal.returns-clause-rest
@@ -36,6 +35,3 @@ returns-clause-once c = starts_once
 
 pub returns-clause-progress : goal.returns-clause-progress
 returns-clause-progress c = rests_progress
-
-pub returns-clause-bound : goal.returns-clause-bound
-returns-clause-bound c = rounds_bound

@@ -1,4 +1,3 @@
-use Rattle.std.proofs.Common.{◌≡◌, true}
 use Rattle.host_trace.specs.Leads.{At}
 use Rattle.init_turns.specs.Parts.{Fresh, Makes}
 use Rattle.host_trace.specs.Grows.{GrowsBy, HasRead}
