@@ -87,5 +87,7 @@ pub(crate) fn tried(alloc: Global, row: &Row) -> Result<Option<u64>, Memory> {
 
 /// A line of the script tells of a hand-over.
 fn has_handed(script: &[u8]) -> bool {
-    script.split(|byte| *byte == b'\n').any(|line| line.starts_with(b"handed"))
+    script
+        .split(|byte| *byte == b'\n')
+        .any(|line| line.starts_with(b"handed"))
 }
