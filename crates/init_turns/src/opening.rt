@@ -56,10 +56,14 @@ impl<A: Allocator + Copy> Opening<A> {
         drain: bool,
         watch: &mut W,
     ) -> (Served, Core<A>)
+        // the calls made are those of so many turns from the opening on; up to each call their trace is sound and lawful, as
+        // far as the answers until then were possible; the core that is seen after each turn, and given back, tracks it;
+        // the log took it; and a level is settled in as many undisturbed turns as there were rounds to come
         ensures trace { (level : Option Level) (table : List Entry) → IsOpeningOf level table self
             → Opens (H.told host.old) (H.told host.new) (L.state log.old) (L.state log.new)
             level table (ServesTurns drain level table result.0.turns (W.seen watch.old)
             (W.seen watch.new)) result.1 }
+        // it makes the turns that were asked for; fewer only where it was to end drained, and is
         ensures most { result.0.turns ≤ turns }
         ensures fewer { result.0.turns < turns → (drain ≡ true) × (result.0.drained ≡ true) }
         ensures drained { result.0.drained ≡ is_drained result.1 }

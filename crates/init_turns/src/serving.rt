@@ -26,6 +26,7 @@ pub trait Watch<A: Allocator> {
 
     /// A turn was made, and this is what init keeps behind it.
     fn look(&mut self, core: &Core<A>)
+        // it tells that it saw this core, or tells none from here on
         ensures seen { Since (seen self.old) (seen self.new) (λ cores. cores ≡ core.now ∷ []) };
 }
 
@@ -63,8 +64,11 @@ pub fn turn<A: Allocator + Copy, H: Host, L: Log>(
     blocks: &mut Blocks,
     log: &mut L,
 ) -> bool
+    // the calls made are those of a turn; as far as their answers were possible each was in its place, init's core tracks
+    // their trace, nothing is due after it where the turn was done, and the log took it
     ensures makes { Makes (H.told host.old) (H.told host.new) (L.state log.old) (L.state log.new)
         (IsTurn result) (At core.old blocks.old) (Left result core.new blocks.new) }
+    // whatever is answered, the log only grows, and seconds of at most an hour stay so
     ensures grows { GrowsReading core.old core.new blocks.old blocks.new
         (L.state log.old) (L.state log.new) }
 {
@@ -104,15 +108,20 @@ pub fn serve<A: Allocator + Copy, H: Host, L: Log, W: Watch<A>>(
     drain: bool,
     watch: &mut W,
 ) -> Served
+    // the calls made are those of so many turns; as far as their answers were possible each was in its place, the core that
+    // is seen after each tracks their trace up to there, and the log took it
     ensures trace { Makes (H.told host.old) (H.told host.new) (L.state log.old) (L.state log.new)
         (MadeTurns drain (Fresh core.old) result.turns (W.seen watch.old) (W.seen watch.new))
         (Fresh core.old) (LeftBy core.new) }
+    // the requests in it are those of all bytes that were taken
     ensures requests { Since (H.told host.old) (H.told host.new) (λ calls. (p : Point)
         → p.over ≡ [] → Brings [] calls p) }
+    // it makes the turns that were asked for; fewer only where it was to end drained, and is
     ensures most { result.turns ≤ turns }
     ensures fewer { result.turns < turns → (drain ≡ true) × (result.drained ≡ true) }
     ensures drained { result.drained ≡ is_drained core.new }
     ensures logged { result.logged ≡ not (L.state log.new).failed }
+    // whatever is answered, the log only grows, and seconds of at most an hour stay so
     ensures grows { GrowsBy core.old core.new (L.state log.old) (L.state log.new) }
 {
     let mut blocks = Blocks::new();
