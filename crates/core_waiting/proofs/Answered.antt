@@ -1,7 +1,7 @@
 -- A request for a level is answered: that level is settled.
 use Rattle.std.proofs.Common.{◌≡◌, ◌≤◌, ◌⊎◌, inl, inr, refl, sym, ◌∙◌, ap, ℕ, Bool, true, false, ◌&&◌, not, cond, List, [], ◌∷◌, ◌++◌, length, Option, Some, None}
 use Rattle.std.specs.List.{list_any}
-use Rattle.std.proofs.lemmas.Bool.{false≢true}
+use Rattle.std.proofs.lemmas.Bool.{false≢true, not-true}
 use Rattle.std.proofs.lemmas.List.{append_assoc}
 use Rattle.std.proofs.lemmas.Option.{none-some, same_Some}
 use Rattle.init_words.specs.declared.levels.Level.{Level}
@@ -142,10 +142,7 @@ module _ (goal : Goal) (between before : List Event) (level : Level) (grace : �
     at None is away none = refl
     at (Some Sysinit) is away none = refl
     at (Some Boot) is away none = refl
-    at (Some (Run now)) is away none = absurd (both_ways (is_stage_entered between) (not_lost goal between before level now grace is (not_so (same_level level now) away) unasked rest idle) none) where
-      not_so : (b : Bool) → not b ≡ true → b ≡ false
-      not_so true h = sym h
-      not_so false h = refl
+    at (Some (Run now)) is away none = absurd (both_ways (is_stage_entered between) (not_lost goal between before level now grace is (not-true (same_level level now) away) unasked rest idle) none)
 
     by : (entered : Bool) → is_stage_entered between ≡ entered → is_headed level (stage_of now_past) ≡ true
     by true some = entered_headed sound some

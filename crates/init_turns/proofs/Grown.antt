@@ -1,17 +1,20 @@
 -- What the parts of a turn make of a log that only takes more, whatever was answered.
-use Rattle.std.proofs.Common.{◌≡◌, ◌<◌, refl, sym, ◌∙◌, ap, ℕ, true, ◌&&◌, not, List, [], ◌++◌, Option}
+use Rattle.std.proofs.Common.{◌≡◌, ◌<◌, refl, ℕ, true, ◌&&◌, not, List, [], ◌++◌, Option}
 use Rattle.std.specs.List.{list_all}
 use Rattle.std.specs.Option.{option_to_list}
 use Rattle.std.proofs.lemmas.Bool.{and_parts, and_from}
 use Rattle.initctl_frame.specs.declared.requests.HeardRequest.{HeardRequest}
 use Rattle.initctl_frame.specs.Blocks.{Begun, Stands, gots_of}
+use Rattle.trace_events.specs.declared.steps.Step.{Step}
+use Rattle.trace_events.specs.declared.steps.Step.TheVariants.{Enter}
 use Rattle.trace_events.specs.Range.{is_request}
 use Rattle.core_model.specs.declared.parts.CoreFields.{CoreFields}
 use Rattle.core_model.specs.Decide.{decide}
 use Rattle.core_model.specs.Parts.{state_of}
 use Rattle.core_model.specs.State.{CoreState}
-use Rattle.core_model.proofs.Decided.{EachPasses, decided}
-use Rattle.core_text.specs.Range.{are_heads, has_short_seconds, is_generation, is_goal, is_stage, is_time, passes}
+use Rattle.core_model.specs.Steps.{after_step, wished}
+use Rattle.core_handover.proofs.Lasting.{step_lasts}
+use Rattle.core_text.specs.Range.{are_heads, has_short_seconds, is_generation, is_goal, is_seconds, is_stage, is_time, passes}
 use Rattle.core_text.specs.Refused.{IsTextOf}
 use Rattle.core_text.proofs.Bodies.{state_parts}
 use Rattle.trace_log.specs.Logs.{LogState}
@@ -33,23 +36,16 @@ piece_reads old new part given some fed gots read =
 
 -- ---- steps
 
--- a step that init gives names an hour at most where its seconds are at most an hour
+-- a step whose seconds are kept names an hour at most where those are
+short_made : (made : Step) (c : CoreState) → has_short_seconds (after_step made c) ≡ true → is_short_step made ≡ true
+short_made (Enter now grace) c short =
+    let aim = is_goal (wished c.heads.level_wish c.heads.goal) in
+    (and_parts (is_seconds grace) aim (and_parts (is_seconds grace && aim) true short).0).0
+short_made _ c short = refl
+
+-- so does one that init gives, where its seconds are at most an hour
 pub decide_short : (c : CoreState) → has_short_seconds c ≡ true → is_short_step (decide c) ≡ true
-decide_short c short =
-    let outer = and_parts (is_stage c.heads.stage c.heads.grace && is_goal c.heads.goal) (passes is_goal c.heads.level_wish) short in
-    let each : EachPasses is_short_step c = record {
-      orders = λ id ask. refl;
-      holds = λ id. refl;
-      settles = λ level. refl;
-      calls = λ called. refl;
-      powers = λ kind. refl;
-      reread = refl;
-      idle = refl;
-      reexec = λ wished. refl;
-      goal = λ now. (and_parts (is_stage c.heads.stage c.heads.grace) (is_goal c.heads.goal) outer.0).1;
-      wish = λ wish has now. sym (ap (passes is_goal) has) ∙ outer.1;
-    } in
-    decided is_short_step c each
+decide_short c short = short_made (decide c) c (step_lasts c short)
 
 -- ---- re-executions
 

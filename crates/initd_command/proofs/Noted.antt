@@ -1,6 +1,6 @@
 -- What turns noted over a host that tells its calls, what their judge found, and how their log ended.
 use Rattle.std.proofs.Common.{◌≡◌, refl, sym, ◌∙◌, ap, subst, inr, inl, ◌⊎◌, ℕ, Bool, true, false, not, ◌&&◌, if◌then◌else◌, List, [], ◌++◌, reverse, Option, Some, None, is_some, IfSome}
-use Rattle.std.proofs.lemmas.Bool.{and_parts}
+use Rattle.std.proofs.lemmas.Bool.{and_parts, not-true}
 use Rattle.std.proofs.lemmas.List.{append-nil, reverse-append, reverse-reverse}
 use Rattle.init_words.specs.declared.entries.Entry.{Entry}
 use Rattle.init_words.specs.declared.levels.Level.{Level}
@@ -65,10 +65,6 @@ noted_of_trace notes waiting judgement past of waits finds = record {
     known id true all = inr (last_by_notes notes id past of all)
     known id false none = inl (ap (λ complete. if complete then last_of (end_in id notes.ends) else Unnoted) none)
 
-not_so : (b : Bool) → not b ≡ true → b ≡ false
-not_so true h = sym h
-not_so false h = refl
-
 -- turns are as many behind the end of their log
 pub served_still : (P : ℕ → Bool → Type 0) (served ended : Served) (logged : Bool) → ended ≡ record served { logged = logged } → P served.turns served.drained → P ended.turns ended.drained
 served_still P served ended logged is so = subst (λ (s : Served). P s.turns s.drained) (sym is) so
@@ -103,7 +99,7 @@ noted_over has_ended Found taken notes found failed whole core old service level
     let took = went.log in
     let takes : Takes old (record { taken = λ trace. NotesOf notes (reverse trace) × (Found (reverse trace) × taken trace); failed = failed }) [] took.came = took.log [] none in
     let parts : past ≡ takes.missed ++ takes.took = took.grown ∙ append-nil took.came ∙ takes.parts in
-    let all : served.logged ≡ true → takes.missed ≡ [] = λ h. takes.whole (not_so failed (sym logged ∙ h)) in
+    let all : served.logged ≡ true → takes.missed ≡ [] = λ h. takes.whole (not-true failed (sym logged ∙ h)) in
     let so : ended.logged ≡ (served.logged && whole) = ap (λ s. s.logged) goes in (
       (λ h.
           let every : takes.took ≡ past = sym (parts ∙ ap (λ m. m ++ takes.took) (all (and_parts served.logged whole (sym so ∙ h)).0)) in
