@@ -46,6 +46,12 @@ pub struct OsHost<
     R: Processes + Files<File = File> + Clock + Print + Eprint + Drop,
     A: Allocator = Global,
 > {
+    host: Box<SystemHost<R, A>, A>,
+}
+
+/// What a host has, which is on the heap: so a host is one word to whoever owns it.
+#[derive(Drop)]
+struct SystemHost<R: Processes + Files<File = File> + Clock + Print + Eprint + Drop, A: Allocator> {
     rt: R,
     alloc: A,
     children: Children<R, A>,
@@ -63,6 +69,15 @@ pub struct OsHost<
 
 impl<R: Processes + Files<File = File> + Clock + Print + Eprint + Drop, A: Allocator> Model
     for OsHost<R, A> {
+    ghost use Rattle.host_system.specs.Hosts.{HostState};
+
+    ghost Value = { HostState };
+
+    ghost view = { λ os. os.host.value };
+}
+
+impl<R: Processes + Files<File = File> + Clock + Print + Eprint + Drop, A: Allocator> Model
+    for SystemHost<R, A> {
     ghost use Rattle.host_system.specs.Hosts.{HostState};
 
     ghost Value = { HostState };
@@ -101,7 +116,119 @@ impl<R: Processes + Files<File = File> + Clock + Print + Eprint + Drop, A: Alloc
           held = [];
         }) }
     {
-        Ok(OsHost {
+        let host = SystemHost::new(rt, alloc, program, inittab, channel, state, folder)?;
+        let host = boxed(alloc, host)?;
+        Ok(OsHost { host })
+    }
+
+    /// The host with pauses of at most this length in seconds, a decimal of 0.01 to 60 with at most two digits after
+    /// the point; any other text leaves them as they are. Since the last pause a child may have been born or reaped, a
+    /// signal sent or bytes taken: then the next one lasts a thousandth of the length, or less where there are few
+    /// children: two millionths of a second a child, and at least a hundred. Else it lasts twice as long as the last,
+    /// but no longer than the length.
+    pub fn with_pause(mut self, length: &str) -> Result<OsHost<R, A>, Memory>
+        ensures { IfOk result (λ host. host ≡ self) }
+    {
+        let host = &mut *self.host;
+        host.pauses.grow_to(length);
+        Ok(self)
+    }
+
+    /// The host with pauses for one child that is waited for: each lasts a tenth of the time since the child was born or
+    /// sent a signal, a ten-thousandth of a second to a second.
+    pub fn waiting(mut self) -> OsHost<R, A>
+        ensures { result ≡ self }
+    {
+        let host = &mut *self.host;
+        host.pauses = Pauses::of_a_tenth();
+        self
+    }
+
+    /// The host that puts no text of its state over the file at this path, as over no other of its own, and that tells
+    /// on standard error where no text could be put at the state's path as things stand.
+    pub fn sparing(mut self, path: &str) -> Result<OsHost<R, A>, Memory>
+        ensures { IfOk result (λ host. host ≡ self) }
+    {
+        self.host.spare(path)?;
+        Ok(self)
+    }
+
+    /// The host that tells on standard error of each birth, each end and each signal of a child, and once of each file
+    /// that comes to stand in the inittab's folder and is passed over; those that stand there now are taken for told.
+    pub fn verbose(mut self) -> OsHost<R, A>
+        ensures { result ≡ record self { verbose = true } }
+    {
+        let host = &mut *self.host;
+        host.tell_all();
+        host.verbose = true;
+        self
+    }
+
+    /// The host that doesn't give an inittab of which a line is faulty, whose faults are printed each time.
+    pub fn strict(mut self) -> OsHost<R, A>
+        ensures { result ≡ record self { strict = true } }
+    {
+        let host = &mut *self.host;
+        host.strict = true;
+        self
+    }
+
+    /// The host that passes over the requests that stand in the channel at its first reading: that begins at the end
+    /// of the last whole one. A channel that isn't there then has none.
+    pub fn fresh(mut self) -> OsHost<R, A>
+        ensures { result ≡ record self { fresh = true } }
+    {
+        let host = &mut *self.host;
+        host.channel.pass_over_old();
+        host.fresh = true;
+        self
+    }
+
+    /// The host that holds this lock of its channel, and takes that of each other file that comes to stand at the
+    /// channel's path. Where another init has that one, it is told, and nothing is read.
+    pub fn holding(mut self, lock: ChannelLock) -> OsHost<R, A>
+        ensures { result ≡ self }
+    {
+        let host = &mut *self.host;
+        host.channel.hold(lock);
+        self
+    }
+
+    /// The host that appends what each child prints to `ID.log` in the folder, or to `_.log` where the id begins with
+    /// a point or has a slash, which is told. Its children have no input. Each is started by `sh`, which becomes the
+    /// process, or says in the log that there is none and ends with a status. Where a log can't be opened that is told,
+    /// and the child is started as without logs.
+    pub fn with_logs(mut self, folder: &str) -> Result<OsHost<R, A>, Memory>
+        ensures { IfOk result (λ host. host ≡ self) }
+    {
+        let host = &mut *self.host;
+        host.children.log_to(folder)?;
+        Ok(self)
+    }
+}
+
+impl<
+    R: Processes + Files<File = File> + Clock + Print + Eprint + Drop,
+    A: Allocator + Copy,
+> SystemHost<R, A> {
+    fn new(
+        rt: R,
+        alloc: A,
+        program: &'static str,
+        inittab: &str,
+        channel: &str,
+        state: &str,
+        folder: Option<&str>,
+    ) -> Result<SystemHost<R, A>, Memory>
+        ensures { IfOk result (λ host. host ≡ record {
+          faults = 0;
+          strict = false;
+          verbose = false;
+          fresh = false;
+          held = [];
+        }) }
+    {
+        Ok(SystemHost {
             rt,
             alloc,
             children: Children::new(alloc, program),
@@ -118,89 +245,6 @@ impl<R: Processes + Files<File = File> + Clock + Print + Eprint + Drop, A: Alloc
         })
     }
 
-    /// The host with pauses of at most this length in seconds, a decimal of 0.01 to 60 with at most two digits after
-    /// the point; any other text leaves them as they are. Since the last pause a child may have been born or reaped, a
-    /// signal sent or bytes taken: then the next one lasts a thousandth of the length, or less where there are few
-    /// children: two millionths of a second a child, and at least a hundred. Else it lasts twice as long as the last,
-    /// but no longer than the length.
-    pub fn with_pause(mut self, length: &str) -> Result<OsHost<R, A>, Memory>
-        ensures { IfOk result (λ host. host ≡ self) }
-    {
-        self.pauses.grow_to(length);
-        Ok(self)
-    }
-
-    /// The host with pauses for one child that is waited for: each lasts a tenth of the time since the child was born or
-    /// sent a signal, a ten-thousandth of a second to a second.
-    pub fn waiting(mut self) -> OsHost<R, A>
-        ensures { result ≡ self }
-    {
-        self.pauses = Pauses::of_a_tenth();
-        self
-    }
-
-    /// The host that puts no text of its state over the file at this path, as over no other of its own, and that tells
-    /// on standard error where no text could be put at the state's path as things stand.
-    pub fn sparing(mut self, path: &str) -> Result<OsHost<R, A>, Memory>
-        ensures { IfOk result (λ host. host ≡ self) }
-    {
-        self.spare(path)?;
-        Ok(self)
-    }
-
-    /// The host that tells on standard error of each birth, each end and each signal of a child, and once of each file
-    /// that comes to stand in the inittab's folder and is passed over; those that stand there now are taken for told.
-    pub fn verbose(mut self) -> OsHost<R, A>
-        ensures { result ≡ record self { verbose = true } }
-    {
-        self.tell_all();
-        self.verbose = true;
-        self
-    }
-
-    /// The host that doesn't give an inittab of which a line is faulty, whose faults are printed each time.
-    pub fn strict(mut self) -> OsHost<R, A>
-        ensures { result ≡ record self { strict = true } }
-    {
-        self.strict = true;
-        self
-    }
-
-    /// The host that passes over the requests that stand in the channel at its first reading: that begins at the end
-    /// of the last whole one. A channel that isn't there then has none.
-    pub fn fresh(mut self) -> OsHost<R, A>
-        ensures { result ≡ record self { fresh = true } }
-    {
-        self.channel.pass_over_old();
-        self.fresh = true;
-        self
-    }
-
-    /// The host that holds this lock of its channel, and takes that of each other file that comes to stand at the
-    /// channel's path. Where another init has that one, it is told, and nothing is read.
-    pub fn holding(mut self, lock: ChannelLock) -> OsHost<R, A>
-        ensures { result ≡ self }
-    {
-        self.channel.hold(lock);
-        self
-    }
-
-    /// The host that appends what each child prints to `ID.log` in the folder, or to `_.log` where the id begins with
-    /// a point or has a slash, which is told. Its children have no input. Each is started by `sh`, which becomes the
-    /// process, or says in the log that there is none and ends with a status. Where a log can't be opened that is told,
-    /// and the child is started as without logs.
-    pub fn with_logs(mut self, folder: &str) -> Result<OsHost<R, A>, Memory>
-        ensures { IfOk result (λ host. host ≡ self) }
-    {
-        self.children.log_to(folder)?;
-        Ok(self)
-    }
-}
-
-impl<R: Processes + Files<File = File> + Clock + Print + Eprint + Drop, A: Allocator + Copy> OsHost<
-    R,
-    A,
-> {
     fn spare(&mut self, path: &str) -> Result<(), Memory>
         ensures { self.new ≡ self.old }
     {
@@ -254,6 +298,13 @@ impl<R: Processes + Files<File = File> + Clock + Print + Eprint + Drop, A: Alloc
             TableFault::Memory => self.paths.say_no_room(&self.rt),
         }
     }
+}
+
+/// The value on the heap.
+fn boxed<T: Drop, A: Allocator>(alloc: A, value: T) -> Result<Box<T, A>, Memory>
+    ensures { IfOk result (λ made. made.value ≡ value) }
+{
+    Ok(Box::new(alloc, value)?)
 }
 
 /// Prints what init says of the happening, at once, and gives how many bytes that are.
@@ -320,15 +371,16 @@ impl<R: Processes + Files<File = File> + Clock + Print + Eprint + Drop, A: Alloc
         ensures kept { self.new
             ≡ record self.old { faults = self.new.faults; held = self.new.held } }
     {
-        let reply = match self.children.start(&self.rt, alloc, id, command) {
+        let host = &mut *self.host;
+        let reply = match host.children.start(&host.rt, alloc, id, command) {
             Ok(number) => Reply::Now(Answer::Born(number)),
             Err(error) => {
-                self.children.say_not_born(&self.rt, &id, command, &error);
+                host.children.say_not_born(&host.rt, &id, command, &error);
                 Reply::Now(Answer::NotBorn)
             }
         };
-        self.pauses.note(has_stirred(&reply));
-        self.faults = counted(self.faults, is_failed_reply(&reply));
+        host.pauses.note(has_stirred(&reply));
+        host.faults = counted(host.faults, is_failed_reply(&reply));
         reply
     }
 
@@ -339,9 +391,10 @@ impl<R: Processes + Files<File = File> + Clock + Print + Eprint + Drop, A: Alloc
         ensures kept { self.new
             ≡ record self.old { faults = self.new.faults; held = self.new.held } }
     {
-        let reply = Reply::Now(self.children.look(&self.rt, &id));
-        self.pauses.note(has_stirred(&reply));
-        self.faults = counted(self.faults, is_failed_reply(&reply));
+        let host = &mut *self.host;
+        let reply = Reply::Now(host.children.look(&host.rt, &id));
+        host.pauses.note(has_stirred(&reply));
+        host.faults = counted(host.faults, is_failed_reply(&reply));
         reply
     }
 
@@ -352,9 +405,10 @@ impl<R: Processes + Files<File = File> + Clock + Print + Eprint + Drop, A: Alloc
         ensures kept { self.new
             ≡ record self.old { faults = self.new.faults; held = self.new.held } }
     {
-        let reply = Reply::Now(self.children.signal(&self.rt, &id, signal));
-        self.pauses.note(has_stirred(&reply));
-        self.faults = counted(self.faults, is_failed_reply(&reply));
+        let host = &mut *self.host;
+        let reply = Reply::Now(host.children.signal(&host.rt, &id, signal));
+        host.pauses.note(has_stirred(&reply));
+        host.faults = counted(host.faults, is_failed_reply(&reply));
         reply
     }
 
@@ -370,8 +424,9 @@ impl<R: Processes + Files<File = File> + Clock + Print + Eprint + Drop, A: Alloc
         ensures cause { HasCause self.old.faults self.new.faults (is_err result) }
         ensures kept { self.new ≡ record self.old { faults = self.new.faults } }
     {
-        let reading = host_result(self.clock.seconds(&self.rt));
-        self.faults = counted(self.faults, reading.is_err());
+        let host = &mut *self.host;
+        let reading = host_result(host.clock.seconds(&host.rt));
+        host.faults = counted(host.faults, reading.is_err());
         reading
     }
 
@@ -380,9 +435,10 @@ impl<R: Processes + Files<File = File> + Clock + Print + Eprint + Drop, A: Alloc
         ensures cause { HasCause self.old.faults self.new.faults (is_err result) }
         ensures kept { self.new ≡ record self.old { faults = self.new.faults } }
     {
-        let taken = host_result(self.channel.take_bytes(&self.rt, buffer));
-        self.pauses.note(matches!(taken, Ok(count) if count > 0));
-        self.faults = counted(self.faults, taken.is_err());
+        let host = &mut *self.host;
+        let taken = host_result(host.channel.take_bytes(&host.rt, buffer));
+        host.pauses.note(matches!(taken, Ok(count) if count > 0));
+        host.faults = counted(host.faults, taken.is_err());
         taken
     }
 
@@ -390,8 +446,9 @@ impl<R: Processes + Files<File = File> + Clock + Print + Eprint + Drop, A: Alloc
         ensures cause { HasCause self.old.faults self.new.faults (is_err result) }
         ensures kept { self.new ≡ record self.old { faults = self.new.faults } }
     {
-        let parts = host_result(self.paths.read_tables(&self.rt, alloc));
-        self.faults = counted(self.faults, parts.is_err());
+        let host = &mut *self.host;
+        let parts = host_result(host.paths.read_tables(&host.rt, alloc));
+        host.faults = counted(host.faults, parts.is_err());
         parts
     }
 
@@ -401,10 +458,11 @@ impl<R: Processes + Files<File = File> + Clock + Print + Eprint + Drop, A: Alloc
         ensures taken { result ≡ is_taken (λ all. all.items) self.old.strict reading.now }
         ensures kept { self.new ≡ record self.old { faults = self.new.faults } }
     {
+        let host = &mut *self.host;
         match reading {
-            Ok((table, faults)) => self.takes_table(parts, table, faults),
+            Ok((table, faults)) => host.takes_table(parts, table, faults),
             Err(fault) => {
-                self.say_no_table(*fault);
+                host.say_no_table(*fault);
                 true
             }
         }
@@ -413,16 +471,18 @@ impl<R: Processes + Files<File = File> + Clock + Print + Eprint + Drop, A: Alloc
     fn pass_over(&mut self, why: &str)
         ensures unchanged { self.new ≡ self.old }
     {
-        self.channel.pass_over(&self.rt, why);
+        let host = &mut *self.host;
+        host.channel.pass_over(&host.rt, why);
     }
 
     fn carry<B: Allocator + Copy>(&mut self, alloc: B, text: &[u8]) -> Result<Vec<u8, B>, HostFault>
         ensures cause { HasCause self.old.faults self.new.faults (is_err result) }
         ensures kept { self.new ≡ record self.old { faults = self.new.faults } }
     {
-        let back = self.paths.carry(&self.rt, alloc, self.channel.path(), text);
+        let host = &mut *self.host;
+        let back = host.paths.carry(&host.rt, alloc, host.channel.path(), text);
         let back = host_result(back);
-        self.faults = counted(self.faults, back.is_err());
+        host.faults = counted(host.faults, back.is_err());
         back
     }
 
@@ -430,14 +490,15 @@ impl<R: Processes + Files<File = File> + Clock + Print + Eprint + Drop, A: Alloc
         ensures cause { HasCause self.old.faults self.new.faults false }
         ensures kept { self.new ≡ record self.old { faults = self.new.faults } }
     {
-        let said = say(&self.rt, self.alloc, happening);
+        let host = &mut *self.host;
+        let said = say(&host.rt, host.alloc, happening);
         if !matches!(said, Ok(0)) {
-            self.saying.tell(&self.rt, "standard output", &said);
+            host.saying.tell(&host.rt, "standard output", &said);
         }
-        self.faults = counted(self.faults, said.is_err());
+        host.faults = counted(host.faults, said.is_err());
         match happening {
-            Happening::Enter(stage, _) => self.children.enter(*stage),
-            Happening::Hold(id) => self.children.say_last_end(&self.rt, id),
+            Happening::Enter(stage, _) => host.children.enter(*stage),
+            Happening::Hold(id) => host.children.say_last_end(&host.rt, id),
             _ => {}
         }
     }
@@ -445,12 +506,14 @@ impl<R: Processes + Files<File = File> + Clock + Print + Eprint + Drop, A: Alloc
     fn pause(&mut self)
         ensures unchanged { self.new ≡ self.old }
     {
-        self.children.end_turn();
-        let length = self.pauses.next(self.children.count());
-        rest(&self.rt, &self.channel, length);
+        let host = &mut *self.host;
+        host.children.end_turn();
+        let length = host.pauses.next(host.children.count());
+        rest(&host.rt, &host.channel, length);
     }
 
     fn faults(&self) -> u64 {
-        self.faults
+        let host = &*self.host;
+        host.faults
     }
 }

@@ -1,8 +1,8 @@
 //! Each byte of three texts, of both versions, is changed to each other: what is left is taken over, and handed over again
 //! as it stands, or refused by the first check that fails.
 
-use crate::cores::{not_taken, opened, taken};
-use crate::texts::{STARTED, STARTED_NOW};
+use crate::cores::{not_taken, started, taken};
+use crate::texts::{STARTED, STARTED_NOW, is_again};
 use core_handover::StateFault::{self, Cut, Generation, Line, Unfit, Version};
 use core_handover::hand_over;
 use core_steps::Core;
@@ -281,26 +281,6 @@ fn changed(alloc: Global, text: &str, place: usize, byte: u8) -> Result<Vec<u8>,
     Ok(made)
 }
 
-/// Whether a text is handed over again as it stood, but for its version and its generation, and that each record has
-/// this behind it.
-fn is_again(again: &[u8], text: &[u8], behind: &[u8]) -> bool {
-    let mut news = again.split(|byte| *byte == b'\n').skip(2);
-    for line in text.split(|byte| *byte == b'\n').skip(2) {
-        let end: &[u8] = if line.starts_with(b"slot ") {
-            behind
-        } else {
-            b""
-        };
-        let Some(new) = news.next() else {
-            return false;
-        };
-        if new.strip_prefix(line) != Some(end) {
-            return false;
-        }
-    }
-    news.next().is_none()
-}
-
 fn hands_again(alloc: Global, core: &mut Core, text: &[u8], behind: &str) -> bool {
     match hand_over(alloc, core) {
         Ok(again) => is_again(&again, text, behind.as_bytes()),
@@ -494,19 +474,6 @@ fn lines_are_exchanged(rt: HostRuntime) -> Result<(), Fail> {
         assert!(rt; got == *want, "{new}");
     }
     Ok(())
-}
-
-/// The core of which the text says: a start of `a` and one of `b` were asked for.
-fn started(alloc: Global) -> Result<Box<Core>, Fail> {
-    let mut core = opened(
-        alloc,
-        b"id:3:initdefault:\na:3:respawn:x\nb:3:once:y\n",
-        None,
-    )?;
-    for _ in 0..5 {
-        let _ = core.next();
-    }
-    Ok(core)
 }
 
 /// A text of version 1 gives the core that was written: both hand over the same, and take the same step next.

@@ -19,6 +19,18 @@ pub(crate) fn opened(
     Ok(boxed(alloc, Core::new(alloc, table, level)?)?)
 }
 
+/// The table of the core that is started.
+pub(crate) const STARTED_TABLE: &str = "id:3:initdefault:\na:3:respawn:x\nb:3:once:y\n";
+
+/// The core right after it ordered its second start: three stages were entered, and two starts ordered.
+pub(crate) fn started(alloc: Global) -> Result<Box<Core>, Fail> {
+    let mut core = opened(alloc, STARTED_TABLE.as_bytes(), None)?;
+    for _ in 0..5 {
+        core.next();
+    }
+    Ok(core)
+}
+
 /// The core that a text of this generation gives, over the given memory.
 pub(crate) fn taken<A: Allocator + Copy>(
     alloc: Global,

@@ -4,7 +4,7 @@ use crate::texts::{STARTED, STARTED_NOW, is_answered};
 use core_text::StateFault::{self, Cut, Generation, Line, Version};
 
 /// The number of a line, what stands in its place, and why the text is refused.
-const HEADS: &[(usize, &str, StateFault)] = &[
+const REFUSED: &[(usize, &str, StateFault)] = &[
     // Each version has lines of its own.
     (1, "initd-state 2", Line(12)),
     (1, "initd-state 3", Version),
@@ -141,9 +141,7 @@ const HEADS: &[(usize, &str, StateFault)] = &[
     (7, "wish 00 3:5 000 000 000", Line(7)),
     (7, "wish 00 3:5 000 000 ", Line(7)),
     (7, "wish 00 - 000 000\nwish 00 - 000 000", Line(8)),
-];
-
-const TABLES: &[(usize, &str, StateFault)] = &[
+    // The table.
     (8, "", Line(8)),
     (8, "table", Line(8)),
     (8, "table ", Line(8)),
@@ -190,9 +188,7 @@ const TABLES: &[(usize, &str, StateFault)] = &[
     (11, "a:3:once:y", Line(11)),
     (11, "b:3:once:", Line(11)),
     (11, "b:3:once:y\nc:3:once:y", Line(12)),
-];
-
-const SLOTS: &[(usize, &str, StateFault)] = &[
+    // The records.
     (12, "table 3", Line(12)),
     (12, "id:3:initdefault:", Line(12)),
     (13, "b:3:once:y", Line(13)),
@@ -288,9 +284,7 @@ const SLOTS: &[(usize, &str, StateFault)] = &[
         Line(13),
     ),
     (14, "slot b - - start - 1000 - 0,", Line(14)),
-];
-
-const ENDS: &[(usize, &str, StateFault)] = &[
+    // The end.
     // A line of a record too few, and one too many.
     (12, "", Line(14)),
     (13, "", Line(14)),
@@ -322,88 +316,62 @@ const ENDS: &[(usize, &str, StateFault)] = &[
     (15, "end 14\nslot c - - - - 0000 - -", Cut),
 ];
 
-/// What stands in the place of a line in a text that is read.
-const READ: &[(usize, &str)] = &[
-    (3, "clock 18446744073709551615"),
-    (4, "stage none 0"),
-    (4, "stage sysinit 0"),
-    (4, "stage boot 3600"),
-    (4, "stage S 5"),
-    (4, "stage 0 5"),
-    (4, "stage 9 5"),
-    (5, "goal S 0"),
-    (5, "goal 9 3600"),
-    (6, "flags 00"),
-    (6, "flags 01"),
-    (6, "flags 11"),
-    (7, "wish 10 - 000 000"),
-    (7, "wish 00 S:0 111 000"),
-    (7, "wish 10 0:3600 000 111"),
-    (9, "id:S:initdefault:"),
-    (9, "id:-:initdefault:"),
-    (10, "a:-:ondemand:x"),
-    (10, "a::sysinit:x"),
-    (10, "a:3:respawn: x:y "),
-    (10, "a:3:off:"),
-    (12, "slot x# - - - - 0000 - -"),
-    (13, "slot ~!\"$ - - - - 0000 - -"),
-    (13, "slot a 0 sysinit look due 0001 0 -"),
+#[test]
+fn refused_lines(rt: HostRuntime) {
+    for (number, lines, why) in REFUSED {
+        let told = is_answered(rt.alloc(), STARTED, *number, lines, Some(*why));
+        assert!(rt; told, "{number}: {lines}");
+    }
+}
+
+/// The number of a line, what stands in its place, and what is answered.
+type Row = (usize, &'static str, Option<StateFault>);
+
+const READ: &[Row] = &[
+    (3, "clock 18446744073709551615", None),
+    (4, "stage none 0", None),
+    (4, "stage sysinit 0", None),
+    (4, "stage boot 3600", None),
+    (4, "stage S 5", None),
+    (4, "stage 0 5", None),
+    (4, "stage 9 5", None),
+    (5, "goal S 0", None),
+    (5, "goal 9 3600", None),
+    (6, "flags 00", None),
+    (6, "flags 01", None),
+    (6, "flags 11", None),
+    (7, "wish 10 - 000 000", None),
+    (7, "wish 00 S:0 111 000", None),
+    (7, "wish 10 0:3600 000 111", None),
+    (9, "id:S:initdefault:", None),
+    (9, "id:-:initdefault:", None),
+    (10, "a:-:ondemand:x", None),
+    (10, "a::sysinit:x", None),
+    (10, "a:3:respawn: x:y ", None),
+    (10, "a:3:off:", None),
+    (12, "slot x# - - - - 0000 - -", None),
+    (13, "slot ~!\"$ - - - - 0000 - -", None),
+    (13, "slot a 0 sysinit look due 0001 0 -", None),
     (
         13,
         "slot a 4294967295 kbrequest term term:0 0010 18446744073709551615 0",
+        None,
     ),
-    (13, "slot a - - kill kill:18446744073709551615 0100 - 1,0"),
+    (
+        13,
+        "slot a - - kill kill:18446744073709551615 0100 - 1,0",
+        None,
+    ),
     (
         13,
         "slot a - - start - 1111 - 0,1,2,3,4,5,6,7,8,18446744073709551615",
+        None,
     ),
-    (13, "slot id - - start - 1000 - 0"),
+    (13, "slot id - - start - 1000 - 0", None),
 ];
 
-#[test]
-fn heads(rt: HostRuntime) {
-    for (number, lines, why) in HEADS {
-        let told = is_answered(rt.alloc(), STARTED, *number, lines, Some(*why));
-        assert!(rt; told, "{number}: {lines}");
-    }
-}
-
-#[test]
-fn tables(rt: HostRuntime) {
-    for (number, lines, why) in TABLES {
-        let told = is_answered(rt.alloc(), STARTED, *number, lines, Some(*why));
-        assert!(rt; told, "{number}: {lines}");
-    }
-}
-
-#[test]
-fn slots(rt: HostRuntime) {
-    for (number, lines, why) in SLOTS {
-        let told = is_answered(rt.alloc(), STARTED, *number, lines, Some(*why));
-        assert!(rt; told, "{number}: {lines}");
-    }
-}
-
-#[test]
-fn ends(rt: HostRuntime) {
-    for (number, lines, why) in ENDS {
-        let told = is_answered(rt.alloc(), STARTED, *number, lines, Some(*why));
-        assert!(rt; told, "{number}: {lines}");
-    }
-}
-
-#[test]
-fn read_lines(rt: HostRuntime) {
-    for (number, lines) in READ {
-        assert!(rt;
-            is_answered(rt.alloc(), STARTED, *number, lines, None),
-            "{number}: {lines}"
-        );
-    }
-}
-
-/// The same of a text of version 2.
-const LASTS: &[(usize, &str, Option<StateFault>)] = &[
+/// The last status.
+const LASTS: &[Row] = &[
     (1, "initd-state 1", Some(Line(12))),
     (13, "slot a - - start - 1000 - 0", Some(Line(13))),
     (13, "slot a - - start - 1000 - 0 ", Some(Line(13))),
@@ -431,10 +399,15 @@ const LASTS: &[(usize, &str, Option<StateFault>)] = &[
     (10, "abcdefghi:3:respawn:x", Some(Line(10))),
 ];
 
+/// A text, and lines of it.
+const ANSWERED: &[(&str, &[Row])] = &[(STARTED, READ), (STARTED_NOW, LASTS)];
+
 #[test]
-fn lasts(rt: HostRuntime) {
-    for (number, lines, want) in LASTS {
-        let told = is_answered(rt.alloc(), STARTED_NOW, *number, lines, *want);
-        assert!(rt; told, "{number}: {lines}");
+fn answered_lines(rt: HostRuntime) {
+    for (text, rows) in ANSWERED {
+        for (number, lines, want) in *rows {
+            let told = is_answered(rt.alloc(), text, *number, lines, *want);
+            assert!(rt; told, "{number}: {lines}");
+        }
     }
 }

@@ -81,3 +81,23 @@ pub(crate) fn is_answered(
         Err(_) => false,
     }
 }
+
+/// Whether a text is handed over again as it stood, but for its version and its generation, and that each record has
+/// this behind it.
+pub(crate) fn is_again(again: &[u8], text: &[u8], behind: &[u8]) -> bool {
+    let mut news = again.split(|byte| *byte == b'\n').skip(2);
+    for line in text.split(|byte| *byte == b'\n').skip(2) {
+        let end: &[u8] = if line.starts_with(b"slot ") {
+            behind
+        } else {
+            b""
+        };
+        let Some(new) = news.next() else {
+            return false;
+        };
+        if new.strip_prefix(line) != Some(end) {
+            return false;
+        }
+    }
+    news.next().is_none()
+}

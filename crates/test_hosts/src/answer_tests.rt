@@ -1,6 +1,6 @@
 //! What a host answers where a program doesn't ask so, and the faults that it counts.
 
-use crate::hosts::{Paths, SystemHost, host_of, id_of};
+use crate::hosts::{Paths, SystemHost, host_of, id_of, pausing};
 use host_calls::{Host, HostFault, Reply};
 use init_words::{Answer, Id, Part, SignalKind};
 use std::alloc::Global;
@@ -45,34 +45,30 @@ fn lives_alone(host: &mut SystemHost, alloc: Global, id: Id) -> bool {
         && host.faults() == 7
 }
 
-/// The host pauses so long, or, where this is no length, as before; a pause is no fault.
-fn pauses(host: SystemHost, length: &str) -> bool {
-    match host.with_pause(length) {
-        Ok(mut host) => {
-            host.pause();
-            host.faults() == 7
-        }
-        Err(_) => false,
-    }
+/// A pause is no fault.
+fn pauses(host: &mut SystemHost) -> bool {
+    host.pause();
+    host.faults() == 7
 }
 
 #[test]
 fn children_that_are_none(rt: HostRuntime) -> Result<(), Fail> {
     let id = id_of(b"none")?;
-    let mut host = host_of(&rt, rt.alloc(), PATHS)?;
+    // Where this is no length, the pauses are as they were.
+    let mut host = pausing(&rt, PATHS, "x")?;
     assert!(rt; has_no_child(&mut host, id), "no child");
     assert!(rt; none_is_born(&mut host, rt.alloc(), id), "no process");
     assert!(rt;
         lives_alone(&mut host, rt.alloc(), id),
         "a child beside another"
     );
-    assert!(rt; pauses(host, "x"), "a pause");
+    assert!(rt; pauses(&mut host), "a pause");
     Ok(())
 }
 
 #[test]
 fn a_length_past_the_range_is_none(rt: HostRuntime) -> Result<(), Fail> {
-    let host = host_of(&rt, rt.alloc(), PATHS)?.with_pause("0.001")?;
+    let host = pausing(&rt, PATHS, "0.001")?;
     assert!(rt; host.faults() == 0);
     Ok(())
 }

@@ -1,6 +1,6 @@
 //! Hosts on heaps of more and more room, until they are made and do what they are asked for.
 
-use crate::hosts::{Paths, SystemHost, host_of, id_of};
+use crate::hosts::{Paths, SystemHost, host_of, id_of, logging};
 use host_calls::{Host, Reply};
 use init_words::{Answer, Id, SignalKind, Stage};
 use linked_list_allocator::LocalHeap;
@@ -46,16 +46,13 @@ fn with_child(rt: &HostRuntime, heap: &LocalHeap, id: Id) -> Made {
     }
 }
 
-fn log(host: SystemHost<&LocalHeap>) -> Made {
-    match host.with_logs("a folder of a long enough name") {
-        Ok(_) => Made::All,
-        Err(_) => Made::Host,
-    }
-}
-
+/// Where there is room for a host and not for its logs, one with logs is refused.
 fn with_logs(rt: &HostRuntime, heap: &LocalHeap) -> Made {
+    if logging(rt, heap, PATHS, "a folder of a long enough name").is_ok() {
+        return Made::All;
+    }
     match host_of(rt, heap, PATHS) {
-        Ok(host) => log(host),
+        Ok(_) => Made::Host,
         Err(_) => Made::Nothing,
     }
 }

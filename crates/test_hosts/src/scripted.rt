@@ -1,13 +1,7 @@
 //! What several tests need.
 
-use init_words::Id;
 use linked_list_allocator::LocalHeap;
 use std::alloc::{AllocError, Global};
-use std::test::Fail;
-
-pub(crate) fn id_of(text: &[u8]) -> Result<Id, Fail> {
-    Ok(Id::read(text).ok_or("no id")?)
-}
 
 /// Takes all that a heap has left, in blocks of falling sizes.
 pub(crate) fn fill<'a>(

@@ -1,6 +1,7 @@
 //! Growths are refused, over a small heap that is filled.
 
-use crate::scripted::{fill, id_of};
+use crate::hosts::id_of;
+use crate::scripted::fill;
 use host_calls::{Host, HostFault, Reply};
 use host_scripted::MemoryHost;
 use init_words::{Answer, Id, Level, Memory, SignalKind};

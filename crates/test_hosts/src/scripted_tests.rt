@@ -1,6 +1,7 @@
 //! Each call takes the first of its queue, and has an answer of its own where the queue is empty.
 
-use crate::scripted::{fill, id_of};
+use crate::hosts::id_of;
+use crate::scripted::fill;
 use host_calls::{Bytes, Host, HostFault, PartList, Reply};
 use host_scripted::MemoryHost;
 use init_words::{Answer, ChildNumber, Id, Memory, Part, SignalKind, Status};

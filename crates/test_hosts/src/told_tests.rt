@@ -1,22 +1,22 @@
+use crate::hosts::{Paths, SystemHost, fresh, host_of, id_of, verbose};
 use host_calls::{Host, Reply};
-use host_system::OsHost;
-use init_words::{Answer, Id, Memory, Stage};
+use init_words::{Answer, Id, Stage};
 use linked_list_allocator::LocalHeap;
-use std::alloc::{Allocator, Global};
+use std::alloc::Global;
 use std::fs;
 use std::process::Abort;
 use std::test::Fail;
 use test_support::{Again, SYSTEM, is_again, is_said};
 use trace_events::Happening;
 
-/// A host over the system that the tests run on.
-type SystemHost<A = Global> = OsHost<HostRuntime, A>;
-
 const CHANNEL: &str = "k.ctl";
 
-fn host_of<A: Allocator + Copy>(rt: &HostRuntime, alloc: A) -> Result<SystemHost<A>, Memory> {
-    OsHost::new(*rt, alloc, "initd", "k.tab", CHANNEL, "k.state", None)
-}
+const PATHS: &Paths = &Paths {
+    inittab: "k.tab",
+    channel: CHANNEL,
+    state: "k.state",
+    folder: None,
+};
 
 const ZEROS: &[u8] = &[0; 800];
 
@@ -103,11 +103,15 @@ const LIVES: &[(bool, &[Step])] = &[
 ];
 
 fn lives(rt: &HostRuntime, is_fresh: bool, steps: &[Step]) -> bool {
-    let Ok(host) = host_of(rt, rt.alloc()) else {
-        return false;
+    let host = if is_fresh {
+        fresh(rt, PATHS)
+    } else {
+        host_of(rt, rt.alloc(), PATHS)
     };
-    let mut host = if is_fresh { host.fresh() } else { host };
-    all_go(rt, &mut host, steps)
+    match host {
+        Ok(mut host) => all_go(rt, &mut host, steps),
+        Err(_) => false,
+    }
 }
 
 /// Announces twice, with what is not announced after each, and gives how many faults that were.
@@ -127,7 +131,7 @@ fn tell(rt: &HostRuntime) -> Result<(), Fail> {
         let is_lived = lives(rt, *is_fresh, steps);
         eprintln!(rt; "{is_lived}")?;
     }
-    let mut host = host_of(rt, rt.alloc())?;
+    let mut host = host_of(rt, rt.alloc(), PATHS)?;
     let faults = announce(&mut host);
     eprintln!(rt; "{faults} faults")?;
     Ok(())
@@ -180,8 +184,7 @@ fn run(host: &mut SystemHost<&LocalHeap>, alloc: Global, id: Id) {
 
 /// Starts a child two times over a host of so much memory, where there is enough of it.
 fn run_over(rt: &HostRuntime, heap: &LocalHeap, id: Id) {
-    if let Ok(host) = host_of(rt, heap) {
-        let mut host = host.verbose();
+    if let Ok(mut host) = verbose(rt, heap, PATHS) {
         run(&mut host, rt.alloc(), id);
         run(&mut host, rt.alloc(), id);
     }
@@ -197,7 +200,7 @@ fn is_short_told(rt: &HostRuntime) -> Result<bool, Fail> {
 
 /// Over one of the rooms there is memory for a child and none to count it: that is told, and that it was started.
 fn run_short(rt: &HostRuntime) -> Result<(), Fail> {
-    let id = Id::read(b"m").ok_or("no id")?;
+    let id = id_of(b"m")?;
     for step in 4..160usize {
         let heap = LocalHeap::new(rt.alloc(), 16 * step)?;
         run_over(rt, &heap, id);

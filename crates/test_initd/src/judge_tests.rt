@@ -1,16 +1,13 @@
 //! A run that is judged, over a host that breaks a law: the state that init hands itself comes back without a child, so
 //! that a second one of its entry is born.
 
+use crate::turns::turns_of;
 use host_calls::{Bytes, Reply};
 use host_scripted::MemoryHost;
-use init_turns::Opening;
 use init_words::{Answer, ChildNumber};
 use initctl_frame::{Request, Sign, encode};
-use initd_command::make_turns;
-use initd_options::{Words, read_words};
 use std::alloc::Global;
 use std::test::Fail;
-use test_support::line_words;
 use trace_log::ListLog;
 
 const INITTAB: &[u8] = b"r:S:respawn:x\n";
@@ -36,19 +33,9 @@ fn give(alloc: Global, host: &mut MemoryHost) -> Result<(), Fail> {
 /// The status of two turns with these words, and what is reported of them.
 fn run(rt: &HostRuntime, line: &str) -> Result<(u8, Vec<u8>), Fail> {
     let alloc = rt.alloc();
-    let words = line_words(alloc, line)?;
-    let Ok(Words::Run(said)) = read_words(alloc, words.as_slice()) else {
-        return Err(Fail::from("no run"));
-    };
-    let Ok((table, _)) = inittab_text::read(alloc, INITTAB) else {
-        return Err(Fail::from("no table"));
-    };
     let mut host = MemoryHost::new(alloc);
     give(alloc, &mut host)?;
-    let opening = Opening::new(alloc, table, None)?;
-    let mut err = Vec::new(alloc);
-    let log = ListLog::new(alloc);
-    let (status, _) = make_turns(rt, alloc, &said, opening, &mut host, log, &mut err);
+    let (status, err, _) = turns_of(rt, INITTAB, line, &mut host, ListLog::new(alloc))?;
     Ok((status, err))
 }
 

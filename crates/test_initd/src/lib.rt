@@ -17,6 +17,8 @@ mod one_channel;
 #[cfg(test)]
 mod telinit_tests;
 #[cfg(test)]
+mod turns;
+#[cfg(test)]
 mod waiting_tests;
 #[cfg(test)]
 mod word_tests;

@@ -1,14 +1,11 @@
 //! Turns over a log: what is left of it behind them.
 
+use crate::turns::turns_of;
 use host_calls::Reply;
 use host_scripted::MemoryHost;
-use init_turns::Opening;
 use init_words::{Answer, ChildNumber};
-use initd_command::make_turns;
-use initd_options::{Words, read_words};
 use std::alloc::Global;
 use std::test::Fail;
-use test_support::line_words;
 use trace_log::{EndedLog, StreamLog};
 use trace_log_wrappers::BriefLog;
 
@@ -35,18 +32,8 @@ fn host_of(alloc: Global) -> Result<MemoryHost, Fail> {
 
 /// What is left of the log behind the turns.
 fn left_of<L: EndedLog + Drop>(rt: &HostRuntime, log: L) -> Result<L::Left, Fail> {
-    let alloc = rt.alloc();
-    let words = line_words(alloc, "run --level 3 --turns 3")?;
-    let Ok(Words::Run(said)) = read_words(alloc, words.as_slice()) else {
-        return Err(Fail::from("no run"));
-    };
-    let Ok((table, _)) = inittab_text::read(alloc, INITTAB) else {
-        return Err(Fail::from("no table"));
-    };
-    let mut host = host_of(alloc)?;
-    let opening = Opening::new(alloc, table, said.level)?;
-    let mut err: Vec<u8> = Vec::new(alloc);
-    let (_, left) = make_turns(rt, alloc, &said, opening, &mut host, log, &mut err);
+    let mut host = host_of(rt.alloc())?;
+    let (_, _, left) = turns_of(rt, INITTAB, "run --level 3 --turns 3", &mut host, log)?;
     Ok(left)
 }
 

@@ -1,13 +1,10 @@
 //! What a run reports that init waits for at the limit of turns, over hosts that answer late, or never.
 
+use crate::turns::turns_of;
 use host_calls::Reply;
 use host_scripted::MemoryHost;
-use init_turns::Opening;
 use init_words::{Answer, ChildNumber};
-use initd_command::make_turns;
-use initd_options::{Words, read_words};
 use std::test::Fail;
-use test_support::line_words;
 use trace_log::ListLog;
 
 /// An inittab, the numbers that the host answers to the starts, where it answers at once, and what is reported behind the
@@ -39,25 +36,22 @@ fn reply_of(number: Option<u32>) -> Reply {
     }
 }
 
+/// What is reported of two turns.
+fn report_of(rt: &HostRuntime, inittab: &[u8], numbers: &[Option<u32>]) -> Result<Vec<u8>, Fail> {
+    let alloc = rt.alloc();
+    let mut host = MemoryHost::new(alloc);
+    for number in numbers {
+        host.give_start(reply_of(*number))?;
+    }
+    let line = "run --level 3 --turns 2";
+    let (_, err, _) = turns_of(rt, inittab, line, &mut host, ListLog::new(alloc))?;
+    Ok(err)
+}
+
 #[test]
 fn what_init_waits_for_is_reported(rt: HostRuntime) -> Result<(), Fail> {
-    let alloc = rt.alloc();
     for (inittab, numbers, lines) in WAITS {
-        let words = line_words(alloc, "run --level 3 --turns 2")?;
-        let Ok(Words::Run(said)) = read_words(alloc, words.as_slice()) else {
-            return Err(Fail::from("no run"));
-        };
-        let Ok((table, _)) = inittab_text::read(alloc, inittab) else {
-            return Err(Fail::from("no table"));
-        };
-        let mut host = MemoryHost::new(alloc);
-        for number in *numbers {
-            host.give_start(reply_of(*number))?;
-        }
-        let mut err = Vec::new(alloc);
-        let opening = Opening::new(alloc, table, said.level)?;
-        let log = ListLog::new(alloc);
-        make_turns(&rt, alloc, &said, opening, &mut host, log, &mut err);
+        let err = report_of(&rt, inittab, numbers)?;
         let report = err.strip_prefix(b"initd: the limit of turns is reached\n");
         assert!(rt; report == Some(*lines), "{err:?}");
     }

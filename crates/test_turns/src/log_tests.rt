@@ -8,12 +8,12 @@ use host_scripted::MemoryHost;
 use init_turns::{Served, Unwatched};
 use init_words::{Id, Status};
 use linked_list_allocator::LocalHeap;
-use std::alloc::Global;
+use std::alloc::{AllocError, Global};
 use std::test::Fail;
-use test_support::Slow;
+use test_support::{Slow, boxed};
 use trace_events::HappeningIn;
 use trace_log::{ListLog, Log, StreamLog};
-use trace_log_wrappers::{LastEnd, NotedLog};
+use trace_log_wrappers::{LastEnd, NotedLog, RunNotes};
 
 const INITTAB: &str = "id:3:initdefault:|r:3:respawn:serv";
 
@@ -152,12 +152,22 @@ fn a_list_that_cannot_grow_ends_the_log(rt: HostRuntime) {
     assert!(rt; refused > Some(8), "{refused:?}");
 }
 
-fn is_noted_over(alloc: Global, heap: &LocalHeap) -> Option<bool> {
-    let mut noted = NotedLog::new(heap, ListLog::new(alloc));
-    let served = served(alloc, &mut noted)?;
-    let (log, notes) = noted.into_parts();
-    let text = trace_text::print(alloc, log.list()).ok()?;
-    if text.as_slice() != TRACE || served != ended(true) || notes.births() != 1 {
+/// Notes of the heap in front of a log.
+fn noted_over<'a>(
+    alloc: Global,
+    heap: &'a LocalHeap,
+) -> Result<Box<NotedLog<ListLog, &'a LocalHeap>>, AllocError> {
+    Ok(boxed(alloc, NotedLog::new(heap, ListLog::new(alloc)))?)
+}
+
+/// Whether notes are complete behind the log that has this list.
+fn are_notes(
+    alloc: Global,
+    list: &[HappeningIn<Global>],
+    notes: &RunNotes<&LocalHeap>,
+) -> Option<bool> {
+    let text = trace_text::print(alloc, list).ok()?;
+    if text.as_slice() != TRACE || notes.births() != 1 {
         return None;
     }
     match (notes.last(&Id::read(b"r")?), notes.running()) {
@@ -165,6 +175,15 @@ fn is_noted_over(alloc: Global, heap: &LocalHeap) -> Option<bool> {
         (LastEnd::Ended(Status::Killed), Some(running)) if running.len() == 0 => Some(true),
         _ => None,
     }
+}
+
+fn is_noted_over(alloc: Global, heap: &LocalHeap) -> Option<bool> {
+    let mut noted = noted_over(alloc, heap).ok()?;
+    if served(alloc, &mut *noted)? != ended(true) {
+        return None;
+    }
+    let (log, notes) = Box::into_inner(noted).into_parts();
+    are_notes(alloc, log.list(), &notes)
 }
 
 /// Whether the notes in front of a log are complete on a heap of the given number of bytes; `None` where they say

@@ -7,9 +7,12 @@ use core_steps::Core;
 use host_calls::{Call, Host};
 use host_scripted::MemoryHost;
 use init_turns::{Opening, Unwatched};
+use init_words::Memory;
+use inittab_text::Table;
 use linked_list_allocator::LocalHeap;
 use std::alloc::{Allocator, Global};
 use std::test::Fail;
+use test_support::boxed;
 use trace_log::ListLog;
 
 /// Takes what a heap has left in blocks of one size, up to 64 of them.
@@ -427,19 +430,27 @@ fn init_without_room_is_not_re_executed(rt: HostRuntime) {
     assert!(rt; unmade > 0 && refused > 3 && taken > 0);
 }
 
+fn opening_of<'a>(
+    alloc: Global,
+    heap: &'a LocalHeap,
+    table: Table<&'a LocalHeap>,
+) -> Result<Box<Opening<&'a LocalHeap>>, Memory> {
+    Ok(boxed(alloc, Opening::new(heap, table, None)?)?)
+}
+
 /// Whether an opening has room on a heap; None where the table alone has none.
-fn opens_over(heap: &LocalHeap) -> Option<bool> {
+fn opens_over(alloc: Global, heap: &LocalHeap) -> Option<bool> {
     let (table, _) = inittab_text::read(
         heap,
         b"id:3:initdefault:\nw:3:wait:prep\nr:3:respawn:serv\n",
     )
     .ok()?;
-    Some(Opening::new(heap, table, None).is_ok())
+    Some(opening_of(alloc, heap, table).is_ok())
 }
 
 fn opens_in(alloc: Global, room: usize) -> Option<bool> {
     match &LocalHeap::new(alloc, room) {
-        Ok(heap) => opens_over(heap),
+        Ok(heap) => opens_over(alloc, heap),
         Err(_) => None,
     }
 }

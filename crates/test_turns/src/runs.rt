@@ -4,7 +4,10 @@ use core_steps::Core;
 use host_calls::{Call, CallIn, Host};
 use host_scripted::MemoryHost;
 use init_turns::{Served, Unwatched};
+use init_words::Memory;
+use inittab_text::Table;
 use std::alloc::{Allocator, Global};
+use test_support::boxed;
 use trace_check::Verdict;
 use trace_events::{Happening, HappeningIn};
 use trace_log::{ListLog, Log};
@@ -40,23 +43,23 @@ pub(crate) fn lines_of(alloc: Global, text: &str, parted: &str) -> Option<Vec<u8
     Some(lines)
 }
 
-fn core_from<A: Allocator + Copy>(alloc: A, text: &[u8]) -> Option<Core<A>> {
-    let Ok((table, _)) = inittab_text::read(alloc, text) else {
-        return None;
-    };
-    Core::new(alloc, table, None).ok()
+fn core_over<A: Allocator + Copy>(
+    own: Global,
+    alloc: A,
+    table: Table<A>,
+) -> Result<Box<Core<A>>, Memory> {
+    Ok(boxed(own, Core::new(alloc, table, None)?)?)
 }
 
-/// A core over an inittab.
+/// A core over an inittab, in the memory of the tests.
 pub(crate) fn core_of<A: Allocator + Copy>(
     own: Global,
     alloc: A,
     inittab: &str,
-) -> Option<Core<A>> {
-    match &lines_of(own, inittab, "|") {
-        Some(lines) => core_from(alloc, lines.as_slice()),
-        None => None,
-    }
+) -> Option<Box<Core<A>>> {
+    let lines = lines_of(own, inittab, "|")?;
+    let (table, _) = inittab_text::read(alloc, lines.as_slice()).ok()?;
+    core_over(own, alloc, table).ok()
 }
 
 /// What a run is made with.
