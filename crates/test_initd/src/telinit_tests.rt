@@ -30,7 +30,14 @@ fn is_written(
     let (room, status, report) = *row;
     let mut out = Slow::new(alloc, room, true, false);
     let mut err: Vec<u8> = Vec::new(alloc);
-    run_words(&mut OsChannels::new(rt, alloc), alloc, "", words, &mut out, &mut err) == status
+    run_words(
+        &mut OsChannels::new(rt, alloc),
+        alloc,
+        "",
+        words,
+        &mut out,
+        &mut err,
+    ) == status
         && err.as_slice() == report.as_bytes()
         && out.has_line(line)
 }
