@@ -3,7 +3,7 @@
 cd "$(dirname "$0")" || exit 4
 ./plan.sh "$@" || exit
 rm -rf run && mkdir -m 700 run
-initd run --initctl run/initctl --state run/state --trace run/trace --brief --pause 0.1 --forever >run/log 2>&1 &
+initd run --initctl run/initctl --state run/state --trace run/trace --brief --pause 0.1 --forever --fresh >run/log 2>&1 &
 init=$!
 seen() { until grep -qs "$1" "$2"; do kill -s 0 "$init" || exit 4; sleep 0.1; done; }
 seen 'Runlevel 2 settled' run/log

@@ -1,7 +1,7 @@
 //! `initd`: init(8) over the operating system, or over a script of what a system did, and the judge of their traces.
 #![tactic(auto)]
 
-use initd_command::{OsHosts, USAGE, run_words};
+use initd_command::{OsHosts, SHORT_USAGE, run_words};
 use program_io::{StandardFiles, report_unread_words, words};
 use std::process::ExitCode;
 
@@ -17,7 +17,7 @@ fn main(rt: HostRuntime) -> ExitCode {
             &mut rt.stdout(),
             &mut rt.stderr(),
         ),
-        Err(error) => report_unread_words("initd", USAGE, &error, &mut rt.stderr()),
+        Err(error) => report_unread_words("initd", SHORT_USAGE, &error, &mut rt.stderr()),
     };
     ExitCode::from(status)
 }

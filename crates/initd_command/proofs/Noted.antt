@@ -50,7 +50,6 @@ IsWaiting waiting past = (goal : Goal) × (core : CoreState) × FitsAll core goa
 noted_of_trace : (notes : Notes) (waiting : List ℕ) (judgement : Option Judgement) (past : List Event)
     → NotesOf notes past → IsWaiting waiting past → IfSome judgement (λ found. Finds found past) → IsNoted (noted_of notes waiting judgement) past
 noted_of_trace notes waiting judgement past of waits finds = record {
-  births = of.births;
   last = λ id. known id notes.complete refl;
   running = going notes.complete refl;
   waiting = waits;

@@ -1,5 +1,5 @@
 -- How a command line of initd ends: its exit status, what was written, and what is reported of it.
-use Rattle.std.specs.Prelude.{ℕ, Bool, true, false, List, [], ◌++◌, codes, decimal, Option, Some, None}
+use Rattle.std.specs.Prelude.{ℕ, Bool, true, false, ◌==◌, if◌then◌else◌, List, [], ◌++◌, length, codes, decimal, Option, Some, None}
 use Rattle.std.specs.Io.KnownBytes.{Keeps}
 use Rattle.program_io.specs.Writing.{AppendsPrefix}
 use Rattle.program_io.specs.declared.statuses.TheConstants.{DONE, REFUSED, UNLAWFUL, DEVICE_FAULT}
@@ -11,7 +11,7 @@ use Rattle.simulator.specs.Objections.{objection_text}
 use Rattle.initd_command.specs.Lines.{line_at, line_told}
 use Rattle.initd_command.specs.declared.check.TheConstants.{UNWRITTEN}
 use Rattle.initd_command.specs.declared.reports.TheConstants.{FLAWED, NO_MEMORY, TOO_MANY}
-use Rattle.initd_command.specs.declared.command.TheConstants.{UNVERSIONED, USAGE}
+use Rattle.initd_command.specs.declared.command.TheConstants.{SHORT_USAGE, UNVERSIONED, USAGE}
 use Rattle.initd_command.specs.declared.run.TheConstants.{UNLED, UNTOLD}
 use Rattle.initd_command.specs.Turned.{End, ReportsEnd, ReportsText, end_status}
 use Rattle.command_words.specs.Faults.{usage_report}
@@ -165,10 +165,14 @@ ReportsJudged judged old new =
     (first : Option (List ℕ)) × ReportsWithin judged.within old first
     × (mid : Option (List ℕ)) × ReportsText (count_message judged.count) first mid × ReportsLeft judged.left mid new
 
+-- the usage that stands behind a reason: the whole where none is told, else a line
+abbrev pub usage_told : List ℕ → List ℕ
+usage_told reason = if length reason == 0 then USAGE.now else SHORT_USAGE.now
+
 -- what is reported of an ending
 abbrev pub Reports : Ending → Option (List ℕ) → Option (List ℕ) → Type 0
 Reports done old new = Keeps old new
-Reports (usage reason) old new = AppendsPrefix old new (usage_report (codes "initd") reason USAGE.now)
+Reports (usage reason) old new = AppendsPrefix old new (usage_report (codes "initd") reason (usage_told reason))
 Reports no_memory old new = AppendsPrefix old new NO_MEMORY.now
 Reports (unread path why) old new = ReportsText (cannot_message (codes "read") path why) old new
 Reports too_many old new = AppendsPrefix old new TOO_MANY.now

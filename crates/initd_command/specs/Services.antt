@@ -1,6 +1,6 @@
 -- How a run over the operating system ends. Its host tells nothing of what was asked of it, so this is what is written,
 -- and how the exit status follows from what ended the turns.
-use Rattle.std.specs.Prelude.{◌≡◌, ◌≤◌, ◌<◌, ◌⊎◌, ◌&&◌, ◌==◌, not, min, if◌then◌else◌, ℕ, Bool, true, false, List, [], ◌∷◌, ◌++◌, length, reverse, string_bytes, Option, Some, None, option_map, is_none, is_some, unwrap_or, IfSome, IsSome, IsTrue, ⊤}
+use Rattle.std.specs.Prelude.{◌≡◌, ◌≤◌, ◌<◌, ◌⊎◌, ◌&&◌, ◌==◌, not, if◌then◌else◌, ℕ, Bool, true, false, List, [], ◌∷◌, ◌++◌, length, reverse, string_bytes, Option, Some, None, option_map, is_none, is_some, unwrap_or, IfSome, IsSome, IsTrue, ⊤}
 use Rattle.std.specs.Io.KnownBytes.{Appends, Keeps}
 use Rattle.program_io.specs.Writing.{AppendsPrefix}
 use Rattle.program_io.specs.Known.{IsTextAt, KnownTexts}
@@ -13,8 +13,7 @@ use Rattle.trace_log_wrappers.specs.declared.judgements.Judgement.{Judgement}
 use Rattle.trace_log_wrappers.specs.Judgements.{Finds}
 use Rattle.trace_log_wrappers.specs.declared.run_notes.LastEnd.{LastEnd}
 use Rattle.trace_log_wrappers.specs.declared.run_notes.LastEnd.TheVariants.{Unnoted}
-use Rattle.trace_log_wrappers.specs.declared.run_notes.TheConstants.{BIRTHS_LIMIT}
-use Rattle.trace_log_wrappers.specs.Ends.{births, last_end}
+use Rattle.trace_log_wrappers.specs.Ends.{last_end}
 use Rattle.trace_log_wrappers.specs.Notes.{IsRunning, Notes, last_noted, last_of}
 use Rattle.simulator.specs.declared.running.SimFault.TheVariants as fault
 use Rattle.trace_events.specs.Event.{Event}
@@ -53,11 +52,10 @@ has_result table (Some id) = is_some (entry_of id table)
 abbrev pub is_taken : RunSaid → List ℕ → List Entry → Bool
 is_taken service told table = not (is_flawed service told) && has_result table service.result
 
--- what is noted of a run: how many children were born, how the last child of an id ended, and the children that go on,
+-- what is noted of a run: how the last child of an id ended, and the children that go on,
 -- where all of them are known; the lines that tell what init waits for; and what was found of the run, where it was to
 -- be judged
 pub record Noted : Type 0 where
-  pub births : ℕ
   pub last : List ℕ → LastEnd
   pub running : Option (List (List ℕ × ℕ))
   pub waiting : List ℕ
@@ -65,7 +63,6 @@ pub record Noted : Type 0 where
 
 abbrev pub noted_of : Notes → List ℕ → Option Judgement → Noted
 noted_of notes waiting judgement = record {
-  births = notes.births;
   last = λ id. last_noted id notes;
   running = if notes.complete then Some notes.running else None;
   waiting = waiting;
@@ -83,7 +80,7 @@ entry_end last entry = option_map (λ id. record { id = id; last = last id }) en
 -- how turns end: the trace was written whole or not, and the run was to end where it is drained, and is
 abbrev pub end_at : RunSaid → Noted → Bool → Bool → End
 end_at service noted false _ = unlogged noted.waiting noted.judgement
-end_at service noted true true = drained (noted.births == 0) (entry_end noted.last service.result) noted.judgement
+end_at service noted true true = drained (entry_end noted.last service.result) noted.judgement
 end_at service noted true false = limited noted.running noted.waiting noted.judgement
 
 abbrev pub end_of : RunSaid → Noted → Served → End
@@ -107,7 +104,6 @@ EndsServed service end =
 
 -- they are the notes of this trace, the newest happening first
 pub record IsNoted (noted : Noted) (past : List Event) : Type 0 where
-  pub births : noted.births ≡ min (births past) BIRTHS_LIMIT
   pub last : (id : List ℕ) → (noted.last id ≡ Unnoted) ⊎ (noted.last id ≡ last_of (last_end id past))
   pub running : IfSome noted.running (λ running. IsRunning running past)
   pub waiting : (goal : Goal) × (core : CoreState) × FitsAll core goal past × (noted.waiting ≡ waiting_text core)

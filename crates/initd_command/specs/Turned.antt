@@ -9,7 +9,7 @@ use Rattle.trace_log_wrappers.specs.declared.judgements.Judgement.TheVariants.{L
 use Rattle.trace_log_wrappers.specs.declared.run_notes.LastEnd.{LastEnd}
 use Rattle.trace_check.specs.Laws.{law_words}
 use Rattle.trace_log_wrappers.specs.declared.run_notes.LastEnd.TheVariants.{Ended, Never, Unnoted}
-use Rattle.initd_command.specs.declared.ends.TheConstants.{IDLE, KILLED, LIMITED, UNJUDGED, UNLOGGED, UNNAMED, UNNOTED}
+use Rattle.initd_command.specs.declared.ends.TheConstants.{KILLED, LIMITED, UNJUDGED, UNLOGGED, UNNAMED, UNNOTED}
 use Rattle.initd_command.specs.declared.reports.TheConstants.{NO_MEMORY}
 
 -- The entry whose result the run's is, and how its last child that ended did so.
@@ -17,12 +17,11 @@ pub record EntryEnd : Type 0 where
   pub id : List ℕ
   pub last : LastEnd
 
--- it ended drained, and nothing was started or something was, with an entry's result or without one; it made all its
--- turns, and these children with their numbers go on, or there was no memory to note them all, and these lines tell
+-- it ended drained, with an entry's result or without one; it made all its turns, and these children with their numbers go on, or there was no memory to note them all, and these lines tell
 -- what init waits for; or its trace was not written whole, and so do these; with what was found of it, where it was to
 -- be judged
 pub data End : Type 0 where
-  drained : Bool → Option EntryEnd → Option Judgement → End
+  drained : Option EntryEnd → Option Judgement → End
   limited : Option (List (List ℕ × ℕ)) → List ℕ → Option Judgement → End
   unlogged : List ℕ → Option Judgement → End
 
@@ -51,12 +50,12 @@ judged_status (Some judgement) status =
 
 -- the exit status of how turns ended, whatever was found of them
 abbrev pub turns_status : End → ℕ
-turns_status (drained idle result judgement) = drained_status result
+turns_status (drained result judgement) = drained_status result
 turns_status (limited running waiting judgement) = LIMIT_REACHED
 turns_status (unlogged waiting judgement) = DEVICE_FAULT
 
 abbrev pub end_status : End → ℕ
-end_status (drained idle result judgement) = judged_status judgement (drained_status result)
+end_status (drained result judgement) = judged_status judgement (drained_status result)
 end_status (limited running waiting judgement) = judged_status judgement LIMIT_REACHED
 end_status (unlogged waiting judgement) = DEVICE_FAULT
 
@@ -101,11 +100,6 @@ judgement_text whole Unjudged = UNJUDGED.now
 abbrev pub ReportsText : List ℕ → Option (List ℕ) → Option (List ℕ) → Type 0
 ReportsText text old new = AppendsPrefix old new text ⊎ AppendsPrefix old new NO_MEMORY.now
 
--- what is reported of a run in which nothing was started
-abbrev pub ReportsIdle : Bool → Option (List ℕ) → Option (List ℕ) → Type 0
-ReportsIdle false old new = Keeps old new
-ReportsIdle true old new = AppendsPrefix old new IDLE.now
-
 abbrev pub ReportsResult : Option EntryEnd → Option (List ℕ) → Option (List ℕ) → Type 0
 ReportsResult None old new = Keeps old new
 ReportsResult (Some entry) old new = ReportsText (result_text entry) old new
@@ -123,8 +117,7 @@ ReportsJudgement whole (Some judgement) old new = ReportsText (judgement_text wh
 
 -- what is reported of how turns ended
 abbrev pub ReportsTurns : End → Option (List ℕ) → Option (List ℕ) → Type 0
-ReportsTurns (drained idle result judgement) old new =
-    (mid : Option (List ℕ)) × ReportsIdle idle old mid × ReportsResult result mid new
+ReportsTurns (drained result judgement) old new = ReportsResult result old new
 ReportsTurns (limited running waiting judgement) old new =
     (limit : Option (List ℕ)) × AppendsPrefix old limit LIMITED.now
     × (mid : Option (List ℕ)) × ReportsRunning running limit mid × ReportsText waiting mid new
@@ -133,7 +126,7 @@ ReportsTurns (unlogged waiting judgement) old new =
 
 -- what is reported of what was found of them
 abbrev pub ReportsFound : End → Option (List ℕ) → Option (List ℕ) → Type 0
-ReportsFound (drained idle result judgement) old new = ReportsJudgement true judgement old new
+ReportsFound (drained result judgement) old new = ReportsJudgement true judgement old new
 ReportsFound (limited running waiting judgement) old new = ReportsJudgement true judgement old new
 ReportsFound (unlogged waiting judgement) old new = ReportsJudgement false judgement old new
 

@@ -1,7 +1,7 @@
 //! The words of `initd`, and which work they ask for.
 
 ghost use Rattle.std.specs.Prelude.{◌≡◌, map, string_bytes};
-ghost use Rattle.initd_command.specs.Endings.{Ending, Reports, status_of};
+ghost use Rattle.initd_command.specs.Endings.{Ending, Reports, status_of, usage_told};
 ghost use Rattle.initd_command.specs.Ran.{AsksBy};
 ghost use Rattle.initd_command.specs.Runs.{EndsBy, EndsVersion};
 
@@ -19,7 +19,7 @@ use std::fs::File;
 use std::io::Write;
 use std::rt::{Clock, Files};
 
-/// What standard error gets of words that are no command line, after a line that says why.
+/// What standard error gets where help is asked for.
 pub const USAGE: &str = "usage: initd run [OPTION]..
        initd simulate [--level L] TABLE SCRIPT
        initd check [--growing] TRACE
@@ -42,12 +42,12 @@ pub const USAGE: &str = "usage: initd run [OPTION]..
   --turns N        the greatest number of turns, 1 to 1000000000; 1000000 where it is left out
   --forever        no limit of turns; it is refused beside a limit
   --drain          end where nothing is left to do and nothing runs
-  --pause SEC      the seconds between two turns, 0.01 to 60, with at most two digits after the
-                   point; 1 where it is left out
+  --pause SEC      the longest pause between two turns, 0.01 to 60 seconds, with at most two digits
+                   after the point; 1 where it is left out; where something happened it is shorter
   --result ID      end with the last exit status of the entry of that id, in place of 0; 137 where
                    it was killed, 4 where it never ended; an id that the inittab has not is refused
-  --verbose        tell each start and each end of a child, and each file of the inittab's folder
-                   that is passed over
+  --verbose        tell each start, end and signal of a child, each file of the inittab's folder
+                   that is passed over, and each minute for what an unsettled stage waits
   --logs DIR       the folder that the output of each entry is written to, a file an entry
   --strict         take no inittab that has a faulty line: the run is refused at its opening, and
                    later the inittab before stays in force
@@ -57,6 +57,10 @@ pub const USAGE: &str = "usage: initd run [OPTION]..
   SCRIPT           what the system did, one happening a line
   TRACE            a trace of init, which is judged
 ";
+
+/// What standard error gets of words that are no command line, behind a line that says why.
+pub const SHORT_USAGE: &str =
+    "usage: initd run [OPTION].. | simulate [--level L] TABLE SCRIPT | check [--growing] TRACE | --help\n";
 
 /// What is reported where the version could not be written.
 const UNVERSIONED: &str = "initd: the version could not be written\n";
@@ -98,9 +102,20 @@ where
         Ok(Words::Check(said)) => check_file(texts, alloc, &said, out, err),
         Ok(Words::Run(said)) => run_files(rt, texts, hosts, alloc, &said, out, err),
         Err(WordFault::Usage(reason)) => {
-            report_refused_words("initd", reason.as_str(), USAGE, err)
+            report_refused_words("initd", reason.as_str(), usage_for(reason.as_str()), err)
         }
         Err(WordFault::Memory) => report_memory(err),
+    }
+}
+
+/// The usage that stands behind a reason: the whole where none is told, since help is asked for.
+fn usage_for(reason: &str) -> &'static str
+    ensures { result.now ≡ usage_told reason.now }
+{
+    if reason.is_empty() {
+        USAGE
+    } else {
+        SHORT_USAGE
     }
 }
 

@@ -4,7 +4,7 @@ ghost use Rattle.std.specs.Prelude.{◌≡◌, ◌++◌, ◌&&◌, [], None, Som
 ghost use Rattle.initd_options.specs.Options.{run_of};
 ghost use Rattle.initd_command.specs.Services.{end_at, end_of, entry_end, noted_of};
 ghost use Rattle.core_waiting.specs.Lines.{waiting_text};
-ghost use Rattle.initd_command.specs.Turned.{ReportsEnd, ReportsIdle, ReportsJudgement, ReportsResult, ReportsRunning, ReportsText, ReportsTurns, breach_text, child_text, drained_status, end_status, judged_status, judgement_text, last_text, lawful_text, result_status, result_text, running_text, turns_status};
+ghost use Rattle.initd_command.specs.Turned.{ReportsEnd, ReportsJudgement, ReportsResult, ReportsRunning, ReportsText, ReportsTurns, breach_text, child_text, drained_status, end_status, judged_status, judgement_text, last_text, lawful_text, result_status, result_text, running_text, turns_status};
 
 use crate::reports::{numbered, report, report_lines};
 use core_steps::Core;
@@ -23,9 +23,6 @@ const LIMITED: &str = "initd: the limit of turns is reached\n";
 
 /// What is reported where the trace was not written whole.
 const UNLOGGED: &str = "initd: the trace could not be written\n";
-
-/// What is reported of a run that ended drained before anything was started.
-const IDLE: &str = "initd: nothing was started\n";
 
 /// What is reported in place of the children that go on.
 const UNNAMED: &str = "initd: there was no memory to name all children that go on\n";
@@ -84,7 +81,6 @@ fn report_turns<E: Write>(
         (E.contents err.old) (E.contents err.new) }
 {
     if said.drain && served.drained {
-        report_idle(notes.births() == 0, err);
         return report_result(alloc, said.result, notes, err);
     }
     report(LIMITED, err);
@@ -165,15 +161,6 @@ fn breach_text(alloc: Global, place: u64, why: &str) -> Result<Vec<u8>, AllocErr
     text.extend_from_slice(why.as_bytes())?;
     text.push(b'\n')?;
     Ok(text)
-}
-
-/// Reports that nothing was started, where that is so.
-fn report_idle<E: Write>(is_idle: bool, err: &mut E)
-    ensures { ReportsIdle is_idle (E.contents err.old) (E.contents err.new) }
-{
-    if is_idle {
-        report(IDLE, err);
-    }
 }
 
 /// Reports how the last child of an entry ended, where a run has an entry's result, and gives the exit status.

@@ -12,8 +12,9 @@ mod patience;
 mod reports;
 mod run;
 mod simulate;
+mod watchers;
 
-pub use command::{USAGE, run_words};
+pub use command::{SHORT_USAGE, USAGE, run_words};
 pub use hosts::Hosts;
 pub use os_hosts::OsHosts;
 pub use run::make_turns;

@@ -242,7 +242,7 @@ impl<'a, R: Files<File = File> + Eprint> FileLog<'a, R> {
             Some(error) if !self.is_waiting => {
                 self.is_waiting = true;
                 let _ = eprintln!(self.rt;
-                    "initd: cannot write the trace {path}: {error}: up to 1048576 bytes of it are kept until there is room"
+                    "initd: cannot write the trace {path}: {error}: up to 1,048,576 bytes of it are kept until there is room"
                 );
             }
             None if self.is_waiting => {

@@ -16,11 +16,11 @@ ghost use Rattle.initd_command.specs.Services.{AreFiles, EndsRun, EndsServed, En
 use crate::ends::report_end;
 use crate::hosts::Hosts;
 use crate::logs::{FileLog, NoLog, is_held};
-use crate::patience::Patience;
 use crate::reports::{
     report, report_busy, report_cannot, report_fault, report_flawed, report_memory, report_shared,
     report_too_many, report_unlisted, tell,
 };
+use crate::watchers::Watcher;
 use host_calls::Host;
 use host_system::{FolderFault, PassedNames, StampedRuntime, faults_text, with_folder};
 use init_turns::{Opening, Served};
@@ -34,7 +34,7 @@ use simulator::SimFault;
 use std::alloc::{AllocError, Global};
 use std::fs::{File, OpenOptions, canonicalize, metadata, remove_file};
 use std::io;
-use std::io::Write;
+use std::io::{ErrorKind, Write};
 use std::rt::{Clock, Files};
 use trace_log::EndedLog;
 use trace_log_wrappers::{BriefLog, JudgedLog, Judgement, NotedLog};
@@ -349,10 +349,21 @@ fn files_of<R: Files + Eprint, T: Texts>(
 {
     let bytes = match texts.read_file(alloc, said.inittab.as_str()) {
         Ok(bytes) => bytes,
-        Err(error) => return Err(RunFault::Inittab(error)),
+        Err(error) => return Err(RunFault::Inittab(hinted(said, error))),
     };
     let name = String::from_str(alloc, said.inittab.as_str())?;
     add_folder(rt, alloc, said, Part { name, bytes })
+}
+
+/// Why the inittab wasn't read, with what to do where a run was meant for the files of its folder alone.
+fn hinted(said: &RunWords, error: io::Error) -> io::Error {
+    if said.inittab_dir.is_none() || error.kind() != ErrorKind::NotFound {
+        return error;
+    }
+    io::Error::new(
+        ErrorKind::NotFound,
+        "no such file, and it is read before those of --inittab-dir: an empty one will do",
+    )
 }
 
 /// The inittab, where the run takes it: one with faults where it is not strict, and one that has an entry of the id
@@ -567,7 +578,7 @@ fn report_unled<E: Write>(is_unled: bool, err: &mut E)
 /// of the entry whose result the run's is, where it ended drained, 3 at the limit of turns, and 4 where the log failed. A
 /// run that is judged and breaks a law has 2 in place of 0 and 3, and 4 where memory ran out for the judge. Gives what is
 /// left of the log, too.
-pub fn make_turns<R: Eprint, H: Host, L: EndedLog, E: Write>(
+pub fn make_turns<R: Files + Eprint, H: Host, L: EndedLog, E: Write>(
     rt: &R,
     alloc: Global,
     said: &RunWords,
@@ -586,7 +597,7 @@ where
 {
     let judged = JudgedLog::new(rt, alloc, log, said.judge);
     let mut noted = NotedLog::new(alloc, judged);
-    let mut watch = Patience::new(rt, alloc, said.verbose);
+    let mut watch = Watcher::new(rt, alloc, said.verbose, said.initctl.as_str());
     let (served, core) = opening.serve(alloc, host, &mut noted, said.turns, said.drain, &mut watch);
     let (judged, notes) = noted.into_parts();
     let found = judged.judgement();

@@ -20,11 +20,11 @@ simulate_line = with_rules (new_app (codes "simulate")) (
 unfoldable pub check_line : App
 check_line = with_rules (new_app (codes "check")) (switch_rule (codes "growing") ∷ word_rule (codes "trace") ∷ [])
 
--- the words name a subcommand
+-- the words name a subcommand; of an option that is given again the last counts
 unfoldable pub command_line : App
 command_line =
     let program = program_app (codes "initd") in
-    let required = record program { top = record program.top { subcommand_required = true } } in
+    let required = record program { top = record program.top { subcommand_required = true; args_override_self = true } } in
     with_subcommand (with_subcommand (with_subcommand required simulate_line.top) check_line.top) run_line.top
 
 -- the level to go to, if one is given, and the paths of the inittab and the script

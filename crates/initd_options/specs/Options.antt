@@ -1,5 +1,5 @@
 -- The options of `initd run`, by clap's own words, and what they say.
-use Rattle.std.specs.Prelude.{◌≡◌, ℕ, Bool, true, false, ◌+◌, ◌-◌, ◌*◌, ◌==◌, ◌&&◌, if◌then◌else◌, nat_lt, nat_le, List, [], ◌∷◌, map, codes, Option, Some, None, option_and_then, option_map, string_bytes}
+use Rattle.std.specs.Prelude.{◌≡◌, ℕ, Bool, true, false, ◌+◌, ◌-◌, ◌*◌, ◌==◌, ◌&&◌, if◌then◌else◌, nat_lt, nat_le, List, [], ◌∷◌, ◌++◌, map, codes, Option, Some, None, option_and_then, option_map, string_bytes}
 use Rattle.std.specs.Borrow.{Bor}
 use Rattle.std.specs.Char.{is_ascii_digit}
 use Rattle.clap.specs.declared.builder.command.Command.{Command, out-Command}
@@ -106,9 +106,18 @@ is_length (Some hundredths) = nat_lt 0 hundredths && nat_le hundredths PAUSE_LIM
 abbrev pub is_pause : Text → Bool
 is_pause word = is_length (hundredths_read word)
 
+-- a word that begins with a point
+abbrev pub begins_with_point : Text → Bool
+begins_with_point [] = false
+begins_with_point (byte ∷ word) = byte == 46
+
+-- a decimal number, with a 0 in front of its point where nothing is
+abbrev pub with_whole : Text → Text
+with_whole word = if begins_with_point word then codes "0" ++ word else word
+
 abbrev pub pause_said : List Row → Option Text
 pause_said rows =
-    let word = value_said (codes "pause") rows in
+    let word = with_whole (value_said (codes "pause") rows) in
     if is_pause word then Some word else None
 
 -- the entry whose last status is the run's, if one is given; nothing where it is no id

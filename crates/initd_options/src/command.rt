@@ -101,6 +101,7 @@ fn command<'a>(alloc: Global) -> Result<Command<'a>, AllocError>
     let serving = run_line(alloc)?;
     program_line(alloc, "initd")
         .subcommand_required(true)
+        .args_override_self(true)
         .subcommand(simulate)?
         .subcommand(check)?
         .subcommand(serving)

@@ -4,7 +4,7 @@ ghost use Rattle.std.specs.Prelude.{◌≡◌, ◌<◌, codes, option_map, strin
 ghost use Rattle.clap.specs.Words.{first_of, found_of, rows_of};
 ghost use Rattle.command_words.specs.CommandLines.{AddsArgument, IsLine};
 ghost use Rattle.command_words.specs.Faults.{reason_of};
-ghost use Rattle.initd_options.specs.Options.{AddsAll, brief_said, digit_read, hundredths_read, is_pause, part_read, pause_said, result_said, rule_of, rules_of, run_line, run_of, run_said, turns_read, turns_said, without_zeros};
+ghost use Rattle.initd_options.specs.Options.{AddsAll, begins_with_point, brief_said, digit_read, hundredths_read, is_pause, part_read, pause_said, result_said, rule_of, rules_of, run_line, run_of, run_said, turns_read, turns_said, with_whole, without_zeros};
 ghost use Rattle.initd_options.specs.Values.{is_set};
 
 use crate::values::{is_set, read_level_option, refused, word_of};
@@ -220,18 +220,39 @@ fn read_turns(word: &str) -> Option<u64>
     if turns > 0 { Some(turns) } else { None }
 }
 
-/// The seconds of a pause, as they are written.
+/// The seconds of a pause, as they are written, but for a point in front.
 fn read_pause(alloc: Global, matches: &ArgMatches) -> Result<String, WordFault>
     ensures ok { IfOk result (λ pause.
         pause_said (rows_of (found_of matches.now)) ≡ Some (string_bytes pause)) }
     ensures usage { IfErr result (λ fault. IsSome (reason_of fault)
         → pause_said (rows_of (found_of matches.now)) ≡ None) }
 {
-    let word = value_of(matches, "pause");
-    if !is_pause(word) {
-        return Err(refused(alloc, "pause", word, "not 0.01 to 60 seconds"));
+    let given = value_of(matches, "pause");
+    let word = with_whole(alloc, given)?;
+    if !is_pause(word.as_str()) {
+        return Err(refused(alloc, "pause", given, "not 0.01 to 60 seconds"));
     }
-    Ok(String::from_str(alloc, word)?)
+    Ok(word)
+}
+
+/// A decimal number, with a 0 in front of its point where nothing is.
+fn with_whole(alloc: Global, word: &str) -> Result<String, AllocError>
+    ensures { IfOk result (λ text. string_bytes text ≡ with_whole word.now) }
+{
+    if begins_with_point(word.as_bytes()) {
+        format!(in alloc; "0{word}")
+    } else {
+        String::from_str(alloc, word)
+    }
+}
+
+fn begins_with_point(word: &[u8]) -> bool
+    ensures { result ≡ begins_with_point word.now }
+{
+    match word {
+        [b'.', ..] => true,
+        _ => false,
+    }
 }
 
 /// The word is a decimal number of seconds, 0.01 to 60, with at most two digits after a point.

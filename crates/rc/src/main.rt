@@ -3,7 +3,7 @@
 #![tactic(auto)]
 
 use program_io::{StandardFiles, report_unread_words, words};
-use rc_command::{SystemFiles, SystemHosts, USAGE, run_words};
+use rc_command::{SHORT_USAGE, SystemFiles, SystemHosts, run_words};
 use std::process::ExitCode;
 
 fn main(rt: HostRuntime) -> ExitCode {
@@ -18,7 +18,7 @@ fn main(rt: HostRuntime) -> ExitCode {
             &mut rt.stdout(),
             &mut rt.stderr(),
         ),
-        Err(error) => report_unread_words("rc", USAGE, &error, &mut rt.stderr()),
+        Err(error) => report_unread_words("rc", SHORT_USAGE, &error, &mut rt.stderr()),
     };
     ExitCode::from(status)
 }

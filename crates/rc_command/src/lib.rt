@@ -17,4 +17,4 @@ pub use hosts::{ScriptHosts, SystemHosts};
 pub use kept_folders::KeptFolders;
 pub use kept_level::KeptLevel;
 pub use level_files::{LevelFiles, SystemFiles};
-pub use running::{PAUSES_LIMIT, SCRIPT_FAILED, USAGE, run_names, run_words};
+pub use running::{PAUSES_LIMIT, SCRIPT_FAILED, SHORT_USAGE, USAGE, run_names, run_words};

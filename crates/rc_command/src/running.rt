@@ -1,10 +1,10 @@
 //! rc at work: the scripts of two runlevels' links, stopped and started over a host, or printed.
 
-ghost use Rattle.std.specs.Prelude.{◌≡◌, ◌≢◌, ◌⊎◌, ◌↔◌, ℕ, true, false, codes, IfErr, IfOk, IsSome, IsTrue, None, OnOk, List, Option, map, string_bytes};
+ghost use Rattle.std.specs.Prelude.{◌≡◌, ◌≢◌, ◌⊎◌, ◌↔◌, ℕ, true, false, codes, IfErr, IfOk, IfSome, IsSome, IsTrue, None, OnOk, List, Option, map, string_bytes};
 ghost use Rattle.host_calls.specs.Calls.{HostCall};
 ghost use Rattle.host_calls.specs.Record.{Since};
 ghost use Rattle.command_words.specs.CommandLines.{asks_version};
-ghost use Rattle.command_words.specs.Faults.{ReportsUsage};
+ghost use Rattle.command_words.specs.Faults.{reason_of};
 ghost use Rattle.program_io.specs.Writing.{AppendsPrefix};
 ghost use Rattle.command_words.specs.VersionLine.{PrintsVersion};
 ghost use Rattle.rc_command.specs.CommandLine.{rc_read_of, said_at, said_of};
@@ -12,13 +12,13 @@ ghost use Rattle.rc_command.specs.Endings.{Asks, AsksFor, IsBefore, IsStatusOf, 
 ghost use Rattle.rc_command.specs.LevelFiles.{AreSame};
 ghost use Rattle.std.specs.Io.KnownBytes.{Appends};
 ghost use Rattle.rc_driver.specs.Printing.{command_lines};
-ghost use Rattle.rc_command.specs.Endings.{IsSilent, RunsNames, RunsSaid, RunsScripts, ended_text, limit_text, rc_of, status_of};
+ghost use Rattle.rc_command.specs.Endings.{IsSilent, RunsNames, RunsSaid, RunsScripts, TellsUsage, ended_text, limit_text, rc_of, status_of, usage_told};
 
 use crate::command::{RunOptions, Words, entering, read_words};
 use crate::folders::{Folders, folder_of, previous_names};
 use crate::hosts::ScriptHosts;
 use crate::level_files::{LevelFiles, level_in};
-use command_words::{is_version, print_version, report_word_fault};
+use command_words::{WordFault, is_version, print_version, report_word_fault};
 use host_calls::Host;
 use init_words::{Level, Memory};
 use program_io::{DEVICE_FAULT, DONE, LIMIT_REACHED, REFUSED, report_no_memory, write_text};
@@ -33,7 +33,7 @@ pub const PAUSES_LIMIT: u32 = 100_000;
 /// Exit status: all scripts came to their ends, and one of them failed.
 pub const SCRIPT_FAILED: u8 = 2;
 
-/// What is reported of words that are no command line, behind a line that says why.
+/// What is reported where help is asked for.
 pub const USAGE: &str =
     "usage: rc [-n] [-v] [--strict] [--direct] [--as-sysv] [--timeout SEC] DIR PREV NEW
        rc [OPTION..] --level-file F DIR NEW
@@ -49,6 +49,10 @@ pub const USAGE: &str =
   PREV  the runlevel before, 0 to 9 or S, or N where there was none
   NEW   the runlevel that is entered, 0 to 9 or S
 ";
+
+/// What is reported of words that are no command line, behind a line that says why.
+pub const SHORT_USAGE: &str =
+    "usage: rc [OPTION].. DIR PREV NEW | [OPTION].. --level-file F DIR NEW | --help\n";
 
 /// Runs rc on a command line without the program's name, and gives its exit status: 0 where all scripts of NEW's folder
 /// were carried out, whatever their own statuses, or were printed, or the version was written, 1 where the words are no
@@ -107,14 +111,25 @@ where
     ensures unkept { (asks_version (map string_bytes words.items) ≡ true) ⊎ (IsWhole result → ⊥)
         → AreSame (L.file_at levels.old) (L.file_at levels.new) }
     ensures report { result ≡ REFUSED
-        → ReportsUsage (codes "rc") USAGE.now (E.contents err.old) (E.contents err.new) }
+        → TellsUsage USAGE.now SHORT_USAGE.now (E.contents err.old) (E.contents err.new) }
 {
     if is_version(words.as_slice()) {
         return print_version("rc", out, err);
     }
     match read_words(alloc, words.as_slice()) {
         Ok(said) => run_asked(hosts, folders, levels, alloc, &said, out, err),
-        Err(fault) => report_word_fault("rc", &fault, USAGE, err),
+        Err(fault) => report_word_fault("rc", &fault, usage_for(&fault), err),
+    }
+}
+
+/// The usage that stands behind a fault of words: the whole where help is asked for.
+fn usage_for(fault: &WordFault) -> &'static str
+    ensures { IfSome (reason_of fault.now) (λ reason.
+        result.now ≡ usage_told USAGE.now SHORT_USAGE.now reason) }
+{
+    match fault {
+        WordFault::Usage(reason) if reason.is_empty() => USAGE,
+        _ => SHORT_USAGE,
     }
 }
 

@@ -1,25 +1,28 @@
-//! `telinit [-t SEC] [--initctl P] CHAR`: asks init for a runlevel, an ondemand letter, a new look at inittab or a
+//! `telinit [-t SEC] [-d DIR] [--initctl P] CHAR`: asks init for a runlevel, an ondemand letter, a new look at inittab or a
 //! re-execution, by one request block at the end of the channel file (telinit(8), initreq.h).
 #![tactic(auto)]
 
 use program_io::{StandardFiles, report_unread_words, words};
+use std::env;
 use std::process::ExitCode;
-use telinit_command::{OsChannels, USAGE, run_words};
+use telinit_command::{OsChannels, SHORT_USAGE, run_words};
 
 fn main(rt: HostRuntime) -> ExitCode {
     let _standard = StandardFiles::hold(&rt);
     let status = match words(&rt, rt.alloc()) {
         Ok(words) => {
-            let mut channels = OsChannels::new(&rt);
+            let mut channels = OsChannels::new(&rt, rt.alloc());
+            let home = env::var(&rt, "INITD_DIR").unwrap_or(String::new(rt.alloc()));
             run_words(
                 &mut channels,
                 rt.alloc(),
+                home.as_str(),
                 words,
                 &mut rt.stdout(),
                 &mut rt.stderr(),
             )
         }
-        Err(error) => report_unread_words("telinit", USAGE, &error, &mut rt.stderr()),
+        Err(error) => report_unread_words("telinit", SHORT_USAGE, &error, &mut rt.stderr()),
     };
     ExitCode::from(status)
 }

@@ -27,17 +27,17 @@ HasGainedFront path block old new =
 abbrev pub IsWholeAt : List ℕ → KnownBytes → Type 0
 IsWholeAt path old = IfSome (old path) (λ bytes. length bytes % BLOCK ≡ 0)
 
--- the request that words ask for, and the channel that they name
-abbrev pub IsAsked : List (List ℕ) → List ℕ → List ℕ → Type 0
-IsAsked words path block =
-    (said : TelinitSaid) × (telinit_read_of words ≡ Some said) × (path ≡ said.path)
-    × (frame_for said.sign said.secs ≡ Some block)
+-- the request that words ask for, and the channel that they or the environment's folder name
+abbrev pub IsAsked : List ℕ → List (List ℕ) → List ℕ → List ℕ → Type 0
+IsAsked home words path block =
+    (said : TelinitSaid) × (telinit_read_of home words ≡ Some said) × (path ≡ said.path)
+    × (frame_for said.sign said.secs said.power ≡ Some block)
 
 -- the channel that the words name, of whole requests, has gained the one that they ask for
-abbrev pub Asks : List (List ℕ) → KnownBytes → KnownBytes → Type 0
-Asks words old new =
-    (path block : List ℕ) × IsAsked words path block × IsWholeAt path old × HasGained path block old new
+abbrev pub Asks : List ℕ → List (List ℕ) → KnownBytes → KnownBytes → Type 0
+Asks home words old new =
+    (path block : List ℕ) × IsAsked home words path block × IsWholeAt path old × HasGained path block old new
 
 -- or a front of it, or nothing
-abbrev pub AsksPartly : List (List ℕ) → KnownBytes → KnownBytes → Type 0
-AsksPartly words old new = (path block : List ℕ) × IsAsked words path block × HasGainedFront path block old new
+abbrev pub AsksPartly : List ℕ → List (List ℕ) → KnownBytes → KnownBytes → Type 0
+AsksPartly home words old new = (path block : List ℕ) × IsAsked home words path block × HasGainedFront path block old new

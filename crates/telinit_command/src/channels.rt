@@ -3,8 +3,10 @@
 ghost use Rattle.std.specs.Prelude.{◌≡◌, length, IfOk, IfSome, OnOk, OnErr, None};
 ghost use Rattle.telinit_command.specs.Channels.{AreSame, HasGained, HasGainedFront, KnownBytes};
 
+use crate::removed::is_read_before;
 use initctl_frame::BLOCK;
 use program_io::Channel;
+use std::alloc::Global;
 use std::fs::File;
 use std::io;
 use std::io::{Error, ErrorKind};
@@ -17,7 +19,7 @@ pub struct Found {
     pub was_made: bool,
     /// Its bytes.
     pub length: u64,
-    /// An init reads it.
+    /// An init reads it, or the one that stood there before.
     pub is_read: io::Result<bool>,
 }
 
@@ -47,17 +49,22 @@ pub trait Channels {
 #[derive(Drop)]
 pub struct OsChannels<'a, R> {
     rt: &'a R,
+    alloc: Global,
     opened: Option<Channel>,
 }
 
 impl<'a, R> OsChannels<'a, R> {
     /// None is open yet.
-    pub fn new(rt: &'a R) -> OsChannels<'a, R> {
-        OsChannels { rt, opened: None }
+    pub fn new(rt: &'a R, alloc: Global) -> OsChannels<'a, R> {
+        OsChannels {
+            rt,
+            alloc,
+            opened: None,
+        }
     }
 }
 
-impl<R: Files<File = File>> Channels for OsChannels<'_, R> {
+impl<R: Files<File = File> + Alloc + Clone + Drop> Channels for OsChannels<'_, R> {
     ghost bytes_at = { λ _ _. None };
 
     fn open(&mut self, path: &str) -> io::Result<Found> {
@@ -65,7 +72,10 @@ impl<R: Files<File = File>> Channels for OsChannels<'_, R> {
         let found = Found {
             was_made: channel.was_made,
             length: channel.length,
-            is_read: channel.is_read(),
+            is_read: match channel.is_read() {
+                Ok(false) => Ok(is_read_before(self.rt, self.alloc, path)),
+                told => told,
+            },
         };
         self.opened = Some(channel);
         Ok(found)

@@ -5,6 +5,7 @@ mod channel;
 mod channels;
 mod command;
 mod frame;
+mod removed;
 mod run;
 mod seconds;
 
@@ -12,4 +13,4 @@ pub use channels::{Channels, Found, OsChannels};
 pub use command::{Words, read_words};
 pub use command_words::WordFault;
 pub use frame::frame_of;
-pub use run::{USAGE, run_words};
+pub use run::{SHORT_USAGE, USAGE, run_words};

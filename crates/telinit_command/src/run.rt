@@ -2,34 +2,44 @@
 
 ghost use Rattle.std.specs.Prelude.{◌≡◌, ◌⊎◌, true, false, codes, map, string_bytes, IfSome, IsSome, IsNone};
 ghost use Rattle.command_words.specs.CommandLines.{asks_version};
-ghost use Rattle.command_words.specs.Faults.{ReportsUsage};
+ghost use Rattle.command_words.specs.Faults.{reason_of};
 ghost use Rattle.command_words.specs.VersionLine.{PrintsVersion};
 ghost use Rattle.telinit_command.specs.Channels.{AreSame, Asks, AsksPartly, HasGained, HasGainedFront, IsWholeAt};
 ghost use Rattle.telinit_command.specs.CommandLine.{block_said, telinit_read_of};
-ghost use Rattle.telinit_command.specs.Notes.{IsTold};
+ghost use Rattle.telinit_command.specs.Notes.{IsTold, TellsUsage, usage_told};
 
 use crate::channel::{ChannelFault, append_block};
 use crate::channels::Channels;
 use crate::command::read_words;
 use crate::frame::frame_of;
-use command_words::{is_version, print_version, report_refused_words, report_word_fault};
+use command_words::{
+    WordFault, is_version, print_version, report_refused_words, report_word_fault,
+};
 use initctl_frame::BLOCK;
 use program_io::{DEVICE_FAULT, DONE, REFUSED, report_no_memory};
 use std::alloc::{AllocError, Global};
 use std::io::Write;
 
-/// What standard error gets where the words are no command line, behind a line that says why.
-pub const USAGE: &str = "usage: telinit [-t SEC] [--initctl P] CHAR
+/// What standard error gets where help is asked for.
+pub const USAGE: &str = "usage: telinit [-t SEC] [-d DIR] [--initctl P] CHAR
+       telinit [-d DIR] [--initctl P] --power fail|failnow|ok
        telinit --version
-  SEC   seconds between the two signals that stop a child, 0 to 3600; 5 where it is left out
-  P     the file that the request is appended to; initctl where it is left out
-  CHAR  0 to 9, S or s: go to that runlevel
-        A, B, C, a, b or c: start the ondemand entries of that letter
-        Q or q: read inittab again
-        U or u: re-execute init, and keep its state
+  -t SEC       seconds between the two signals that stop a child, 0 to 3600; 5 where it is left out
+  -d DIR       the folder of the channel; that of INITD_DIR where it is left out, else this one
+  --initctl P  the file that the request is appended to; initctl in the folder where it is left out
+  --power KIND the power fails, the battery is almost empty, or the power is back
+  CHAR         0 to 9, S or s: go to that runlevel
+               A, B, C, a, b or c: start the ondemand entries of that letter
+               Q or q: read inittab again
+               U or u: re-execute init, and keep its state
 ";
 
-/// Runs telinit on a command line without the program's name, and gives its exit status: 0 where one request block was
+/// What it gets where the words are no command line, behind a line that says why.
+pub const SHORT_USAGE: &str =
+    "usage: telinit [-t SEC] [-d DIR] [--initctl P] CHAR | --power fail|failnow|ok | --help\n";
+
+/// Runs telinit on a command line without the program's name, in an environment that names the folder `home`, or none
+/// where that is empty, and gives its exit status: 0 where one request block was
 /// appended or the version was written, 1 where the words are no command line, 4 where the block could not be written,
 /// the output fails or memory runs out. The version goes to `out`, where the words are `--version` alone. A fault is
 /// reported on `err`, and that the channel was made, or that no init reads it. Of a block that could not be written the
@@ -37,19 +47,20 @@ pub const USAGE: &str = "usage: telinit [-t SEC] [--initctl P] CHAR
 pub fn run_words<C: Channels, W: Write, E: Write>(
     channels: &mut C,
     alloc: Global,
+    home: &str,
     words: Vec<String>,
     out: &mut W,
     err: &mut E,
 ) -> u8
     ensures statuses { (result ≡ DONE) ⊎ (result ≡ REFUSED) ⊎ (result ≡ DEVICE_FAULT) }
     ensures done { result ≡ DONE → (asks_version (map string_bytes words.items) ≡ true)
-        ⊎ IsSome (block_said (map string_bytes words.items)) }
-    ensures usage { result ≡ REFUSED → IsNone (block_said (map string_bytes words.items)) }
+        ⊎ IsSome (block_said home.now (map string_bytes words.items)) }
+    ensures usage { result ≡ REFUSED → IsNone (block_said home.now (map string_bytes words.items)) }
     ensures appended { result ≡ DONE → asks_version (map string_bytes words.items) ≡ false
-        → Asks (map string_bytes words.items) (C.bytes_at channels.old) (C.bytes_at channels.new) }
+        → Asks home.now (map string_bytes words.items) (C.bytes_at channels.old) (C.bytes_at channels.new) }
     ensures unappended { result ≡ DEVICE_FAULT
         → AreSame (C.bytes_at channels.old) (C.bytes_at channels.new)
-        ⊎ AsksPartly (map string_bytes words.items)
+        ⊎ AsksPartly home.now (map string_bytes words.items)
         (C.bytes_at channels.old) (C.bytes_at channels.new) }
     ensures unasked { (result ≡ REFUSED) ⊎ (asks_version (map string_bytes words.items) ≡ true)
         → AreSame (C.bytes_at channels.old) (C.bytes_at channels.new) }
@@ -58,17 +69,17 @@ pub fn run_words<C: Channels, W: Write, E: Write>(
         → PrintsVersion (codes "telinit") result (W.contents out.old) (W.contents out.new) }
     // What is told of a channel that a block was appended to.
     ensures told { result ≡ DONE → (err.new ≡ err.old)
-        ⊎ IfSome (telinit_read_of (map string_bytes words.items))
+        ⊎ IfSome (telinit_read_of home.now (map string_bytes words.items))
         (λ said. IsTold said.path (E.contents err.old) (E.contents err.new)) }
     ensures report { result ≡ REFUSED
-        → ReportsUsage (codes "telinit") USAGE.now (E.contents err.old) (E.contents err.new) }
+        → TellsUsage USAGE.now SHORT_USAGE.now (E.contents err.old) (E.contents err.new) }
 {
     if is_version(words.as_slice()) {
         return print_version("telinit", out, err);
     }
-    let words = match read_words(alloc, words) {
+    let words = match read_words(alloc, home, words) {
         Ok(words) => words,
-        Err(fault) => return report_word_fault("telinit", &fault, USAGE, err),
+        Err(fault) => return report_word_fault("telinit", &fault, usage_for(&fault), err),
     };
     match frame_of(&words) {
         Some(block) => ask(channels, alloc, words.path.as_str(), &block, err),
@@ -76,14 +87,25 @@ pub fn run_words<C: Channels, W: Write, E: Write>(
     }
 }
 
+/// The usage that stands behind a fault of words: the whole where help is asked for.
+fn usage_for(fault: &WordFault) -> &'static str
+    ensures { IfSome (reason_of fault.now) (λ reason.
+        result.now ≡ usage_told USAGE.now SHORT_USAGE.now reason) }
+{
+    match fault {
+        WordFault::Usage(reason) if reason.is_empty() => USAGE,
+        _ => SHORT_USAGE,
+    }
+}
+
 /// Reports that a word is none that telinit takes for CHAR.
 fn refuse_sign<E: Write>(alloc: Global, sign: &str, err: &mut E) -> u8
     ensures statuses { (result ≡ REFUSED) ⊎ (result ≡ DEVICE_FAULT) }
     ensures report { result ≡ REFUSED
-        → ReportsUsage (codes "telinit") USAGE.now (E.contents err.old) (E.contents err.new) }
+        → TellsUsage USAGE.now SHORT_USAGE.now (E.contents err.old) (E.contents err.new) }
 {
     match format!(in alloc; "{sign}: not a runlevel, a letter, q or u") {
-        Ok(reason) => report_refused_words("telinit", reason.as_str(), USAGE, err),
+        Ok(reason) => report_refused_words("telinit", reason.as_str(), SHORT_USAGE, err),
         Err(AllocError) => report_no_memory("telinit", err),
     }
 }

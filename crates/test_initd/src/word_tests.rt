@@ -151,7 +151,7 @@ const OVER_KEPT: &[(&[u8], &[u8], &str, u8, (&str, &str))] = &[
         0,
         (
             "initd: inittab line 2: too few fields\n",
-            "initd: the inittab names no level (initdefault), and --level is not given: init goes to level S\ninitd: nothing was started\n",
+            "initd: the inittab names no level (initdefault), and --level is not given: init goes to level S\n",
         ),
     ),
     (

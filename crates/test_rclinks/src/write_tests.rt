@@ -193,6 +193,7 @@ fn is_written(rt: &impl Abort, alloc: Global, texts: &KeptTexts, row: &Row) -> R
         texts,
         &mut links,
         alloc,
+        &[],
         words.as_slice(),
         &mut out,
         &mut err,

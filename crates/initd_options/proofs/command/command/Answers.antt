@@ -10,11 +10,14 @@ use Rattle.initd_options.proofs.command.command.Goals as goal
 abbrev required : App → App
 required app = record app { top = record app.top { subcommand_required = true } }
 
+abbrev repeatable : App → App
+repeatable app = record app { top = record app.top { args_override_self = true } }
+
 pub returns : goal.returns
 unfolding command_line
 returns c =
-    let named : app_of c.subcommand_required.result ≡ required (program_app (codes "initd")) =
-    ap app_of_fields c.subcommand_required.ensures ∙ ap required c.program_line.ensures.0 in
+    let named : app_of c.args_override_self.result ≡ repeatable (required (program_app (codes "initd"))) =
+    ap app_of_fields c.args_override_self.ensures ∙ ap repeatable (ap app_of_fields c.subcommand_required.ensures ∙ ap required c.program_line.ensures.0) in
     let simulate_is : app_of c.in_ok-simulate.simulate ≡ simulate_line = c.in_ok-simulate.ensures.0 in
     let check_is : app_of c.in_ok-check.check ≡ check_line = c.in_ok-check.ensures.0 in
     let run_is : app_of c.in_ok-serving.serving ≡ run_line = c.in_ok-serving.ensures.0 in

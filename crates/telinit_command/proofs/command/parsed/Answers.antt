@@ -1,17 +1,17 @@
 use Rattle.std.proofs.Common.{◌≡◌, refl, true}
 use Rattle.clap.specs.Words.{is_simple, is_simple_and_free}
 use Rattle.clap.proofs.OnLiterals.{clap_on_literals}
-use Rattle.command_words.specs.CommandLines.{default_rule, program_app, short_rule, word_rule}
+use Rattle.command_words.specs.CommandLines.{program_app, short_rule, value_rule}
 use Rattle.command_words.proofs.KnownLines.{known_faults, known_rows}
 use Rattle.telinit_command.specs.CommandLine.{command_line}
 use Rattle.telinit_command.proofs.command.parsed.Goals as goal
 
 is_simple_line : is_simple command_line ≡ true
-unfolding program_app word_rule short_rule default_rule command_line
+unfolding program_app short_rule value_rule command_line
 is_simple_line = refl
 
 is_free_line : is_simple_and_free command_line ≡ true
-unfolding program_app word_rule short_rule default_rule command_line clap_on_literals
+unfolding program_app short_rule value_rule command_line clap_on_literals
 is_free_line = refl
 
 pub returns-clause-rows : goal.returns-clause-rows

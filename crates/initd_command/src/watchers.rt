@@ -1,0 +1,133 @@
+//! What is said between turns, on standard error: of waited entries that failed, of a channel whose folder is gone, and,
+//! on request, of a stage that isn't settled for long.
+
+use crate::patience::Patience;
+use core_steps::Core;
+use init_turns::Watch;
+use init_words::{Act, ChildNumber, Entry, Id, Stage, Status, lives};
+use std::alloc::Global;
+use std::fs;
+use std::io::ErrorKind;
+use std::rt::Files;
+
+/// Looks at init between its turns.
+#[derive(Drop)]
+pub(crate) struct Watcher<'a, R> {
+    rt: &'a R,
+    patience: Patience<'a, R>,
+    /// Each end of a child is told by itself.
+    is_told: bool,
+    /// The children of waited entries, as they were behind the turn before.
+    waited: Vec<(Id, ChildNumber)>,
+    /// The folder of the channel.
+    folder: &'a str,
+    is_gone: bool,
+}
+
+impl<'a, R> Watcher<'a, R> {
+    /// One that looks for the folder of the channel at this path. Where all ends are told it tells no failure.
+    pub(crate) fn new(rt: &'a R, alloc: Global, is_told: bool, channel: &'a str) -> Watcher<'a, R> {
+        Watcher {
+            rt,
+            patience: Patience::new(rt, alloc, is_told),
+            is_told,
+            waited: Vec::new(alloc),
+            folder: folder_of(channel),
+            is_gone: false,
+        }
+    }
+
+    /// Notes the children that init waits for. Those that there is no memory for aren't told.
+    fn note_waited(&mut self, core: &Core) {
+        self.waited.clear();
+        for slot in core.slots().as_slice() {
+            if let (Some(number), Some(act)) = (slot.child(), slot.act()) {
+                if act.is_waited() && self.waited.push((slot.id(), number)).is_err() {
+                    return;
+                }
+            }
+        }
+    }
+}
+
+impl<'a, R: Eprint> Watcher<'a, R> {
+    /// Tells how each child that init waited for ended, where it failed.
+    fn tell_failures(&self, core: &Core) {
+        for (id, number) in &self.waited {
+            let _ = match failure(core, id, *number) {
+                Some(Status::Exit(code)) => {
+                    eprint!(self.rt; "initd: {}: ended with {code}\n", id.as_str())
+                }
+                Some(Status::Killed) => eprint!(self.rt; "initd: {}: killed\n", id.as_str()),
+                None => Ok(()),
+            };
+        }
+    }
+}
+
+impl<'a, R: Files + Eprint> Watcher<'a, R> {
+    /// Tells once that the folder of the channel is gone, and once that it is there again.
+    fn tell_folder(&mut self) {
+        let is_gone = match fs::metadata(self.rt, self.folder) {
+            Ok(_) => false,
+            Err(error) => error.kind() == ErrorKind::NotFound,
+        };
+        if is_gone == self.is_gone {
+            return;
+        }
+        self.is_gone = is_gone;
+        let _ = if is_gone {
+            eprint!(self.rt;
+                "initd: the folder of the channel is gone: no request comes until {} is made again\n",
+                self.folder
+            )
+        } else {
+            eprint!(self.rt;
+                "initd: {} is there again: requests are heard\n",
+                self.folder
+            )
+        };
+    }
+}
+
+impl<'a, R: Files + Eprint> Watch<Global> for Watcher<'a, R> {
+    ghost use Rattle.std.specs.Prelude.{None};
+
+    ghost seen = { λ _. None };
+
+    fn look(&mut self, core: &Core) {
+        if !self.is_told {
+            self.tell_failures(core);
+            self.note_waited(core);
+        }
+        self.tell_folder();
+        self.patience.look(core);
+    }
+}
+
+/// How the child of this number that init waited for ended, where it failed: nothing where it goes on, or where a
+/// reading of inittab or another level stopped it.
+fn failure(core: &Core, id: &Id, number: ChildNumber) -> Option<Status> {
+    let entry = core.table().get(id)?;
+    if core.slots().by_id(id)?.child() == Some(number) || !is_meant(entry, core.stage()?) {
+        return None;
+    }
+    match core.last(id)? {
+        Status::Exit(0) => None,
+        status => Some(status),
+    }
+}
+
+/// No stop of the stage was for the entry's child: it lives there, or belongs to stages that init leaves behind its end.
+fn is_meant(entry: &Entry, stage: Stage) -> bool {
+    matches!(entry.act, Act::Sysinit | Act::Bootwait) || lives(entry, stage)
+}
+
+/// The folder of a path.
+fn folder_of(path: &str) -> &str {
+    match path.rsplit_once('/') {
+        Some(("", _)) => "/",
+        Some((folder, _)) => folder,
+        None => ".",
+    }
+}
