@@ -2,4 +2,5 @@ pub mod Lining
 pub mod Reasons
 pub mod Seeing
 pub mod SeenTexts
+pub mod Sights
 pub mod Stands
