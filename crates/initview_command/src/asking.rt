@@ -75,12 +75,7 @@ fn value_next(value: bool, word: &str) -> bool
     !value && takes_value(word)
 }
 
-fn add_if(
-    words: &mut Vec<String>,
-    alloc: Global,
-    so: bool,
-    word: &str,
-) -> Result<(), AllocError>
+fn add_if(words: &mut Vec<String>, alloc: Global, so: bool, word: &str) -> Result<(), AllocError>
     ensures { OnOk result (map string_bytes words.new.items
         ≡ map string_bytes words.old.items ++ given_by so word.now) }
 {
@@ -102,8 +97,8 @@ pub(crate) fn picked(
     let mut found = Vec::new(alloc);
     let mut value = false;
     let mut rest = words;
-    while let Some((word, others)) = rest.split_first() {
-        let word = word.as_str();
+    while let Some((text, others)) = rest.split_first() {
+        let word = text.as_str();
         add_if(&mut found, alloc, is_picked(options, value, word), word)?;
         value = value_next(value, word);
         rest = others;

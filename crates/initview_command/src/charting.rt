@@ -3,7 +3,9 @@
 ghost use Rattle.std.specs.Prelude.{◌≡◌, List, IfOk};
 ghost use Rattle.trace_events.specs.Event.{Event};
 ghost use Rattle.trace_view.specs.Viewing.{Viewed};
+ghost use Rattle.initview_timeline.specs.Chart.{chart_text};
 ghost use Rattle.initview_timeline.specs.Marks.{marks_of};
+ghost use Rattle.initview_timeline.specs.Svg.{svg_text};
 ghost use Rattle.initview_command.specs.Charting.{drawing, lines_of};
 
 use crate::showing::{Asks, stop_status};
@@ -41,14 +43,35 @@ pub(crate) fn lines_of(width: &str) -> Option<Form>
     }
 }
 
+fn draw_lines(
+    alloc: Global,
+    width: u64,
+    marks: &[Mark],
+    view: &TraceView,
+) -> Result<Vec<u8>, AllocError>
+    ensures { IfOk result (λ text. (past : List Event) → Viewed view.now past
+        → marks.now ≡ marks_of past → text.items ≡ chart_text width past) }
+{
+    let text = chart_lines(alloc, width, marks, view.time())?;
+    Ok(text)
+}
+
+fn draw_picture(alloc: Global, marks: &[Mark], view: &TraceView) -> Result<Vec<u8>, AllocError>
+    ensures { IfOk result (λ text. (past : List Event) → Viewed view.now past
+        → marks.now ≡ marks_of past → text.items ≡ svg_text past) }
+{
+    let text = svg_text(alloc, marks, view.time())?;
+    Ok(text)
+}
+
 /// A timeline, drawn.
 fn draw(alloc: Global, form: Form, marks: &[Mark], view: &TraceView) -> Result<Vec<u8>, AllocError>
     ensures { IfOk result (λ text. (past : List Event) → Viewed view.now past
         → marks.now ≡ marks_of past → text.items ≡ drawing form past) }
 {
     match form {
-        Form::Lines(width) => chart_lines(alloc, width, marks, view.time()),
-        Form::Svg => svg_text(alloc, marks, view.time()),
+        Form::Lines(width) => draw_lines(alloc, width, marks, view),
+        Form::Svg => draw_picture(alloc, marks, view),
     }
 }
 

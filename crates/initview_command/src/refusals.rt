@@ -4,6 +4,7 @@ ghost use Rattle.std.specs.Prelude.{◌≡◌};
 ghost use Rattle.program_io.specs.declared.statuses.TheConstants.{REFUSED};
 
 use crate::asking::takes_value;
+use crate::charting::lines_of;
 use crate::command::USAGE;
 use init_words::{Id, Level};
 use inittab_lint::is_slip;
@@ -22,14 +23,54 @@ struct Command {
 const MANY: usize = usize::MAX;
 
 const COMMANDS: &[Command] = &[
-    Command { name: "why", options: &[], least: 2, most: MANY },
-    Command { name: "status", options: &["--json"], least: 1, most: 2 },
-    Command { name: "left", options: &[], least: 1, most: 1 },
-    Command { name: "timeline", options: &["--svg", "--width"], least: 1, most: 1 },
-    Command { name: "follow", options: &[], least: 1, most: 1 },
-    Command { name: "lint", options: &[], least: 1, most: MANY },
-    Command { name: "diff", options: &["--trace", "--level"], least: 2, most: 2 },
-    Command { name: "plan", options: &["--level"], least: 1, most: MANY },
+    Command {
+        name: "why",
+        options: &[],
+        least: 2,
+        most: MANY,
+    },
+    Command {
+        name: "status",
+        options: &["--json"],
+        least: 1,
+        most: 2,
+    },
+    Command {
+        name: "left",
+        options: &[],
+        least: 1,
+        most: 1,
+    },
+    Command {
+        name: "timeline",
+        options: &["--svg", "--width"],
+        least: 1,
+        most: 1,
+    },
+    Command {
+        name: "follow",
+        options: &[],
+        least: 1,
+        most: 1,
+    },
+    Command {
+        name: "lint",
+        options: &[],
+        least: 1,
+        most: MANY,
+    },
+    Command {
+        name: "diff",
+        options: &["--trace", "--level"],
+        least: 2,
+        most: 2,
+    },
+    Command {
+        name: "plan",
+        options: &["--level"],
+        least: 1,
+        most: MANY,
+    },
 ];
 
 fn command_of(name: &str) -> Option<Command> {
@@ -99,8 +140,8 @@ fn value_reason(option: &str, value: &str) -> Option<&'static str> {
             _ => Some("a LEVEL is one of 0 to 9 and S"),
         };
     }
-    if option == "--width" {
-        return Some("a width N is 20 to 1000 columns, and a picture has its own");
+    if option == "--width" && lines_of(value).is_none() {
+        return Some("a width N is 20 to 1000 columns");
     }
     None
 }
@@ -141,11 +182,7 @@ fn tell_words<E: Write>(command: Command, options: &[String], words: &[String], 
         let _ = writeln!(err, "initview: {name}: one word is too many: {word}");
         return;
     }
-    if options.len() > 1 {
-        let _ = writeln!(err, "initview: {name}: an option is given twice, or beside one that rules it out");
-        return;
-    }
-    for word in words {
+    if let Some(word) = id_in(name, words) {
         if Id::read(word.as_bytes()).is_none() {
             let _ = writeln!(
                 err,
@@ -153,6 +190,21 @@ fn tell_words<E: Write>(command: Command, options: &[String], words: &[String], 
             );
             return;
         }
+    }
+    if !options.is_empty() {
+        let _ = writeln!(
+            err,
+            "initview: {name}: an option is given twice, or beside one that rules it out"
+        );
+    }
+}
+
+/// The word that is to be an id.
+fn id_in<'a>(name: &str, words: &'a [String]) -> Option<&'a String> {
+    match name {
+        "why" => words.first(),
+        "status" => words.get(1),
+        _ => None,
     }
 }
 

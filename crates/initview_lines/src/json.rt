@@ -184,12 +184,7 @@ fn add_last_part(text: &mut Vec<u8>, row: &Row) -> Result<(), AllocError>
 }
 
 /// Adds the object of an id, in a line.
-pub(crate) fn add_row(
-    text: &mut Vec<u8>,
-    now: u64,
-    id: &Id,
-    row: &Row,
-) -> Result<(), AllocError>
+pub(crate) fn add_row(text: &mut Vec<u8>, now: u64, id: &Id, row: &Row) -> Result<(), AllocError>
     ensures { OnOk result (text.new.items ≡ text.old.items ++ row_json now id.now row.now) }
 {
     add_id_part(text, id, row)?;

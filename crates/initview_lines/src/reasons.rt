@@ -106,7 +106,8 @@ fn other_advice(stage: Option<Stage>) -> &'static [u8]
     ensures { result.now ≡ other_advice stage }
 {
     match stage {
-        Some(Stage::Run(_)) => b"go to a level that its line names, or name this one and run telinit q",
+        Some(Stage::Run(_)) =>
+            b"go to a level that its line names, or name this one and run telinit q",
         _ => b"wait for the first level",
     }
 }

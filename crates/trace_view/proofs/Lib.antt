@@ -1,3 +1,4 @@
+pub mod Awaited
 pub mod Lining
 pub mod Reasons
 pub mod Seeing

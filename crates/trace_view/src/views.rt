@@ -1,11 +1,13 @@
 //! A view of a trace.
 
 ghost use Rattle.std.specs.Prelude.{◌≡◌, ◌&&◌, if◌then◌else◌, true, List, Some, None, option_map, option_copied, IfOk};
+ghost use Rattle.std.specs.Option.{option_or};
+ghost use Rattle.init_words.specs.declared.orders.OrderKind.TheVariants.{Start};
 ghost use Rattle.init_words.specs.declared.entries.Entry.{Entry};
 ghost use Rattle.trace_events.specs.Event.{Event};
 ghost use Rattle.trace_events.specs.Past.{table_of, stage_of, grace_of, time_of, unreaped_children};
 ghost use Rattle.trace_events.specs.Lawful.{broken};
-ghost use Rattle.trace_events.specs.Wanted.{is_owed, starts_in};
+ghost use Rattle.trace_events.specs.Wanted.{is_order, is_owed, starts_in};
 ghost use Rattle.inittab_text.specs.Tables.{entry_of, is_distinct};
 ghost use Rattle.trace_check.specs.Laws.{law_number};
 ghost use Rattle.trace_view.specs.Viewing.{unviewed, Viewed, SeesNext};
@@ -80,6 +82,27 @@ fn act_in(entry: Option<&Entry>) -> Option<Act>
 {
     match entry {
         Some(entry) => Some(entry.act),
+        None => None,
+    }
+}
+
+/// The order is a start.
+fn is_start(order: Option<OrderKind>) -> bool
+    ensures { result ≡ is_order Start order }
+{
+    match order {
+        Some(OrderKind::Start) => true,
+        _ => false,
+    }
+}
+
+/// The first id; else the other one, where it is so.
+fn id_or(first: Option<Id>, so: bool, other: Id) -> Option<Id>
+    ensures { result ≡ option_or first (if so then Some other else None) }
+{
+    match first {
+        Some(id) => Some(id),
+        None if so => Some(other),
         None => None,
     }
 }
@@ -182,12 +205,11 @@ impl<A: Allocator> TraceView<A> {
             → entry_of entry.now.id (table_of past) ≡ Some entry.now
             → result ≡ is_owed entry.now past }
     {
-        let starting = match self.judge.order(&entry.id) {
-            Some(OrderKind::Start) => true,
-            _ => false,
-        };
+        let waited = entry.act.is_waited();
         let kept = number_of_id(self.kept.as_slice(), entry.id).is_some();
-        entry.act.is_waited() && (kept || starting || self.judge.is_wanted(entry))
+        let starting = is_start(self.judge.order(&entry.id));
+        let wanted = self.judge.is_wanted(entry);
+        waited && (kept || starting || wanted)
     }
 
     /// The first entry of all that init waits for.
@@ -196,11 +218,8 @@ impl<A: Allocator> TraceView<A> {
             → result ≡ option_map entry_id (first_awaited past) }
     {
         let (last, _) = self.judge.table().entries().split_last()?;
-        match self.judge.first_owed(&last.id) {
-            Some(entry) => Some(entry.id),
-            None if self.owes(last) => Some(last.id),
-            None => None,
-        }
+        let before = id_of(self.judge.first_owed(&last.id));
+        id_or(before, self.owes(last), last.id)
     }
 
     /// Why the id isn't started next.
