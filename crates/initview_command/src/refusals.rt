@@ -127,8 +127,8 @@ fn usage_of(name: &str) -> &'static str {
 
 fn tell_meant<E: Write>(what: &str, word: &str, meant: Option<&str>, err: &mut E) {
     let _ = match meant {
-        Some(meant) => writeln!(err, "initview: no such {what}: {word}: {meant}?"),
-        None => writeln!(err, "initview: no such {what}: {word}"),
+        Some(meant) => writeln!(err, "initview: {what}: {word}: {meant}?"),
+        None => writeln!(err, "initview: {what}: {word}"),
     };
 }
 
@@ -152,7 +152,7 @@ fn tell_options<E: Write>(command: Command, options: &[String], err: &mut E) -> 
     while let Some((option, others)) = rest.split_first() {
         let option = option.as_str();
         if !has_option(command, option) {
-            tell_meant("option", option, option_meant(command, option), err);
+            tell_meant("no such option", option, option_meant(command, option), err);
             return true;
         }
         rest = others;
@@ -231,7 +231,7 @@ pub(crate) fn report_refusal<E: Write>(options: &[String], words: &[String], err
             REFUSED
         }
         None => {
-            tell_meant("command", name.as_str(), command_meant(name.as_str()), err);
+            tell_meant("no such command", name.as_str(), command_meant(name.as_str()), err);
             report_commands(err)
         }
     }
