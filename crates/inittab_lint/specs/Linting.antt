@@ -1,9 +1,13 @@
 -- All that is told of the files of an inittab, a line each.
-use Rattle.std.specs.Prelude.{ℕ, ◌-◌, List, [], ◌∷◌, ◌++◌, codes, decimal, slice_get, Option, Some, None}
+use Rattle.std.specs.Prelude.{ℕ, ◌-◌, if◌then◌else◌, List, [], ◌∷◌, ◌++◌, codes, decimal, slice_get, Option, Some, None}
+use Rattle.std.specs.List.{list_any}
 use Rattle.text_lines.specs.Lines.{after_lines, cut, skip_blanks}
 use Rattle.init_words.specs.declared.actions.Act.{Act}
 use Rattle.init_words.specs.declared.levels.Level.{Level}
+use Rattle.init_words.specs.declared.entries.Entry.{Entry}
+use Rattle.init_words.specs.declared.stages.Stage.TheVariants.{Run}
 use Rattle.init_words.specs.Actions.{word_of}
+use Rattle.init_words.specs.Entries.{starts_of}
 use Rattle.init_words.specs.Parts.{NamedText, texts_of}
 use Rattle.inittab_text.specs.declared.faults.LineKind.{LineKind}
 use Rattle.inittab_text.specs.declared.faults.LineKind.TheVariants as kind
@@ -12,6 +16,8 @@ use Rattle.inittab_text.specs.Faults.{kind_text}
 use Rattle.inittab_text.specs.Lines.{FieldBytes, fields_of}
 use Rattle.inittab_text.specs.Parts.{faults_of_parts, table_of_texts}
 use Rattle.inittab_text.specs.Tables.{default_level_of}
+use Rattle.inittab_lint.specs.declared.linting.DefaultLevel.{DefaultLevel}
+use Rattle.inittab_lint.specs.declared.linting.DefaultLevel.TheVariants as default
 use Rattle.inittab_lint.specs.declared.linting.Found.{Found}
 use Rattle.inittab_lint.specs.declared.linting.Found.TheVariants as found
 use Rattle.inittab_lint.specs.declared.traps.LineWarning.{LineWarning}
@@ -88,29 +94,38 @@ abbrev pub warning_lines : List NamedText → List LineWarning → List ℕ
 warning_lines parts [] = []
 warning_lines parts (found ∷ others) = warning_line (slice_get parts found.part) found ++ warning_lines parts others
 
--- that no initdefault names a level
-abbrev pub default_line : Option NamedText → Option Level → List ℕ
-default_line part (Some level) = []
-default_line part None =
+-- what becomes of the default level: entries start in it, or none does; or there is none
+abbrev pub default_by : Option Level → List Entry → DefaultLevel
+default_by None table = default.Lacking
+default_by (Some level) table = if list_any (λ e. starts_of e (Run level)) table then default.Served else default.Idle
+
+abbrev pub default_in : List Entry → DefaultLevel
+default_in table = default_by (default_level_of table) table
+
+-- that no initdefault names a level, or that none starts there
+abbrev pub default_line : Option NamedText → DefaultLevel → List ℕ
+default_line part default.Served = []
+default_line part default.Idle = name_of part ++ codes ": warning: no entry starts in the level of initdefault\n"
+default_line part default.Lacking =
     name_of part ++ codes ": warning: no initdefault names a level: init goes to S\n"
 
-abbrev pub lint_text : List NamedText → List PartFault → List LineWarning → Option Level → List ℕ
+abbrev pub lint_text : List NamedText → List PartFault → List LineWarning → DefaultLevel → List ℕ
 lint_text parts faults warnings level =
     fault_lines parts faults ++ (warning_lines parts warnings ++ default_line (slice_get parts 0) level)
 
 -- a fault counts before any warning
-abbrev pub found_by : List PartFault → List LineWarning → Option Level → Found
+abbrev pub found_by : List PartFault → List LineWarning → DefaultLevel → Found
 found_by (fault ∷ faults) warnings level = found.Faults
 found_by [] (warning ∷ warnings) level = found.Warnings
-found_by [] [] None = found.Warnings
-found_by [] [] (Some level) = found.Nothing
+found_by [] [] default.Served = found.Nothing
+found_by [] [] _ = found.Warnings
 
 -- what is told and what was found
-abbrev pub lint_by : List NamedText → List PartFault → List LineWarning → Option Level → List ℕ × Found
+abbrev pub lint_by : List NamedText → List PartFault → List LineWarning → DefaultLevel → List ℕ × Found
 lint_by parts faults warnings level = (lint_text parts faults warnings level, found_by faults warnings level)
 
 -- of files: the faults of the reader, the warnings that hold, and the default level of their table
 abbrev pub lint_in : List NamedText → List ℕ × Found
 lint_in parts =
     lint_by parts (faults_of_parts (texts_of parts)) (warnings_of (texts_of parts))
-    (default_level_of (table_of_texts (texts_of parts)))
+    (default_in (table_of_texts (texts_of parts)))

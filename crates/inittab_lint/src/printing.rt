@@ -6,9 +6,10 @@ ghost use Rattle.inittab_lint.specs.Linting.{action_words, default_line, fault_l
 ghost use Rattle.inittab_text.specs.Lines.{fields_of};
 ghost use Rattle.text_lines.specs.Lines.{skip_blanks};
 
+use crate::linting::DefaultLevel;
 use crate::slips::meant;
 use crate::traps::LineWarning;
-use init_words::{Act, Level, Part};
+use init_words::{Act, Part};
 use inittab_text::{Fields, LineKind, PartFault};
 use itoa::Buffer;
 use std::alloc::{AllocError, Allocator};
@@ -226,19 +227,18 @@ fn add_warnings<A: Allocator>(
 fn add_default<A: Allocator>(
     text: &mut Vec<u8, A>,
     part: Option<&Part>,
-    level: Option<Level>,
+    level: DefaultLevel,
 ) -> Result<(), AllocError>
     ensures { OnOk result (text.new.items
         ≡ text.old.items ++ default_line (option_copied part.entry) level) }
 {
-    if level.is_some() {
-        return Ok(());
-    }
+    let words: &[u8] = match level {
+        DefaultLevel::Served => return Ok(()),
+        DefaultLevel::Idle => b": warning: no entry starts in the level of initdefault\n",
+        DefaultLevel::Lacking => b": warning: no initdefault names a level: init goes to S\n",
+    };
     put(text, name_of(part))?;
-    put(
-        text,
-        b": warning: no initdefault names a level: init goes to S\n",
-    )
+    put(text, words)
 }
 
 /// A line each for faults, for warnings, and for a default level that is lacking.
@@ -247,7 +247,7 @@ pub(crate) fn lint_lines<A: Allocator>(
     parts: &[Part],
     faults: &[PartFault],
     warnings: &[LineWarning],
-    level: Option<Level>,
+    level: DefaultLevel,
 ) -> Result<Vec<u8, A>, AllocError>
     ensures { IfOk result (λ text. text.items
         ≡ lint_text parts.now faults.now warnings.now level) }

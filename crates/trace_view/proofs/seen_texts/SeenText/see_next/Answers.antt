@@ -1,15 +1,13 @@
 use Rattle.std.proofs.Common.{rules, ◌≡◌, ◌+◌, ◌∷◌, ap, is_some, true, sym, subst}
 use Rattle.trace_verdict.specs.Readers.{capped}
 use Rattle.trace_view.specs.Viewing.{ViewState, Viewed}
-use Rattle.trace_view.specs.SeenTexts.{SeenState}
 use Rattle.trace_view.proofs.Sights.{some_seen, none_seen}
 use Rattle.trace_view.proofs.seen_texts.SeenText.see_next.Goals.{in-NewTable-2, in-NotRead-2}
 use Rattle.trace_view.proofs.seen_texts.SeenText.see_next.Goals as goal
 
 pub returns-in_ok-see-in-Some-clause-goes : goal.returns-in_ok-see-in-Some-clause-goes
 returns-in_ok-see-in-Some-clause-goes g c =
-    let new : SeenState g.S = record { viewing = c.next.new.self; seen = c.see.new.self } in
-    let is : c.match-happening-2.self ≡ new = elim c.match-happening-2.branch [ in-NewTable-2 w ↦ w.self-is | in-NotRead-2 w ↦ w.self-is ] in
+    let is : c.match-happening-2.self ≡ record { viewing = c.next.new.self; seen = c.see.new.self } = elim c.match-happening-2.branch [ in-NewTable-2 w ↦ w.self-is | in-NotRead-2 w ↦ w.self-is ] in
     let some : is_some c.in_ok-happening.field-0 ≡ true = ap is_some c.in-Some.is in
     let line : c.saturating_add-line.result ≡ capped (c.self.inside.view.reading.lines + 1) = search rules in
     rw (is, ← c.self.view_is) (λ text small at.
