@@ -1,5 +1,5 @@
 -- All that is told of the files of an inittab, a line each.
-use Rattle.std.specs.Prelude.{ℕ, ◌-◌, if◌then◌else◌, List, [], ◌∷◌, ◌++◌, codes, decimal, slice_get, Option, Some, None}
+use Rattle.std.specs.Prelude.{ℕ, ◌+◌, ◌-◌, ◌/◌, ◌%◌, ◌&&◌, ◌==◌, not, nat_le, nat_lt, if◌then◌else◌, List, [], ◌∷◌, ◌++◌, codes, decimal, slice_get, Option, Some, None}
 use Rattle.std.specs.List.{list_any}
 use Rattle.text_lines.specs.Lines.{after_lines, cut, skip_blanks}
 use Rattle.init_words.specs.declared.actions.Act.{Act}
@@ -34,6 +34,18 @@ abbrev pub text_of : Option NamedText → List ℕ
 text_of None = []
 text_of (Some part) = part.bytes
 
+-- a text of a file as it is shown: a control character is \xNN
+abbrev pub hex_digit : ℕ → ℕ
+hex_digit number = if nat_lt number 10 then 48 + number else 97 + (number - 10)
+
+abbrev pub shown_byte : ℕ → List ℕ
+shown_byte b =
+    if nat_le 32 b && not (b == 127) then b ∷ [] else codes "\\x" ++ (hex_digit (b / 16) ∷ hex_digit (b % 16) ∷ [])
+
+abbrev pub shown : List ℕ → List ℕ
+shown [] = []
+shown (b ∷ text) = shown_byte b ++ shown text
+
 -- NAME:LINE:
 abbrev pub place_words : List ℕ → ℕ → List ℕ
 place_words name line = name ++ (codes ":" ++ (decimal line ++ codes ": "))
@@ -58,11 +70,11 @@ meant_words (Some action) = codes ": " ++ (word_of action ++ codes "?")
 
 abbrev pub action_words : Option FieldBytes → List ℕ
 action_words None = []
-action_words (Some f) = codes " " ++ (f.action ++ meant_words (meant f.action))
+action_words (Some f) = codes " " ++ (shown f.action ++ meant_words (meant f.action))
 
 abbrev pub id_words : Option FieldBytes → List ℕ
 id_words None = []
-id_words (Some f) = codes " " ++ f.id
+id_words (Some f) = codes " " ++ shown f.id
 
 -- what is told behind the check that a line fails
 abbrev pub hint_words : LineKind → List ℕ → List ℕ

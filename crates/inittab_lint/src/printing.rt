@@ -1,8 +1,8 @@
 //! The lines that tell of an inittab.
 
-ghost use Rattle.std.specs.Prelude.{◌≡◌, ◌++◌, option_copied, slice_get, IfOk, OnOk};
+ghost use Rattle.std.specs.Prelude.{◌≡◌, ◌<◌, ◌++◌, option_copied, slice_get, IfOk, OnOk};
 ghost use Rattle.inittab_text.specs.Faults.{kind_text};
-ghost use Rattle.inittab_lint.specs.Linting.{action_words, default_line, fault_line, fault_lines, hint_words, id_words, line_at, lint_text, meant_words, name_of, place_words, text_of, warning_line, warning_lines};
+ghost use Rattle.inittab_lint.specs.Linting.{action_words, default_line, fault_line, fault_lines, hex_digit, hint_words, id_words, line_at, lint_text, meant_words, name_of, place_words, shown, shown_byte, text_of, warning_line, warning_lines};
 ghost use Rattle.inittab_text.specs.Lines.{fields_of};
 ghost use Rattle.text_lines.specs.Lines.{skip_blanks};
 
@@ -19,6 +19,41 @@ pub(crate) fn put<A: Allocator>(text: &mut Vec<u8, A>, bytes: &[u8]) -> Result<(
     ensures { OnOk result (text.new.items ≡ text.old.items ++ bytes.now) }
 {
     text.extend_from_slice(bytes)?;
+    Ok(())
+}
+
+fn hex_digit(number: u8) -> u8
+    requires { number < 16 }
+    ensures { result ≡ hex_digit number }
+{
+    if number < 10 {
+        b'0' + number
+    } else {
+        b'a' + (number - 10)
+    }
+}
+
+/// Adds a byte, a control character as `\xNN`.
+fn put_shown_byte<A: Allocator>(text: &mut Vec<u8, A>, byte: u8) -> Result<(), AllocError>
+    ensures { OnOk result (text.new.items ≡ text.old.items ++ shown_byte byte) }
+{
+    if byte >= 32 && byte != 127 {
+        text.push(byte)?;
+        return Ok(());
+    }
+    put(text, b"\\x")?;
+    put(text, &[hex_digit(byte / 16), hex_digit(byte % 16)])
+}
+
+/// Adds a text of a file, whose control characters a terminal is not to obey.
+pub(crate) fn put_shown<A: Allocator>(text: &mut Vec<u8, A>, bytes: &[u8]) -> Result<(), AllocError>
+    ensures { OnOk result (text.new.items ≡ text.old.items ++ shown bytes.now) }
+{
+    let mut rest = bytes;
+    while let Some((byte, others)) = rest.split_first() {
+        put_shown_byte(text, *byte)?;
+        rest = others;
+    }
     Ok(())
 }
 
@@ -98,7 +133,7 @@ fn add_action<A: Allocator>(text: &mut Vec<u8, A>, line: &[u8]) -> Result<(), Al
         return Ok(());
     };
     text.extend_from_slice(b" ")?;
-    text.extend_from_slice(fields.action)?;
+    put_shown(text, fields.action)?;
     add_meant(text, meant(fields.action))
 }
 
@@ -111,7 +146,7 @@ fn add_id<A: Allocator>(text: &mut Vec<u8, A>, line: &[u8]) -> Result<(), AllocE
         return Ok(());
     };
     text.extend_from_slice(b" ")?;
-    text.extend_from_slice(fields.id)?;
+    put_shown(text, fields.id)?;
     Ok(())
 }
 
