@@ -1,5 +1,5 @@
 -- All that is told of the files of an inittab, a line each.
-use Rattle.std.specs.Prelude.{ℕ, ◌+◌, ◌-◌, ◌/◌, ◌%◌, ◌&&◌, ◌==◌, not, nat_le, nat_lt, if◌then◌else◌, List, [], ◌∷◌, ◌++◌, codes, decimal, slice_get, Option, Some, None}
+use Rattle.std.specs.Prelude.{ℕ, Bool, false, ◌+◌, ◌-◌, ◌/◌, ◌%◌, ◌&&◌, ◌==◌, not, nat_le, nat_lt, if◌then◌else◌, List, [], ◌∷◌, ◌++◌, codes, decimal, slice_get, Option, Some, None}
 use Rattle.std.specs.List.{list_any}
 use Rattle.text_lines.specs.Lines.{after_lines, cut, skip_blanks}
 use Rattle.init_words.specs.declared.actions.Act.{Act}
@@ -16,6 +16,7 @@ use Rattle.inittab_text.specs.Faults.{kind_text}
 use Rattle.inittab_text.specs.Lines.{FieldBytes, fields_of}
 use Rattle.inittab_text.specs.Parts.{faults_of_parts, table_of_texts}
 use Rattle.inittab_text.specs.Tables.{default_level_of}
+use Rattle.inittab_text.specs.Written.{is_empty}
 use Rattle.inittab_lint.specs.declared.linting.DefaultLevel.{DefaultLevel}
 use Rattle.inittab_lint.specs.declared.linting.DefaultLevel.TheVariants as default
 use Rattle.inittab_lint.specs.declared.linting.Found.{Found}
@@ -94,9 +95,28 @@ fault_line part fault =
     place_words (name_of part) fault.line
     ++ (kind_text fault.kind ++ (hint_words fault.kind (line_at fault.line (text_of part)) ++ codes "\n"))
 
+-- a line that begins with no id, as BusyBox has them, is told of once
+abbrev pub is_nameless : Option FieldBytes → Bool
+is_nameless None = false
+is_nameless (Some f) = is_empty f.id
+
+abbrev pub is_bare : Option NamedText → PartFault → Bool
+is_bare part fault = is_nameless (fields_of (skip_blanks (line_at fault.line (text_of part))))
+
+abbrev pub has_bare : List NamedText → List PartFault → Bool
+has_bare parts faults = list_any (λ fault. is_bare (slice_get parts fault.part) fault) faults
+
+abbrev pub bare_line : Option NamedText → Bool → List ℕ
+bare_line part so =
+    if so then name_of part ++ codes ": lines begin with no id, as in BusyBox's inittab: write one before the first colon\n"
+    else []
+
+abbrev pub told_fault : Option NamedText → PartFault → List ℕ
+told_fault part fault = if is_bare part fault then [] else fault_line part fault
+
 abbrev pub fault_lines : List NamedText → List PartFault → List ℕ
 fault_lines parts [] = []
-fault_lines parts (fault ∷ faults) = fault_line (slice_get parts fault.part) fault ++ fault_lines parts faults
+fault_lines parts (fault ∷ faults) = told_fault (slice_get parts fault.part) fault ++ fault_lines parts faults
 
 abbrev pub warning_line : Option NamedText → LineWarning → List ℕ
 warning_line part found =
@@ -123,7 +143,8 @@ default_line part default.Lacking =
 
 abbrev pub lint_text : List NamedText → List PartFault → List LineWarning → DefaultLevel → List ℕ
 lint_text parts faults warnings level =
-    fault_lines parts faults ++ (warning_lines parts warnings ++ default_line (slice_get parts 0) level)
+    fault_lines parts faults ++ (bare_line (slice_get parts 0) (has_bare parts faults)
+    ++ (warning_lines parts warnings ++ default_line (slice_get parts 0) level))
 
 -- a fault counts before any warning
 abbrev pub found_by : List PartFault → List LineWarning → DefaultLevel → Found

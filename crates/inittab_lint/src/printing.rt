@@ -2,7 +2,7 @@
 
 ghost use Rattle.std.specs.Prelude.{◌≡◌, ◌<◌, ◌++◌, option_copied, slice_get, IfOk, OnOk};
 ghost use Rattle.inittab_text.specs.Faults.{kind_text};
-ghost use Rattle.inittab_lint.specs.Linting.{action_words, default_line, fault_line, fault_lines, hex_digit, hint_words, id_words, line_at, lint_text, meant_words, name_of, place_words, shown, shown_byte, text_of, warning_line, warning_lines};
+ghost use Rattle.inittab_lint.specs.Linting.{action_words, bare_line, default_line, fault_line, fault_lines, has_bare, hex_digit, hint_words, id_words, is_bare, line_at, lint_text, meant_words, name_of, place_words, shown, shown_byte, text_of, told_fault, warning_line, warning_lines};
 ghost use Rattle.inittab_text.specs.Lines.{fields_of};
 ghost use Rattle.text_lines.specs.Lines.{skip_blanks};
 
@@ -214,6 +214,56 @@ pub(crate) fn add_fault<A: Allocator>(
     put(text, b"\n")
 }
 
+/// The line of a fault begins with no id.
+fn is_bare(part: Option<&Part>, fault: &PartFault) -> bool
+    ensures { result ≡ is_bare (option_copied part.entry) fault.now }
+{
+    match Fields::of(without_blanks(line_at(fault.line, text_of(part)))) {
+        Some(fields) => fields.id.is_empty(),
+        None => false,
+    }
+}
+
+fn has_bare(parts: &[Part], faults: &[PartFault]) -> bool
+    ensures { result ≡ has_bare parts.now faults.now }
+{
+    faults.iter().any(|fault| is_bare(part_at(parts, fault.part as usize), fault))
+}
+
+/// Adds that lines begin with no id, where it is so.
+fn add_bare<A: Allocator>(
+    text: &mut Vec<u8, A>,
+    part: Option<&Part>,
+    so: bool,
+) -> Result<(), AllocError>
+    ensures { OnOk result (text.new.items
+        ≡ text.old.items ++ bare_line (option_copied part.entry) so) }
+{
+    if !so {
+        return Ok(());
+    }
+    put(text, name_of(part))?;
+    put(
+        text,
+        b": lines begin with no id, as in BusyBox's inittab: write one before the first colon\n",
+    )
+}
+
+/// Adds a fault, unless its line begins with no id.
+fn add_told<A: Allocator>(
+    text: &mut Vec<u8, A>,
+    part: Option<&Part>,
+    fault: &PartFault,
+) -> Result<(), AllocError>
+    ensures { OnOk result (text.new.items
+        ≡ text.old.items ++ told_fault (option_copied part.entry) fault.now) }
+{
+    if is_bare(part, fault) {
+        return Ok(());
+    }
+    add_fault(text, part, fault)
+}
+
 fn add_faults<A: Allocator>(
     text: &mut Vec<u8, A>,
     parts: &[Part],
@@ -223,7 +273,7 @@ fn add_faults<A: Allocator>(
 {
     let mut rest = faults;
     while let Some((fault, others)) = rest.split_first() {
-        add_fault(text, part_at(parts, fault.part as usize), fault)?;
+        add_told(text, part_at(parts, fault.part as usize), fault)?;
         rest = others;
     }
     Ok(())
@@ -289,6 +339,7 @@ pub(crate) fn lint_lines<A: Allocator>(
 {
     let mut text = Vec::new(alloc);
     add_faults(&mut text, parts, faults)?;
+    add_bare(&mut text, part_at(parts, 0), has_bare(parts, faults))?;
     add_warnings(&mut text, parts, warnings)?;
     add_default(&mut text, part_at(parts, 0), level)?;
     Ok(text)
