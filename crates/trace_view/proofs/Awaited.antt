@@ -1,5 +1,5 @@
 -- The first entry of all that init waits for.
-use Rattle.std.proofs.Common.{◌≡◌, refl, sym, ◌∙◌, ap, ℕ, Bool, true, false, not, ◌&&◌, ◌||◌, cond, List, [], ◌∷◌, ◌++◌, find, Option, Some, None, is_some}
+use Rattle.std.proofs.Common.{◌≡◌, refl, sym, ◌∙◌, ap, ℕ, Bool, true, false, not, ◌&&◌, ◌||◌, cond, List, [], ◌∷◌, ◌++◌, find, Option, Some, None, is_some, length, arith}
 use Rattle.std.specs.List.{list_any}
 use Rattle.std.specs.Option.{option_map, option_or}
 use Rattle.std.proofs.lemmas.Bool.{and_parts, false≢true}
@@ -9,7 +9,7 @@ use Rattle.init_words.specs.declared.orders.OrderKind.TheVariants.{Start}
 use Rattle.init_words.specs.Actions.{waited_by}
 use Rattle.init_words.specs.Ids.{same_id}
 use Rattle.init_words.proofs.Same.{same_id-self, same_id-flip}
-use Rattle.inittab_text.specs.Tables.{has_id, is_distinct}
+use Rattle.inittab_text.specs.Tables.{entry_of, has_id, is_distinct}
 use Rattle.trace_events.specs.Event.{Event}
 use Rattle.trace_events.specs.Past.{has_child, is_of, kept_children, open_of, table_of}
 use Rattle.trace_events.specs.Wanted.{entries_before, is_order, is_owed, is_wanted}
@@ -44,6 +44,17 @@ before_last (x ∷ front) last distinct = split (same_id last.id x.id) refl wher
   split true is = absurd (false≢true (ap not (sym (last_in x.id front last (same_id-flip last.id x.id is))) ∙ parts.0))
   split false is = ap (λ es. x ∷ es) (before_last front last parts.1)
 
+-- the last one is found by its id
+pub found_last : (front : List Entry) (last : Entry) → is_distinct (front ++ last ∷ []) ≡ true → entry_of last.id (front ++ last ∷ []) ≡ Some last
+found_last [] last distinct = ap (λ b. cond b (Some last) None) (same_id-self last.id)
+found_last (x ∷ front) last distinct = split (same_id last.id x.id) refl where
+  parts : (not (list_any (has_id x.id) (front ++ last ∷ [])) ≡ true) × (is_distinct (front ++ last ∷ []) ≡ true)
+  parts = and_parts (not (list_any (has_id x.id) (front ++ last ∷ []))) (is_distinct (front ++ last ∷ [])) distinct
+
+  split : (b : Bool) → same_id last.id x.id ≡ b → cond b (Some x) (entry_of last.id (front ++ last ∷ [])) ≡ Some last
+  split true is = absurd (false≢true (ap not (sym (last_in x.id front last (same_id-flip last.id x.id is))) ∙ parts.0))
+  split false is = found_last front last parts.1
+
 last_or : (p : Entry → Bool) (o : Option Entry) (last : Entry) → option_map entry_id (option_or o (cond (p last) (Some last) None)) ≡ option_or (option_map entry_id o) (cond (p last) (Some last.id) None)
 last_or p (Some e) last = refl
 last_or p None last = split (p last) where
@@ -64,3 +75,7 @@ awaited_is past table front last before so is now distinct first owed =
 
 pub none_awaited : (past : List Event) (table : List Entry) → table ≡ [] → table ≡ table_of past → None ≡ option_map entry_id (first_awaited past)
 none_awaited past table none now = ap (λ t. option_map entry_id (find (λ e. is_owed e past) t)) (sym none ∙ now)
+
+pub empty_is : {X : Type 0} (xs : List X) → length xs ≡ 0 → xs ≡ []
+empty_is [] is = refl
+empty_is (x ∷ xs) is = absurd (omega (arith, is))

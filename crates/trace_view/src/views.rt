@@ -217,9 +217,13 @@ impl<A: Allocator> TraceView<A> {
         ensures { (past : List Event) → Viewed self.now past
             → result ≡ option_map entry_id (first_awaited past) }
     {
-        let (last, _) = self.judge.table().entries().split_last()?;
-        let before = id_of(self.judge.first_owed(&last.id));
-        id_or(before, self.owes(last), last.id)
+        match self.judge.table().entries().split_last() {
+            Some((last, _front)) => {
+                let before = id_of(self.judge.first_owed(&last.id));
+                id_or(before, self.owes(last), last.id)
+            }
+            None => None,
+        }
     }
 
     /// Why the id isn't started next.
