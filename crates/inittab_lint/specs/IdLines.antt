@@ -5,7 +5,7 @@ use Rattle.text_lines.specs.Lines.{cut, lines_of, skip_blanks}
 use Rattle.init_words.specs.Parts.{NamedText, texts_of}
 use Rattle.inittab_text.specs.declared.faults.PartFault.{PartFault}
 use Rattle.inittab_text.specs.Parts.{faults_of_parts}
-use Rattle.inittab_lint.specs.Linting.{fault_line, name_of, place_words, up_to}
+use Rattle.inittab_lint.specs.Linting.{fault_line, name_of, place_words, shown, up_to}
 
 -- the id of a line: what stands before its first colon, also where the line has too few
 abbrev pub id_written : List ℕ → List ℕ
@@ -21,7 +21,7 @@ fault_at faults part number = find (is_fault_at part number) faults
 -- NAME:LINE: and the fault, where the line is left out; else the line itself
 abbrev pub line_told : NamedText → ℕ → List ℕ → Option PartFault → List ℕ
 line_told file number line (Some fault) = fault_line (Some file) fault
-line_told file number line None = place_words file.name number ++ (line ++ codes "\n")
+line_told file number line None = place_words file.name number ++ (shown line ++ codes "\n")
 
 -- so of a line that has the id
 abbrev pub own_line : List ℕ → List PartFault → ℕ → NamedText → ℕ → List ℕ → List ℕ

@@ -1,12 +1,12 @@
 -- What of a process the shell does otherwise than it seems, since it is started by `sh -c "exec PROCESS"` (inittab(5)).
-use Rattle.std.specs.Prelude.{ℕ, Bool, false, not, ◌&&◌, ◌||◌, ◌==◌, nat_le, if◌then◌else◌, List, [], ◌∷◌, codes, Option, Some, None}
+use Rattle.std.specs.Prelude.{ℕ, Bool, true, false, not, ◌&&◌, ◌||◌, ◌==◌, nat_le, if◌then◌else◌, List, [], ◌∷◌, codes, Option, Some, None}
 use Rattle.std.specs.List.{list_all, list_any}
 use Rattle.std.specs.Option.{option_or}
 use Rattle.std.specs.Str.{bytes_eq}
-use Rattle.text_lines.specs.Lines.{cut, words_of}
+use Rattle.text_lines.specs.Lines.{cut, is_blank, words_of}
 use Rattle.inittab_text.specs.Written.{is_empty}
 use Rattle.inittab_lint.specs.declared.shell.Operator.{Operator}
-use Rattle.inittab_lint.specs.declared.shell.Operator.TheVariants.{Chain, Pipe, Background}
+use Rattle.inittab_lint.specs.declared.shell.Operator.TheVariants.{Chain, Pipe, Background, Unclosed}
 
 -- what ends a part that the shell takes as one: it begins with a quote, a backquote or a parenthesis
 abbrev pub closing : ℕ → Option ℕ
@@ -24,14 +24,35 @@ operator_at b c =
     else if b == 124 then (if c == 124 then Some Chain else Some Pipe)
     else None
 
+-- a part that is open at the end
+abbrev pub unclosed : Option ℕ → Option Operator
+unclosed None = None
+unclosed (Some close) = Some Unclosed
+
+abbrev pub last_operator : ℕ → Option Operator
+last_operator b = option_or (operator_at b 0) (unclosed (closing b))
+
 -- the first operator of a text that stands outside such parts; one that is open ends with the given character
 abbrev pub operator_in : Option ℕ → List ℕ → Option Operator
-operator_in part [] = None
+operator_in part [] = unclosed part
 operator_in (Some close) (b ∷ text) = operator_in (if b == close then None else Some close) text
-operator_in None (b ∷ []) = operator_at b 0
+operator_in None (b ∷ []) = last_operator b
 operator_in None (b ∷ c ∷ text) =
     if is_plain_pair b c then operator_in None text
     else option_or (operator_at b c) (operator_in (closing b) (c ∷ text))
+
+-- one of these has init start the process by the shell
+abbrev pub is_special : ℕ → Bool
+is_special b = list_any (λ c. c == b) (codes "~`!$^&*()=|\\{}[];\"'<>?")
+
+-- a word begins with #, at the beginning or behind a blank
+abbrev pub has_hash : Bool → List ℕ → Bool
+has_hash before [] = false
+has_hash before (b ∷ text) = before && b == 35 || has_hash (is_blank b) text
+
+-- where no shell reads it, that is no comment
+abbrev pub has_comment : List ℕ → Bool
+has_comment process = not (list_any is_special process) && has_hash true process
 
 -- the first word, where there is one
 abbrev pub first_of : List (List ℕ) → List ℕ

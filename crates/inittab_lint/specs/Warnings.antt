@@ -14,7 +14,7 @@ use Rattle.inittab_lint.specs.declared.shell.Operator.TheVariants as operator
 use Rattle.inittab_lint.specs.declared.traps.LineWarning.{LineWarning}
 use Rattle.inittab_lint.specs.declared.traps.Warning.{Warning}
 use Rattle.inittab_lint.specs.declared.traps.Warning.TheVariants as warning
-use Rattle.inittab_lint.specs.Shell.{begins_with, first_word, is_assigned, is_shell_word, operator_in}
+use Rattle.inittab_lint.specs.Shell.{begins_with, first_word, has_comment, is_assigned, is_shell_word, operator_in}
 
 -- a character of the runlevels counts: a letter of ondemand entries, none of sysinit, boot and bootwait, else a level
 abbrev pub counts : Act → ℕ → Bool
@@ -46,6 +46,7 @@ abbrev pub is_operator : Operator → Option Operator → Bool
 is_operator operator.Chain (Some operator.Chain) = true
 is_operator operator.Pipe (Some operator.Pipe) = true
 is_operator operator.Background (Some operator.Background) = true
+is_operator operator.Unclosed (Some operator.Unclosed) = true
 is_operator _ _ = false
 
 -- the warnings about a process
@@ -57,6 +58,8 @@ holds_of warning.Assignment process = is_assigned (first_word process)
 holds_of warning.Chain process = is_operator operator.Chain (operator_in None process)
 holds_of warning.Pipe process = is_operator operator.Pipe (operator_in None process)
 holds_of warning.Background process = is_operator operator.Background (operator_in None process)
+holds_of warning.Unclosed process = is_operator operator.Unclosed (operator_in None process)
+holds_of warning.Comment process = has_comment process
 holds_of _ process = false
 
 -- the warnings about an action, its runlevels and its process
@@ -73,7 +76,8 @@ holds action levels process kind = holds_of kind (run_by action process)
 abbrev pub all_warnings : List Warning
 all_warnings =
     warning.Runlevel ∷ warning.NoLevel ∷ warning.NoLetter ∷ warning.Boot ∷ warning.Return ∷ warning.At
-    ∷ warning.ShellWord ∷ warning.Assignment ∷ warning.Chain ∷ warning.Pipe ∷ warning.Background ∷ []
+    ∷ warning.ShellWord ∷ warning.Assignment ∷ warning.Chain ∷ warning.Pipe ∷ warning.Background
+    ∷ warning.Unclosed ∷ warning.Comment ∷ []
 
 -- those that hold
 abbrev pub warnings_by : Act → FieldBytes → List Warning
@@ -125,3 +129,5 @@ warning_words warning.Assignment = codes "it begins with an assignment, which is
 warning_words warning.Chain = codes "what stands behind ; or && or || is never run: write a script"
 warning_words warning.Pipe = codes "no signal reaches the programs of a pipe: write a script"
 warning_words warning.Background = codes "& ends the shell at once, and init takes its child for ended: take it out"
+warning_words warning.Unclosed = codes "a quote or a parenthesis isn't closed: the shell refuses it"
+warning_words warning.Comment = codes "# begins no comment here: the program gets it as an argument: take it out"

@@ -12,5 +12,5 @@ mod traps;
 pub use linting::{Found, Lint, lint_parts, warnings};
 pub use own_lines::id_lines;
 pub use shell::{Operator, operator_of};
-pub use slips::meant;
+pub use slips::{is_slip, meant};
 pub use traps::{LineWarning, Warning};

@@ -1,16 +1,19 @@
 //! All that is told of the files of an inittab.
 
 ghost use Rattle.std.specs.Prelude.{◌≡◌, ◌++◌, ◌↔◌, IfOk, OnOk, IsErrOf};
+ghost use Rattle.std.specs.List.{list_any};
 ghost use Rattle.text_lines.specs.Lines.{lines_of};
+ghost use Rattle.init_words.specs.declared.stages.Stage.TheVariants.{Run};
+ghost use Rattle.init_words.specs.Entries.{starts_of};
 ghost use Rattle.init_words.specs.Parts.{texts_of};
 ghost use Rattle.inittab_text.specs.Parts.{AreTooLong, AreTooMany};
-ghost use Rattle.inittab_lint.specs.Linting.{found_by, lint_by, lint_in};
+ghost use Rattle.inittab_lint.specs.Linting.{default_in, found_by, lint_by, lint_in};
 ghost use Rattle.inittab_lint.specs.Warnings.{warnings_of, warnings_of_lines};
 
 use crate::printing::lint_lines;
 use crate::traps::{LineWarning, add_line};
-use init_words::{Level, Part};
-use inittab_text::{PartFault, TableFault, read_parts};
+use init_words::{Entry, Level, Part, Stage, starts};
+use inittab_text::{PartFault, Table, TableFault, read_parts};
 use std::alloc::{AllocError, Allocator, Global};
 use std::marker::Model;
 use text_lines::first_line;
@@ -23,6 +26,34 @@ pub enum Found {
     Warnings,
     /// A line that is left out.
     Faults,
+}
+
+/// What becomes of the default level of an inittab.
+#[derive(Clone, Copy, PartialEq, Eq)]
+pub(crate) enum DefaultLevel {
+    /// Entries start in it.
+    Served,
+    /// None does.
+    Idle,
+    /// There is none.
+    Lacking,
+}
+
+/// An entry of some starts in the level.
+fn any_starts(entries: &[Entry], level: Level) -> bool
+    ensures { result ≡ list_any (λ e. starts_of e (Run level)) entries.now }
+{
+    entries.iter().any(|entry| starts(entry, Stage::Run(level)))
+}
+
+fn default_in<A: Allocator>(table: &Table<A>) -> DefaultLevel
+    ensures { result ≡ default_in table.now }
+{
+    match table.default_level() {
+        None => DefaultLevel::Lacking,
+        Some(level) if any_starts(table.entries(), level) => DefaultLevel::Served,
+        Some(_) => DefaultLevel::Idle,
+    }
 }
 
 /// What is told of the files of an inittab.
@@ -79,15 +110,17 @@ pub fn warnings<A: Allocator>(alloc: A, parts: &[Part]) -> Result<Vec<LineWarnin
 }
 
 /// What was found, by what is told.
-fn found_by(faults: &[PartFault], warnings: &[LineWarning], level: Option<Level>) -> Found
+fn found_by(faults: &[PartFault], warnings: &[LineWarning], level: DefaultLevel) -> Found
     ensures { result ≡ found_by faults.now warnings.now level }
 {
     if !faults.is_empty() {
         Found::Faults
-    } else if !warnings.is_empty() || level.is_none() {
+    } else if !warnings.is_empty() {
         Found::Warnings
-    } else {
+    } else if let DefaultLevel::Served = level {
         Found::Nothing
+    } else {
+        Found::Warnings
     }
 }
 
@@ -96,7 +129,7 @@ fn lint_table<A: Allocator + Copy>(
     alloc: A,
     parts: &[Part],
     faults: &[PartFault],
-    level: Option<Level>,
+    level: DefaultLevel,
 ) -> Result<Lint<A>, AllocError>
     ensures { IfOk result (λ lint. lint
         ≡ lint_by parts.now faults.now (warnings_of (texts_of parts.now)) level) }
@@ -110,14 +143,14 @@ fn lint_table<A: Allocator + Copy>(
 
 /// Reads an inittab(5) of several files, as `read_parts` does, and tells of it: a line for each of the reader's faults,
 /// `NAME:LINE: REASON`, then one for each warning, `NAME:LINE: warning: REASON`, and one where no initdefault names a
-/// level. Over 256 files are refused, and files of over 1,048,576 bytes together.
+/// level, or no entry starts there. Over 256 files are refused, and files of over 1,048,576 bytes together.
 pub fn lint_parts<A: Allocator + Copy>(alloc: A, parts: &[Part]) -> Result<Lint<A>, TableFault>
     ensures told { IfOk result (λ lint. lint ≡ lint_in parts.now) }
     ensures parts { IsErrOf result TableFault.Parts ↔ AreTooMany (texts_of parts.now) }
     ensures too_long { IsErrOf result TableFault.TooLong ↔ AreTooLong (texts_of parts.now) }
 {
     let (table, faults) = read_parts(alloc, parts)?;
-    match lint_table(alloc, parts, &faults, table.default_level()) {
+    match lint_table(alloc, parts, &faults, default_in(&table)) {
         Ok(lint) => Ok(lint),
         Err(_) => Err(TableFault::Memory),
     }

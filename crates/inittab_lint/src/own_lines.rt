@@ -7,7 +7,7 @@ ghost use Rattle.inittab_text.specs.Parts.{AreTooLong, AreTooMany, faults_of_par
 ghost use Rattle.inittab_lint.specs.IdLines.{fault_at, id_text, id_written, is_fault_at, line_told, lines_from, none_told, or_none, own_line, own_lines};
 ghost use Rattle.inittab_lint.specs.Linting.{name_of};
 
-use crate::printing::{add_fault, add_place, name_of, part_at, put};
+use crate::printing::{add_fault, add_place, name_of, part_at, put, put_shown};
 use crate::shell::is;
 use init_words::{Id, Part};
 use inittab_text::{PartFault, TableFault, read_parts};
@@ -67,7 +67,7 @@ fn add_itself<A: Allocator>(
         ≡ text.old.items ++ line_told file.now number line.now None) }
 {
     add_place(text, file.name.as_bytes(), number as u64)?;
-    put(text, line)?;
+    put_shown(text, line)?;
     put(text, b"\n")
 }
 

@@ -1,14 +1,15 @@
 //! The lines that tell of an inittab.
 
-ghost use Rattle.std.specs.Prelude.{◌≡◌, ◌++◌, option_copied, slice_get, IfOk, OnOk};
+ghost use Rattle.std.specs.Prelude.{◌≡◌, ◌<◌, ◌++◌, option_copied, slice_get, IfOk, OnOk};
 ghost use Rattle.inittab_text.specs.Faults.{kind_text};
-ghost use Rattle.inittab_lint.specs.Linting.{action_words, default_line, fault_line, fault_lines, hint_words, id_words, line_at, lint_text, meant_words, name_of, place_words, text_of, warning_line, warning_lines};
+ghost use Rattle.inittab_lint.specs.Linting.{action_words, bare_line, default_line, fault_line, fault_lines, has_bare, hex_digit, hint_words, id_words, is_bare, line_at, lint_text, meant_words, name_of, place_words, shown, shown_byte, text_of, told_fault, warning_line, warning_lines};
 ghost use Rattle.inittab_text.specs.Lines.{fields_of};
 ghost use Rattle.text_lines.specs.Lines.{skip_blanks};
 
+use crate::linting::DefaultLevel;
 use crate::slips::meant;
 use crate::traps::LineWarning;
-use init_words::{Act, Level, Part};
+use init_words::{Act, Part};
 use inittab_text::{Fields, LineKind, PartFault};
 use itoa::Buffer;
 use std::alloc::{AllocError, Allocator};
@@ -18,6 +19,41 @@ pub(crate) fn put<A: Allocator>(text: &mut Vec<u8, A>, bytes: &[u8]) -> Result<(
     ensures { OnOk result (text.new.items ≡ text.old.items ++ bytes.now) }
 {
     text.extend_from_slice(bytes)?;
+    Ok(())
+}
+
+fn hex_digit(number: u8) -> u8
+    requires { number < 16 }
+    ensures { result ≡ hex_digit number }
+{
+    if number < 10 {
+        b'0' + number
+    } else {
+        b'a' + (number - 10)
+    }
+}
+
+/// Adds a byte, a control character as `\xNN`.
+fn put_shown_byte<A: Allocator>(text: &mut Vec<u8, A>, byte: u8) -> Result<(), AllocError>
+    ensures { OnOk result (text.new.items ≡ text.old.items ++ shown_byte byte) }
+{
+    if byte >= 32 && byte != 127 {
+        text.push(byte)?;
+        return Ok(());
+    }
+    put(text, b"\\x")?;
+    put(text, &[hex_digit(byte / 16), hex_digit(byte % 16)])
+}
+
+/// Adds a text of a file, whose control characters a terminal is not to obey.
+pub(crate) fn put_shown<A: Allocator>(text: &mut Vec<u8, A>, bytes: &[u8]) -> Result<(), AllocError>
+    ensures { OnOk result (text.new.items ≡ text.old.items ++ shown bytes.now) }
+{
+    let mut rest = bytes;
+    while let Some((byte, others)) = rest.split_first() {
+        put_shown_byte(text, *byte)?;
+        rest = others;
+    }
     Ok(())
 }
 
@@ -97,7 +133,7 @@ fn add_action<A: Allocator>(text: &mut Vec<u8, A>, line: &[u8]) -> Result<(), Al
         return Ok(());
     };
     text.extend_from_slice(b" ")?;
-    text.extend_from_slice(fields.action)?;
+    put_shown(text, fields.action)?;
     add_meant(text, meant(fields.action))
 }
 
@@ -110,7 +146,7 @@ fn add_id<A: Allocator>(text: &mut Vec<u8, A>, line: &[u8]) -> Result<(), AllocE
         return Ok(());
     };
     text.extend_from_slice(b" ")?;
-    text.extend_from_slice(fields.id)?;
+    put_shown(text, fields.id)?;
     Ok(())
 }
 
@@ -178,6 +214,56 @@ pub(crate) fn add_fault<A: Allocator>(
     put(text, b"\n")
 }
 
+/// The line of a fault begins with no id.
+fn is_bare(part: Option<&Part>, fault: &PartFault) -> bool
+    ensures { result ≡ is_bare (option_copied part.entry) fault.now }
+{
+    match Fields::of(without_blanks(line_at(fault.line, text_of(part)))) {
+        Some(fields) => fields.id.is_empty(),
+        None => false,
+    }
+}
+
+fn has_bare(parts: &[Part], faults: &[PartFault]) -> bool
+    ensures { result ≡ has_bare parts.now faults.now }
+{
+    faults.iter().any(|fault| is_bare(part_at(parts, fault.part as usize), fault))
+}
+
+/// Adds that lines begin with no id, where it is so.
+fn add_bare<A: Allocator>(
+    text: &mut Vec<u8, A>,
+    part: Option<&Part>,
+    so: bool,
+) -> Result<(), AllocError>
+    ensures { OnOk result (text.new.items
+        ≡ text.old.items ++ bare_line (option_copied part.entry) so) }
+{
+    if !so {
+        return Ok(());
+    }
+    put(text, name_of(part))?;
+    put(
+        text,
+        b": lines begin with no id, as in BusyBox's inittab: write one before the first colon\n",
+    )
+}
+
+/// Adds a fault, unless its line begins with no id.
+fn add_told<A: Allocator>(
+    text: &mut Vec<u8, A>,
+    part: Option<&Part>,
+    fault: &PartFault,
+) -> Result<(), AllocError>
+    ensures { OnOk result (text.new.items
+        ≡ text.old.items ++ told_fault (option_copied part.entry) fault.now) }
+{
+    if is_bare(part, fault) {
+        return Ok(());
+    }
+    add_fault(text, part, fault)
+}
+
 fn add_faults<A: Allocator>(
     text: &mut Vec<u8, A>,
     parts: &[Part],
@@ -187,7 +273,7 @@ fn add_faults<A: Allocator>(
 {
     let mut rest = faults;
     while let Some((fault, others)) = rest.split_first() {
-        add_fault(text, part_at(parts, fault.part as usize), fault)?;
+        add_told(text, part_at(parts, fault.part as usize), fault)?;
         rest = others;
     }
     Ok(())
@@ -226,19 +312,18 @@ fn add_warnings<A: Allocator>(
 fn add_default<A: Allocator>(
     text: &mut Vec<u8, A>,
     part: Option<&Part>,
-    level: Option<Level>,
+    level: DefaultLevel,
 ) -> Result<(), AllocError>
     ensures { OnOk result (text.new.items
         ≡ text.old.items ++ default_line (option_copied part.entry) level) }
 {
-    if level.is_some() {
-        return Ok(());
-    }
+    let words: &[u8] = match level {
+        DefaultLevel::Served => return Ok(()),
+        DefaultLevel::Idle => b": warning: no entry starts in the level of initdefault\n",
+        DefaultLevel::Lacking => b": warning: no initdefault names a level: init goes to S\n",
+    };
     put(text, name_of(part))?;
-    put(
-        text,
-        b": warning: no initdefault names a level: init goes to S\n",
-    )
+    put(text, words)
 }
 
 /// A line each for faults, for warnings, and for a default level that is lacking.
@@ -247,13 +332,14 @@ pub(crate) fn lint_lines<A: Allocator>(
     parts: &[Part],
     faults: &[PartFault],
     warnings: &[LineWarning],
-    level: Option<Level>,
+    level: DefaultLevel,
 ) -> Result<Vec<u8, A>, AllocError>
     ensures { IfOk result (λ text. text.items
         ≡ lint_text parts.now faults.now warnings.now level) }
 {
     let mut text = Vec::new(alloc);
     add_faults(&mut text, parts, faults)?;
+    add_bare(&mut text, part_at(parts, 0), has_bare(parts, faults))?;
     add_warnings(&mut text, parts, warnings)?;
     add_default(&mut text, part_at(parts, 0), level)?;
     Ok(text)

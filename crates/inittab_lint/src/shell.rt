@@ -1,11 +1,11 @@
 //! What of a process the shell does otherwise than it seems, since init has it execute the process (inittab(5)).
 
-ghost use Rattle.std.specs.Prelude.{◌≡◌, None};
-ghost use Rattle.std.specs.List.{list_all};
+ghost use Rattle.std.specs.Prelude.{◌≡◌, None, true};
+ghost use Rattle.std.specs.List.{list_all, list_any};
 ghost use Rattle.std.specs.Str.{bytes_eq};
-ghost use Rattle.inittab_lint.specs.Shell.{begins_with, closing, first_word, is_assigned, is_name, is_name_byte, is_plain_pair, is_shell_word, operator_at, operator_in};
+ghost use Rattle.inittab_lint.specs.Shell.{begins_with, closing, first_word, has_comment, has_hash, is_assigned, is_special, is_name, is_name_byte, is_plain_pair, is_shell_word, last_operator, operator_at, operator_in, unclosed};
 
-use text_lines::{cut, next_word};
+use text_lines::{cut, is_blank, next_word};
 
 /// An operator of the shell, which `exec` before the process has do something else.
 #[derive(Clone, Copy, PartialEq, Eq)]
@@ -16,6 +16,8 @@ pub enum Operator {
     Pipe,
     /// `&`: the shell ends at once.
     Background,
+    /// None, but a quote or a parenthesis that isn't closed: the shell refuses the process.
+    Unclosed,
 }
 
 /// What ends a part that the shell takes as one.
@@ -55,6 +57,26 @@ fn operator_at(byte: u8, next: u8) -> Option<Operator>
     }
 }
 
+/// A part is open.
+fn unclosed(part: Option<u8>) -> Option<Operator>
+    ensures { result ≡ unclosed part }
+{
+    match part {
+        Some(_) => Some(Operator::Unclosed),
+        None => None,
+    }
+}
+
+/// The operator of the last byte.
+fn last_operator(byte: u8) -> Option<Operator>
+    ensures { result ≡ last_operator byte }
+{
+    match operator_at(byte, 0) {
+        Some(operator) => Some(operator),
+        None => unclosed(closing(byte)),
+    }
+}
+
 /// The first operator of a process that stands outside quotes and parentheses.
 pub fn operator_of(process: &[u8]) -> Option<Operator>
     ensures { result ≡ operator_in None process.now }
@@ -70,7 +92,7 @@ pub fn operator_of(process: &[u8]) -> Option<Operator>
             continue;
         }
         let Some((next, more)) = after.split_first() else {
-            return operator_at(*byte, 0);
+            return last_operator(*byte);
         };
         if is_plain_pair(*byte, *next) {
             rest = more;
@@ -83,7 +105,43 @@ pub fn operator_of(process: &[u8]) -> Option<Operator>
         open = closing(*byte);
         rest = after;
     }
-    None
+    unclosed(open)
+}
+
+/// The byte has init start the process by the shell.
+fn is_special(byte: u8) -> bool
+    ensures { result ≡ is_special byte }
+{
+    b"~`!$^&*()=|\\{}[];\"'<>?".contains(&byte)
+}
+
+fn has_special(process: &[u8]) -> bool
+    ensures { result ≡ list_any is_special process.now }
+{
+    process.iter().any(|byte| is_special(*byte))
+}
+
+/// A word begins with `#`.
+fn has_hash(process: &[u8]) -> bool
+    ensures { result ≡ has_hash true process.now }
+{
+    let mut before = true;
+    let mut rest = process;
+    while let Some((byte, after)) = rest.split_first() {
+        if before && *byte == b'#' {
+            return true;
+        }
+        before = is_blank(*byte);
+        rest = after;
+    }
+    false
+}
+
+/// What stands behind `#` is no comment: no shell reads it.
+pub(crate) fn has_comment(process: &[u8]) -> bool
+    ensures { result ≡ has_comment process.now }
+{
+    !has_special(process) && has_hash(process)
 }
 
 /// The first word of a process, up to a blank.

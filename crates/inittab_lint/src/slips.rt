@@ -47,7 +47,7 @@ fn is_slip_here(word: &[u8], meant: &[u8]) -> bool
 }
 
 /// The word is the other one but for a slip.
-fn is_slip(word: &[u8], meant: &[u8]) -> bool
+pub fn is_slip(word: &[u8], meant: &[u8]) -> bool
     ensures { result ≡ is_slip word.now meant.now }
 {
     match (word, meant) {

@@ -6,7 +6,9 @@ ghost use Rattle.inittab_text.specs.Kept.{levels_meant};
 ghost use Rattle.inittab_text.specs.Lines.{fields_at, fields_of, is_ignored};
 ghost use Rattle.inittab_lint.specs.Warnings.{at_line, counts, counts_none, ends_with, has_idle, holds, holds_of, run_by, warning_words, warnings_by, warnings_of_line};
 
-use crate::shell::{Operator, begins_with, first_word, is_assigned, is_shell_word, operator_of};
+use crate::shell::{
+    Operator, begins_with, first_word, has_comment, is_assigned, is_shell_word, operator_of,
+};
 use init_words::{Act, Letter, Level, without_plus};
 use inittab_text::Fields;
 use std::alloc::{AllocError, Allocator};
@@ -37,6 +39,10 @@ pub enum Warning {
     Pipe,
     /// The process has `&`.
     Background,
+    /// A quote or a parenthesis of the process isn't closed.
+    Unclosed,
+    /// A word of the process begins with `#`, and no shell reads it.
+    Comment,
 }
 
 /// A warning about a line of one of several files.
@@ -50,7 +56,7 @@ pub struct LineWarning {
 }
 
 /// All warnings, in the order in which they are told.
-const WARNINGS: [Warning; 11] = [
+const WARNINGS: [Warning; 13] = [
     Warning::Runlevel,
     Warning::NoLevel,
     Warning::NoLetter,
@@ -62,6 +68,8 @@ const WARNINGS: [Warning; 11] = [
     Warning::Chain,
     Warning::Pipe,
     Warning::Background,
+    Warning::Unclosed,
+    Warning::Comment,
 ];
 
 /// A character of the runlevels counts for something in an entry of the action.
@@ -139,6 +147,8 @@ fn holds_of(kind: Warning, process: &[u8]) -> bool
         Warning::Chain => operator_of(process) == Some(Operator::Chain),
         Warning::Pipe => operator_of(process) == Some(Operator::Pipe),
         Warning::Background => operator_of(process) == Some(Operator::Background),
+        Warning::Unclosed => operator_of(process) == Some(Operator::Unclosed),
+        Warning::Comment => has_comment(process),
         _ => false,
     }
 }
@@ -247,6 +257,10 @@ impl Warning {
             Warning::Pipe => b"no signal reaches the programs of a pipe: write a script",
             Warning::Background => {
                 b"& ends the shell at once, and init takes its child for ended: take it out"
+            }
+            Warning::Unclosed => b"a quote or a parenthesis isn't closed: the shell refuses it",
+            Warning::Comment => {
+                b"# begins no comment here: the program gets it as an argument: take it out"
             }
         }
     }

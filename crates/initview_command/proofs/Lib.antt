@@ -1,6 +1,7 @@
+pub mod Done
 pub mod Drawn
 pub mod Explained
 pub mod Files
 pub mod Followed
 pub mod Reloads
-pub mod Written
+pub mod Shown

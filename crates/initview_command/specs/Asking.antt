@@ -1,92 +1,194 @@
--- What the words of a command line ask of a trace, or of inittabs.
-use Rattle.std.specs.Prelude.{ℕ, Bool, false, ◌&&◌, ◌==◌, nat_lt, if◌then◌else◌, List, [], ◌∷◌, length, codes, Option, Some, None, is_none}
+-- What the words of a command line ask: options with their values stand anywhere, and the other words in their order.
+use Rattle.std.specs.Prelude.{ℕ, Bool, true, false, not, ◌&&◌, ◌||◌, if◌then◌else◌, List, [], ◌∷◌, ◌++◌, codes, Option, Some, None}
 use Rattle.std.specs.Option.{option_map}
 use Rattle.std.specs.Str.{bytes_eq}
+use Rattle.text_lines.specs.Numbers.{number_read}
 use Rattle.init_words.specs.declared.levels.Level.{Level}
 use Rattle.init_words.specs.Ids.{id_read}
 use Rattle.init_words.specs.Levels.{level_read}
-use Rattle.initview_command.specs.declared.asking.Question.{Question}
-use Rattle.initview_command.specs.declared.asking.Question.TheVariants.{Status, Json, Row, Left}
-use Rattle.initview_command.specs.declared.asking.TableQuestion.{TableQuestion}
+use Rattle.initview_lines.specs.declared.rows.Shape.{Shape}
+use Rattle.initview_lines.specs.declared.rows.Shape.TheVariants as shape
+use Rattle.initview_command.specs.declared.asking.Question.TheVariants.{Status, Row, Left}
 use Rattle.initview_command.specs.declared.asking.TableQuestion.TheVariants as table
+use Rattle.initview_command.specs.declared.asking.What.{What}
+use Rattle.initview_command.specs.declared.asking.What.TheVariants.{Show, Draw, Follow, Explain, Reload, Tables}
+use Rattle.initview_command.specs.declared.charting.Form.{Form}
+use Rattle.initview_command.specs.declared.charting.Form.TheVariants.{Lines, Svg}
+use Rattle.initview_command.specs.declared.charting.TheConstants.{WIDTH}
+use Rattle.initview_command.specs.Charting.{lines_of}
 
--- status TRACE, left TRACE
-abbrev pub of_two : List ℕ → Option Question
-of_two verb =
-    if bytes_eq verb (codes "status") then Some Status else if bytes_eq verb (codes "left") then Some Left else None
+abbrev pub Text : Type 0
+Text = List ℕ
 
--- status --json TRACE, status TRACE ID
-abbrev pub of_three : List ℕ → List ℕ → List ℕ → Option Question
-of_three verb second third =
-    if bytes_eq verb (codes "status") && bytes_eq second (codes "--json") then Some Json
-    else if bytes_eq verb (codes "status") then option_map Row (id_read third)
-    else None
+-- an option begins with -, which is standard input where it stands alone; some have a value behind them
+abbrev pub is_option : Text → Bool
+is_option (45 ∷ byte ∷ word) = true
+is_option _ = false
 
-abbrev pub question_of : List (List ℕ) → Option Question
-question_of (verb ∷ second ∷ []) = of_two verb
-question_of (verb ∷ second ∷ third ∷ []) = of_three verb second third
-question_of _ = None
+abbrev pub takes_value : Text → Bool
+takes_value word =
+    bytes_eq word (codes "--level") || bytes_eq word (codes "--trace") || bytes_eq word (codes "--width")
 
--- the path of the trace
-abbrev pub path_of_three : List ℕ → List ℕ → List ℕ
-path_of_three second third = if bytes_eq second (codes "--json") then third else second
+-- the options with their values, or the other words; the first word may be the value of an option before it
+abbrev pub is_picked : Bool → Bool → Text → Bool
+is_picked options value word = if options then value || is_option word else not (value || is_option word)
 
-abbrev pub path_of : List (List ℕ) → List ℕ
-path_of [] = []
-path_of (verb ∷ []) = []
-path_of (verb ∷ second ∷ third ∷ []) = path_of_three second third
-path_of (verb ∷ second ∷ others) = second
+abbrev pub value_next : Bool → Text → Bool
+value_next value word = not value && takes_value word
 
--- lint with files; diff with two, and plan with some, behind a level where one is named
-abbrev pub asked_by : List ℕ → Option Level → ℕ → Option TableQuestion
-asked_by verb level count =
-    if bytes_eq verb (codes "lint") && (is_none level && nat_lt 0 count) then Some table.Lint
-    else if bytes_eq verb (codes "diff") && count == 2 then Some (table.Diff level)
-    else if bytes_eq verb (codes "plan") && nat_lt 0 count then Some (table.Plan level)
-    else None
+abbrev pub given_by : Bool → Text → List Text
+given_by so word = if so then word ∷ [] else []
 
--- the command, and the words behind it
-abbrev pub verb_of : List (List ℕ) → List ℕ
-verb_of [] = []
-verb_of (verb ∷ rest) = verb
+abbrev pub picked : Bool → Bool → List Text → List Text
+picked options value [] = []
+picked options value (word ∷ words) =
+    given_by (is_picked options value word) word ++ picked options (value_next value word) words
 
-abbrev pub behind_verb : List (List ℕ) → List (List ℕ)
-behind_verb [] = []
-behind_verb (verb ∷ rest) = rest
-
--- these begin with a level, which is a character, and have files behind it
-abbrev pub has_level : List (List ℕ) → Bool
-has_level [] = false
-has_level (option ∷ rest) = bytes_eq option (codes "--level")
-
-abbrev pub level_in : List ℕ → Option Level
+-- a level is a character
+abbrev pub level_in : Text → Option Level
 level_in [] = None
 level_in (code ∷ []) = level_read code
 level_in (code ∷ more ∷ word) = None
 
-abbrev pub level_named : List (List ℕ) → Option Level
-level_named [] = None
-level_named (option ∷ []) = None
-level_named (option ∷ level ∷ paths) = level_in level
+-- [--level LEVEL]
+abbrev pub level_of : List Text → Option (Option Level)
+level_of [] = Some None
+level_of (option ∷ level ∷ []) =
+    if bytes_eq option (codes "--level") then option_map Some (level_in level) else None
+level_of _ = None
 
-abbrev pub behind_option : List (List ℕ) → List (List ℕ)
-behind_option [] = []
-behind_option (option ∷ []) = []
-behind_option (option ∷ level ∷ paths) = paths
+-- [--json]
+abbrev pub shape_of : List Text → Option Shape
+shape_of [] = Some shape.Lines
+shape_of (option ∷ []) = if bytes_eq option (codes "--json") then Some shape.Json else None
+shape_of _ = None
 
--- the paths of the files
-abbrev pub paths_in : List (List ℕ) → List (List ℕ)
-paths_in rest = if has_level rest then behind_option rest else rest
+-- [--svg | --width N]
+abbrev pub form_of : List Text → Option Form
+form_of [] = Some (Lines WIDTH)
+form_of (option ∷ []) = if bytes_eq option (codes "--svg") then Some Svg else None
+form_of (option ∷ width ∷ []) = if bytes_eq option (codes "--width") then lines_of width else None
+form_of _ = None
 
-abbrev pub paths_of : List (List ℕ) → List (List ℕ)
-paths_of words = paths_in (behind_verb words)
+-- status TRACE [ID]
+abbrev pub show_by : Shape → List Text → Option What
+show_by shape (trace ∷ []) = Some (Show (Status shape))
+show_by shape (trace ∷ id ∷ []) = option_map (λ i. Show (Row i shape)) (id_read id)
+show_by shape _ = None
 
--- lint TABLE [FILE..], diff [--level LEVEL] OLD NEW, plan [--level LEVEL] TABLE [FILE..]
-abbrev pub question_at : List (List ℕ) → Option Level → Option TableQuestion
-question_at words None = None
-question_at words (Some level) = asked_by (verb_of words) (Some level) (length (paths_of words))
+abbrev pub show_in : Option Shape → List Text → Option What
+show_in None words = None
+show_in (Some shape) words = show_by shape words
 
-abbrev pub table_question_of : List (List ℕ) → Option TableQuestion
-table_question_of words =
-    if has_level (behind_verb words) then question_at words (level_named (behind_verb words))
-    else asked_by (verb_of words) None (length (paths_of words))
+abbrev pub show_of : List Text → List Text → Option What
+show_of options words = show_in (shape_of options) words
+
+-- timeline TRACE
+abbrev pub draw_of : List Text → List Text → Option What
+draw_of options (trace ∷ []) = option_map Draw (form_of options)
+draw_of options _ = None
+
+-- why ID TRACE [TABLE..]
+abbrev pub explain_of : List Text → List Text → Option What
+explain_of [] (id ∷ trace ∷ tables) = option_map Explain (id_read id)
+explain_of _ _ = None
+
+-- the other options, where these name a trace, and its path
+abbrev pub traced_behind : Text → Text → List Text → Option (List Text)
+traced_behind first value (option ∷ trace ∷ []) =
+    if bytes_eq option (codes "--trace") then Some (first ∷ value ∷ []) else None
+traced_behind first value _ = None
+
+abbrev pub traced : List Text → Option (List Text)
+traced (option ∷ value ∷ rest) =
+    if bytes_eq option (codes "--trace") then Some rest else traced_behind option value rest
+traced _ = None
+
+abbrev pub trace_behind : List Text → Text
+trace_behind (option ∷ trace ∷ []) = trace
+trace_behind _ = []
+
+abbrev pub trace_given : List Text → Text
+trace_given (option ∷ value ∷ rest) = if bytes_eq option (codes "--trace") then value else trace_behind rest
+trace_given _ = []
+
+-- diff [--trace TRACE] [--level LEVEL] OLD NEW
+abbrev pub reload_of : List Text → Option What
+reload_of rest = option_map Reload (level_of rest)
+
+abbrev pub diff_in : List Text → Option (List Text) → Option What
+diff_in options (Some rest) = reload_of rest
+diff_in options None = option_map (λ level. Tables (table.Diff level)) (level_of options)
+
+abbrev pub diff_by : List Text → Option What
+diff_by options = diff_in options (traced options)
+
+abbrev pub diff_of : List Text → List Text → Option What
+diff_of options (old ∷ new ∷ []) = diff_by options
+diff_of options _ = None
+
+-- plan [--level LEVEL] TABLE [FILE..], lint TABLE [FILE..]
+abbrev pub is_nil : List Text → Bool
+is_nil [] = true
+is_nil _ = false
+
+abbrev pub tables_of : Text → List Text → List Text → Option What
+tables_of verb options words =
+    if bytes_eq verb (codes "diff") then diff_of options words
+    else if is_nil words then None
+    else if bytes_eq verb (codes "plan") then option_map (λ level. Tables (table.Plan level)) (level_of options)
+    else if bytes_eq verb (codes "lint") && is_nil options then Some (Tables table.Lint)
+    else None
+
+-- left TRACE, follow TRACE
+abbrev pub plain_of : Text → Option What
+plain_of verb =
+    if bytes_eq verb (codes "left") then Some (Show Left)
+    else if bytes_eq verb (codes "follow") then Some Follow
+    else None
+
+abbrev pub or_tables : Option What → Option What → Option What
+or_tables (Some what) other = Some what
+or_tables None other = other
+
+abbrev pub plain_or : Text → List Text → List Text → Option What → Option What
+plain_or verb [] (trace ∷ []) other = or_tables (plain_of verb) other
+plain_or verb _ _ other = other
+
+abbrev pub asked_by : Text → List Text → List Text → Option What
+asked_by verb options words =
+    if bytes_eq verb (codes "status") then show_of options words
+    else if bytes_eq verb (codes "timeline") then draw_of options words
+    else if bytes_eq verb (codes "why") then explain_of options words
+    else plain_or verb options words (tables_of verb options words)
+
+-- what options and words ask; the first of the words is the command
+abbrev pub what_of : List Text → List Text → Option What
+what_of options [] = None
+what_of options (verb ∷ words) = asked_by verb options words
+
+-- the path of the trace, and those of the files of inittabs
+abbrev pub second_of : List Text → Text
+second_of (first ∷ second ∷ words) = second
+second_of _ = []
+
+abbrev pub third_of : List Text → Text
+third_of (first ∷ second ∷ third ∷ words) = third
+third_of _ = []
+
+abbrev pub behind_three : List Text → List Text
+behind_three (first ∷ second ∷ third ∷ words) = words
+behind_three _ = []
+
+abbrev pub behind_one : List Text → List Text
+behind_one (first ∷ words) = words
+behind_one [] = []
+
+abbrev pub trace_of : What → List Text → List Text → Text
+trace_of (Reload level) options words = trace_given options
+trace_of (Explain id) options words = third_of words
+trace_of _ options words = second_of words
+
+abbrev pub files_of : What → List Text → List Text
+files_of (Explain id) words = behind_three words
+files_of _ words = behind_one words

@@ -1,6 +1,5 @@
--- What is asked of a trace that is followed, what is written of it, and the exit status.
-use Rattle.std.specs.Prelude.{◌≡◌, ◌⊎◌, ℕ, if◌then◌else◌, List, [], ◌∷◌, ◌++◌, codes, Option, Some, None, IfSome}
-use Rattle.std.specs.Str.{bytes_eq}
+-- What is written of a trace that is followed, and the exit status.
+use Rattle.std.specs.Prelude.{◌≡◌, ◌⊎◌, ℕ, List, ◌++◌, Option, IfSome}
 use Rattle.std.specs.Io.KnownBytes.{Appends}
 use Rattle.program_io.specs.Writing.{AppendsPrefix}
 use Rattle.program_io.specs.declared.statuses.TheConstants.{DEVICE_FAULT}
@@ -8,11 +7,6 @@ use Rattle.trace_view.specs.declared.text_views.Stop.{Stop}
 use Rattle.trace_view.specs.Views.{TextState}
 use Rattle.initview_lines.specs.Following.{HasSaid, IsSaidOf}
 use Rattle.initview_command.specs.Showing.{stop_status}
-
--- follow TRACE: its path
-abbrev pub follow_path : List (List ℕ) → Option (List ℕ)
-follow_path (verb ∷ path ∷ []) = if bytes_eq verb (codes "follow") then Some path else None
-follow_path _ = None
 
 -- the text is all that was left, where that is known, or the beginning of it
 abbrev pub IsAllOf : Option (List ℕ) → List ℕ → Type 0

@@ -1,5 +1,6 @@
 pub mod Asking
 pub mod Charting
+pub mod Endings
 pub mod Explaining
 pub mod Following
 pub mod Reloading

@@ -9,49 +9,52 @@ use Rattle.trace_events.specs.Lawful.{first_breach}
 use Rattle.trace_view.specs.declared.rows.Row.{Row}
 use Rattle.trace_view.specs.Rows.{row_of}
 use Rattle.trace_view.specs.declared.text_views.Stop.{Stop}
-use Rattle.trace_view.specs.declared.text_views.Stop.TheVariants.{Breach, Torn}
+use Rattle.trace_view.specs.declared.text_views.Stop.TheVariants.{Breach, Torn, Within}
 use Rattle.trace_view.specs.Shown.{IsShown}
-use Rattle.initview_lines.specs.Json.{status_json_text}
 use Rattle.initview_lines.specs.Left.{left_text}
-use Rattle.initview_lines.specs.Status.{row_of_text, status_text}
+use Rattle.initview_lines.specs.Rows.{row_of_in, status_in}
 use Rattle.initview_command.specs.declared.asking.Question.{Question}
 use Rattle.initview_command.specs.declared.asking.Question.TheVariants as question
 
 -- the answer to a question, by the past of a trace
 abbrev pub said : Question → List Event → List ℕ
-said question.Status past = status_text past
-said question.Json past = status_json_text past
-said (question.Row id) past = row_of_text id past
+said (question.Status shape) past = status_in shape past
+said (question.Row id shape) past = row_of_in shape id past
 said question.Left past = left_text past
 
 -- the exit statuses of the action `status` in the LSB: it runs, it doesn't, it is unknown
 abbrev pub lsb_status : Row → ℕ
 lsb_status row = if is_some row.child then 0 else if is_some row.act then 3 else 4
 
--- the exit status of a trace that was shown up to its end, up to a breach, or up to a line that is none
+-- the exit status of a trace that was shown up to its end, up to a breach, up to a line that is none, or not at all
 abbrev pub stop_status : Option Stop → ℕ
 stop_status None = DONE
 stop_status (Some (Breach law line)) = UNLAWFUL
 stop_status (Some (Torn number)) = REFUSED
+stop_status (Some Within) = REFUSED
 
 abbrev pub row_status : List ℕ → Option Stop → List Event → ℕ
 row_status id None past = lsb_status (row_of id past)
 row_status id (Some stop) past = DEVICE_FAULT
 
 abbrev pub status_by : Question → Option Stop → List Event → ℕ
-status_by (question.Row id) stop past = row_status id stop past
+status_by (question.Row id shape) stop past = row_status id stop past
 status_by _ stop past = stop_status stop
 
--- the answer was written, with its exit status; or the output failed or memory ran out, and a part of it was written
-abbrev pub ShowsOf : List Event → Question → Option Stop → ℕ → Option (List ℕ) → Option (List ℕ) → Type 0
-ShowsOf past asked stop status old new =
-    ((status ≡ status_by asked stop past) × Appends old new (said asked past))
-    ⊎ ((status ≡ DEVICE_FAULT) × AppendsPrefix old new (said asked past))
+-- the text was written, and the exit status is this; or the output failed or memory ran out, and a part of it was written
+abbrev pub Writes : List ℕ → ℕ → ℕ → Option (List ℕ) → Option (List ℕ) → Type 0
+Writes text ends status old new =
+    ((status ≡ ends) × Appends old new text) ⊎ ((status ≡ DEVICE_FAULT) × AppendsPrefix old new text)
+
+-- so of what is said of a trace; a text that begins within a run is refused, and nothing was written
+abbrev pub ShowsOf : Option Stop → List ℕ → ℕ → ℕ → Option (List ℕ) → Option (List ℕ) → Type 0
+ShowsOf (Some Within) text ends status old new = (status ≡ REFUSED) × Keeps old new
+ShowsOf _ text ends status old new = Writes text ends status old new
 
 -- so of what a view shows of the text at the path, which breaks no law; or it was not read, and nothing was written
-abbrev pub Shows : KnownTexts → List ℕ → Question → ℕ → Option (List ℕ) → Option (List ℕ) → Type 0
-Shows text_at path asked status old new =
+abbrev pub Shows : KnownTexts → List ℕ → (List Event → List ℕ) → (Option Stop → List Event → ℕ) → ℕ → Option (List ℕ) → Option (List ℕ) → Type 0
+Shows text_at path says ends status old new =
     ((text : List ℕ) × (stop : Option Stop) × (left : Option ℕ) × (trace : List Event) × IsTextAt text_at path text
     × IsShown text stop left trace × (first_breach (reverse trace) ≡ None)
-    × ShowsOf (reverse trace) asked stop status old new)
+    × ShowsOf stop (says (reverse trace)) (ends stop (reverse trace)) status old new)
     ⊎ ((status ≡ DEVICE_FAULT) × Keeps old new)

@@ -1,7 +1,6 @@
 -- What is written of inittabs, and the exit status.
 use Rattle.std.specs.Prelude.{◌≡◌, ◌⊎◌, ℕ, List, [], ◌∷◌, take, drop, Option, Some, None, unwrap_or}
-use Rattle.std.specs.Io.KnownBytes.{Appends, Keeps}
-use Rattle.program_io.specs.Writing.{AppendsPrefix}
+use Rattle.std.specs.Io.KnownBytes.{Keeps}
 use Rattle.program_io.specs.declared.statuses.TheConstants.{DONE, REFUSED, DEVICE_FAULT}
 use Rattle.program_io.specs.Known.{IsTextAt, KnownTexts}
 use Rattle.init_words.specs.declared.entries.Entry.{Entry}
@@ -17,6 +16,7 @@ use Rattle.inittab_lint.specs.declared.linting.Found.TheVariants as found
 use Rattle.inittab_lint.specs.Linting.{lint_in}
 use Rattle.initview_lines.specs.Changes.{changes_text}
 use Rattle.initview_lines.specs.Plans.{plan_text}
+use Rattle.initview_command.specs.Showing.{Writes}
 use Rattle.initview_command.specs.declared.asking.TableQuestion.{TableQuestion}
 use Rattle.initview_command.specs.declared.asking.TableQuestion.TheVariants as table
 
@@ -73,13 +73,17 @@ FailsBy refused fault.Memory = Unit {0}
 FailsBy refused fault.TooLong = refused
 FailsBy refused fault.Parts = refused
 
--- the answer was written, with its exit status; or there are too many files, or too long ones, and nothing was written;
--- or the output failed or memory ran out, and a part of it was written
+-- the exit status where there is none
+abbrev pub fault_status : TableFault → ℕ
+fault_status fault.Memory = DEVICE_FAULT
+fault_status fault.TooLong = REFUSED
+fault_status fault.Parts = REFUSED
+
+-- the answer was written; or there are too many files, or too long ones, and nothing was written
 abbrev pub AnswersOf : TableQuestion → List NamedText → ℕ → Option (List ℕ) → Option (List ℕ) → Type 0
 AnswersOf asked parts status old new =
-    ((status ≡ (answer_of asked parts).1) × Appends old new (answer_of asked parts).0)
+    Writes (answer_of asked parts).0 (answer_of asked parts).1 status old new
     ⊎ ((status ≡ REFUSED) × IsRefused asked parts × Keeps old new)
-    ⊎ ((status ≡ DEVICE_FAULT) × AppendsPrefix old new (answer_of asked parts).0)
 
 -- so of the files at the paths; or one was not read, and nothing was written
 abbrev pub Answers : KnownTexts → List (List ℕ) → TableQuestion → ℕ → Option (List ℕ) → Option (List ℕ) → Type 0

@@ -1,80 +1,22 @@
-//! What the words of a command line ask of a trace, or of inittabs.
+//! What the words of a command line ask: the options, which may stand anywhere, and the other words.
 
-ghost use Rattle.std.specs.Prelude.{◌≡◌, map, string_bytes};
-ghost use Rattle.initview_command.specs.Asking.{asked_by, behind_option, behind_verb, has_level, level_in, level_named, of_three, of_two, path_of, path_of_three, paths_in, paths_of, question_of, table_question_of, verb_of};
+ghost use Rattle.std.specs.Prelude.{◌≡◌, ◌++◌, false, map, option_map, string_bytes, IfOk, OnOk};
+ghost use Rattle.initview_command.specs.Asking.{asked_by, diff_by, diff_of, draw_of, explain_of, files_of, form_of, given_by, is_option, is_picked, level_in, level_of, picked, plain_of, reload_of, shape_of, show_of, tables_of, takes_value, trace_given, trace_of, traced, value_next, what_of};
 
+use crate::charting::{Form, WIDTH, lines_of};
 use init_words::{Id, Level};
+use initview_lines::Shape;
+use std::alloc::{AllocError, Global};
 
 /// What is asked of a trace.
 #[derive(Clone, Copy)]
 pub enum Question {
     /// How init and all entries stand.
-    Status,
-    /// The same as lines of JSON.
-    Json,
+    Status(Shape),
     /// How this id stands.
-    Row(Id),
+    Row(Id, Shape),
     /// Which children are left.
     Left,
-}
-
-/// What two words ask.
-fn of_two(verb: &str) -> Option<Question>
-    ensures { result ≡ of_two verb.now }
-{
-    if verb == "status" {
-        Some(Question::Status)
-    } else if verb == "left" {
-        Some(Question::Left)
-    } else {
-        None
-    }
-}
-
-/// What three words ask.
-fn of_three(verb: &str, second: &str, third: &str) -> Option<Question>
-    ensures { result ≡ of_three verb.now second.now third.now }
-{
-    if verb == "status" && second == "--json" {
-        Some(Question::Json)
-    } else if verb == "status" {
-        Some(Question::Row(Id::read(third.as_bytes())?))
-    } else {
-        None
-    }
-}
-
-/// What the words ask, where they are a command line for a trace.
-pub(crate) fn question_of(words: &[String]) -> Option<Question>
-    ensures { result ≡ question_of (map string_bytes words.now) }
-{
-    match words {
-        [] => None,
-        [_] => None,
-        [verb, _path] => of_two(verb.as_str()),
-        [verb, second, third] => of_three(verb.as_str(), second.as_str(), third.as_str()),
-        [_, _, _, _, ..] => None,
-    }
-}
-
-/// The path of the trace among three words.
-fn path_of_three<'a>(second: &'a str, third: &'a str) -> &'a str
-    ensures { result.now ≡ path_of_three second.now third.now }
-{
-    if second == "--json" { third } else { second }
-}
-
-/// The path of the trace that the words name.
-pub(crate) fn path_of(words: &[String]) -> &str
-    ensures { result.now ≡ path_of (map string_bytes words.now) }
-{
-    match words {
-        [] => "",
-        [_] => "",
-        [_, second] => second.as_str(),
-        [_, second, third] => path_of_three(second.as_str(), third.as_str()),
-        [_, second, _, _, ..] => second.as_str(),
-    }
 }
 
 /// What is asked of inittabs.
@@ -88,194 +30,290 @@ pub enum TableQuestion {
     Plan(Option<Level>),
 }
 
-/// What a command, with a level or without, asks of so many files.
-fn asked_by(verb: &str, level: Option<Level>, count: usize) -> Option<TableQuestion>
-    ensures { result ≡ asked_by verb.now level count }
+/// What words ask, of a trace or of the files of inittabs.
+#[derive(Clone, Copy)]
+pub enum What {
+    Show(Question),
+    Draw(Form),
+    Follow,
+    /// Why the id is not started, and what the files have of it.
+    Explain(Id),
+    /// What becomes of what runs, where init reads the second file and goes to the level.
+    Reload(Option<Level>),
+    Tables(TableQuestion),
+}
+
+/// The word is an option: it begins with `-`, and isn't `-` alone, which is standard input.
+pub(crate) fn is_option(word: &str) -> bool
+    ensures { result ≡ is_option word.now }
 {
-    if verb == "lint" && level.is_none() && count > 0 {
-        Some(TableQuestion::Lint)
-    } else if verb == "diff" && count == 2 {
-        Some(TableQuestion::Diff(level))
-    } else if verb == "plan" && count > 0 {
-        Some(TableQuestion::Plan(level))
-    } else {
-        None
+    match word.as_bytes() {
+        [b'-', _, ..] => true,
+        _ => false,
     }
 }
 
-/// These words begin with a level.
-pub(crate) fn has_level(words: &[String]) -> bool
-    ensures { result ≡ has_level (map string_bytes words.now) }
+/// A value follows the option.
+pub(crate) fn takes_value(word: &str) -> bool
+    ensures { result ≡ takes_value word.now }
 {
-    match words {
-        [] => false,
-        [option, ..] => option.as_str() == "--level",
-    }
+    word == "--level" || word == "--trace" || word == "--width"
 }
 
-/// The level of a word.
-fn level_in(word: &[u8]) -> Option<Level>
+/// The word is an option, or the value of one; or it is neither.
+fn is_picked(options: bool, value: bool, word: &str) -> bool
+    ensures { result ≡ is_picked options value word.now }
+{
+    let given = value || is_option(word);
+    if options { given } else { !given }
+}
+
+/// The word behind this one is the value of an option.
+fn value_next(value: bool, word: &str) -> bool
+    ensures { result ≡ value_next value word.now }
+{
+    !value && takes_value(word)
+}
+
+fn add_if(words: &mut Vec<String>, alloc: Global, so: bool, word: &str) -> Result<(), AllocError>
+    ensures { OnOk result (map string_bytes words.new.items
+        ≡ map string_bytes words.old.items ++ given_by so word.now) }
+{
+    if so {
+        words.push(String::from_str(alloc, word)?)?;
+    }
+    Ok(())
+}
+
+/// The options with their values, or the other words, of which the first is the command; each in its order.
+pub(crate) fn picked(
+    alloc: Global,
+    options: bool,
+    words: &[String],
+) -> Result<Vec<String>, AllocError>
+    ensures { IfOk result (λ found. map string_bytes found.items
+        ≡ picked options false (map string_bytes words.now)) }
+{
+    let mut found = Vec::new(alloc);
+    let mut value = false;
+    let mut rest = words;
+    while let Some((text, others)) = rest.split_first() {
+        let word = text.as_str();
+        add_if(&mut found, alloc, is_picked(options, value, word), word)?;
+        value = value_next(value, word);
+        rest = others;
+    }
+    Ok(found)
+}
+
+fn level_in(word: &str) -> Option<Level>
     ensures { result ≡ level_in word.now }
 {
-    match word {
+    match word.as_bytes() {
         [code] => Level::read(*code),
         _ => None,
     }
 }
 
-/// The level with which they begin.
-pub(crate) fn level_named(words: &[String]) -> Option<Level>
-    ensures { result ≡ level_named (map string_bytes words.now) }
+/// The level that options name, which may be none; nothing where they are others.
+fn level_of(options: &[String]) -> Option<Option<Level>>
+    ensures { result ≡ level_of (map string_bytes options.now) }
 {
-    match words {
-        [_, level, ..] => level_in(level.as_bytes()),
+    match options {
+        [] => Some(None),
+        [option, level] if option.as_str() == "--level" => match level_in(level.as_str()) {
+            Some(level) => Some(Some(level)),
+            None => None,
+        },
         _ => None,
     }
 }
 
-/// The words behind an option and its value.
-pub(crate) fn behind_option(words: &[String]) -> &[String]
-    ensures { map string_bytes result.now ≡ behind_option (map string_bytes words.now) }
+fn shape_of(options: &[String]) -> Option<Shape>
+    ensures { result ≡ shape_of (map string_bytes options.now) }
+{
+    match options {
+        [] => Some(Shape::Lines),
+        [option] if option.as_str() == "--json" => Some(Shape::Json),
+        _ => None,
+    }
+}
+
+fn form_of(options: &[String]) -> Option<Form>
+    ensures { result ≡ form_of (map string_bytes options.now) }
+{
+    match options {
+        [] => Some(Form::Lines(WIDTH)),
+        [option] if option.as_str() == "--svg" => Some(Form::Svg),
+        [option, width] if option.as_str() == "--width" => lines_of(width.as_str()),
+        _ => None,
+    }
+}
+
+fn show_of(options: &[String], words: &[String]) -> Option<What>
+    ensures { result ≡ show_of (map string_bytes options.now) (map string_bytes words.now) }
+{
+    let shape = shape_of(options)?;
+    match words {
+        [_] => Some(What::Show(Question::Status(shape))),
+        [_, id] => Some(What::Show(Question::Row(Id::read(id.as_bytes())?, shape))),
+        _ => None,
+    }
+}
+
+fn draw_of(options: &[String], words: &[String]) -> Option<What>
+    ensures { result ≡ draw_of (map string_bytes options.now) (map string_bytes words.now) }
 {
     match words {
-        [_, _, paths @ ..] => paths,
+        [_] => Some(What::Draw(form_of(options)?)),
+        _ => None,
+    }
+}
+
+fn explain_of(options: &[String], words: &[String]) -> Option<What>
+    ensures { result ≡ explain_of (map string_bytes options.now) (map string_bytes words.now) }
+{
+    match (options, words) {
+        ([], [id, _, ..]) => Some(What::Explain(Id::read(id.as_bytes())?)),
+        _ => None,
+    }
+}
+
+/// The other options, where these name a trace.
+fn traced(options: &[String]) -> Option<&[String]>
+    ensures { option_map (λ rest. map string_bytes rest.now) result
+        ≡ traced (map string_bytes options.now) }
+{
+    match options {
+        [option, _, rest @ ..] if option.as_str() == "--trace" => Some(rest),
+        [_, _, option, _] if option.as_str() == "--trace" => Some(&options[..2]),
+        _ => None,
+    }
+}
+
+/// The path of the trace that options name.
+fn trace_given(options: &[String]) -> &str
+    ensures { result.now ≡ trace_given (map string_bytes options.now) }
+{
+    match options {
+        [option, trace, ..] if option.as_str() == "--trace" => trace.as_str(),
+        [_, _, _, trace] => trace.as_str(),
+        _ => "",
+    }
+}
+
+fn reload_of(rest: &[String]) -> Option<What>
+    ensures { result ≡ reload_of (map string_bytes rest.now) }
+{
+    Some(What::Reload(level_of(rest)?))
+}
+
+fn diff_by(options: &[String]) -> Option<What>
+    ensures { result ≡ diff_by (map string_bytes options.now) }
+{
+    match traced(options) {
+        Some(rest) => reload_of(rest),
+        None => Some(What::Tables(TableQuestion::Diff(level_of(options)?))),
+    }
+}
+
+fn diff_of(options: &[String], words: &[String]) -> Option<What>
+    ensures { result ≡ diff_of (map string_bytes options.now) (map string_bytes words.now) }
+{
+    match words {
+        [_, _] => diff_by(options),
+        _ => None,
+    }
+}
+
+/// What a command for inittabs asks.
+fn tables_of(verb: &str, options: &[String], words: &[String]) -> Option<What>
+    ensures { result
+        ≡ tables_of verb.now (map string_bytes options.now) (map string_bytes words.now) }
+{
+    if verb == "diff" {
+        return diff_of(options, words);
+    }
+    if words.is_empty() {
+        return None;
+    }
+    if verb == "plan" {
+        return Some(What::Tables(TableQuestion::Plan(level_of(options)?)));
+    }
+    if verb == "lint" && options.is_empty() {
+        Some(What::Tables(TableQuestion::Lint))
+    } else {
+        None
+    }
+}
+
+/// What is asked of a trace without options, by a command of one word.
+fn plain_of(verb: &str) -> Option<What>
+    ensures { result ≡ plain_of verb.now }
+{
+    if verb == "left" {
+        Some(What::Show(Question::Left))
+    } else if verb == "follow" {
+        Some(What::Follow)
+    } else {
+        None
+    }
+}
+
+fn asked_by(verb: &str, options: &[String], words: &[String]) -> Option<What>
+    ensures { result
+        ≡ asked_by verb.now (map string_bytes options.now) (map string_bytes words.now) }
+{
+    if verb == "status" {
+        return show_of(options, words);
+    }
+    if verb == "timeline" {
+        return draw_of(options, words);
+    }
+    if verb == "why" {
+        return explain_of(options, words);
+    }
+    match (options, words) {
+        ([], [_]) => match plain_of(verb) {
+            Some(what) => Some(what),
+            None => tables_of(verb, options, words),
+        },
+        _ => tables_of(verb, options, words),
+    }
+}
+
+/// What options and words ask, of which the first word is the command; nothing where they are no command line.
+pub(crate) fn what_of(options: &[String], words: &[String]) -> Option<What>
+    ensures { result ≡ what_of (map string_bytes options.now) (map string_bytes words.now) }
+{
+    match words {
+        [] => None,
+        [verb, rest @ ..] => asked_by(verb.as_str(), options, rest),
+    }
+}
+
+/// The path of the trace.
+pub(crate) fn trace_of<'a>(what: What, options: &'a [String], words: &'a [String]) -> &'a str
+    ensures { result.now
+        ≡ trace_of what (map string_bytes options.now) (map string_bytes words.now) }
+{
+    match (what, words) {
+        (What::Reload(_), _) => trace_given(options),
+        (What::Explain(_), [_, _, trace, ..]) => trace.as_str(),
+        (What::Explain(_), _) => "",
+        (_, [_, trace, ..]) => trace.as_str(),
+        _ => "",
+    }
+}
+
+/// The paths of the files of inittabs.
+pub(crate) fn files_of(what: What, words: &[String]) -> &[String]
+    ensures { map string_bytes result.now ≡ files_of what (map string_bytes words.now) }
+{
+    match (what, words) {
+        (What::Explain(_), [_, _, _, files @ ..]) => files,
+        (What::Explain(_), _) => &[],
+        (_, [_, files @ ..]) => files,
         _ => &[],
-    }
-}
-
-/// The words behind the command.
-pub(crate) fn behind_verb(words: &[String]) -> &[String]
-    ensures { map string_bytes result.now ≡ behind_verb (map string_bytes words.now) }
-{
-    match words {
-        [] => words,
-        [_, rest @ ..] => rest,
-    }
-}
-
-/// The words behind a level, where they begin with one.
-pub(crate) fn paths_in(rest: &[String]) -> &[String]
-    ensures { map string_bytes result.now ≡ paths_in (map string_bytes rest.now) }
-{
-    if has_level(rest) {
-        behind_option(rest)
-    } else {
-        rest
-    }
-}
-
-/// The paths of the files that the words name.
-pub(crate) fn paths_of(words: &[String]) -> &[String]
-    ensures { map string_bytes result.now ≡ paths_of (map string_bytes words.now) }
-{
-    paths_in(behind_verb(words))
-}
-
-/// The command.
-pub(crate) fn verb_of(words: &[String]) -> &str
-    ensures { result.now ≡ verb_of (map string_bytes words.now) }
-{
-    match words {
-        [] => "",
-        [verb, ..] => verb.as_str(),
-    }
-}
-
-/// What the words ask of inittabs, where they are a command line for some.
-pub(crate) fn table_question_of(words: &[String]) -> Option<TableQuestion>
-    ensures { result ≡ table_question_of (map string_bytes words.now) }
-{
-    let rest = behind_verb(words);
-    let count = paths_of(words).len();
-    if has_level(rest) {
-        let level = level_named(rest)?;
-        return asked_by(verb_of(words), Some(level), count);
-    }
-    asked_by(verb_of(words), None, count)
-}
-
-/// Why no word too few or too many is a command line.
-const MISSING: &str = "a word is missing, or one is too many";
-
-const NO_ID: &str = "an ID is 1 to 8 characters of those that inittab(5) allows";
-
-const NO_LEVEL: &str = "a LEVEL is one of 0 to 9 and S";
-
-/// These words begin with a level that is none, or else the other reason holds.
-fn level_reason(rest: &[String], other: &'static str) -> &'static str {
-    if has_level(rest) && rest.len() > 1 && level_named(rest).is_none() {
-        NO_LEVEL
-    } else {
-        other
-    }
-}
-
-/// The word at a place is this one.
-fn is_word(words: &[String], place: usize, word: &str) -> bool {
-    match words.get(place) {
-        Some(given) => given.as_str() == word,
-        None => false,
-    }
-}
-
-fn timeline_reason(rest: &[String]) -> &'static str {
-    if is_word(rest, 0, "--width") && rest.len() == 3 {
-        "a width N is 20 to 1000 columns"
-    } else if is_word(rest, 0, "--svg") {
-        "behind --svg stands the TRACE, and no --width: the picture has its own"
-    } else {
-        MISSING
-    }
-}
-
-fn diff_reason(rest: &[String]) -> &'static str {
-    if is_word(rest, 0, "--trace") {
-        level_reason(behind_option(rest), level_reason(rest, MISSING))
-    } else if is_word(rest, 0, "--level") && is_word(rest, 2, "--trace") {
-        "--trace stands before --level"
-    } else {
-        level_reason(rest, MISSING)
-    }
-}
-
-fn table_reason(rest: &[String]) -> &'static str {
-    if rest.is_empty() {
-        "a TABLE is missing"
-    } else {
-        level_reason(rest, MISSING)
-    }
-}
-
-/// Why no command with so many words behind it is one for a trace.
-fn id_reason(is_id: bool) -> &'static str {
-    if is_id { NO_ID } else { MISSING }
-}
-
-fn help_reason(rest: &[String]) -> &'static str {
-    if rest.is_empty() {
-        ""
-    } else {
-        level_reason(rest, "no such command")
-    }
-}
-
-fn reason_behind(verb: &str, rest: &[String]) -> &'static str {
-    match verb {
-        "--help" | "-h" => help_reason(rest),
-        "status" => id_reason(rest.len() == 2),
-        "why" => id_reason(rest.len() > 1),
-        "left" | "follow" => MISSING,
-        "timeline" => timeline_reason(rest),
-        "lint" | "plan" => table_reason(rest),
-        "diff" => diff_reason(rest),
-        _ => level_reason(rest, "no such command"),
-    }
-}
-
-/// Why words are no command line; nothing where help is asked for.
-pub(crate) fn reason_of(words: &[String]) -> &'static str {
-    match words {
-        [] => "no command is given",
-        [verb, ..] => reason_behind(verb.as_str(), behind_verb(words)),
     }
 }

@@ -1,37 +1,27 @@
 //! The words of `initview`, and what it does for them.
 
-ghost use Rattle.std.specs.Prelude.{◌≡◌, true, false, None, Some, codes, map, string_bytes, List, ℕ};
-ghost use Rattle.command_words.specs.VersionLine.{PrintsVersion};
-ghost use Rattle.command_words.specs.CommandLines.{asks_version};
-ghost use Rattle.initview_command.specs.declared.asking.Question.{Question};
-ghost use Rattle.initview_command.specs.declared.asking.TableQuestion.{TableQuestion};
-ghost use Rattle.initview_command.specs.declared.charting.Form.{Form};
-ghost use Rattle.initview_command.specs.declared.reloading.Reload.{Reload};
-ghost use Rattle.initview_command.specs.Charting.{Draws, chart_form, chart_path};
-ghost use Rattle.initview_command.specs.Explaining.{Explains, why_of, why_paths, why_trace};
-ghost use Rattle.initview_command.specs.Following.{Follows, follow_path};
-ghost use Rattle.initview_command.specs.Asking.{path_of, paths_of, question_of, table_question_of};
-ghost use Rattle.initview_command.specs.Reloading.{Reloads, reload_of, reload_paths, reload_trace};
-ghost use Rattle.initview_command.specs.Showing.{Shows};
-ghost use Rattle.initview_command.specs.Tables.{Answers};
+ghost use Rattle.std.specs.Prelude.{◌≡◌, true, false, map, string_bytes, IfOk};
+ghost use Rattle.initview_command.specs.Asking.{picked, what_of};
+ghost use Rattle.initview_command.specs.Endings.{Does, EndsBy, EndsOf};
 
-use crate::asking::{path_of, paths_of, question_of, table_question_of};
-use crate::charting::{chart_form, chart_path, draw_file};
-use crate::explaining::explain_words;
-use crate::following::{follow_file, follow_path};
+use crate::asking::{What, files_of, picked, trace_of, what_of};
+use crate::explaining::explain_file;
+use crate::following::follow_file;
 use crate::growing::GrowingTexts;
-use crate::reloading::{reload_of, reload_paths, reload_trace, show_reload};
+use crate::refusals::report_refusal;
+use crate::reloading::show_reload;
 use crate::showing::show_file;
 use crate::tables::show_files;
+use crate::telling::report_memory;
 use command_words::{is_version, print_version};
-use program_io::{REFUSED, Texts};
-use std::alloc::Global;
+use program_io::Texts;
+use std::alloc::{AllocError, Global};
 use std::io::Write;
 
-/// What is told of words that are no command line, behind a line that says why, and where help is asked for.
+/// What is told where help is asked for, and of words that are not read. Its lines up to the last that begins with
+/// blanks and `initview` are one for each command.
 pub const USAGE: &str = "usage: initview why ID TRACE [TABLE..]
-       initview status TRACE [ID]
-       initview status --json TRACE
+       initview status [--json] TRACE [ID]
        initview left TRACE
        initview timeline [--svg | --width N] TRACE
        initview follow TRACE
@@ -55,6 +45,7 @@ pub const USAGE: &str = "usage: initview why ID TRACE [TABLE..]
           with --trace of what runs now, and the exit status is as for status TRACE
   plan    list what init starts on the way to a level, in its order, what it waits for, and the
           critical path: the entries whose ends the way goes through
+  Options stand anywhere.
   ID      an id of the inittab, 1 to 8 characters
   TRACE   a trace of init, also one that is still being written; - is standard input
   TABLE   an inittab; FILEs go on where it ends
@@ -65,7 +56,8 @@ pub const USAGE: &str = "usage: initview why ID TRACE [TABLE..]
 /// Runs initview on its words, and gives the exit status: 0 where the trace was read to its end and the answer written
 /// on `out`, 1 where the words are refused or a line of the trace is none, 2 where a happening breaks a law, 4 where the
 /// trace can't be read, the output fails or memory runs out; of `status TRACE ID` 0, 3 or 4, as the LSB has them. What
-/// stands before a line that is none, or that breaks a law, is shown, and is the trace of `diff --trace`. A trace that is
+/// stands before a line that is none, or that breaks a law, is shown, and is the trace of `diff --trace`; of a text that
+/// begins within a run nothing is, and the status is 1. A trace that is
 /// followed is read on in `growing` until it ends, and each of its lines is written when it comes. Of an inittab the
 /// status is 1 where it isn't read for its size, of `lint` also where it has faults, and 2 where it has warnings alone.
 /// Faults of files are told on `err`.
@@ -77,76 +69,72 @@ pub fn run_words<T: Texts, G: GrowingTexts, W: Write, E: Write>(
     out: &mut W,
     err: &mut E,
 ) -> u8
-    ensures version { asks_version (map string_bytes words.now) ≡ true
-        → PrintsVersion (codes "initview") result (W.contents out.old) (W.contents out.new) }
-    ensures shown { (question : Question) → asks_version (map string_bytes words.now) ≡ false
-        → question_of (map string_bytes words.now) ≡ Some question
-        → Shows (T.text_at texts.now) (path_of (map string_bytes words.now)) question result
-        (W.contents out.old) (W.contents out.new) }
-    ensures drawn { (form : Form) → asks_version (map string_bytes words.now) ≡ false
-        → question_of (map string_bytes words.now) ≡ None
-        → chart_form (map string_bytes words.now) ≡ Some form
-        → Draws (T.text_at texts.now) (chart_path (map string_bytes words.now)) form result
-        (W.contents out.old) (W.contents out.new) }
-    ensures reloaded { (asked : Reload) → asks_version (map string_bytes words.now) ≡ false
-        → question_of (map string_bytes words.now) ≡ None
-        → chart_form (map string_bytes words.now) ≡ None
-        → reload_of (map string_bytes words.now) ≡ Some asked
-        → Reloads (T.text_at texts.now) (reload_trace (map string_bytes words.now))
-        (reload_paths (map string_bytes words.now)) asked result
-        (W.contents out.old) (W.contents out.new) }
-    ensures answered { (question : TableQuestion)
-        → asks_version (map string_bytes words.now) ≡ false
-        → question_of (map string_bytes words.now) ≡ None
-        → chart_form (map string_bytes words.now) ≡ None
-        → reload_of (map string_bytes words.now) ≡ None
-        → table_question_of (map string_bytes words.now) ≡ Some question
-        → Answers (T.text_at texts.now) (paths_of (map string_bytes words.now)) question result
-        (W.contents out.old) (W.contents out.new) }
-    ensures followed { (path : List ℕ) → asks_version (map string_bytes words.now) ≡ false
-        → question_of (map string_bytes words.now) ≡ None
-        → chart_form (map string_bytes words.now) ≡ None
-        → reload_of (map string_bytes words.now) ≡ None
-        → table_question_of (map string_bytes words.now) ≡ None
-        → follow_path (map string_bytes words.now) ≡ Some path
-        → Follows (G.text_at growing.now path) result (W.contents out.old) (W.contents out.new) }
-    ensures explained { (id : List ℕ) → asks_version (map string_bytes words.now) ≡ false
-        → question_of (map string_bytes words.now) ≡ None
-        → chart_form (map string_bytes words.now) ≡ None
-        → reload_of (map string_bytes words.now) ≡ None
-        → table_question_of (map string_bytes words.now) ≡ None
-        → follow_path (map string_bytes words.now) ≡ None
-        → why_of (map string_bytes words.now) ≡ Some id
-        → Explains (T.text_at texts.now) (why_trace (map string_bytes words.now))
-        (why_paths (map string_bytes words.now)) id result
-        (W.contents out.old) (W.contents out.new) }
-    ensures refused { asks_version (map string_bytes words.now) ≡ false
-        → question_of (map string_bytes words.now) ≡ None
-        → chart_form (map string_bytes words.now) ≡ None
-        → reload_of (map string_bytes words.now) ≡ None
-        → table_question_of (map string_bytes words.now) ≡ None
-        → follow_path (map string_bytes words.now) ≡ None
-        → why_of (map string_bytes words.now) ≡ None
-        → (result ≡ REFUSED) × (out.new ≡ out.old) }
+    ensures { EndsBy (T.text_at texts.now) (G.text_at growing.now) (map string_bytes words.now)
+        result (W.contents out.old) (W.contents out.new) }
 {
     if is_version(words) {
         return print_version("initview", out, err);
     }
-    if let Some(question) = question_of(words) {
-        return show_file(texts, alloc, path_of(words), &question, out, err);
+    match cut(alloc, words) {
+        Ok((options, others)) => run_cut(texts, growing, alloc, &options, &others, out, err),
+        Err(_) => report_memory(err),
     }
-    if let Some(form) = chart_form(words) {
-        return draw_file(texts, alloc, chart_path(words), form, out, err);
+}
+
+/// The options with their values, and the other words.
+fn cut(alloc: Global, words: &[String]) -> Result<(Vec<String>, Vec<String>), AllocError>
+    ensures { IfOk result (λ both.
+        (map string_bytes both.0.items ≡ picked true false (map string_bytes words.now))
+        × (map string_bytes both.1.items ≡ picked false false (map string_bytes words.now))) }
+{
+    Ok((picked(alloc, true, words)?, picked(alloc, false, words)?))
+}
+
+/// Runs initview on options and other words.
+fn run_cut<T: Texts, G: GrowingTexts, W: Write, E: Write>(
+    texts: &T,
+    growing: &G,
+    alloc: Global,
+    options: &[String],
+    words: &[String],
+    out: &mut W,
+    err: &mut E,
+) -> u8
+    ensures { EndsOf (T.text_at texts.now) (G.text_at growing.now)
+        (map string_bytes options.now) (map string_bytes words.now)
+        (what_of (map string_bytes options.now) (map string_bytes words.now))
+        result (W.contents out.old) (W.contents out.new) }
+{
+    match what_of(options, words) {
+        Some(what) => {
+            let path = trace_of(what, options, words);
+            let files = files_of(what, words);
+            run_asked(texts, growing, alloc, what, path, files, out, err)
+        }
+        None => report_refusal(options, words, err),
     }
-    if let Some(asked) = reload_of(words) {
-        let path = reload_trace(words);
-        return show_reload(texts, alloc, path, reload_paths(words), asked, out, err);
-    }
-    if let Some(question) = table_question_of(words) {
-        return show_files(texts, alloc, paths_of(words), question, out, err);
-    }
-    match follow_path(words) {
-        Some(path) => follow_file(growing, alloc, path, out, err),
-        None => explain_words(texts, alloc, words, out, err),
+}
+
+/// Does what is asked of the trace at a path, or of files.
+fn run_asked<T: Texts, G: GrowingTexts, W: Write, E: Write>(
+    texts: &T,
+    growing: &G,
+    alloc: Global,
+    what: What,
+    path: &str,
+    files: &[String],
+    out: &mut W,
+    err: &mut E,
+) -> u8
+    ensures { Does (T.text_at texts.now) (G.text_at growing.now) path.now
+        (map string_bytes files.now) what result (W.contents out.old) (W.contents out.new) }
+{
+    match what {
+        What::Show(question) => show_file(texts, alloc, path, &question, out, err),
+        What::Draw(form) => show_file(texts, alloc, path, &form, out, err),
+        What::Follow => follow_file(growing, alloc, path, out, err),
+        What::Explain(id) => explain_file(texts, alloc, path, files, &id, out, err),
+        What::Reload(level) => show_reload(texts, alloc, path, files, level, out, err),
+        What::Tables(question) => show_files(texts, alloc, files, question, out, err),
     }
 }

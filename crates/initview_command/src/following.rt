@@ -7,7 +7,7 @@ ghost use Rattle.program_io.specs.declared.statuses.TheConstants.{DEVICE_FAULT};
 ghost use Rattle.trace_view.specs.Shown.{IsShown};
 ghost use Rattle.trace_view.specs.Views.{HasShown, TextState};
 ghost use Rattle.initview_lines.specs.Following.{HasSaid};
-ghost use Rattle.initview_command.specs.Following.{Follows, HasWritten, WritesAll, WritesPart, follow_path};
+ghost use Rattle.initview_command.specs.Following.{Follows, HasWritten, WritesAll, WritesPart};
 
 use crate::growing::GrowingTexts;
 use crate::showing::{stop_status, tell_stop};
@@ -19,16 +19,6 @@ use std::alloc::{AllocError, Global};
 use std::io;
 use std::io::{ErrorKind, Read, Write};
 use trace_view::{Stop, TextView};
-
-/// The path of the trace that the words ask to follow.
-pub(crate) fn follow_path(words: &[String]) -> Option<&str>
-    ensures { option_map (λ path. path.now) result ≡ follow_path (map string_bytes words.now) }
-{
-    match words {
-        [verb, path] if verb.as_str() == "follow" => Some(path.as_str()),
-        _ => None,
-    }
-}
 
 /// Why a trace is not followed to its end.
 #[derive(Drop)]

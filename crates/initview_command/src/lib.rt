@@ -7,13 +7,13 @@ mod command;
 mod explaining;
 mod following;
 mod growing;
+mod refusals;
 mod reloading;
 mod showing;
 mod tables;
 mod telling;
 
-pub use asking::{Question, TableQuestion};
-pub use charting::{WIDTH, WIDTH_LEAST, WIDTH_LIMIT};
+pub use asking::{Question, TableQuestion, What};
+pub use charting::{Form, WIDTH, WIDTH_LEAST, WIDTH_LIMIT};
 pub use command::{USAGE, run_words};
 pub use growing::{GrowingFile, GrowingFiles, GrowingTexts};
-pub use reloading::Reload;

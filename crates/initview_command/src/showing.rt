@@ -1,51 +1,74 @@
-//! What a trace says, written.
+//! What is asked of a trace, answered and written.
 
-ghost use Rattle.std.specs.Prelude.{◌≡◌, List, [], IfOk};
+ghost use Rattle.std.specs.Prelude.{◌≡◌, List, ℕ, [], Option, IfOk};
 ghost use Rattle.trace_events.specs.Event.{Event};
+ghost use Rattle.trace_view.specs.SeenTexts.{HasSeenText};
 ghost use Rattle.trace_view.specs.Viewing.{Viewed};
-ghost use Rattle.trace_view.specs.Views.{HasTaken};
-ghost use Rattle.initview_command.specs.Showing.{Shows, ShowsOf, lsb_status, row_status, said, status_by, stop_status};
+ghost use Rattle.trace_view.specs.declared.text_views.Stop.{Stop};
+ghost use Rattle.initview_command.specs.Showing.{Shows, ShowsOf, Writes, lsb_status, row_status, said, status_by, stop_status};
 
 use crate::asking::Question;
 use crate::telling::{report_memory, report_unread, report_unwritten, tell};
 use init_words::{Id, Memory};
-use initview_lines::{json_lines, left_lines, row_line, status_lines};
+use initview_lines::{left_lines, row_line, status_lines};
 use program_io::{DEVICE_FAULT, DONE, PieceTaker, REFUSED, Texts, UNLAWFUL};
 use std::alloc::{AllocError, Global};
 use std::io::Write;
-use trace_view::{Row, Stop, TextView, TraceView};
+use trace_view::{Row, SeenText, Sees, Stop, TraceView};
 
-/// The view of a trace whose text is read in pieces.
+/// What is asked of a trace.
+pub(crate) trait Asks {
+    /// What sees the happenings for it.
+    type Seen: Sees<Global> + Drop;
+
+    /// What is written, by the path of the trace and its past.
+    ghost said: { Self → List ℕ → List Event → List ℕ };
+
+    /// The exit status, by why the trace is shown no further.
+    ghost ends: { Self → Option Stop → List Event → ℕ };
+
+    /// What has seen nothing.
+    fn nothing(&self, alloc: Global) -> Self::Seen
+        ensures { Self.Seen.has_seen result [] };
+
+    /// What is written, and the exit status.
+    fn answer(
+        &self,
+        alloc: Global,
+        path: &str,
+        text: &mut SeenText<Self::Seen>,
+        stop: Option<Stop>,
+    ) -> Result<(Vec<u8>, u8), Memory>
+        ensures { IfOk result (λ given. (past : List Event) → Viewed text.old.viewing.viewing past
+            → Self.Seen.has_seen text.old.seen past
+            → (given.0.items ≡ said self.now path.now past) × (given.1 ≡ ends self.now stop past)) };
+}
+
+/// The text of a trace that is read in pieces.
 #[derive(Drop)]
-pub(crate) struct FileView {
-    pub(crate) view: TextView,
+struct FileText<S: Sees<Global> + Drop> {
+    text: SeenText<S>,
 }
 
-impl FileView {
-    /// A view that has taken nothing.
-    fn new(alloc: Global) -> FileView
-        ensures { HasTaken result.view [] }
-    {
-        FileView {
-            view: TextView::new(alloc),
-        }
-    }
-}
-
-/// A view that has taken nothing, on the heap: a function that has one in its frame is dear to prove.
-pub(crate) fn file_view(alloc: Global) -> Result<Box<FileView>, AllocError>
-    ensures { IfOk result (λ file. HasTaken file.value.view []) }
+/// The text, of which nothing was taken, on the heap: a function that has one in its frame is dear to prove.
+fn file_text<S: Sees<Global> + Drop>(alloc: Global, seen: S) -> Result<Box<FileText<S>>, AllocError>
+    ensures { IfOk result (λ file. S.has_seen seen [] → HasSeenText S.has_seen file.value.text []) }
 {
-    Ok(Box::new(alloc, FileView::new(alloc))?)
+    Ok(Box::new(
+        alloc,
+        FileText {
+            text: SeenText::new(alloc, seen),
+        },
+    )?)
 }
 
-impl PieceTaker for FileView {
-    ghost use Rattle.trace_view.specs.Views.{HasTaken};
+impl<S: Sees<Global> + Drop> PieceTaker for FileText<S> {
+    ghost use Rattle.trace_view.specs.SeenTexts.{HasSeenText};
 
-    ghost has_taken = { λ file text. HasTaken file.view text };
+    ghost has_taken = { λ file text. HasSeenText S.has_seen file.text text };
 
     fn take_piece(&mut self, piece: &[u8]) -> Result<(), AllocError> {
-        match self.view.take(piece) {
+        match self.text.take(piece) {
             Ok(()) => Ok(()),
             Err(Memory) => Err(AllocError),
         }
@@ -74,6 +97,7 @@ pub(crate) fn stop_status(stop: Option<Stop>) -> u8
         None => DONE,
         Some(Stop::Breach(_, _)) => UNLAWFUL,
         Some(Stop::Torn(_)) => REFUSED,
+        Some(Stop::Within) => REFUSED,
     }
 }
 
@@ -83,9 +107,8 @@ fn status_of(view: &TraceView, question: &Question, stop: Option<Stop>) -> u8
         → result ≡ status_by question.now stop past }
 {
     match question {
-        Question::Row(id) => row_status(view, id, stop),
-        Question::Status => stop_status(stop),
-        Question::Json => stop_status(stop),
+        Question::Row(id, _) => row_status(view, id, stop),
+        Question::Status(_) => stop_status(stop),
         Question::Left => stop_status(stop),
     }
 }
@@ -102,79 +125,121 @@ fn row_status(view: &TraceView, id: &Id, stop: Option<Stop>) -> u8
 }
 
 /// The answer to a question.
-fn answer(alloc: Global, view: &TraceView, question: &Question) -> Result<Vec<u8>, AllocError>
+fn lines(alloc: Global, view: &TraceView, question: &Question) -> Result<Vec<u8>, AllocError>
     ensures { IfOk result (λ text. (past : List Event) → Viewed view.now past
         → text.items ≡ said question.now past) }
 {
     match question {
-        Question::Status => status_lines(alloc, view),
-        Question::Json => json_lines(alloc, view),
-        Question::Row(id) => row_line(alloc, view, id),
+        Question::Status(shape) => status_lines(alloc, view, *shape),
+        Question::Row(id, shape) => row_line(alloc, view, id, *shape),
         Question::Left => left_lines(alloc, view),
     }
 }
 
-/// Reads the trace of a path, writes what it says, and gives the exit status.
-pub(crate) fn show_file<T: Texts, W: Write, E: Write>(
+impl Asks for Question {
+    ghost use Rattle.initview_command.specs.Showing.{said, status_by};
+
+    type Seen = ();
+
+    ghost said = { λ question path past. said question past };
+
+    ghost ends = { λ question stop past. status_by question stop past };
+
+    fn nothing(&self, _alloc: Global) {}
+
+    fn answer(
+        &self,
+        alloc: Global,
+        _path: &str,
+        text: &mut SeenText<()>,
+        stop: Option<Stop>,
+    ) -> Result<(Vec<u8>, u8), Memory> {
+        let said = lines(alloc, text.view(), self)?;
+        let status = status_of(text.view(), self, stop);
+        Ok((said, status))
+    }
+}
+
+/// Reads the trace of a path, writes what is asked of it, and gives the exit status.
+pub(crate) fn show_file<T: Texts, Q: Asks, W: Write, E: Write>(
     texts: &T,
     alloc: Global,
     path: &str,
-    question: &Question,
+    asked: &Q,
     out: &mut W,
     err: &mut E,
 ) -> u8
-    ensures { Shows (T.text_at texts.now) path.now question.now result (W.contents out.old)
-        (W.contents out.new) }
+    ensures { Shows (T.text_at texts.now) path.now (Q.said asked.now path.now) (Q.ends asked.now)
+        result (W.contents out.old) (W.contents out.new) }
 {
-    match file_view(alloc) {
-        Ok(mut file) => show_text(texts, alloc, path, question, &mut file, out, err),
+    match file_text(alloc, asked.nothing(alloc)) {
+        Ok(mut file) => show_text(texts, alloc, path, asked, &mut file, out, err),
         Err(_) => report_memory(err),
     }
 }
 
-/// Hands the text of a path to a view that has taken none, and writes what it says.
-fn show_text<T: Texts, W: Write, E: Write>(
+/// Hands the text of a path to what has taken none, and writes what is asked of it.
+fn show_text<T: Texts, Q: Asks, W: Write, E: Write>(
     texts: &T,
     alloc: Global,
     path: &str,
-    question: &Question,
-    file: &mut FileView,
+    asked: &Q,
+    file: &mut FileText<Q::Seen>,
     out: &mut W,
     err: &mut E,
 ) -> u8
-    requires { HasTaken file.old.view [] }
-    ensures { Shows (T.text_at texts.now) path.now question.now result (W.contents out.old)
-        (W.contents out.new) }
+    requires { HasSeenText Q.Seen.has_seen file.old.text [] }
+    ensures { Shows (T.text_at texts.now) path.now (Q.said asked.now path.now) (Q.ends asked.now)
+        result (W.contents out.old) (W.contents out.new) }
 {
     match texts.read_pieces(path, file) {
         Ok(()) => {
-            let (view, stop, left) = file.view.answer();
+            let (stop, left) = file.text.end();
             tell_stop(path, stop, left, err);
-            show_view(alloc, view, question, stop, out, err)
+            show_seen(alloc, path, asked, &mut file.text, stop, out, err)
         }
         Err(error) => report_unread(path, &error, err),
     }
 }
 
-/// Writes what a view says, and gives the exit status.
-fn show_view<W: Write, E: Write>(
+/// Writes what is asked of a text, unless that begins within a run, and gives the exit status.
+fn show_seen<Q: Asks, W: Write, E: Write>(
     alloc: Global,
-    view: &TraceView,
-    question: &Question,
+    path: &str,
+    asked: &Q,
+    text: &mut SeenText<Q::Seen>,
     stop: Option<Stop>,
     out: &mut W,
     err: &mut E,
 ) -> u8
-    ensures { (past : List Event) → Viewed view.now past
-        → ShowsOf past question.now stop result (W.contents out.old) (W.contents out.new) }
+    ensures { (past : List Event) → Viewed text.old.viewing.viewing past
+        → Q.Seen.has_seen text.old.seen past
+        → ShowsOf stop (Q.said asked.now path.now past) (Q.ends asked.now stop past) result
+        (W.contents out.old) (W.contents out.new) }
 {
-    let Ok(text) = answer(alloc, view, question) else {
-        return report_memory(err);
-    };
-    if !tell(&text, out) {
-        return report_unwritten(err);
+    if let Some(Stop::Within) = stop {
+        return REFUSED;
     }
-    status_of(view, question, stop)
+    match asked.answer(alloc, path, text, stop) {
+        Ok((said, status)) => write_answer(&said, status, out, err),
+        Err(Memory) => report_memory(err),
+    }
+}
+
+/// Writes a text, and gives the exit status, which is this where all is written.
+pub(crate) fn write_answer<W: Write, E: Write>(
+    text: &[u8],
+    status: u8,
+    out: &mut W,
+    err: &mut E,
+) -> u8
+    ensures { Writes text.now status result (W.contents out.old) (W.contents out.new) }
+{
+    if tell(text, out) {
+        status
+    } else {
+        report_unwritten(err)
+    }
 }
 
 /// Tells up to which line a trace is shown, where that isn't all of it.
@@ -191,6 +256,12 @@ pub(crate) fn tell_stop<E: Write>(path: &str, stop: Option<Stop>, left: Option<u
             let _ = writeln!(
                 err,
                 "initview: {path}:{line}: not a line of a trace: shown up to the line before it"
+            );
+        }
+        Some(Stop::Within) => {
+            let _ = writeln!(
+                err,
+                "initview: {path} begins within a run: show it with the pieces before it"
             );
         }
         None => tell_left(path, left, err),

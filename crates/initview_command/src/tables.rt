@@ -4,10 +4,11 @@ ghost use Rattle.std.specs.Prelude.{◌≡◌, ◌++◌, ◌∷◌, ◌⊎◌, [
 ghost use Rattle.program_io.specs.Known.{IsTextAt};
 ghost use Rattle.init_words.specs.Parts.{NamedText};
 ghost use Rattle.initview_command.specs.declared.asking.TableQuestion.TheVariants as table_question;
-ghost use Rattle.initview_command.specs.Tables.{Answers, AnswersOf, AreFilesAt, AreNone, FailsBy, IsAnswer, IsRefused, changes_by, found_status, level_asked, plan_by, table_in};
+ghost use Rattle.initview_command.specs.Tables.{Answers, AnswersOf, AreFilesAt, AreNone, FailsBy, IsAnswer, IsRefused, changes_by, fault_status, found_status, level_asked, plan_by, table_in};
 
 use crate::asking::TableQuestion;
-use crate::telling::{report_memory, report_unread, report_unwritten, tell};
+use crate::showing::write_answer;
+use crate::telling::{report_memory, report_unread};
 use init_words::{Level, Part};
 use inittab_lint::{Found, lint_parts};
 use inittab_text::{PartFault, Table, TableFault, read_parts};
@@ -236,10 +237,13 @@ fn plan_answer<E: Write>(
     }
 }
 
-/// Tells why an inittab is not read.
+/// Tells why an inittab is not read, and gives the exit status.
 pub(crate) fn report_fault<E: Write>(fault: TableFault, err: &mut E) -> u8
-    ensures { result ≡ REFUSED }
+    ensures { result ≡ fault_status fault }
 {
+    if let TableFault::Memory = fault {
+        return report_memory(err);
+    }
     let _ = writeln!(err, "initview: {fault}");
     REFUSED
 }
@@ -255,16 +259,8 @@ fn show_parts<W: Write, E: Write>(
     ensures { AnswersOf question parts.now result (W.contents out.old) (W.contents out.new) }
 {
     match answer(alloc, question, parts, err) {
-        Ok((text, status)) => {
-            if tell(&text, out) {
-                status
-            } else {
-                report_unwritten(err)
-            }
-        }
-        Err(TableFault::Memory) => report_memory(err),
-        Err(TableFault::TooLong) => report_fault(TableFault::TooLong, err),
-        Err(TableFault::Parts) => report_fault(TableFault::Parts, err),
+        Ok((text, status)) => write_answer(&text, status, out, err),
+        Err(fault) => report_fault(fault, err),
     }
 }
 

@@ -1,16 +1,18 @@
 -- Lines one after the other, and lines of what a view says.
 use Rattle.std.proofs.Common.{◌≡◌, refl, ap, ◌∙◌, ℕ, Bool, List, ◌++◌, Option}
 use Rattle.std.proofs.lemmas.List.{append_assoc}
+use Rattle.init_words.specs.declared.levels.Level.{Level}
 use Rattle.init_words.specs.declared.stages.Stage.{Stage}
 use Rattle.trace_events.specs.Event.{Event}
 use Rattle.trace_events.specs.Past.{stage_of, grace_of, time_of}
 use Rattle.trace_view.specs.declared.rows.Row.{Row}
 use Rattle.trace_view.specs.declared.wishes.Wish.{Wish}
 use Rattle.trace_view.specs.Rows.{row_of, is_settled_now}
-use Rattle.trace_view.specs.Wishes.{first_wish}
-use Rattle.initview_lines.specs.Status.{head_words, head_text, row_text, row_of_text, wish_line}
+use Rattle.trace_view.specs.Wishes.{asked_level, first_wish}
+use Rattle.initview_lines.specs.declared.rows.Head.{Head}
+use Rattle.initview_lines.specs.declared.rows.Shape.{Shape}
+use Rattle.initview_lines.specs.Rows.{head_of, row_in, row_of_in}
 use Rattle.initview_lines.specs.Reasons.{reason_text, why_text}
-use Rattle.initview_lines.specs.Json.{head_by, head_json, row_json, row_of_json}
 
 pub one_more : (text new line rest all : List ℕ) → new ≡ text ++ line → text ++ (line ++ rest) ≡ all → new ++ rest ≡ all
 one_more text new line rest all is so = ap (λ t. t ++ rest) is ∙ append_assoc text line rest ∙ so
@@ -29,17 +31,11 @@ four_more text first second third fourth one two three four is so then last =
 pub whole : (head entries ids one two three : List ℕ) → one ≡ head → two ≡ one ++ entries → three ≡ two ++ ids → three ≡ head ++ (entries ++ ids)
 whole head entries ids one two three a b c = c ∙ ap (λ t. t ++ ids) b ∙ append_assoc one entries ids ∙ ap (λ t. t ++ (entries ++ ids)) a
 
-pub row_is : (grace now : ℕ) (row : Row) (id : List ℕ) (past : List Event) → grace ≡ grace_of past → now ≡ time_of past → row ≡ row_of id past → row_text grace now id row ≡ row_of_text id past
-row_is grace now row id past e1 e2 e3 = rw (e1, e2, e3) refl
+pub row_is : (shape : Shape) (grace now : ℕ) (row : Row) (id : List ℕ) (past : List Event) → grace ≡ grace_of past → now ≡ time_of past → row ≡ row_of id past → row_in shape grace now id row ≡ row_of_in shape id past
+row_is shape grace now row id past e1 e2 e3 = rw (e1, e2, e3) refl
 
-pub head_is : (stage : Option Stage) (settled : Bool) (now grace : ℕ) (wish : Option Wish) (past : List Event) → stage ≡ stage_of past → settled ≡ is_settled_now past → now ≡ time_of past → grace ≡ grace_of past → wish ≡ first_wish past → head_words stage settled now grace ++ wish_line wish ≡ head_text past
-head_is stage settled now grace wish past e1 e2 e3 e4 e5 = rw (e1, e2, e3, e4, e5) refl
+pub head_is : (stage : Option Stage) (settled : Bool) (now grace : ℕ) (goal : Option Level) (wish : Option Wish) (past : List Event) → stage ≡ stage_of past → settled ≡ is_settled_now past → now ≡ time_of past → grace ≡ grace_of past → goal ≡ asked_level past → wish ≡ first_wish past → record { stage = stage; settled = settled; time = now; grace = grace; goal = goal; wish = wish } ≡ head_of past
+head_is stage settled now grace goal wish past e1 e2 e3 e4 e5 e6 = rw (e1, e2, e3, e4, e5, e6) refl
 
 pub why_is : (stage : Option Stage) (now : ℕ) (row : Row) (id name : List ℕ) (line : Option ℕ) (past : List Event) → stage ≡ stage_of past → now ≡ time_of past → row ≡ row_of id past → reason_text stage now id row name line ≡ why_text id name line past
 why_is stage now row id name line past e1 e2 e3 = rw (e1, e2, e3) refl
-
-pub json_row_is : (now : ℕ) (row : Row) (id : List ℕ) (past : List Event) → now ≡ time_of past → row ≡ row_of id past → row_json now id row ≡ row_of_json id past
-json_row_is now row id past e1 e2 = rw (e1, e2) refl
-
-pub json_head_is : (stage : Option Stage) (settled : Bool) (now grace : ℕ) (wish : Option Wish) (past : List Event) → stage ≡ stage_of past → settled ≡ is_settled_now past → now ≡ time_of past → grace ≡ grace_of past → wish ≡ first_wish past → head_by stage settled now grace wish ≡ head_json past
-json_head_is stage settled now grace wish past e1 e2 e3 e4 e5 = rw (e1, e2, e3, e4, e5) refl

@@ -1,21 +1,18 @@
--- How init and its entries stand, as lines of JSON. Times are seconds.
+-- How init and an entry stand, as objects of JSON. Times are seconds.
 use Rattle.std.specs.Prelude.{ℕ, Bool, ◌||◌, ◌==◌, if◌then◌else◌, List, [], ◌∷◌, ◌++◌, codes, decimal, Option, Some, None}
 use Rattle.init_words.specs.declared.actions.Act.{Act}
-use Rattle.init_words.specs.declared.entries.Entry.{Entry}
+use Rattle.init_words.specs.declared.levels.Level.{Level}
 use Rattle.init_words.specs.declared.stages.Stage.{Stage}
 use Rattle.init_words.specs.Actions.{word_of}
-use Rattle.trace_events.specs.Event.{Event}
-use Rattle.trace_events.specs.Past.{table_of, stage_of, grace_of, time_of, unreaped_children}
 use Rattle.trace_view.specs.declared.rows.Births.{Births}
 use Rattle.trace_view.specs.declared.rows.Ending.{Ending}
 use Rattle.trace_view.specs.declared.rows.Row.{Row}
 use Rattle.trace_view.specs.declared.whys.Why.{Why}
 use Rattle.trace_view.specs.declared.whys.Why.TheVariants as why
 use Rattle.trace_view.specs.declared.wishes.Wish.{Wish}
-use Rattle.trace_view.specs.Rows.{row_of, gone_ids, is_settled_now}
-use Rattle.trace_view.specs.Wishes.{first_wish}
 use Rattle.initview_lines.specs.Status.{child_state, state_word}
-use Rattle.initview_lines.specs.Words.{held_left, stage_words, status_words, wish_words}
+use Rattle.initview_lines.specs.declared.rows.Head.{Head}
+use Rattle.initview_lines.specs.Words.{held_left, level_words, stage_words, status_words, wish_words}
 
 -- a text in quotes: a backslash stands before a quote and before a backslash
 abbrev pub quoted_byte : ℕ → List ℕ
@@ -48,6 +45,7 @@ state_json None excluded why = quoted (state_word why)
 -- the id for which it waits
 abbrev pub for_json : Why → List ℕ
 for_json (why.EarlierOwed earlier) = quoted earlier
+for_json (why.StageOwed awaited) = quoted awaited
 for_json (why.ExcludedKept child) = quoted child.id
 for_json _ = codes "null"
 
@@ -97,37 +95,25 @@ last_json row =
 abbrev pub row_json : ℕ → List ℕ → Row → List ℕ
 row_json now id row = id_json id row ++ (child_json row ++ (waits_json now row ++ last_json row))
 
-abbrev pub row_of_json : List ℕ → List Event → List ℕ
-row_of_json id past = row_json (time_of past) id (row_of id past)
-
-abbrev pub entries_json : List Entry → List Event → List ℕ
-entries_json [] past = []
-entries_json (entry ∷ entries) past = row_of_json entry.id past ++ entries_json entries past
-
-abbrev pub ids_json : List (List ℕ) → List Event → List ℕ
-ids_json [] past = []
-ids_json (id ∷ ids) past = row_of_json id past ++ ids_json ids past
-
+-- {"stage":STAGE,"settled":BOOL,"clock":TIME,"grace":SECONDS,"wish":WISH,"goal":LEVEL}
 abbrev pub settled_json : Bool → List ℕ
 settled_json settled = if settled then codes "\",\"settled\":true" else codes "\",\"settled\":false"
 
+abbrev pub stage_json : Option Stage → Bool → List ℕ
+stage_json stage settled = codes "{\"stage\":\"" ++ (stage_words stage ++ settled_json settled)
+
+abbrev pub times_json : ℕ → ℕ → List ℕ
+times_json time grace =
+    number_member (codes ",\"clock\":") (Some time) ++ number_member (codes ",\"grace\":") (Some grace)
+
 abbrev pub wish_json : Option Wish → List ℕ
-wish_json None = codes ",\"wish\":null}\n"
-wish_json (Some wish) = codes ",\"wish\":\"" ++ (wish_words wish ++ codes "\"}\n")
+wish_json None = codes ",\"wish\":null"
+wish_json (Some wish) = codes ",\"wish\":\"" ++ (wish_words wish ++ codes "\"")
 
--- {"stage":STAGE,"settled":BOOLEAN,"clock":TIME,"grace":SECONDS,"wish":WISH}
-abbrev pub head_by : Option Stage → Bool → ℕ → ℕ → Option Wish → List ℕ
-head_by stage settled now grace wish =
-    (codes "{\"stage\":\"" ++ (stage_words stage ++ settled_json settled))
-    ++ (number_member (codes ",\"clock\":") (Some now) ++ (number_member (codes ",\"grace\":") (Some grace)
-    ++ wish_json wish))
+abbrev pub goal_json : Option Level → List ℕ
+goal_json None = codes ",\"goal\":null}\n"
+goal_json (Some level) = codes ",\"goal\":\"" ++ (level_words level ++ codes "\"}\n")
 
-abbrev pub head_json : List Event → List ℕ
-head_json past =
-    head_by (stage_of past) (is_settled_now past) (time_of past) (grace_of past) (first_wish past)
-
--- an object for init, and one for each line of the status lines, a line each
-abbrev pub status_json_text : List Event → List ℕ
-status_json_text past =
-    head_json past ++ (entries_json (table_of past) past
-    ++ ids_json (gone_ids (table_of past) (unreaped_children past)) past)
+abbrev pub head_json : Head → List ℕ
+head_json head =
+    stage_json head.stage head.settled ++ (times_json head.time head.grace ++ (wish_json head.wish ++ goal_json head.goal))

@@ -6,5 +6,6 @@ pub mod Left
 pub mod Plans
 pub mod Reasons
 pub mod Reloads
+pub mod Rows
 pub mod Status
 pub mod Words

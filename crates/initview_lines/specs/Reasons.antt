@@ -4,6 +4,7 @@ use Rattle.init_words.specs.declared.actions.Act.{Act}
 use Rattle.init_words.specs.declared.orders.OrderKind.{OrderKind}
 use Rattle.init_words.specs.declared.orders.OrderKind.TheVariants as ask
 use Rattle.init_words.specs.declared.stages.Stage.{Stage}
+use Rattle.init_words.specs.declared.stages.Stage.TheVariants.{Run}
 use Rattle.trace_events.specs.Event.{Event}
 use Rattle.trace_events.specs.Past.{stage_of, time_of}
 use Rattle.trace_view.specs.declared.rows.Births.{Births}
@@ -22,6 +23,12 @@ act_reason action = codes "its action, " ++ (act_words action ++ codes ", starts
 
 abbrev pub stage_reason : Option Stage → List ℕ
 stage_reason stage = codes "it doesn't start in " ++ stage_words stage
+
+abbrev pub ran_reason : Option Stage → List ℕ
+ran_reason stage = codes "it ran once, before " ++ stage_words stage
+
+abbrev pub awaited_reason : List ℕ → List ℕ
+awaited_reason awaited = codes "init waits for " ++ awaited
 
 -- its child runs, or has ended and its end isn't told
 abbrev pub runs_reason : ℕ → ℕ → Option Births → List ℕ
@@ -60,6 +67,9 @@ abbrev pub reason_words : Option Stage → ℕ → Row → Why → List ℕ
 reason_words stage now row why.NoEntry = codes "the table in force has no such entry"
 reason_words stage now row why.NeverStarts = act_reason row.act
 reason_words stage now row why.NoStage = codes "no stage has begun"
+reason_words stage now row why.RanBefore = ran_reason stage
+reason_words stage now row why.StageOver = codes "its action starts it before the first level alone"
+reason_words stage now row (why.StageOwed awaited) = awaited_reason awaited
 reason_words stage now row why.OtherStage = stage_reason stage
 reason_words stage now row (why.ChildKept number) = kept_reason now number row row.child
 reason_words stage now row (why.OrderOpen asked) = order_reason asked
@@ -73,21 +83,28 @@ reason_words stage now row why.WindowFull = codes "it was started ten times in t
 reason_words stage now row why.Nothing = codes "nothing keeps it: its start is due"
 
 -- what to do
-abbrev pub advice_of : Why → List ℕ
-advice_of why.NoEntry = codes "add its line to the inittab, or mend it, and run telinit q"
-advice_of why.NeverStarts = codes "give its line another action, and run telinit q"
-advice_of why.NoStage = codes "wait for stage sysinit"
-advice_of why.OtherStage = codes "go to a level that its line names, or name this one and run telinit q"
-advice_of (why.ChildKept number) = codes "end the child to have it started anew, where its action says so"
-advice_of (why.OrderOpen asked) = codes "wait for the answer"
-advice_of why.NotCalled = codes "call it by telinit a, b or c, or by news of the power, as its action says"
-advice_of why.WasStarted = codes "go to another level and back to have it started again"
-advice_of (why.EarlierOwed earlier) = codes "ask why that one isn't done"
-advice_of (why.ExcludedKept child) = codes "wait: init sends TERM, and KILL when the grace is over"
-advice_of (why.WishStands wish) = codes "wait for init's next turn"
-advice_of (why.Held since) = codes "see why its children end so soon; telinit q ends the hold"
-advice_of why.WindowFull = codes "see why its children end so soon"
-advice_of why.Nothing = codes "wait for init's next turn"
+abbrev pub other_advice : Option Stage → List ℕ
+other_advice (Some (Run level)) = codes "go to a level that its line names, or name this one and run telinit q"
+other_advice _ = codes "wait for the first level"
+
+abbrev pub advice_of : Option Stage → Why → List ℕ
+advice_of stage why.NoEntry = codes "add its line to the inittab, or mend it, and run telinit q"
+advice_of stage why.NeverStarts = codes "give its line another action, and run telinit q"
+advice_of stage why.NoStage = codes "wait for stage sysinit"
+advice_of stage why.RanBefore = codes "run it by hand, or boot again"
+advice_of stage why.StageOver = codes "run it by hand, or boot again"
+advice_of stage (why.StageOwed awaited) = codes "ask why that one isn't done"
+advice_of stage why.OtherStage = other_advice stage
+advice_of stage (why.ChildKept number) = codes "end the child to have it started anew, where its action says so"
+advice_of stage (why.OrderOpen asked) = codes "wait for the answer"
+advice_of stage why.NotCalled = codes "call it by telinit a, b or c, or by news of the power, as its action says"
+advice_of stage why.WasStarted = codes "go to another level and back to have it started again"
+advice_of stage (why.EarlierOwed earlier) = codes "ask why that one isn't done"
+advice_of stage (why.ExcludedKept child) = codes "wait: init sends TERM, and KILL when the grace is over"
+advice_of stage (why.WishStands wish) = codes "wait for init's next turn"
+advice_of stage (why.Held since) = codes "see why its children end so soon; telinit q ends the hold"
+advice_of stage why.WindowFull = codes "see why its children end so soon"
+advice_of stage why.Nothing = codes "wait for init's next turn"
 
 -- the line at fault of a trace, where there is one
 abbrev pub fault_words : List ℕ → Option ℕ → List ℕ
@@ -98,7 +115,7 @@ fault_words name (Some line) = codes " (" ++ (name ++ numbered (codes ":") line 
 abbrev pub reason_text : Option Stage → ℕ → List ℕ → Row → List ℕ → Option ℕ → List ℕ
 reason_text stage now id row name line =
     id ++ (codes ": " ++ (reason_words stage now row row.why ++ (fault_words name line
-    ++ (codes "\n  " ++ (advice_of row.why ++ codes "\n")))))
+    ++ (codes "\n  " ++ (advice_of stage row.why ++ codes "\n")))))
 
 -- of the id in the trace of a name
 abbrev pub why_text : List ℕ → List ℕ → Option ℕ → List Event → List ℕ

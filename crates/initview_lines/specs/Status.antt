@@ -1,20 +1,16 @@
--- How init and its entries stand, as lines. Times are seconds.
-use Rattle.std.specs.Prelude.{ℕ, ◌-◌, Bool, if◌then◌else◌, List, [], ◌∷◌, ◌++◌, codes, Option, Some, None}
-use Rattle.init_words.specs.declared.entries.Entry.{Entry}
+-- How init and an entry stand, in words for a line. Times are seconds.
+use Rattle.std.specs.Prelude.{ℕ, ◌-◌, Bool, if◌then◌else◌, List, [], ◌++◌, codes, Option, Some, None}
+use Rattle.init_words.specs.declared.levels.Level.{Level}
 use Rattle.init_words.specs.declared.orders.OrderKind.{OrderKind}
 use Rattle.init_words.specs.declared.orders.OrderKind.TheVariants as ask
-use Rattle.init_words.specs.declared.stages.Stage.{Stage}
-use Rattle.trace_events.specs.Event.{Event}
-use Rattle.trace_events.specs.Past.{table_of, stage_of, grace_of, time_of, unreaped_children}
 use Rattle.trace_view.specs.declared.rows.Births.{Births}
 use Rattle.trace_view.specs.declared.rows.Row.{Row}
 use Rattle.trace_view.specs.declared.standings.Excluded.{Excluded}
 use Rattle.trace_view.specs.declared.whys.Why.{Why}
 use Rattle.trace_view.specs.declared.whys.Why.TheVariants as why
 use Rattle.trace_view.specs.declared.wishes.Wish.{Wish}
-use Rattle.trace_view.specs.Rows.{row_of, gone_ids, is_settled_now}
-use Rattle.trace_view.specs.Wishes.{first_wish}
-use Rattle.initview_lines.specs.Words.{act_words, held_left, last_words, numbered, padded, stage_words, wish_words}
+use Rattle.initview_lines.specs.declared.rows.Head.{Head}
+use Rattle.initview_lines.specs.Words.{act_words, held_left, last_words, level_words, numbered, padded, stage_words, wish_words}
 
 -- since when a child runs, and which of its id it is
 abbrev pub births_words : ℕ → Option Births → List ℕ
@@ -50,6 +46,9 @@ abbrev pub state_word : Why → List ℕ
 state_word why.NoEntry = codes "no entry"
 state_word why.NeverStarts = codes "never"
 state_word why.NoStage = codes "not yet"
+state_word why.RanBefore = codes "done"
+state_word why.StageOver = codes "not here"
+state_word (why.StageOwed awaited) = codes "waiting"
 state_word why.OtherStage = codes "not here"
 state_word (why.ChildKept number) = codes "ended"
 state_word (why.OrderOpen asked) = asked_word asked
@@ -71,6 +70,7 @@ excluded_words child = codes "for " ++ (child.id ++ numbered (codes " (pid ") ch
 
 abbrev pub waits_words : ℕ → Why → List ℕ
 waits_words now (why.EarlierOwed earlier) = earlier_words earlier
+waits_words now (why.StageOwed awaited) = earlier_words awaited
 waits_words now (why.ExcludedKept child) = excluded_words child
 waits_words now (why.WishStands wish) = codes "for a request; "
 waits_words now (why.Held since) = numbered [] (held_left now since) (codes " s more; ")
@@ -92,36 +92,23 @@ abbrev pub row_text : ℕ → ℕ → List ℕ → Row → List ℕ
 row_text grace now id row =
     padded 9 id ++ (padded 14 (act_words row.act) ++ (state_text grace now row ++ codes "\n"))
 
-abbrev pub row_of_text : List ℕ → List Event → List ℕ
-row_of_text id past = row_text (grace_of past) (time_of past) id (row_of id past)
-
-abbrev pub entries_text : List Entry → List Event → List ℕ
-entries_text [] past = []
-entries_text (entry ∷ entries) past = row_of_text entry.id past ++ entries_text entries past
-
-abbrev pub ids_text : List (List ℕ) → List Event → List ℕ
-ids_text [] past = []
-ids_text (id ∷ ids) past = row_of_text id past ++ ids_text ids past
-
--- the stage, whether it is a level that is settled, the clock and the grace; and a request that stands
+-- the stage, whether it is a level that is settled, the clock and the grace; a level that is asked for; a request that
+-- stands
 abbrev pub settled_words : Bool → List ℕ
 settled_words settled = if settled then codes ", settled" else []
 
-abbrev pub head_words : Option Stage → Bool → ℕ → ℕ → List ℕ
-head_words stage settled now grace =
-    stage_words stage ++ (settled_words settled
-    ++ (numbered (codes ", clock ") now (codes ", ") ++ numbered [] grace (codes " s from TERM to KILL\n")))
+abbrev pub head_words : Head → List ℕ
+head_words head =
+    stage_words head.stage ++ (settled_words head.settled
+    ++ (numbered (codes ", clock ") head.time (codes ", ") ++ numbered [] head.grace (codes " s from TERM to KILL\n")))
+
+abbrev pub goal_line : Option Level → List ℕ
+goal_line None = []
+goal_line (Some level) = level_words level ++ codes " is asked for\n"
 
 abbrev pub wish_line : Option Wish → List ℕ
 wish_line None = []
 wish_line (Some wish) = codes "a request stands: " ++ (wish_words wish ++ codes "\n")
 
-abbrev pub head_text : List Event → List ℕ
-head_text past =
-    head_words (stage_of past) (is_settled_now past) (time_of past) (grace_of past) ++ wish_line (first_wish past)
-
--- all of it: the entries in the order of the table, and the ids whose child outlives its entry, the youngest first
-abbrev pub status_text : List Event → List ℕ
-status_text past =
-    head_text past ++ (entries_text (table_of past) past
-    ++ ids_text (gone_ids (table_of past) (unreaped_children past)) past)
+abbrev pub head_text : Head → List ℕ
+head_text head = head_words head ++ (goal_line head.goal ++ wish_line head.wish)

@@ -1,32 +1,14 @@
-//! How the entries stand, as lines of JSON for programs.
+//! How init and an entry stand, as objects of JSON for programs.
 
-ghost use Rattle.std.specs.Prelude.{◌≡◌, ◌++◌, codes, List, IfOk, OnOk};
-ghost use Rattle.trace_events.specs.Event.{Event};
-ghost use Rattle.trace_view.specs.Viewing.{Viewed};
-ghost use Rattle.initview_lines.specs.Json.{act_json, born_at, births_of, child_json, ended_at, entries_json, for_json, head_by, head_json, held_json, id_json, ids_json, last_json, number_json, number_member, quoted, quoted_byte, quoted_bytes, row_json, row_of_json, settled_json, state_json, status_json, status_json_text, waits_json, wish_json};
-ghost use Rattle.initview_lines.specs.Words.{stage_words};
+ghost use Rattle.std.specs.Prelude.{◌≡◌, ◌++◌, OnOk};
+ghost use Rattle.initview_lines.specs.Json.{act_json, born_at, births_of, child_json, ended_at, for_json, goal_json, head_json, held_json, id_json, last_json, number_member, quoted, quoted_byte, quoted_bytes, row_json, settled_json, stage_json, state_json, status_json, times_json, waits_json, wish_json};
 
+use crate::rows::Head;
 use crate::status::{child_state, state_word};
-use crate::words::{add_number, add_stage, add_status, add_wish, held_left, put};
-use init_words::{Act, ChildNumber, Entry, Id, Stage};
-use std::alloc::{AllocError, Allocator, Global};
-use trace_view::{Births, Ending, Row, TraceView, Why, Wish};
-
-/// How init and its entries stand, as `status_lines` says it: a line of JSON for the stage and the clock, and one for
-/// each id.
-pub fn json_lines<A: Allocator>(alloc: Global, view: &TraceView<A>) -> Result<Vec<u8>, AllocError>
-    ensures { IfOk result (λ text. (past : List Event) → Viewed view.now past
-        → text.items ≡ status_json_text past) }
-{
-    let mut text = Vec::new(alloc);
-    add_head(&mut text, view)?;
-    add_entries(&mut text, view, view.table().entries())?;
-    let Ok(gone) = view.gone(alloc) else {
-        return Err(AllocError);
-    };
-    add_ids(&mut text, view, gone.as_slice())?;
-    Ok(text)
-}
+use crate::words::{add_level, add_number, add_stage, add_status, add_wish, held_left, put};
+use init_words::{Act, ChildNumber, Id, Level, Stage};
+use std::alloc::AllocError;
+use trace_view::{Births, Ending, Row, Why, Wish};
 
 fn add_quoted_byte(text: &mut Vec<u8>, byte: u8) -> Result<(), AllocError>
     ensures { OnOk result (text.new.items ≡ text.old.items ++ quoted_byte byte) }
@@ -99,6 +81,7 @@ fn add_for(text: &mut Vec<u8>, why: Why) -> Result<(), AllocError>
 {
     match why {
         Why::EarlierOwed(earlier) => add_quoted(text, earlier.as_bytes()),
+        Why::StageOwed(awaited) => add_quoted(text, awaited.as_bytes()),
         Why::ExcludedKept(child) => add_quoted(text, child.id.as_bytes()),
         _ => put(text, b"null"),
     }
@@ -200,55 +183,14 @@ fn add_last_part(text: &mut Vec<u8>, row: &Row) -> Result<(), AllocError>
     put(text, b"}\n")
 }
 
-fn add_row(text: &mut Vec<u8>, now: u64, id: &Id, row: &Row) -> Result<(), AllocError>
+/// Adds the object of an id, in a line.
+pub(crate) fn add_row(text: &mut Vec<u8>, now: u64, id: &Id, row: &Row) -> Result<(), AllocError>
     ensures { OnOk result (text.new.items ≡ text.old.items ++ row_json now id.now row.now) }
 {
     add_id_part(text, id, row)?;
     add_child_part(text, row)?;
     add_waits_part(text, now, row)?;
     add_last_part(text, row)
-}
-
-fn add_id<A: Allocator>(text: &mut Vec<u8>, view: &TraceView<A>, id: &Id) -> Result<(), AllocError>
-    ensures { OnOk result ((past : List Event) → Viewed view.now past
-        → text.new.items ≡ text.old.items ++ row_of_json id.now past) }
-{
-    let now = view.time();
-    let row = view.row(id);
-    add_row(text, now, id, &row)?;
-    Ok(())
-}
-
-fn add_entries<A: Allocator>(
-    text: &mut Vec<u8>,
-    view: &TraceView<A>,
-    entries: &[Entry],
-) -> Result<(), AllocError>
-    ensures { OnOk result ((past : List Event) → Viewed view.now past
-        → text.new.items ≡ text.old.items ++ entries_json entries.now past) }
-{
-    let mut rest = entries;
-    while let Some((entry, others)) = rest.split_first() {
-        add_id(text, view, &entry.id)?;
-        rest = others;
-    }
-    Ok(())
-}
-
-fn add_ids<A: Allocator>(
-    text: &mut Vec<u8>,
-    view: &TraceView<A>,
-    ids: &[Id],
-) -> Result<(), AllocError>
-    ensures { OnOk result ((past : List Event) → Viewed view.now past
-        → text.new.items ≡ text.old.items ++ ids_json ids.now past) }
-{
-    let mut rest = ids;
-    while let Some((id, others)) = rest.split_first() {
-        add_id(text, view, id)?;
-        rest = others;
-    }
-    Ok(())
 }
 
 fn settled_json(settled: bool) -> &'static [u8]
@@ -261,6 +203,14 @@ fn settled_json(settled: bool) -> &'static [u8]
     }
 }
 
+fn add_stage_part(text: &mut Vec<u8>, stage: Option<Stage>, settled: bool) -> Result<(), AllocError>
+    ensures { OnOk result (text.new.items ≡ text.old.items ++ stage_json stage settled) }
+{
+    put(text, b"{\"stage\":\"")?;
+    add_stage(text, stage)?;
+    put(text, settled_json(settled))
+}
+
 fn add_wish_part(text: &mut Vec<u8>, wish: Option<Wish>) -> Result<(), AllocError>
     ensures { OnOk result (text.new.items ≡ text.old.items ++ wish_json wish) }
 {
@@ -268,48 +218,38 @@ fn add_wish_part(text: &mut Vec<u8>, wish: Option<Wish>) -> Result<(), AllocErro
         Some(wish) => {
             put(text, b",\"wish\":\"")?;
             add_wish(text, wish)?;
-            put(text, b"\"}\n")
+            put(text, b"\"")
         }
-        None => put(text, b",\"wish\":null}\n"),
+        None => put(text, b",\"wish\":null"),
     }
 }
 
-fn add_stage_part(text: &mut Vec<u8>, stage: Option<Stage>, settled: bool) -> Result<(), AllocError>
-    ensures { OnOk result (text.new.items ≡ text.old.items
-        ++ (codes "{\"stage\":\"" ++ (stage_words stage ++ settled_json settled))) }
+fn add_goal_part(text: &mut Vec<u8>, goal: Option<Level>) -> Result<(), AllocError>
+    ensures { OnOk result (text.new.items ≡ text.old.items ++ goal_json goal) }
 {
-    put(text, b"{\"stage\":\"")?;
-    add_stage(text, stage)?;
-    put(text, settled_json(settled))
+    match goal {
+        Some(level) => {
+            put(text, b",\"goal\":\"")?;
+            add_level(text, level)?;
+            put(text, b"\"}\n")
+        }
+        None => put(text, b",\"goal\":null}\n"),
+    }
 }
 
-fn add_head_by(
-    text: &mut Vec<u8>,
-    stage: Option<Stage>,
-    settled: bool,
-    now: u64,
-    grace: u64,
-    wish: Option<Wish>,
-) -> Result<(), AllocError>
-    ensures { OnOk result (text.new.items
-        ≡ text.old.items ++ head_by stage settled now grace wish) }
+fn add_times_part(text: &mut Vec<u8>, time: u64, grace: u64) -> Result<(), AllocError>
+    ensures { OnOk result (text.new.items ≡ text.old.items ++ times_json time grace) }
 {
-    add_stage_part(text, stage, settled)?;
-    add_member(text, b",\"clock\":", Some(now))?;
-    add_member(text, b",\"grace\":", Some(grace))?;
-    add_wish_part(text, wish)
+    add_member(text, b",\"clock\":", Some(time))?;
+    add_member(text, b",\"grace\":", Some(grace))
 }
 
-/// Adds the line of the stage and the clock.
-fn add_head<A: Allocator>(text: &mut Vec<u8>, view: &TraceView<A>) -> Result<(), AllocError>
-    ensures { OnOk result ((past : List Event) → Viewed view.now past
-        → text.new.items ≡ text.old.items ++ head_json past) }
+/// Adds the object of init, in a line.
+pub(crate) fn add_head(text: &mut Vec<u8>, head: &Head) -> Result<(), AllocError>
+    ensures { OnOk result (text.new.items ≡ text.old.items ++ head_json head.now) }
 {
-    let stage = view.stage();
-    let settled = view.is_settled();
-    let now = view.time();
-    let grace = view.grace();
-    let wish = view.wish();
-    add_head_by(text, stage, settled, now, u64::from(grace), wish)?;
-    Ok(())
+    add_stage_part(text, head.stage, head.settled)?;
+    add_times_part(text, head.time, head.grace)?;
+    add_wish_part(text, head.wish)?;
+    add_goal_part(text, head.goal)
 }

@@ -11,16 +11,16 @@ mod pieces;
 mod plans;
 mod reasons;
 mod reloads;
+mod rows;
 mod status;
 mod words;
 
 pub use changes::{Change, change_lines};
 pub use happenings::add_happening;
-pub use json::json_lines;
 pub use left::left_lines;
 pub use pieces::take_lines;
 pub use plans::plan_lines;
 pub use reasons::why_lines;
 pub use reloads::reload_lines;
-pub use status::{row_line, status_lines};
+pub use rows::{Head, Shape, row_line, status_lines};
 pub use words::{add_level, add_number, add_padded, add_stage, add_status, put, seconds_since};

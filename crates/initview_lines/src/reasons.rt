@@ -3,7 +3,7 @@
 ghost use Rattle.std.specs.Prelude.{◌≡◌, ◌++◌, List, IfOk, OnOk};
 ghost use Rattle.trace_events.specs.Event.{Event};
 ghost use Rattle.trace_view.specs.Viewing.{Viewed};
-ghost use Rattle.initview_lines.specs.Reasons.{act_reason, advice_of, done_reason, earlier_reason, excluded_reason, fault_words, held_reason, kept_reason, order_reason, reason_text, reason_words, runs_reason, stage_reason, why_text, wish_reason};
+ghost use Rattle.initview_lines.specs.Reasons.{act_reason, advice_of, awaited_reason, done_reason, earlier_reason, excluded_reason, fault_words, held_reason, kept_reason, order_reason, other_advice, ran_reason, reason_text, reason_words, runs_reason, stage_reason, why_text, wish_reason};
 ghost use Rattle.initview_lines.specs.Status.{births_words};
 
 use crate::status::add_births;
@@ -49,7 +49,7 @@ fn add_why(
     add_reason(text, stage, now, row)?;
     add_fault(text, name, line)?;
     text.extend_from_slice(b"\n  ")?;
-    text.extend_from_slice(advice_of(row.why))?;
+    text.extend_from_slice(advice_of(stage, row.why))?;
     put(text, b"\n")?;
     Ok(())
 }
@@ -78,6 +78,9 @@ fn add_reason(
         Why::NoEntry => put(text, b"the table in force has no such entry"),
         Why::NeverStarts => add_act(text, row.act),
         Why::NoStage => put(text, b"no stage has begun"),
+        Why::RanBefore => add_ran(text, stage),
+        Why::StageOver => put(text, b"its action starts it before the first level alone"),
+        Why::StageOwed(awaited) => add_awaited(text, &awaited),
         Why::OtherStage => add_other(text, stage),
         Why::ChildKept(number) => add_kept(text, now, number, row),
         Why::OrderOpen(ask) => put(text, order_reason(ask)),
@@ -98,15 +101,29 @@ fn add_reason(
     }
 }
 
+/// What to do about an entry of another stage.
+fn other_advice(stage: Option<Stage>) -> &'static [u8]
+    ensures { result.now ≡ other_advice stage }
+{
+    match stage {
+        Some(Stage::Run(_)) =>
+            b"go to a level that its line names, or name this one and run telinit q",
+        _ => b"wait for the first level",
+    }
+}
+
 /// What to do.
-fn advice_of(why: Why) -> &'static [u8]
-    ensures { result.now ≡ advice_of why }
+fn advice_of(stage: Option<Stage>, why: Why) -> &'static [u8]
+    ensures { result.now ≡ advice_of stage why }
 {
     match why {
         Why::NoEntry => b"add its line to the inittab, or mend it, and run telinit q",
         Why::NeverStarts => b"give its line another action, and run telinit q",
         Why::NoStage => b"wait for stage sysinit",
-        Why::OtherStage => b"go to a level that its line names, or name this one and run telinit q",
+        Why::RanBefore => b"run it by hand, or boot again",
+        Why::StageOver => b"run it by hand, or boot again",
+        Why::StageOwed(_) => b"ask why that one isn't done",
+        Why::OtherStage => other_advice(stage),
         Why::ChildKept(_) => b"end the child to have it started anew, where its action says so",
         Why::OrderOpen(_) => b"wait for the answer",
         Why::NotCalled =>
@@ -127,6 +144,22 @@ fn add_act(text: &mut Vec<u8>, act: Option<Act>) -> Result<(), AllocError>
     text.extend_from_slice(b"its action, ")?;
     text.extend_from_slice(act_words(act))?;
     put(text, b", starts nothing")?;
+    Ok(())
+}
+
+fn add_ran(text: &mut Vec<u8>, stage: Option<Stage>) -> Result<(), AllocError>
+    ensures { OnOk result (text.new.items ≡ text.old.items ++ ran_reason stage) }
+{
+    text.extend_from_slice(b"it ran once, before ")?;
+    add_stage(text, stage)?;
+    Ok(())
+}
+
+fn add_awaited(text: &mut Vec<u8>, awaited: &Id) -> Result<(), AllocError>
+    ensures { OnOk result (text.new.items ≡ text.old.items ++ awaited_reason awaited.now) }
+{
+    text.extend_from_slice(b"init waits for ")?;
+    text.extend_from_slice(awaited.as_bytes())?;
     Ok(())
 }
 

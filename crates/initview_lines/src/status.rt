@@ -1,91 +1,25 @@
-//! How the entries stand, a line each.
+//! How init and an entry stand, in words for a line.
 
-ghost use Rattle.std.specs.Prelude.{◌≡◌, ◌++◌, List, IfOk, OnOk};
-ghost use Rattle.trace_events.specs.Event.{Event};
-ghost use Rattle.trace_view.specs.Viewing.{Viewed};
-ghost use Rattle.initview_lines.specs.Status.{asked_word, child_state, child_words, births_words, entries_text, head_text, head_words, ids_text, row_of_text, row_text, settled_words, state_text, state_word, status_text, stop_words, term_words, waits_text, waits_words, earlier_words, excluded_words, wish_line};
+ghost use Rattle.std.specs.Prelude.{◌≡◌, ◌++◌, OnOk};
+ghost use Rattle.initview_lines.specs.Status.{asked_word, births_words, child_state, child_words, earlier_words, excluded_words, goal_line, head_text, head_words, row_text, settled_words, state_text, state_word, stop_words, term_words, waits_text, waits_words, wish_line};
 
+use crate::rows::Head;
 use crate::words::{
-    act_words, add_last, add_number, add_padded, add_stage, add_wish, held_left, put, seconds_since,
+    act_words, add_last, add_level, add_number, add_padded, add_stage, add_wish, held_left, put,
+    seconds_since,
 };
-use init_words::{ChildNumber, Entry, Id, OrderKind, Stage};
-use std::alloc::{AllocError, Allocator, Global};
-use trace_view::{Births, Excluded, Row, TraceView, Why, Wish};
+use init_words::{ChildNumber, Id, Level, OrderKind};
+use std::alloc::AllocError;
+use trace_view::{Births, Excluded, Row, Why, Wish};
 
-/// How init and its entries stand: a line for the stage and the clock, one for a request that stands, one for each entry
-/// in the order of the table, and one for each id whose child outlives its entry.
-pub fn status_lines<A: Allocator>(alloc: Global, view: &TraceView<A>) -> Result<Vec<u8>, AllocError>
-    ensures { IfOk result (λ text. (past : List Event) → Viewed view.now past
-        → text.items ≡ status_text past) }
-{
-    let mut text = Vec::new(alloc);
-    add_head(&mut text, view)?;
-    add_entries(&mut text, view, view.table().entries())?;
-    let Ok(gone) = view.gone(alloc) else {
-        return Err(AllocError);
-    };
-    add_ids(&mut text, view, gone.as_slice())?;
-    Ok(text)
-}
-
-/// The line of one id.
-pub fn row_line<A: Allocator>(
-    alloc: Global,
-    view: &TraceView<A>,
+/// Adds the line of an id.
+pub(crate) fn add_row(
+    text: &mut Vec<u8>,
+    grace: u64,
+    now: u64,
     id: &Id,
-) -> Result<Vec<u8>, AllocError>
-    ensures { IfOk result (λ text. (past : List Event) → Viewed view.now past
-        → text.items ≡ row_of_text id.now past) }
-{
-    let mut text = Vec::new(alloc);
-    add_id(&mut text, view, id)?;
-    Ok(text)
-}
-
-fn add_entries<A: Allocator>(
-    text: &mut Vec<u8>,
-    view: &TraceView<A>,
-    entries: &[Entry],
+    row: &Row,
 ) -> Result<(), AllocError>
-    ensures { OnOk result ((past : List Event) → Viewed view.now past
-        → text.new.items ≡ text.old.items ++ entries_text entries.now past) }
-{
-    let mut rest = entries;
-    while let Some((entry, others)) = rest.split_first() {
-        add_id(text, view, &entry.id)?;
-        rest = others;
-    }
-    Ok(())
-}
-
-fn add_ids<A: Allocator>(
-    text: &mut Vec<u8>,
-    view: &TraceView<A>,
-    ids: &[Id],
-) -> Result<(), AllocError>
-    ensures { OnOk result ((past : List Event) → Viewed view.now past
-        → text.new.items ≡ text.old.items ++ ids_text ids.now past) }
-{
-    let mut rest = ids;
-    while let Some((id, others)) = rest.split_first() {
-        add_id(text, view, id)?;
-        rest = others;
-    }
-    Ok(())
-}
-
-fn add_id<A: Allocator>(text: &mut Vec<u8>, view: &TraceView<A>, id: &Id) -> Result<(), AllocError>
-    ensures { OnOk result ((past : List Event) → Viewed view.now past
-        → text.new.items ≡ text.old.items ++ row_of_text id.now past) }
-{
-    let grace = view.grace();
-    let now = view.time();
-    let row = view.row(id);
-    add_row(text, u64::from(grace), now, id, &row)?;
-    Ok(())
-}
-
-fn add_row(text: &mut Vec<u8>, grace: u64, now: u64, id: &Id, row: &Row) -> Result<(), AllocError>
     ensures { OnOk result (text.new.items
         ≡ text.old.items ++ row_text grace now id.now row.now) }
 {
@@ -198,6 +132,9 @@ pub(crate) fn state_word(why: Why) -> &'static [u8]
         Why::NoEntry => b"no entry",
         Why::NeverStarts => b"never",
         Why::NoStage => b"not yet",
+        Why::RanBefore => b"done",
+        Why::StageOver => b"not here",
+        Why::StageOwed(_) => b"waiting",
         Why::OtherStage => b"not here",
         Why::ChildKept(_) => b"ended",
         Why::OrderOpen(ask) => asked_word(ask),
@@ -227,6 +164,7 @@ fn add_waited(text: &mut Vec<u8>, now: u64, why: Why) -> Result<(), AllocError>
 {
     match why {
         Why::EarlierOwed(earlier) => add_earlier(text, &earlier),
+        Why::StageOwed(awaited) => add_earlier(text, &awaited),
         Why::ExcludedKept(child) => add_excluded(text, &child),
         Why::WishStands(_) => put(text, b"for a request; "),
         Why::Held(since) => add_number(text, b"", held_left(now, since), b" s more; "),
@@ -252,42 +190,43 @@ fn add_excluded(text: &mut Vec<u8>, child: &Excluded) -> Result<(), AllocError>
     Ok(())
 }
 
-/// Adds the lines above the rows.
-fn add_head<A: Allocator>(text: &mut Vec<u8>, view: &TraceView<A>) -> Result<(), AllocError>
-    ensures { OnOk result ((past : List Event) → Viewed view.now past
-        → text.new.items ≡ text.old.items ++ head_text past) }
-{
-    let stage = view.stage();
-    let settled = view.is_settled();
-    let now = view.time();
-    let grace = view.grace();
-    let wish = view.wish();
-    add_head_words(text, stage, settled, now, u64::from(grace))?;
-    add_wish_line(text, wish)?;
-    Ok(())
-}
-
 fn settled_words(settled: bool) -> &'static [u8]
     ensures { result.now ≡ settled_words settled }
 {
     if settled { b", settled" } else { b"" }
 }
 
-fn add_head_words(
-    text: &mut Vec<u8>,
-    stage: Option<Stage>,
-    settled: bool,
-    now: u64,
-    grace: u64,
-) -> Result<(), AllocError>
-    ensures { OnOk result (text.new.items
-        ≡ text.old.items ++ head_words stage settled now grace) }
+/// Adds the lines above the rows.
+pub(crate) fn add_head(text: &mut Vec<u8>, head: &Head) -> Result<(), AllocError>
+    ensures { OnOk result (text.new.items ≡ text.old.items ++ head_text head.now) }
 {
-    add_stage(text, stage)?;
-    text.extend_from_slice(settled_words(settled))?;
-    add_number(text, b", clock ", now, b", ")?;
-    add_number(text, b"", grace, b" s from TERM to KILL\n")?;
+    add_head_words(text, head)?;
+    add_goal_line(text, head.goal)?;
+    add_wish_line(text, head.wish)?;
     Ok(())
+}
+
+fn add_head_words(text: &mut Vec<u8>, head: &Head) -> Result<(), AllocError>
+    ensures { OnOk result (text.new.items ≡ text.old.items ++ head_words head.now) }
+{
+    add_stage(text, head.stage)?;
+    text.extend_from_slice(settled_words(head.settled))?;
+    add_number(text, b", clock ", head.time, b", ")?;
+    add_number(text, b"", head.grace, b" s from TERM to KILL\n")?;
+    Ok(())
+}
+
+fn add_goal_line(text: &mut Vec<u8>, goal: Option<Level>) -> Result<(), AllocError>
+    ensures { OnOk result (text.new.items ≡ text.old.items ++ goal_line goal) }
+{
+    match goal {
+        Some(level) => {
+            add_level(text, level)?;
+            text.extend_from_slice(b" is asked for\n")?;
+            Ok(())
+        }
+        None => Ok(()),
+    }
 }
 
 fn add_wish_line(text: &mut Vec<u8>, wish: Option<Wish>) -> Result<(), AllocError>

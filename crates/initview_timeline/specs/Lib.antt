@@ -7,4 +7,3 @@ pub mod Lives
 pub mod Marks
 pub mod Signs
 pub mod Svg
-pub mod Timelines

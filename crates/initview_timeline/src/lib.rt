@@ -12,9 +12,7 @@ mod looks;
 mod marks;
 mod signs;
 mod svg;
-mod timelines;
 
 pub use chart::chart_lines;
-pub use marks::{Mark, Shown};
+pub use marks::{Mark, Marks, Shown};
 pub use svg::svg_text;
-pub use timelines::Timeline;

@@ -1,15 +1,16 @@
 //! What a timeline shows of a trace, and when.
 
-ghost use Rattle.std.specs.Prelude.{◌≡◌, ◌∷◌, ◌++◌, List, OnOk};
+ghost use Rattle.std.specs.Prelude.{◌≡◌, ◌∷◌, ◌++◌, [], List, OnOk};
 ghost use Rattle.trace_events.specs.Event.{Event};
 ghost use Rattle.trace_events.specs.Past.{time_of};
 ghost use Rattle.trace_view.specs.Viewing.{Viewed};
 ghost use Rattle.initview_timeline.specs.Marks.{mark_at, sent_for, shown_of};
 
 use init_words::{ChildNumber, Id, Level, Memory, OrderKind, SignalKind, Stage, Status};
-use std::alloc::Allocator;
+use std::alloc::{Allocator, Global};
+use std::marker::Model;
 use trace_events::{Happening, HappeningIn};
-use trace_view::TraceView;
+use trace_view::{Sees, TraceView};
 
 /// What a timeline shows.
 #[derive(Clone, Copy)]
@@ -49,7 +50,7 @@ fn sent_for(id: Id, order: Option<OrderKind>) -> Option<Shown>
 }
 
 /// What is shown of the happening that the view has seen last.
-pub(crate) fn shown_of<A: Allocator, B: Allocator>(
+fn shown_of<A: Allocator, B: Allocator>(
     view: &TraceView<A>,
     happening: &HappeningIn<B>,
 ) -> Option<Shown>
@@ -83,7 +84,7 @@ fn add_mark<A: Allocator>(
 }
 
 /// Adds the mark of the happening that the view has seen last.
-pub(crate) fn take_mark<A: Allocator, B: Allocator>(
+fn take_mark<A: Allocator, B: Allocator>(
     marks: &mut Vec<Mark, A>,
     view: &TraceView<A>,
     happening: &HappeningIn<B>,
@@ -96,4 +97,51 @@ pub(crate) fn take_mark<A: Allocator, B: Allocator>(
     let shown = shown_of(view, happening);
     add_mark(marks, view.time(), shown)?;
     Ok(())
+}
+
+/// The marks of what was seen, the oldest first.
+#[derive(Drop)]
+pub struct Marks<A: Allocator = Global> {
+    marks: Vec<Mark, A>,
+}
+
+impl<A: Allocator> Model for Marks<A> {
+    ghost Value = { List Mark };
+
+    ghost view = { λ m. m.marks.items };
+}
+
+impl<A: Allocator + Copy> Marks<A> {
+    /// No marks. They take no memory.
+    pub fn new(alloc: A) -> Marks<A>
+        ensures { result ≡ [] }
+    {
+        Marks {
+            marks: Vec::new(alloc),
+        }
+    }
+}
+
+impl<A: Allocator> Marks<A> {
+    pub fn as_slice(&self) -> &[Mark]
+        ensures { result.now ≡ self.now }
+    {
+        self.marks.as_slice()
+    }
+}
+
+impl<A: Allocator> Sees<A> for Marks<A> {
+    ghost use Rattle.initview_timeline.specs.Marks.{marks_of};
+
+    ghost has_seen = { λ marks past. marks ≡ marks_of past };
+
+    fn see(
+        &mut self,
+        view: &TraceView<A>,
+        _stage: Option<Stage>,
+        _line: u64,
+        happening: &HappeningIn<A>,
+    ) -> Result<(), Memory> {
+        take_mark(&mut self.marks, view, happening)
+    }
 }

@@ -8,13 +8,9 @@ use Rattle.trace_events.specs.Past.{stage_of}
 use Rattle.trace_text.specs.Lines.{trace_text}
 use Rattle.trace_check.specs.State.{at}
 use Rattle.trace_verdict.specs.Readers.{capped}
-use Rattle.trace_verdict.proofs.Judging.{past_push}
-use Rattle.trace_view.specs.Viewing.{Viewed}
-use Rattle.trace_view.specs.declared.whys.Why.{Why}
-use Rattle.trace_view.specs.LastLines.{LinesState, Lined, line_after, line_behind, kinds_after, kinds_of, names, born_in, unborn_in, reaped_in, ordered_in, held_in, last_of, later, line_at_fault}
-use Rattle.trace_view.specs.LinedViews.{IsLining, HasLined}
-use Rattle.trace_view.specs.Views.{TextState, ViewGoesOn, IsAt}
-use Rattle.trace_view.proofs.SeenTexts.{at_none, next_line, seen_at}
+use Rattle.trace_view.specs.LastLines.{LinesState, Lined, line_after, line_behind, kinds_after, kinds_of, names, born_in, unborn_in, reaped_in, ordered_in, held_in, last_of}
+use Rattle.trace_view.specs.Views.{TextState, IsAt}
+use Rattle.trace_view.proofs.SeenTexts.{at_none, next_line}
 
 -- what is kept, with one happening more
 kinds_more : (happening : Event) (past : List Event) → kinds_after (stage_of past) (line_behind past) happening (kinds_of past) ≡ kinds_of (happening ∷ past)
@@ -42,25 +38,3 @@ line_is trace = ap (λ t. newlines (trace_text t) + 1) (sym (reverse-reverse tra
 pub line_here : (state : TextState) (trace : List Event) (text : List ℕ) (line : ℕ) → length text < 2 ^ 64 → state.stop ≡ None → 1 ≤ length state.reading.over → line ≡ capped (state.reading.lines + 1) → IsAt state trace text → line ≡ line_behind (reverse trace)
 line_here state trace text line small goes some is at =
     is ∙ next_line state.reading state.viewing trace text small (at_none state.stop state trace text goes at) some ∙ line_is trace
-
-pub some_lined : (next : Option Event) (h : Event) (old new : TextState) (before after : LinesState) (stage : Option Stage) (line : ℕ) (text : List ℕ) → length text < 2 ^ 64 → next ≡ Some h → old.stop ≡ None → length new.reading.over < length old.reading.over → line ≡ capped (old.reading.lines + 1) → ((past : List Event) → Viewed old.viewing past → stage ≡ stage_of past) → ((trace : List Event) → ViewGoesOn next old new trace text) → ((past : List Event) → stage ≡ stage_of past → line ≡ line_behind past → Lined before past → Lined after (h ∷ past)) → IsLining (record { viewing = old; lines = before }) text → IsLining (record { viewing = new; lines = after }) text
-some_lined next h old new before after stage line text small is went shorter at_line stages goes takes at =
-    let P : Option Event → Type 0 = λ n. ViewGoesOn n old new at.0 text in
-    let some : 1 ≤ length old.reading.over = omega (arith, shorter) in (
-      at.0 ++ h ∷ [],
-      subst P is (goes at.0) at.1,
-      subst (Lined after) (sym (past_push at.0 h))
-          (takes (reverse at.0) (stages (reverse at.0) (seen_at old.stop old at.0 text at.1)) (line_here old at.0 text line small went some at_line at.1) at.2),
-    )
-
-pub none_lined : (next : Option Event) (old new : TextState) (lines : LinesState) (text : List ℕ) → next ≡ None → ((trace : List Event) → ViewGoesOn next old new trace text) → IsLining (record { viewing = old; lines = lines }) text → HasLined (record { viewing = new; lines = lines }) text
-none_lined next old new lines text is goes at =
-    let P : Option Event → Type 0 = λ n. ViewGoesOn n old new at.0 text in
-    (at.0, subst P is (goes at.0) at.1, at.2)
-
--- the line at fault, by the reason
-pub by_reason : (reason is : Why) (id : List ℕ) (past : List Event) (line : Option ℕ) → reason ≡ is → line ≡ line_at_fault id is past → line ≡ line_at_fault id reason past
-by_reason reason is id past line same so = subst (λ r. line ≡ line_at_fault id r past) (sym same) so
-
-pub later_of : (one two first second line : Option ℕ) → line ≡ later one two → one ≡ first → two ≡ second → line ≡ later first second
-later_of one two first second line is e1 e2 = is ∙ ap (λ l. later l two) e1 ∙ ap (later first) e2

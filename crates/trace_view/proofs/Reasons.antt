@@ -9,6 +9,7 @@ use Rattle.init_words.specs.declared.entries.Entry.{Entry}
 use Rattle.init_words.specs.declared.orders.OrderKind.{OrderKind}
 use Rattle.init_words.specs.declared.orders.OrderKind.TheVariants.{Start}
 use Rattle.init_words.specs.declared.stages.Stage.{Stage}
+use Rattle.init_words.specs.declared.stages.Stage.TheVariants.{Sysinit, Boot, Run}
 use Rattle.init_words.specs.Actions.{wanted_by, is_limited}
 use Rattle.init_words.specs.Ids.{same_id}
 use Rattle.init_words.proofs.Same.{same_id-is}
@@ -28,9 +29,9 @@ use Rattle.trace_check.proofs.Lone.{found_passes}
 use Rattle.trace_view.specs.declared.standings.Excluded.{Excluded}
 use Rattle.trace_view.specs.declared.standings.Standing.{Standing}
 use Rattle.trace_view.specs.declared.wishes.Wish.{Wish}
-use Rattle.trace_view.specs.declared.whys.Why.TheVariants.{NoEntry, NeverStarts, OtherStage, WasStarted, NotCalled, WindowFull, Nothing}
+use Rattle.trace_view.specs.declared.whys.Why.TheVariants.{NoEntry, NeverStarts, RanBefore, StageOver, WasStarted, NotCalled, WindowFull, Nothing}
 use Rattle.trace_view.specs.Wishes.{first_of, first_wish}
-use Rattle.trace_view.specs.Why.{number_of, excluded_as, standing_of, not_here, not_wanted, why_by, why_entry, why, is_nothing}
+use Rattle.trace_view.specs.Why.{number_of, entry_id, excluded_as, standing_of, is_past, by_awaited, by_child, elsewhere, not_here, not_wanted, why_by, why_entry, why, is_nothing}
 
 -- nothing is found where none passes
 none_found : {X Y : Type 0} (f : X → Y) (p : X → Bool) (xs : List X) → is_none (option_map f (find p xs)) ≡ not (list_any p xs)
@@ -126,12 +127,26 @@ module _ (id : List ℕ) (past : List Event) where
         ∙ rest_is rest ∙ further e es (entry_of id es) differ
 
 -- nothing is the first reason exactly where none of them is there
-nobody_here : (action : Act) (stage : Option Stage) → is_nothing (not_here action stage) ≡ false
-nobody_here action None = refl
-nobody_here action (Some stage) = split (wanted_by action true true true) where
-  split : (b : Bool) → is_nothing (cond b OtherStage NeverStarts) ≡ false
-  split true = refl
-  split false = refl
+nobody_waits : (stage : Stage) (awaited : Option (List ℕ)) → is_nothing (by_awaited stage awaited) ≡ false
+nobody_waits (Run level) awaited = refl
+nobody_waits Sysinit (Some id) = refl
+nobody_waits Sysinit None = refl
+nobody_waits Boot (Some id) = refl
+nobody_waits Boot None = refl
+
+nobody_elsewhere : (over ran : Bool) (stage : Stage) (awaited : Option (List ℕ)) → is_nothing (cond over (cond ran RanBefore StageOver) (by_awaited stage awaited)) ≡ false
+nobody_elsewhere true true stage awaited = refl
+nobody_elsewhere true false stage awaited = refl
+nobody_elsewhere false ran stage awaited = nobody_waits stage awaited
+
+nobody_here : (action : Act) (stage : Option Stage) (s : Standing) → is_nothing (not_here action stage s) ≡ false
+nobody_here action None s = refl
+nobody_here action (Some stage) s = split (wanted_by action true true true) s.stops s.child where
+  split : (starts stops : Bool) (child : Option ℕ) → is_nothing (cond (not starts) NeverStarts (cond stops (elsewhere action stage s) (by_child child (elsewhere action stage s)))) ≡ false
+  split false stops child = refl
+  split true true child = nobody_elsewhere (is_past action stage) s.ran stage s.awaited
+  split true false (Some child) = refl
+  split true false None = nobody_elsewhere (is_past action stage) s.ran stage s.awaited
 
 nobody_asks : (action : Act) → is_nothing (not_wanted action) ≡ false
 nobody_asks action = split (wanted_by action true true false) where
@@ -143,16 +158,16 @@ last_of_all : (full : Bool) → is_nothing (cond full WindowFull Nothing) ≡ no
 last_of_all true = refl
 last_of_all false = refl
 
-nothing_by : (action : Act) (stage : Option Stage) (starts : Bool) (child : Option ℕ) (order : Option OrderKind) (wanted : Bool) (owed : Option (List ℕ)) (excluded : Option Excluded) (wish : Option Wish) (hold : Option ℕ) (full : Bool) → is_nothing (why_by action stage (record { starts = starts; child = child; order = order; wanted = wanted; owed = owed; excluded = excluded; wish = wish; hold = hold; full = full })) ≡ (starts && is_none child && is_none order && wanted && is_none owed && is_none excluded && is_none wish && is_none hold && not full)
-nothing_by action stage false child order wanted owed excluded wish hold full = nobody_here action stage
-nothing_by action stage true (Some child) order wanted owed excluded wish hold full = refl
-nothing_by action stage true None (Some order) wanted owed excluded wish hold full = refl
-nothing_by action stage true None None false owed excluded wish hold full = nobody_asks action
-nothing_by action stage true None None true (Some owed) excluded wish hold full = refl
-nothing_by action stage true None None true None (Some excluded) wish hold full = refl
-nothing_by action stage true None None true None None (Some wish) hold full = refl
-nothing_by action stage true None None true None None None (Some hold) full = refl
-nothing_by action stage true None None true None None None None full = last_of_all full
+nothing_by : (action : Act) (stage : Option Stage) (starts : Bool) (child : Option ℕ) (stops ran : Bool) (awaited : Option (List ℕ)) (order : Option OrderKind) (wanted : Bool) (owed : Option (List ℕ)) (excluded : Option Excluded) (wish : Option Wish) (hold : Option ℕ) (full : Bool) → is_nothing (why_by action stage (record { starts = starts; child = child; stops = stops; ran = ran; awaited = awaited; order = order; wanted = wanted; owed = owed; excluded = excluded; wish = wish; hold = hold; full = full })) ≡ (starts && is_none child && is_none order && wanted && is_none owed && is_none excluded && is_none wish && is_none hold && not full)
+nothing_by action stage false child stops ran awaited order wanted owed excluded wish hold full = nobody_here action stage (record { starts = false; child = child; stops = stops; ran = ran; awaited = awaited; order = order; wanted = wanted; owed = owed; excluded = excluded; wish = wish; hold = hold; full = full })
+nothing_by action stage true (Some child) stops ran awaited order wanted owed excluded wish hold full = refl
+nothing_by action stage true None stops ran awaited (Some order) wanted owed excluded wish hold full = refl
+nothing_by action stage true None stops ran awaited None false owed excluded wish hold full = nobody_asks action
+nothing_by action stage true None stops ran awaited None true (Some owed) excluded wish hold full = refl
+nothing_by action stage true None stops ran awaited None true None (Some excluded) wish hold full = refl
+nothing_by action stage true None stops ran awaited None true None None (Some wish) hold full = refl
+nothing_by action stage true None stops ran awaited None true None None None (Some hold) full = refl
+nothing_by action stage true None stops ran awaited None true None None None None full = last_of_all full
 
 -- a wish stands exactly where there is a first one
 first_stands : (past : List Event) → is_none (first_wish past) ≡ not (wish_stands past)
@@ -242,9 +257,9 @@ module _ (past : List Event) (e : Entry) where
 
   by_entry : is_nothing (why_entry e past) ≡ (calm && spared && may_start e.id past (table_of past) e)
   by_entry =
-      nothing_by e.act (stage_of past) s.starts s.child s.order s.wanted s.owed s.excluded s.wish s.hold s.full
+      nothing_by e.act (stage_of past) s.starts s.child s.stops s.ran s.awaited s.order s.wanted s.owed s.excluded s.wish s.hold s.full
       ∙ ap (λ b. starts && b && unasked && (starts && asks) && is_none s.owed && is_none s.excluded && is_none s.wish && is_none s.hold && not s.full) (none_found number_of (is_of e.id) (kept_children past))
-      ∙ ap (λ b. starts && childless && unasked && (starts && asks) && b && is_none s.excluded && is_none s.wish && is_none s.hold && not s.full) (none_found (λ (x : Entry). x.id) (λ x. is_owed x past) (entries_before e.id (table_of past)))
+      ∙ ap (λ b. starts && childless && unasked && (starts && asks) && b && is_none s.excluded && is_none s.wish && is_none s.hold && not s.full) (none_found entry_id (λ x. is_owed x past) (entries_before e.id (table_of past)))
       ∙ ap (λ b. starts && childless && unasked && (starts && asks) && ahead && b && is_none s.wish && is_none s.hold && not s.full) (none_found excluded_as (is_excluded past) (kept_children past))
       ∙ ap (λ b. starts && childless && unasked && (starts && asks) && ahead && spared && b && is_none s.hold && not s.full) (first_stands past)
       ∙ ap (λ b. starts && childless && unasked && (starts && asks) && ahead && spared && calm && b && not s.full) (hold_none e.id past limited held refl)

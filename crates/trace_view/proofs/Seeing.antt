@@ -9,7 +9,8 @@ use Rattle.trace_events.specs.Past.{table_of, stage_of, time_of, unreaped_childr
 use Rattle.trace_check.specs.Judging.{Judged}
 use Rattle.trace_view.specs.Wishes.{wishes_of, wishes_after}
 use Rattle.trace_check.specs.State.{at}
-use Rattle.trace_view.specs.Rows.{births_of, ended_of, born_after, ended_after}
+use Rattle.trace_view.specs.Births.{births_of}
+use Rattle.trace_view.specs.Rows.{ended_of, born_after, ended_after}
 use Rattle.trace_view.specs.Viewing.{ViewState, Viewed, unreaped_after, kept_after}
 
 wishes_step : (happening : Event) (past : List Event) → wishes_after (stage_of (happening ∷ past)) happening (wishes_of past) ≡ wishes_of (happening ∷ past)

@@ -1,5 +1,5 @@
 -- What a view says of an entry is what the past says.
-use Rattle.std.proofs.Common.{◌≡◌, refl, sym, ◌∙◌, ap, ℕ, Bool, true, false, ◌||◌, ◌&&◌, cond, List, find, Option, Some, None}
+use Rattle.std.proofs.Common.{◌≡◌, refl, sym, ◌∙◌, ap, ℕ, Bool, true, false, ◌||◌, ◌&&◌, cond, is_some, List, [], ◌∷◌, ◌++◌, find, Option, Some, None}
 use Rattle.std.specs.Option.{option_map, option_map_or}
 use Rattle.init_words.specs.declared.actions.Act.{Act}
 use Rattle.init_words.specs.declared.entries.Entry.{Entry}
@@ -22,11 +22,12 @@ use Rattle.trace_view.specs.declared.standings.Excluded.{Excluded}
 use Rattle.trace_view.specs.declared.standings.Standing.{Standing}
 use Rattle.trace_view.specs.declared.whys.Why.{Why}
 use Rattle.trace_view.specs.declared.whys.Why.TheVariants.{NoEntry}
-use Rattle.trace_view.specs.Rows.{births_of, ended_of, row_of}
+use Rattle.trace_view.specs.Births.{births_of}
+use Rattle.trace_view.specs.Rows.{ended_of, row_of}
 use Rattle.trace_view.specs.declared.wishes.Wish.{Wish}
 use Rattle.trace_view.specs.declared.wishes.Wishes.{Wishes}
 use Rattle.trace_view.specs.Viewing.{is_excluded_by}
-use Rattle.trace_view.specs.Why.{number_of, excluded_as, first_owed, standing_of, why_by, why_entry, why}
+use Rattle.trace_view.specs.Why.{number_of, entry_id, excluded_as, first_awaited, first_owed, standing_of, stops_now, why_by, why_entry, why}
 use Rattle.trace_view.specs.Wishes.{wishes_of, first_of, first_wish, first_wish_in}
 
 -- six tests in a row
@@ -50,8 +51,8 @@ pub found_own : (id : List ℕ) (table : List Entry) (e : Entry) → entry_of id
 found_own id table e is = ap (λ i. entry_of i table) (sym (same_id-is id e.id (found_passes (has_id id) table e is))) ∙ is
 
 -- the standing of an entry by its parts
-pub stands : (e : Entry) (past : List Event) (starts : Bool) (child : Option ℕ) (order : Option OrderKind) (wanted : Bool) (owed : Option (List ℕ)) (excluded : Option Excluded) (wish : Option Wish) (hold : Option ℕ) (full : Bool) → starts ≡ starts_now e past → child ≡ option_map number_of (find (is_of e.id) (kept_children past)) → order ≡ open_of e.id past → wanted ≡ is_wanted e past → owed ≡ option_map (λ (earlier : Entry). earlier.id) (first_owed e.id past) → excluded ≡ option_map excluded_as (find (is_excluded past) (kept_children past)) → wish ≡ first_wish past → hold ≡ cond (is_limited e.act && is_held e.id past) (newest (hold_times e.id past)) None → full ≡ (is_limited e.act && is_full e.id past) → record { starts = starts; child = child; order = order; wanted = wanted; owed = owed; excluded = excluded; wish = wish; hold = hold; full = full } ≡ standing_of e past
-stands e past starts child order wanted owed excluded wish hold full e1 e2 e3 e4 e5 e6 e7 e8 e9 = rw (e1, e2, e3, e4, e5, e6, e7, e8, e9) refl
+pub stands : (e : Entry) (past : List Event) (starts : Bool) (child : Option ℕ) (stops ran : Bool) (awaited : Option (List ℕ)) (order : Option OrderKind) (wanted : Bool) (owed : Option (List ℕ)) (excluded : Option Excluded) (wish : Option Wish) (hold : Option ℕ) (full : Bool) → starts ≡ starts_now e past → child ≡ option_map number_of (find (is_of e.id) (kept_children past)) → stops ≡ stops_now e.id past → ran ≡ is_some (births_of e.id past) → awaited ≡ option_map entry_id (first_awaited past) → order ≡ open_of e.id past → wanted ≡ is_wanted e past → owed ≡ option_map entry_id (first_owed e.id past) → excluded ≡ option_map excluded_as (find (is_excluded past) (kept_children past)) → wish ≡ first_wish past → hold ≡ cond (is_limited e.act && is_held e.id past) (newest (hold_times e.id past)) None → full ≡ (is_limited e.act && is_full e.id past) → record { starts = starts; child = child; stops = stops; ran = ran; awaited = awaited; order = order; wanted = wanted; owed = owed; excluded = excluded; wish = wish; hold = hold; full = full } ≡ standing_of e past
+stands e past starts child stops ran awaited order wanted owed excluded wish hold full e1 e2 e3 e4 e5 e6 e7 e8 e9 e10 e11 e12 = rw (e1, e2, e3, e4, e5, e6, e7, e8, e9, e10, e11, e12) refl
 
 -- the child that may not live, by a table and a stage that are in force
 pub excluded_is : (table : List Entry) (stage : Option Stage) (kept : List Child) (past : List Event) → table ≡ table_of past → stage ≡ stage_of past → kept ≡ kept_children past → option_map excluded_as (find (is_excluded_by table stage) kept) ≡ option_map excluded_as (find (is_excluded past) (kept_children past))
@@ -79,10 +80,10 @@ pub why_none : (id : List ℕ) (past : List Event) → entry_of id (table_of pas
 why_none id past none = sym (ap (λ o. option_map_or (λ x. why_entry x past) o NoEntry) none)
 
 -- whether a child may not live, by a table and a stage that are in force
-pub lives_not : (id : List ℕ) (table : List Entry) (stage : Option Stage) (unreaped : List Child) (past : List Event) → table ≡ table_of past → stage ≡ stage_of past → unreaped ≡ unreaped_children past → option_map_or (is_excluded_by table stage) (find (is_of id) unreaped) false ≡ option_map_or (is_excluded past) (child_of id past) false
-lives_not id table stage unreaped past tables stages is =
-    ap (λ t. option_map_or (is_excluded_by t stage) (find (is_of id) unreaped) false) tables
-    ∙ ap (λ s. option_map_or (is_excluded_by (table_of past) s) (find (is_of id) unreaped) false) stages
+pub lives_not : (id : List ℕ) (table : List Entry) (stage : Option Stage) (some children : List Child) (past : List Event) → table ≡ table_of past → stage ≡ stage_of past → some ≡ children → option_map_or (is_excluded_by table stage) (find (is_of id) some) false ≡ option_map_or (is_excluded past) (find (is_of id) children) false
+lives_not id table stage some children past tables stages is =
+    ap (λ t. option_map_or (is_excluded_by t stage) (find (is_of id) some) false) tables
+    ∙ ap (λ s. option_map_or (is_excluded_by (table_of past) s) (find (is_of id) some) false) stages
     ∙ ap (λ xs. option_map_or (is_excluded past) (find (is_of id) xs) false) is
 
 -- what is told of an id by its parts

@@ -113,6 +113,9 @@ abbrev pub line_at_fault : List ℕ → Why → List Event → Option ℕ
 line_at_fault id why.NoEntry past = last_line is_table past
 line_at_fault id why.NeverStarts past = last_line is_table past
 line_at_fault id why.NoStage past = None
+line_at_fault id why.RanBefore past = later (last_of born_in id past) (last_of unborn_in id past)
+line_at_fault id why.StageOver past = last_line is_entering past
+line_at_fault id (why.StageOwed awaited) past = later (last_of born_in awaited past) (last_line is_entering past)
 line_at_fault id why.OtherStage past = last_line is_entering past
 line_at_fault id (why.ChildKept number) past = later (last_of born_in id past) (last_of reaped_in id past)
 line_at_fault id (why.OrderOpen asked) past = last_of ordered_in id past

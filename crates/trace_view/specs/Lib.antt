@@ -1,6 +1,7 @@
+pub mod Births
 pub mod LastLines
-pub mod LinedViews
 pub mod Rows
+pub mod SeenTexts
 pub mod Shown
 pub mod Viewing
 pub mod Views

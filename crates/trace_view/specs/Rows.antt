@@ -1,5 +1,5 @@
 -- What is told of an id: its action, why it isn't started next, its child, and how it last ended.
-use Rattle.std.specs.Prelude.{ℕ, ◌+◌, ◌-◌, ◌^◌, min, Bool, if◌then◌else◌, false, List, [], ◌∷◌, map, filter, Option, Some, None, is_none}
+use Rattle.std.specs.Prelude.{ℕ, Bool, if◌then◌else◌, false, List, [], ◌∷◌, map, filter, Option, Some, None, is_none}
 use Rattle.std.specs.Option.{option_map, option_map_or}
 use Rattle.init_words.specs.declared.entries.Entry.{Entry}
 use Rattle.init_words.specs.declared.children.Status.{Status}
@@ -14,21 +14,10 @@ use Rattle.trace_events.specs.Wanted.{is_excluded}
 use Rattle.trace_events.specs.Due.{is_settled}
 use Rattle.trace_check.specs.Reading.{child_of, term_of}
 use Rattle.trace_view.specs.declared.rows.Births.{Births}
+use Rattle.trace_view.specs.Births.{births_of, one_more}
 use Rattle.trace_view.specs.declared.rows.Ending.{Ending}
 use Rattle.trace_view.specs.declared.rows.Row.{Row}
 use Rattle.trace_view.specs.Why.{number_of, why}
-
--- one birth more at this time, counted as far as numbers go
-abbrev pub one_more : ℕ → Option Births → Births
-one_more time None = record { count = 1; latest = time }
-one_more time (Some births) = record { count = min (births.count + 1) (2 ^ 64 - 1); latest = time }
-
--- how often children of the id were born, and when the latest was
-abbrev pub births_of : List ℕ → List Event → Option Births
-births_of id [] = None
-births_of id (Birth i number ∷ past) =
-    if same_id id i then Some (one_more (time_of past) (births_of id past)) else births_of id past
-births_of id (_ ∷ past) = births_of id past
 
 -- how the id last ended, and when: a start that failed, or the status with which its child was reaped
 abbrev pub ended_at : ℕ → Option Status → Option Ending

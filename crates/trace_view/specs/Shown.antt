@@ -1,16 +1,17 @@
 -- The trace that a view shows of a text: all of it, or what stands before the first happening that breaks a law, or before
--- the first line that begins none.
-use Rattle.std.specs.Prelude.{◌≡◌, ℕ, ◌+◌, true, List, [], ◌∷◌, ◌++◌, reverse, Option, Some, None}
+-- the first line that begins none; and nothing of a text that begins within a run.
+use Rattle.std.specs.Prelude.{◌≡◌, ℕ, ◌+◌, Bool, true, false, List, [], ◌∷◌, ◌++◌, reverse, Option, Some, None}
 use Rattle.text_lines.specs.Lines.{newlines}
 use Rattle.trace_events.specs.Event.{Event}
 use Rattle.trace_events.specs.Lawful.{broken}
 use Rattle.trace_events.specs.Range.{are_in_range}
 use Rattle.trace_check.specs.declared.laws.Law.{Law}
 use Rattle.trace_check.specs.Laws.{law_number}
-use Rattle.trace_text.specs.Lines.{trace_text}
+use Rattle.trace_text.specs.Lines.{event_text, trace_text}
 use Rattle.trace_verdict.specs.Fronts.{IsFront, IsTorn}
+use Rattle.trace_view.specs.LastLines.{is_table}
 use Rattle.trace_view.specs.declared.text_views.Stop.{Stop}
-use Rattle.trace_view.specs.declared.text_views.Stop.TheVariants.{Breach, Torn}
+use Rattle.trace_view.specs.declared.text_views.Stop.TheVariants.{Breach, Torn, Within}
 
 -- behind the trace stands a happening, at the line of this number from 1, that breaks this law and no lesser one
 pub record IsBefore (trace : List Event) (law : Law) (line : ℕ) (text : List ℕ) : Type 0 where
@@ -25,8 +26,28 @@ pub record IsBefore (trace : List Event) (law : Law) (line : ℕ) (text : List �
 abbrev pub IsUpTo : List Event → ℕ → List ℕ → Type 0
 IsUpTo trace number text = (torn : IsTorn text number) × (torn.trace ≡ trace)
 
+-- the text begins within a run: its first happening reads no inittab
+pub record BeginsWithin (text : List ℕ) : Type 0 where
+  pub happening : Event
+  pub rest : List ℕ
+  pub whole : event_text happening ++ rest ≡ text
+  pub other : is_table happening ≡ false
+
+-- a trace is none, or begins with a run
+abbrev pub begins_run : List Event → Bool
+begins_run [] = true
+begins_run (happening ∷ trace) = is_table happening
+
+-- why a view that has seen this trace goes no further in the text
+abbrev pub StopsAt : Stop → List Event → List ℕ → Type 0
+StopsAt (Breach law line) trace text = IsBefore trace law line text
+StopsAt (Torn number) trace text = IsUpTo trace number text
+StopsAt Within trace text = (trace ≡ []) × BeginsWithin text
+
+abbrev pub ShownBy : Option Stop → Option ℕ → List Event → List ℕ → Type 0
+ShownBy None left trace text = IsFront trace left text
+ShownBy (Some stop) left trace text = StopsAt stop trace text × (left ≡ None)
+
 -- what a view shows of a text, by why it goes no further and by the line at which a happening isn't finished
 abbrev pub IsShown : List ℕ → Option Stop → Option ℕ → List Event → Type 0
-IsShown text None left trace = IsFront trace left text
-IsShown text (Some (Breach law line)) left trace = IsBefore trace law line text × (left ≡ None)
-IsShown text (Some (Torn number)) left trace = IsUpTo trace number text × (left ≡ None)
+IsShown text stop left trace = (begins_run trace ≡ true) × ShownBy stop left trace text

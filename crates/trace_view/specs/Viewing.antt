@@ -13,7 +13,8 @@ use Rattle.trace_view.specs.declared.wishes.Wishes.{Wishes}
 use Rattle.trace_view.specs.declared.rows.Births.{Births}
 use Rattle.trace_view.specs.declared.rows.Ending.{Ending}
 use Rattle.trace_check.specs.State.{at}
-use Rattle.trace_view.specs.Rows.{births_of, ended_of}
+use Rattle.trace_view.specs.Births.{births_of}
+use Rattle.trace_view.specs.Rows.{ended_of}
 use Rattle.trace_view.specs.Wishes.{wishes_of, no_wishes}
 
 -- the judge, the unreaped and the kept children, the youngest first, the wishes, how often each id's children were

@@ -1,5 +1,5 @@
 -- A view of a text that comes in pieces, and the texts that it has taken.
-use Rattle.std.specs.Prelude.{◌≡◌, ℕ, true, List, [], ◌∷◌, ◌++◌, reverse, Option, Some, None}
+use Rattle.std.specs.Prelude.{◌≡◌, ◌==◌, ◌||◌, ℕ, Bool, true, false, not, List, [], ◌∷◌, ◌++◌, reverse, Option, Some, None}
 use Rattle.text_lines.specs.Lines.{newlines}
 use Rattle.trace_events.specs.Event.{Event}
 use Rattle.trace_events.specs.Lawful.{broken}
@@ -10,8 +10,9 @@ use Rattle.trace_verdict.specs.Fronts.{is_open}
 use Rattle.trace_verdict.specs.Readers.{Reading}
 use Rattle.trace_view.specs.Viewing.{ViewState, Viewed}
 use Rattle.trace_view.specs.declared.text_views.Stop.{Stop}
-use Rattle.trace_view.specs.declared.text_views.Stop.TheVariants.{Breach, Torn}
-use Rattle.trace_view.specs.Shown.{IsBefore, IsUpTo}
+use Rattle.trace_view.specs.declared.text_views.Stop.TheVariants.{Breach, Torn, Within}
+use Rattle.trace_view.specs.LastLines.{is_table}
+use Rattle.trace_view.specs.Shown.{StopsAt, begins_run}
 
 -- what it has not read, and how many lines it has read; the view of the trace; and why it goes no further
 pub record TextState : Type 0 where
@@ -24,12 +25,14 @@ pub record HasSeen (reading : Reading) (viewing : ViewState) (trace : List Event
   pub are : are_in_range trace ≡ true
   pub whole : trace_text trace ++ reading.over ≡ text
   pub lines : reading.lines ≡ newlines (trace_text trace)
+  pub begins : begins_run trace ≡ true
   pub seen : Viewed viewing (reverse trace)
 
 -- it goes no further in the text, and has seen this trace, which stands before
-abbrev pub StopsBy : Stop → ViewState → List Event → List ℕ → Type 0
-StopsBy (Breach law line) viewing trace text = IsBefore trace law line text × Viewed viewing (reverse trace)
-StopsBy (Torn number) viewing trace text = IsUpTo trace number text × Viewed viewing (reverse trace)
+pub record StopsBy (stop : Stop) (viewing : ViewState) (trace : List Event) (text : List ℕ) : Type 0 where
+  pub begins : begins_run trace ≡ true
+  pub stops : StopsAt stop trace text
+  pub seen : Viewed viewing (reverse trace)
 
 -- it is at work on the text, of which it has seen this trace
 abbrev pub AtBy : Option Stop → TextState → List Event → List ℕ → Type 0
@@ -47,21 +50,23 @@ TakenBy (Some stop) state trace text = StopsBy stop state.viewing trace text
 abbrev pub HasShown : TextState → List Event → List ℕ → Type 0
 HasShown state trace text = TakenBy state.stop state trace text
 
--- it has taken the text
-abbrev pub HasTaken : TextState → List ℕ → Type 0
-HasTaken state text = (trace : List Event) × HasShown state trace text
-
 -- it goes on with the text, and has seen this happening more; or has taken the text
 abbrev pub ViewGoesOn : Option Event → TextState → TextState → List Event → List ℕ → Type 0
 ViewGoesOn (Some happening) old new trace text = IsAt old trace text → IsAt new (trace ++ happening ∷ []) text
 ViewGoesOn None old new trace text = IsAt old trace text → HasShown new trace text
 
+-- a run may have the happening at this line: it begins with an inittab that is read
+abbrev pub may_be : ℕ → Event → Bool
+may_be line happening = not (line == 1) || is_table happening
+
 -- what a happening at this line makes of a view
 abbrev pub SeesStop : Option Stop → ViewState → ViewState → Event → ℕ → Type 0
-SeesStop None old new happening line = (past : List Event) → Viewed old past → Viewed new (happening ∷ past)
+SeesStop None old new happening line =
+    (may_be line happening ≡ true) × ((past : List Event) → Viewed old past → Viewed new (happening ∷ past))
 SeesStop (Some (Breach law at)) old new happening line = (new ≡ old) × (at ≡ line)
     × ((past : List Event) → Viewed old past → broken happening past ≡ Some (law_number law))
 SeesStop (Some (Torn number)) old new happening line = ⊥
+SeesStop (Some Within) old new happening line = (new ≡ old) × (may_be line happening ≡ false)
 
 -- the happening, where it is seen: nothing stops the view there
 abbrev pub seen_by : Option Stop → Event → Option Event

@@ -1,11 +1,12 @@
 -- Why an entry's start is not due: the first reason that keeps it (init(8)).
-use Rattle.std.specs.Prelude.{ℕ, Bool, true, false, not, ◌&&◌, if◌then◌else◌, List, find, Option, Some, None}
+use Rattle.std.specs.Prelude.{ℕ, Bool, true, false, not, ◌&&◌, if◌then◌else◌, List, find, Option, Some, None, is_some}
 use Rattle.std.specs.Option.{option_map, option_map_or}
 use Rattle.init_words.specs.declared.actions.Act.{Act}
 use Rattle.init_words.specs.declared.entries.Entry.{Entry}
 use Rattle.init_words.specs.declared.orders.OrderKind.{OrderKind}
 use Rattle.init_words.specs.declared.stages.Stage.{Stage}
-use Rattle.init_words.specs.Actions.{wanted_by, is_limited}
+use Rattle.init_words.specs.declared.stages.Stage.TheVariants.{Sysinit, Boot, Run}
+use Rattle.init_words.specs.Actions.{wanted_by, ignores_levels, is_limited}
 use Rattle.inittab_text.specs.Tables.{entry_of}
 use Rattle.trace_events.specs.Event.{Event}
 use Rattle.trace_events.specs.Past.{table_of, stage_of, Child, is_of, kept_children, open_of}
@@ -16,12 +17,24 @@ use Rattle.trace_view.specs.declared.standings.Excluded.{Excluded}
 use Rattle.trace_view.specs.declared.standings.Standing.{Standing}
 use Rattle.trace_view.specs.declared.wishes.Wish.{Wish}
 use Rattle.trace_view.specs.declared.whys.Why.{Why}
-use Rattle.trace_view.specs.declared.whys.Why.TheVariants.{NoEntry, NeverStarts, NoStage, OtherStage, ChildKept, OrderOpen, NotCalled, WasStarted, EarlierOwed, ExcludedKept, WishStands, Held, WindowFull, Nothing}
+use Rattle.trace_view.specs.declared.whys.Why.TheVariants.{NoEntry, NeverStarts, NoStage, RanBefore, StageOver, StageOwed, OtherStage, ChildKept, OrderOpen, NotCalled, WasStarted, EarlierOwed, ExcludedKept, WishStands, Held, WindowFull, Nothing}
+use Rattle.trace_view.specs.Births.{births_of}
 use Rattle.trace_view.specs.Wishes.{first_wish}
 
 -- how an entry stands: each thing that can keep its start back
 abbrev pub first_owed : List ℕ → List Event → Option Entry
 first_owed id past = find (λ e. is_owed e past) (entries_before id (table_of past))
+
+-- the first entry of all that init waits for
+abbrev pub first_awaited : List Event → Option Entry
+first_awaited past = find (λ e. is_owed e past) (table_of past)
+
+abbrev pub entry_id : Entry → List ℕ
+entry_id e = e.id
+
+-- its kept child may not live in the stage in force
+abbrev pub stops_now : List ℕ → List Event → Bool
+stops_now id past = option_map_or (is_excluded past) (find (is_of id) (kept_children past)) false
 
 abbrev pub number_of : Child → ℕ
 number_of child = child.number
@@ -33,27 +46,49 @@ abbrev pub standing_of : Entry → List Event → Standing
 standing_of e past = record {
   starts = starts_now e past;
   child = option_map number_of (find (is_of e.id) (kept_children past));
+  stops = stops_now e.id past;
+  ran = is_some (births_of e.id past);
+  awaited = option_map entry_id (first_awaited past);
   order = open_of e.id past;
   wanted = is_wanted e past;
-  owed = option_map (λ (earlier : Entry). earlier.id) (first_owed e.id past);
+  owed = option_map entry_id (first_owed e.id past);
   excluded = option_map excluded_as (find (is_excluded past) (kept_children past));
   wish = first_wish past;
   hold = if is_limited e.act && is_held e.id past then newest (hold_times e.id past) else None;
   full = is_limited e.act && is_full e.id past;
 }
 
--- it doesn't start in the stage: its action is never started, no stage has begun, or it names other levels
-abbrev pub not_here : Act → Option Stage → Why
-not_here action None = NoStage
-not_here action (Some stage) = if wanted_by action true true true then OtherStage else NeverStarts
+abbrev pub by_child : Option ℕ → Why → Why
+by_child (Some number) later = ChildKept number
+by_child None later = later
+
+-- its action starts it in a stage that is over
+abbrev pub is_past : Act → Stage → Bool
+is_past action Sysinit = false
+is_past action _ = ignores_levels action
+
+-- of an entry whose stage is to come: before the first level init waits for an entry
+abbrev pub by_awaited : Stage → Option (List ℕ) → Why
+by_awaited (Run level) awaited = OtherStage
+by_awaited _ (Some id) = StageOwed id
+by_awaited _ None = OtherStage
+
+abbrev pub elsewhere : Act → Stage → Standing → Why
+elsewhere action stage s =
+    if is_past action stage then (if s.ran then RanBefore else StageOver) else by_awaited stage s.awaited
+
+-- it doesn't start in the stage: its action is never started, no stage has begun, it has a child that lives on, or its
+-- stage is another
+abbrev pub not_here : Act → Option Stage → Standing → Why
+not_here action None s = NoStage
+not_here action (Some stage) s =
+    if not (wanted_by action true true true) then NeverStarts
+    else if s.stops then elsewhere action stage s
+    else by_child s.child (elsewhere action stage s)
 
 -- it starts in the stage, and nothing of it runs, but its action doesn't ask for it
 abbrev pub not_wanted : Act → Why
 not_wanted action = if wanted_by action true true false then WasStarted else NotCalled
-
-abbrev pub by_child : Option ℕ → Why → Why
-by_child (Some number) later = ChildKept number
-by_child None later = later
 
 abbrev pub by_order : Option OrderKind → Why → Why
 by_order (Some ask) later = OrderOpen ask
@@ -78,7 +113,7 @@ by_hold None later = later
 -- the first reason of these that is there
 abbrev pub why_by : Act → Option Stage → Standing → Why
 why_by action stage s =
-    if not s.starts then not_here action stage
+    if not s.starts then not_here action stage s
     else by_child s.child
     (by_order s.order
     (if not s.wanted then not_wanted action

@@ -1,6 +1,7 @@
 -- The wishes, as a view keeps them, and which of them is carried out first (telinit(8), initreq.h).
 use Rattle.std.specs.Prelude.{Bool, true, false, not, ◌&&◌, ◌||◌, if◌then◌else◌, List, Option, Some, None}
 use Rattle.init_words.specs.declared.levels.Letter.{Letter}
+use Rattle.init_words.specs.declared.levels.Level.{Level}
 use Rattle.init_words.specs.declared.levels.Letter.TheVariants as letter
 use Rattle.init_words.specs.declared.orders.PowerKind.{PowerKind}
 use Rattle.init_words.specs.declared.orders.PowerKind.TheVariants as power
@@ -29,6 +30,14 @@ first_of reexec reread level news =
 abbrev pub first_wish : List Event → Option Wish
 first_wish past =
     first_of (wants_reexec past) (wants_reread past) (level_wish past) (in_run (stage_of past) && keeps_news past)
+
+-- the level that is asked for and not yet entered
+abbrev pub unless_here : Option Stage → Option Goal → Option Level
+unless_here stage None = None
+unless_here stage (Some heard) = if is_level heard.level stage then None else Some heard.level
+
+abbrev pub asked_level : List Event → Option Level
+asked_level past = unless_here (stage_of past) (heard_level past)
 
 -- the wishes as the past has them
 abbrev pub wishes_of : List Event → Wishes

@@ -5,8 +5,10 @@ ghost use Rattle.trace_events.specs.Event.{Event};
 ghost use Rattle.trace_events.specs.Past.{stage_of};
 ghost use Rattle.trace_events.specs.Wishes.{is_level};
 ghost use Rattle.trace_check.specs.State.{at};
-ghost use Rattle.trace_view.specs.LastLines.{Lined, born_in, held_in, is_entering, is_goal, is_news, is_reexec, is_reread, is_table, kinds_after, later, line_after, line_at_fault, line_behind, names, no_kinds, ordered_in, reaped_in, unborn_in, wish_line};
+ghost use Rattle.trace_view.specs.LastLines.{Lined, born_in, held_in, is_entering, is_goal, is_news, is_reexec, is_reread, is_table, kinds_after, last_line, last_of, later, line_after, line_at_fault, line_behind, names, no_kinds, ordered_in, reaped_in, unborn_in, wish_line};
 
+use crate::seen_texts::Sees;
+use crate::views::TraceView;
 use crate::whys::Why;
 use crate::wishes::Wish;
 use indexmap::IndexMap;
@@ -73,7 +75,7 @@ impl<A: Allocator> Model for LastLines<A> {
     } };
 }
 
-fn is_table<B: Allocator>(happening: &HappeningIn<B>) -> bool
+pub(crate) fn is_table<B: Allocator>(happening: &HappeningIn<B>) -> bool
     ensures { result ≡ is_table happening.now }
 {
     matches!(happening, Happening::NewTable(_))
@@ -261,7 +263,7 @@ impl<A: Allocator + Copy> LastLines<A> {
 
     /// Takes the next happening, which begins at this line, where the stage was in force before it. Where memory runs out
     /// a part of it may be taken, and the lines are of no more use.
-    pub fn take<B: Allocator>(
+    fn take<B: Allocator>(
         &mut self,
         stage: Option<Stage>,
         line: u64,
@@ -281,11 +283,50 @@ impl<A: Allocator + Copy> LastLines<A> {
 }
 
 impl<A: Allocator> LastLines<A> {
+    /// The line of the last birth of a child of an id.
+    fn birth(&self, id: &Id) -> Option<u64>
+        ensures { (past : List Event) → Lined self.now past → result ≡ last_of born_in id.now past }
+    {
+        line_of(&self.births, id)
+    }
+
     /// The line of the last start of an id, also of one that failed.
     fn start(&self, id: &Id) -> Option<u64>
-        ensures { result ≡ later (at id.now self.now.births) (at id.now self.now.failures) }
+        ensures { (past : List Event) → Lined self.now past
+            → result ≡ later (last_of born_in id.now past) (last_of unborn_in id.now past) }
     {
-        later(line_of(&self.births, id), line_of(&self.failures, id))
+        later(self.birth(id), line_of(&self.failures, id))
+    }
+
+    /// The line of the last birth of a child of an id, or of its end, where that is later.
+    fn child(&self, id: &Id) -> Option<u64>
+        ensures { (past : List Event) → Lined self.now past
+            → result ≡ later (last_of born_in id.now past) (last_of reaped_in id.now past) }
+    {
+        later(self.birth(id), line_of(&self.reapings, id))
+    }
+
+    /// Since when init waits for an id.
+    fn awaited(&self, id: &Id) -> Option<u64>
+        ensures { (past : List Event) → Lined self.now past
+            → result ≡ later (last_of born_in id.now past) (last_line is_entering past) }
+    {
+        later(self.birth(id), self.kinds.entering)
+    }
+
+    /// The line of the last order about an id.
+    fn order(&self, id: &Id) -> Option<u64>
+        ensures { (past : List Event) → Lined self.now past
+            → result ≡ last_of ordered_in id.now past }
+    {
+        line_of(&self.orders, id)
+    }
+
+    /// The line of the last hold of an id.
+    fn hold(&self, id: &Id) -> Option<u64>
+        ensures { (past : List Event) → Lined self.now past → result ≡ last_of held_in id.now past }
+    {
+        line_of(&self.holds, id)
     }
 
     /// The line of a request that stands.
@@ -309,19 +350,34 @@ impl<A: Allocator> LastLines<A> {
             Why::NoEntry => self.kinds.table,
             Why::NeverStarts => self.kinds.table,
             Why::NoStage => None,
+            Why::RanBefore => self.start(id),
+            Why::StageOver => self.kinds.entering,
+            Why::StageOwed(awaited) => self.awaited(&awaited),
             Why::OtherStage => self.kinds.entering,
-            Why::ChildKept(_) => later(line_of(&self.births, id), line_of(&self.reapings, id)),
-            Why::OrderOpen(_) => line_of(&self.orders, id),
+            Why::ChildKept(_) => self.child(id),
+            Why::OrderOpen(_) => self.order(id),
             Why::NotCalled => later(self.kinds.entering, self.kinds.table),
             Why::WasStarted => self.start(id),
-            Why::EarlierOwed(earlier) => {
-                later(line_of(&self.births, &earlier), self.kinds.entering)
-            }
-            Why::ExcludedKept(child) => line_of(&self.births, &child.id),
+            Why::EarlierOwed(earlier) => self.awaited(&earlier),
+            Why::ExcludedKept(child) => self.birth(&child.id),
             Why::WishStands(wish) => self.wish(wish),
-            Why::Held(_) => line_of(&self.holds, id),
+            Why::Held(_) => self.hold(id),
             Why::WindowFull => self.start(id),
             Why::Nothing => None,
         }
+    }
+}
+
+impl<A: Allocator + Copy> Sees<A> for LastLines<A> {
+    ghost has_seen = { Lined };
+
+    fn see(
+        &mut self,
+        _view: &TraceView<A>,
+        stage: Option<Stage>,
+        line: u64,
+        happening: &HappeningIn<A>,
+    ) -> Result<(), Memory> {
+        self.take(stage, line, happening)
     }
 }

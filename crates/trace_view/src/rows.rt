@@ -2,7 +2,8 @@
 
 ghost use Rattle.std.specs.Prelude.{◌≡◌, ℕ, List, [], OnOk};
 ghost use Rattle.trace_check.specs.State.{at};
-ghost use Rattle.trace_view.specs.Rows.{born_after, ended_after, one_more};
+ghost use Rattle.trace_view.specs.Births.{one_more};
+ghost use Rattle.trace_view.specs.Rows.{born_after, ended_after};
 
 use crate::whys::Why;
 use indexmap::IndexMap;

@@ -17,6 +17,12 @@ pub struct Standing {
     pub starts: bool,
     /// Its child whose end was not told.
     pub child: Option<ChildNumber>,
+    /// That child may not live in the stage in force.
+    pub stops: bool,
+    /// A child of it was born.
+    pub ran: bool,
+    /// The first entry of all that init waits for.
+    pub awaited: Option<Id>,
     /// Its open order.
     pub order: Option<OrderKind>,
     /// Its action asks for a start.

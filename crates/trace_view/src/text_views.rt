@@ -8,8 +8,9 @@ ghost use Rattle.trace_verdict.specs.Readers.{capped};
 ghost use Rattle.trace_check.specs.Laws.{law_number};
 ghost use Rattle.trace_view.specs.Viewing.{SeesNext, Viewed};
 ghost use Rattle.trace_view.specs.Shown.{IsShown};
-ghost use Rattle.trace_view.specs.Views.{ViewGoesOn, HasShown, HasTaken, IsAt, SeesStop, left_of, seen_by};
+ghost use Rattle.trace_view.specs.Views.{ViewGoesOn, HasShown, IsAt, SeesStop, left_of, may_be, seen_by};
 
+use crate::last_lines::is_table;
 use crate::views::TraceView;
 use init_words::Memory;
 use std::alloc::{Allocator, Global};
@@ -26,12 +27,14 @@ pub enum Stop {
     Breach(Law, u64),
     /// The line of this number, from 1, begins no happening.
     Torn(u64),
+    /// The first happening reads no inittab: the text begins within a run.
+    Within,
 }
 
 /// A view of the text of a trace that comes in pieces, cut anywhere. It goes on up to the first happening that breaks a
-/// law, and the first line that begins none.
+/// law, and the first line that begins none; and sees nothing of a text that begins within a run.
 ///
-/// A contract sees of it which texts it has taken (`HasTaken`).
+/// A contract sees of it which texts it has taken (`HasShown`).
 #[derive(Drop)]
 pub struct TextView<A: Allocator = Global> {
     reader: TextReader<A>,
@@ -47,6 +50,13 @@ impl<A: Allocator> Model for TextView<A> {
     ghost view = { λ v. record { reading = v.reader; viewing = v.view; stop = v.stop } };
 }
 
+/// A run may have the happening at this line: it begins with an inittab that is read.
+fn may_be<B: Allocator>(line: u64, happening: &HappeningIn<B>) -> bool
+    ensures { result ≡ may_be line happening.now }
+{
+    line != 1 || is_table(happening)
+}
+
 /// Shows a view the next happening, at this line.
 fn see_next<A: Allocator + Copy, B: Allocator>(
     view: &mut TraceView<A>,
@@ -55,6 +65,9 @@ fn see_next<A: Allocator + Copy, B: Allocator>(
 ) -> Result<Option<Stop>, Memory>
     ensures { IfOk result (λ stop. SeesStop stop view.old view.new happening.now line) }
 {
+    if !may_be(line, happening) {
+        return Ok(Some(Stop::Within));
+    }
     match view.take(happening)? {
         Some(law) => Ok(Some(Stop::Breach(law, line))),
         None => Ok(None),
@@ -74,8 +87,7 @@ fn seen_by<A: Allocator>(stop: Option<Stop>, happening: HappeningIn<A>) -> Optio
 impl<A: Allocator + Copy> TextView<A> {
     /// A view that has taken nothing. It takes no memory.
     pub fn new(alloc: A) -> TextView<A>
-        ensures taken { HasTaken result [] }
-        ensures shown { HasShown result [] [] }
+        ensures { HasShown result [] [] }
     {
         TextView {
             reader: TextReader::new(alloc),
@@ -131,20 +143,12 @@ impl<A: Allocator + Copy> TextView<A> {
         self.reader.lines()
     }
 
-    /// Takes the next piece of the text, and sees all happenings of it that are whole. Where memory runs out a part of it
-    /// may be taken, and the view is of no more use.
-    pub fn take(&mut self, piece: &[u8]) -> Result<(), Memory>
-        ensures { OnOk result ((text : List ℕ) → length (text ++ piece.now) < 2 ^ 64
-            → HasTaken self.old text → HasTaken self.new (text ++ piece.now)) }
-    {
-        self.feed(piece)?;
-        while self.next()?.is_some() {}
-        Ok(())
-    }
-
-    /// Shows the view a happening that the text doesn't have: what comes of what was seen. Gives the least law that it
-    /// breaks; one that breaks a law isn't shown. Where memory runs out the view is of no more use.
-    pub fn show<B: Allocator>(&mut self, happening: &HappeningIn<B>) -> Result<Option<Law>, Memory>
+    /// Shows the view a happening that the text doesn't have. Gives the least law that it breaks; one that breaks a law
+    /// isn't shown. Where memory runs out the view is of no more use.
+    pub(crate) fn show<B: Allocator>(
+        &mut self,
+        happening: &HappeningIn<B>,
+    ) -> Result<Option<Law>, Memory>
         ensures law { IfOk result (λ law. (past : List Event) → Viewed self.old.viewing past
             → option_map law_number law ≡ broken happening.now past) }
         ensures next { IfOk result (λ law.

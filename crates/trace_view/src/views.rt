@@ -1,17 +1,19 @@
 //! A view of a trace.
 
 ghost use Rattle.std.specs.Prelude.{◌≡◌, ◌&&◌, if◌then◌else◌, true, List, Some, None, option_map, option_copied, IfOk};
+ghost use Rattle.std.specs.Option.{option_or};
+ghost use Rattle.init_words.specs.declared.orders.OrderKind.TheVariants.{Start};
 ghost use Rattle.init_words.specs.declared.entries.Entry.{Entry};
 ghost use Rattle.trace_events.specs.Event.{Event};
 ghost use Rattle.trace_events.specs.Past.{table_of, stage_of, grace_of, time_of, unreaped_children};
 ghost use Rattle.trace_events.specs.Lawful.{broken};
-ghost use Rattle.trace_events.specs.Wanted.{starts_in};
+ghost use Rattle.trace_events.specs.Wanted.{is_order, is_owed, starts_in};
 ghost use Rattle.inittab_text.specs.Tables.{entry_of, is_distinct};
 ghost use Rattle.trace_check.specs.Laws.{law_number};
 ghost use Rattle.trace_view.specs.Viewing.{unviewed, Viewed, SeesNext};
-ghost use Rattle.trace_view.specs.Why.{standing_of, why};
+ghost use Rattle.trace_view.specs.Why.{entry_id, first_awaited, standing_of, stops_now, why};
 ghost use Rattle.trace_view.specs.Rows.{row_of, gone_ids, is_settled_now, settled_in};
-ghost use Rattle.trace_view.specs.Wishes.{first_wish};
+ghost use Rattle.trace_view.specs.Wishes.{asked_level, first_wish};
 
 use crate::children::{
     BornChild, child_of_id, excluded_of, excludes, gone_of, number_of_id, take_kept, take_unreaped,
@@ -20,7 +22,7 @@ use crate::rows::{Births, ById, Ending, Row, birth_of, end_of, nothing, take_bir
 use crate::standings::Standing;
 use crate::whys::{Why, why_by};
 use crate::wishes::{Wish, Wishes};
-use init_words::{Act, Entry, Id, Memory, Stage, starts};
+use init_words::{Act, Entry, Id, Level, Memory, OrderKind, Stage, starts};
 use inittab_text::Table;
 use std::alloc::{Allocator, Global};
 use std::marker::Model;
@@ -67,7 +69,7 @@ fn starts_in(entry: &Entry, stage: Option<Stage>) -> bool
 }
 
 fn id_of(entry: Option<&Entry>) -> Option<Id>
-    ensures { result ≡ option_map (λ (e : Entry). e.id) (option_copied entry.entry) }
+    ensures { result ≡ option_map entry_id (option_copied entry.entry) }
 {
     match entry {
         Some(entry) => Some(entry.id),
@@ -80,6 +82,27 @@ fn act_in(entry: Option<&Entry>) -> Option<Act>
 {
     match entry {
         Some(entry) => Some(entry.act),
+        None => None,
+    }
+}
+
+/// The order is a start.
+fn is_start(order: Option<OrderKind>) -> bool
+    ensures { result ≡ is_order Start order }
+{
+    match order {
+        Some(OrderKind::Start) => true,
+        _ => false,
+    }
+}
+
+/// The first id; else the other one, where it is so.
+fn id_or(first: Option<Id>, so: bool, other: Id) -> Option<Id>
+    ensures { result ≡ option_or first (if so then Some other else None) }
+{
+    match first {
+        Some(id) => Some(id),
+        None if so => Some(other),
         None => None,
     }
 }
@@ -163,6 +186,9 @@ impl<A: Allocator> TraceView<A> {
         Standing {
             starts: starts_in(entry, stage),
             child: number_of_id(kept, id),
+            stops: excludes(child_of_id(kept, id), table, stage),
+            ran: birth_of(&self.births, &id).is_some(),
+            awaited: self.awaited(),
             order: self.judge.order(&id),
             wanted: self.judge.is_wanted(entry),
             owed: id_of(self.judge.first_owed(&id)),
@@ -170,6 +196,33 @@ impl<A: Allocator> TraceView<A> {
             wish: self.wishes.first(stage),
             hold: only_if(holds, since),
             full: fills,
+        }
+    }
+
+    /// Init waits for an entry of the table in force.
+    fn owes(&self, entry: &Entry) -> bool
+        ensures { (past : List Event) → Viewed self.now past
+            → entry_of entry.now.id (table_of past) ≡ Some entry.now
+            → result ≡ is_owed entry.now past }
+    {
+        let waited = entry.act.is_waited();
+        let kept = number_of_id(self.kept.as_slice(), entry.id).is_some();
+        let starting = is_start(self.judge.order(&entry.id));
+        let wanted = self.judge.is_wanted(entry);
+        waited && (kept || starting || wanted)
+    }
+
+    /// The first entry of all that init waits for.
+    fn awaited(&self) -> Option<Id>
+        ensures { (past : List Event) → Viewed self.now past
+            → result ≡ option_map entry_id (first_awaited past) }
+    {
+        match self.judge.table().entries().split_last() {
+            Some((last, _front)) => {
+                let before = id_of(self.judge.first_owed(&last.id));
+                id_or(before, self.owes(last), last.id)
+            }
+            None => None,
         }
     }
 
@@ -238,6 +291,13 @@ impl<A: Allocator> TraceView<A> {
         ensures { (past : List Event) → Viewed self.now past → result ≡ first_wish past }
     {
         self.wishes.first(self.judge.stage())
+    }
+
+    /// The level that is asked for and not yet entered.
+    pub fn asked_level(&self) -> Option<Level>
+        ensures { (past : List Event) → Viewed self.now past → result ≡ asked_level past }
+    {
+        self.wishes.asked(self.judge.stage())
     }
 
     /// The stage in force is a runlevel, and settled.

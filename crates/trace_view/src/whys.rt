@@ -1,7 +1,7 @@
 //! Why an entry isn't started next.
 
 ghost use Rattle.std.specs.Prelude.{◌≡◌};
-ghost use Rattle.trace_view.specs.Why.{not_here, not_wanted, why_by};
+ghost use Rattle.trace_view.specs.Why.{by_awaited, elsewhere, is_past, not_here, not_wanted, why_by};
 
 use crate::standings::{Excluded, Standing};
 use crate::wishes::Wish;
@@ -16,6 +16,12 @@ pub enum Why {
     NeverStarts,
     /// No stage has begun.
     NoStage,
+    /// Its stage is over, and it ran.
+    RanBefore,
+    /// Its stage is over, and it never ran.
+    StageOver,
+    /// Its stage is to come, and init waits for an entry.
+    StageOwed(Id),
     /// It names other levels than the one in force, or belongs to another stage.
     OtherStage,
     /// A child of it was not told to have ended.
@@ -40,17 +46,55 @@ pub enum Why {
     Nothing,
 }
 
-/// Why an entry that doesn't start in the stage doesn't.
-fn not_here(act: Act, stage: Option<Stage>) -> Why
-    ensures { result ≡ not_here act stage }
+/// The action starts its entries in a stage that is over.
+fn is_past(act: Act, stage: Stage) -> bool
+    ensures { result ≡ is_past act stage }
 {
-    if stage.is_none() {
-        return Why::NoStage;
+    match stage {
+        Stage::Sysinit => false,
+        Stage::Boot => act.ignores_levels(),
+        Stage::Run(_) => act.ignores_levels(),
     }
-    if act.is_wanted(true, true, true) {
-        Why::OtherStage
+}
+
+/// Why an entry whose stage is to come isn't started.
+fn by_awaited(stage: Stage, awaited: Option<Id>) -> Why
+    ensures { result ≡ by_awaited stage awaited }
+{
+    match (stage, awaited) {
+        (Stage::Run(_), _) => Why::OtherStage,
+        (_, Some(id)) => Why::StageOwed(id),
+        (_, None) => Why::OtherStage,
+    }
+}
+
+/// Why an entry of another stage isn't started.
+fn elsewhere(act: Act, stage: Stage, standing: &Standing) -> Why
+    ensures { result ≡ elsewhere act stage standing.now }
+{
+    if !is_past(act, stage) {
+        return by_awaited(stage, standing.awaited);
+    }
+    if standing.ran {
+        Why::RanBefore
     } else {
-        Why::NeverStarts
+        Why::StageOver
+    }
+}
+
+/// Why an entry that doesn't start in the stage doesn't.
+fn not_here(act: Act, stage: Option<Stage>, standing: &Standing) -> Why
+    ensures { result ≡ not_here act stage standing.now }
+{
+    let Some(stage) = stage else {
+        return Why::NoStage;
+    };
+    if !act.is_wanted(true, true, true) {
+        return Why::NeverStarts;
+    }
+    match standing.child {
+        Some(child) if !standing.stops => Why::ChildKept(child),
+        _ => elsewhere(act, stage, standing),
     }
 }
 
@@ -70,7 +114,7 @@ pub fn why_by(act: Act, stage: Option<Stage>, standing: &Standing) -> Why
     ensures { result ≡ why_by act stage standing.now }
 {
     if !standing.starts {
-        return not_here(act, stage);
+        return not_here(act, stage, standing);
     }
     if let Some(child) = standing.child {
         return Why::ChildKept(child);

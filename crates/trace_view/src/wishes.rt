@@ -2,7 +2,7 @@
 
 ghost use Rattle.std.specs.Prelude.{◌≡◌};
 ghost use Rattle.trace_events.specs.Wishes.{is_level, in_run};
-ghost use Rattle.trace_view.specs.Wishes.{reexec_after, reread_after, heard_after, power_after, letter_after, no_wishes, wishes_after, has_news, first_wish_in};
+ghost use Rattle.trace_view.specs.Wishes.{reexec_after, reread_after, heard_after, power_after, letter_after, no_wishes, wishes_after, has_news, first_wish_in, unless_here};
 
 use init_words::{Letter, Level, PowerKind, Stage};
 use initctl_frame::HeardRequest;
@@ -155,6 +155,18 @@ impl Wishes {
         ensures { result ≡ has_news self }
     {
         self.fail || self.fail_now || self.ok || self.a || self.b || self.c
+    }
+
+    /// The level that is asked for and isn't this stage.
+    pub(crate) fn asked(self, stage: Option<Stage>) -> Option<Level>
+        ensures { result ≡ unless_here stage self.heard }
+    {
+        let heard = self.heard?;
+        if is_level(heard.level, stage) {
+            None
+        } else {
+            Some(heard.level)
+        }
     }
 
     /// The wish that is carried out first, in this stage.

@@ -1,5 +1,5 @@
 use Rattle.std.proofs.Common.{rules, ◌≡◌, ◌∙◌, ap, sym, ◌∷◌, ◌++◌, option_copied, slice_get}
-use Rattle.inittab_lint.specs.Linting.{fault_line, fault_lines}
+use Rattle.inittab_lint.specs.Linting.{told_fault, fault_lines}
 use Rattle.inittab_lint.proofs.Parts.{one_more}
 use Rattle.inittab_lint.proofs.printing.add_faults.Goals as goal
 
@@ -10,6 +10,6 @@ loop-fault-preserved g c =
     let text = c.loop-fault.text.items in
     let rest : c.loop-fault.rest.now ≡ item ∷ c.in-Some.others.now = search rules in
     let part : option_copied c.part_at.result ≡ slice_get parts item.part = search rules in
-    one_more text c.add_fault.new.text.items (fault_line (slice_get parts item.part) item) (fault_lines parts c.in-Some.others.now) _
-    (c.in_ok-add_fault.ensures ∙ ap (λ p. text ++ fault_line p item) part)
+    one_more text c.add_told.new.text.items (told_fault (slice_get parts item.part) item) (fault_lines parts c.in-Some.others.now) _
+    (c.in_ok-add_told.ensures ∙ ap (λ p. text ++ told_fault p item) part)
     (ap (λ r. text ++ fault_lines parts r) (sym rest) ∙ c.loop-fault.invariant)

@@ -1,15 +1,25 @@
-use Rattle.std.proofs.Common.{ap, ◌∙◌, subst, unwrap_or, map, string_bytes}
-use Rattle.initview_command.specs.Following.{Follows}
-use Rattle.initview_command.specs.Reloading.{reload_paths, reload_trace}
-use Rattle.initview_command.proofs.Reloads.{so_asked}
+use Rattle.std.proofs.Common.{◌∙◌, inl, inr, map, string_bytes, subst, sym}
+use Rattle.std.proofs.KnownBytes.{Keeps-refl}
+use Rattle.command_words.specs.CommandLines.{asks_version}
+use Rattle.initview_command.specs.Asking.{what_of}
+use Rattle.initview_command.specs.Endings.{EndsOf}
+use Rattle.initview_command.proofs.Done.{unless, when}
 use Rattle.initview_command.proofs.command.run_words.Goals as goal
 
-pub returns-in-Some-reload_of-clause-reloaded : goal.returns-in-Some-reload_of-clause-reloaded
-returns-in-Some-reload_of-clause-reloaded g c = λ asked version question chart is.
-    let words = map string_bytes c.args.words.now in
-    so_asked (g.T.Texts.text_at c.args.texts.now) c.reload_trace-path.result.now (reload_trace words) (map string_bytes c.reload_paths.result.now) (reload_paths words) c.in-Some-reload_of.asked asked c.show_reload.result (g.W.Write.contents c.args.out.now) (g.W.Write.contents c.show_reload.new.out) c.reload_trace-path.ensures c.reload_paths.ensures (c.in-Some-reload_of.ensures ∙ is) c.show_reload.ensures
+pub returns-then-is_version : goal.returns-then-is_version
+returns-then-is_version g c = when (asks_version (map string_bytes c.args.words.now)) (sym c.is_version.ensures ∙ c.if-is_version.true) c.print_version.ensures.version
 
-pub returns-in-Some-follow_path-clause-followed : goal.returns-in-Some-follow_path-clause-followed
-returns-in-Some-follow_path-clause-followed g c = λ path version question chart reload table is.
-    subst (λ p. Follows (g.G.GrowingTexts.text_at c.args.growing.now p) c.follow_file.result (g.W.Write.contents c.args.out.now) (g.W.Write.contents c.follow_file.new.out))
-    (ap (λ o. unwrap_or o c.in-Some-follow_path.path.now) (c.in-Some-follow_path.ensures ∙ is)) c.follow_file.ensures
+pub returns-in-Ok : goal.returns-in-Ok
+returns-in-Ok g c =
+    let text_at = g.T.Texts.text_at c.args.texts.now in
+    let growing_at = g.G.GrowingTexts.text_at c.args.growing.now in
+    let old = g.W.Write.contents c.args.out.now in
+    let new = g.W.Write.contents c.run_cut.new.out in
+    unless (asks_version (map string_bytes c.args.words.now)) (sym c.is_version.ensures ∙ c.if-is_version.false)
+    (inl (subst (λ options. EndsOf text_at growing_at options _ (what_of options _) c.run_cut.result old new) c.in-Ok.ensures.0
+    (subst (λ words. EndsOf text_at growing_at _ words (what_of _ words) c.run_cut.result old new) c.in-Ok.ensures.1 c.run_cut.ensures)))
+
+pub returns-in-Err : goal.returns-in-Err
+returns-in-Err g c =
+    unless (asks_version (map string_bytes c.args.words.now)) (sym c.is_version.ensures ∙ c.if-is_version.false)
+    (inr (c.report_memory.ensures, Keeps-refl (g.W.Write.contents c.args.out.now)))

@@ -1,10 +1,17 @@
-use Rattle.std.proofs.Common.{rules, ◌≡◌, take, drop}
+use Rattle.std.proofs.Common.{inl, inr, subst, drop, take}
+use Rattle.initview_command.specs.Reloading.{reload_said}
+use Rattle.initview_command.specs.Showing.{Shows, stop_status}
 use Rattle.initview_command.specs.Tables.{table_in}
-use Rattle.initview_command.proofs.Reloads.{of_tables}
+use Rattle.initview_command.proofs.Shown.{fails_by}
 use Rattle.initview_command.proofs.reloading.show_files.Goals as goal
 
 pub returns-in-Ok : goal.returns-in-Ok
 returns-in-Ok g c =
-    let before : c.in-Ok.old ≡ table_in (take 1 c.args.parts.now) = search rules in
-    let after : c.in-Ok.new ≡ table_in (drop 1 c.args.parts.now) = search rules in
-    of_tables (g.T.Texts.text_at c.args.texts.now) c.args.path.now c.args.parts.now c.in-Ok.old c.in-Ok.new c.args.asked c.show_behind.result (g.W.Write.contents c.args.out.now) (g.W.Write.contents c.show_behind.new.out) before after c.show_behind.ensures
+    let text_at = g.T.Texts.text_at c.args.texts.now in
+    let old = g.W.Write.contents c.args.out.now in
+    let new = g.W.Write.contents c.show_file.new.out in
+    inl (subst (λ t. Shows text_at c.args.path.now (reload_said t (table_in (drop 1 c.args.parts.now)) c.args.level) (λ stop past. stop_status stop) c.show_file.result old new) c.in-Ok.ensures.0
+    (subst (λ t. Shows text_at c.args.path.now (reload_said c.in-Ok.old t c.args.level) (λ stop past. stop_status stop) c.show_file.result old new) c.in-Ok.ensures.1 c.show_file.ensures))
+
+pub returns-in-Err : goal.returns-in-Err
+returns-in-Err g c = fails_by _ _ c.in-Err.fault c.report_fault.result (g.W.Write.contents c.args.out.now) c.in-Err.ensures c.report_fault.ensures (λ is. inr is)

@@ -1,8 +1,5 @@
-use Rattle.std.proofs.Common.{refl, []}
+use Rattle.std.proofs.Common.{refl}
 use Rattle.trace_view.proofs.text_views.TextView.new.Goals as goal
 
 pub returns : goal.returns
-returns g c = rw c.new.ensures (record {
-  taken = ([], (record { are = refl; whole = refl; lines = refl; seen = c.new-2.ensures.seen }, refl));
-  shown = (record { are = refl; whole = refl; lines = refl; seen = c.new-2.ensures.seen }, refl);
-})
+returns g c = rw c.new.ensures (record { are = refl; whole = refl; lines = refl; begins = refl; seen = c.new-2.ensures.seen }, refl)

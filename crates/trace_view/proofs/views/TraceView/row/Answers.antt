@@ -17,7 +17,7 @@ returns g c = λ past seen.
     (c.act_in.ensures ∙ ap (option_map (λ (e : Entry). e.act)) (c.get-entry.ensures.value ∙ ap (entry_of c.args.id.now) tables))
     (c.why.ensures past seen)
     (c.number_of_id.ensures ∙ ap (λ xs. option_map number_of (find (is_of c.args.id.now) xs)) unreaped)
-    (c.excludes.ensures ∙ ap (λ o. option_map_or (is_excluded_by c.table-table.result.now c.stage-stage.result) o false) c.child_of_id-child.ensures ∙ lives_not c.args.id.now _ _ _ past tables (c.stage-stage.ensures past inside.judged) unreaped)
+    (c.excludes.ensures ∙ ap (λ o. option_map_or (is_excluded_by c.table-table.result.now c.stage-stage.result) o false) c.child_of_id-child.ensures ∙ lives_not c.args.id.now _ _ _ _ past tables (c.stage-stage.ensures past inside.judged) unreaped)
     (c.birth_of.ensures ∙ inside.births c.args.id.now)
     (c.order.ensures past inside.judged)
     (c.termed.ensures past inside.judged)

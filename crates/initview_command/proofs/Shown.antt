@@ -1,0 +1,39 @@
+-- What is written of a trace, and where nothing is.
+use Rattle.std.proofs.Common.{◌≡◌, ◌⊎◌, ⊥, refl, sym, ap, ◌∙◌, inl, inr, subst, ℕ, List, [], reverse, Option, Some, None}
+use Rattle.std.specs.Io.KnownBytes.{Appends, Keeps}
+use Rattle.std.proofs.KnownBytes.{Appends-nil, Keeps-refl}
+use Rattle.program_io.specs.Writing.{AppendsPrefix}
+use Rattle.program_io.specs.declared.statuses.TheConstants.{REFUSED, DEVICE_FAULT}
+use Rattle.program_io.specs.Known.{IsTextAt, KnownTexts}
+use Rattle.inittab_text.specs.declared.faults.TableFault.{TableFault}
+use Rattle.inittab_text.specs.declared.faults.TableFault.TheVariants as fault
+use Rattle.trace_events.specs.Event.{Event}
+use Rattle.trace_view.specs.SeenTexts.{IsSeen}
+use Rattle.trace_view.specs.Viewing.{ViewState, Viewed}
+use Rattle.trace_view.specs.declared.text_views.Stop.{Stop}
+use Rattle.trace_view.specs.declared.text_views.Stop.TheVariants.{Breach, Torn, Within}
+use Rattle.initview_command.specs.Showing.{Shows, ShowsOf, Writes}
+use Rattle.initview_command.specs.Tables.{FailsBy, fault_status}
+
+-- what was written of a text is what is said of it
+pub writes_as : (text said : List ℕ) (given ends status : ℕ) (old new : Option (List ℕ)) → text ≡ said → given ≡ ends → Writes text given status old new → Writes said ends status old new
+writes_as text said given ends status old new same is written =
+    subst (λ e. Writes said e status old new) is (subst (λ t. Writes t given status old new) same written)
+
+-- a text that doesn't begin within a run is answered
+pub answered : (stop : Option Stop) (said : List ℕ) (ends status : ℕ) (old new : Option (List ℕ)) → (stop ≡ Some Within → ⊥) → Writes said ends status old new → ShowsOf stop said ends status old new
+answered None said ends status old new other written = written
+answered (Some (Breach law line)) said ends status old new other written = written
+answered (Some (Torn number)) said ends status old new other written = written
+answered (Some Within) said ends status old new other written = absurd (other refl)
+
+-- what is shown of a text that was taken
+pub shows : {S : Type 0} (has : S → List Event → Type 0) (text_at : KnownTexts) (path text : List ℕ) (says : List Event → List ℕ) (ends : Option Stop → List Event → ℕ) (view : ViewState) (seen : S) (stop : Option Stop) (left : Option ℕ) (status : ℕ) (old new : Option (List ℕ)) → IsTextAt text_at path text → IsSeen has text stop left view seen → ((past : List Event) → Viewed view past → has seen past → ShowsOf stop (says past) (ends stop past) status old new) → Shows text_at path says ends status old new
+shows has text_at path text says ends view seen stop left status old new at is of =
+    inl (text, stop, left, is.0, at, is.1, is.2.judged.lawful, of (reverse is.0) is.2 is.3)
+
+-- files that are refused, or memory that runs out
+pub fails_by : (X refused : Type 0) (why : TableFault) (status : ℕ) (now : Option (List ℕ)) → FailsBy refused why → status ≡ fault_status why → ((status ≡ DEVICE_FAULT) × Keeps now now → X) → X ⊎ ((status ≡ REFUSED) × refused × Keeps now now)
+fails_by X refused fault.Memory status now fails is none = inl (none (is, Keeps-refl now))
+fails_by X refused fault.TooLong status now fails is none = inr (is, fails, Keeps-refl now)
+fails_by X refused fault.Parts status now fails is none = inr (is, fails, Keeps-refl now)

@@ -1,0 +1,44 @@
+-- How initview ends on its words, and what it wrote.
+use Rattle.std.specs.Prelude.{◌≡◌, ◌⊎◌, ℕ, true, false, if◌then◌else◌, List, codes, Option, Some, None}
+use Rattle.std.specs.Io.KnownBytes.{Keeps}
+use Rattle.program_io.specs.declared.statuses.TheConstants.{REFUSED, DEVICE_FAULT}
+use Rattle.program_io.specs.Known.{KnownTexts}
+use Rattle.command_words.specs.CommandLines.{asks_version}
+use Rattle.command_words.specs.VersionLine.{PrintsVersion}
+use Rattle.initview_command.specs.declared.asking.What.{What}
+use Rattle.initview_command.specs.declared.asking.What.TheVariants.{Show, Draw, Follow, Explain, Reload, Tables}
+use Rattle.initview_command.specs.Asking.{files_of, picked, trace_of, what_of}
+use Rattle.initview_command.specs.Charting.{drawing}
+use Rattle.initview_command.specs.Explaining.{Explains}
+use Rattle.initview_command.specs.Following.{Follows}
+use Rattle.initview_command.specs.Reloading.{Reloads}
+use Rattle.initview_command.specs.Showing.{Shows, said, status_by, stop_status}
+use Rattle.initview_command.specs.Tables.{Answers}
+
+-- what is asked of the trace at a path, or of files, is done
+abbrev pub Does : KnownTexts → KnownTexts → List ℕ → List (List ℕ) → What → ℕ → Option (List ℕ) → Option (List ℕ) → Type 0
+Does text_at growing_at path files (Show question) status old new =
+    Shows text_at path (said question) (status_by question) status old new
+Does text_at growing_at path files (Draw form) status old new =
+    Shows text_at path (drawing form) (λ stop past. stop_status stop) status old new
+Does text_at growing_at path files Follow status old new = Follows (growing_at path) status old new
+Does text_at growing_at path files (Explain id) status old new = Explains text_at path files id status old new
+Does text_at growing_at path files (Reload level) status old new = Reloads text_at path files level status old new
+Does text_at growing_at path files (Tables question) status old new = Answers text_at files question status old new
+
+-- so of options and other words; where they ask nothing they are refused, and nothing was written
+abbrev pub EndsOf : KnownTexts → KnownTexts → List (List ℕ) → List (List ℕ) → Option What → ℕ → Option (List ℕ) → Option (List ℕ) → Type 0
+EndsOf text_at growing_at options words (Some what) status old new =
+    Does text_at growing_at (trace_of what options words) (files_of what words) what status old new
+EndsOf text_at growing_at options words None status old new = (status ≡ REFUSED) × Keeps old new
+
+-- so of words that don't ask for the version; or memory ran out, and nothing was written
+abbrev pub EndsOn : KnownTexts → KnownTexts → List (List ℕ) → List (List ℕ) → ℕ → Option (List ℕ) → Option (List ℕ) → Type 0
+EndsOn text_at growing_at options words status old new =
+    EndsOf text_at growing_at options words (what_of options words) status old new
+    ⊎ ((status ≡ DEVICE_FAULT) × Keeps old new)
+
+abbrev pub EndsBy : KnownTexts → KnownTexts → List (List ℕ) → ℕ → Option (List ℕ) → Option (List ℕ) → Type 0
+EndsBy text_at growing_at words status old new =
+    if asks_version words then PrintsVersion (codes "initview") status old new
+    else EndsOn text_at growing_at (picked true false words) (picked false false words) status old new

@@ -1,0 +1,5 @@
+use Rattle.std.proofs.Common.{[]}
+use Rattle.trace_view.proofs.seen_texts.SeenText.new.Goals as goal
+
+pub returns : goal.returns
+returns g c = λ none. ([], c.new.ensures, none)
