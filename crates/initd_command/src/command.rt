@@ -88,6 +88,8 @@ where
     S: Hosts<H>,
     W: Write,
     E: Write,
+    // it ends for a reason of which its status, output and report are; and of hosts a run asks what its turns ask, and
+    // nothing else asks anything
     ensures { (ending : Ending) × (result ≡ status_of ending)
         × EndsBy (T.text_at texts.now) (map string_bytes words.items) ending
         (W.contents out.old) (W.contents out.new)
@@ -102,7 +104,8 @@ where
         Ok(Words::Check(said)) => check_file(texts, alloc, &said, out, err),
         Ok(Words::Run(said)) => run_files(rt, texts, hosts, alloc, &said, out, err),
         Err(WordFault::Usage(reason)) => {
-            report_refused_words("initd", reason.as_str(), usage_for(reason.as_str()), err)
+            let reason = reason.as_str();
+            report_refused_words("initd", reason, usage_for(reason), err)
         }
         Err(WordFault::Memory) => report_memory(err),
     }

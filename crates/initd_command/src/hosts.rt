@@ -28,12 +28,14 @@ pub trait Hosts<H: Host> {
     /// The host that the arguments of a run name, under the lock of its channel. It tells what was told before.
     fn open(&mut self, alloc: Global, said: &RunWords, lock: ChannelLock) -> Result<H, Memory>
         ensures told { IfOk result (λ host. H.told host ≡ told self.old) }
+        // it tells that it was opened by these arguments, or tells none from here on
         ensures opened { OnOk result (Since (opened self.old) (opened self.new)
             (λ saids. saids ≡ run_of said.now ∷ [])) }
         ensures err { OnErr result (told self.new ≡ told self.old) };
 
     /// Takes a host back.
     fn close(&mut self, host: H)
+        // it tells what the host told, and of all these calls what is so of its hosts is so
         ensures told { told self.new ≡ H.told host }
         ensures opened { opened self.new ≡ opened self.old }
         ensures own { IfSome (told self.new) own };

@@ -589,6 +589,8 @@ pub fn make_turns<R: Files + Eprint, H: Host, L: EndedLog, E: Write>(
 ) -> (u8, L::Left)
 where
     L: Drop,
+    // the exit status and what is reported are those of an end of turns; over the table of the opening the calls made are
+    // those of init's turns, which ended so; and so has the log, if it was fresh
     ensures { (end : End) × (result.0 ≡ end_status end) × EndsServed (run_of said.now) end
         × ReportsEnd end (E.contents err.old) (E.contents err.new)
         × ((table : List Entry) → IsOpeningOf (run_of said.now).level table opening

@@ -254,7 +254,7 @@ fn wants_usage(words: &[String]) -> bool
 fn report_words<E: Write>(words: &[String], err: &mut E) -> u8
     ensures status { result ≡ REFUSED }
     ensures report { AppendsPrefix (E.contents err.old) (E.contents err.new)
-        (words_report USAGE.now SHORT_USAGE.now (map string_bytes words.now))) }
+        (words_report USAGE.now SHORT_USAGE.now (map string_bytes words.now)) }
 {
     if words.is_empty() {
         report_refused_words("rclinks", "no file is given", SHORT_USAGE, err)
@@ -423,11 +423,7 @@ fn add_files(alloc: Global, files: &[String], all: &mut Vec<String>) -> Result<(
 }
 
 /// The files that are read for what words ask for.
-fn files_with(
-    alloc: Global,
-    facilities: &[String],
-    line: Line,
-) -> Result<Vec<String>, AllocError>
+fn files_with(alloc: Global, facilities: &[String], line: Line) -> Result<Vec<String>, AllocError>
     ensures { IfOk result (λ files. map string_bytes files.items
         ≡ files_with (map string_bytes facilities.now) (line_said line)) }
 {

@@ -93,7 +93,7 @@ returns-in-Ok-Version g c =
 pub returns-in-Err-Usage : goal.returns-in-Err-Usage
 returns-in-Err-Usage g c =
     let none : initd_read_of (map string_bytes c.args.words.items) ≡ None = search rules in
-    (usage c.as_str.result.now, c.report_refused_words.ensures.status, (none, Keeps-refl (g.W.Write.contents c.args.out.now)), c.report_refused_words.ensures.report, asks_by (g.T.Texts.text_at c.args.texts.now) (map string_bytes c.args.words.items) None g.S.Hosts.own (usage c.as_str.result.now) (told (g.S.Hosts.opened c.args.hosts.now) (g.S.Hosts.told c.args.hosts.now) (g.W.Write.contents c.args.out.now)) (told (g.S.Hosts.opened c.args.hosts.now) (g.S.Hosts.told c.args.hosts.now) (g.W.Write.contents c.args.out.now)) none refl)
+    (usage c.as_str-reason.result.now, c.report_refused_words.ensures.status, (none, Keeps-refl (g.W.Write.contents c.args.out.now)), (rw c.usage_for.ensures at c.report_refused_words.ensures.report), asks_by (g.T.Texts.text_at c.args.texts.now) (map string_bytes c.args.words.items) None g.S.Hosts.own (usage c.as_str-reason.result.now) (told (g.S.Hosts.opened c.args.hosts.now) (g.S.Hosts.told c.args.hosts.now) (g.W.Write.contents c.args.out.now)) (told (g.S.Hosts.opened c.args.hosts.now) (g.S.Hosts.told c.args.hosts.now) (g.W.Write.contents c.args.out.now)) none refl)
 
 pub returns : goal.returns
 returns g c =
