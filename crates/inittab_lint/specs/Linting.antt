@@ -127,9 +127,12 @@ warning_lines parts [] = []
 warning_lines parts (found ∷ others) = warning_line (slice_get parts found.part) found ++ warning_lines parts others
 
 -- what becomes of the default level: entries start in it, or none does; or there is none
+abbrev pub served_if : Bool → DefaultLevel
+served_if so = if so then default.Served else default.Idle
+
 abbrev pub default_by : Option Level → List Entry → DefaultLevel
 default_by None table = default.Lacking
-default_by (Some level) table = if list_any (λ e. starts_of e (Run level)) table then default.Served else default.Idle
+default_by (Some level) table = served_if (list_any (λ e. starts_of e (Run level)) table)
 
 abbrev pub default_in : List Entry → DefaultLevel
 default_in table = default_by (default_level_of table) table

@@ -7,7 +7,7 @@ ghost use Rattle.init_words.specs.declared.stages.Stage.TheVariants.{Run};
 ghost use Rattle.init_words.specs.Entries.{starts_of};
 ghost use Rattle.init_words.specs.Parts.{texts_of};
 ghost use Rattle.inittab_text.specs.Parts.{AreTooLong, AreTooMany};
-ghost use Rattle.inittab_lint.specs.Linting.{default_in, found_by, lint_by, lint_in};
+ghost use Rattle.inittab_lint.specs.Linting.{default_by, default_in, served_if, found_by, lint_by, lint_in};
 ghost use Rattle.inittab_lint.specs.Warnings.{warnings_of, warnings_of_lines};
 
 use crate::printing::lint_lines;
@@ -46,14 +46,29 @@ fn any_starts(entries: &[Entry], level: Level) -> bool
     entries.iter().any(|entry| starts(entry, Stage::Run(level)))
 }
 
+fn served_if(so: bool) -> DefaultLevel
+    ensures { result ≡ served_if so }
+{
+    if so {
+        DefaultLevel::Served
+    } else {
+        DefaultLevel::Idle
+    }
+}
+
+fn default_by(level: Option<Level>, entries: &[Entry]) -> DefaultLevel
+    ensures { result ≡ default_by level entries.now }
+{
+    match level {
+        None => DefaultLevel::Lacking,
+        Some(level) => served_if(any_starts(entries, level)),
+    }
+}
+
 fn default_in<A: Allocator>(table: &Table<A>) -> DefaultLevel
     ensures { result ≡ default_in table.now }
 {
-    match table.default_level() {
-        None => DefaultLevel::Lacking,
-        Some(level) if any_starts(table.entries(), level) => DefaultLevel::Served,
-        Some(_) => DefaultLevel::Idle,
-    }
+    default_by(table.default_level(), table.entries())
 }
 
 /// What is told of the files of an inittab.

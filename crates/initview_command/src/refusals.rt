@@ -11,100 +11,54 @@ use inittab_lint::is_slip;
 use program_io::{REFUSED, report_usage};
 use std::io::Write;
 
-/// A command: its name, its options, and how many words stand behind it at least and at most.
-#[derive(Clone, Copy)]
-struct Command {
-    name: &'static str,
-    options: &'static [&'static str],
-    least: usize,
-    most: usize,
-}
+/// A command's options, and how many words stand behind it at least and at most.
+type Command = (&'static [&'static str], usize, usize);
 
-const MANY: usize = usize::MAX;
-
-const COMMANDS: &[Command] = &[
-    Command {
-        name: "why",
-        options: &[],
-        least: 2,
-        most: MANY,
-    },
-    Command {
-        name: "status",
-        options: &["--json"],
-        least: 1,
-        most: 2,
-    },
-    Command {
-        name: "left",
-        options: &[],
-        least: 1,
-        most: 1,
-    },
-    Command {
-        name: "timeline",
-        options: &["--svg", "--width"],
-        least: 1,
-        most: 1,
-    },
-    Command {
-        name: "follow",
-        options: &[],
-        least: 1,
-        most: 1,
-    },
-    Command {
-        name: "lint",
-        options: &[],
-        least: 1,
-        most: MANY,
-    },
-    Command {
-        name: "diff",
-        options: &["--trace", "--level"],
-        least: 2,
-        most: 2,
-    },
-    Command {
-        name: "plan",
-        options: &["--level"],
-        least: 1,
-        most: MANY,
-    },
+const COMMANDS: &[(&str, Command)] = &[
+    ("why", (&[], 2, usize::MAX)),
+    ("status", (&["--json"], 1, 2)),
+    ("left", (&[], 1, 1)),
+    ("timeline", (&["--svg", "--width"], 1, 1)),
+    ("follow", (&[], 1, 1)),
+    ("lint", (&[], 1, usize::MAX)),
+    ("diff", (&["--trace", "--level"], 2, 2)),
+    ("plan", (&["--level"], 1, usize::MAX)),
 ];
 
 fn command_of(name: &str) -> Option<Command> {
-    for command in COMMANDS {
-        if name == command.name {
+    for (known, command) in COMMANDS {
+        if name == *known {
             return Some(*command);
         }
     }
     None
 }
 
-/// The command that this one was probably meant to be.
+/// Tells what a word isn't, and which was probably meant.
+fn tell_meant<E: Write>(what: &str, word: &str, meant: Option<&str>, err: &mut E) {
+    let _ = match meant {
+        Some(meant) => writeln!(err, "initview: {what}: {word}: {meant}?"),
+        None => writeln!(err, "initview: {what}: {word}"),
+    };
+}
+
+fn is_meant(word: &str, known: &str) -> bool {
+    is_slip(word.as_bytes(), known.as_bytes())
+}
+
 fn command_meant(name: &str) -> Option<&'static str> {
-    for command in COMMANDS {
-        if is_slip(name.as_bytes(), command.name.as_bytes()) {
-            return Some(command.name);
+    for (known, _) in COMMANDS {
+        if is_meant(name, *known) {
+            return Some(*known);
         }
     }
     None
 }
 
-fn has_option(command: Command, option: &str) -> bool {
-    for known in command.options {
-        if option == *known {
-            return true;
-        }
-    }
-    false
-}
-
-/// The option of a command that this one was probably meant to be.
-fn option_meant(command: Command, option: &str) -> Option<&'static str> {
-    for known in command.options {
-        if is_slip(option.as_bytes(), known.as_bytes()) {
+/// The option of some that this one is, or was probably meant to be.
+fn option_meant(options: &[&'static str], option: &str) -> Option<&'static str> {
+    for known in options {
+        if is_meant(option, *known) {
             return Some(*known);
         }
     }
@@ -125,34 +79,24 @@ fn usage_of(name: &str) -> &'static str {
     "initview COMMAND .."
 }
 
-fn tell_meant<E: Write>(what: &str, word: &str, meant: Option<&str>, err: &mut E) {
-    let _ = match meant {
-        Some(meant) => writeln!(err, "initview: {what}: {word}: {meant}?"),
-        None => writeln!(err, "initview: {what}: {word}"),
-    };
-}
-
 /// Why the value of an option is refused.
 fn value_reason(option: &str, value: &str) -> Option<&'static str> {
-    if option == "--level" {
-        return match value.as_bytes() {
-            [code] if Level::read(*code).is_some() => None,
-            _ => Some("a LEVEL is one of 0 to 9 and S"),
-        };
+    match (option, value.as_bytes()) {
+        ("--level", [code]) if Level::read(*code).is_some() => None,
+        ("--level", _) => Some("a LEVEL is one of 0 to 9 and S"),
+        ("--width", _) if lines_of(value).is_none() => Some("a width N is 20 to 1000 columns"),
+        _ => None,
     }
-    if option == "--width" && lines_of(value).is_none() {
-        return Some("a width N is 20 to 1000 columns");
-    }
-    None
 }
 
-/// Tells what is wrong with the options, and whether something is.
-fn tell_options<E: Write>(command: Command, options: &[String], err: &mut E) -> bool {
+/// Tells what is wrong with options, and whether something is.
+fn tell_options<E: Write>(known: &[&'static str], options: &[String], err: &mut E) -> bool {
     let mut rest = options;
     while let Some((option, others)) = rest.split_first() {
         let option = option.as_str();
-        if !has_option(command, option) {
-            tell_meant("no such option", option, option_meant(command, option), err);
+        let meant = option_meant(known, option);
+        if meant != Some(option) {
+            tell_meant("no such option", option, meant, err);
             return true;
         }
         rest = others;
@@ -171,34 +115,6 @@ fn tell_options<E: Write>(command: Command, options: &[String], err: &mut E) -> 
     false
 }
 
-/// Tells what is wrong with the words behind a command.
-fn tell_words<E: Write>(command: Command, options: &[String], words: &[String], err: &mut E) {
-    let name = command.name;
-    if words.len() < command.least {
-        let _ = writeln!(err, "initview: {name}: a word is missing");
-        return;
-    }
-    if let Some(word) = words.get(command.most) {
-        let _ = writeln!(err, "initview: {name}: one word is too many: {word}");
-        return;
-    }
-    if let Some(word) = id_in(name, words) {
-        if Id::read(word.as_bytes()).is_none() {
-            let _ = writeln!(
-                err,
-                "initview: {word}: an ID is 1 to 8 characters of those that inittab(5) allows"
-            );
-            return;
-        }
-    }
-    if !options.is_empty() {
-        let _ = writeln!(
-            err,
-            "initview: {name}: an option is given twice, or beside one that rules it out"
-        );
-    }
-}
-
 /// The word that is to be an id.
 fn id_in<'a>(name: &str, words: &'a [String]) -> Option<&'a String> {
     match name {
@@ -206,6 +122,26 @@ fn id_in<'a>(name: &str, words: &'a [String]) -> Option<&'a String> {
         "status" => words.get(1),
         _ => None,
     }
+}
+
+/// Tells what is wrong with the words behind a command.
+fn tell_words<E: Write>(name: &str, least: usize, most: usize, words: &[String], err: &mut E) {
+    let _ = match (words.get(most), id_in(name, words)) {
+        _ if words.len() < least => writeln!(err, "initview: {name}: a word is missing"),
+        (Some(word), _) => writeln!(err, "initview: {name}: one word is too many: {word}"),
+        (None, Some(word)) if Id::read(word.as_bytes()).is_none() => {
+            writeln!(
+                err,
+                "initview: {word}: an ID is 1 to 8 characters of those that inittab(5) allows"
+            )
+        }
+        _ => {
+            writeln!(
+                err,
+                "initview: {name}: an option is given twice, or beside one that rules it out"
+            )
+        }
+    };
 }
 
 /// Tells why options and words, of which the first is the command, are no command line, and gives the exit status.
@@ -217,30 +153,35 @@ pub(crate) fn report_refusal<E: Write>(options: &[String], words: &[String], err
             return report_usage(USAGE, err);
         }
     }
-    let [name, rest @ ..] = words else {
-        let _ = writeln!(err, "initview: no command is given");
-        return report_commands(err);
-    };
-    match command_of(name.as_str()) {
-        Some(command) => {
-            if !tell_options(command, options, err) {
-                tell_words(command, options, rest, err);
-            }
-            let usage = usage_of(command.name);
-            let _ = writeln!(err, "usage: {usage}");
-            REFUSED
-        }
-        None => {
-            tell_meant("no such command", name.as_str(), command_meant(name.as_str()), err);
-            report_commands(err)
-        }
+    match words {
+        [] => report_commands("no command is given", "", None, err),
+        [name, rest @ ..] => report_words(name.as_str(), options, rest, err),
     }
 }
 
-/// Tells which commands there are.
-fn report_commands<E: Write>(err: &mut E) -> u8
+fn report_words<E: Write>(name: &str, options: &[String], words: &[String], err: &mut E) -> u8
     ensures { result ≡ REFUSED }
 {
+    let Some((known, least, most)) = command_of(name) else {
+        return report_commands("no such command", name, command_meant(name), err);
+    };
+    if !tell_options(known, options, err) {
+        tell_words(name, least, most, words, err);
+    }
+    let usage = usage_of(name);
+    let _ = writeln!(err, "usage: {usage}");
+    REFUSED
+}
+
+/// Tells what is wrong with the command, and which there are.
+fn report_commands<E: Write>(what: &str, name: &str, meant: Option<&str>, err: &mut E) -> u8
+    ensures { result ≡ REFUSED }
+{
+    if name.is_empty() {
+        let _ = writeln!(err, "initview: {what}");
+    } else {
+        tell_meant(what, name, meant, err);
+    }
     let _ = writeln!(
         err,
         "usage: initview why | status | left | timeline | follow | lint | diff | plan ..; initview --help says more"

@@ -28,32 +28,32 @@ owed_is e past waited kept starting wanted e1 e2 e3 e4 = rw (e1, e2, e3, e4) ref
 
 last_in : (id : List ℕ) (front : List Entry) (last : Entry) → same_id id last.id ≡ true → list_any (has_id id) (front ++ last ∷ []) ≡ true
 last_in id [] last is = rw is refl
-last_in id (x ∷ front) last is = split (has_id id x) where
-  split : (b : Bool) → (b || list_any (has_id id) (front ++ last ∷ [])) ≡ true
-  split true = refl
-  split false = last_in id front last is
+last_in id (x ∷ front) last is = split (has_id id x) (last_in id front last is) where
+  split : (b : Bool) → list_any (has_id id) (front ++ last ∷ []) ≡ true → (b || list_any (has_id id) (front ++ last ∷ [])) ≡ true
+  split true rest = refl
+  split false rest = rest
 
 -- those before the last one are all others
 before_last : (front : List Entry) (last : Entry) → is_distinct (front ++ last ∷ []) ≡ true → entries_before last.id (front ++ last ∷ []) ≡ front
 before_last [] last distinct = ap (λ b. cond b [] (last ∷ [])) (same_id-self last.id)
-before_last (x ∷ front) last distinct = split (same_id last.id x.id) refl where
+before_last (x ∷ front) last distinct = split (same_id last.id x.id) refl (before_last front last parts.1) where
   parts : (not (list_any (has_id x.id) (front ++ last ∷ [])) ≡ true) × (is_distinct (front ++ last ∷ []) ≡ true)
   parts = and_parts (not (list_any (has_id x.id) (front ++ last ∷ []))) (is_distinct (front ++ last ∷ [])) distinct
 
-  split : (b : Bool) → same_id last.id x.id ≡ b → cond b [] (x ∷ entries_before last.id (front ++ last ∷ [])) ≡ x ∷ front
-  split true is = absurd (false≢true (ap not (sym (last_in x.id front last (same_id-flip last.id x.id is))) ∙ parts.0))
-  split false is = ap (λ es. x ∷ es) (before_last front last parts.1)
+  split : (b : Bool) → same_id last.id x.id ≡ b → entries_before last.id (front ++ last ∷ []) ≡ front → cond b [] (x ∷ entries_before last.id (front ++ last ∷ [])) ≡ x ∷ front
+  split true is rest = absurd (false≢true (ap not (sym (last_in x.id front last (same_id-flip last.id x.id is))) ∙ parts.0))
+  split false is rest = ap (λ es. x ∷ es) rest
 
 -- the last one is found by its id
 pub found_last : (front : List Entry) (last : Entry) → is_distinct (front ++ last ∷ []) ≡ true → entry_of last.id (front ++ last ∷ []) ≡ Some last
 found_last [] last distinct = ap (λ b. cond b (Some last) None) (same_id-self last.id)
-found_last (x ∷ front) last distinct = split (same_id last.id x.id) refl where
+found_last (x ∷ front) last distinct = split (same_id last.id x.id) refl (found_last front last parts.1) where
   parts : (not (list_any (has_id x.id) (front ++ last ∷ [])) ≡ true) × (is_distinct (front ++ last ∷ []) ≡ true)
   parts = and_parts (not (list_any (has_id x.id) (front ++ last ∷ []))) (is_distinct (front ++ last ∷ [])) distinct
 
-  split : (b : Bool) → same_id last.id x.id ≡ b → cond b (Some x) (entry_of last.id (front ++ last ∷ [])) ≡ Some last
-  split true is = absurd (false≢true (ap not (sym (last_in x.id front last (same_id-flip last.id x.id is))) ∙ parts.0))
-  split false is = found_last front last parts.1
+  split : (b : Bool) → same_id last.id x.id ≡ b → entry_of last.id (front ++ last ∷ []) ≡ Some last → cond b (Some x) (entry_of last.id (front ++ last ∷ [])) ≡ Some last
+  split true is rest = absurd (false≢true (ap not (sym (last_in x.id front last (same_id-flip last.id x.id is))) ∙ parts.0))
+  split false is rest = rest
 
 last_or : (p : Entry → Bool) (o : Option Entry) (last : Entry) → option_map entry_id (option_or o (cond (p last) (Some last) None)) ≡ option_or (option_map entry_id o) (cond (p last) (Some last.id) None)
 last_or p (Some e) last = refl

@@ -95,7 +95,7 @@ within_here reading new viewing trace text h line seen next is none =
       record {
         happening = h;
         rest = new.over;
-        whole = ap (λ t. trace_text (t ++ h ∷ []) ++ new.over) (sym empty) ∙ whole_next reading new viewing trace text h seen next;
+        whole = ap (λ t. t ++ new.over) (sym (append-nil (event_text h))) ∙ ap (λ t. trace_text (t ++ h ∷ []) ++ new.over) (sym empty) ∙ whole_next reading new viewing trace text h seen next;
         other = parts.1;
       },
     )

@@ -1,6 +1,6 @@
 //! A view of a trace.
 
-ghost use Rattle.std.specs.Prelude.{◌≡◌, ◌&&◌, if◌then◌else◌, true, List, Some, None, option_map, option_copied, IfOk};
+ghost use Rattle.std.specs.Prelude.{◌≡◌, ◌&&◌, ◌||◌, if◌then◌else◌, true, List, Some, None, option_map, option_copied, IfOk};
 ghost use Rattle.std.specs.Option.{option_or};
 ghost use Rattle.init_words.specs.declared.orders.OrderKind.TheVariants.{Start};
 ghost use Rattle.init_words.specs.declared.entries.Entry.{Entry};
@@ -94,6 +94,12 @@ fn is_start(order: Option<OrderKind>) -> bool
         Some(OrderKind::Start) => true,
         _ => false,
     }
+}
+
+fn owed_by(waited: bool, kept: bool, starting: bool, wanted: bool) -> bool
+    ensures { result ≡ (waited && (kept || starting || wanted)) }
+{
+    waited && (kept || starting || wanted)
 }
 
 /// The first id; else the other one, where it is so.
@@ -209,7 +215,7 @@ impl<A: Allocator> TraceView<A> {
         let kept = number_of_id(self.kept.as_slice(), entry.id).is_some();
         let starting = is_start(self.judge.order(&entry.id));
         let wanted = self.judge.is_wanted(entry);
-        waited && (kept || starting || wanted)
+        owed_by(waited, kept, starting, wanted)
     }
 
     /// The first entry of all that init waits for.
