@@ -3,5 +3,6 @@ pub mod Drawn
 pub mod Explained
 pub mod Files
 pub mod Followed
+pub mod Picked
 pub mod Reloads
 pub mod Shown

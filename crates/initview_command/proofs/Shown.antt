@@ -1,5 +1,5 @@
 -- What is written of a trace, and where nothing is.
-use Rattle.std.proofs.Common.{◌≡◌, ◌⊎◌, ⊥, refl, sym, ap, ◌∙◌, inl, inr, subst, ℕ, List, [], reverse, Option, Some, None}
+use Rattle.std.proofs.Common.{◌≡◌, ◌⊎◌, true, false, refl, sym, ap, ◌∙◌, inl, inr, subst, ℕ, List, [], reverse, Option, Some, None}
 use Rattle.std.specs.Io.KnownBytes.{Appends, Keeps}
 use Rattle.std.proofs.KnownBytes.{Appends-nil, Keeps-refl}
 use Rattle.program_io.specs.Writing.{AppendsPrefix}
@@ -11,8 +11,7 @@ use Rattle.trace_events.specs.Event.{Event}
 use Rattle.trace_view.specs.SeenTexts.{IsSeen}
 use Rattle.trace_view.specs.Viewing.{ViewState, Viewed}
 use Rattle.trace_view.specs.declared.text_views.Stop.{Stop}
-use Rattle.trace_view.specs.declared.text_views.Stop.TheVariants.{Breach, Torn, Within}
-use Rattle.initview_command.specs.Showing.{Shows, ShowsOf, Writes}
+use Rattle.initview_command.specs.Showing.{Shows, ShowsOf, Writes, is_within}
 use Rattle.initview_command.specs.Tables.{FailsBy, fault_status}
 
 -- what was written of a text is what is said of it
@@ -20,12 +19,12 @@ pub writes_as : (text said : List ℕ) (given ends status : ℕ) (old new : Opti
 writes_as text said given ends status old new same is written =
     subst (λ e. Writes said e status old new) is (subst (λ t. Writes t given status old new) same written)
 
--- a text that doesn't begin within a run is answered
-pub answered : (stop : Option Stop) (said : List ℕ) (ends status : ℕ) (old new : Option (List ℕ)) → (stop ≡ Some Within → ⊥) → Writes said ends status old new → ShowsOf stop said ends status old new
-answered None said ends status old new other written = written
-answered (Some (Breach law line)) said ends status old new other written = written
-answered (Some (Torn number)) said ends status old new other written = written
-answered (Some Within) said ends status old new other written = absurd (other refl)
+-- a text that begins within a run is refused, and any other answered
+pub refused : (stop : Option Stop) (said : List ℕ) (ends status : ℕ) (now : Option (List ℕ)) → is_within stop ≡ true → status ≡ REFUSED → ShowsOf stop said ends status now now
+refused stop said ends status now is ends_so = rw is (ends_so, Keeps-refl now)
+
+pub answered : (stop : Option Stop) (said : List ℕ) (ends status : ℕ) (old new : Option (List ℕ)) → is_within stop ≡ false → Writes said ends status old new → ShowsOf stop said ends status old new
+answered stop said ends status old new is written = rw is written
 
 -- what is shown of a text that was taken
 pub shows : {S : Type 0} (has : S → List Event → Type 0) (text_at : KnownTexts) (path text : List ℕ) (says : List Event → List ℕ) (ends : Option Stop → List Event → ℕ) (view : ViewState) (seen : S) (stop : Option Stop) (left : Option ℕ) (status : ℕ) (old new : Option (List ℕ)) → IsTextAt text_at path text → IsSeen has text stop left view seen → ((past : List Event) → Viewed view past → has seen past → ShowsOf stop (says past) (ends stop past) status old new) → Shows text_at path says ends status old new

@@ -1,5 +1,5 @@
 -- What is written of a trace, and the exit status.
-use Rattle.std.specs.Prelude.{◌≡◌, ◌⊎◌, ℕ, if◌then◌else◌, List, reverse, Option, Some, None, is_some}
+use Rattle.std.specs.Prelude.{◌≡◌, ◌⊎◌, ℕ, Bool, true, false, if◌then◌else◌, List, reverse, Option, Some, None, is_some}
 use Rattle.std.specs.Io.KnownBytes.{Appends, Keeps}
 use Rattle.program_io.specs.Writing.{AppendsPrefix}
 use Rattle.program_io.specs.declared.statuses.TheConstants.{DONE, REFUSED, UNLAWFUL, DEVICE_FAULT}
@@ -47,9 +47,13 @@ Writes text ends status old new =
     ((status ≡ ends) × Appends old new text) ⊎ ((status ≡ DEVICE_FAULT) × AppendsPrefix old new text)
 
 -- so of what is said of a trace; a text that begins within a run is refused, and nothing was written
+abbrev pub is_within : Option Stop → Bool
+is_within (Some Within) = true
+is_within _ = false
+
 abbrev pub ShowsOf : Option Stop → List ℕ → ℕ → ℕ → Option (List ℕ) → Option (List ℕ) → Type 0
-ShowsOf (Some Within) text ends status old new = (status ≡ REFUSED) × Keeps old new
-ShowsOf _ text ends status old new = Writes text ends status old new
+ShowsOf stop text ends status old new =
+    if is_within stop then (status ≡ REFUSED) × Keeps old new else Writes text ends status old new
 
 -- so of what a view shows of the text at the path, which breaks no law; or it was not read, and nothing was written
 abbrev pub Shows : KnownTexts → List ℕ → (List Event → List ℕ) → (Option Stop → List Event → ℕ) → ℕ → Option (List ℕ) → Option (List ℕ) → Type 0

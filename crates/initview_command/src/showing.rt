@@ -5,7 +5,7 @@ ghost use Rattle.trace_events.specs.Event.{Event};
 ghost use Rattle.trace_view.specs.SeenTexts.{HasSeenText};
 ghost use Rattle.trace_view.specs.Viewing.{Viewed};
 ghost use Rattle.trace_view.specs.declared.text_views.Stop.{Stop};
-ghost use Rattle.initview_command.specs.Showing.{Shows, ShowsOf, Writes, lsb_status, row_status, said, status_by, stop_status};
+ghost use Rattle.initview_command.specs.Showing.{Shows, ShowsOf, Writes, is_within, lsb_status, row_status, said, status_by, stop_status};
 
 use crate::asking::Question;
 use crate::telling::{report_memory, report_unread, report_unwritten, tell};
@@ -50,16 +50,24 @@ struct FileText<S: Sees<Global> + Drop> {
     text: SeenText<S>,
 }
 
-/// The text, of which nothing was taken, on the heap: a function that has one in its frame is dear to prove.
-fn file_text<S: Sees<Global> + Drop>(alloc: Global, seen: S) -> Result<Box<FileText<S>>, AllocError>
-    ensures { IfOk result (λ file. S.has_seen seen [] → HasSeenText S.has_seen file.value.text []) }
-{
-    Ok(Box::new(
-        alloc,
+impl<S: Sees<Global> + Drop> FileText<S> {
+    /// A text of which nothing was taken, nor seen.
+    fn new(alloc: Global, seen: S) -> FileText<S>
+        requires { S.has_seen seen [] }
+        ensures { HasSeenText S.has_seen result.text [] }
+    {
         FileText {
             text: SeenText::new(alloc, seen),
-        },
-    )?)
+        }
+    }
+}
+
+/// The same on the heap: a function that has one in its frame is dear to prove.
+fn file_text<S: Sees<Global> + Drop>(alloc: Global, seen: S) -> Result<Box<FileText<S>>, AllocError>
+    requires { S.has_seen seen [] }
+    ensures { IfOk result (λ file. HasSeenText S.has_seen file.value.text []) }
+{
+    Ok(Box::new(alloc, FileText::new(alloc, seen))?)
 }
 
 impl<S: Sees<Global> + Drop> PieceTaker for FileText<S> {
@@ -202,6 +210,16 @@ fn show_text<T: Texts, Q: Asks, W: Write, E: Write>(
     }
 }
 
+/// The text begins within a run.
+fn is_within(stop: Option<Stop>) -> bool
+    ensures { result ≡ is_within stop }
+{
+    match stop {
+        Some(Stop::Within) => true,
+        _ => false,
+    }
+}
+
 /// Writes what is asked of a text, unless that begins within a run, and gives the exit status.
 fn show_seen<Q: Asks, W: Write, E: Write>(
     alloc: Global,
@@ -217,12 +235,12 @@ fn show_seen<Q: Asks, W: Write, E: Write>(
         → ShowsOf stop (Q.said asked.now path.now past) (Q.ends asked.now stop past) result
         (W.contents out.old) (W.contents out.new) }
 {
-    if let Some(Stop::Within) = stop {
+    if is_within(stop) {
         return REFUSED;
     }
     match asked.answer(alloc, path, text, stop) {
         Ok((said, status)) => write_answer(&said, status, out, err),
-        Err(Memory) => report_memory(err),
+        Err(_) => report_memory(err),
     }
 }
 

@@ -8,7 +8,7 @@ ghost use Rattle.initview_command.specs.Tables.{Answers, AnswersOf, AreFilesAt, 
 
 use crate::asking::TableQuestion;
 use crate::showing::write_answer;
-use crate::telling::{report_memory, report_unread};
+use crate::telling::report_unread;
 use init_words::{Level, Part};
 use inittab_lint::{Found, lint_parts};
 use inittab_text::{PartFault, Table, TableFault, read_parts};
@@ -237,15 +237,22 @@ fn plan_answer<E: Write>(
     }
 }
 
+fn fault_status(fault: TableFault) -> u8
+    ensures { result ≡ fault_status fault }
+{
+    match fault {
+        TableFault::Memory => DEVICE_FAULT,
+        TableFault::TooLong => REFUSED,
+        TableFault::Parts => REFUSED,
+    }
+}
+
 /// Tells why an inittab is not read, and gives the exit status.
 pub(crate) fn report_fault<E: Write>(fault: TableFault, err: &mut E) -> u8
     ensures { result ≡ fault_status fault }
 {
-    if let TableFault::Memory = fault {
-        return report_memory(err);
-    }
     let _ = writeln!(err, "initview: {fault}");
-    REFUSED
+    fault_status(fault)
 }
 
 /// Writes what is answered of inittabs, and gives the exit status.

@@ -10,8 +10,8 @@ returns-in-Ok g c =
     let text_at = g.T.Texts.text_at c.args.texts.now in
     let old = g.W.Write.contents c.args.out.now in
     let new = g.W.Write.contents c.show_file.new.out in
-    inl (subst (λ t. Shows text_at c.args.path.now (reload_said t (table_in (drop 1 c.args.parts.now)) c.args.level) (λ stop past. stop_status stop) c.show_file.result old new) c.in-Ok.ensures.0
-    (subst (λ t. Shows text_at c.args.path.now (reload_said c.in-Ok.old t c.args.level) (λ stop past. stop_status stop) c.show_file.result old new) c.in-Ok.ensures.1 c.show_file.ensures))
+    inl (subst (λ t. Shows text_at c.args.path.now (reload_said t (table_in (drop 1 c.args.parts.now)) c.args.level) (λ stop past. stop_status stop) c.show_file.result old new) c.in-Ok.ensures.tables.0
+    (subst (λ t. Shows text_at c.args.path.now (reload_said c.in-Ok.old t c.args.level) (λ stop past. stop_status stop) c.show_file.result old new) c.in-Ok.ensures.tables.1 c.show_file.ensures))
 
 pub returns-in-Err : goal.returns-in-Err
-returns-in-Err g c = fails_by _ _ c.in-Err.fault c.report_fault.result (g.W.Write.contents c.args.out.now) c.in-Err.ensures c.report_fault.ensures (λ is. inr is)
+returns-in-Err g c = fails_by _ _ c.in-Err.fault c.report_fault.result (g.W.Write.contents c.args.out.now) c.in-Err.ensures.fault c.report_fault.ensures (λ is. inr is)

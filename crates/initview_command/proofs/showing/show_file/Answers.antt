@@ -2,8 +2,5 @@ use Rattle.std.proofs.Common.{inr}
 use Rattle.std.proofs.KnownBytes.{Keeps-refl}
 use Rattle.initview_command.proofs.showing.show_file.Goals as goal
 
-pub show_text-requires : goal.show_text-requires
-show_text-requires g c = c.in-Ok.ensures c.nothing.ensures
-
 pub returns-in-Err : goal.returns-in-Err
 returns-in-Err g c = inr (c.report_memory.ensures, Keeps-refl (g.W.Write.contents c.args.out.now))
