@@ -362,7 +362,7 @@ fn do_by<F: LinkFolders, W: Write, E: Write>(
 
 /// The links are made, or their changes printed, by facility files too.
 fn takes_facilities(line: Line) -> bool
-    ensures { result ≡ takes_facilities (line_said line) }
+    ensures { result ≡ takes_facilities (line_said line.entry) }
 {
     line.dir.is_some() && !line.bare
 }
@@ -425,7 +425,7 @@ fn add_files(alloc: Global, files: &[String], all: &mut Vec<String>) -> Result<(
 /// The files that are read for what words ask for.
 fn files_with(alloc: Global, facilities: &[String], line: Line) -> Result<Vec<String>, AllocError>
     ensures { IfOk result (λ files. map string_bytes files.items
-        ≡ files_with (map string_bytes facilities.now) (line_said line)) }
+        ≡ files_with (map string_bytes facilities.now) (line_said line.entry)) }
 {
     let mut files = Vec::new(alloc);
     if takes_facilities(line) {

@@ -6,5 +6,5 @@ use Rattle.rclinks_command.proofs.command.is_unnamed.Given as goal
 
 abbrev pub invariant-loop-file : goal.invariant-loop-file
 invariant-loop-file l =
-    list_any (λ file. bytes_eq (last_part file) (last_part l.facility.now)) (map string_bytes (drop l.file-index l.files))
-    ≡ list_any (λ file. bytes_eq (last_part file) (last_part l.facility.now)) (map string_bytes l.files)
+    list_any (λ file. bytes_eq (last_part file) (last_part l.facility)) (map string_bytes (drop l.file-index l.files))
+    ≡ list_any (λ file. bytes_eq (last_part file) (last_part l.facility)) (map string_bytes l.files)
