@@ -106,6 +106,8 @@ pub struct Marks<A: Allocator = Global> {
 }
 
 impl<A: Allocator> Model for Marks<A> {
+    ghost use Rattle.initview_timeline.specs.declared.marks.Mark.{Mark};
+
     ghost Value = { List Mark };
 
     ghost view = { λ m. m.marks.items };
@@ -142,6 +144,7 @@ impl<A: Allocator> Sees<A> for Marks<A> {
         _line: u64,
         happening: &HappeningIn<A>,
     ) -> Result<(), Memory> {
-        take_mark(&mut self.marks, view, happening)
+        take_mark(&mut self.marks, view, happening)?;
+        Ok(())
     }
 }
