@@ -106,6 +106,7 @@ pub struct Marks<A: Allocator = Global> {
 }
 
 impl<A: Allocator> Model for Marks<A> {
+    ghost use Rattle.std.specs.Prelude.{List};
     ghost use Rattle.initview_timeline.specs.declared.marks.Mark.{Mark};
 
     ghost Value = { List Mark };
@@ -133,6 +134,7 @@ impl<A: Allocator> Marks<A> {
 }
 
 impl<A: Allocator> Sees<A> for Marks<A> {
+    ghost use Rattle.std.specs.Prelude.{◌≡◌};
     ghost use Rattle.initview_timeline.specs.Marks.{marks_of};
 
     ghost has_seen = { λ marks past. marks ≡ marks_of past };
