@@ -148,6 +148,9 @@ abbrev pub is_one : List Text → Bool
 is_one (trace ∷ []) = true
 is_one _ = false
 
+abbrev pub is_plain : List Text → List Text → Bool
+is_plain options words = is_nil options && is_one words
+
 abbrev pub plain_of : Text → Bool → Option What
 plain_of verb plain =
     if plain && bytes_eq verb (codes "left") then Some (Show Left)
@@ -163,7 +166,7 @@ asked_by verb options words =
     if bytes_eq verb (codes "status") then show_of options words
     else if bytes_eq verb (codes "timeline") then draw_of options words
     else if bytes_eq verb (codes "why") then explain_of options words
-    else or_tables (plain_of verb (is_nil options && is_one words)) (tables_of verb options words)
+    else or_tables (plain_of verb (is_plain options words)) (tables_of verb options words)
 
 -- what options and words ask; the first of the words is the command
 abbrev pub what_of : List Text → List Text → Option What

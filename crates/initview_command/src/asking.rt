@@ -1,7 +1,7 @@
 //! What the words of a command line ask: the options, which may stand anywhere, and the other words.
 
 ghost use Rattle.std.specs.Prelude.{◌≡◌, ◌++◌, false, map, option_map, string_bytes, IfOk, OnOk};
-ghost use Rattle.initview_command.specs.Asking.{asked_by, behind_one, behind_three, diff_by, diff_of, draw_of, explain_of, files_of, form_of, given_by, is_nil, is_one, is_option, is_picked, level_in, level_of, picked, plain_of, reload_of, second_of, shape_of, show_of, tables_of, takes_value, third_of, trace_given, trace_of, traced, value_next, what_of};
+ghost use Rattle.initview_command.specs.Asking.{asked_by, behind_one, behind_three, diff_by, diff_of, draw_of, explain_of, files_of, form_of, given_by, is_nil, is_one, is_option, is_picked, is_plain, level_in, level_of, picked, plain_of, reload_of, second_of, shape_of, show_of, tables_of, takes_value, third_of, trace_given, trace_of, traced, value_next, what_of};
 
 use crate::charting::{Form, WIDTH, lines_of};
 use init_words::{Id, Level};
@@ -283,6 +283,12 @@ fn is_nil(words: &[String]) -> bool
     }
 }
 
+fn is_plain(options: &[String], words: &[String]) -> bool
+    ensures { result ≡ is_plain (map string_bytes options.now) (map string_bytes words.now) }
+{
+    is_nil(options) && is_one(words)
+}
+
 fn asked_by(verb: &str, options: &[String], words: &[String]) -> Option<What>
     ensures { result
         ≡ asked_by verb.now (map string_bytes options.now) (map string_bytes words.now) }
@@ -296,8 +302,7 @@ fn asked_by(verb: &str, options: &[String], words: &[String]) -> Option<What>
     if verb == "why" {
         return explain_of(options, words);
     }
-    let plain = is_nil(options) && is_one(words);
-    match plain_of(verb, plain) {
+    match plain_of(verb, is_plain(options, words)) {
         Some(what) => Some(what),
         None => tables_of(verb, options, words),
     }
