@@ -1,5 +1,5 @@
 -- What the words of a command line ask: options with their values stand anywhere, and the other words in their order.
-use Rattle.std.specs.Prelude.{ℕ, Bool, true, false, not, ◌&&◌, ◌||◌, if◌then◌else◌, List, [], ◌∷◌, ◌++◌, codes, Option, Some, None}
+use Rattle.std.specs.Prelude.{ℕ, Bool, true, false, not, ◌&&◌, ◌||◌, ◌==◌, if◌then◌else◌, List, [], ◌∷◌, ◌++◌, codes, Option, Some, None}
 use Rattle.std.specs.Option.{option_map}
 use Rattle.std.specs.Str.{bytes_eq}
 use Rattle.text_lines.specs.Numbers.{number_read}
@@ -22,7 +22,7 @@ Text = List ℕ
 
 -- an option begins with -, which is standard input where it stands alone; some have a value behind them
 abbrev pub is_option : Text → Bool
-is_option (45 ∷ byte ∷ word) = true
+is_option (first ∷ second ∷ word) = first == 45
 is_option _ = false
 
 abbrev pub takes_value : Text → Bool
@@ -130,9 +130,12 @@ diff_in options None = option_map (λ level. Tables (table.Diff level)) (level_o
 abbrev pub diff_by : List Text → Option What
 diff_by options = diff_in options (traced options)
 
+abbrev pub is_two : List Text → Bool
+is_two (old ∷ new ∷ []) = true
+is_two _ = false
+
 abbrev pub diff_of : List Text → List Text → Option What
-diff_of options (old ∷ new ∷ []) = diff_by options
-diff_of options _ = None
+diff_of options words = if is_two words then diff_by options else None
 
 -- plan [--level LEVEL] TABLE [FILE..], lint TABLE [FILE..]
 abbrev pub tables_of : Text → List Text → List Text → Option What

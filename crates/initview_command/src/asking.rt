@@ -1,7 +1,7 @@
 //! What the words of a command line ask: the options, which may stand anywhere, and the other words.
 
 ghost use Rattle.std.specs.Prelude.{◌≡◌, ◌++◌, false, map, option_map, string_bytes, IfOk, OnOk};
-ghost use Rattle.initview_command.specs.Asking.{asked_by, behind_one, behind_three, diff_by, diff_of, draw_of, explain_of, files_of, form_of, given_by, is_nil, is_one, is_option, is_picked, is_plain, level_in, level_of, picked, plain_of, reload_of, second_of, shape_of, show_of, tables_of, takes_value, third_of, trace_given, trace_of, traced, value_next, what_of};
+ghost use Rattle.initview_command.specs.Asking.{asked_by, behind_one, behind_three, diff_by, diff_of, draw_of, explain_of, files_of, form_of, given_by, is_nil, is_one, is_option, is_picked, is_plain, is_two, level_in, level_of, picked, plain_of, reload_of, second_of, shape_of, show_of, tables_of, takes_value, third_of, trace_given, trace_of, traced, value_next, what_of};
 
 use crate::charting::{Form, WIDTH, lines_of};
 use init_words::{Id, Level};
@@ -48,7 +48,7 @@ pub(crate) fn is_option(word: &str) -> bool
     ensures { result ≡ is_option word.now }
 {
     match word.as_bytes() {
-        [b'-', _, ..] => true,
+        [first, _, ..] => *first == b'-',
         _ => false,
     }
 }
@@ -222,12 +222,22 @@ fn diff_by(options: &[String]) -> Option<What>
     }
 }
 
+fn is_two(words: &[String]) -> bool
+    ensures { result ≡ is_two (map string_bytes words.now) }
+{
+    match words {
+        [_, _] => true,
+        _ => false,
+    }
+}
+
 fn diff_of(options: &[String], words: &[String]) -> Option<What>
     ensures { result ≡ diff_of (map string_bytes options.now) (map string_bytes words.now) }
 {
-    match words {
-        [_, _] => diff_by(options),
-        _ => None,
+    if is_two(words) {
+        diff_by(options)
+    } else {
+        None
     }
 }
 
@@ -355,9 +365,9 @@ fn behind_three(words: &[String]) -> &[String]
 }
 
 /// The path of the trace.
-pub(crate) fn trace_of<'a>(what: What, options: &'a [String], words: &'a [String]) -> &'a str
+pub(crate) fn trace_of<'a>(what: &What, options: &'a [String], words: &'a [String]) -> &'a str
     ensures { result.now
-        ≡ trace_of what (map string_bytes options.now) (map string_bytes words.now) }
+        ≡ trace_of what.now (map string_bytes options.now) (map string_bytes words.now) }
 {
     match what {
         What::Reload(_) => trace_given(options),
@@ -370,8 +380,8 @@ pub(crate) fn trace_of<'a>(what: What, options: &'a [String], words: &'a [String
 }
 
 /// The paths of the files of inittabs.
-pub(crate) fn files_of(what: What, words: &[String]) -> &[String]
-    ensures { map string_bytes result.now ≡ files_of what (map string_bytes words.now) }
+pub(crate) fn files_of<'a>(what: &What, words: &'a [String]) -> &'a [String]
+    ensures { map string_bytes result.now ≡ files_of what.now (map string_bytes words.now) }
 {
     match what {
         What::Explain(_) => behind_three(words),
