@@ -1,11 +1,12 @@
 -- What options and words ask is done.
-use Rattle.std.proofs.Common.{◌≡◌, ℕ, Bool, true, false, cond, List, Option, Some, None, subst}
+use Rattle.std.proofs.Common.{◌≡◌, ℕ, Bool, true, false, codes, List, Option, Some, None, subst}
 use Rattle.std.proofs.KnownBytes.{Keeps-refl}
 use Rattle.program_io.specs.declared.statuses.TheConstants.{REFUSED}
 use Rattle.program_io.specs.Known.{KnownTexts}
+use Rattle.command_words.specs.VersionLine.{PrintsVersion}
 use Rattle.initview_command.specs.declared.asking.What.{What}
-use Rattle.initview_command.specs.Asking.{files_of, trace_of}
-use Rattle.initview_command.specs.Endings.{Does, EndsOf}
+use Rattle.initview_command.specs.Asking.{files_of, picked, trace_of}
+use Rattle.initview_command.specs.Endings.{Does, EndsAs, EndsOf, EndsOn}
 
 pub so_done : (text_at growing_at : KnownTexts) (options words : List (List ℕ)) (path : List ℕ) (files : List (List ℕ)) (what : What) (asked : Option What) (status : ℕ) (old new : Option (List ℕ)) → path ≡ trace_of what options words → files ≡ files_of what words → Some what ≡ asked → Does text_at growing_at path files what status old new → EndsOf text_at growing_at options words asked status old new
 so_done text_at growing_at options words path files what asked status old new e1 e2 e3 done =
@@ -18,10 +19,10 @@ none_done text_at growing_at options words asked status now e1 e2 =
     subst (λ o. EndsOf text_at growing_at options words o status now now) e1 (e2, Keeps-refl now)
 
 -- by whether the version is asked for
-pub when : {A B : Type 0} (b : Bool) → b ≡ true → A → cond b A B
-when true is a = a
-when false is a = absurd (cc)
+pub version_done : (text_at growing_at : KnownTexts) (words : List (List ℕ)) (asks : Bool) (status : ℕ) (old new : Option (List ℕ)) → asks ≡ true → PrintsVersion (codes "initview") status old new → EndsAs asks text_at growing_at words status old new
+version_done text_at growing_at words true status old new is printed = printed
+version_done text_at growing_at words false status old new is printed = absurd (cc)
 
-pub unless : {A B : Type 0} (b : Bool) → b ≡ false → B → cond b A B
-unless true is b = absurd (cc)
-unless false is b = b
+pub words_done : (text_at growing_at : KnownTexts) (words : List (List ℕ)) (asks : Bool) (status : ℕ) (old new : Option (List ℕ)) → asks ≡ false → EndsOn text_at growing_at (picked true false words) (picked false false words) status old new → EndsAs asks text_at growing_at words status old new
+words_done text_at growing_at words true status old new is done = absurd (cc)
+words_done text_at growing_at words false status old new is done = done

@@ -1,5 +1,5 @@
 -- What is written of a trace, and where nothing is.
-use Rattle.std.proofs.Common.{◌≡◌, ◌⊎◌, true, false, refl, sym, ap, ◌∙◌, inl, inr, subst, ℕ, List, [], reverse, Option, Some, None}
+use Rattle.std.proofs.Common.{◌≡◌, ◌⊎◌, Bool, true, false, refl, sym, ap, ◌∙◌, inl, inr, subst, ℕ, List, [], reverse, Option, Some, None}
 use Rattle.std.specs.Io.KnownBytes.{Appends, Keeps}
 use Rattle.std.proofs.KnownBytes.{Appends-nil, Keeps-refl}
 use Rattle.program_io.specs.Writing.{AppendsPrefix}
@@ -11,7 +11,7 @@ use Rattle.trace_events.specs.Event.{Event}
 use Rattle.trace_view.specs.SeenTexts.{IsSeen}
 use Rattle.trace_view.specs.Viewing.{ViewState, Viewed}
 use Rattle.trace_view.specs.declared.text_views.Stop.{Stop}
-use Rattle.initview_command.specs.Showing.{Shows, ShowsOf, Writes, is_within}
+use Rattle.initview_command.specs.Showing.{Shows, ShowsBy, ShowsOf, Writes, is_within}
 use Rattle.initview_command.specs.Tables.{FailsBy, fault_status}
 
 -- what was written of a text is what is said of it
@@ -20,11 +20,19 @@ writes_as text said given ends status old new same is written =
     subst (λ e. Writes said e status old new) is (subst (λ t. Writes t given status old new) same written)
 
 -- a text that begins within a run is refused, and any other answered
+refused_by : (within : Bool) (said : List ℕ) (ends status : ℕ) (now : Option (List ℕ)) → within ≡ true → status ≡ REFUSED → ShowsBy within said ends status now now
+refused_by true said ends status now is ends_so = (ends_so, Keeps-refl now)
+refused_by false said ends status now is ends_so = absurd (cc)
+
 pub refused : (stop : Option Stop) (said : List ℕ) (ends status : ℕ) (now : Option (List ℕ)) → is_within stop ≡ true → status ≡ REFUSED → ShowsOf stop said ends status now now
-refused stop said ends status now is ends_so = rw is (ends_so, Keeps-refl now)
+refused stop said ends status now is ends_so = refused_by (is_within stop) said ends status now is ends_so
+
+answered_by : (within : Bool) (said : List ℕ) (ends status : ℕ) (old new : Option (List ℕ)) → within ≡ false → Writes said ends status old new → ShowsBy within said ends status old new
+answered_by true said ends status old new is written = absurd (cc)
+answered_by false said ends status old new is written = written
 
 pub answered : (stop : Option Stop) (said : List ℕ) (ends status : ℕ) (old new : Option (List ℕ)) → is_within stop ≡ false → Writes said ends status old new → ShowsOf stop said ends status old new
-answered stop said ends status old new is written = rw is written
+answered stop said ends status old new is written = answered_by (is_within stop) said ends status old new is written
 
 -- what is shown of a text that was taken
 pub shows : {S : Type 0} (has : S → List Event → Type 0) (text_at : KnownTexts) (path text : List ℕ) (says : List Event → List ℕ) (ends : Option Stop → List Event → ℕ) (view : ViewState) (seen : S) (stop : Option Stop) (left : Option ℕ) (status : ℕ) (old new : Option (List ℕ)) → IsTextAt text_at path text → IsSeen has text stop left view seen → ((past : List Event) → Viewed view past → has seen past → ShowsOf stop (says past) (ends stop past) status old new) → Shows text_at path says ends status old new
@@ -32,7 +40,7 @@ shows has text_at path text says ends view seen stop left status old new at is o
     inl (text, stop, left, is.0, at, is.1, is.2.judged.lawful, of (reverse is.0) is.2 is.3)
 
 -- files that are refused, or memory that runs out
-pub fails_by : (X refused : Type 0) (why : TableFault) (status : ℕ) (now : Option (List ℕ)) → FailsBy refused why → status ≡ fault_status why → ((status ≡ DEVICE_FAULT) × Keeps now now → X) → X ⊎ ((status ≡ REFUSED) × refused × Keeps now now)
-fails_by X refused fault.Memory status now fails is none = inl (none (is, Keeps-refl now))
-fails_by X refused fault.TooLong status now fails is none = inr (is, fails, Keeps-refl now)
-fails_by X refused fault.Parts status now fails is none = inr (is, fails, Keeps-refl now)
+pub fails_by : (X Not : Type 0) (why : TableFault) (status : ℕ) (now : Option (List ℕ)) → FailsBy Not why → status ≡ fault_status why → ((status ≡ DEVICE_FAULT) × Keeps now now → X) → X ⊎ ((status ≡ REFUSED) × Not × Keeps now now)
+fails_by X Not fault.Memory status now fails is none = inl (none (is, Keeps-refl now))
+fails_by X Not fault.TooLong status now fails is none = inr (is, fails, Keeps-refl now)
+fails_by X Not fault.Parts status now fails is none = inr (is, fails, Keeps-refl now)

@@ -1,5 +1,5 @@
 -- What the words of a command line ask: options with their values stand anywhere, and the other words in their order.
-use Rattle.std.specs.Prelude.{ℕ, Bool, true, false, not, ◌&&◌, ◌||◌, if◌then◌else◌, List, [], ◌∷◌, ◌++◌, codes, Option, Some, None}
+use Rattle.std.specs.Prelude.{ℕ, Bool, true, false, not, ◌&&◌, ◌||◌, ◌==◌, if◌then◌else◌, List, [], ◌∷◌, ◌++◌, codes, Option, Some, None}
 use Rattle.std.specs.Option.{option_map}
 use Rattle.std.specs.Str.{bytes_eq}
 use Rattle.text_lines.specs.Numbers.{number_read}
@@ -22,7 +22,7 @@ Text = List ℕ
 
 -- an option begins with -, which is standard input where it stands alone; some have a value behind them
 abbrev pub is_option : Text → Bool
-is_option (45 ∷ byte ∷ word) = true
+is_option (first ∷ second ∷ word) = first == 45
 is_option _ = false
 
 abbrev pub takes_value : Text → Bool
@@ -89,9 +89,16 @@ draw_of options (trace ∷ []) = option_map Draw (form_of options)
 draw_of options _ = None
 
 -- why ID TRACE [TABLE..]
+abbrev pub is_nil : List Text → Bool
+is_nil [] = true
+is_nil _ = false
+
+abbrev pub explain_by : List Text → Option What
+explain_by (id ∷ trace ∷ tables) = option_map Explain (id_read id)
+explain_by _ = None
+
 abbrev pub explain_of : List Text → List Text → Option What
-explain_of [] (id ∷ trace ∷ tables) = option_map Explain (id_read id)
-explain_of _ _ = None
+explain_of options words = if not (is_nil options) then None else explain_by words
 
 -- the other options, where these name a trace, and its path
 abbrev pub traced_behind : Text → Text → List Text → Option (List Text)
@@ -123,15 +130,14 @@ diff_in options None = option_map (λ level. Tables (table.Diff level)) (level_o
 abbrev pub diff_by : List Text → Option What
 diff_by options = diff_in options (traced options)
 
+abbrev pub is_two : List Text → Bool
+is_two (old ∷ new ∷ []) = true
+is_two _ = false
+
 abbrev pub diff_of : List Text → List Text → Option What
-diff_of options (old ∷ new ∷ []) = diff_by options
-diff_of options _ = None
+diff_of options words = if is_two words then diff_by options else None
 
 -- plan [--level LEVEL] TABLE [FILE..], lint TABLE [FILE..]
-abbrev pub is_nil : List Text → Bool
-is_nil [] = true
-is_nil _ = false
-
 abbrev pub tables_of : Text → List Text → List Text → Option What
 tables_of verb options words =
     if bytes_eq verb (codes "diff") then diff_of options words
@@ -141,26 +147,29 @@ tables_of verb options words =
     else None
 
 -- left TRACE, follow TRACE
-abbrev pub plain_of : Text → Option What
-plain_of verb =
-    if bytes_eq verb (codes "left") then Some (Show Left)
-    else if bytes_eq verb (codes "follow") then Some Follow
+abbrev pub is_one : List Text → Bool
+is_one (trace ∷ []) = true
+is_one _ = false
+
+abbrev pub is_plain : List Text → List Text → Bool
+is_plain options words = is_nil options && is_one words
+
+abbrev pub plain_of : Text → Bool → Option What
+plain_of verb plain =
+    if plain && bytes_eq verb (codes "left") then Some (Show Left)
+    else if plain && bytes_eq verb (codes "follow") then Some Follow
     else None
 
 abbrev pub or_tables : Option What → Option What → Option What
 or_tables (Some what) other = Some what
 or_tables None other = other
 
-abbrev pub plain_or : Text → List Text → List Text → Option What → Option What
-plain_or verb [] (trace ∷ []) other = or_tables (plain_of verb) other
-plain_or verb _ _ other = other
-
 abbrev pub asked_by : Text → List Text → List Text → Option What
 asked_by verb options words =
     if bytes_eq verb (codes "status") then show_of options words
     else if bytes_eq verb (codes "timeline") then draw_of options words
     else if bytes_eq verb (codes "why") then explain_of options words
-    else plain_or verb options words (tables_of verb options words)
+    else or_tables (plain_of verb (is_plain options words)) (tables_of verb options words)
 
 -- what options and words ask; the first of the words is the command
 abbrev pub what_of : List Text → List Text → Option What

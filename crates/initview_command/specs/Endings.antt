@@ -1,5 +1,5 @@
 -- How initview ends on its words, and what it wrote.
-use Rattle.std.specs.Prelude.{◌≡◌, ◌⊎◌, ℕ, true, false, if◌then◌else◌, List, codes, Option, Some, None}
+use Rattle.std.specs.Prelude.{◌≡◌, ◌⊎◌, ℕ, Bool, true, false, List, codes, Option, Some, None}
 use Rattle.std.specs.Io.KnownBytes.{Keeps}
 use Rattle.program_io.specs.declared.statuses.TheConstants.{REFUSED, DEVICE_FAULT}
 use Rattle.program_io.specs.Known.{KnownTexts}
@@ -38,7 +38,11 @@ EndsOn text_at growing_at options words status old new =
     EndsOf text_at growing_at options words (what_of options words) status old new
     ⊎ ((status ≡ DEVICE_FAULT) × Keeps old new)
 
+abbrev pub EndsAs : Bool → KnownTexts → KnownTexts → List (List ℕ) → ℕ → Option (List ℕ) → Option (List ℕ) → Type 0
+EndsAs true text_at growing_at words status old new = PrintsVersion (codes "initview") status old new
+EndsAs false text_at growing_at words status old new =
+    EndsOn text_at growing_at (picked true false words) (picked false false words) status old new
+
 abbrev pub EndsBy : KnownTexts → KnownTexts → List (List ℕ) → ℕ → Option (List ℕ) → Option (List ℕ) → Type 0
 EndsBy text_at growing_at words status old new =
-    if asks_version words then PrintsVersion (codes "initview") status old new
-    else EndsOn text_at growing_at (picked true false words) (picked false false words) status old new
+    EndsAs (asks_version words) text_at growing_at words status old new

@@ -51,9 +51,12 @@ abbrev pub is_within : Option Stop → Bool
 is_within (Some Within) = true
 is_within _ = false
 
+abbrev pub ShowsBy : Bool → List ℕ → ℕ → ℕ → Option (List ℕ) → Option (List ℕ) → Type 0
+ShowsBy true text ends status old new = (status ≡ REFUSED) × Keeps old new
+ShowsBy false text ends status old new = Writes text ends status old new
+
 abbrev pub ShowsOf : Option Stop → List ℕ → ℕ → ℕ → Option (List ℕ) → Option (List ℕ) → Type 0
-ShowsOf stop text ends status old new =
-    if is_within stop then (status ≡ REFUSED) × Keeps old new else Writes text ends status old new
+ShowsOf stop text ends status old new = ShowsBy (is_within stop) text ends status old new
 
 -- so of what a view shows of the text at the path, which breaks no law; or it was not read, and nothing was written
 abbrev pub Shows : KnownTexts → List ℕ → (List Event → List ℕ) → (Option Stop → List Event → ℕ) → ℕ → Option (List ℕ) → Option (List ℕ) → Type 0

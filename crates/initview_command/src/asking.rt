@@ -1,7 +1,7 @@
 //! What the words of a command line ask: the options, which may stand anywhere, and the other words.
 
 ghost use Rattle.std.specs.Prelude.{◌≡◌, ◌++◌, false, map, option_map, string_bytes, IfOk, OnOk};
-ghost use Rattle.initview_command.specs.Asking.{asked_by, diff_by, diff_of, draw_of, explain_of, files_of, form_of, given_by, is_option, is_picked, level_in, level_of, picked, plain_of, reload_of, shape_of, show_of, tables_of, takes_value, trace_given, trace_of, traced, value_next, what_of};
+ghost use Rattle.initview_command.specs.Asking.{asked_by, behind_one, behind_three, diff_by, diff_of, draw_of, explain_of, files_of, form_of, given_by, is_nil, is_one, is_option, is_picked, is_plain, is_two, level_in, level_of, picked, plain_of, reload_of, second_of, shape_of, show_of, tables_of, takes_value, third_of, trace_given, trace_of, traced, value_next, what_of};
 
 use crate::charting::{Form, WIDTH, lines_of};
 use init_words::{Id, Level};
@@ -48,7 +48,7 @@ pub(crate) fn is_option(word: &str) -> bool
     ensures { result ≡ is_option word.now }
 {
     match word.as_bytes() {
-        [b'-', _, ..] => true,
+        [first, _, ..] => *first == b'-',
         _ => false,
     }
 }
@@ -75,6 +75,7 @@ fn value_next(value: bool, word: &str) -> bool
     !value && takes_value(word)
 }
 
+#[tactic(auto, using(crate::proofs::Picked::map_push))]
 fn add_if(words: &mut Vec<String>, alloc: Global, so: bool, word: &str) -> Result<(), AllocError>
     ensures { OnOk result (map string_bytes words.new.items
         ≡ map string_bytes words.old.items ++ given_by so word.now) }
@@ -86,6 +87,7 @@ fn add_if(words: &mut Vec<String>, alloc: Global, so: bool, word: &str) -> Resul
 }
 
 /// The options with their values, or the other words, of which the first is the command; each in its order.
+#[tactic(auto, using(crate::proofs::Picked::one_picked))]
 pub(crate) fn picked(
     alloc: Global,
     options: bool,
@@ -173,8 +175,11 @@ fn draw_of(options: &[String], words: &[String]) -> Option<What>
 fn explain_of(options: &[String], words: &[String]) -> Option<What>
     ensures { result ≡ explain_of (map string_bytes options.now) (map string_bytes words.now) }
 {
-    match (options, words) {
-        ([], [id, _, ..]) => Some(What::Explain(Id::read(id.as_bytes())?)),
+    if !is_nil(options) {
+        return None;
+    }
+    match words {
+        [id, _, ..] => Some(What::Explain(Id::read(id.as_bytes())?)),
         _ => None,
     }
 }
@@ -217,12 +222,22 @@ fn diff_by(options: &[String]) -> Option<What>
     }
 }
 
+fn is_two(words: &[String]) -> bool
+    ensures { result ≡ is_two (map string_bytes words.now) }
+{
+    match words {
+        [_, _] => true,
+        _ => false,
+    }
+}
+
 fn diff_of(options: &[String], words: &[String]) -> Option<What>
     ensures { result ≡ diff_of (map string_bytes options.now) (map string_bytes words.now) }
 {
-    match words {
-        [_, _] => diff_by(options),
-        _ => None,
+    if is_two(words) {
+        diff_by(options)
+    } else {
+        None
     }
 }
 
@@ -234,13 +249,13 @@ fn tables_of(verb: &str, options: &[String], words: &[String]) -> Option<What>
     if verb == "diff" {
         return diff_of(options, words);
     }
-    if words.is_empty() {
+    if is_nil(words) {
         return None;
     }
     if verb == "plan" {
         return Some(What::Tables(TableQuestion::Plan(level_of(options)?)));
     }
-    if verb == "lint" && options.is_empty() {
+    if verb == "lint" && is_nil(options) {
         Some(What::Tables(TableQuestion::Lint))
     } else {
         None
@@ -248,16 +263,40 @@ fn tables_of(verb: &str, options: &[String], words: &[String]) -> Option<What>
 }
 
 /// What is asked of a trace without options, by a command of one word.
-fn plain_of(verb: &str) -> Option<What>
-    ensures { result ≡ plain_of verb.now }
+fn plain_of(verb: &str, plain: bool) -> Option<What>
+    ensures { result ≡ plain_of verb.now plain }
 {
-    if verb == "left" {
+    if plain && verb == "left" {
         Some(What::Show(Question::Left))
-    } else if verb == "follow" {
+    } else if plain && verb == "follow" {
         Some(What::Follow)
     } else {
         None
     }
+}
+
+fn is_one(words: &[String]) -> bool
+    ensures { result ≡ is_one (map string_bytes words.now) }
+{
+    match words {
+        [_] => true,
+        _ => false,
+    }
+}
+
+fn is_nil(words: &[String]) -> bool
+    ensures { result ≡ is_nil (map string_bytes words.now) }
+{
+    match words {
+        [] => true,
+        _ => false,
+    }
+}
+
+fn is_plain(options: &[String], words: &[String]) -> bool
+    ensures { result ≡ is_plain (map string_bytes options.now) (map string_bytes words.now) }
+{
+    is_nil(options) && is_one(words)
 }
 
 fn asked_by(verb: &str, options: &[String], words: &[String]) -> Option<What>
@@ -273,12 +312,9 @@ fn asked_by(verb: &str, options: &[String], words: &[String]) -> Option<What>
     if verb == "why" {
         return explain_of(options, words);
     }
-    match (options, words) {
-        ([], [_]) => match plain_of(verb) {
-            Some(what) => Some(what),
-            None => tables_of(verb, options, words),
-        },
-        _ => tables_of(verb, options, words),
+    match plain_of(verb, is_plain(options, words)) {
+        Some(what) => Some(what),
+        None => tables_of(verb, options, words),
     }
 }
 
@@ -292,28 +328,67 @@ pub(crate) fn what_of(options: &[String], words: &[String]) -> Option<What>
     }
 }
 
-/// The path of the trace.
-pub(crate) fn trace_of<'a>(what: What, options: &'a [String], words: &'a [String]) -> &'a str
-    ensures { result.now
-        ≡ trace_of what (map string_bytes options.now) (map string_bytes words.now) }
+fn second_of(words: &[String]) -> &str
+    ensures { result.now ≡ second_of (map string_bytes words.now) }
 {
-    match (what, words) {
-        (What::Reload(_), _) => trace_given(options),
-        (What::Explain(_), [_, _, trace, ..]) => trace.as_str(),
-        (What::Explain(_), _) => "",
-        (_, [_, trace, ..]) => trace.as_str(),
+    match words {
+        [_, second, ..] => second.as_str(),
         _ => "",
     }
 }
 
-/// The paths of the files of inittabs.
-pub(crate) fn files_of(what: What, words: &[String]) -> &[String]
-    ensures { map string_bytes result.now ≡ files_of what (map string_bytes words.now) }
+fn third_of(words: &[String]) -> &str
+    ensures { result.now ≡ third_of (map string_bytes words.now) }
 {
-    match (what, words) {
-        (What::Explain(_), [_, _, _, files @ ..]) => files,
-        (What::Explain(_), _) => &[],
-        (_, [_, files @ ..]) => files,
+    match words {
+        [_, _, third, ..] => third.as_str(),
+        _ => "",
+    }
+}
+
+fn behind_one(words: &[String]) -> &[String]
+    ensures { map string_bytes result.now ≡ behind_one (map string_bytes words.now) }
+{
+    match words {
+        [_, rest @ ..] => rest,
         _ => &[],
+    }
+}
+
+fn behind_three(words: &[String]) -> &[String]
+    ensures { map string_bytes result.now ≡ behind_three (map string_bytes words.now) }
+{
+    match words {
+        [_, _, _, rest @ ..] => rest,
+        _ => &[],
+    }
+}
+
+/// The path of the trace.
+pub(crate) fn trace_of<'a>(what: &What, options: &'a [String], words: &'a [String]) -> &'a str
+    ensures { result.now
+        ≡ trace_of what.now (map string_bytes options.now) (map string_bytes words.now) }
+{
+    match what {
+        What::Reload(_) => trace_given(options),
+        What::Explain(_) => third_of(words),
+        What::Show(_) => second_of(words),
+        What::Draw(_) => second_of(words),
+        What::Follow => second_of(words),
+        What::Tables(_) => second_of(words),
+    }
+}
+
+/// The paths of the files of inittabs.
+pub(crate) fn files_of<'a>(what: &What, words: &'a [String]) -> &'a [String]
+    ensures { map string_bytes result.now ≡ files_of what.now (map string_bytes words.now) }
+{
+    match what {
+        What::Explain(_) => behind_three(words),
+        What::Show(_) => behind_one(words),
+        What::Draw(_) => behind_one(words),
+        What::Follow => behind_one(words),
+        What::Reload(_) => behind_one(words),
+        What::Tables(_) => behind_one(words),
     }
 }

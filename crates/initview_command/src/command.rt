@@ -107,9 +107,9 @@ fn run_cut<T: Texts, G: GrowingTexts, W: Write, E: Write>(
 {
     match what_of(options, words) {
         Some(what) => {
-            let path = trace_of(what, options, words);
-            let files = files_of(what, words);
-            run_asked(texts, growing, alloc, what, path, files, out, err)
+            let path = trace_of(&what, options, words);
+            let files = files_of(&what, words);
+            run_asked(texts, growing, alloc, &what, path, files, out, err)
         }
         None => report_refusal(options, words, err),
     }
@@ -120,21 +120,21 @@ fn run_asked<T: Texts, G: GrowingTexts, W: Write, E: Write>(
     texts: &T,
     growing: &G,
     alloc: Global,
-    what: What,
+    what: &What,
     path: &str,
     files: &[String],
     out: &mut W,
     err: &mut E,
 ) -> u8
     ensures { Does (T.text_at texts.now) (G.text_at growing.now) path.now
-        (map string_bytes files.now) what result (W.contents out.old) (W.contents out.new) }
+        (map string_bytes files.now) what.now result (W.contents out.old) (W.contents out.new) }
 {
     match what {
-        What::Show(question) => show_file(texts, alloc, path, &question, out, err),
-        What::Draw(form) => show_file(texts, alloc, path, &form, out, err),
+        What::Show(question) => show_file(texts, alloc, path, question, out, err),
+        What::Draw(form) => show_file(texts, alloc, path, form, out, err),
         What::Follow => follow_file(growing, alloc, path, out, err),
-        What::Explain(id) => explain_file(texts, alloc, path, files, &id, out, err),
-        What::Reload(level) => show_reload(texts, alloc, path, files, level, out, err),
-        What::Tables(question) => show_files(texts, alloc, files, question, out, err),
+        What::Explain(id) => explain_file(texts, alloc, path, files, id, out, err),
+        What::Reload(level) => show_reload(texts, alloc, path, files, *level, out, err),
+        What::Tables(question) => show_files(texts, alloc, files, *question, out, err),
     }
 }

@@ -91,28 +91,31 @@ fn value_reason(option: &str, value: &str) -> Option<&'static str> {
 
 /// Tells what is wrong with options, and whether something is.
 fn tell_options<E: Write>(known: &[&'static str], options: &[String], err: &mut E) -> bool {
-    let mut rest = options;
-    while let Some((option, others)) = rest.split_first() {
-        let option = option.as_str();
-        let meant = option_meant(known, option);
-        if meant != Some(option) {
-            tell_meant("no such option", option, meant, err);
-            return true;
-        }
-        rest = others;
-        if takes_value(option) {
-            let Some((value, behind)) = others.split_first() else {
-                let _ = writeln!(err, "initview: {option} has no value");
-                return true;
-            };
-            if let Some(reason) = value_reason(option, value.as_str()) {
-                let _ = writeln!(err, "initview: {option} {value}: {reason}");
+    let mut option = "";
+    for word in options {
+        let word = word.as_str();
+        if option.is_empty() {
+            let meant = option_meant(known, word);
+            if meant != Some(word) {
+                tell_meant("no such option", word, meant, err);
                 return true;
             }
-            rest = behind;
+            if takes_value(word) {
+                option = word;
+            }
+        } else {
+            if let Some(reason) = value_reason(option, word) {
+                let _ = writeln!(err, "initview: {option} {word}: {reason}");
+                return true;
+            }
+            option = "";
         }
     }
-    false
+    if option.is_empty() {
+        return false;
+    }
+    let _ = writeln!(err, "initview: {option} has no value");
+    true
 }
 
 /// The word that is to be an id.

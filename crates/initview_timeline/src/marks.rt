@@ -106,6 +106,9 @@ pub struct Marks<A: Allocator = Global> {
 }
 
 impl<A: Allocator> Model for Marks<A> {
+    ghost use Rattle.std.specs.Prelude.{List};
+    ghost use Rattle.initview_timeline.specs.declared.marks.Mark.{Mark};
+
     ghost Value = { List Mark };
 
     ghost view = { λ m. m.marks.items };
@@ -131,6 +134,7 @@ impl<A: Allocator> Marks<A> {
 }
 
 impl<A: Allocator> Sees<A> for Marks<A> {
+    ghost use Rattle.std.specs.Prelude.{◌≡◌};
     ghost use Rattle.initview_timeline.specs.Marks.{marks_of};
 
     ghost has_seen = { λ marks past. marks ≡ marks_of past };
@@ -142,6 +146,7 @@ impl<A: Allocator> Sees<A> for Marks<A> {
         _line: u64,
         happening: &HappeningIn<A>,
     ) -> Result<(), Memory> {
-        take_mark(&mut self.marks, view, happening)
+        take_mark(&mut self.marks, view, happening)?;
+        Ok(())
     }
 }
