@@ -1,7 +1,7 @@
 -- Runs of rclinks over the paths of init scripts.
 use Rattle.std.specs.Prelude.{◌≡◌, ◌⊎◌, ℕ, Bool, true, false, not, ◌||◌, ◌&&◌, if◌then◌else◌, List, [], ◌∷◌, ◌++◌, Option, Some, None, codes}
 use Rattle.std.specs.Option.{is_some}
-use Rattle.std.specs.List.{filter, list_any}
+use Rattle.std.specs.List.{list_any}
 use Rattle.std.specs.Str.{bytes_eq}
 use Rattle.std.specs.Io.KnownBytes.{Appends}
 use Rattle.std.specs.declared.alloc.Global.{Global}
@@ -14,8 +14,7 @@ use Rattle.rc_links.specs.Plans.{IsPlan, IsRefused}
 use Rattle.rc_links.specs.ScriptText.{ScriptText}
 use Rattle.rc_links.specs.declared.faults.PlanFault.{PlanFault}
 use Rattle.rc_links.specs.declared.faults.PlanFault.TheVariants as plan_fault
-use Rattle.command_words.specs.Faults.{usage_report}
-use Rattle.rclinks_command.specs.Files.{IsNoScriptAt, IsScriptAt, file_status, last_part}
+use Rattle.rclinks_command.specs.Files.{IsNoScriptAt, IsScriptAt, file_status}
 use Rattle.rclinks_command.specs.Folders.{KnownFolders}
 use Rattle.rclinks_command.specs.Reading.{Reads}
 use Rattle.rclinks_command.specs.Skipping.{LeavesSome}
@@ -30,11 +29,9 @@ is_help word = bytes_eq word (codes "--help") || bytes_eq word (codes "-h")
 abbrev pub wants_usage : List (List ℕ) → Bool
 wants_usage words = is_empty words || list_any is_help words
 
--- what is told where the usage is: that no file is given, and its line; the whole of it of a request for help
-abbrev pub words_report : List ℕ → List ℕ → List (List ℕ) → List ℕ
-words_report whole short words =
-    if is_empty words then usage_report (codes "rclinks") (codes "no file is given") short
-    else usage_report (codes "rclinks") [] whole
+-- why the usage is told: no file is given; nothing is said of a request for help
+abbrev pub usage_reason : List (List ℕ) → List ℕ
+usage_reason words = if is_empty words then codes "no file is given" else []
 
 -- a script for each path, in order
 abbrev pub AreScripts : KnownTexts → List (List ℕ) → List ScriptText → Type 0
@@ -62,13 +59,11 @@ HasRefused text_at paths = (before later : List (List ℕ)) × (path : List ℕ)
     × (found : FileFault) × IsNoScriptAt text_at path found × (file_status found ≡ 1)
 
 -- what words ask for: that all faults are told, that scripts which can't be read or planned are left out, that changes
--- of folders are printed and not made, that no facility file is read that is not among the files, the directory of the
--- folders that are written, and the paths of the files
+-- of folders are printed and not made, the directory of the folders that are written, and the paths of the files
 pub record Line : Type 0 where
   pub all : Bool
   pub skips : Bool
   pub dry : Bool
-  pub bare : Bool
   pub dir : Option (List ℕ)
   pub files : List (List ℕ)
 
@@ -84,28 +79,11 @@ line_from false line (word ∷ words) =
     if bytes_eq word (codes "--all") then line_from false (record line { all = true }) words
     else if bytes_eq word (codes "--skip") then line_from false (record line { skips = true }) words
     else if bytes_eq word (codes "-n") then line_from false (record line { dry = true }) words
-    else if bytes_eq word (codes "--no-facilities") then line_from false (record line { bare = true }) words
     else if bytes_eq word (codes "--write") then line_from true line words
     else record line { files = word ∷ words }
 
 abbrev pub line_of : List (List ℕ) → Line
-line_of words = line_from false (record { all = false; skips = false; dry = false; bare = false; dir = None; files = [] }) words
-
--- facility files are read in front of the files where links are made, or their changes printed
-abbrev pub takes_facilities : Line → Bool
-takes_facilities line = is_some line.dir && not line.bare
-
--- none of the files has the name of the facility's
-abbrev pub is_unnamed : List (List ℕ) → List ℕ → Bool
-is_unnamed files facility = not (list_any (λ file. bytes_eq (last_part file) (last_part facility)) files)
-
-abbrev pub files_with : List (List ℕ) → Line → List (List ℕ)
-files_with facilities line =
-    if takes_facilities line then filter (is_unnamed line.files) facilities ++ line.files else line.files
-
--- the same with these facility files
-abbrev pub line_with : List (List ℕ) → Line → Line
-line_with facilities line = record line { files = files_with facilities line }
+line_of words = line_from false (record { all = false; skips = false; dry = false; dir = None; files = [] }) words
 
 -- scripts that have this are those of all of the files; or those of the files that give one, without some of them, each
 -- left out since there was no plan with it
@@ -155,11 +133,7 @@ TakenBy (Some dir) before plan = IsTaken before dir plan
 abbrev pub IsRefusedFor : KnownTexts → Bool → List (List ℕ) → Type 0
 IsRefusedFor text_at skips paths = HasRefused text_at paths ⊎ ScriptsOf text_at skips paths HasNoPlan
 
--- why a run on these files is refused: it is refused for them, or a name is taken
-abbrev pub IsRefusedBy : KnownTexts → Line → KnownFolders → Type 0
-IsRefusedBy text_at line before = IsRefusedFor text_at line.skips line.files ⊎ PlanOf text_at line (TakenBy line.dir before)
-
--- why a run on what words ask for, with these facility files, is refused: the usage is wanted, or the run on the files is
-abbrev pub IsRefusedRun : KnownTexts → List (List ℕ) → Line → KnownFolders → Type 0
-IsRefusedRun text_at facilities line before =
-    (wants_usage line.files ≡ true) ⊎ IsRefusedBy text_at (line_with facilities line) before
+-- why a run on what words ask for is refused: the usage is wanted, it is refused for its files, or a name is taken
+abbrev pub IsRefusedRun : KnownTexts → Line → KnownFolders → Type 0
+IsRefusedRun text_at line before = (wants_usage line.files ≡ true) ⊎ IsRefusedFor text_at line.skips line.files
+    ⊎ PlanOf text_at line (TakenBy line.dir before)

@@ -9,7 +9,6 @@ line_said line = record {
   all = line.all;
   skips = line.skips;
   dry = line.dry;
-  bare = line.bare;
   dir = option_map (λ dir. dir.now) line.dir;
   files = map string_bytes line.files.now;
 }

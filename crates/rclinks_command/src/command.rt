@@ -1,18 +1,19 @@
 //! The command line of rclinks, and what it prints.
 
-ghost use Rattle.std.specs.Prelude.{◌≡◌, ◌⊎◌, ◌++◌, ◌∷◌, [], true, false, codes, map, string_bytes, IfOk, IfErr, OnOk, Some, None};
-ghost use Rattle.std.specs.List.{filter, list_any};
+ghost use Rattle.std.specs.Prelude.{◌≡◌, ◌⊎◌, true, false, codes, map, string_bytes, IfOk, IfErr, Some, None};
+ghost use Rattle.std.specs.List.{list_any};
 ghost use Rattle.std.specs.Io.KnownBytes.{Appends};
 ghost use Rattle.program_io.specs.Writing.{AppendsPrefix};
 ghost use Rattle.command_words.specs.VersionLine.{PrintsVersion};
 ghost use Rattle.command_words.specs.CommandLines.{asks_version};
+ghost use Rattle.command_words.specs.Faults.{usage_report};
 ghost use Rattle.rc_links.specs.Links.{plan_text};
 ghost use Rattle.rc_links.specs.Plans.{IsPlan};
 ghost use Rattle.rclinks_command.specs.Said.{line_said};
-ghost use Rattle.rclinks_command.specs.Command.{goes_on, Does, DoesBy, DoesPart, HasNoPlan, IsRefusedBy, IsRefusedFor, IsRefusedRun, PartBy, ScriptsOf, TakenBy, files_with, is_help, is_unnamed, line_from, line_of, line_with, plan_status, takes_facilities, wants_usage, words_report, writes};
+ghost use Rattle.rclinks_command.specs.Command.{goes_on, Does, DoesBy, DoesPart, HasNoPlan, IsRefusedFor, IsRefusedRun, PartBy, ScriptsOf, TakenBy, is_help, line_from, line_of, plan_status, usage_reason, wants_usage, writes};
 ghost use Rattle.rclinks_command.specs.Skipping.{LeavesSome};
 
-use crate::files::{FileFault, last_part};
+use crate::files::FileFault;
 use crate::folders::LinkFolders;
 use crate::reading::read_files;
 use crate::skipping::{plan_rest, tell_first};
@@ -21,24 +22,17 @@ use crate::writing::{preview, write_folders};
 use command_words::{is_version, print_version, report_refused_words};
 use program_io::{DEVICE_FAULT, DONE, REFUSED, Texts, report_no_memory, write_text};
 use rc_links::{Plan, PlanFault, Script, plan};
-use std::alloc::{AllocError, Global};
+use std::alloc::Global;
 use std::io::Write;
 
-/// What is told where help is asked for.
-pub const USAGE: &str = "usage: rclinks [--all] [--skip] [--write DIR] [-n] [--no-facilities] FILE..
+/// What is told of words that are no command line, behind a line that says why, and where help is asked for.
+pub const USAGE: &str = "usage: rclinks [--all] [--skip] [--write DIR] [-n] FILE..
        rclinks --version
   --all        tell all faults, and not the first alone
   --skip       leave out the scripts that can't be read or planned, and plan the others
-  --write DIR  make the links in DIR, in rc0.d to rc9.d and rcS.d, and take away the scripts' other numbered links;
-               the facility files that are installed are read in front of the scripts
+  --write DIR  make the links in DIR, in rc0.d to rc9.d and rcS.d, and take away the scripts' other numbered links
   -n           print what --write would do, and change nothing
-  --no-facilities
-               read no facility file that is not among the files
 ";
-
-/// What is told of words that are no command line, behind a line that says why.
-pub const SHORT_USAGE: &str =
-    "usage: rclinks [--all] [--skip] [--write DIR] [-n] [--no-facilities] FILE.. | --help\n";
 
 /// What words ask for.
 #[derive(Clone, Copy)]
@@ -49,8 +43,6 @@ struct Line<'w> {
     skips: bool,
     /// Changes of folders are printed, and not made.
     dry: bool,
-    /// No facility file is read that is not among the files.
-    bare: bool,
     /// The directory of the folders that are written.
     dir: Option<&'w str>,
     /// The paths of the scripts.
@@ -90,9 +82,6 @@ fn line_from<'w>(line: Line<'w>, words: &'w [String]) -> Line<'w>
             rest,
         ),
         [word, rest @ ..] if word.as_str() == "-n" => line_from(Line { dry: true, ..line }, rest),
-        [word, rest @ ..] if word.as_str() == "--no-facilities" => {
-            line_from(Line { bare: true, ..line }, rest)
-        }
         [word, dir, rest @ ..] if word.as_str() == "--write" => line_from(
             Line {
                 dir: Some(dir.as_str()),
@@ -120,7 +109,6 @@ fn line_of(words: &[String]) -> Line<'_>
             all: false,
             skips: false,
             dry: false,
-            bare: false,
             dir: None,
             files: &[],
         },
@@ -254,13 +242,14 @@ fn wants_usage(words: &[String]) -> bool
 fn report_words<E: Write>(words: &[String], err: &mut E) -> u8
     ensures status { result ≡ REFUSED }
     ensures report { AppendsPrefix (E.contents err.old) (E.contents err.new)
-        (words_report USAGE.now SHORT_USAGE.now (map string_bytes words.now)) }
+        (usage_report (codes "rclinks") (usage_reason (map string_bytes words.now)) USAGE.now) }
 {
-    if words.is_empty() {
-        report_refused_words("rclinks", "no file is given", SHORT_USAGE, err)
+    let reason = if words.is_empty() {
+        "no file is given"
     } else {
-        report_refused_words("rclinks", "", USAGE, err)
-    }
+        ""
+    };
+    report_refused_words("rclinks", reason, USAGE, err)
 }
 
 /// The plan of the files' scripts; the exit status where a file or the plan is refused, a file can't be read or memory
@@ -360,142 +349,35 @@ fn do_by<F: LinkFolders, W: Write, E: Write>(
     }
 }
 
-/// The links are made, or their changes printed, by facility files too.
-fn takes_facilities(line: Line) -> bool
-    ensures { result ≡ takes_facilities (line_said line.entry) }
-{
-    line.dir.is_some() && !line.bare
-}
-
-/// None of the files has the name of the facility's.
-fn is_unnamed(files: &[String], facility: &str) -> bool
-    ensures { result ≡ is_unnamed (map string_bytes files.now) facility.now }
-{
-    for file in files {
-        if last_part(file.as_bytes()) == last_part(facility.as_bytes()) {
-            return false;
-        }
-    }
-    true
-}
-
-/// Adds a facility file, where none of the files has its name.
-fn add_facility(
-    alloc: Global,
-    files: &[String],
-    facility: &str,
-    all: &mut Vec<String>,
-) -> Result<(), AllocError>
-    ensures { OnOk result (map string_bytes all.new.items ≡ map string_bytes all.old.items
-        ++ filter (is_unnamed (map string_bytes files.now)) (facility.now ∷ [])) }
-{
-    if is_unnamed(files, facility) {
-        all.push(String::from_str(alloc, facility)?)?;
-    }
-    Ok(())
-}
-
-/// Adds the facility files whose name none of the files has.
-fn add_facilities(
-    alloc: Global,
-    files: &[String],
-    facilities: &[String],
-    all: &mut Vec<String>,
-) -> Result<(), AllocError>
-    ensures { OnOk result (map string_bytes all.new.items ≡ map string_bytes all.old.items
-        ++ filter (is_unnamed (map string_bytes files.now)) (map string_bytes facilities.now)) }
-{
-    for facility in facilities {
-        add_facility(alloc, files, facility.as_str(), all)?;
-    }
-    Ok(())
-}
-
-/// Adds files.
-fn add_files(alloc: Global, files: &[String], all: &mut Vec<String>) -> Result<(), AllocError>
-    ensures { OnOk result (map string_bytes all.new.items
-        ≡ map string_bytes all.old.items ++ map string_bytes files.now) }
-{
-    for file in files {
-        all.push(String::from_str(alloc, file.as_str())?)?;
-    }
-    Ok(())
-}
-
-/// The files that are read for what words ask for.
-fn files_with(alloc: Global, facilities: &[String], line: Line) -> Result<Vec<String>, AllocError>
-    ensures { IfOk result (λ files. map string_bytes files.items
-        ≡ files_with (map string_bytes facilities.now) (line_said line.entry)) }
-{
-    let mut files = Vec::new(alloc);
-    if takes_facilities(line) {
-        add_facilities(alloc, line.files, facilities, &mut files)?;
-    }
-    add_files(alloc, line.files, &mut files)?;
-    Ok(files)
-}
-
-/// Runs rclinks on what words ask for, and gives its exit status.
-fn run_line<T: Texts, F: LinkFolders, W: Write, E: Write>(
-    texts: &T,
-    folders: &mut F,
-    alloc: Global,
-    line: &Line,
-    out: &mut W,
-    err: &mut E,
-) -> u8
-    ensures statuses { (result ≡ DONE) ⊎ (result ≡ REFUSED) ⊎ (result ≡ DEVICE_FAULT) }
-    ensures done { result ≡ DONE → Does (T.text_at texts.now) (line_said line.now)
-        (F.held folders.old) (F.held folders.new) (W.contents out.old) (W.contents out.new) }
-    ensures refused { result ≡ REFUSED → IsRefusedBy (T.text_at texts.now) (line_said line.now)
-        (F.held folders.old) }
-    ensures quiet { result ≡ REFUSED → (out.new ≡ out.old) × (folders.new ≡ folders.old) }
-    ensures kept { writes (line_said line.now) ≡ false → folders.new ≡ folders.old }
-    ensures silent { writes (line_said line.now) ≡ true → out.new ≡ out.old }
-    ensures part { (out.new ≡ out.old) × (folders.new ≡ folders.old)
-        ⊎ DoesPart (T.text_at texts.now) (line_said line.now) (F.held folders.old)
-        (F.held folders.new) (W.contents out.old) (W.contents out.new) }
-{
-    match plan_of(texts, alloc, line, err) {
-        Ok(plan) => do_by(folders, alloc, line, &plan, out, err),
-        Err(status) => status,
-    }
-}
-
 /// Runs rclinks on its words, options and then the paths of init scripts, and gives its exit status: 0 where their
 /// links were printed on `out`, or the version, where the one word is `--version`; 1 where there are no files or one is
 /// `--help` or `-h`, where a script's name or header or the plan is refused, or where a name of a link is taken; 4 where
 /// a file can't be read, a folder can't be listed or changed, the output fails or memory runs out. The first fault ends
 /// the run, and is told on `err`; with `--all` all faults are told there, and the status is that of the first. With
-/// `--skip` a script that can't be read or planned is left out. With `--write DIR` the links are not printed but made in
-/// the folders of a directory, and numbered links of the scripts that the plan doesn't have are taken away; with `-n`
-/// besides what would be changed is printed, and nothing is changed. With `--write`, and without `--no-facilities`, the
-/// facility files are read in front of the scripts, but for those whose name a script has. What is odd in a header is
-/// told on `err` too, whatever the status.
+/// `--skip` a script that can't be read or planned is left out. With `--write DIR` the links are not printed but made in the folders of a directory, and numbered links of the scripts
+/// that the plan doesn't have are taken away; with `-n` besides what would be changed is printed, and nothing is
+/// changed. What is odd in a header is told on `err` too, whatever the status.
 pub fn run_words<T: Texts, F: LinkFolders, W: Write, E: Write>(
     texts: &T,
     folders: &mut F,
     alloc: Global,
-    facilities: &[String],
     words: &[String],
     out: &mut W,
     err: &mut E,
 ) -> u8
     ensures statuses { (result ≡ DONE) ⊎ (result ≡ REFUSED) ⊎ (result ≡ DEVICE_FAULT) }
     ensures usage { wants_usage (line_of (map string_bytes words.now)).files ≡ true
-        → (result ≡ REFUSED) × AppendsPrefix (E.contents err.old) (E.contents err.new) (words_report
-        USAGE.now SHORT_USAGE.now (line_of (map string_bytes words.now)).files) }
+        → (result ≡ REFUSED) × AppendsPrefix (E.contents err.old) (E.contents err.new) (usage_report
+        (codes "rclinks") (usage_reason (line_of (map string_bytes words.now)).files) USAGE.now) }
     ensures version { asks_version (map string_bytes words.now) ≡ true
         → PrintsVersion (codes "rclinks") result (W.contents out.old) (W.contents out.new) }
     // The links of all of the files, or of those that are not left out, were printed or made, or the changes printed.
     ensures done { asks_version (map string_bytes words.now) ≡ false → result ≡ DONE →
-        Does (T.text_at texts.now) (line_with (map string_bytes facilities.now)
-        (line_of (map string_bytes words.now))) (F.held folders.old) (F.held folders.new)
-        (W.contents out.old) (W.contents out.new) }
+        Does (T.text_at texts.now) (line_of (map string_bytes words.now)) (F.held folders.old)
+        (F.held folders.new) (W.contents out.old) (W.contents out.new) }
     // The usage was wanted, a file was refused, the scripts have no plan, or a name of a link is taken.
     ensures refused { result ≡ REFUSED → IsRefusedRun (T.text_at texts.now)
-        (map string_bytes facilities.now) (line_of (map string_bytes words.now))
-        (F.held folders.old) }
+        (line_of (map string_bytes words.now)) (F.held folders.old) }
     ensures quiet { result ≡ REFUSED → (out.new ≡ out.old) × (folders.new ≡ folders.old) }
     // Nothing is changed but by `--write` without `-n`, and then nothing is printed.
     ensures kept { writes (line_of (map string_bytes words.now)) ≡ false
@@ -505,9 +387,8 @@ pub fn run_words<T: Texts, F: LinkFolders, W: Write, E: Write>(
     // Nothing was written, or a prefix of the text, which may be the whole, or the first of the changes were made.
     ensures part { asks_version (map string_bytes words.now) ≡ false
         → (out.new ≡ out.old) × (folders.new ≡ folders.old)
-        ⊎ DoesPart (T.text_at texts.now) (line_with (map string_bytes facilities.now)
-        (line_of (map string_bytes words.now))) (F.held folders.old) (F.held folders.new)
-        (W.contents out.old) (W.contents out.new) }
+        ⊎ DoesPart (T.text_at texts.now) (line_of (map string_bytes words.now)) (F.held folders.old)
+        (F.held folders.new) (W.contents out.old) (W.contents out.new) }
 {
     if is_version(words) {
         return print_version("rclinks", out, err);
@@ -516,14 +397,8 @@ pub fn run_words<T: Texts, F: LinkFolders, W: Write, E: Write>(
     if wants_usage(line.files) {
         return report_words(line.files, err);
     }
-    match files_with(alloc, facilities, line) {
-        Ok(files) => {
-            let whole = Line {
-                files: files.as_slice(),
-                ..line
-            };
-            run_line(texts, folders, alloc, &whole, out, err)
-        }
-        Err(AllocError) => report_no_memory("rclinks", err),
+    match plan_of(texts, alloc, &line, err) {
+        Ok(plan) => do_by(folders, alloc, &line, &plan, out, err),
+        Err(status) => status,
     }
 }

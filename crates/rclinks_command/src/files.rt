@@ -69,7 +69,7 @@ impl FileFault {
 }
 
 /// The text after the last `/` of a path, or the whole path where it has none.
-pub(crate) fn last_part(path: &[u8]) -> &[u8]
+fn last_part(path: &[u8]) -> &[u8]
     ensures { result.now ≡ last_part path.now }
 {
     let mut start = path.len();

@@ -193,7 +193,6 @@ fn is_written(rt: &impl Abort, alloc: Global, texts: &KeptTexts, row: &Row) -> R
         texts,
         &mut links,
         alloc,
-        &[],
         words.as_slice(),
         &mut out,
         &mut err,
