@@ -22,7 +22,7 @@ fn status_of<R, T: Texts, W: Write>(
     err: &mut Vec<u8>,
 ) -> Result<u8, AllocError>
 where
-    R: Processes + Files<File = File> + Clock + Print + Eprint + Clone + Drop,
+    R: Processes + Files<File = File> + Alloc + Clock + Print + Eprint + Clone + Drop,
 {
     let words = line_words(alloc, line)?;
     let mut hosts = OsHosts::new(rt.clone()?);
@@ -39,7 +39,7 @@ fn answers<R>(
     want: (&str, &str),
 ) -> bool
 where
-    R: Processes + Files<File = File> + Clock + Print + Eprint + Clone + Drop,
+    R: Processes + Files<File = File> + Alloc + Clock + Print + Eprint + Clone + Drop,
 {
     let mut out: Vec<u8> = Vec::new(alloc);
     let mut err: Vec<u8> = Vec::new(alloc);
@@ -187,7 +187,7 @@ const STUCK: &[(usize, bool)] = &[(1000, true), (40, false), (40, true)];
 /// A failed write is reported, and what is written stays.
 fn is_reported<R>(rt: &R, kept: &KeptTexts, alloc: Global, room: usize, is_stuck: bool) -> bool
 where
-    R: Processes + Files<File = File> + Clock + Print + Eprint + Clone + Drop,
+    R: Processes + Files<File = File> + Alloc + Clock + Print + Eprint + Clone + Drop,
 {
     let mut out = Slow::new(alloc, room, true, is_stuck);
     let mut err: Vec<u8> = Vec::new(alloc);
