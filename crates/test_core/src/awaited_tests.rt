@@ -1,7 +1,7 @@
 //! Whose end a core awaits, and why, worked out by hand; and that it is told where no memory is left.
 
 use crate::awaited::awaits;
-use crate::runs::{core_over, is_run};
+use crate::runs::is_run;
 use crate::steps::add_steps;
 use core_steps::Core;
 use init_words::{Answer, ChildNumber, Id, Level};
@@ -110,9 +110,9 @@ fn fill<'a>(alloc: Global, heap: &'a LocalHeap) -> Result<Vec<Vec<u8, &'a LocalH
 }
 
 /// A core over the heap whose two children are told as born.
-fn begun<'a>(alloc: Global, heap: &'a LocalHeap) -> Option<Box<Core<&'a LocalHeap>>> {
+fn begun<'a>(alloc: Global, heap: &'a LocalHeap) -> Option<Core<&'a LocalHeap>> {
     let (table, _) = inittab_text::read(heap, INITTAB).ok()?;
-    let mut core = core_over(alloc, heap, table, None).ok()?;
+    let mut core = Core::new(heap, table, None).ok()?;
     let mut steps = Vec::new(alloc);
     add_steps(alloc, &mut steps, &mut core).ok()?;
     for (id, number) in [(b"a", 7u32), (b"b", 8)] {

@@ -1,7 +1,6 @@
 //! Growths are refused in turn, on heaps of more and more room. A refused adoption leaves the core as it was, and a
 //! call with room again succeeds.
 
-use crate::runs::core_over;
 use crate::steps::add_steps;
 use core_steps::Core;
 use init_words::{Answer, ChildNumber, Id, Memory, Refusal};
@@ -87,7 +86,7 @@ fn refused_then_made<'a>(
 
 /// What is refused on a heap; none where it is something else.
 fn refused_on(alloc: Global, heap: &LocalHeap, id: Id) -> Option<Refused> {
-    match core_over(alloc, heap, table_of(heap, BEFORE)?, None) {
+    match Core::new(heap, table_of(heap, BEFORE)?, None) {
         Ok(mut core) => refused_then_made(alloc, heap, &mut core, id),
         Err(Memory) => Some(Refused::New),
     }

@@ -1,7 +1,7 @@
 //! Growths are refused in turn, on heaps of more and more room. A refused call leaves the records as they were, and one
 //! with room again succeeds.
 
-use crate::shown::{add_records, records_over};
+use crate::shown::add_records;
 use core_records::{Record, Records, Stop};
 use init_words::{Act, Answer, ChildNumber, Id, Level, Memory, OrderKind, Stage, Status};
 use inittab_text::Table;
@@ -174,8 +174,9 @@ fn refused_on(alloc: Global, heap: &LocalHeap, ids: &Ids) -> Refused {
     let (Ok(before), Ok(after)) = (table_of(heap, BEFORE), table_of(heap, AFTER)) else {
         return Refused::Tables;
     };
-    let Ok(mut slots) = records_over(alloc, heap, &before) else {
-        return Refused::New;
+    let mut slots = match Records::new(heap, &before) {
+        Ok(slots) => slots,
+        Err(Memory) => return Refused::New,
     };
     if !is_begun(&mut slots, &before, ids) {
         return Refused::Wrong;
@@ -214,10 +215,15 @@ fn refused_adoptions(rt: HostRuntime) -> Result<(), Fail> {
     Ok(())
 }
 
-fn one_record(heap: &LocalHeap, id: Id) -> Result<Vec<Record, &LocalHeap>, Memory> {
+/// Whether a list with one record is made on a heap of the given number of bytes; None where there is no room for the
+/// record.
+fn is_rebuilt(alloc: Global, room: usize) -> Result<Option<bool>, Memory> {
+    let heap = LocalHeap::new(alloc, room)?;
+    let Some(id) = Id::read(b"a") else {
+        return Ok(None);
+    };
     let act = Some(Act::Respawn);
-    let mut given = Vec::new(heap);
-    given.push(Record::of(
+    let slot = Record::of(
         id,
         act,
         None,
@@ -230,21 +236,12 @@ fn one_record(heap: &LocalHeap, id: Id) -> Result<Vec<Record, &LocalHeap>, Memor
         &[],
         None,
         None,
-    ))?;
-    Ok(given)
-}
-
-/// Whether a list with one record is made on a heap of the given number of bytes; None where there is no room for the
-/// record.
-fn is_rebuilt(alloc: Global, room: usize) -> Result<Option<bool>, Memory> {
-    let heap = LocalHeap::new(alloc, room)?;
-    let Some(id) = Id::read(b"a") else {
+    );
+    let mut given = Vec::new(&heap);
+    if given.push(slot).is_err() {
         return Ok(None);
-    };
-    match one_record(&heap, id) {
-        Ok(given) => Ok(Some(Records::rebuilt(&heap, given).is_ok())),
-        Err(_) => Ok(None),
     }
+    Ok(Some(Records::rebuilt(&heap, given).is_ok()))
 }
 
 #[test]

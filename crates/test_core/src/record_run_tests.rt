@@ -1,6 +1,6 @@
 //! Runs of calls on the records. The cases are rows of calls, and of what the records are after them.
 
-use crate::shown::{add_records, records_over};
+use crate::shown::add_records;
 use core_records::Records;
 use init_words::{Answer, ChildNumber, Id, Level, Memory, OrderKind, Refusal, Stage, Status};
 use inittab_text::{Table, TableFault};
@@ -159,9 +159,9 @@ fn are_made(alloc: Global, slots: &mut Records, calls: &[Call]) -> bool {
     true
 }
 
-fn records_of(alloc: Global, text: &[u8]) -> Result<Box<Records>, Fail> {
+fn records_of(alloc: Global, text: &[u8]) -> Result<Records, Fail> {
     let table = table_of(alloc, text)?;
-    Ok(records_over(alloc, alloc, &table)?)
+    Ok(Records::new(alloc, &table)?)
 }
 
 fn text_of(alloc: Global, slots: &Records) -> Result<Vec<u8>, Memory> {
@@ -319,7 +319,10 @@ const RUNS: &[(&[u8], &[Call], &[u8])] = &[
         &[Call::Called(b"b"), Call::Ask(b"b", OrderKind::Start)],
         b"a --------/b -s-a----/",
     ),
-    // Stops: none.
+];
+
+/// Calls that stop children, and what the stops have come to.
+const STOPS: &[(&[u8], &[Call], &[u8])] = &[
     (
         BOTH,
         &[Call::Due(false), Call::FirstTermed(None)],
@@ -416,6 +419,14 @@ const RUNS: &[(&[u8], &[Call], &[u8])] = &[
 #[test]
 fn runs(rt: HostRuntime) -> Result<(), Fail> {
     for (place, (table, calls, want)) in RUNS.iter().enumerate() {
+        assert!(rt; comes_to(rt.alloc(), table, calls, want)?, "run {place}");
+    }
+    Ok(())
+}
+
+#[test]
+fn stops(rt: HostRuntime) -> Result<(), Fail> {
+    for (place, (table, calls, want)) in STOPS.iter().enumerate() {
         assert!(rt; comes_to(rt.alloc(), table, calls, want)?, "run {place}");
     }
     Ok(())

@@ -9,7 +9,7 @@ use crate::steps::{add, add_steps};
 use core_steps::Core;
 use init_words::{Answer, ChildNumber, Id, Level, Memory, Refusal, Stage};
 use inittab_text::Table;
-use std::alloc::{AllocError, Allocator, Global};
+use std::alloc::{AllocError, Global};
 use trace_events::{Happening, HappeningIn};
 use trace_text::first_happening;
 
@@ -253,18 +253,8 @@ fn is_run_of(alloc: Global, core: &mut Core, run: &str) -> bool {
     add_run(alloc, &mut text, core, run).is_some() && text.as_slice() == run.as_bytes()
 }
 
-/// The core of a table, in the memory of the tests.
-pub(crate) fn core_over<A: Allocator + Copy>(
-    own: Global,
-    alloc: A,
-    table: Table<A>,
-    level: Option<Level>,
-) -> Result<Box<Core<A>>, Memory> {
-    Ok(Box::new(own, Core::new(alloc, table, level)?)?)
-}
-
-fn core_of(alloc: Global, inittab: &str, level: Option<Level>) -> Option<Box<Core>> {
-    core_over(alloc, alloc, table_of(alloc, inittab)?, level).ok()
+fn core_of(alloc: Global, inittab: &str, level: Option<Level>) -> Option<Core> {
+    Core::new(alloc, table_of(alloc, inittab)?, level).ok()
 }
 
 /// What comes of the lines of a run, of an inittab and an opening level, is its text.

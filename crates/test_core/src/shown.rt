@@ -1,18 +1,8 @@
-//! Records, in the memory of the tests, and as text.
+//! Records as text.
 
 use core_records::{Record, Records, Stop};
 use init_words::{Memory, OrderKind};
-use inittab_text::Table;
-use std::alloc::{Allocator, Global};
-
-/// The records of a table.
-pub(crate) fn records_over<A: Allocator + Copy>(
-    own: Global,
-    alloc: A,
-    table: &Table<A>,
-) -> Result<Box<Records<A>>, Memory> {
-    Ok(Box::new(own, Records::new(alloc, table)?)?)
-}
+use std::alloc::Allocator;
 
 fn order_code(order: Option<OrderKind>) -> u8 {
     match order {
