@@ -201,7 +201,7 @@ fn is_short_told(rt: &HostRuntime) -> Result<bool, Fail> {
 /// Over one of the rooms there is memory for a child and none to count it: that is told, and that it was started.
 fn run_short(rt: &HostRuntime) -> Result<(), Fail> {
     let id = id_of(b"m")?;
-    for step in 4..160usize {
+    for step in 4..640usize {
         let heap = LocalHeap::new(rt.alloc(), 16 * step)?;
         run_over(rt, &heap, id);
         if is_short_told(rt)? {
