@@ -1,5 +1,6 @@
 pub mod Acts
 pub mod Allowed
+pub mod Bounded
 pub mod Dawn
 pub mod Decided
 pub mod Deciding
@@ -7,6 +8,8 @@ pub mod Each
 pub mod Falls
 pub mod Firsts
 pub mod Fitted
+pub mod Happened
+pub mod HappenedRows
 pub mod Hearing
 pub mod Kept
 pub mod Moments

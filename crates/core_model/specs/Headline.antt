@@ -1,7 +1,10 @@
 -- The children of the system are the core's records, corrected by the answers under way.
 use Rattle.std.specs.Prelude.{ℕ, Bool, not, ◌&&◌, ◌||◌, List}
 use Rattle.std.specs.List.{list_any}
+use Rattle.init_words.specs.declared.entries.Entry.{Entry}
+use Rattle.inittab_text.specs.Tables.{has_id}
 use Rattle.trace_events.specs.Event.{Event}
+use Rattle.trace_events.specs.Past.{Child}
 use Rattle.trace_events.specs.Agreement.{has_untold_birth, has_untold_end}
 use Rattle.core_records.specs.State.{RecordState}
 use Rattle.core_records.specs.Lists.{is_record_of, is_numbered}
@@ -14,3 +17,7 @@ has_record id n core = list_any (λ (slot : RecordState). is_record_of id slot &
 -- the records that have a child, less those whose reaping is not told, with those whose birth is not told
 abbrev pub is_recorded : List ℕ → ℕ → CoreState → List Event → Bool
 is_recorded id n core past = has_record id n core && not (has_untold_end id n past) || has_untold_birth id n past
+
+-- the child's id has no entry in the table
+abbrev pub is_without_entry : List Entry → Child → Bool
+is_without_entry table child = not (list_any (has_id child.id) table)

@@ -1,5 +1,6 @@
 pub mod Decide
 pub mod Fit
+pub mod Happened
 pub mod Headline
 pub mod News
 pub mod Parts

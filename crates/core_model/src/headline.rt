@@ -7,19 +7,19 @@ ghost use Rattle.respawn_limit.specs.declared.TheConstants.{WINDOW, STARTS, HOLD
 ghost use Rattle.trace_events.specs.declared.happenings.Happening.TheVariants.{Asked, Hold, Hit};
 ghost use Rattle.trace_events.specs.declared.steps.Goal.{Goal};
 ghost use Rattle.trace_events.specs.Event.{Event};
-ghost use Rattle.trace_events.specs.Past.{time_of, is_of, has_child, unreaped_children, known_children};
-ghost use Rattle.trace_events.specs.Due.{is_settled};
+ghost use Rattle.trace_events.specs.Past.{table_of, time_of, is_of, has_child, unreaped_children, known_children};
 ghost use Rattle.trace_events.specs.Sound.{is_sound};
-ghost use Rattle.trace_events.specs.Lawful.{is_alone, is_placed, is_in_turn, are_spared, is_limited_id, is_free, is_due_hold, may_term, may_kill, is_lawful};
+ghost use Rattle.trace_events.specs.Lawful.{is_limited_id, is_lawful};
 ghost use Rattle.trace_events.specs.Agreement.{Agrees, is_unreaped};
 ghost use Rattle.trace_events.specs.Bounds.{keeps_pace, hits_its_own, kills_once};
 ghost use Rattle.trace_laws.specs.Belonging.{belongs};
-ghost use Rattle.trace_laws.specs.Moments.{AtEachMoment, AtEachBirth, AtEachSettle, AtEachOrder, AtEachHold, AtEachHit, BetweenBirths, BetweenStarts, FromHoldToStart, FromOrderToHit};
+ghost use Rattle.trace_laws.specs.Moments.{AtEachMoment, AtEachBirth, AtEachSettle, AtEachOrder, AtEachHit, BetweenBirths, BetweenStarts, FromHoldToStart, FromOrderToHit};
 ghost use Rattle.trace_laws.specs.Stretches.{count_starts, is_order_of, is_reaping_of, is_stoppable};
 ghost use Rattle.trace_laws.specs.Warnings.{Warned};
 ghost use Rattle.core_model.specs.State.{CoreState};
 ghost use Rattle.core_model.specs.Fit.{OnEachTrace};
-ghost use Rattle.core_model.specs.Headline.{is_recorded};
+ghost use Rattle.core_model.specs.Happened.{AllThrough, AllMayLive, IsReached};
+ghost use Rattle.core_model.specs.Headline.{is_recorded, is_without_entry};
 
 /// The headline, for every opening goal and every sound trace, and for each core that fits it. It does nothing: its
 /// contract says the laws.
@@ -29,36 +29,28 @@ ghost use Rattle.core_model.specs.Headline.{is_recorded};
 /// of it. What init's records say of children, corrected by the answers under way, is the children that the system has.
 /// The respawn limit holds at each start, and the signals that stop a child come in their order and time.
 pub fn law_agreement()
-    // no id has two unreaped children, at any moment, and none where one is born
+    // no happening of a sound trace breaks one of the seven laws
+    ensures lawful { (goal : Goal) (trace : List Event)
+        → IsTrue (is_sound goal trace) → IsTrue (is_lawful trace) }
+    // no id has two unreaped children, at any moment
     ensures one_child { AtEachMoment (λ past.
         (id : List ℕ) → length (filter (is_of id) (unreaped_children past)) ≤ 1) }
-    ensures alone { AtEachBirth (λ id past. IsTrue (is_alone id past)) }
     // between two births of an id the first child is reaped
     ensures reaped_between { BetweenBirths (λ id m between.
         IsTrue (list_any (is_reaping_of id m) between)) }
-    // a child is born of an entry of the table in force, which starts in the stage
-    ensures placed { AtEachBirth (λ id past. IsTrue (is_placed id past)) }
-    // at a birth no earlier entry of the table is owed
-    ensures in_turn { AtEachBirth (λ id past. IsTrue (is_in_turn id past)) }
-    // at a birth no unreaped child is excluded
-    ensures spared { AtEachBirth (λ id past. IsTrue (are_spared past)) }
-    // an announced level is settled, by the unreaped children, and each of them belongs to an entry of it
-    ensures settled { AtEachSettle (λ level past.
-        IsTrue (is_settled level (unreaped_children past) past)) }
+    // of happenings, where a child is born: each waited entry before its own is through: each of its children was reaped
+    // and told, and where it starts in the stage, a Start of it was ordered and told
+    ensures through { AtEachBirth AllThrough }
+    // each child that was born, and not reaped since, may live
+    ensures living { AtEachBirth (λ id past. AllMayLive past) }
+    // an announced level is reached: the same of each child and each waited entry, and each wait, once or respawn entry
+    // of it was started, has a child, or is held
+    ensures reached { AtEachSettle IsReached }
+    // and each unreaped child belongs to an entry of it
     ensures of_level { AtEachSettle (λ level past.
         IsTrue (list_all (belongs level past) (unreaped_children past))) }
-    // an entry that the respawn limit holds for starts where it is not held and its window is not full; it is held, and
-    // no other, where its window is full
-    ensures free { AtEachOrder Start (λ id past. IsTrue (is_free id past)) }
-    ensures held { AtEachHold (λ id past. IsTrue (is_due_hold id past)) }
-    // a TERM goes to an excluded child, a KILL to one to which a TERM was sent in its spell at least the grace ago
-    ensures termed { AtEachOrder Term (λ id past. IsTrue (may_term id past)) }
-    ensures killed { AtEachOrder Kill (λ id past. IsTrue (may_kill id past)) }
-    // the same, of two happenings: the order of a KILL, and the telling of a TERM that was sent to the child
+    // a KILL comes after the telling of a TERM that was sent to the child, in its spell, at least the grace ago
     ensures warned { AtEachOrder Kill Warned }
-    // so no happening of a sound trace breaks a law
-    ensures lawful { (goal : Goal) (trace : List Event)
-        → IsTrue (is_sound goal trace) → IsTrue (is_lawful trace) }
     // at any moment the unreaped children, as pairs of id and number, are the known ones, less those whose end is not
     // told, with those whose birth is not told
     ensures agreement { AtEachMoment (λ past. (id : List ℕ) (n : ℕ) → Agrees id n past) }
@@ -69,6 +61,10 @@ pub fn law_agreement()
     ensures one_record { (core : CoreState) → OnEachTrace core (λ goal past.
         (id : List ℕ) (m n : ℕ)
         → IsTrue (is_recorded id m core past) → IsTrue (is_recorded id n core past) → m ≡ n) }
+    // and the core has at most as many records as entries, and known children of ids without entry
+    ensures bounded { (core : CoreState) → OnEachTrace core (λ goal past.
+        length core.slots ≤ length (table_of past)
+        + length (filter (is_without_entry (table_of past)) (known_children past))) }
     // of eleven starts of an entry that the respawn limit holds for, with no new stage and no table between, the last
     // is at least two minutes after the first, and a start is at least five minutes after a hold
     ensures paced { AtEachOrder Start (λ id past. IsTrue (keeps_pace (Asked id Start) past)) }

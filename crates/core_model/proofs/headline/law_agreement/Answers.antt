@@ -1,9 +1,7 @@
 -- Each clause is a lemma on sound traces.
 use Rattle.std.proofs.Common.{arith}
-use Rattle.trace_laws.proofs.Births.{birth_alone, birth_placed, birth_in_turn, birth_spared, one_child_at}
-use Rattle.trace_laws.proofs.Settling.{settle_settled, settle_belongs}
-use Rattle.trace_laws.proofs.Limits.{start_free, hold_due}
-use Rattle.trace_laws.proofs.Signals.{term_may, kill_may}
+use Rattle.trace_laws.proofs.Births.{one_child_at}
+use Rattle.trace_laws.proofs.Settling.{settle_belongs}
 use Rattle.trace_laws.proofs.Pace.{start_paced}
 use Rattle.trace_laws.proofs.Targets.{hit_own}
 use Rattle.trace_laws.proofs.Kills.{killed_once}
@@ -11,41 +9,25 @@ use Rattle.trace_laws.proofs.Pairs.{reaped_between, apart, rested, on_order}
 use Rattle.trace_laws.proofs.Laws.{sound_lawful}
 use Rattle.trace_laws.proofs.Agreement.{agrees_at}
 use Rattle.trace_laws.proofs.Warnings.{kill_warned}
+use Rattle.core_model.proofs.Bounded.{bounded}
+use Rattle.core_model.proofs.Happened.{birth_through, birth_lives, settle_reached}
 use Rattle.core_model.proofs.Recorded.{unreaped_recorded, one_recorded}
 use Rattle.core_model.proofs.headline.law_agreement.Goals as goal
 
 pub returns-clause-one_child : goal.returns-clause-one_child
 returns-clause-one_child c goal later past h id = one_child_at goal later past id h
 
-pub returns-clause-alone : goal.returns-clause-alone
-returns-clause-alone c goal later past id n h = birth_alone goal later id n past h
+pub returns-clause-through : goal.returns-clause-through
+returns-clause-through c goal later past id n h = birth_through goal later id n past h
 
-pub returns-clause-placed : goal.returns-clause-placed
-returns-clause-placed c goal later past id n h = birth_placed goal later id n past h
+pub returns-clause-living : goal.returns-clause-living
+returns-clause-living c goal later past id n h = birth_lives goal later id n past h
 
-pub returns-clause-in_turn : goal.returns-clause-in_turn
-returns-clause-in_turn c goal later past id n h = birth_in_turn goal later id n past h
-
-pub returns-clause-spared : goal.returns-clause-spared
-returns-clause-spared c goal later past id n h = birth_spared goal later id n past h
-
-pub returns-clause-settled : goal.returns-clause-settled
-returns-clause-settled c goal later past level h = settle_settled goal later level past h
+pub returns-clause-reached : goal.returns-clause-reached
+returns-clause-reached c goal later past level h = settle_reached goal later level past h
 
 pub returns-clause-of_level : goal.returns-clause-of_level
 returns-clause-of_level c goal later past level h = settle_belongs goal later level past h
-
-pub returns-clause-free : goal.returns-clause-free
-returns-clause-free c goal later past id h = start_free goal later id past h
-
-pub returns-clause-held : goal.returns-clause-held
-returns-clause-held c goal later past id h = hold_due goal later id past h
-
-pub returns-clause-termed : goal.returns-clause-termed
-returns-clause-termed c goal later past id h = term_may goal later id past h
-
-pub returns-clause-killed : goal.returns-clause-killed
-returns-clause-killed c goal later past id h = kill_may goal later id past h
 
 pub returns-clause-lawful : goal.returns-clause-lawful
 returns-clause-lawful c = sound_lawful
@@ -82,3 +64,6 @@ returns-clause-records c core goal past sound fits id n = unreaped_recorded goal
 
 pub returns-clause-one_record : goal.returns-clause-one_record
 returns-clause-one_record c core goal past sound fits id m n has_m has_n = one_recorded goal past core sound fits id m n has_m has_n
+
+pub returns-clause-bounded : goal.returns-clause-bounded
+returns-clause-bounded c core goal past sound fits = bounded core goal past sound fits

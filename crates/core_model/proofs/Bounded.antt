@@ -1,0 +1,158 @@
+-- There are at most as many records as entries and known children of ids without entry.
+use Rattle.std.proofs.Common.{◌≡◌, ◌≤◌, ◌+◌, refl, sym, ◌∙◌, ap, subst, ℕ, Bool, true, false, not, ◌&&◌, ◌||◌, cond, List, [], ◌∷◌, ◌++◌, filter, map, length, lit≤, le_trans, arith}
+use Rattle.std.proofs.lemmas.Bool.{and_parts, not-true}
+use Rattle.std.proofs.lemmas.List.{length-append}
+use Rattle.std.proofs.lemmas.List.Elements.{filter-append}
+use Rattle.std.specs.List.{list_any}
+use Rattle.init_words.specs.declared.entries.Entry.{Entry}
+use Rattle.init_words.specs.Ids.{same_id}
+use Rattle.init_words.proofs.Same.{same_id-is, same_id-sym}
+use Rattle.init_words.proofs.Tests.{any_within}
+use Rattle.inittab_text.specs.Tables.{has_id, ids_of, is_distinct}
+use Rattle.trace_events.specs.declared.happenings.Happening.TheVariants.{NewTable}
+use Rattle.trace_events.specs.declared.steps.Goal.{Goal}
+use Rattle.trace_events.specs.Event.{Event}
+use Rattle.trace_events.specs.Past.{Child, table_of, is_of, has_child, known_children}
+use Rattle.trace_events.specs.Due.{left_ids, record_ids}
+use Rattle.trace_events.specs.Sound.{may_come, is_sound}
+use Rattle.trace_laws.proofs.Keeps.{sound_holds, sound_ind}
+use Rattle.trace_laws.proofs.Stopping.{left_apart}
+use Rattle.core_model.specs.Fit.{Fits, record_of}
+use Rattle.core_model.specs.Headline.{is_without_entry}
+use Rattle.core_model.specs.State.{CoreState}
+
+-- ---- lists of ids in which none stands twice
+
+few_kept : (p q : List ℕ → Bool) (xs : List (List ℕ)) → length (filter p (filter q xs)) ≤ length (filter p xs)
+few_kept p q [] = lit≤ tt
+few_kept p q (x ∷ xs) = grind (arith, few_kept p q xs)
+
+few_either : (p q : List ℕ → Bool) (xs : List (List ℕ))
+    → length (filter (λ x. p x || q x) xs) ≤ length (filter p xs) + length (filter q xs)
+few_either p q [] = lit≤ tt
+few_either p q (x ∷ xs) = grind (arith, few_either p q xs)
+
+childless : (xs : List (List ℕ)) → length (filter (λ x. has_child x []) xs) ≡ 0
+childless [] = refl
+childless (x ∷ xs) = childless xs
+
+-- of such ids no more have a child than there are children
+few_parents : (ids : List (List ℕ)) (children : List Child)
+    → ((id : List ℕ) → length (filter (λ x. same_id x id) ids) ≤ 1)
+    → length (filter (λ x. has_child x children) ids) ≤ length children
+few_parents ids [] once = rw (childless ids) (lit≤ tt)
+few_parents ids (child ∷ children) once =
+    grind (arith, few_either (λ x. same_id x child.id) (λ x. has_child x children) ids, once child.id,
+        few_parents ids children once)
+
+-- ---- the ids that left the table
+
+table_once : (table : List Entry) (id : List ℕ) → is_distinct table ≡ true
+    → length (filter (λ x. same_id x id) (ids_of table)) ≤ 1
+table_once [] id distinct = lit≤ tt
+table_once (e ∷ table) id distinct = at (same_id e.id id) refl (table_once table id parts.1)
+  where
+    parts : (not (list_any (has_id e.id) table) ≡ true) × (is_distinct table ≡ true)
+    parts = and_parts (not (list_any (has_id e.id) table)) (is_distinct table) distinct
+
+    none : (es : List Entry) → list_any (has_id e.id) es ≡ false → filter (λ x. same_id x e.id) (ids_of es) ≡ []
+    none [] h = refl
+    none (x ∷ es) h = grind (arith, same_id-sym, none es)
+
+    at : (b : Bool) → same_id e.id id ≡ b → length (filter (λ x. same_id x id) (ids_of table)) ≤ 1
+        → length (cond b (e.id ∷ filter (λ x. same_id x id) (ids_of table))
+        (filter (λ x. same_id x id) (ids_of table))) ≤ 1
+    at true same rest = subst (λ y. length (e.id ∷ filter (λ x. same_id x y) (ids_of table)) ≤ 1)
+        (same_id-is e.id id same) (grind (arith, none table (not-true (list_any (has_id e.id) table) parts.0)))
+    at false other rest = rest
+
+left_once : (goal : Goal) (past : List Event) → is_sound goal past ≡ true → (id : List ℕ)
+    → length (filter (λ x. same_id x id) (left_ids past)) ≤ 1
+left_once goal past sound = sound_ind goal
+    (λ before. (id : List ℕ) → length (filter (λ x. same_id x id) (left_ids before)) ≤ 1)
+    (λ table distinct id. lit≤ tt) next past sound
+  where
+    both : (before : List Event) → is_sound goal before ≡ true → (id : List ℕ)
+        → length (filter (λ x. same_id x id) (left_ids before)) ≤ 1 → (b : Bool)
+        → list_any (has_id id) (table_of before) ≡ b
+        → length (filter (λ x. same_id x id) (ids_of (table_of before) ++ left_ids before)) ≤ 1
+    both before sound id rest true there = rw
+        (filter-append (λ x. same_id x id) (ids_of (table_of before)) (left_ids before), length-append
+        (filter (λ x. same_id x id) (ids_of (table_of before))) (filter (λ x. same_id x id) (left_ids before)))
+        (grind (arith, table_once (table_of before) id (sound_holds goal before sound).distinct, gone
+            (left_ids before) (left_apart goal before sound id there)))
+      where
+        gone : (xs : List (List ℕ)) → list_any (same_id id) xs ≡ false → length (filter (λ x. same_id x id) xs) ≡ 0
+        gone [] h = refl
+        gone (x ∷ xs) h = grind (arith, same_id-sym, gone xs)
+    both before sound id rest false none = rw
+        (filter-append (λ x. same_id x id) (ids_of (table_of before)) (left_ids before), length-append
+        (filter (λ x. same_id x id) (ids_of (table_of before))) (filter (λ x. same_id x id) (left_ids before)))
+        (grind (arith, rest, gone (table_of before) none))
+      where
+        gone : (es : List Entry) → list_any (has_id id) es ≡ false → length (filter (λ x. same_id x id) (ids_of es)) ≡ 0
+        gone [] h = refl
+        gone (e ∷ es) h = grind (arith, same_id-sym, gone es)
+
+    next : (happening : Event) (before : List Event) → may_come goal happening before ≡ true
+        → is_sound goal before ≡ true → ((id : List ℕ) → length (filter (λ x. same_id x id) (left_ids before)) ≤ 1)
+        → (id : List ℕ) → length (filter (λ x. same_id x id) (left_ids (happening ∷ before))) ≤ 1
+    next (NewTable table) before may sound rest id = le_trans
+        (few_kept (λ x. same_id x id) (λ x. not (list_any (has_id x) table))
+        (ids_of (table_of before) ++ left_ids before))
+        (both before sound id (rest id) (list_any (has_id id) (table_of before)) refl)
+    next happening before may sound rest id = rest id
+
+-- an id that left the table has no entry
+left_gone : (past : List Event) (p : List ℕ → Bool)
+    → list_any (λ id. p id && list_any (has_id id) (table_of past)) (left_ids past) ≡ false
+left_gone [] p = refl
+left_gone (NewTable table ∷ past) p = none (ids_of (table_of past) ++ left_ids past)
+  where
+    none : (ids : List (List ℕ))
+        → list_any (λ id. p id && list_any (has_id id) table)
+        (filter (λ id. not (list_any (has_id id) table)) ids) ≡ false
+    none [] = refl
+    none (id ∷ ids) = grind (arith, none ids)
+left_gone (happening ∷ past) p = left_gone past p
+
+-- the parents among ids without an entry have their children among those without one
+own_parents : (table : List Entry) (children : List Child) (ids : List (List ℕ))
+    → list_any (λ id. list_any (has_id id) table) ids ≡ false
+    → filter (λ id. has_child id children) ids ≡ filter
+    (λ id. has_child id (filter (is_without_entry table) children)) ids
+own_parents table children [] none = refl
+own_parents table children (id ∷ ids) none = grind (arith, own_parents table children ids, same)
+  where
+    own : list_any (has_id id) table ≡ false → (child : Child) → is_of id child ≡ true
+        → is_without_entry table child ≡ true
+    own gone child is = ap (λ y. not (list_any (has_id y) table)) (sym (same_id-is id child.id is)) ∙ ap not gone
+
+    same : list_any (has_id id) table ≡ false
+        → has_child id (filter (is_without_entry table) children) ≡ has_child id children
+    same gone = any_within (is_of id) (is_without_entry table) (own gone) children
+
+pub bounded : (core : CoreState) (goal : Goal) (past : List Event) → is_sound goal past ≡ true → Fits core goal past
+    → length core.slots ≤ length (table_of past) + length
+    (filter (is_without_entry (table_of past)) (known_children past))
+bounded core goal past sound fits = subst
+    (λ n. n ≤ length (table_of past) + length (filter (is_without_entry (table_of past)) (known_children past)))
+    (sym count)
+    (grind (arith, few_parents (left_ids past) (filter (is_without_entry (table_of past)) (known_children past))
+        (left_once goal past sound), own_parents (table_of past) (known_children past) (left_ids past)
+        (left_gone past (λ id. true))))
+  where
+    mapped : (ids : List (List ℕ)) → length (map (record_of fits.lasts past) ids) ≡ length ids
+    mapped [] = refl
+    mapped (id ∷ ids) = grind (arith, mapped ids)
+
+    entries : (table : List Entry) → length (ids_of table) ≡ length table
+    entries [] = refl
+    entries (e ∷ es) = grind (arith, entries es)
+
+    count : length core.slots ≡ length (table_of past) + length
+        (filter (λ id. has_child id (known_children past)) (left_ids past))
+    count = ap (λ (c : CoreState). length c.slots) fits.kept ∙ mapped (record_ids past)
+        ∙ length-append (ids_of (table_of past)) (filter (λ id. has_child id (known_children past)) (left_ids past))
+        ∙ ap (λ n. n + length (filter (λ id. has_child id (known_children past)) (left_ids past)))
+        (entries (table_of past))

@@ -1,0 +1,92 @@
+-- What births and announcements need, worked: a run that has it, and traces that lack it.
+use Rattle.std.proofs.Common.{◌≡◌, refl, sym, ◌∙◌, ap, ℕ, Bool, true, false, List, [], ◌∷◌, ◌++◌, arith, codes}
+use Rattle.std.proofs.lemmas.Bool.{false≢true}
+use Rattle.std.specs.List.{list_any}
+use Rattle.init_words.specs.declared.entries.Entry.{Entry}
+use Rattle.init_words.specs.declared.actions.Act.TheVariants as act
+use Rattle.init_words.specs.declared.children.Status.TheVariants.{Exit}
+use Rattle.init_words.specs.declared.levels.Level.TheVariants as level
+use Rattle.init_words.specs.declared.levels.Mark.TheVariants.{At}
+use Rattle.init_words.specs.declared.orders.OrderKind.TheVariants.{Start, Look}
+use Rattle.init_words.specs.declared.stages.Stage.TheVariants as stage
+use Rattle.trace_events.specs.declared.happenings.Happening.TheVariants.{NewTable, Enter, Asked, Settle, Birth, Death, Reaped, Told, Nudge}
+use Rattle.trace_events.specs.declared.steps.Goal.{Goal}
+use Rattle.trace_events.specs.Event.{Event}
+use Rattle.trace_events.specs.Past.{newborn}
+use Rattle.trace_events.specs.Sound.{is_sound}
+use Rattle.trace_events.specs.Wanted.{is_excluded}
+use Rattle.trace_laws.specs.Stretches.{is_reaping_of}
+use Rattle.core_model.specs.Happened.{MayLive, AllMayLive, AllThrough, WasEnded, IsReached}
+use Rattle.core_model.proofs.Happened.{birth_lives, birth_through, settle_reached}
+
+abbrev wait : Entry
+wait = record { id = codes "w"; levels = record { items = At level.L3 ∷ [] }; act = act.Wait; process =
+    record { items = codes "prep" } }
+
+abbrev service : Entry
+service = record { id = codes "s"; levels = record { items = At level.L3 ∷ [] }; act = act.Respawn; process =
+    record { items = codes "serve" } }
+
+abbrev goal : Goal
+goal = record { level = level.L3; grace = 5 }
+
+abbrev entered : List Event
+entered = Enter (stage.Run level.L3) 5 ∷ Enter stage.Boot 5 ∷ Enter stage.Sysinit 5 ∷ NewTable
+    (wait ∷ service ∷ []) ∷ []
+
+-- the waited child runs
+abbrev waits : List Event
+waits = Told (codes "w") ∷ Birth (codes "w") 10 ∷ Asked (codes "w") Start ∷ entered
+
+-- it ended
+abbrev ended : List Event
+ended = Asked (codes "s") Start ∷ Told (codes "w") ∷ Reaped (codes "w") 10 (Exit 0) ∷ Death 10 ∷ Asked
+    (codes "w") Look ∷ Nudge ∷ waits
+
+abbrev runs : List Event
+runs = Told (codes "s") ∷ Birth (codes "s") 11 ∷ ended
+
+sound : is_sound goal (Settle level.L3 ∷ runs) ≡ true
+sound = refl
+
+through : AllThrough (codes "s") ended
+through = birth_through goal (Settle level.L3 ∷ Told (codes "s") ∷ []) (codes "s") 11 ended sound
+
+living : AllMayLive ended
+living = birth_lives goal (Settle level.L3 ∷ Told (codes "s") ∷ []) (codes "s") 11 ended sound
+
+reached : IsReached level.L3 runs
+reached = settle_reached goal [] level.L3 runs sound
+
+-- while the waited child runs, its entry isn't through
+any_behind : (p : Event → Bool) (xs ys : List Event) → list_any p ys ≡ true → list_any p (xs ++ ys) ≡ true
+any_behind p [] ys there = there
+any_behind p (x ∷ xs) ys there = grind (arith, any_behind p xs ys)
+
+was_reaped : (id : List ℕ) (n : ℕ) (since : List Event) → WasEnded id n since
+    → list_any (is_reaping_of id n) since ≡ true
+was_reaped id n since over = ap (list_any (is_reaping_of id n)) over.told
+    ∙ any_behind (is_reaping_of id n) over.later (Told id ∷ over.between) over.reaped
+
+waits-is_not_through : AllThrough (codes "s") waits → ⊥
+waits-is_not_through all = false≢true
+    (was_reaped (codes "w") 10 (Told (codes "w") ∷ [])
+    ((all [] (service ∷ []) wait refl refl refl refl).ended 10 (Told (codes "w") ∷ [])
+    (Asked (codes "w") Start ∷ entered) refl))
+
+-- in another level the service may not live
+lives : (id : List ℕ) (n : ℕ) (before past : List Event) → MayLive id before past
+    → is_excluded past (newborn id n before) ≡ false
+lives id n before past may = grind (arith, may.listed, may.same, may.entered, may.lives)
+
+left-may_not_live : AllMayLive (Enter (stage.Run level.L1) 5 ∷ runs) → ⊥
+left-may_not_live all = false≢true
+    (sym (lives (codes "s") 11 ended (Enter (stage.Run level.L1) 5 ∷ runs)
+    (all (codes "s") 11 (Enter (stage.Run level.L1) 5 ∷ Told (codes "s") ∷ []) ended refl refl)))
+
+-- before the wait entry is through, the level isn't reached
+waits-is_not_reached : IsReached level.L3 waits → ⊥
+waits-is_not_reached all = false≢true
+    (was_reaped (codes "w") 10 (Told (codes "w") ∷ [])
+    ((all.through [] (service ∷ []) wait refl refl).ended 10 (Told (codes "w") ∷ [])
+    (Asked (codes "w") Start ∷ entered) refl))

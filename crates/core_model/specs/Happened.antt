@@ -1,0 +1,118 @@
+-- The laws of births and of announced levels, of happenings alone: what came before, and since when.
+-- A trace is a list of happenings, the newest first: `since ++ happening ∷ before` is a trace in which it came.
+use Rattle.std.specs.Prelude.{◌≡◌, ◌<◌, ◌+◌, ◌⊎◌, ⊤, ℕ, Bool, true, false, not, ◌&&◌, IsTrue, List, [], ◌∷◌, ◌++◌, Option, Some}
+use Rattle.std.specs.List.{list_any}
+use Rattle.respawn_limit.specs.declared.TheConstants.{HOLD}
+use Rattle.init_words.specs.declared.entries.Entry.{Entry}
+use Rattle.init_words.specs.declared.actions.Act.{Act}
+use Rattle.init_words.specs.declared.actions.Act.TheVariants as act
+use Rattle.init_words.specs.declared.levels.Level.{Level}
+use Rattle.init_words.specs.declared.orders.OrderKind.TheVariants.{Start}
+use Rattle.init_words.specs.declared.stages.Stage.{Stage}
+use Rattle.init_words.specs.declared.stages.Stage.TheVariants.{Run}
+use Rattle.init_words.specs.Ids.{same_id}
+use Rattle.init_words.specs.Entries.{starts_of, lives_of, waited_of}
+use Rattle.inittab_text.specs.Tables.{has_id, entry_of, act_of}
+use Rattle.trace_events.specs.declared.happenings.Happening.TheVariants.{NewTable, Enter, Asked, Hold, Birth, Told}
+use Rattle.trace_events.specs.Event.{Event}
+use Rattle.trace_events.specs.Past.{table_of, stage_of, time_of}
+use Rattle.trace_events.specs.Wanted.{same_acts, brings}
+use Rattle.trace_laws.specs.Stretches.{is_steady, is_reaping_of}
+
+-- a child of the id, born behind `before`, may live: the table in force has its entry, with the action that it had at
+-- the birth, and the entry lives in the stage in force
+pub record MayLive (id : List ℕ) (before past : List Event) : Type 0 where
+  pub entry : Entry
+  pub stage : Stage
+  pub listed : entry_of id (table_of past) ≡ Some entry
+  pub same : IsTrue (same_acts (Some entry.act) (act_of id (table_of before)))
+  pub entered : stage_of past ≡ Some stage
+  pub lives : IsTrue (lives_of entry stage)
+
+-- each child that was born, and not reaped since, may live
+abbrev pub AllMayLive : List Event → Type 0
+AllMayLive past =
+    (id : List ℕ) (number : ℕ) (since before : List Event)
+    → past ≡ since ++ Birth id number ∷ before → list_any (is_reaping_of id number) since ≡ false
+    → MayLive id before past
+
+-- in a stretch no stage was entered, and no table came that brought the id's entry
+abbrev pub keeps_entry : List ℕ → List Event → List Event → Bool
+keeps_entry id [] before = true
+keeps_entry id (Enter stage grace ∷ stretch) before = false
+keeps_entry id (NewTable table ∷ stretch) before =
+    not (brings id table (table_of (stretch ++ before))) && keeps_entry id stretch before
+keeps_entry id (_ ∷ stretch) before = keeps_entry id stretch before
+
+abbrev pub is_told_of : List ℕ → Event → Bool
+is_told_of id (Told i) = same_id id i
+is_told_of id _ = false
+
+-- a Start of the id was ordered since the stage was entered and its entry was brought, and what came of it was told
+pub record WasStarted (id : List ℕ) (past : List Event) : Type 0 where
+  pub since : List Event
+  pub before : List Event
+  pub ordered : past ≡ since ++ Asked id Start ∷ before
+  pub kept : IsTrue (keeps_entry id since (Asked id Start ∷ before))
+  pub told : IsTrue (list_any (is_told_of id) since)
+
+-- a child was reaped, and then it was told
+pub record WasEnded (id : List ℕ) (number : ℕ) (since : List Event) : Type 0 where
+  pub later : List Event
+  pub between : List Event
+  pub told : since ≡ later ++ Told id ∷ between
+  pub reaped : IsTrue (list_any (is_reaping_of id number) between)
+
+-- the actions of waited entries that start when a stage is entered
+abbrev pub starts_at_entry : Act → Bool
+starts_at_entry act.Sysinit = true
+starts_at_entry act.Bootwait = true
+starts_at_entry act.Wait = true
+starts_at_entry _ = false
+
+-- nothing is under way of the entry: each of its children was ended, and where it starts in the stage, it was started
+pub record IsThrough (e : Entry) (past : List Event) : Type 0 where
+  pub ended : (number : ℕ) (since before : List Event)
+      → past ≡ since ++ Birth e.id number ∷ before → WasEnded e.id number since
+  pub started : (stage : Stage) → stage_of past ≡ Some stage → IsTrue (starts_of e stage)
+      → IsTrue (starts_at_entry e.act) → WasStarted e.id past
+
+-- each waited entry of the table in force that stands before that of the id is through
+abbrev pub AllThrough : List ℕ → List Event → Type 0
+AllThrough id past =
+    (front rest : List Entry) (e : Entry)
+    → table_of past ≡ front ++ e ∷ rest → list_any (has_id id) front ≡ false → same_id id e.id ≡ false
+    → IsTrue (waited_of e) → IsThrough e past
+
+-- a child of the id was born, and not reaped since
+pub record HasChild (id : List ℕ) (past : List Event) : Type 0 where
+  pub number : ℕ
+  pub since : List Event
+  pub before : List Event
+  pub born : past ≡ since ++ Birth id number ∷ before
+  pub unreaped : list_any (is_reaping_of id number) since ≡ false
+
+-- the id was held in the stage, less than five minutes ago
+pub record WasHeld (id : List ℕ) (past : List Event) : Type 0 where
+  pub since : List Event
+  pub before : List Event
+  pub held : past ≡ since ++ Hold id ∷ before
+  pub steady : IsTrue (is_steady since)
+  pub lately : time_of past < time_of before + HOLD
+
+-- an entry of a level that was reached, by its action
+abbrev pub IsServed : Act → List ℕ → List Event → Type 0
+IsServed act.Wait id past = WasStarted id past
+IsServed act.Once id past = WasStarted id past
+IsServed act.Respawn id past = HasChild id past ⊎ WasHeld id past
+IsServed _ id past = ⊤
+
+-- the level is that of the stage, each child may live, each waited entry is through, and each entry that starts in the
+-- level is served
+pub record IsReached (level : Level) (past : List Event) : Type 0 where
+  pub entered : stage_of past ≡ Some (Run level)
+  pub living : AllMayLive past
+  pub through : (front rest : List Entry) (e : Entry)
+      → table_of past ≡ front ++ e ∷ rest → IsTrue (waited_of e) → IsThrough e past
+  pub served : (front rest : List Entry) (e : Entry)
+      → table_of past ≡ front ++ e ∷ rest → IsTrue (starts_of e (Run level)) → IsServed e.act e.id past
