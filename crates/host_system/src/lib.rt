@@ -3,6 +3,7 @@
 #![tactic(auto)]
 
 mod announcements;
+mod bells;
 mod channels;
 mod children;
 mod commands;

@@ -6,12 +6,13 @@ ghost use Rattle.host_calls.specs.Calls.{HasCause};
 ghost use Rattle.host_system.specs.Hosts.{is_taken};
 
 use crate::announcements::announcement_text;
+use crate::bells::Bell;
 use crate::channels::Channel;
 use crate::children::Children;
 use crate::line_faults::{LineFaults, say_refused, say_too_long, say_too_many};
 use crate::paths::Paths;
 use crate::pauses::{LOOK, Pauses, has_stirred};
-use crate::steady_clocks::SteadyClock;
+use crate::steady_clocks::{SteadyClock, Watch};
 use crate::troubles::Trouble;
 use host_calls::{Host, HostFault, Reading, Reply, counted, is_failed_reply};
 use init_words::{Answer, Id, Memory, Part, SignalKind};
@@ -33,7 +34,8 @@ use trace_events::{Happening, HappeningIn};
 /// tabs and started directly. A start for an id that has a child is refused. A child is looked at by waitpid(2) with
 /// WNOHANG; SIGTERM is sent by kill(1) in one `sh` for all of a turn,
 /// SIGKILL directly. A pause starts nothing, does not fail, and ends where
-/// a request comes. Requests are read from the channel file's first byte on, and anew where it is shorter than what was
+/// a request comes: where a FIFO stands beside the channel, by the name of the channel with `.bell` after it, when it is
+/// rung, by a byte that is written to it, and else when the channel, which is looked at meanwhile, has grown. Requests are read from the channel file's first byte on, and anew where it is shorter than what was
 /// read, or another file stands at its path. The clock gives
 /// the seconds since the beginning of 1970 at its first reading, and goes on from there by the monotonic clock. What
 /// fails is told on standard error once when it begins and once when it is over; told too are requests that stand in
@@ -61,7 +63,9 @@ struct SystemHost<R: Processes + Files<File = File> + Clock + Print + Eprint + D
     strict: bool,
     verbose: bool,
     fresh: bool,
+    bell: Bell<A>,
     pauses: Pauses,
+    watch: Watch,
     clock: SteadyClock,
     saying: Trouble,
     faults: u64,
@@ -122,16 +126,28 @@ impl<R: Processes + Files<File = File> + Clock + Print + Eprint + Drop, A: Alloc
     }
 
     /// The host with pauses of at most this length in seconds, a decimal of 0.01 to 60 with at most two digits after
-    /// the point; any other text leaves them as they are. Since the last pause a child may have been born or reaped, a
+    /// the point; any other text leaves them as they are, as long as they were. Since the last pause a child may have been born or reaped, a
     /// signal sent or bytes taken: then the next one lasts a thousandth of the length, or less where there are few
     /// children: two millionths of a second a child, and at least a hundred. Else it lasts twice as long as the last,
-    /// but no longer than the length.
-    pub fn with_pause(mut self, length: &str) -> Result<OsHost<R, A>, Memory>
+    /// but no longer than the length; where there are children and pauses go by cost, no longer than two thousand times
+    /// what the last turn took either, and that is taken for a tenth of a second at least.
+    pub fn with_pause(mut self, length: &str, by_cost: bool) -> Result<OsHost<R, A>, Memory>
         ensures { IfOk result (λ host. host ≡ self) }
     {
         let host = &mut *self.host;
-        host.pauses.grow_to(length);
+        host.pauses.grow_to(length, by_cost);
         Ok(self)
+    }
+
+    /// The host that makes its bell first, by mkfifo(1), where that is wanted and nothing stands at the bell's path. A
+    /// bell that can't be made is told, and gone on without.
+    pub fn with_bell(mut self, wanted: bool) -> OsHost<R, A>
+        ensures { result ≡ self }
+    {
+        if wanted {
+            self.host.make_bell();
+        }
+        self
     }
 
     /// The host with pauses for one child that is waited for: each lasts a tenth of the time since the child was born or
@@ -238,7 +254,9 @@ impl<
             strict: false,
             verbose: false,
             fresh: false,
+            bell: Bell::new(alloc, program, channel)?,
             pauses: Pauses::of_a_second(),
+            watch: Watch::new(),
             clock: SteadyClock::new(program),
             saying: Trouble::new(program, "write", "written"),
             faults: 0,
@@ -252,6 +270,13 @@ impl<
         self.paths.spare(alloc, path)?;
         let _ = self.paths.tell_blocked(&self.rt, self.channel.path());
         Ok(())
+    }
+
+    fn make_bell(&mut self)
+        ensures { self.new ≡ self.old }
+    {
+        let alloc = self.alloc;
+        self.bell.make(&self.rt, alloc);
     }
 
     fn tell_all(&mut self)
@@ -320,8 +345,17 @@ fn say<A: Allocator, B: Allocator>(
     Ok(text.len())
 }
 
-/// Sleeps for so many microseconds, or until the channel has news, which is looked at meanwhile.
-fn rest<R: Files + Clock, A: Allocator>(rt: &R, channel: &Channel<A>, length: u64) {
+/// Sleeps for so many microseconds, or until the bell is rung; where there is none, until the channel has news, which is
+/// looked at meanwhile.
+fn rest<R: Files<File = File> + Clock + Eprint, A: Allocator + Copy>(
+    rt: &R,
+    bell: &mut Bell<A>,
+    channel: &Channel<A>,
+    length: u64,
+) {
+    if bell.wait(rt, length) {
+        return;
+    }
     for _ in 0..length / LOOK {
         thread::sleep(rt, Duration::from_micros(LOOK));
         if channel.has_news(rt) {
@@ -508,8 +542,10 @@ impl<R: Processes + Files<File = File> + Clock + Print + Eprint + Drop, A: Alloc
     {
         let host = &mut *self.host;
         host.children.end_turn();
-        let length = host.pauses.next(host.children.count());
-        rest(&host.rt, &host.channel, length);
+        let turn = host.watch.passed(&host.rt);
+        let length = host.pauses.next(host.children.count(), turn);
+        rest(&host.rt, &mut host.bell, &host.channel, length);
+        host.watch.start(&host.rt);
     }
 
     fn faults(&self) -> u64 {

@@ -19,6 +19,12 @@ const SHORT: u64 = 100;
 
 const SHORT_A_CHILD: u64 = 2;
 
+/// How many times as long as the turn before it a pause at rest may be, where pauses go by what a turn costs, and how long
+/// it is at least, in microseconds: so looks take at most half a thousandth of one processor.
+const REST_A_TURN: u64 = 2_000;
+
+const REST: u64 = 100_000;
+
 /// The microseconds of a second.
 const SECOND: u64 = 1_000_000;
 
@@ -28,6 +34,8 @@ pub(crate) struct Pauses {
     shortest: u64,
     longest: u64,
     next: u64,
+    /// A pause at rest goes by what the turn before it took.
+    by_cost: bool,
     /// Something happened since the last pause.
     stirred: bool,
     /// The length of all pauses since something happened, where each is a tenth of those before it.
@@ -41,6 +49,7 @@ impl Pauses {
             shortest: SECOND,
             longest: SECOND,
             next: SECOND,
+            by_cost: false,
             stirred: false,
             passed: None,
         }
@@ -52,14 +61,16 @@ impl Pauses {
             shortest: SHORT,
             longest: SECOND,
             next: SHORT,
+            by_cost: false,
             stirred: false,
             passed: Some(0),
         }
     }
 
-    /// Pauses that grow from a thousandth of this length up to it. A length that is no decimal of 0.01 to 60 with at
-    /// most two digits after the point leaves them as they are.
-    pub(crate) fn grow_to(&mut self, length: &str) {
+    /// Pauses that grow from a thousandth of this length up to it, or, where they go by what a turn costs, over children
+    /// up to two thousand times what the last turn took, where that is shorter. A length that is no decimal of 0.01 to
+    /// 60 with at most two digits after the point leaves them as they are.
+    pub(crate) fn grow_to(&mut self, length: &str, by_cost: bool) {
         let Some(hundredths) = read_hundredths(length.as_bytes()) else {
             return;
         };
@@ -67,6 +78,7 @@ impl Pauses {
             self.longest = hundredths.saturating_mul(HUNDREDTH);
             self.shortest = self.longest / 1_000;
             self.next = self.shortest;
+            self.by_cost = by_cost;
         }
     }
 
@@ -75,14 +87,14 @@ impl Pauses {
         self.stirred = self.stirred || stirred;
     }
 
-    /// The length of the pause that is due over so many children, in microseconds: after a turn in which something
-    /// happened the shortest, or less where the children are few, and else twice the one before, or a tenth of those
-    /// before, up to the longest.
-    pub(crate) fn next(&mut self, children: usize) -> u64 {
+    /// The length of the pause that is due over so many children behind a turn that took so long, in microseconds: where
+    /// something happened in it the shortest, or less where the children are few, and else twice the one before, or a
+    /// tenth of those before, up to the longest.
+    pub(crate) fn next(&mut self, children: usize, turn: u64) -> u64 {
         let length = if self.stirred {
             self.shortest_over(children)
         } else {
-            self.next
+            self.next.min(self.longest_over(children, turn))
         };
         if let Some(passed) = self.passed {
             let passed = if self.stirred { 0 } else { passed };
@@ -94,6 +106,15 @@ impl Pauses {
         }
         self.stirred = false;
         length
+    }
+
+    /// The longest pause over so many children behind a turn that took so long.
+    fn longest_over(&self, children: usize, turn: u64) -> u64 {
+        if self.by_cost && children > 0 {
+            turn.saturating_mul(REST_A_TURN).max(REST).min(self.longest)
+        } else {
+            self.longest
+        }
     }
 
     /// The shortest pause over so many children: pauses that don't grow stay as they are.

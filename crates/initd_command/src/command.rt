@@ -43,7 +43,8 @@ pub const USAGE: &str = "usage: initd run [OPTION]..
   --forever        no limit of turns; it is refused beside a limit
   --drain          end where nothing is left to do and nothing runs
   --pause SEC      the longest pause between two turns, 0.01 to 60 seconds, with at most two digits
-                   after the point; 1 where it is left out; where something happened it is shorter
+                   after the point; 1 where it is left out; where something happened, and where looks
+                   at the children cost little and the trace has none, it is shorter
   --result ID      end with the last exit status of the entry of that id, in place of 0; 137 where
                    it was killed, 4 where it never ended; an id that the inittab has not is refused
   --verbose        tell each start, end and signal of a child, each file of the inittab's folder
@@ -52,6 +53,8 @@ pub const USAGE: &str = "usage: initd run [OPTION]..
   --strict         take no inittab that has a faulty line: the run is refused at its opening, and
                    later the inittab before stays in force
   --stamp          put the time in front of each line that the run prints while it goes on
+  --bell           make the FIFO that telinit rings, P.bell beside the file of requests, where
+                   there is none: a request is heard at once then
   --growing        judge a trace that is still written up to its last whole happening
   TABLE            an inittab(5)
   SCRIPT           what the system did, one happening a line

@@ -110,7 +110,8 @@ where
         folder_of(said),
     )?;
     let host = host
-        .with_pause(said.pause.as_str())?
+        .with_bell(said.bell)
+        .with_pause(said.pause.as_str(), !writes_looks(said))?
         .sparing(trace_of(said))?;
     let host = if said.fresh { host.fresh() } else { host };
     let host = if said.verbose { host.verbose() } else { host };
@@ -119,4 +120,9 @@ where
         Some(folder) => host.with_logs(folder.as_str()),
         None => Ok(host),
     }
+}
+
+/// The trace of the run has its looks: there is one, and it isn't brief.
+fn writes_looks(said: &RunWords) -> bool {
+    said.trace.is_some() && !said.brief
 }

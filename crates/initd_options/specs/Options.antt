@@ -51,6 +51,7 @@ run_rules =
     ∷ switch_rule (codes "judge")
     ∷ switch_rule (codes "strict")
     ∷ switch_rule (codes "stamp")
+    ∷ switch_rule (codes "bell")
     ∷ []
 
 unfoldable pub run_line : App
@@ -141,7 +142,8 @@ brief_said rows = brief_in (is_set (codes "brief") rows) (first_of (codes "trace
 -- it is given, and whether it is brief; whether each happening is judged; the level to go to, if it is given; the
 -- greatest number of turns; whether the run ends where it is drained; the seconds of a pause; the entry whose last
 -- status is the run's, if one is given; whether each start and end is told; the folder of the children's output, if it
--- is given; whether an inittab with a faulty line is not taken; and whether lines have the time in front.
+-- is given; whether an inittab with a faulty line is not taken; whether lines have the time in front; and whether the
+-- channel's bell is made.
 pub record RunSaid : Type 0 where
   pub inittab : Text
   pub inittab_dir : Option Text
@@ -160,6 +162,7 @@ pub record RunSaid : Type 0 where
   pub logs : Option Text
   pub strict : Bool
   pub stamp : Bool
+  pub bell : Bool
 
 abbrev pub run_of : RunWords → RunSaid
 run_of said = record {
@@ -180,6 +183,7 @@ run_of said = record {
   logs = option_map (λ (path : _). string_bytes path) said.logs;
   strict = said.strict;
   stamp = said.stamp;
+  bell = said.bell;
 }
 
 -- what the words say, with these values of the options that may be refused
@@ -202,6 +206,7 @@ service_with rows level turns pause result brief = record {
   logs = first_of (codes "logs") rows;
   strict = is_set (codes "strict") rows;
   stamp = is_set (codes "stamp") rows;
+  bell = is_set (codes "bell") rows;
 }
 
 -- what the words after `run` say; nothing where the level, the turns, the pause or the entry are none, or a brief trace

@@ -51,6 +51,8 @@ pub struct RunWords {
     pub strict: bool,
     /// Each line that the run prints has the time in front.
     pub stamp: bool,
+    /// The bell of the channel is made, where there is none.
+    pub bell: bool,
 }
 
 /// The greatest number of turns that may be asked for.
@@ -99,6 +101,7 @@ const OPTIONS: &[(&str, Takes)] = &[
     ("judge", Takes::Nothing),
     ("strict", Takes::Nothing),
     ("stamp", Takes::Nothing),
+    ("bell", Takes::Nothing),
 ];
 
 /// A command line with an option of this name behind its other arguments.
@@ -169,6 +172,7 @@ pub(crate) fn read_run(alloc: Global, matches: &ArgMatches) -> Result<RunWords, 
         logs: read_path(alloc, matches, "logs")?,
         strict: is_set(matches, "strict"),
         stamp: is_set(matches, "stamp"),
+        bell: is_set(matches, "bell"),
     })
 }
 

@@ -3,6 +3,7 @@
 ghost use Rattle.std.specs.Prelude.{◌≡◌, length, IfOk, IfSome, OnOk, OnErr, None};
 ghost use Rattle.telinit_command.specs.Channels.{AreSame, HasGained, HasGainedFront, KnownBytes};
 
+use crate::bell::ring;
 use crate::removed::is_read_before;
 use initctl_frame::BLOCK;
 use program_io::Channel;
@@ -45,7 +46,7 @@ pub trait Channels {
             (HasGainedFront path.now block.now (bytes_at self.old) (bytes_at self.new)) };
 }
 
-/// The channels of the operating system. Nothing is known of their bytes.
+/// The channels of the operating system, whose bells are rung. Nothing is known of their bytes.
 #[derive(Drop)]
 pub struct OsChannels<'a, R> {
     rt: &'a R,
@@ -64,7 +65,7 @@ impl<'a, R> OsChannels<'a, R> {
     }
 }
 
-impl<R: Files<File = File> + Alloc + Clone + Drop> Channels for OsChannels<'_, R> {
+impl<R: Files<File = File> + Alloc + Eprint + Clone + Drop> Channels for OsChannels<'_, R> {
     ghost bytes_at = { λ _ _. None };
 
     fn open(&mut self, path: &str) -> io::Result<Found> {
@@ -81,10 +82,12 @@ impl<R: Files<File = File> + Alloc + Clone + Drop> Channels for OsChannels<'_, R
         Ok(found)
     }
 
-    fn append(&mut self, _path: &str, block: &[u8; BLOCK]) -> io::Result<()> {
+    fn append(&mut self, path: &str, block: &[u8; BLOCK]) -> io::Result<()> {
         match &mut self.opened {
-            Some(channel) => channel.append(block),
-            None => Err(Error::from(ErrorKind::NotFound)),
+            Some(channel) => channel.append(block)?,
+            None => return Err(Error::from(ErrorKind::NotFound)),
         }
+        ring(self.rt, self.alloc, path);
+        Ok(())
     }
 }

@@ -1,6 +1,7 @@
 //! What telinit does: it reads a command line (telinit(8)) and appends one request block (initreq.h) to init's channel.
 #![tactic(auto)]
 
+mod bell;
 mod channel;
 mod channels;
 mod command;

@@ -42,7 +42,7 @@ returns-in-None g c =
     let h₁ : HostState = c.if-said.host in
     let h₂ : HostState = c.if-said-2.host in
     let h₃ : HostState = c.if-said-3.host in
-    let zero : h₀ ≡ first_host = c.in_ok-host-2.ensures ∙ c.in_ok-with_pause.ensures ∙ c.in_ok-host.ensures in
+    let zero : h₀ ≡ first_host = c.in_ok-host-2.ensures ∙ c.in_ok-with_pause.ensures ∙ c.with_bell.ensures ∙ c.in_ok-host.ensures in
     let one : h₁ ≡ record h₀ { fresh = said.fresh } = elim c.if-said.branch [ then-said w ↦ fresh_on h₀ h₁ said.fresh (search rules) (search rules) | else-said w ↦ fresh_off h₀ h₁ said.fresh (search rules) (ap (λ (h : HostState). h.fresh) zero) (search rules) ] in
     let two : h₂ ≡ record h₁ { verbose = said.verbose } = elim c.if-said-2.branch [ then-said-2 w ↦ verbose_on h₁ h₂ said.verbose (search rules) (search rules) | else-said-2 w ↦ verbose_off h₁ h₂ said.verbose (search rules) (ap (λ (h : HostState). h.verbose) (one ∙ ap (λ (h : HostState). record h { fresh = said.fresh }) zero)) (search rules) ] in
     let three : h₃ ≡ record h₂ { strict = said.strict } = elim c.if-said-3.branch [ then-said-3 w ↦ strict_on h₂ h₃ said.strict (search rules) (search rules) | else-said-3 w ↦ strict_off h₂ h₃ said.strict (search rules) (ap (λ (h : HostState). h.strict) (two ∙ ap (λ (h : HostState). record h { verbose = said.verbose }) (one ∙ ap (λ (h : HostState). record h { fresh = said.fresh }) zero))) (search rules) ] in
@@ -55,7 +55,7 @@ returns-in-Some g c =
     let h₁ : HostState = c.if-said.host in
     let h₂ : HostState = c.if-said-2.host in
     let h₃ : HostState = c.if-said-3.host in
-    let zero : h₀ ≡ first_host = c.in_ok-host-2.ensures ∙ c.in_ok-with_pause.ensures ∙ c.in_ok-host.ensures in
+    let zero : h₀ ≡ first_host = c.in_ok-host-2.ensures ∙ c.in_ok-with_pause.ensures ∙ c.with_bell.ensures ∙ c.in_ok-host.ensures in
     let one : h₁ ≡ record h₀ { fresh = said.fresh } = elim c.if-said.branch [ then-said w ↦ fresh_on h₀ h₁ said.fresh (search rules) (search rules) | else-said w ↦ fresh_off h₀ h₁ said.fresh (search rules) (ap (λ (h : HostState). h.fresh) zero) (search rules) ] in
     let two : h₂ ≡ record h₁ { verbose = said.verbose } = elim c.if-said-2.branch [ then-said-2 w ↦ verbose_on h₁ h₂ said.verbose (search rules) (search rules) | else-said-2 w ↦ verbose_off h₁ h₂ said.verbose (search rules) (ap (λ (h : HostState). h.verbose) (one ∙ ap (λ (h : HostState). record h { fresh = said.fresh }) zero)) (search rules) ] in
     let three : h₃ ≡ record h₂ { strict = said.strict } = elim c.if-said-3.branch [ then-said-3 w ↦ strict_on h₂ h₃ said.strict (search rules) (search rules) | else-said-3 w ↦ strict_off h₂ h₃ said.strict (search rules) (ap (λ (h : HostState). h.strict) (two ∙ ap (λ (h : HostState). record h { verbose = said.verbose }) (one ∙ ap (λ (h : HostState). record h { fresh = said.fresh }) zero))) (search rules) ] in

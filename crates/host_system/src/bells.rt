@@ -1,0 +1,138 @@
+//! The bell of a channel: a FIFO beside it, which whoever appends a request may ring, so that a pause ends at once.
+
+use crate::troubles::Trouble;
+use init_words::Memory;
+use libc::net::{POLLIN, poll};
+use libc::types::pollfd;
+use std::alloc::Allocator;
+use std::fs::{File, Metadata, OpenOptions};
+use std::io::{Error, ErrorKind, Read};
+use std::os::fd::AsRawFd;
+use std::os::unix::fs::{FileTypeExt, MetadataExt};
+use std::process::{Command, ExitStatus, Processes};
+use std::rt::Files;
+use std::{fs, io};
+
+/// The microseconds of a millisecond, in which poll(2) counts.
+const MILLISECOND: u64 = 1_000;
+
+/// How many rings are taken at once.
+const RINGS: usize = 512;
+
+/// The bell of a channel.
+#[derive(Drop)]
+pub(crate) struct Bell<A: Allocator> {
+    path: String<A>,
+    open: Option<File>,
+    /// The device and the number of the FIFO that is open.
+    file: Option<(u64, u64)>,
+    hearing: Trouble,
+}
+
+impl<A: Allocator + Copy> Bell<A> {
+    /// The bell of the channel at this path: the file whose path has `.bell` after it.
+    pub(crate) fn new(alloc: A, program: &'static str, channel: &str) -> Result<Bell<A>, Memory> {
+        Ok(Bell {
+            path: format!(in alloc; "{channel}.bell")?,
+            open: None,
+            file: None,
+            hearing: Trouble::new(program, "hear", "heard"),
+        })
+    }
+
+    /// Makes the bell by mkfifo(1), where nothing stands at its path. That it can't is told.
+    pub(crate) fn make<R: Processes + Files + Eprint>(&mut self, rt: &R, alloc: A) {
+        if let Ok(Some(_)) = found_at(rt, self.path.as_str()) {
+            return;
+        }
+        let made = made_at(rt, alloc, self.path.as_str());
+        if let Err(error) = made {
+            let _ = eprintln!(rt; "initd: cannot make {}: {error}", self.path);
+        }
+    }
+
+    /// Waits for so many microseconds, or until the bell is rung. Gives whether it did: it doesn't where there is no bell,
+    /// or the time is shorter than a millisecond. What can't be heard is told once.
+    pub(crate) fn wait<R: Files<File = File> + Eprint>(&mut self, rt: &R, length: u64) -> bool {
+        let Ok(limit) = i32::try_from(length / MILLISECOND) else {
+            return false;
+        };
+        if limit == 0 {
+            return false;
+        }
+        let listening = self.listen(rt);
+        self.hearing.tell(rt, self.path.as_str(), &listening);
+        let Some(file) = &self.open else {
+            return false;
+        };
+        match heard(file, limit) {
+            Ok(()) => true,
+            Err(error) => {
+                self.hearing.tell_begun(rt, self.path.as_str(), &error);
+                self.open = None;
+                false
+            }
+        }
+    }
+
+    /// Opens the FIFO that stands at the path, where it isn't open.
+    fn listen<R: Files<File = File>>(&mut self, rt: &R) -> io::Result<()> {
+        let found = found_at(rt, self.path.as_str());
+        let Ok(Some(found)) = found else {
+            self.open = None;
+            self.file = None;
+            found?;
+            return Ok(());
+        };
+        let file = Some((found.dev(), found.ino()));
+        if self.file != file {
+            self.file = file;
+            self.open = None;
+            let path = self.path.as_str();
+            self.open = Some(OpenOptions::new().read(true).write(true).open(rt, path)?);
+        }
+        Ok(())
+    }
+}
+
+/// The FIFO at the path; none where nothing is there.
+fn found_at<R: Files>(rt: &R, path: &str) -> io::Result<Option<Metadata>> {
+    match fs::metadata(rt, path) {
+        Ok(found) if found.file_type().is_fifo() => Ok(Some(found)),
+        Ok(_) => Err(Error::new(ErrorKind::InvalidInput, "it is no FIFO")),
+        Err(error) if error.kind() == ErrorKind::NotFound => Ok(None),
+        Err(error) => Err(error),
+    }
+}
+
+/// Makes a FIFO at the path, which init's user alone may open.
+fn made_at<R: Processes, A: Allocator + Copy>(rt: &R, alloc: A, path: &str) -> io::Result<()> {
+    let mut command = Command::new(alloc, "mkfifo")?;
+    command.arg("-m")?;
+    command.arg("600")?;
+    command.arg(path)?;
+    let status = command.status(rt)?;
+    if status.success() {
+        Ok(())
+    } else {
+        Err(Error::other("mkfifo failed"))
+    }
+}
+
+/// Waits for so many milliseconds, or until the FIFO has a byte, and takes what is there.
+fn heard(mut file: &File, limit: i32) -> io::Result<()> {
+    let mut waited = [pollfd {
+        fd: file.as_raw_fd(),
+        events: POLLIN,
+        revents: 0,
+    }];
+    let ready = poll(&mut waited, limit);
+    if ready < 0 {
+        return Err(Error::other("poll failed"));
+    }
+    if ready > 0 {
+        let mut rings = [0; RINGS];
+        file.read(&mut rings)?;
+    }
+    Ok(())
+}
