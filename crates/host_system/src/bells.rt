@@ -42,12 +42,11 @@ impl<A: Allocator + Copy> Bell<A> {
 
     /// Makes the bell by mkfifo(1), where nothing stands at its path. That it can't is told.
     pub(crate) fn make<R: Processes + Files + Eprint>(&mut self, rt: &R, alloc: A) {
-        if let Ok(Some(_)) = found_at(rt, self.path.as_str()) {
-            return;
-        }
-        let made = made_at(rt, alloc, self.path.as_str());
-        if let Err(error) = made {
-            let _ = eprintln!(rt; "initd: cannot make {}: {error}", self.path);
+        let path = self.path.as_str();
+        if let Ok(None) = found_at(rt, path) {
+            if let Err(error) = made_at(rt, alloc, path) {
+                let _ = eprintln!(rt; "initd: cannot make {path}: {error}");
+            }
         }
     }
 
