@@ -1,16 +1,7 @@
 -- The entries of a table are called one by one.
-use Rattle.std.proofs.Common.{◌≡◌, suc, zero, refl, sym, ◌∙◌, ap, ℕ, ◌+◌, ◌<◌, arith, Bool, true, false, ◌&&◌, ◌||◌, cond, List, [], ◌∷◌, ◌++◌, length, take, slice_get, Some, None, is_some}
-use Rattle.std.specs.List.{list_any}
-use Rattle.init_words.specs.declared.entries.Entry.{Entry}
+use Rattle.core_steps.proofs.Words.{◌≡◌, suc, zero, refl, sym, ◌∙◌, ap, ℕ, ◌+◌, ◌<◌, arith, Bool, true, false, ◌&&◌, ◌||◌, cond, List, [], ◌∷◌, ◌++◌, length, take, slice_get, Some, None, is_some, list_any, Entry, has_id, RecordState, after_call, record_by_id, has_record_of, changed, with_changed, IsInOrder, called_if, with_called, called_id}
 use Rattle.init_words.specs.Ids.{same_id}
 use Rattle.init_words.proofs.Same.{same_id-self, same_id-sym}
-use Rattle.inittab_text.specs.Tables.{has_id}
-use Rattle.core_records.specs.State.{RecordState}
-use Rattle.core_records.specs.Changes.{after_call}
-use Rattle.core_records.specs.Lists.{record_by_id, has_record_of, changed, with_changed}
-use Rattle.core_records.specs.Order.{IsInOrder}
-use Rattle.core_model.specs.Steps.{called_if, with_called}
-use Rattle.core_model.proofs.RuledMade.{called_id}
 
 -- an entry of the table has a record
 found : (id : List ℕ) (slot : RecordState) (slots : List RecordState) (b : Bool) → is_some (record_by_id id slots) ≡ true → is_some (cond b (Some slot) (record_by_id id slots)) ≡ true

@@ -1,17 +1,7 @@
 -- Signals are due to excluded children alone: SIGTERM where a stop is due, SIGKILL where the grace has passed since SIGTERM.
-use Rattle.std.proofs.Common.{◌≡◌, refl, sym, ℕ, ◌+◌, ◌≤◌, Bool, true, false, cond, nat_le, List, [], ◌∷◌, Option, Some, None, is_some, is_none, not, ◌&&◌, arith}
-use Rattle.std.specs.List.{list_any}
-use Rattle.std.proofs.lemmas.Bool.{or_parts, ltb-false, leb-true, le-leb, both_ways}
-use Rattle.init_words.specs.declared.stages.Stage.{Stage}
+use Rattle.core_steps.proofs.Words.{◌≡◌, refl, sym, ℕ, ◌+◌, ◌≤◌, Bool, true, false, cond, nat_le, List, [], ◌∷◌, Option, Some, None, is_some, is_none, not, ◌&&◌, arith, list_any, or_parts, ltb-false, leb-true, le-leb, both_ways, Stage, RecordState, is_stop_due, is_termed, is_termed_before, IsFirstTermed, Order, Kill, signal_step, stop_among, has_excluded, stands, calm_step, work_step, CoreState, is_past}
 use Rattle.core_records.specs.declared.children.Stop.{Stop}
 use Rattle.core_records.specs.declared.children.Stop.TheVariants.{Due, Termed, Killed}
-use Rattle.core_records.specs.State.{RecordState}
-use Rattle.core_records.specs.Stopping.{is_stop_due, is_termed, is_termed_before, IsFirstTermed}
-use Rattle.trace_events.specs.declared.steps.Step.TheVariants.{Order}
-use Rattle.init_words.specs.declared.orders.OrderKind.TheVariants.{Kill}
-use Rattle.core_model.specs.Decide.{signal_step, stop_among, has_excluded, stands, calm_step, work_step}
-use Rattle.core_model.specs.State.{CoreState}
-use Rattle.core_steps.specs.Signals.{is_past}
 
 module _ (grace now : ℕ) where
   -- where no record passes either test, and no signal is due to one that passes neither, none is due at all

@@ -1,35 +1,12 @@
 -- Each call keeps the records timely, and in the order of the table.
-use Rattle.std.proofs.Common.{◌≡◌, refl, sym, subst, ℕ, Bool, true, false, ◌&&◌, List, [], ◌∷◌, map, Option, Some, None, Result, Ok, Err, OnOk, OnErr}
-use Rattle.init_words.specs.declared.entries.Entry.{Entry}
-use Rattle.init_words.specs.declared.stages.Stage.{Stage}
-use Rattle.core_records.specs.State.{RecordState, new_record}
-use Rattle.core_records.specs.Changes.{after_enter}
+use Rattle.core_steps.proofs.Words.{◌≡◌, refl, sym, subst, ℕ, Bool, true, false, ◌&&◌, List, [], ◌∷◌, map, Option, Some, None, Result, Ok, Err, OnOk, OnErr, Entry, Stage, RecordState, new_record, after_enter, IsInOrder, timely_judge, timely_enter, id-after_judge, order_map, order_adopt, act-after_judge, timely_map, called_act, called_id, judged_in, called_if, with_called, CoreState, decide, decide_holds, fits_adopt, Hold, has_record_of, is_quiet, order_in, refusal_of, Answer, Refusal, NotQuiet, IsFit, adopt_keeps, told_keeps, has_id, is_distinct, list_any}
 use Rattle.core_records.specs.Judging.{after_judge}
 use Rattle.core_records.specs.Adopting.{after_adopt}
 use Rattle.core_records.specs.Times.{is_timely, are_timely}
-use Rattle.core_records.specs.Order.{IsInOrder}
-use Rattle.core_records.proofs.Changed.{timely_judge, timely_enter, id-after_judge}
-use Rattle.core_records.proofs.Ordered.{order_map, order_adopt, act-after_judge}
 use Rattle.core_records.proofs.Adopted.{timely_adopt}
-use Rattle.core_records.proofs.Timely.{timely_map}
-use Rattle.core_model.proofs.RuledMade.{called_act, called_id}
-use Rattle.core_model.specs.Steps.{judged_in, called_if, with_called}
 use Rattle.core_model.specs.Steps as core
-use Rattle.core_model.specs.State.{CoreState}
 use Rattle.core_model.specs.Fit.{StillFits, OnEachTrace}
-use Rattle.core_model.specs.Decide.{decide}
-use Rattle.core_model.proofs.Allowed.{decide_holds}
-use Rattle.core_model.proofs.Hearing.{fits_adopt}
-use Rattle.trace_events.specs.declared.steps.Step.TheVariants.{Hold}
-use Rattle.core_records.specs.Lists.{has_record_of, is_quiet, order_in, refusal_of}
-use Rattle.init_words.specs.declared.orders.Answer.{Answer}
-use Rattle.init_words.specs.declared.refusals.Refusal.{Refusal}
-use Rattle.init_words.specs.declared.refusals.Refusal.TheVariants.{NotQuiet}
-use Rattle.core_model.specs.Rules.{IsFit}
-use Rattle.core_model.proofs.RulesKept.{adopt_keeps, told_keeps}
 use Rattle.trace_events.specs.declared.happenings.Happening.TheVariants.{NewTable}
-use Rattle.inittab_text.specs.Tables.{has_id, is_distinct}
-use Rattle.std.specs.List.{list_any}
 
 abbrev pub IsKept : ℕ → List Entry → List RecordState → Type 0
 IsKept now table slots = (are_timely now slots ≡ true) × IsInOrder table slots

@@ -7,3 +7,4 @@ pub mod Places
 pub mod Remade
 pub mod Ruled
 pub mod Starts
+pub mod Words

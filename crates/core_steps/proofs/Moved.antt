@@ -1,29 +1,13 @@
 -- Orders, answers, calls and rounds leave seen what was seen, and passed what was passed.
-use Rattle.std.proofs.Common.{◌≡◌, refl, sym, ap, ◌∙◌, subst, Bool, true, false, not, ◌&&◌, ◌||◌, cond, ℕ, zero, suc, List, [], ◌∷◌, map, Option, Some, None, is_some, is_none, Result, Ok, Err}
-use Rattle.std.specs.List.{list_any}
-use Rattle.std.proofs.lemmas.Bool.{and_parts, and_from, or_left, or_right, true≢false, false≢true}
-use Rattle.init_words.specs.declared.entries.Entry.{Entry}
-use Rattle.init_words.specs.declared.stages.Stage.{Stage}
+use Rattle.core_steps.proofs.Words.{◌≡◌, refl, sym, ap, ◌∙◌, subst, Bool, true, false, not, ◌&&◌, ◌||◌, cond, ℕ, zero, suc, List, [], ◌∷◌, map, Option, Some, None, is_some, is_none, Result, Ok, Err, list_any, and_parts, and_from, or_left, or_right, true≢false, false≢true, Entry, Stage, Start, Look, Term, Kill, Answer, Refusal, WrongAnswer, has_id, RecordState, after_order, after_hold, after_begin_round, after_answer, can_be_asked, is_record_of, are_distinct, record_by_id, can_ask_of, can_ask, order_of, order_in, refusal_of, is_over_of, with_changed, after_told, is_wanted_record, is_owed_record, called_if, with_called, Each, each_always, each_less, each_own, is_seen_record, are_seen, is_passed_record, is_passed_in, are_passed, is_place, brings_nothing}
 use Rattle.init_words.specs.declared.orders.OrderKind.{OrderKind}
-use Rattle.init_words.specs.declared.orders.OrderKind.TheVariants.{Start, Look, Term, Kill}
-use Rattle.init_words.specs.declared.orders.Answer.{Answer}
 use Rattle.init_words.specs.declared.orders.Answer.TheVariants.{Born, NotBorn, Ended, Alive, NoLook, Hit, Miss}
-use Rattle.init_words.specs.declared.refusals.Refusal.{Refusal}
-use Rattle.init_words.specs.declared.refusals.Refusal.TheVariants.{WrongAnswer}
 use Rattle.init_words.specs.Orders.{same_ask, answers}
 use Rattle.init_words.specs.Entries.{waited_of}
-use Rattle.inittab_text.specs.Tables.{has_id}
 use Rattle.trace_events.specs.Wanted.{is_order}
-use Rattle.core_records.specs.State.{RecordState}
-use Rattle.core_records.specs.Changes.{after_order, after_hold, after_begin_round, after_answer, can_be_asked}
-use Rattle.core_records.specs.Lists.{is_record_of, are_distinct, record_by_id, can_ask_of, can_ask, order_of, order_in, refusal_of, is_over_of, with_changed, after_told}
 use Rattle.core_records.proofs.Found.{is_listed, others, rest_distinct}
-use Rattle.core_model.specs.Decide.{is_wanted_record, is_owed_record}
-use Rattle.core_model.specs.Steps.{called_if, with_called}
-use Rattle.core_model.proofs.Each.{Each, each_always, each_less, each_own}
 use Rattle.core_model.proofs.RuledAnswer.{is_answered}
 use Rattle.core_model.proofs.RuledTold.{found_with}
-use Rattle.core_steps.specs.Places.{is_seen_record, are_seen, is_passed_record, is_passed_in, are_passed, is_place, brings_nothing}
 use Rattle.core_steps.proofs.Places.{KeepsSeen, KeepsPassed, seen_map, passed_map, seen_changed, passed_changed}
 
 -- rounds, holds and calls

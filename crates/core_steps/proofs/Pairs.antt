@@ -1,6 +1,5 @@
 -- Two lists walked together: what is left of their pairs at a place.
-use Rattle.std.proofs.Math.Seq.{drop-nil}
-use Rattle.std.proofs.Common.{◌≡◌, ℕ, zero, suc, ◌+◌, ◌<◌, ◌≤◌, List, [], ◌∷◌, length, drop, get_or, zip, Some, None, refl, arith, add-one, slice_get}
+use Rattle.core_steps.proofs.Words.{drop-nil, ◌≡◌, ℕ, zero, suc, ◌+◌, ◌<◌, ◌≤◌, List, [], ◌∷◌, length, drop, get_or, zip, Some, None, refl, arith, add-one, slice_get}
 
 module _ {A B : Type 0} where
   pub pair_at : (xs : List A) (ys : List B) (i : ℕ) (x : A) (y : B) → slice_get xs i ≡ Some x → i < length ys → y ≡ get_or ys i y → drop i (zip xs ys) ≡ (x, y) ∷ drop (i + 1) (zip xs ys)

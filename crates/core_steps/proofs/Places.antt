@@ -1,15 +1,5 @@
 -- Places up to which records are seen and entries passed: a walk begins there, and changes keep them.
-use Rattle.std.proofs.Common.{◌≡◌, refl, Bool, true, false, not, ◌&&◌, cond, ℕ, zero, suc, ◌+◌, ◌<◌, arith, List, [], ◌∷◌, length, take, drop, zip, map, get_or, slice_get, Option, Some, is_some, is_none}
-use Rattle.std.specs.List.{list_all}
-use Rattle.std.proofs.Math.Seq.{drop-nil, take-nil}
-use Rattle.std.proofs.lemmas.Bool.{and_parts, and_from, false≢true}
-use Rattle.init_words.specs.declared.entries.Entry.{Entry}
-use Rattle.init_words.specs.declared.stages.Stage.{Stage}
-use Rattle.core_records.specs.State.{RecordState}
-use Rattle.core_records.specs.Lists.{is_record_of, changed, with_changed}
-use Rattle.core_model.specs.Decide.{is_wanted_record, is_owed_record, start_along, look_among}
-use Rattle.core_model.proofs.Each.{Each, each_always, each_less}
-use Rattle.core_steps.specs.Places.{is_seen_record, are_seen, is_passed_record, is_passed_in, are_passed}
+use Rattle.core_steps.proofs.Words.{◌≡◌, refl, Bool, true, false, not, ◌&&◌, cond, ℕ, zero, suc, ◌+◌, ◌<◌, arith, List, [], ◌∷◌, length, take, drop, zip, map, get_or, slice_get, Option, Some, is_some, is_none, list_all, drop-nil, take-nil, and_parts, and_from, false≢true, Entry, Stage, RecordState, is_record_of, changed, with_changed, is_wanted_record, is_owed_record, start_along, look_among, Each, each_always, each_less, is_seen_record, are_seen, is_passed_record, is_passed_in, are_passed}
 use Rattle.core_steps.proofs.Pairs.{pair_at}
 
 -- one more passes a test

@@ -1,12 +1,6 @@
 -- Records made anew one after another, along the table.
-use Rattle.std.proofs.Common.{◌≡◌, ◌≤◌, ◌<◌, ◌+◌, refl, sym, ◌∙◌, ap, cond, ℕ, zero, suc, Bool, true, false, ◌&&◌, List, [], ◌∷◌, ◌++◌, length, drop, get_or, Option, Some, None, slice_get, append_assoc, add-one, arith}
-use Rattle.std.proofs.Math.Seq.{drop-nil, drop-cons}
-use Rattle.std.specs.Option.{option_map}
-use Rattle.init_words.specs.declared.entries.Entry.{Entry}
+use Rattle.core_steps.proofs.Words.{◌≡◌, ◌≤◌, ◌<◌, ◌+◌, refl, sym, ◌∙◌, ap, cond, ℕ, zero, suc, Bool, true, false, ◌&&◌, List, [], ◌∷◌, ◌++◌, length, drop, get_or, Option, Some, None, slice_get, append_assoc, add-one, arith, drop-nil, drop-cons, option_map, Entry, RecordState, PlainRecord, record_from, records_along, is_whole, is_for, are_whole, record_read}
 use Rattle.inittab_text.proofs.Entries.{drop-slice_get}
-use Rattle.core_records.specs.State.{RecordState}
-use Rattle.core_model.specs.declared.parts.PlainRecord.{PlainRecord}
-use Rattle.core_model.specs.Rebuilding.{record_from, records_along, is_whole, is_for, are_whole, record_read}
 
 past_end : {X : Type 0} (xs : List X) (i : ℕ) → slice_get xs i ≡ None → (drop i xs ≡ []) × (drop (i + 1) xs ≡ [])
 past_end [] i none = (drop-nil i, drop-nil (i + 1))

@@ -1,16 +1,6 @@
 -- The rules of what init keeps, tested along the records.
-use Rattle.std.proofs.Common.{◌≡◌, ◌≤◌, ◌<◌, ◌+◌, refl, cond, ℕ, Bool, true, false, not, ◌||◌, List, [], ◌∷◌, length, drop, get_or, zip, Some, None, slice_get}
-use Rattle.std.specs.List.{list_any}
-use Rattle.std.specs.List.Sorted.{IsNonDecreasing}
-use Rattle.std.proofs.lemmas.Bool.{le-leb, false≢true, true≢false}
-use Rattle.init_words.specs.declared.entries.Entry.{Entry}
-use Rattle.init_words.specs.declared.stages.Stage.{Stage}
-use Rattle.respawn_limit.specs.declared.TheConstants.{STARTS}
+use Rattle.core_steps.proofs.Words.{◌≡◌, ◌≤◌, ◌<◌, ◌+◌, refl, cond, ℕ, Bool, true, false, not, ◌||◌, List, [], ◌∷◌, length, drop, get_or, zip, Some, None, slice_get, list_any, IsNonDecreasing, le-leb, false≢true, true≢false, Entry, Stage, STARTS, RecordState, is_owed_record, is_started, is_start_allowed, are_starts_along, is_hold_of, is_limit_kept, never_from_ordered}
 use Rattle.respawn_limit.specs.State.{LimiterState}
-use Rattle.core_records.specs.State.{RecordState}
-use Rattle.core_model.specs.Decide.{is_owed_record}
-use Rattle.core_model.specs.Rules.{is_started, is_start_allowed, are_starts_along, is_hold_of, is_limit_kept}
-use Rattle.core_model.proofs.Falls.{never_from_ordered}
 use Rattle.core_steps.proofs.Pairs.{pair_at, no_pair_at, no_pair_past}
 
 -- behind an owed entry no start is open

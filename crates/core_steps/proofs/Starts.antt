@@ -1,10 +1,6 @@
 -- The walk for a start: what is left of it at a place.
-use Rattle.std.proofs.Common.{true, false, ◌≡◌, ℕ, ◌+◌, ◌<◌, ◌≤◌, List, length, drop, get_or, zip, Some, None, refl, slice_get}
-use Rattle.init_words.specs.declared.entries.Entry.{Entry}
-use Rattle.init_words.specs.declared.stages.Stage.{Stage}
+use Rattle.core_steps.proofs.Words.{true, false, ◌≡◌, ℕ, ◌+◌, ◌<◌, ◌≤◌, List, length, drop, get_or, zip, Some, None, refl, slice_get, Entry, Stage, RecordState, start_along, start_step, is_owed_record}
 use Rattle.trace_events.specs.declared.steps.Step.{Step}
-use Rattle.core_records.specs.State.{RecordState}
-use Rattle.core_model.specs.Decide.{start_along, start_step, is_owed_record}
 use Rattle.core_steps.proofs.Pairs.{pair_at, no_pair_at, no_pair_past}
 
 module _ (stage : Stage) (now : ℕ) (table : List Entry) (slots : List RecordState) (i : ℕ)

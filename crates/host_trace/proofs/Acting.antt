@@ -1,48 +1,18 @@
 -- The core fits the trace with what each call comes to, where that was possible.
-use Rattle.std.proofs.Common.{◌≡◌, refl, sym, ◌∙◌, ap, subst, ℕ, Bool, true, false, ◌||◌, cond, List, [], ◌∷◌, Option, Some, None, Result, Ok, Err}
-use Rattle.std.specs.List.{list_any}
-use Rattle.std.specs.Option.{option_map_or}
-use Rattle.std.specs.Result.{OnOk, OnErr}
-use Rattle.std.proofs.lemmas.Bool.{false≢true, and_from}
-use Rattle.init_words.specs.declared.entries.Entry.{Entry}
-use Rattle.init_words.specs.declared.orders.Answer.{Answer}
+use Rattle.host_trace.proofs.Words.{arith, ◌≡◌, refl, sym, ◌∙◌, ap, subst, ℕ, Bool, true, false, ◌||◌, cond, List, ◌∷◌, Option, Some, Result, Ok, Err, option_map_or, OnOk, OnErr, and_from, Entry, Answer, OrderKind, answers, same_id-self, is_distinct, Goal, Step, Event, open_of, is_quiet, due, first, is_sound, may_come, open_in_records, first_due, CoreState, Fits, FitsAll, StillFits, OnEachTrace, with_step, is_act, found_record, no_record, fit_records, all_on, quiet_same, LogState, Point, last_birth, acted, is_asked_for, answered, is_own, is_allowed, gone_on, Logs, Gave, Hears, Lasts, Tracks}
 use Rattle.init_words.specs.declared.orders.Answer.TheVariants as answer
-use Rattle.init_words.specs.declared.orders.OrderKind.{OrderKind}
 use Rattle.init_words.specs.declared.refusals.Refusal.{Refusal}
 use Rattle.init_words.specs.declared.refusals.Refusal.TheVariants.{WrongAnswer}
-use Rattle.init_words.specs.Ids.{same_id}
-use Rattle.init_words.specs.Orders.{answers}
-use Rattle.init_words.proofs.Same.{same_id-self}
-use Rattle.inittab_text.specs.Tables.{is_distinct}
 use Rattle.trace_events.specs.declared.happenings.Happening.TheVariants as past
-use Rattle.trace_events.specs.declared.steps.Goal.{Goal}
-use Rattle.trace_events.specs.declared.steps.Step.{Step}
-use Rattle.trace_events.specs.declared.steps.Step.TheVariants as step
-use Rattle.trace_events.specs.Event.{Event}
-use Rattle.trace_events.specs.Past.{open_of, is_quiet}
 use Rattle.trace_events.specs.Answered.{answered_of}
-use Rattle.trace_events.specs.Due.{due, first, record_ids}
-use Rattle.trace_events.specs.Sound.{is_sound, may_come}
-use Rattle.trace_laws.proofs.Records.{open_in_records}
-use Rattle.trace_laws.proofs.Runs.{first_due}
 use Rattle.core_records.specs.Lists as lists
-use Rattle.core_model.specs.State.{CoreState}
 use Rattle.core_model.specs.Steps.{after_told}
-use Rattle.core_model.specs.Fit.{Fits, FitsAll, StillFits, OnEachTrace, with_step, records_of, is_act}
-use Rattle.core_model.proofs.Acts.{found_record, no_record}
-use Rattle.core_model.proofs.Fitted.{fit_records, all_on}
 use Rattle.core_model.proofs.Hearing.{fits_act, fits_told}
-use Rattle.core_model.proofs.Reading.{quiet_same}
-use Rattle.trace_log.specs.Logs.{LogState}
-use Rattle.host_trace.specs.Point.{Point, last_birth, acted, is_asked_for, answered}
-use Rattle.host_trace.specs.Leads.{is_own, is_allowed, gone_on, Logs, Gave, Hears, Lasts, Tracks}
 use Rattle.host_trace.proofs.Leading.{allowed_rest, allowed_first}
 
 -- a trace stays sound with what may come
 pub sound_more : (goal : Goal) (happening : Event) (so_far : List Event) → may_come goal happening so_far ≡ true → is_sound goal so_far ≡ true → is_sound goal (happening ∷ so_far) ≡ true
-sound_more goal (past.NewTable table) [] may sound = absurd (false≢true sound)
-sound_more goal (past.NewTable table) (before ∷ so_far) may sound = and_from (may_come goal (past.NewTable table) (before ∷ so_far)) (is_sound goal (before ∷ so_far)) may sound
-sound_more goal happening so_far may sound = and_from (may_come goal happening so_far) (is_sound goal so_far) may sound
+sound_more goal happening so_far may sound = grind arith
 
 -- what is not init's own and was possible may come
 may_met : (goal : Goal) (happening : Event) (so_far : List Event) → is_own happening ≡ false → is_allowed goal (happening ∷ so_far) ≡ true → may_come goal happening so_far ≡ true
@@ -86,15 +56,7 @@ Hears-tracks c new l₀ l₁ more lasts hears goal p sound tracked allowed =
 
 -- a step that init gave: it was due, so the trace with its happening is sound
 pub step_sound : (goal : Goal) (so_far : List Event) (made : Step) → first (due goal so_far) ≡ made → is_sound goal so_far ≡ true → is_sound goal (with_step made so_far) ≡ true
-step_sound goal so_far (step.Enter stage grace) is sound = sound_more goal (past.Enter stage grace) so_far (first_due goal so_far (step.Enter stage grace) is refl) sound
-step_sound goal so_far (step.Call letter) is sound = sound_more goal (past.Call letter) so_far (first_due goal so_far (step.Call letter) is refl) sound
-step_sound goal so_far (step.Power kind) is sound = sound_more goal (past.Power kind) so_far (first_due goal so_far (step.Power kind) is refl) sound
-step_sound goal so_far (step.Order id ask) is sound = sound_more goal (past.Asked id ask) so_far (first_due goal so_far (step.Order id ask) is refl) sound
-step_sound goal so_far (step.Hold id) is sound = sound_more goal (past.Hold id) so_far (first_due goal so_far (step.Hold id) is refl) sound
-step_sound goal so_far (step.Settle level) is sound = sound_more goal (past.Settle level) so_far (first_due goal so_far (step.Settle level) is refl) sound
-step_sound goal so_far step.Reread is sound = sound
-step_sound goal so_far step.Reexec is sound = sound
-step_sound goal so_far step.Idle is sound = sound
+step_sound goal so_far made is sound = grind (arith, sound_more, first_due)
 
 pub Hears-step : (fit : Goal → Point → Type 0) (l₀ l₁ : LogState) (made : Step) → ((so_far : List Event) → Logs l₀ l₁ so_far (with_step made so_far)) → Hears (Gave fit made) fit l₀ l₁ (with_step made)
 Hears-step fit l₀ l₁ made took goal p sound gave allowed = record { sound = step_sound goal p.past made gave.0 sound; fits = gave.1; log = took p.past }
@@ -103,15 +65,7 @@ Hears-step fit l₀ l₁ made took goal p sound gave allowed = record { sound = 
 
 -- the core has the order of an id that the trace has
 order_same : (goal : Goal) (so_far : List Event) (c : CoreState) → is_sound goal so_far ≡ true → Fits c goal so_far → (id : List ℕ) → lists.order_in id c.slots ≡ open_of id so_far
-order_same goal so_far c sound fits id = ap (lists.order_in id) (fit_records c goal so_far fits) ∙ by (list_any (same_id id) (record_ids so_far)) refl
-  where
-    by : (b : Bool) → list_any (same_id id) (record_ids so_far) ≡ b → lists.order_in id (records_of fits.lasts so_far) ≡ open_of id so_far
-    by true there = ap lists.order_of (found_record fits.lasts so_far id (record_ids so_far) there)
-    by false none = ap lists.order_of (no_record fits.lasts so_far id (record_ids so_far) none) ∙ sym (unopened (open_of id so_far) refl)
-      where
-        unopened : (o : Option OrderKind) → open_of id so_far ≡ o → open_of id so_far ≡ None
-        unopened None is = is
-        unopened (Some ask) is = absurd (false≢true (sym none ∙ open_in_records goal so_far sound id ask is))
+order_same goal so_far c sound fits id = grind (arith, fit_records, found_record, no_record, open_in_records)
 
 -- the core takes exactly the answers that were asked for
 abbrev taken : Result (Unit {0}) Refusal
@@ -121,20 +75,10 @@ abbrev verdict : Bool → Result (Unit {0}) Refusal
 verdict b = cond b taken (Err WrongAnswer)
 
 taken_asked : (o : Option OrderKind) (given : Answer) → taken ≡ lists.refusal_of o given → option_map_or (answers given) o false ≡ true
-taken_asked None given h = cc
-taken_asked (Some ask) given h = by (answers given ask) h
-  where
-    by : (b : Bool) → taken ≡ verdict b → b ≡ true
-    by true h = refl
-    by false h = cc
+taken_asked o given h = grind arith
 
 refused_unasked : (o : Option OrderKind) (given : Answer) (why : Refusal) → Err why ≡ lists.refusal_of o given → option_map_or (answers given) o false ≡ false
-refused_unasked None given why h = refl
-refused_unasked (Some ask) given why h = by (answers given ask) h
-  where
-    by : (b : Bool) → Err why ≡ verdict b → b ≡ false
-    by true h = cc
-    by false h = refl
+refused_unasked o given why h = grind arith
 
 -- the act of an answer: the trace with it is sound, the core fits it, and the answer is under way
 record Acted (goal : Goal) (c : CoreState) (id : List ℕ) (given : Answer) (now : List Event) : Type 0 where

@@ -1,24 +1,8 @@
 -- Bytes taken one by one fill the blocks of the whole list; and what the reader of requests makes of a piece.
-use Rattle.std.proofs.Common.{◌≡◌, refl, sym, ◌∙◌, ap, subst, ℕ, ◌+◌, ◌*◌, ◌/◌, ◌<◌, ◌==◌, Bool, true, false, cond, List, [], ◌∷◌, ◌++◌, length, take, drop, append-nil, append_assoc, length-append, length-drop, Option, Ok, arith}
-use Rattle.std.specs.List.{list_all}
-use Rattle.trace_events.specs.Range.{is_request}
-use Rattle.std.specs.Option.{option_to_list}
-use Rattle.std.proofs.lemmas.Bool.{eqb-true, eqb-false}
-use Rattle.std.proofs.lemmas.List.{append_cancel_left}
-use Rattle.initctl_frame.specs.declared.requests.HeardRequest.{HeardRequest}
-use Rattle.initctl_frame.specs.Frames.{heard_of}
-use Rattle.initctl_frame.specs.Blocks.{Begun, Stands, gots_of, over_of}
+use Rattle.host_trace.proofs.Words.{◌≡◌, refl, sym, ◌∙◌, ap, subst, ℕ, ◌+◌, ◌*◌, ◌/◌, ◌<◌, ◌==◌, Bool, true, false, cond, List, [], ◌∷◌, ◌++◌, length, take, drop, append-nil, append_assoc, length-append, length-drop, Option, Ok, arith, list_all, is_request, option_to_list, eqb-true, eqb-false, append_cancel_left, HeardRequest, heard_of, Begun, Stands, gots_of, over_of, Goal, Event, is_sound, TakeBytes, CoreState, LogState, Point, byte_after, bytes_after, requested, Continues, is_allowed, gone_on, Logs, Took, IsOver, Went, Leads, Heard, Hears, Tracks}
 use Rattle.initctl_frame.proofs.BlockLemmas.{gots_stay, gots_grow, over_feeds, blocks-partial}
 use Rattle.trace_events.specs.declared.happenings.Happening.TheVariants as past
-use Rattle.trace_events.specs.declared.steps.Goal.{Goal}
-use Rattle.trace_events.specs.Event.{Event}
-use Rattle.trace_events.specs.Sound.{is_sound}
-use Rattle.host_calls.specs.declared.calls.Call.TheVariants.{TakeBytes}
-use Rattle.core_model.specs.State.{CoreState}
-use Rattle.trace_log.specs.Logs.{LogState}
-use Rattle.host_trace.specs.Point.{Point, byte_after, bytes_after}
-use Rattle.host_trace.specs.Requests.{requested, Continues}
-use Rattle.host_trace.specs.Leads.{is_allowed, gone_on, Logs, Took, At, IsOver, Went, Leads, Heard, Hears, Tracks}
+use Rattle.host_trace.specs.Leads.{At}
 use Rattle.host_trace.proofs.Point.{bytes_after-append}
 use Rattle.host_trace.proofs.Acting.{tracks_at}
 use Rattle.host_trace.proofs.Leading.{bytes_allowed, bytes_generation}

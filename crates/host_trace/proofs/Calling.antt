@@ -1,48 +1,21 @@
 -- What each call leads to: its core fits the trace with it, where the call was in its place and its answer was possible.
-use Rattle.std.proofs.Common.{◌≡◌, refl, sym, ◌∙◌, ap, subst, ℕ, ◌+◌, Bool, true, false, ◌&&◌, cond, List, [], ◌∷◌, Option, Some, Ok, Err, Result}
-use Rattle.std.specs.Option.{option_map_or}
-use Rattle.std.proofs.lemmas.Bool.{and_from, and_parts, false≢true}
-use Rattle.init_words.specs.declared.entries.Entry.{Entry}
-use Rattle.init_words.specs.declared.orders.Answer.{Answer}
-use Rattle.init_words.specs.declared.orders.OrderKind.{OrderKind}
+use Rattle.host_trace.proofs.Words.{arith, ◌≡◌, refl, sym, ◌∙◌, ap, subst, ℕ, ◌+◌, true, false, cond, List, [], ◌∷◌, Option, Some, Ok, Result, and_from, Entry, Answer, OrderKind, same_id-self, NamedText, texts_of, are_readable, table_of_texts, entry_of, Goal, Step, Event, due, first, same_step, is_sound, same_step-self, CoreState, Fits, FitsAll, StillFits, OnEachTrace, with_step, state_of, fit_table, all_on, V2, LogState, Start, Late, Clock, ReadTables, Announce, Reply, PartsRead, TextRead, Point, replied, ordered, come, is_last, nudged_if, clocked, reading, before_reading, before_handing, is_command, is_first, is_outcome, carrying, point_after, has_trace, AreTexts, IsStateText, is_allowed, comes_back, are_carried, gone_on, Logs, Gave, Counted, Lasts, Tracks, Leads, Heard, Hears}
 use Rattle.init_words.specs.declared.orders.OrderKind.TheVariants as ask
 use Rattle.init_words.specs.Entries.{command_of}
-use Rattle.init_words.proofs.Same.{same_id-self}
-use Rattle.init_words.specs.Parts.{NamedText, texts_of}
-use Rattle.inittab_text.specs.Parts.{are_readable, table_of_texts}
-use Rattle.inittab_text.specs.Tables.{entry_of}
 use Rattle.inittab_text.proofs.Distinct.{distinct_texts}
 use Rattle.trace_events.specs.declared.happenings.Handed.{Handed as HandOver}
 use Rattle.trace_events.specs.declared.happenings.Handed.TheVariants as handed
 use Rattle.trace_events.specs.declared.happenings.Happening.TheVariants as past
-use Rattle.trace_events.specs.declared.steps.Goal.{Goal}
-use Rattle.trace_events.specs.declared.steps.Step.{Step}
 use Rattle.trace_events.specs.declared.steps.Step.TheVariants as step
-use Rattle.trace_events.specs.Event.{Event}
-use Rattle.trace_events.specs.Due.{due, first, same_step}
-use Rattle.trace_events.specs.Sound.{is_sound}
 use Rattle.trace_events.specs.Wishes.{wants_reexec}
-use Rattle.trace_laws.proofs.Runs.{same_step-self}
 use Rattle.core_records.specs.Lists as lists
-use Rattle.core_model.specs.State.{CoreState}
-use Rattle.core_model.specs.Fit.{Fits, FitsAll, StillFits, OnEachTrace, with_step}
-use Rattle.core_model.specs.Parts.{state_of}
 use Rattle.core_model.specs.Rules.{IsFit}
 use Rattle.core_model.proofs.Decided.{reexec_wished}
 use Rattle.core_model.proofs.Deciding.{decide_due}
-use Rattle.core_model.proofs.Fitted.{fit_table, all_on}
-use Rattle.core_text.specs.declared.versions.Version.TheVariants.{V2}
 use Rattle.core_text.specs.Range as range
 use Rattle.core_text.specs.Refused.{IsTextIn, IsTextOf}
-use Rattle.trace_log.specs.Logs.{LogState}
-use Rattle.host_calls.specs.declared.calls.Call.TheVariants.{Start, Late, Clock, ReadTables, Announce}
 use Rattle.host_calls.specs.declared.calls.HostFault.{HostFault}
-use Rattle.host_calls.specs.declared.calls.Reply.{Reply}
-use Rattle.host_calls.specs.declared.calls.Reply.TheVariants.{Now, Later}
-use Rattle.host_calls.specs.Calls.{PartsRead, TextRead}
-use Rattle.host_trace.specs.Point.{Point, replied, ordered, come, is_last, nudged_if, clocked, reading, before_reading, before_handing, handed_if, came_whole, same_text, is_command, is_first, is_refusal, is_outcome, carrying, point_after, has_trace}
-use Rattle.host_trace.specs.Leads.{AreTexts, IsStateText, is_allowed, comes_back, are_carried, gone_on, Logs, Gave, Counted, Lasts, Tracks, Leads, Heard, Hears}
-use Rattle.host_trace.proofs.Leading.{answered_allowed, nudged_allowed, Leads-heard, Hears-then}
+use Rattle.host_trace.proofs.Leading.{nudged_allowed, Leads-heard, Hears-then}
 use Rattle.host_trace.proofs.Seconds.{logged}
 use Rattle.host_trace.proofs.Acting.{sound_met, Hears-step, table_sound, tracks, tracks_at}
 
@@ -53,8 +26,7 @@ first_is goal so_far s is = ap (same_step s) is ∙ same_step-self s
 -- ---- orders
 
 replied_allowed : (goal : Goal) (id : List ℕ) (reply : Reply) (so_far : List Event) → is_allowed goal (replied id reply so_far) ≡ true → is_allowed goal so_far ≡ true
-replied_allowed goal id (Now given) so_far h = answered_allowed goal id given so_far h
-replied_allowed goal id Later so_far h = h
+replied_allowed goal id reply so_far h = grind arith
 
 -- init asked, and heard the reply
 pub Hears-order : (c new : CoreState) (l₀ l₁ l₂ : LogState) (id : List ℕ) (order : OrderKind) (reply : Reply) → ((so_far : List Event) → Logs l₀ l₁ so_far (past.Asked id order ∷ so_far)) → Hears (Tracks c) (Tracks new) l₁ l₂ (replied id reply) → Hears (Gave (Tracks c) (step.Order id order)) (Tracks new) l₀ l₂ (ordered id order reply)
@@ -62,10 +34,7 @@ Hears-order c new l₀ l₁ l₂ id order reply took heard = Hears-then (Gave (T
 
 -- the command of the id's entry in the core's table is that of the entry in force
 pub command_placed : (goal : Goal) (so_far : List Event) (c : CoreState) (id command : List ℕ) (e : Entry) → Fits c goal (with_step (step.Order id ask.Start) so_far) → entry_of id c.table ≡ Some e → command ≡ command_of e → is_command id command so_far ≡ true
-command_placed goal so_far c id command e fits own is =
-    ap (λ table. option_map_or (λ e. same_text command (command_of e)) (entry_of id table) false) (sym (fit_table c goal (with_step (step.Order id ask.Start) so_far) fits))
-    ∙ ap (λ o. option_map_or (λ e. same_text command (command_of e)) o false) own
-    ∙ ap (λ text. same_text text (command_of e)) is ∙ same_id-self (command_of e)
+command_placed goal so_far c id command e fits own is = grind (arith, fit_table, same_id-self)
 
 pub Leads-start : (c new : CoreState) (l₀ l₁ : LogState) (id command : List ℕ) (reply : Reply) (e : Entry) → entry_of id c.table ≡ Some e → command ≡ command_of e → Hears (Gave (Tracks c) (step.Order id ask.Start)) (Tracks new) l₀ l₁ (ordered id ask.Start reply) → Leads (Gave (Tracks c) (step.Order id ask.Start)) (Tracks new) l₀ l₁ (Start id command reply ∷ [])
 Leads-start c new l₀ l₁ id command reply e own is hears = Leads-heard (Gave (Tracks c) (step.Order id ask.Start)) (Tracks new) l₀ l₁ (Start id command reply) (ordered id ask.Start reply) hears (λ p. refl) (λ goal p sound gave. and_from (is_first goal (step.Order id ask.Start) p.past) (is_command id command p.past) (first_is goal p.past (step.Order id ask.Start) gave.0) (command_placed goal p.past c id command e gave.1.fits.0 own is)) (λ goal p. tt)
@@ -118,12 +87,7 @@ Leads-used c new l₀ l₁ parts readable quiet fits lasts took = Leads-heard (G
 
 -- it could not be read, or its table not be taken
 reading_goes : (parts : PartsRead) (so_far : List Event) → before_reading (reading parts ∷ so_far) ≡ so_far
-reading_goes (Err fault) so_far = refl
-reading_goes (Ok parts) so_far = by (are_readable (texts_of parts))
-  where
-    by : (b : Bool) → before_reading (cond b (past.NewTable (table_of_texts (texts_of parts))) past.NotRead ∷ so_far) ≡ so_far
-    by true = refl
-    by false = refl
+reading_goes parts so_far = grind arith
 
 pub Leads-not_read : (c new : CoreState) (l₀ l₁ : LogState) (parts : PartsRead) → OnEachTrace c (λ goal so_far. StillFits c new goal so_far (past.NotRead ∷ so_far)) → Lasts c new → ((so_far : List Event) → Logs l₀ l₁ so_far (past.NotRead ∷ so_far)) → Leads (Gave (Tracks c) step.Reread) (Tracks new) l₀ l₁ (Announce past.NotRead ∷ ReadTables parts ∷ [])
 Leads-not_read c new l₀ l₁ parts fits lasts took goal p sound gave allowed = (
@@ -146,9 +110,7 @@ none_handed : (goal : Goal) (so_far : List Event) (c : CoreState) → is_sound g
 none_handed goal so_far c sound is fits = by so_far (sym (ap (λ (x : CoreState). x.heads.reexec) fits.kept) ∙ reexec_wished c (decide_due goal so_far sound c fits ∙ is))
   where
     by : (trace : List Event) → wants_reexec trace ≡ true → before_handing trace ≡ trace
-    by [] h = refl
-    by (past.Handed how ∷ trace) h = absurd (false≢true h)
-    by (_ ∷ trace) h = refl
+    by trace h = grind arith
 
 -- no text was made: it says so
 pub Leads-not_handed : (c new : CoreState) (l₀ l₁ : LogState) → OnEachTrace c (λ goal so_far. StillFits c new goal so_far (past.Handed handed.Failed ∷ so_far)) → Lasts c new → ((so_far : List Event) → Logs l₀ l₁ so_far (past.Handed handed.Failed ∷ so_far)) → Leads (Gave (Tracks c) step.Reexec) (Tracks new) l₀ l₁ (Announce (past.Handed handed.Failed) ∷ [])
@@ -165,27 +127,14 @@ Leads-not_handed c new l₀ l₁ fits lasts took goal p sound gave allowed = (
       },
 )
 
-handing_goes : (b : Bool) (so_far : List Event) → before_handing so_far ≡ so_far → before_handing (handed_if b so_far) ≡ so_far
-handing_goes true so_far none = refl
-handing_goes false so_far none = none
-
 carrying_goes : (how : HandOver) (text : List ℕ) (back : TextRead) (p : Point) → before_handing p.past ≡ p.past → is_outcome how text back ≡ true → (point_after (carrying how text back) p).past ≡ past.Handed how ∷ p.past
-carrying_goes handed.Whole text back p none outcome = ap (λ b. handed_if b p.past) outcome
-carrying_goes (handed.Cut bytes) text back p none outcome = ap (λ (so_far : List Event). past.Handed (handed.Cut bytes) ∷ so_far) (handing_goes (came_whole text back) p.past none)
-carrying_goes (handed.Older generation) text back p none outcome = ap (λ (so_far : List Event). past.Handed (handed.Older generation) ∷ so_far) (handing_goes (came_whole text back) p.past none)
-carrying_goes handed.Failed text back p none outcome = ap (λ (so_far : List Event). past.Handed handed.Failed ∷ so_far) (handing_goes (came_whole text back) p.past none)
+carrying_goes how text back p none outcome = grind arith
 
 carrying_placed : (how : HandOver) (text : List ℕ) (back : TextRead) (goal : Goal) (p : Point) → is_first goal step.Reexec p.past ≡ true → is_outcome how text back ≡ true → has_trace goal (carrying how text back) p ≡ true
-carrying_placed handed.Whole text back goal p due outcome = and_from (came_whole text back && true) (is_first goal step.Reexec p.past && true) (and_from (came_whole text back) true outcome refl) (and_from (is_first goal step.Reexec p.past) true due refl)
-carrying_placed (handed.Cut bytes) text back goal p due outcome = and_from (is_refusal (handed.Cut bytes) text back) (is_first goal step.Reexec p.past && true) outcome (and_from (is_first goal step.Reexec p.past) true due refl)
-carrying_placed (handed.Older generation) text back goal p due outcome = and_from (is_refusal (handed.Older generation) text back) (is_first goal step.Reexec p.past && true) outcome (and_from (is_first goal step.Reexec p.past) true due refl)
-carrying_placed handed.Failed text back goal p due outcome = and_from (is_refusal handed.Failed text back) (is_first goal step.Reexec p.past && true) outcome (and_from (is_first goal step.Reexec p.past) true due refl)
+carrying_placed how text back goal p due outcome = grind arith
 
 carrying_generation : (how : HandOver) (text : List ℕ) (back : TextRead) (p : Point) → (point_after (carrying how text back) p).generation ≡ p.generation + 1
-carrying_generation handed.Whole text back p = refl
-carrying_generation (handed.Cut bytes) text back p = refl
-carrying_generation (handed.Older generation) text back p = refl
-carrying_generation handed.Failed text back p = refl
+carrying_generation how text back p = grind arith
 
 carrying_text : (how : HandOver) (text : List ℕ) (back : TextRead) (goal : Goal) (p : Point) → IsStateText goal p.past (p.generation + 1) text → AreTexts goal (carrying how text back) p
 carrying_text handed.Whole text back goal p says = ((λ carried. says), tt)
@@ -194,10 +143,7 @@ carrying_text (handed.Older generation) text back goal p says = ((λ carried. sa
 carrying_text handed.Failed text back goal p says = ((λ carried. says), tt)
 
 came_back : (how : HandOver) (text : List ℕ) (back : TextRead) (p : Point) → are_carried (carrying how text back) p ≡ true → comes_back (p.generation + 1) text back ≡ true
-came_back handed.Whole text back p carried = (and_parts (comes_back (p.generation + 1) text back) true carried).0
-came_back (handed.Cut bytes) text back p carried = (and_parts (comes_back (p.generation + 1) text back) true carried).0
-came_back (handed.Older generation) text back p carried = (and_parts (comes_back (p.generation + 1) text back) true carried).0
-came_back handed.Failed text back p carried = (and_parts (comes_back (p.generation + 1) text back) true carried).0
+came_back how text back p carried = grind arith
 
 -- init's state was handed on, and its text is that of the next
 pub record HandedOn (c next : CoreState) (text : List ℕ) : Type 0 where

@@ -1,32 +1,14 @@
 -- The child that an end is of: the core's record of the id has the number of the id's last birth.
-use Rattle.std.proofs.Common.{◌≡◌, refl, sym, ◌∙◌, ap, ℕ, ◌==◌, Bool, true, false, ◌&&◌, List, ◌∷◌, Option, Some, None, is_some, filter}
-use Rattle.std.specs.Option.{option_map, option_map_or}
-use Rattle.std.specs.List.{list_any}
-use Rattle.std.proofs.lemmas.Bool.{false≢true, and_parts, eqb-true}
-use Rattle.init_words.specs.declared.children.Status.{Status}
+use Rattle.host_trace.proofs.Words.{◌≡◌, refl, sym, ◌∙◌, ap, ℕ, ◌==◌, Bool, true, false, ◌&&◌, List, ◌∷◌, Option, Some, None, is_some, filter, option_map, option_map_or, list_any, false≢true, and_parts, eqb-true, Status, Goal, Event, Child, is_of, is_child, is_dead, has_child, undone_of, unreaped_children, known_children, is_order, record_ids, is_sound, may_come, child_in_records, CoreState, Fits, child_known, living, record_of, found_record, child_some, fit_records, any_found, last_birth, acted, is_allowed}
 use Rattle.init_words.specs.declared.orders.Answer.TheVariants as answer
 use Rattle.init_words.specs.declared.orders.OrderKind.TheVariants.{Look}
 use Rattle.trace_events.specs.declared.happenings.Happening.TheVariants as past
-use Rattle.trace_events.specs.declared.steps.Goal.{Goal}
-use Rattle.trace_events.specs.Event.{Event}
-use Rattle.trace_events.specs.Past.{Child, is_of, is_child, is_dead, has_child, undone_of, unreaped_children, known_children}
-use Rattle.trace_events.specs.Wanted.{is_order}
-use Rattle.trace_events.specs.Due.{record_ids}
-use Rattle.trace_events.specs.Sound.{is_sound, may_come}
 use Rattle.trace_laws.proofs.Keeps.{sound_holds}
 use Rattle.trace_laws.proofs.Known.{known_single}
 use Rattle.trace_laws.proofs.Orders.{same_of, told_known}
-use Rattle.trace_laws.proofs.Records.{child_in_records}
 use Rattle.trace_laws.proofs.Tests.{is_order-is}
 use Rattle.core_records.specs.State.{RecordState, child_number}
 use Rattle.core_records.specs.Lists as lists
-use Rattle.core_model.specs.State.{CoreState}
-use Rattle.core_model.specs.Fit.{Fits, child_known, living, record_of}
-use Rattle.core_model.proofs.Acts.{found_record, child_some}
-use Rattle.core_model.proofs.Fitted.{fit_records}
-use Rattle.core_model.proofs.Reading.{any_found}
-use Rattle.host_trace.specs.Point.{last_birth, acted}
-use Rattle.host_trace.specs.Leads.{is_allowed}
 use Rattle.host_trace.proofs.Leading.{allowed_first}
 
 -- the core's record of the id, and the number of its child

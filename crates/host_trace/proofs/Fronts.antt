@@ -1,18 +1,8 @@
 -- What is so up to each call: of one call, of two that carry out one step, and of two parts.
-use Rattle.std.proofs.Common.{◌≡◌, refl, sym, ◌∙◌, ap, subst, ◌⊎◌, inl, inr, Bool, true, false, List, [], ◌∷◌, ◌++◌, drop, reverse, append-nil, append_assoc}
-use Rattle.std.proofs.lemmas.Bool.{false≢true}
-use Rattle.std.proofs.lemmas.List.{reverse-append}
-use Rattle.trace_events.specs.declared.steps.Goal.{Goal}
-use Rattle.trace_events.specs.Event.{Event}
+use Rattle.host_trace.proofs.Words.{arith, ◌≡◌, refl, sym, ◌∙◌, ap, subst, ◌⊎◌, inl, inr, Bool, true, false, List, [], ◌∷◌, ◌++◌, drop, reverse, append-nil, append_assoc, false≢true, reverse-append, Goal, Event, is_sound, LogState, HostCall, Point, point_after, AreTexts, Leads, Takes, Took, Went, are_carried, is_allowed, Grows}
 use Rattle.trace_events.specs.Lawful.{first_breach}
-use Rattle.trace_events.specs.Sound.{is_sound}
 use Rattle.trace_laws.proofs.Laws.{lawful_unbroken, sound_lawful}
-use Rattle.trace_log.specs.Logs.{LogState}
-use Rattle.host_calls.specs.Calls.{HostCall}
-use Rattle.host_trace.specs.Point.{Point, point_after}
-use Rattle.host_trace.specs.Leads.{AreTexts, Leads, Takes, Took, Went, are_carried, is_allowed}
 use Rattle.host_trace.specs.Fronts.{BeginsWith, Began, Fronts, GoesSoFar, LogsSoFar, WentSoFar, says_of}
-use Rattle.host_trace.specs.Grows.{Grows}
 use Rattle.host_trace.proofs.Leading.{calls_allowed, carried_parts, texts_then}
 use Rattle.host_trace.proofs.Point.{point_after-append, has_trace-append}
 use Rattle.host_trace.proofs.Seconds.{short_then}
@@ -23,12 +13,8 @@ use Rattle.host_trace.proofs.Seconds.{short_then}
 cut_in : (later earlier ys xs : List HostCall) (next : HostCall) → ys ++ xs ≡ later ++ next ∷ earlier
     → ((front : List HostCall) × (xs ≡ front ++ next ∷ earlier)) ⊎ ((front : List HostCall) × (ys ≡ later ++ next ∷ front) × (earlier ≡ front ++ xs))
 cut_in later earlier [] xs next is = inl (later, is)
-cut_in [] earlier (y ∷ ys) xs next is =
-    let first : y ≡ next = cc in
-    inr (ys, (λ i. first i ∷ ys), sym (ap (drop 1) is))
-cut_in (l ∷ later) earlier (y ∷ ys) xs next is =
-    let first : y ≡ l = cc in
-    elim (cut_in later earlier ys xs next (ap (drop 1) is)) [ inl front ↦ inl front | inr (front, at, before) ↦ inr (front, (λ i. first i ∷ at i), before) ]
+cut_in [] earlier (y ∷ ys) xs next is = grind arith
+cut_in (l ∷ later) earlier (y ∷ ys) xs next is = grind (arith, cut_in later earlier ys xs next)
 
 -- no two calls stand in fewer
 no_front : (later earlier : List HostCall) (next call : HostCall) → [] ≡ later ++ next ∷ call ∷ earlier → ⊥

@@ -1,15 +1,6 @@
 -- A log that only takes more: of one happening, of none, and of two parts, whatever a host answers.
-use Rattle.std.proofs.Common.{◌≡◌, refl, sym, ◌∙◌, subst, true, false, [], ◌∷◌, ◌++◌, append-nil, append_assoc, Result, Ok, Err}
-use Rattle.std.specs.Result.{OnOk, OnErr}
-use Rattle.std.proofs.lemmas.Bool.{false≢true}
-use Rattle.initctl_frame.specs.Blocks.{Begun}
-use Rattle.trace_events.specs.Event.{Event}
-use Rattle.trace_events.specs.Range.{is_in_range, is_short}
-use Rattle.core_model.specs.State.{CoreState}
+use Rattle.host_trace.proofs.Words.{arith, ◌≡◌, refl, sym, ◌∙◌, subst, true, false, [], ◌++◌, append-nil, append_assoc, Result, Ok, Err, OnOk, OnErr, false≢true, Begun, Event, is_in_range, is_short, CoreState, LogFault, LogState, Gains, Stays, Grows, GrowsBy, GrowsReading}
 use Rattle.core_text.specs.Range.{has_short_seconds}
-use Rattle.trace_log.specs.declared.faults.LogFault.{LogFault}
-use Rattle.trace_log.specs.Logs.{LogState, Gains, Stays}
-use Rattle.host_trace.specs.Grows.{Grows, GrowsBy, GrowsReading}
 
 pub Grows-none : (log : LogState) → Grows log log
 Grows-none log = record {
@@ -31,10 +22,7 @@ Grows-then old mid new first second = record {
 
 -- a log that had not failed was handed a happening
 pub Grows-handed : (old new : LogState) (happening : Event) (result : Result (Unit {0}) LogFault) → old.failed ≡ false → (is_short happening ≡ true → is_in_range happening ≡ true) → OnOk result (is_in_range happening ≡ true → Gains old new happening) → OnErr result (is_in_range happening ≡ true → Stays old new) → is_short happening ≡ true → Grows old new
-Grows-handed old new happening (Ok tt) works ranged gains stays short = record {
-  told = λ before taken. (happening ∷ [], gains (ranged short) before taken, λ h. absurd (false≢true (sym works ∙ h)));
-  stays = λ h. absurd (false≢true (sym works ∙ h));
-}
+Grows-handed old new happening (Ok tt) works ranged gains stays short = grind arith
 Grows-handed old new happening (Err fault) works ranged gains stays short = record {
   told = λ before taken. ([], subst new.taken (sym (append-nil before)) (stays (ranged short) before taken), λ h. refl);
   stays = λ h. absurd (false≢true (sym works ∙ h));

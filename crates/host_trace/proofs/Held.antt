@@ -1,39 +1,16 @@
 -- The children that a host holds are the unreaped ones of its trace, and what it answers is possible.
-use Rattle.std.proofs.Common.{◌≡◌, refl, sym, ◌∙◌, ap, ap₂, subst, ℕ, Bool, true, false, not, ◌==◌, ◌&&◌, ◌||◌, cond, List, [], ◌∷◌, ◌++◌, map, filter, length, reverse, append-nil, eq-eqb, Some, None, Ok, Err}
-use Rattle.std.specs.List.{list_any, AllByRecursion}
-use Rattle.std.specs.Option.{option_map_or}
-use Rattle.std.proofs.lemmas.Bool.{false≢true, and_parts, and_from, or_left, or_right, or_parts, or_from, eqb-true, false_from_ne_true}
-use Rattle.std.proofs.lemmas.List.{reverse-append}
+use Rattle.host_trace.proofs.Words.{arith, ◌≡◌, refl, sym, ◌∙◌, ap, ap₂, subst, ℕ, Bool, true, false, not, ◌==◌, ◌&&◌, ◌||◌, cond, List, [], ◌∷◌, ◌++◌, map, filter, length, reverse, append-nil, eq-eqb, Some, None, Ok, Err, list_any, AllByRecursion, option_map_or, false≢true, and_parts, and_from, or_left, or_right, or_parts, or_from, eqb-true, false_from_ne_true, reverse-append, list_any-append, Answer, OrderKind, answers, same_ask, Status, texts_of, are_readable, table_of_texts, same_id-is, same_id-self, same_id-sym, both_ways, and_false, not_from, any_filtered, passing, Goal, Event, Child, is_child, has_number, unreaped_children, is_dead, is_living, open_of, undone_of, is_untold, is_order, Start, Signal, Late, Clock, TakeBytes, ReadTables, Carry, Announce, Pause, Reply, Now, Later, HostCall, PartsRead, heard_of, Point, last_birth, acted, is_asked_for, answered, ordered, order_for, come, is_last, nudged_if, byte_after, bytes_after, reading, before_reading, before_handing, came_whole, handed_if, announced, after, point_after, meets, is_allowed}
 use Rattle.std.proofs.lemmas.List.Elements.{filter-append}
-use Rattle.std.proofs.lemmas.List.Folds.{list_any-append}
 use Rattle.init_words.specs.declared.levels.Level.TheVariants.{L0}
-use Rattle.init_words.specs.declared.orders.Answer.{Answer}
 use Rattle.init_words.specs.declared.orders.Answer.TheVariants as answer
-use Rattle.init_words.specs.declared.orders.OrderKind.{OrderKind}
 use Rattle.init_words.specs.declared.orders.OrderKind.TheVariants as ask
 use Rattle.init_words.specs.declared.orders.SignalKind.{SignalKind}
 use Rattle.init_words.specs.declared.orders.SignalKind.TheVariants as signal
 use Rattle.init_words.specs.Ids.{same_id}
-use Rattle.init_words.specs.Orders.{answers, same_ask}
-use Rattle.init_words.specs.declared.children.Status.{Status}
-use Rattle.init_words.specs.Parts.{texts_of}
-use Rattle.inittab_text.specs.Parts.{are_readable, table_of_texts}
-use Rattle.init_words.proofs.Same.{same_id-is, same_id-self, same_id-sym}
-use Rattle.init_words.proofs.Tests.{both_ways, and_false, not_from, or_either, any_filtered, passing}
 use Rattle.trace_events.specs.declared.happenings.Handed.TheVariants as handed
 use Rattle.trace_events.specs.declared.happenings.Happening.TheVariants as past
-use Rattle.trace_events.specs.declared.steps.Goal.{Goal}
-use Rattle.trace_events.specs.Event.{Event}
-use Rattle.trace_events.specs.Past.{Child, is_child, has_number, unreaped_children, is_dead, is_living, open_of, undone_of, is_untold}
-use Rattle.trace_events.specs.Wanted.{is_order}
-use Rattle.host_calls.specs.declared.calls.Call.TheVariants.{Start, Look, Signal, Late, Clock, TakeBytes, ReadTables, Carry, Announce, Pause}
-use Rattle.host_calls.specs.declared.calls.Reply.{Reply}
-use Rattle.host_calls.specs.declared.calls.Reply.TheVariants.{Now, Later}
-use Rattle.host_calls.specs.Calls.{HostCall, PartsRead}
+use Rattle.host_calls.specs.declared.calls.Call.TheVariants.{Look}
 use Rattle.host_calls.specs.Held.{AreOwn, HeldChildren, holds_child, holds_number, without_child, Starts, Looks, Signals, KeepsHeld}
-use Rattle.initctl_frame.specs.Frames.{heard_of}
-use Rattle.host_trace.specs.Point.{Point, last_birth, acted, is_asked_for, answered, ordered, order_for, come, is_last, nudged_if, byte_after, bytes_after, reading, before_reading, before_handing, came_whole, handed_if, announced, after, point_after}
-use Rattle.host_trace.specs.Leads.{meets, is_allowed}
 use Rattle.host_trace.specs.Held.{AreNew, unreaped_in_order}
 
 -- lists
@@ -67,11 +44,7 @@ any_map f p (x ∷ xs) = ap (λ b. p (f x) || b) (any_map f p xs)
 
 filter_map_of : {X Y : Type 0} (f : X → Y) (p : Y → Bool) (xs : List X) → filter p (map f xs) ≡ map f (filter (λ x. p (f x)) xs)
 filter_map_of f p [] = refl
-filter_map_of {X} {Y} f p (x ∷ xs) = by (p (f x)) (filter_map_of f p xs)
-  where
-    by : (b : Bool) → filter p (map f xs) ≡ map f (filter (λ y. p (f y)) xs) → cond b (f x ∷ filter p (map f xs)) (filter p (map f xs)) ≡ map f (cond b (x ∷ filter (λ y. p (f y)) xs) (filter (λ y. p (f y)) xs))
-    by true rest = ap (λ ys. f x ∷ ys) rest
-    by false rest = rest
+filter_map_of {X} {Y} f p (x ∷ xs) = grind (arith, filter_map_of f p xs)
 
 or_swap : (a b : Bool) → (a || (b || false)) ≡ (b || a)
 or_swap true true = refl
@@ -107,9 +80,6 @@ Apart (e ∷ es) = (list_any (λ x. e.1 == x.1) es ≡ false) × Apart es
 number_self : (n : ℕ) → (n == n) ≡ true
 number_self n = eq-eqb n n refl
 
-number_flip : (a b : ℕ) → (a == b) ≡ false → (b == a) ≡ false
-number_flip a b differ = false_from_ne_true (b == a) (λ h. both_ways (a == b) (subst (λ m. (a == m) ≡ true) (sym (eqb-true b a h)) (number_self a)) differ)
-
 apart_filter : (p : List ℕ × ℕ → Bool) (es : HeldChildren) → Apart es → Apart (filter p es)
 apart_filter p [] apart = tt
 apart_filter p (e ∷ es) apart = by (p e) (apart_filter p es apart.1)
@@ -120,10 +90,8 @@ apart_filter p (e ∷ es) apart = by (p e) (apart_filter p es apart.1)
 
 -- where no child has the number, each has another
 none_numbered : (n : ℕ) (es : HeldChildren) → list_any (λ x. n == x.1) es ≡ false → AllByRecursion (λ x. (x.1 == n) ≡ false) es
-none_numbered n [] none = tt
-none_numbered n (e ∷ es) none =
-    let parts = or_parts (n == e.1) (list_any (λ x. n == x.1) es) none in
-    (number_flip n e.1 parts.0, none_numbered n es parts.1)
+none_numbered n [] none = grind arith
+none_numbered n (e ∷ es) none = grind (arith, none_numbered n es)
 
 -- the others than a child have other numbers than it
 others_numbered : (id : List ℕ) (n : ℕ) (es : HeldChildren) → Apart es → list_any (is_pair id n) es ≡ true → AllByRecursion (λ x. (x.1 == n) ≡ false) (filter (λ e. not (is_pair id n e)) es)
@@ -142,14 +110,8 @@ others_numbered id n (e ∷ es) apart there = by (is_pair id n e) refl there (λ
 
 -- a child that is held lives
 living_there : (id : List ℕ) (n : ℕ) (so_far : List Event) (es : HeldChildren) → AllByRecursion (λ e. is_dead e.0 e.1 so_far ≡ false) es → list_any (is_pair id n) es ≡ true → list_any (λ e. n == e.1 && not (is_dead e.0 n so_far)) es ≡ true
-living_there id n so_far [] live there = there
-living_there id n so_far (e ∷ es) live there = or_either (is_pair id n e) (list_any (is_pair id n) es) there here (λ more. or_right (n == e.1 && not (is_dead e.0 n so_far)) (list_any (λ x. n == x.1 && not (is_dead x.0 n so_far)) es) (living_there id n so_far es live.1 more))
-  where
-    here : is_pair id n e ≡ true → (n == e.1 && not (is_dead e.0 n so_far) || list_any (λ x. n == x.1 && not (is_dead x.0 n so_far)) es) ≡ true
-    here is =
-        let number = (and_parts (same_id id e.0) (n == e.1) is).1 in
-        let lives : is_dead e.0 n so_far ≡ false = ap (λ m. is_dead e.0 m so_far) (eqb-true n e.1 number) ∙ live.0 in
-        or_left (n == e.1 && not (is_dead e.0 n so_far)) (list_any (λ x. n == x.1 && not (is_dead x.0 n so_far)) es) (and_from (n == e.1) (not (is_dead e.0 n so_far)) number (not_from (is_dead e.0 n so_far) lives))
+living_there id n so_far [] live there = grind arith
+living_there id n so_far (e ∷ es) live there = grind (arith, living_there id n so_far es)
 
 -- each child was born last of its id
 abbrev AreLast : List Event → HeldChildren → Type 0
@@ -194,15 +156,7 @@ module _ (goal : Goal) (N : Type 0) where
   }
 
   kept_alike : (start : List Event) (held : HeldChildren) (so_far now : List Event) → Kept goal N start held so_far → Alike goal so_far now → Kept goal N start held now
-  kept_alike start held so_far now kept alike =
-      let one : pairs now ≡ pairs so_far = ap (λ children. map (λ (child : Child). (child.id, child.number)) children) alike.children in
-      record {
-        same = kept.same ∙ sym (ap reverse one);
-        last = subst (AreLast now) (sym one) (all_then (λ e. last_birth e.0 so_far ≡ e.1) (λ e. last_birth e.0 now ≡ e.1) (λ e is. alike.last e.0 ∙ is) (pairs so_far) kept.last);
-        live = λ numbers. subst (AreLive now) (sym one) (all_then (λ e. is_dead e.0 e.1 so_far ≡ false) (λ e. is_dead e.0 e.1 now ≡ false) (λ e is. alike.dead e.0 e.1 ∙ is) (pairs so_far) (kept.live numbers));
-        apart = λ numbers. subst Apart (sym one) (kept.apart numbers);
-        allowed = λ numbers h. alike.allowed (kept.allowed numbers h);
-      }
+  kept_alike start held so_far now kept alike = grind (arith, all_then)
 
   -- a happening that is no birth, death or reaping, and may come
   alike_one : (happening : Event) (so_far : List Event) → unreaped_children (happening ∷ so_far) ≡ unreaped_children so_far → ((id : List ℕ) → last_birth id (happening ∷ so_far) ≡ last_birth id so_far) → ((id : List ℕ) (n : ℕ) → is_dead id n (happening ∷ so_far) ≡ is_dead id n so_far) → meets goal happening so_far ≡ true → Alike goal so_far (happening ∷ so_far)
@@ -252,16 +206,13 @@ module _ (goal : Goal) (N : Type 0) where
   no_look id so_far = told_act id ask.Look answer.NoLook (past.NoLook id) so_far refl refl (alike_one (past.NoLook id) (past.Asked id ask.Look ∷ so_far) refl (λ i. refl) (λ i n. refl) (on_order ask.Look id so_far refl)) (own_untold id (is_untold id (past.Asked id ask.Look ∷ so_far)))
 
   signalled : (id : List ℕ) (sent : SignalKind) (so_far : List Event) → (is_order ask.Term (undone_of id (past.Asked id (order_for sent) ∷ so_far)) || is_order ask.Kill (undone_of id (past.Asked id (order_for sent) ∷ so_far))) ≡ true
-  signalled id signal.Term so_far = or_left (is_order ask.Term (undone_of id (past.Asked id ask.Term ∷ so_far))) (is_order ask.Kill (undone_of id (past.Asked id ask.Term ∷ so_far))) (on_order ask.Term id so_far refl)
-  signalled id signal.Kill so_far = or_right (is_order ask.Term (undone_of id (past.Asked id ask.Kill ∷ so_far))) (is_order ask.Kill (undone_of id (past.Asked id ask.Kill ∷ so_far))) (on_order ask.Kill id so_far refl)
+  signalled id sent so_far = grind (arith, or_left, on_order, or_right)
 
   hit_answers : (sent : SignalKind) → answers answer.Hit (order_for sent) ≡ true
-  hit_answers signal.Term = refl
-  hit_answers signal.Kill = refl
+  hit_answers sent = grind arith
 
   miss_answers : (sent : SignalKind) → answers answer.Miss (order_for sent) ≡ true
-  miss_answers signal.Term = refl
-  miss_answers signal.Kill = refl
+  miss_answers sent = grind arith
 
   hit : (id : List ℕ) (sent : SignalKind) (so_far : List Event) → Alike goal so_far (ordered id (order_for sent) (Now answer.Hit) so_far)
   hit id sent so_far = told_act id (order_for sent) answer.Hit (past.Hit id) so_far (hit_answers sent) refl (alike_one (past.Hit id) (past.Asked id (order_for sent) ∷ so_far) refl (λ i. refl) (λ i n. refl) (signalled id sent so_far)) (own_untold id (is_untold id (past.Asked id (order_for sent) ∷ so_far)))

@@ -1,25 +1,8 @@
 -- A part of init's work: of one call, of none, and of two parts; and that of what was possible the earlier part was.
-use Rattle.std.proofs.Common.{◌≡◌, refl, sym, ◌∙◌, ap, subst, ℕ, Bool, true, false, ◌+◌, ◌==◌, cond, List, [], ◌∷◌, ◌++◌, length, Option, Some, None, Ok, Err}
-use Rattle.std.specs.List.{list_all}
-use Rattle.std.proofs.lemmas.Bool.{false≢true, and_parts, and_from}
-use Rattle.init_words.specs.declared.orders.Answer.{Answer}
-use Rattle.init_words.specs.declared.orders.Answer.TheVariants as answer
-use Rattle.init_words.specs.declared.orders.OrderKind.{OrderKind}
-use Rattle.init_words.specs.declared.orders.OrderKind.TheVariants as ask
-use Rattle.initctl_frame.specs.Frames.{heard_of}
+use Rattle.host_trace.proofs.Words.{arith, ◌≡◌, refl, sym, ◌∙◌, ap, subst, ℕ, Bool, true, false, ◌+◌, List, [], ◌∷◌, ◌++◌, Option, Ok, Err, list_all, and_parts, Answer, OrderKind, Goal, Event, is_sound, Start, Signal, Late, Clock, TakeBytes, ReadTables, Carry, Announce, Pause, Reply, HostCall, TextRead, LogState, Point, answered, ordered, come, nudged_if, byte_after, bytes_after, handed_if, announced, after, point_after, is_in_place, AreTexts, Counted, IsStateText, meets, is_allowed, are_carried, gone_on, Took, Went, Leads, Heard, Hears, takes_none}
 use Rattle.trace_events.specs.declared.happenings.Handed.TheVariants as handed
 use Rattle.trace_events.specs.declared.happenings.Happening.TheVariants as past
-use Rattle.trace_events.specs.declared.steps.Goal.{Goal}
-use Rattle.trace_events.specs.Event.{Event}
-use Rattle.trace_events.specs.Sound.{is_sound}
-use Rattle.host_calls.specs.declared.calls.Call.TheVariants.{Start, Look, Signal, Late, Clock, TakeBytes, ReadTables, Carry, Announce, Pause}
-use Rattle.host_calls.specs.declared.calls.Reply.{Reply}
-use Rattle.host_calls.specs.declared.calls.Reply.TheVariants.{Now, Later}
-use Rattle.host_calls.specs.Calls.{HostCall, TextRead}
-use Rattle.trace_log.specs.Logs.{LogState}
-use Rattle.host_trace.specs.Point.{Point, last_birth, acted, is_asked_for, answered, ordered, order_for, come, is_last, nudged_if, byte_after, bytes_after, reading, before_reading, before_handing, came_whole, handed_if, announced, is_announcement, after, point_after, is_in_place}
-use Rattle.host_trace.specs.Leads.{AreTexts, Counted, IsStateText, meets, is_allowed, comes_back, are_carried, gone_on, Took, Went, Leads, Heard, Hears}
-use Rattle.host_trace.specs.Turns.{takes_none}
+use Rattle.host_calls.specs.declared.calls.Call.TheVariants.{Look}
 use Rattle.host_trace.proofs.Point.{point_after-append, has_trace-append, has_trace-one}
 use Rattle.host_trace.proofs.Seconds.{logged, short_then}
 use Rattle.host_trace.proofs.Taking.{Logs-none, Logs-then, Took-none, Took-then}
@@ -32,82 +15,37 @@ module _ (goal : Goal) where
   pub allowed_first : (happening : Event) (so_far : List Event) → is_allowed goal (happening ∷ so_far) ≡ true → meets goal happening so_far ≡ true
   allowed_first happening so_far h = (and_parts (meets goal happening so_far) (is_allowed goal so_far) h).0
 
-  acted_allowed : (id : List ℕ) (given : Answer) (so_far : List Event) → is_allowed goal (acted id given so_far) ≡ true → is_allowed goal so_far ≡ true
-  acted_allowed id (answer.Born n) so_far h = allowed_rest (past.Birth id n) so_far h
-  acted_allowed id answer.NotBorn so_far h = allowed_rest (past.NoBirth id) so_far h
-  acted_allowed id (answer.Ended status) so_far h = allowed_rest (past.Death (last_birth id so_far)) so_far (allowed_rest (past.Reaped id (last_birth id so_far) status) (past.Death (last_birth id so_far) ∷ so_far) h)
-  acted_allowed id answer.Alive so_far h = allowed_rest (past.Still id) so_far h
-  acted_allowed id answer.NoLook so_far h = allowed_rest (past.NoLook id) so_far h
-  acted_allowed id answer.Hit so_far h = allowed_rest (past.Hit id) so_far h
-  acted_allowed id answer.Miss so_far h = allowed_rest (past.Miss id) so_far h
-
   pub answered_allowed : (id : List ℕ) (given : Answer) (so_far : List Event) → is_allowed goal (answered id given so_far) ≡ true → is_allowed goal so_far ≡ true
-  answered_allowed id given so_far = by (is_asked_for id given so_far)
-    where
-      by : (b : Bool) → is_allowed goal (cond b (past.Told id ∷ acted id given so_far) so_far) ≡ true → is_allowed goal so_far ≡ true
-      by true h = acted_allowed id given so_far (allowed_rest (past.Told id) (acted id given so_far) h)
-      by false h = h
+  answered_allowed id given so_far h = grind arith
 
   pub ordered_allowed : (id : List ℕ) (ask : OrderKind) (reply : Reply) (so_far : List Event) → is_allowed goal (ordered id ask reply so_far) ≡ true → is_allowed goal so_far ≡ true
-  ordered_allowed id ask (Now given) so_far h = allowed_rest (past.Asked id ask) so_far (answered_allowed id given (past.Asked id ask ∷ so_far) h)
-  ordered_allowed id ask Later so_far h = allowed_rest (past.Asked id ask) so_far h
+  ordered_allowed id ask reply so_far h = grind arith
 
   pub nudged_allowed : (b : Bool) (so_far : List Event) → is_allowed goal (nudged_if b so_far) ≡ true → is_allowed goal so_far ≡ true
   nudged_allowed true so_far h = allowed_rest past.Nudge so_far h
   nudged_allowed false so_far h = h
 
   pub come_allowed : (late : Option (List ℕ × Answer)) (so_far : List Event) → is_allowed goal (come late so_far) ≡ true → is_allowed goal so_far ≡ true
-  come_allowed (Some late) so_far h = answered_allowed late.0 late.1 so_far h
-  come_allowed None so_far h = h
+  come_allowed late so_far h = grind arith
 
   byte_allowed : (byte : ℕ) (p : Point) → is_allowed goal (byte_after byte p).past ≡ true → is_allowed goal p.past ≡ true
-  byte_allowed byte p h = by (length (p.over ++ byte ∷ []) == 384) h
-    where
-      by : (b : Bool) → is_allowed goal (cond b (record p { over = []; past = past.Got (heard_of (p.over ++ byte ∷ [])) ∷ p.past }) (record p { over = p.over ++ byte ∷ [] })).past ≡ true → is_allowed goal p.past ≡ true
-      by true h = allowed_rest (past.Got (heard_of (p.over ++ byte ∷ []))) p.past h
-      by false h = h
+  byte_allowed byte p h = grind arith
 
   pub bytes_allowed : (bytes : List ℕ) (p : Point) → is_allowed goal (bytes_after bytes p).past ≡ true → is_allowed goal p.past ≡ true
   bytes_allowed [] p h = h
   bytes_allowed (byte ∷ bytes) p h = byte_allowed byte p (bytes_allowed bytes (byte_after byte p) h)
 
-  before_allowed : (so_far : List Event) → is_allowed goal (before_reading so_far) ≡ true → is_allowed goal so_far ≡ true
-  before_allowed (past.NewTable table ∷ so_far) h = h
-  before_allowed (past.NotRead ∷ so_far) h = h
-  before_allowed [] h = h
-  before_allowed (_ ∷ so_far) h = h
-
-  handing_allowed : (so_far : List Event) → is_allowed goal (before_handing so_far) ≡ true → is_allowed goal so_far ≡ true
-  handing_allowed (past.Handed how ∷ so_far) h = and_from (meets goal (past.Handed how) so_far) (is_allowed goal so_far) refl h
-  handing_allowed [] h = h
-  handing_allowed (_ ∷ so_far) h = h
-
   handed_allowed : (b : Bool) (so_far : List Event) → is_allowed goal (handed_if b so_far) ≡ true → is_allowed goal so_far ≡ true
   handed_allowed true so_far h = allowed_rest (past.Handed handed.Whole) so_far h
   handed_allowed false so_far h = h
 
-  said_allowed : (happening : Event) (b : Bool) (so_far : List Event) → is_allowed goal (cond b (happening ∷ so_far) so_far) ≡ true → is_allowed goal so_far ≡ true
-  said_allowed happening true so_far h = allowed_rest happening so_far h
-  said_allowed happening false so_far h = h
-
   announced_allowed : (happening : Event) (so_far : List Event) → is_allowed goal (announced happening so_far) ≡ true → is_allowed goal so_far ≡ true
-  announced_allowed past.NotRead so_far h = before_allowed so_far (allowed_rest past.NotRead (before_reading so_far) h)
-  announced_allowed (past.Handed how) so_far h = handing_allowed so_far (allowed_rest (past.Handed how) (before_handing so_far) h)
-  announced_allowed happening so_far h = said_allowed happening (is_announcement happening) so_far h
+  announced_allowed happening so_far h = grind arith
 
   pub after_allowed : (call : HostCall) (p : Point) → is_allowed goal (after call p).past ≡ true → is_allowed goal p.past ≡ true
-  after_allowed (Start id command reply) p h = ordered_allowed id ask.Start reply p.past h
-  after_allowed (Look id reply) p h = ordered_allowed id ask.Look reply p.past h
-  after_allowed (Signal id sent reply) p h = ordered_allowed id (order_for sent) reply p.past h
-  after_allowed (Late late) p h = come_allowed late p.past (nudged_allowed (is_last late p.lates) (come late p.past) h)
-  after_allowed (Clock (Ok reading)) p h = allowed_rest (past.Clock reading) p.past h
-  after_allowed (Clock (Err fault)) p h = h
-  after_allowed (TakeBytes room (Ok bytes)) p h = bytes_allowed bytes p h
-  after_allowed (TakeBytes room (Err fault)) p h = h
-  after_allowed (ReadTables parts) p h = allowed_rest (reading parts) p.past h
-  after_allowed (Carry text back) p h = handed_allowed (came_whole text back) p.past h
-  after_allowed (Announce happening) p h = announced_allowed happening p.past h
-  after_allowed Pause p h = h
+  after_allowed call p h =
+      grind (arith, ordered_allowed, come_allowed, nudged_allowed, allowed_rest, bytes_allowed, handed_allowed,
+          announced_allowed)
 
   pub calls_allowed : (calls : List HostCall) (p : Point) → is_allowed goal (point_after calls p).past ≡ true → is_allowed goal p.past ≡ true
   calls_allowed [] p h = h
@@ -130,20 +68,8 @@ Leads-heard fitted fit old new call more hears comes place texts goal p sound fi
 
 -- what was carried came back in each of two parts
 pub carried_parts : (ys xs : List HostCall) (p : Point) → are_carried (ys ++ xs) p ≡ true → (are_carried ys (point_after xs p) ≡ true) × (are_carried xs p ≡ true)
-carried_parts [] xs p h = (refl, h)
-carried_parts (Carry text back ∷ ys) xs p h =
-    let parts = and_parts (comes_back ((point_after (ys ++ xs) p).generation + 1) text back) (are_carried (ys ++ xs) p) h in
-    let later = carried_parts ys xs p parts.1 in
-    (and_from (comes_back ((point_after ys (point_after xs p)).generation + 1) text back) (are_carried ys (point_after xs p)) (ap (λ (q : Point). comes_back (q.generation + 1) text back) (sym (point_after-append ys xs p)) ∙ parts.0) later.0, later.1)
-carried_parts (Start id command reply ∷ ys) xs p h = carried_parts ys xs p h
-carried_parts (Look id reply ∷ ys) xs p h = carried_parts ys xs p h
-carried_parts (Signal id sent reply ∷ ys) xs p h = carried_parts ys xs p h
-carried_parts (Late late ∷ ys) xs p h = carried_parts ys xs p h
-carried_parts (Clock time ∷ ys) xs p h = carried_parts ys xs p h
-carried_parts (TakeBytes room taken ∷ ys) xs p h = carried_parts ys xs p h
-carried_parts (ReadTables parts ∷ ys) xs p h = carried_parts ys xs p h
-carried_parts (Announce happening ∷ ys) xs p h = carried_parts ys xs p h
-carried_parts (Pause ∷ ys) xs p h = carried_parts ys xs p h
+carried_parts [] xs p h = grind (arith, point_after-append)
+carried_parts (happening ∷ ys) xs p h = grind (arith, carried_parts ys xs p, point_after-append)
 
 -- each of two parts carried state texts
 pub texts_then : (goal : Goal) (ys xs : List HostCall) (p : Point) → (are_carried xs p ≡ true → AreTexts goal ys (point_after xs p)) → AreTexts goal xs p → AreTexts goal (ys ++ xs) p
@@ -196,41 +122,18 @@ Leads-weaken fitted fitted' fit fit' old new calls before behind leads goal p so
           record { in_place = went.in_place; sound = went.sound; fits = behind goal (point_after calls p) went.fits; log = went.log },
     )
 
--- calls that take no bytes leave the bytes of the block under way
-after_over : (call : HostCall) (p : Point) → takes_none call ≡ true → (after call p).over ≡ p.over
-after_over (TakeBytes room taken) p h = absurd (false≢true h)
-after_over (Start id command reply) p h = refl
-after_over (Look id reply) p h = refl
-after_over (Signal id sent reply) p h = refl
-after_over (Late late) p h = refl
-after_over (Clock time) p h = refl
-after_over (ReadTables parts) p h = refl
-after_over (Carry text back) p h = refl
-after_over (Announce happening) p h = refl
-after_over Pause p h = refl
-
 pub over_left : (calls : List HostCall) (p : Point) → list_all takes_none calls ≡ true → (point_after calls p).over ≡ p.over
-over_left [] p h = refl
-over_left (call ∷ calls) p h =
-    let both = and_parts (takes_none call) (list_all takes_none calls) h in
-    after_over call (point_after calls p) both.0 ∙ over_left calls p both.1
+over_left [] p h = grind arith
+over_left (call ∷ calls) p h = grind (arith, over_left calls p)
 
 -- calls that neither read the clock nor ask for late answers leave their count
 bytes_lates : (bytes : List ℕ) (p : Point) → (bytes_after bytes p).lates ≡ p.lates
-bytes_lates [] p = refl
-bytes_lates (byte ∷ bytes) p = bytes_lates bytes (byte_after byte p) ∙ by (length (p.over ++ byte ∷ []) == 384)
-  where
-    by : (b : Bool) → (cond b (record p { over = []; past = past.Got (heard_of (p.over ++ byte ∷ [])) ∷ p.past }) (record p { over = p.over ++ byte ∷ [] })).lates ≡ p.lates
-    by true = refl
-    by false = refl
+bytes_lates [] p = grind arith
+bytes_lates (byte ∷ bytes) p = grind (arith, bytes_lates bytes (byte_after byte p))
 
 pub bytes_generation : (bytes : List ℕ) (p : Point) → (bytes_after bytes p).generation ≡ p.generation
-bytes_generation [] p = refl
-bytes_generation (byte ∷ bytes) p = bytes_generation bytes (byte_after byte p) ∙ by (length (p.over ++ byte ∷ []) == 384)
-  where
-    by : (b : Bool) → (cond b (record p { over = []; past = past.Got (heard_of (p.over ++ byte ∷ [])) ∷ p.past }) (record p { over = p.over ++ byte ∷ [] })).generation ≡ p.generation
-    by true = refl
-    by false = refl
+bytes_generation [] p = grind arith
+bytes_generation (byte ∷ bytes) p = grind (arith, bytes_generation bytes (byte_after byte p))
 
 pub bytes_counted : (room : ℕ) (taken : TextRead) (count : ℕ) (goal : Goal) (p : Point) → Counted count goal p → Counted count goal (point_after (TakeBytes room taken ∷ []) p)
 bytes_counted room (Ok bytes) count goal p is = bytes_lates bytes p ∙ is

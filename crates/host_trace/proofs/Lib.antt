@@ -12,3 +12,4 @@ pub mod Rows
 pub mod Seconds
 pub mod Taking
 pub mod Texts
+pub mod Words

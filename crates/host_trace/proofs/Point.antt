@@ -1,17 +1,9 @@
 -- The trace of calls, part by part.
-use Rattle.std.proofs.Common.{◌≡◌, refl, ◌∙◌, ap, ℕ, ◌==◌, nat_lt, Bool, true, false, not, List, [], ◌∷◌, ◌++◌, length, Ok, Err, arith}
-use Rattle.std.specs.List.{starts_with}
-use Rattle.std.proofs.lemmas.Bool.{false≢true, and_parts, and_from, ltb-true}
-use Rattle.init_words.proofs.Same.{same_id-is}
+use Rattle.host_trace.proofs.Words.{◌≡◌, refl, ◌∙◌, ap, ℕ, ◌==◌, nat_lt, Bool, true, false, not, List, [], ◌∷◌, ◌++◌, length, Ok, Err, arith, starts_with, and_parts, and_from, ltb-true, same_id-is, Goal, Event, Carry, Announce, HostCall, TextRead, Point, after, point_after, byte_after, bytes_after, was_reading, came_whole, came_cut, is_first, may_announce, is_in_place, are_in_place, tells_outcomes, has_trace}
 use Rattle.trace_events.specs.declared.happenings.Handed.{Handed as HandOver}
 use Rattle.trace_events.specs.declared.happenings.Handed.TheVariants as handed
 use Rattle.trace_events.specs.declared.happenings.Happening.TheVariants as past
-use Rattle.trace_events.specs.declared.steps.Goal.{Goal}
 use Rattle.trace_events.specs.declared.steps.Step.TheVariants as step
-use Rattle.trace_events.specs.Event.{Event}
-use Rattle.host_calls.specs.declared.calls.Call.TheVariants.{ReadTables, Carry, Announce}
-use Rattle.host_calls.specs.Calls.{HostCall, TextRead}
-use Rattle.host_trace.specs.Point.{Point, after, point_after, byte_after, bytes_after, was_reading, came_whole, came_cut, is_first, may_announce, is_in_place, are_in_place, tells_outcomes, has_trace}
 
 -- the later calls go on from where the earlier ones stand: ys behind xs
 pub point_after-append : (ys xs : List HostCall) (p : Point) → point_after (ys ++ xs) p ≡ point_after ys (point_after xs p)
@@ -25,17 +17,11 @@ bytes_after-append (byte ∷ xs) ys p = bytes_after-append xs ys (byte_after byt
 
 -- what is in its place behind some calls is so behind more
 still_reading : (earlier more : List HostCall) → was_reading earlier ≡ true → was_reading (earlier ++ more) ≡ true
-still_reading (ReadTables parts ∷ earlier) more h = refl
-still_reading [] more h = absurd (false≢true h)
-still_reading (_ ∷ earlier) more h = absurd (false≢true h)
+still_reading earlier more h = grind arith
 
 -- what is said of a hand-over behind other calls than a carrying
 said_more : (goal : Goal) (how : HandOver) (call : HostCall) (earlier more : List HostCall) (so_far : List Event) → may_announce goal (past.Handed how) (call ∷ earlier) so_far ≡ true → may_announce goal (past.Handed how) ((call ∷ earlier) ++ more) so_far ≡ true
-said_more goal how (Carry text back) earlier more so_far h = h
-said_more goal handed.Failed _ earlier more so_far h = h
-said_more goal handed.Whole _ earlier more so_far h = absurd (false≢true h)
-said_more goal (handed.Cut bytes) _ earlier more so_far h = absurd (false≢true h)
-said_more goal (handed.Older generation) _ earlier more so_far h = absurd (false≢true h)
+said_more goal how call earlier more so_far h = grind arith
 
 -- what came back as it was did not come back cut
 whole_not_cut : (text : List ℕ) (back : TextRead) → came_whole text back ≡ true → not (came_cut text back) ≡ true
@@ -49,25 +35,16 @@ whole_not_cut text (Ok back) whole = by (came_cut text (Ok back)) refl
     by false cut = refl
 
 said_first : (goal : Goal) (more : List HostCall) (so_far : List Event) → tells_outcomes more ≡ true → is_first goal step.Reexec so_far ≡ true → may_announce goal (past.Handed handed.Failed) more so_far ≡ true
-said_first goal [] so_far told h = h
-said_first goal (Carry text back ∷ more) so_far told h = whole_not_cut text back (and_parts (came_whole text back) (tells_outcomes more) told).0
-said_first goal (_ ∷ more) so_far told h = h
+said_first goal more so_far told h = grind (arith, whole_not_cut)
 
 handed_more : (goal : Goal) (how : HandOver) (earlier more : List HostCall) (so_far : List Event) → tells_outcomes more ≡ true → may_announce goal (past.Handed how) earlier so_far ≡ true → may_announce goal (past.Handed how) (earlier ++ more) so_far ≡ true
-handed_more goal how (call ∷ earlier) more so_far told h = said_more goal how call earlier more so_far h
-handed_more goal handed.Failed [] more so_far told h = said_first goal more so_far told h
-handed_more goal handed.Whole [] more so_far told h = absurd (false≢true h)
-handed_more goal (handed.Cut bytes) [] more so_far told h = absurd (false≢true h)
-handed_more goal (handed.Older generation) [] more so_far told h = absurd (false≢true h)
+handed_more goal how earlier more so_far told h = grind (arith, said_more, said_first)
 
 announce_more : (goal : Goal) (happening : Event) (earlier more : List HostCall) (so_far : List Event) → tells_outcomes more ≡ true → may_announce goal happening earlier so_far ≡ true → may_announce goal happening (earlier ++ more) so_far ≡ true
-announce_more goal past.NotRead earlier more so_far told h = still_reading earlier more h
-announce_more goal (past.Handed how) earlier more so_far told h = handed_more goal how earlier more so_far told h
-announce_more goal _ earlier more so_far told h = h
+announce_more goal happening earlier more so_far told h = grind (arith, still_reading, handed_more)
 
 more_place : (goal : Goal) (call : HostCall) (earlier more : List HostCall) (so_far : List Event) → tells_outcomes more ≡ true → is_in_place goal call earlier so_far ≡ true → is_in_place goal call (earlier ++ more) so_far ≡ true
-more_place goal (Announce happening) earlier more so_far told h = announce_more goal happening earlier more so_far told h
-more_place goal _ earlier more so_far told h = h
+more_place goal call earlier more so_far told h = grind (arith, announce_more)
 
 are_in_place-append : (goal : Goal) (ys xs : List HostCall) (p : Point) → tells_outcomes xs ≡ true → are_in_place goal ys (point_after xs p) ≡ true → are_in_place goal xs p ≡ true → are_in_place goal (ys ++ xs) p ≡ true
 are_in_place-append goal [] xs p told later earlier = earlier
@@ -78,9 +55,7 @@ are_in_place-append goal (call ∷ ys) xs p told later earlier =
 
 -- what came of the texts is told in two parts
 said_then : (how : HandOver) (xs : List HostCall) → tells_outcomes xs ≡ true → tells_outcomes (Announce (past.Handed how) ∷ xs) ≡ true
-said_then how [] h = refl
-said_then how (Carry text back ∷ xs) h = (and_parts (came_whole text back) (tells_outcomes xs) h).1
-said_then how (_ ∷ xs) h = h
+said_then how xs h = grind arith
 
 tells_outcomes-append : (ys xs : List HostCall) → tells_outcomes ys ≡ true → tells_outcomes xs ≡ true → tells_outcomes (ys ++ xs) ≡ true
 tells_outcomes-append [] xs later earlier = earlier
@@ -93,16 +68,11 @@ tells_outcomes-append (Announce (past.Handed how) ∷ call ∷ ys) xs later earl
 tells_outcomes-append (_ ∷ ys) xs later earlier = tells_outcomes-append ys xs later earlier
 
 pub has_trace-append : (goal : Goal) (ys xs : List HostCall) (p : Point) → has_trace goal ys (point_after xs p) ≡ true → has_trace goal xs p ≡ true → has_trace goal (ys ++ xs) p ≡ true
-has_trace-append goal ys xs p later earlier =
-    let first = and_parts (tells_outcomes xs) (are_in_place goal xs p) earlier in
-    let second = and_parts (tells_outcomes ys) (are_in_place goal ys (point_after xs p)) later in
-    and_from (tells_outcomes (ys ++ xs)) (are_in_place goal (ys ++ xs) p) (tells_outcomes-append ys xs second.0 first.0) (are_in_place-append goal ys xs p first.0 second.1 first.1)
+has_trace-append goal ys xs p later earlier = grind (arith, tells_outcomes-append, are_in_place-append)
 
 -- a call that is no carrying is a trace where it is in its place
 called_once : (call : HostCall) (p : Point) → (after call p).generation ≡ p.generation → tells_outcomes (call ∷ []) ≡ true
-called_once (Carry text back) p same = absurd (omega (arith, same))
-called_once (Announce (past.Handed how)) p same = refl
-called_once _ p same = refl
+called_once call p same = grind arith
 
 pub has_trace-one : (goal : Goal) (call : HostCall) (p : Point) → (after call p).generation ≡ p.generation → is_in_place goal call [] p.past ≡ true → has_trace goal (call ∷ []) p ≡ true
 has_trace-one goal call p same place = and_from (tells_outcomes (call ∷ [])) (are_in_place goal (call ∷ []) p) (called_once call p same) (and_from (is_in_place goal call [] p.past) true place refl)

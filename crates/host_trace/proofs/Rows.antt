@@ -1,6 +1,5 @@
 -- Worked calls, each with the trace that they have: `refl` computes them.
-use Rattle.std.proofs.Common.{◌≡◌, refl, ℕ, suc, true, false, List, [], ◌∷◌, ◌++◌, take, drop, codes, Some, None, Ok, inl, arith}
-use Rattle.init_words.specs.declared.entries.Entry.{Entry}
+use Rattle.host_trace.proofs.Words.{◌≡◌, refl, ℕ, suc, true, false, List, [], ◌∷◌, ◌++◌, take, drop, codes, Some, None, Ok, inl, arith, Entry, block_of_ints, Goal, due, first, is_sound, SavedState, state_of, V2, Start, Late, Clock, TakeBytes, ReadTables, Carry, Announce, Pause, Now, Later, HostCall, TextRead, Point, point_after, has_trace, AreTexts, is_allowed, AreSteps, IsTurn, is_step}
 use Rattle.init_words.specs.declared.actions.Act.{Act}
 use Rattle.init_words.specs.declared.actions.Act.TheVariants as act
 use Rattle.init_words.specs.declared.levels.Level.TheVariants as level
@@ -10,22 +9,11 @@ use Rattle.init_words.specs.declared.stages.Stage.TheVariants as stage
 use Rattle.init_words.specs.declared.orders.Answer.TheVariants.{Born, NotBorn, Alive}
 use Rattle.init_words.specs.declared.orders.OrderKind.TheVariants as ask
 use Rattle.initctl_frame.specs.declared.requests.HeardRequest.TheVariants as got
-use Rattle.initctl_frame.specs.Frames.{block_of_ints}
 use Rattle.trace_events.specs.declared.happenings.Handed.TheVariants as handed
 use Rattle.trace_events.specs.declared.happenings.Happening.TheVariants as past
-use Rattle.trace_events.specs.declared.steps.Goal.{Goal}
 use Rattle.trace_events.specs.declared.steps.Step.TheVariants as step
-use Rattle.trace_events.specs.Due.{due, first}
-use Rattle.trace_events.specs.Sound.{is_sound}
-use Rattle.core_model.specs.Parts.{SavedState, state_of}
-use Rattle.core_text.specs.declared.versions.Version.TheVariants.{V2}
 use Rattle.core_text.specs.Lines.{text_in}
-use Rattle.host_calls.specs.declared.calls.Call.TheVariants.{Start, Look, Late, Clock, TakeBytes, ReadTables, Carry, Announce, Pause}
-use Rattle.host_calls.specs.declared.calls.Reply.TheVariants.{Now, Later}
-use Rattle.host_calls.specs.Calls.{HostCall, TextRead}
-use Rattle.host_trace.specs.Point.{Point, point_after, has_trace}
-use Rattle.host_trace.specs.Leads.{AreTexts, is_allowed}
-use Rattle.host_trace.specs.Turns.{AreSteps, IsTurn, is_step}
+use Rattle.host_calls.specs.declared.calls.Call.TheVariants.{Look}
 
 abbrev entry : List ℕ → List Mark → Act → List ℕ → Entry
 entry id levels action process = record { id = id; levels = record { items = levels }; act = action; process = record { items = process } }

@@ -1,62 +1,22 @@
 -- The seconds that a record of calls names: those of requests are at most an hour, and so, where its trace is sound and
 -- the seconds named before are, are all.
-use Rattle.std.proofs.Common.{◌≡◌, refl, sym, ap, ◌∙◌, map, ℕ, ℤ, pos, negsuc, ◌+◌, ◌==◌, min, Bool, true, false, ◌||◌, cond, List, [], ◌∷◌, ◌++◌, length, Option, Some, None, Ok, Err, arith, int_eq}
-use Rattle.std.specs.List.{list_all}
-use Rattle.std.proofs.lemmas.List.Folds.{list_all-append}
-use Rattle.std.proofs.lemmas.Bool.{false≢true, and_parts, and_from, lt-ltb}
-use Rattle.init_words.specs.declared.levels.Letter.{Letter}
-use Rattle.init_words.specs.declared.levels.Level.{Level}
-use Rattle.init_words.specs.declared.limits.TheConstants.{GRACE_LIMIT}
-use Rattle.init_words.specs.declared.orders.Answer.{Answer}
+use Rattle.host_trace.proofs.Words.{◌≡◌, refl, sym, ap, ◌∙◌, map, ℕ, ℤ, ◌+◌, ◌==◌, Bool, true, false, cond, List, [], ◌∷◌, ◌++◌, length, Option, Some, None, Ok, Err, arith, list_all, list_all-append, and_parts, and_from, Answer, OrderKind, HeardRequest, heard_of, heard_of_ints, heard_of_runlevel, int_at, seconds_of, blocks_of, gots_of, Goal, Event, are_short, is_request, is_seconds, is_short, is_sound, Start, Signal, Late, Clock, TakeBytes, ReadTables, Carry, Announce, Pause, Reply, Now, Later, HostCall, PartsRead, LogState, Logs, Took, are_seconds_short, Point, after, acted, announced, answered, before_handing, before_reading, byte_after, bytes_after, came_whole, come, handed_if, is_asked_for, is_last, is_announcement, nudged_if, order_for, ordered, point_after, reading}
 use Rattle.init_words.specs.declared.orders.Answer.TheVariants as answer
-use Rattle.init_words.specs.declared.orders.OrderKind.{OrderKind}
 use Rattle.init_words.specs.declared.orders.OrderKind.TheVariants as ask
 use Rattle.init_words.specs.declared.orders.PowerKind.TheVariants as power
-use Rattle.init_words.specs.Levels.{level_read, letter_read}
-use Rattle.initctl_frame.specs.declared.requests.Cause.TheVariants.{Magic, Unknown, LeftOut, Character}
-use Rattle.initctl_frame.specs.declared.requests.HeardRequest.{HeardRequest}
+use Rattle.initctl_frame.specs.declared.requests.Cause.TheVariants.{Unknown, LeftOut}
 use Rattle.initctl_frame.specs.declared.requests.HeardRequest.TheVariants as got
-use Rattle.initctl_frame.specs.Frames.{heard_of, heard_of_command, heard_of_ints, heard_of_runlevel, int_at, is_left_out, seconds_of}
-use Rattle.initctl_frame.specs.Blocks.{blocks_of, gots_of}
-use Rattle.initctl_frame.specs.Signs.{heard_of_letter, heard_of_level}
-use Rattle.init_words.specs.Parts.{texts_of}
-use Rattle.inittab_text.specs.Parts.{are_readable, table_of_texts}
 use Rattle.trace_events.specs.declared.happenings.Happening.TheVariants as past
-use Rattle.trace_events.specs.declared.steps.Goal.{Goal}
-use Rattle.trace_events.specs.Event.{Event}
-use Rattle.trace_events.specs.Range.{are_short, is_request, is_seconds, is_short}
-use Rattle.trace_events.specs.Sound.{is_sound}
 use Rattle.trace_laws.proofs.Seconds.{is_short_request, sound_short}
-use Rattle.host_calls.specs.declared.calls.Call.TheVariants.{Start, Look, Signal, Late, Clock, TakeBytes, ReadTables, Carry, Announce, Pause}
-use Rattle.host_calls.specs.declared.calls.Reply.{Reply}
-use Rattle.host_calls.specs.declared.calls.Reply.TheVariants.{Now, Later}
-use Rattle.host_calls.specs.Calls.{HostCall, PartsRead}
-use Rattle.trace_log.specs.Logs.{LogState}
-use Rattle.host_trace.specs.Leads.{Logs, Took, are_seconds_short}
-use Rattle.host_trace.specs.Point.{Point, after, acted, announced, answered, before_handing, before_reading, byte_after, bytes_after, came_whole, come, handed_if, is_asked_for, is_last, is_announcement, nudged_if, order_for, ordered, point_after, reading}
+use Rattle.host_calls.specs.declared.calls.Call.TheVariants.{Look}
 
 -- ---- a request
 
-level_request : (level : Option Level) (letter : Option Letter) (code seconds : ℕ) → is_seconds seconds ≡ true → is_request (heard_of_level level code seconds) ≡ true
-level_request (Some level) letter code seconds short = short
-level_request None letter code seconds short = of_letter (letter_read code)
-  where
-    last : (reload reexec : Bool) → is_request (cond reload got.Reload (cond reexec got.Reexec (got.Nothing Character))) ≡ true
-    last true reexec = refl
-    last false true = refl
-    last false false = refl
-
-    of_letter : (o : Option Letter) → is_request (heard_of_letter o code) ≡ true
-    of_letter (Some called) = refl
-    of_letter None = last (code == 81 || code == 113) (code == 85 || code == 117)
-
 seconds_short : (sleeptime : ℤ) → is_seconds (seconds_of sleeptime) ≡ true
-seconds_short (pos seconds) = lt-ltb (min seconds GRACE_LIMIT) (GRACE_LIMIT + 1) (omega arith)
-seconds_short (negsuc below) = refl
+seconds_short sleeptime = grind arith
 
 runlevel_request : (runlevel : ℤ) (seconds : ℕ) → is_seconds seconds ≡ true → is_request (heard_of_runlevel runlevel seconds) ≡ true
-runlevel_request (pos code) seconds short = level_request (level_read code) (letter_read code) code seconds short
-runlevel_request (negsuc below) seconds short = refl
+runlevel_request runlevel seconds short = grind arith
 
 command_request : (runlevel fail fail_now ok left : Bool) (asked : HeardRequest) → is_request asked ≡ true → is_request (cond runlevel asked (cond fail (got.Power power.Fail) (cond fail_now (got.Power power.FailNow) (cond ok (got.Power power.Ok) (cond left (got.Nothing LeftOut) (got.Nothing Unknown)))))) ≡ true
 command_request true fail fail_now ok left asked short = short
@@ -68,12 +28,7 @@ command_request false false false false false asked short = refl
 
 ints_request : (magic command runlevel sleeptime : ℤ)
     → is_request (heard_of_ints magic command runlevel sleeptime) ≡ true
-ints_request magic command runlevel sleeptime = by (int_eq magic (pos 0x03091969))
-  where
-    by : (b : Bool) → is_request (cond b (heard_of_command command runlevel sleeptime) (got.Nothing Magic)) ≡ true
-    by true = command_request (int_eq command (pos 1)) (int_eq command (pos 2)) (int_eq command (pos 3)) (int_eq command (pos 4)) (is_left_out command)
-        (heard_of_runlevel runlevel (seconds_of sleeptime)) (runlevel_request runlevel (seconds_of sleeptime) (seconds_short sleeptime))
-    by false = refl
+ints_request magic command runlevel sleeptime = grind (arith, command_request, runlevel_request, seconds_short)
 
 request_short : (block : List ℕ) → is_request (heard_of block) ≡ true
 request_short block = ints_request (int_at 0 block) (int_at 4 block) (int_at 8 block) (int_at 12 block)
@@ -130,8 +85,7 @@ reading_requests parts so_far all = and_from (is_short_request (reading parts)) 
     of_use false used short = refl
 
     by : (p : PartsRead) → is_short_request (reading p) ≡ true
-    by (Ok files) = of_use (are_readable (texts_of files)) (past.NewTable (table_of_texts (texts_of files))) refl
-    by (Err fault) = refl
+    by p = grind arith
 
 before_requests : (so_far : List Event) → Requests so_far → Requests (before_reading so_far)
 before_requests (past.NewTable table ∷ so_far) all = all
@@ -149,8 +103,7 @@ handed_requests true so_far all = all
 handed_requests false so_far all = all
 
 said_request : (happening : Event) → is_announcement happening ≡ true → is_short_request happening ≡ true
-said_request (past.Got request) said = absurd (false≢true said)
-said_request _ said = refl
+said_request happening said = grind arith
 
 announced_requests : (happening : Event) (so_far : List Event) → Requests so_far → Requests (announced happening so_far)
 announced_requests past.NotRead so_far all = before_requests so_far all
@@ -197,9 +150,7 @@ given_short before given bytes is = (and_parts (list_all is_request before) (lis
 -- ---- the trace of a record
 
 short_after : (goal : Goal) (calls : List HostCall) (p : Point) → is_sound goal (point_after calls p).past ≡ true → are_seconds_short goal p.past ≡ true → are_short (point_after calls p).past ≡ true
-short_after goal calls p sound short =
-    let parts = and_parts (is_seconds goal.grace) (are_short p.past) short in
-    sound_short goal (point_after calls p).past parts.0 sound (calls_requests calls p (requests_of p.past parts.1))
+short_after goal calls p sound short = grind (arith, sound_short, calls_requests, requests_of)
 
 -- what is logged of a sound trace with short seconds is logged
 pub logged : (goal : Goal) (calls : List HostCall) (p : Point) (old new : LogState) → is_sound goal (point_after calls p).past ≡ true → Logs old new p.past (point_after calls p).past → are_seconds_short goal p.past ≡ true → Took old new p.past (point_after calls p).past

@@ -1,14 +1,5 @@
 -- What a log took: of one happening, of none, and of two parts of the trace.
-use Rattle.std.proofs.Common.{◌≡◌, refl, sym, ◌∙◌, ap, subst, Bool, true, false, List, [], ◌∷◌, ◌++◌, reverse, append-nil, append_assoc, Result, Ok, Err}
-use Rattle.std.specs.Result.{OnOk, OnErr, is_err}
-use Rattle.std.proofs.lemmas.Bool.{false≢true, and_parts}
-use Rattle.std.proofs.lemmas.List.{reverse-append}
-use Rattle.std.proofs.lemmas.List.Folds.{list_all-append}
-use Rattle.trace_events.specs.Event.{Event}
-use Rattle.trace_events.specs.Range.{is_in_range, is_short, are_short}
-use Rattle.trace_log.specs.declared.faults.LogFault.{LogFault}
-use Rattle.trace_log.specs.Logs.{LogState, Gains, Stays}
-use Rattle.host_trace.specs.Leads.{Logs, Takes, Took}
+use Rattle.host_trace.proofs.Words.{◌≡◌, refl, sym, ◌∙◌, ap, subst, Bool, true, false, List, [], ◌∷◌, ◌++◌, reverse, append-nil, append_assoc, Result, Ok, Err, OnOk, OnErr, is_err, false≢true, and_parts, reverse-append, list_all-append, Event, is_in_range, is_short, are_short, LogFault, LogState, Gains, Stays, Logs, Takes, Took}
 
 -- where nothing came, the log is as it was
 pub Took-none : (log : LogState) (past : List Event) → Took log log past past

@@ -1,27 +1,8 @@
 -- What the state objects to is what may not come.
-use Rattle.std.proofs.Common.{◌≡◌, refl, sym, ◌∙◌, ap, ℕ, ◌==◌, Bool, true, false, not, ◌&&◌, List, ◌||◌, cond, Option, Some, None, find, is_none, is_some}
-use Rattle.std.specs.List.{list_any}
-use Rattle.std.specs.Option.{option_map, option_map_or}
+use Rattle.simulator.proofs.Words.{◌≡◌, refl, sym, ◌∙◌, ap, ℕ, ◌==◌, Bool, true, false, not, ◌&&◌, List, ◌||◌, cond, Option, Some, None, find, is_none, is_some, list_any, option_map, option_map_or, Start, Look, Term, Kill, same_id, Birth, NoBirth, Death, Reaped, Still, NoLook, Hit, Miss, Told, Goal, Event, Child, has_number, is_child, is_dead, is_living, undone_of, unreaped_children, is_order, may_come, is_sound, same_id-is, and_three, any_same, answered_untold, Objection, SystemState, order_in, answer_in, child_in, is_living_in, is_dead_in, is_script, unless, objection_to, Follows, simulated_child_of, lone_any}
 use Rattle.std.proofs.Math.Bool.{and_comm}
-use Rattle.init_words.specs.declared.orders.OrderKind.TheVariants.{Start, Look, Term, Kill}
-use Rattle.init_words.specs.Ids.{same_id}
-use Rattle.trace_events.specs.declared.happenings.Happening.TheVariants.{Birth, NoBirth, Death, Reaped, Still, NoLook, Hit, Miss, Told}
-use Rattle.trace_events.specs.declared.steps.Goal.{Goal}
-use Rattle.trace_events.specs.Event.{Event}
-use Rattle.trace_events.specs.Past.{Child, has_number, is_child, is_dead, is_living, undone_of, unreaped_children}
-use Rattle.trace_events.specs.Wanted.{is_order}
-use Rattle.trace_events.specs.Sound.{may_come, is_sound}
-use Rattle.init_words.proofs.Same.{same_id-is}
-use Rattle.init_words.proofs.Tests.{and_three, any_same}
-use Rattle.trace_laws.proofs.Told.{answered_untold}
-use Rattle.simulator.specs.declared.objections.Objection.{Objection}
 use Rattle.simulator.specs.declared.objections.Objection.TheVariants as why
-use Rattle.simulator.specs.State.{SystemState, order_in, answer_in, child_in, is_living_in, is_dead_in}
-use Rattle.simulator.specs.Steps.{is_script}
-use Rattle.simulator.specs.Objections.{unless, objection_to}
-use Rattle.simulator.specs.Follows.{Follows, simulated_child_of}
 use Rattle.simulator.proofs.Numbers.{one_number, none_found}
-use Rattle.trace_laws.proofs.Lone.{lone_any}
 
 living : (number : ℕ) (past : List Event) (o : Option Child) → option_map_or (λ child. not (is_dead child.id number past)) o false ≡ option_map_or (λ child. not child.is_dead) (option_map (simulated_child_of number past) o) false
 living number past None = refl

@@ -1,23 +1,15 @@
 -- Texts that a core does not take over, and those that were made.
-use Rattle.std.proofs.Common.{◌≡◌, refl, sym, ap, ◌∙◌, subst, ℕ, ◌+◌, ◌-◌, ◌<◌, ◌≤◌, Bool, true, false, cond, List, [], ◌∷◌, ◌++◌, map, length, get_or, take, drop, Option, Some, None, ◌⊎◌, inl, inr, arith, length-append, length-drop}
-use Rattle.std.specs.Prelude.{nat_le, nat_lt, unwrap_or}
-use Rattle.std.proofs.lemmas.Bool.{and_parts, cases_lt, leb-true, ltb-true}
-use Rattle.std.proofs.lemmas.List.{get_or-map, get_or_append_left, length-map, map-append, take-append-drop}
+use Rattle.simulator.proofs.Words.{◌≡◌, refl, sym, ap, ◌∙◌, subst, ℕ, ◌+◌, ◌-◌, ◌<◌, ◌≤◌, Bool, true, false, cond, List, [], ◌∷◌, ◌++◌, map, length, get_or, take, drop, Option, Some, None, ◌⊎◌, inl, inr, arith, length-drop, nat_le, nat_lt, unwrap_or, and_parts, cases_lt, leb-true, ltb-true, get_or-map, get_or_append_left, length-map, map-append, take-append-drop, SavedState, state_of, CoreState, after_handed_on, Objection, after_hand, has_next, is_made, kept_texts, objection_handed, taken_of, text_made, AreMade, HasTexts, IsForeign, IsOfGeneration, IsTakenOver}
+use Rattle.std.proofs.Common.{length-append}
 use Rattle.std.proofs.Math.Seq.{get_or-append_seam}
 use Rattle.trace_events.specs.declared.happenings.Handed.{Handed as HandOver}
 use Rattle.trace_events.specs.declared.happenings.Handed.TheVariants as handed
-use Rattle.core_model.specs.Parts.{SavedState, state_of}
 use Rattle.core_model.specs.Rebuilding.{core_of}
 use Rattle.core_model.specs.Rules.{IsFit}
-use Rattle.core_model.specs.State.{CoreState}
-use Rattle.core_model.specs.Steps.{after_handed_on}
 use Rattle.core_model.proofs.Rebuilt.{core_is}
 use Rattle.core_text.specs.Refused.{IsTextOf}
 use Rattle.core_text.proofs.Ends.{no_prefix}
 use Rattle.core_text.proofs.Prefixes.{one_state}
-use Rattle.simulator.specs.declared.objections.Objection.{Objection}
-use Rattle.simulator.specs.Handing.{after_hand, has_next, is_made, kept_texts, objection_handed, taken_of, text_made}
-use Rattle.simulator.specs.Texts.{AreMade, HasTexts, IsForeign, IsOfGeneration, IsTakenOver}
 
 -- what is left of a text that is cut is that of no state
 pub cut_foreign : (text : List ℕ) (bytes generation : ℕ) (own : SavedState) → IsTextOf text own → bytes < length text → IsForeign (take bytes text) generation

@@ -1,43 +1,18 @@
 -- What may be said where init rests, and what the core, the system's side and the text become by it.
-use Rattle.std.proofs.Common.{OnOk, Result, Ok, Err, IfOk, Bool, true, false, ◌&&◌, cond, ◌≡◌, ◌≢◌, ◌++◌, ℕ, List, ◌∷◌, Option, Some, None, is_some, is_none, refl, sym, ap, ◌∙◌, append_assoc, subst, length, inr}
-use Rattle.std.specs.Prelude.{nat_lt}
-use Rattle.std.proofs.lemmas.Bool.{false≢true, and_parts, and_from}
+use Rattle.simulator.proofs.Words.{IfOk, Bool, true, false, ◌&&◌, cond, ◌≡◌, ◌≢◌, ◌++◌, ℕ, List, ◌∷◌, Option, Some, None, is_some, is_none, refl, sym, ap, ◌∙◌, append_assoc, subst, length, inr, nat_lt, false≢true, and_parts, and_from, Entry, Goal, Event, is_in_range, are_in_range, is_untold, is_quiet, answered_of, due, first, event_text, is_run, is_rest, is_reread, may_come, is_sound, run_sound, answered_untold, CoreState, FitsAll, is_act, fit_records, all_on, Objection, SystemState, unless, Follows, SimFault, are_handed, made_in, may_hand, has_next, is_made, text_at, text_made, LastsTo, Moment, AtRest, IsReadyFor, SimulationGoesOn, HearsLine, HeardBreaks, HeardEnds, is_scripted, may_be_scripted, objection_in, objection_now, IsObjected, heard, past_text}
+use Rattle.std.proofs.Common.{OnOk, Result, Ok, Err}
 use Rattle.initctl_frame.specs.declared.requests.HeardRequest.{HeardRequest as Request}
 use Rattle.inittab_text.specs.Tables.{is_distinct}
 use Rattle.inittab_text.proofs.Entries.{table_parts}
-use Rattle.init_words.specs.declared.entries.Entry.{Entry}
 use Rattle.trace_events.specs.declared.happenings.Happening.TheVariants as event
 use Rattle.trace_events.specs.declared.happenings.Handed.{Handed as HandOver}
 use Rattle.trace_events.specs.declared.happenings.Handed.TheVariants as handed
-use Rattle.trace_events.specs.declared.steps.Goal.{Goal}
-use Rattle.trace_events.specs.Event.{Event}
-use Rattle.trace_events.specs.Range.{is_in_range, are_in_range}
-use Rattle.trace_events.specs.Past.{is_untold, is_quiet}
-use Rattle.trace_events.specs.Answered.{answered_of}
-use Rattle.trace_events.specs.Due.{due, first}
-use Rattle.trace_text.specs.Lines.{event_text}
-use Rattle.trace_events.specs.Run.{is_run, is_rest, is_reread}
-use Rattle.trace_events.specs.Sound.{may_come, is_sound}
-use Rattle.trace_laws.proofs.Runs.{run_sound}
-use Rattle.trace_laws.proofs.Told.{answered_untold}
 use Rattle.core_records.specs.Lists as lists
-use Rattle.core_model.specs.State.{CoreState}
-use Rattle.core_model.specs.Fit.{FitsAll, is_act}
-use Rattle.core_model.proofs.Fitted.{fit_records, all_on}
 use Rattle.core_model.proofs.Reading.{quiet_same}
 use Rattle.core_model.proofs.Hearing.{fits_act}
-use Rattle.simulator.specs.declared.objections.Objection.{Objection}
 use Rattle.simulator.specs.declared.objections.Objection.TheVariants as objection
-use Rattle.simulator.specs.State.{SystemState}
-use Rattle.simulator.specs.Objections.{unless}
-use Rattle.simulator.specs.Follows.{Follows}
 use Rattle.simulator.proofs.Allowing.{none_may}
-use Rattle.simulator.specs.declared.running.SimFault.{SimFault}
 use Rattle.simulator.specs.declared.running.SimFault.TheVariants as fault
-use Rattle.simulator.specs.Handing.{are_handed, made_in, may_hand, has_next, is_made, text_at, text_made}
-use Rattle.simulator.specs.Moments.{LastsTo, Moment, AtRest, IsReadyFor, SimulationGoesOn, HearsLine, HeardBreaks, HeardEnds}
-use Rattle.simulator.specs.Said.{is_scripted, may_be_scripted, objection_in, objection_now, IsObjected, heard}
-use Rattle.simulator.specs.Simulation.{past_text}
 use Rattle.simulator.proofs.Moves.{first_more, handed_part, heard_more, run_hears, said_parts, past_text-more}
 use Rattle.simulator.proofs.Keeping.{kept_is}
 use Rattle.simulator.proofs.Rereading.{reread_quiet}

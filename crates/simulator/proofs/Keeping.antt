@@ -1,36 +1,17 @@
 -- What can be handed over stays so: the rules, the short seconds, the generation and the goal, through each call of the core.
-use Rattle.std.proofs.Common.{◌≡◌, ◌≢◌, refl, sym, ap, ◌∙◌, subst, ℕ, ◌+◌, Bool, true, false, cond, List, ◌∷◌, Option, Some, None, Result, Ok, Err, OnOk}
-use Rattle.std.specs.Prelude.{OnErr}
-use Rattle.std.proofs.lemmas.Bool.{false≢true}
-use Rattle.init_words.specs.declared.entries.Entry.{Entry}
+use Rattle.simulator.proofs.Words.{◌≡◌, ◌≢◌, refl, sym, ap, ◌∙◌, subst, ℕ, ◌+◌, Bool, true, false, cond, List, ◌∷◌, Option, Some, None, OnErr, false≢true, Entry, Stage, same_level, Goal, Step, Enter, Call, Power, Reread, Order, Hold, Settle, Reexec, Idle, Event, stage_of, is_request, in_run, level_wish, FitsAll, lasts_of, core_read, with_step, CoreState, wished, heard_in, after_step, after_adopt, after_clock, after_got, after_not_read, after_round, after_told, own_read, made_in, kept_goal, kept_at, after_hand, LastsTo, is_scripted, request_same}
+use Rattle.std.proofs.Common.{Result, Ok, Err, OnOk}
 use Rattle.init_words.specs.declared.orders.Answer.{Answer}
-use Rattle.init_words.specs.declared.stages.Stage.{Stage}
 use Rattle.init_words.specs.declared.stages.Stage.TheVariants as stage
-use Rattle.init_words.specs.Levels.{same_level}
 use Rattle.initctl_frame.specs.declared.requests.HeardRequest.{HeardRequest as Request}
 use Rattle.initctl_frame.specs.declared.requests.HeardRequest.TheVariants as got
 use Rattle.trace_events.specs.declared.happenings.Happening.TheVariants as event
 use Rattle.trace_events.specs.declared.happenings.Handed.{Handed as HandOver}
 use Rattle.trace_events.specs.declared.happenings.Handed.TheVariants as handed
-use Rattle.trace_events.specs.declared.steps.Goal.{Goal}
-use Rattle.trace_events.specs.declared.steps.Step.{Step}
-use Rattle.trace_events.specs.declared.steps.Step.TheVariants.{Enter, Call, Power, Reread, Order, Hold, Settle, Reexec, Idle}
-use Rattle.trace_events.specs.Event.{Event}
-use Rattle.trace_events.specs.Past.{stage_of}
-use Rattle.trace_events.specs.Range.{is_request}
-use Rattle.trace_events.specs.Wishes.{in_run, level_wish}
 use Rattle.core_model.specs.declared.parts.CoreFields.{CoreFields}
 use Rattle.core_model.specs.Decide.{decide}
-use Rattle.core_model.specs.Fit.{FitsAll, lasts_of, core_read, with_step}
-use Rattle.core_model.specs.State.{CoreState}
-use Rattle.core_model.specs.Steps.{wished, heard_in, after_step, after_adopt, after_clock, after_got, after_not_read, after_round, after_told}
-use Rattle.core_model.proofs.Fitted.{own_read}
 use Rattle.core_text.specs.Range.{has_short_seconds}
 use Rattle.core_handover.proofs.Lasting.{step_lasts, request_lasts}
-use Rattle.simulator.specs.Handing.{made_in, kept_goal, kept_at, after_hand}
-use Rattle.simulator.specs.Moments.{LastsTo}
-use Rattle.simulator.specs.Said.{is_scripted}
-use Rattle.core_handover.proofs.Generations.{request_same}
 
 -- what init keeps is what the trace says of it
 pub kept_is : (core : CoreState) (goal : Goal) (past : List Event) → FitsAll core goal past → LastsTo core goal past → core ≡ kept_at goal past

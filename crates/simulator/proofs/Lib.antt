@@ -9,3 +9,4 @@ pub mod Opening
 pub mod Rereading
 pub mod Taking
 pub mod Whole
+pub mod Words

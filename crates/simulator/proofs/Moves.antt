@@ -1,32 +1,8 @@
 -- What a run and its text become by a step of init, and by a happening that it hears.
-use Rattle.std.proofs.Common.{Result, Ok, Err, IfErr, Bool, true, false, ◌&&◌, cond, ◌≡◌, ◌++◌, ℕ, List, [], ◌∷◌, reverse, Option, refl, sym, ap, ◌∙◌, subst, append_assoc}
-use Rattle.std.specs.Io.KnownBytes.{Appends}
-use Rattle.std.proofs.KnownBytes.{Appends-nil, Appends-trans}
-use Rattle.std.proofs.lemmas.Bool.{false≢true, and_parts}
+use Rattle.simulator.proofs.Words.{IfErr, Bool, true, false, ◌&&◌, cond, ◌≡◌, ◌++◌, ℕ, List, [], ◌∷◌, reverse, Option, refl, sym, ap, ◌∙◌, subst, append_assoc, Appends, Appends-nil, Appends-trans, false≢true, and_parts, Step, Enter, Call, Power, Reread, Order, Hold, Settle, Reexec, Idle, Goal, Event, due, first, event_text, trace_text, is_run, is_next, is_rest, is_reread, may_come, is_sound, first_due, same_step-self, run_sound, reverse_onto, append-nil, CoreState, FitsAll, StillFits, OnEachTrace, with_step, all_on, SystemState, Follows, SimFault, Leaves, are_handed, may_hand, LastsTo, Moment, AtRest, SimulationGoesOn, is_scripted, may_be_scripted, first_table, heard, past_text}
+use Rattle.std.proofs.Common.{Result, Ok, Err}
 use Rattle.trace_events.specs.declared.happenings.Happening.TheVariants as event
-use Rattle.trace_events.specs.declared.steps.Step.{Step}
-use Rattle.trace_events.specs.declared.steps.Step.TheVariants.{Enter, Call, Power, Reread, Order, Hold, Settle, Reexec, Idle}
-use Rattle.trace_events.specs.declared.steps.Goal.{Goal}
-use Rattle.trace_events.specs.Event.{Event}
-use Rattle.trace_events.specs.Due.{due, first}
-use Rattle.trace_text.specs.Lines.{event_text, trace_text}
-use Rattle.trace_events.specs.Run.{is_run, is_next, is_rest, is_reread}
-use Rattle.trace_events.specs.Sound.{may_come, is_sound}
-use Rattle.trace_laws.proofs.Runs.{first_due, same_step-self, run_sound}
-use Rattle.std.proofs.lemmas.Grind.{reverse_onto}
-use Rattle.std.proofs.lemmas.List.{append-nil}
-use Rattle.core_model.specs.State.{CoreState}
-use Rattle.core_model.specs.Fit.{FitsAll, StillFits, OnEachTrace, with_step}
-use Rattle.core_model.proofs.Fitted.{all_on}
-use Rattle.simulator.specs.State.{SystemState}
-use Rattle.simulator.specs.Follows.{Follows}
-use Rattle.simulator.specs.declared.running.SimFault.{SimFault}
 use Rattle.simulator.specs.declared.running.SimFault.TheVariants as fault
-use Rattle.simulator.specs.Faults.{Leaves}
-use Rattle.simulator.specs.Handing.{are_handed, may_hand}
-use Rattle.simulator.specs.Moments.{LastsTo, Moment, AtRest, SimulationGoesOn}
-use Rattle.simulator.specs.Said.{is_scripted, may_be_scripted, first_table, heard}
-use Rattle.simulator.specs.Simulation.{past_text}
 
 both : (a b c : Bool) → a ≡ true → b ≡ true → c ≡ true → (a && b && c) ≡ true
 both true true true h k l = refl

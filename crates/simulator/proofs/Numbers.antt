@@ -1,18 +1,7 @@
 -- No two unreaped children have one number.
-use Rattle.std.proofs.Common.{◌≡◌, refl, ◌∙◌, ap, ℕ, ◌==◌, Bool, true, false, not, ◌||◌, cond, List, [], ◌∷◌, filter, Some, find, is_none}
-use Rattle.std.specs.List.{list_any}
-use Rattle.std.specs.Option.{option_map}
-use Rattle.std.proofs.lemmas.Bool.{and_parts, eqb-true, not-true}
-use Rattle.trace_events.specs.declared.happenings.Happening.TheVariants.{Birth, Reaped}
-use Rattle.trace_events.specs.declared.steps.Goal.{Goal}
-use Rattle.trace_events.specs.Event.{Event}
-use Rattle.init_words.specs.declared.orders.OrderKind.TheVariants.{Start}
-use Rattle.trace_events.specs.Past.{Child, is_child, has_number, undone_of, unreaped_children}
-use Rattle.trace_events.specs.Wanted.{is_order}
-use Rattle.trace_events.specs.Sound.{may_come, is_sound}
-use Rattle.init_words.proofs.Tests.{both_ways, any_less}
+use Rattle.simulator.proofs.Words.{◌≡◌, refl, ◌∙◌, ap, ℕ, ◌==◌, Bool, true, false, not, ◌||◌, cond, List, [], ◌∷◌, filter, Some, find, is_none, list_any, option_map, and_parts, not-true, Birth, Reaped, Goal, Event, Start, Child, is_child, has_number, undone_of, unreaped_children, is_order, may_come, is_sound, both_ways, any_less, none_filtered, is_lone, lone_filter}
+use Rattle.std.proofs.lemmas.Bool.{eqb-true}
 use Rattle.trace_laws.proofs.Keeps.{sound_ind}
-use Rattle.trace_laws.proofs.Lone.{none_filtered, is_lone, lone_filter}
 
 -- no number has two unreaped children
 pub one_number : (goal : Goal) (past : List Event) → is_sound goal past ≡ true → (number : ℕ) → is_lone (has_number number) (unreaped_children past) ≡ true

@@ -1,32 +1,13 @@
 -- A level, an inittab and a script leave one run.
-use Rattle.std.proofs.Common.{◌≡◌, refl, sym, ap, ◌∙◌, subst, ◌⊎◌, inl, inr, ℕ, Bool, true, false, ◌&&◌, cond, List, [], ◌∷◌, ◌++◌, length, reverse, append_assoc, Some, arith, eqb-true, ◌==◌}
-use Rattle.std.proofs.lemmas.Bool.{false≢true, and_parts}
-use Rattle.std.proofs.lemmas.List.{append_cancel_right, length-append, reverse-reverse}
+use Rattle.simulator.proofs.Words.{◌≡◌, refl, sym, ap, ◌∙◌, subst, ◌⊎◌, inl, inr, ℕ, Bool, true, false, ◌&&◌, cond, List, [], ◌∷◌, ◌++◌, length, reverse, append_assoc, Some, arith, ◌==◌, false≢true, and_parts, append_cancel_right, reverse-reverse, Letter, PowerKind, Stage, same_letter, same_id, same_ask-is, same_id-is, same_level-is, Goal, Step, Enter, Call, Power, Reread, Order, Hold, Settle, Reexec, Idle, due, first, same_step, Event, is_next, is_rest, is_reread, is_run, step_in, may_come, with_step, first_table, heard, is_scripted, reverse_onto, is_in_range, are_in_range, are_in_range-push, one_trace, Rested, Scenario, goal_in, heard_text, past_text}
+use Rattle.std.proofs.Common.{eqb-true}
+use Rattle.std.proofs.lemmas.List.{length-append}
 use Rattle.std.proofs.lemmas.Option.{none-some, same_Some}
-use Rattle.init_words.specs.declared.levels.Letter.{Letter}
 use Rattle.init_words.specs.declared.levels.Letter.TheVariants.{A, B, C}
-use Rattle.init_words.specs.declared.orders.PowerKind.{PowerKind}
 use Rattle.init_words.specs.declared.orders.PowerKind.TheVariants as power
-use Rattle.init_words.specs.declared.stages.Stage.{Stage}
 use Rattle.init_words.specs.declared.stages.Stage.TheVariants as stage
-use Rattle.init_words.specs.Levels.{same_letter}
 use Rattle.init_words.specs.Orders.{same_ask, same_power, same_stage}
-use Rattle.init_words.specs.Ids.{same_id}
-use Rattle.init_words.proofs.Same.{same_ask-is, same_id-is, same_level-is}
 use Rattle.trace_events.specs.declared.happenings.Happening.TheVariants as event
-use Rattle.trace_events.specs.declared.steps.Goal.{Goal}
-use Rattle.trace_events.specs.declared.steps.Step.{Step}
-use Rattle.trace_events.specs.declared.steps.Step.TheVariants.{Enter, Call, Power, Reread, Order, Hold, Settle, Reexec, Idle}
-use Rattle.trace_events.specs.Due.{due, first, same_step}
-use Rattle.trace_events.specs.Event.{Event}
-use Rattle.trace_events.specs.Run.{is_next, is_rest, is_reread, is_run, step_in}
-use Rattle.trace_events.specs.Sound.{may_come}
-use Rattle.core_model.specs.Fit.{with_step}
-use Rattle.simulator.specs.Said.{first_table, heard, is_scripted}
-use Rattle.std.proofs.lemmas.Grind.{reverse_onto}
-use Rattle.trace_events.specs.Range.{is_in_range, are_in_range}
-use Rattle.trace_text.proofs.ReadTexts.{are_in_range-push, one_trace}
-use Rattle.simulator.specs.Simulation.{Rested, Scenario, goal_in, heard_text, past_text}
 use Rattle.simulator.proofs.Moves.{first_more, heard_more}
 
 -- ---- two steps, or two happenings, are one

@@ -1,16 +1,7 @@
 -- The opening of a run: no table, and a table that is written or was being written.
-use Rattle.std.proofs.Common.{◌≡◌, subst, ℕ, List, Option, Result, Ok, Err}
-use Rattle.std.specs.Io.KnownBytes.{Appends, Keeps}
-use Rattle.std.proofs.KnownBytes.{Keeps-refl}
-use Rattle.init_words.specs.declared.entries.Entry.{Entry}
-use Rattle.inittab_text.specs.Reading.{table_of_text}
-use Rattle.trace_events.specs.declared.happenings.Happening.TheVariants.{NewTable}
-use Rattle.trace_text.specs.Lines.{event_text}
-use Rattle.simulator.specs.declared.running.SimFault.{SimFault}
+use Rattle.simulator.proofs.Words.{◌≡◌, subst, ℕ, List, Option, Appends, Keeps, Keeps-refl, Entry, table_of_text, NewTable, event_text, SimFault, Leaves, TableEnds, opening_text, IsTooLong}
+use Rattle.std.proofs.Common.{Result, Ok, Err}
 use Rattle.simulator.specs.declared.running.SimFault.TheVariants as fault
-use Rattle.simulator.specs.Faults.{Leaves}
-use Rattle.simulator.specs.Moments.{TableEnds, opening_text}
-use Rattle.simulator.specs.Simulation.{IsTooLong}
 use Rattle.simulator.proofs.Moves.{memory_before}
 
 -- how the opening of a run ends where it does not come to its first moment

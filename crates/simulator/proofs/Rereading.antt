@@ -1,27 +1,10 @@
 -- Where the first step that is due is to read inittab, no start and no signal is open.
-use Rattle.std.proofs.Common.{◌≡◌, ◌++◌, Bool, true, false, not, ◌&&◌, ◌||◌, cond, ℕ, List, [], ◌∷◌, Option, Some, None, is_none, refl}
-use Rattle.std.specs.List.{list_any}
-use Rattle.std.proofs.lemmas.Bool.{false≢true, or_left}
-use Rattle.init_words.specs.declared.entries.Entry.{Entry}
-use Rattle.init_words.specs.declared.levels.Letter.{Letter}
-use Rattle.init_words.specs.declared.stages.Stage.{Stage}
+use Rattle.simulator.proofs.Words.{◌≡◌, ◌++◌, Bool, true, false, not, ◌&&◌, ◌||◌, cond, ℕ, List, [], ◌∷◌, Option, Some, None, is_none, refl, list_any, false≢true, or_left, Entry, Letter, Stage, Start, Look, PowerKind, both_ways, Step, Call, Power, Order, Hold, Settle, Reexec, Goal, Event, stage_of, table_of, Child, is_of, open_of, is_quiet, is_idle, known_children, is_owed, in_run, goal_of, wants_reexec, level_wish, keeps_power, keeps_letter, powers, letters, wish_stands, step_if, steps_if, none_excluded, due_first, due_reexec, due_reread, due_level, enter_level, due_news, power_steps, letter_steps, due_stops, stops_among, stops_of, stop_step, due_starts, starts_among, start_steps, can_start, due_stage, next_stage, is_over, due_settle, settle_step, is_announced, is_settled, due_looks, looks_among, can_look, record_ids, due, first, is_reread}
 use Rattle.init_words.specs.declared.stages.Stage.TheVariants as stage
 use Rattle.init_words.specs.declared.orders.OrderKind.{OrderKind}
-use Rattle.init_words.specs.declared.orders.OrderKind.TheVariants.{Start, Look}
-use Rattle.init_words.specs.declared.orders.PowerKind.{PowerKind}
 use Rattle.init_words.specs.Actions.{is_limited}
-use Rattle.init_words.proofs.Tests.{both_ways}
-use Rattle.trace_events.specs.declared.steps.Step.{Step}
-use Rattle.trace_events.specs.declared.steps.Step.TheVariants.{Call, Power, Order, Hold, Settle, Reexec}
-use Rattle.trace_events.specs.declared.steps.Goal.{Goal}
-use Rattle.trace_events.specs.Event.{Event}
-use Rattle.trace_events.specs.Past.{stage_of, table_of, Child, is_of, open_of, is_quiet, is_idle, known_children}
-use Rattle.trace_events.specs.Wanted.{is_owed}
 use Rattle.trace_events.specs.Spells.{stop_due}
 use Rattle.trace_events.specs.Timing.{is_held, is_full}
-use Rattle.trace_events.specs.Wishes.{in_run, goal_of, wants_reexec, level_wish, keeps_power, keeps_letter, powers, letters, wish_stands}
-use Rattle.trace_events.specs.Due.{step_if, steps_if, none_excluded, due_first, due_reexec, due_reread, due_level, enter_level, due_news, power_steps, letter_steps, due_stops, stops_among, stops_of, stop_step, due_starts, starts_among, start_steps, can_start, due_stage, next_stage, is_over, due_settle, settle_step, is_announced, is_settled, due_looks, looks_among, can_look, record_ids, due, first}
-use Rattle.trace_events.specs.Run.{is_reread}
 
 -- none of the steps is to read inittab
 abbrev HasNone : List Step → Type 0

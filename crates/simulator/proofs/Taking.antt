@@ -1,24 +1,7 @@
 -- A state that took a happening in says what the longer trace says.
-use Rattle.std.proofs.Common.{◌≡◌, refl, sym, ◌∙◌, ap, ℕ, ◌==◌, Bool, true, false, not, ◌&&◌, ◌||◌, cond, List, ◌∷◌, filter, Option, Some, None, find}
-use Rattle.std.specs.List.{list_any}
-use Rattle.std.specs.Option.{option_map}
-use Rattle.std.proofs.lemmas.Bool.{and_parts, eqb-true}
-use Rattle.init_words.specs.declared.orders.OrderKind.TheVariants.{Look}
-use Rattle.init_words.specs.Ids.{same_id}
-use Rattle.trace_events.specs.declared.happenings.Happening.TheVariants.{Asked, Birth, NoBirth, Death, Reaped, Still, NoLook, Hit, Miss, Told}
-use Rattle.trace_events.specs.declared.steps.Goal.{Goal}
-use Rattle.trace_events.specs.Event.{Event}
-use Rattle.trace_events.specs.Past.{Child, has_number, is_child, is_dead, undone_of, unreaped_children}
-use Rattle.trace_events.specs.Answered.{answered_of}
-use Rattle.trace_events.specs.Wanted.{is_order}
-use Rattle.trace_events.specs.Sound.{is_sound}
-use Rattle.init_words.proofs.Tests.{falsely, not_from, filter_within, find_none}
-use Rattle.init_words.proofs.Same.{same_id-self}
+use Rattle.simulator.proofs.Words.{◌≡◌, refl, sym, ◌∙◌, ap, ℕ, ◌==◌, Bool, true, false, not, ◌&&◌, ◌||◌, cond, List, ◌∷◌, filter, Option, Some, None, find, list_any, option_map, and_parts, Look, same_id, Asked, Birth, NoBirth, Death, Reaped, Still, NoLook, Hit, Miss, Told, Goal, Event, Child, has_number, is_child, is_dead, undone_of, unreaped_children, answered_of, is_order, is_sound, falsely, not_from, filter_within, find_none, same_id-self, same_find, SystemState, order_in, answer_in, child_in, died, order_after, answer_after, child_after, Follows, simulated_child_of, child_with}
+use Rattle.std.proofs.lemmas.Bool.{eqb-true}
 use Rattle.trace_laws.proofs.Births.{sound_step}
-use Rattle.trace_laws.proofs.Told.{same_find}
-use Rattle.simulator.specs.State.{SystemState, order_in, answer_in, child_in, died}
-use Rattle.simulator.specs.Steps.{order_after, answer_after, child_after}
-use Rattle.simulator.specs.Follows.{Follows, simulated_child_of, child_with}
 use Rattle.simulator.proofs.Numbers.{one_number, lone_gone}
 
 order_step : (happening : Event) (id : List ℕ) (past : List Event) → order_after happening id (undone_of id past) ≡ undone_of id (happening ∷ past)

@@ -1,30 +1,9 @@
 -- The run over a whole script, happening by happening.
-use Rattle.std.proofs.Common.{Result, Ok, Err, Bool, true, ◌≡◌, ◌≢◌, ◌++◌, ◌+◌, ℕ, List, [], ◌∷◌, Option, refl, sym, ap, ◌∙◌, subst, append_assoc, ◌⊎◌, inl, inr}
-use Rattle.std.specs.Io.KnownBytes.{Appends, Keeps}
-use Rattle.std.proofs.KnownBytes.{Appends-kept, Appends-trans}
-use Rattle.std.proofs.lemmas.List.{append-nil}
-use Rattle.init_words.specs.declared.entries.Entry.{Entry}
-use Rattle.inittab_text.specs.Reading.{table_of_text}
+use Rattle.simulator.proofs.Words.{Bool, true, ◌≡◌, ◌≢◌, ◌++◌, ◌+◌, ℕ, List, [], ◌∷◌, Option, refl, sym, ap, ◌∙◌, subst, append_assoc, ◌⊎◌, inl, inr, Appends, Keeps, Appends-kept, Appends-trans, append-nil, Entry, table_of_text, NewTable, Goal, Event, event_text, is_in_range, are_in_range, line_count, BeginsNone, counted_on, newlines, is_run, CoreState, FitsAll, SystemState, Follows, SimFault, Leaves, LastsTo, Moment, SimulationGoesOn, HearsLine, ComesToRest, Breaks, FromRest, HeardOne, HeardBreaks, HeardEnds, SoFar, opening_text, Scenario, table_in, goal_in, script_in, past_text, heard_text, RunOver, Broken, Ends, Done}
+use Rattle.std.proofs.Common.{Result, Ok, Err}
 use Rattle.inittab_text.proofs.Distinct.{distinct_text}
-use Rattle.trace_events.specs.declared.happenings.Happening.TheVariants.{NewTable}
-use Rattle.trace_events.specs.declared.steps.Goal.{Goal}
-use Rattle.trace_events.specs.Event.{Event}
-use Rattle.trace_text.specs.Lines.{event_text}
-use Rattle.trace_events.specs.Range.{is_in_range, are_in_range}
-use Rattle.trace_text.specs.Texts.{line_count, BeginsNone}
-use Rattle.trace_text.proofs.ReadTexts.{counted_on}
-use Rattle.text_lines.specs.Lines.{newlines}
-use Rattle.trace_events.specs.Run.{is_run}
-use Rattle.core_model.specs.State.{CoreState}
-use Rattle.core_model.specs.Fit.{FitsAll}
-use Rattle.simulator.specs.State.{SystemState}
-use Rattle.simulator.specs.Follows.{Follows}
-use Rattle.simulator.specs.declared.running.SimFault.{SimFault}
 use Rattle.simulator.specs.declared.running.SimFault.TheVariants as fault
-use Rattle.simulator.specs.Faults.{Leaves}
 use Rattle.simulator.proofs.Opening.{OpeningEnds}
-use Rattle.simulator.specs.Moments.{LastsTo, Moment, SimulationGoesOn, HearsLine, ComesToRest, Breaks, FromRest, HeardOne, HeardBreaks, HeardEnds, SoFar, opening_text}
-use Rattle.simulator.specs.Simulation.{Scenario, table_in, goal_in, script_in, past_text, heard_text, RunOver, Broken, Ends, Done}
 use Rattle.simulator.proofs.Moves.{leaves_behind, memory_after}
 
 -- the trace that is the table alone

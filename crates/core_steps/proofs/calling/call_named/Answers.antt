@@ -1,5 +1,4 @@
-use Rattle.std.proofs.Common.{◌<◌, length, sym, ◌∙◌, ap, take, arith}
-use Rattle.core_model.specs.Steps.{is_named, with_called}
+use Rattle.core_steps.proofs.Words.{◌<◌, length, sym, ◌∙◌, ap, take, arith, is_named, with_called}
 use Rattle.core_steps.proofs.Called.{entry_record, still_record, one_more, none_called, take_one, none_past}
 use Rattle.core_steps.proofs.calling.call_named.Goals as goal
 

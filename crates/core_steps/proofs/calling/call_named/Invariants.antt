@@ -1,5 +1,4 @@
-use Rattle.std.proofs.Common.{◌≡◌, take}
-use Rattle.core_model.specs.Steps.{is_named, with_called}
+use Rattle.core_steps.proofs.Words.{◌≡◌, take, is_named, with_called}
 use Rattle.core_steps.proofs.calling.call_named.Given as goal
 
 -- the entries so far are called

@@ -1,9 +1,4 @@
-use Rattle.std.proofs.Common.{◌≡◌, true, sym, ◌∙◌}
-use Rattle.std.specs.List.Sorted.{IsNonDecreasing}
-use Rattle.std.proofs.lemmas.Bool.{and_parts}
-use Rattle.core_model.specs.Rebuilding.{are_paired, is_whole}
-use Rattle.core_model.specs.Rules.{never_fall}
-use Rattle.core_model.proofs.Falls.{ordered_from_never}
+use Rattle.core_steps.proofs.Words.{◌≡◌, true, sym, ◌∙◌, IsNonDecreasing, and_parts, are_paired, is_whole, never_fall, ordered_from_never}
 use Rattle.core_steps.proofs.rebuilding.record_read.Goals as goal
 
 pub of-requires-clause-ordered : goal.of-requires-clause-ordered

@@ -1,5 +1,4 @@
-use Rattle.std.proofs.Common.{◌≡◌, ◌∙◌, ap, None, Some, slice_get}
-use Rattle.core_model.specs.Rebuilding.{record_read}
+use Rattle.core_steps.proofs.Words.{◌≡◌, ◌∙◌, ap, None, Some, slice_get, record_read}
 use Rattle.core_steps.proofs.Remade.{too_few, not_whole, one_made}
 use Rattle.core_steps.proofs.rebuilding.records_along.Goals as goal
 

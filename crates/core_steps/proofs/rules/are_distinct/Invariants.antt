@@ -1,5 +1,4 @@
-use Rattle.std.proofs.Common.{◌≡◌, drop}
-use Rattle.core_records.specs.Lists.{are_distinct}
+use Rattle.core_steps.proofs.Words.{◌≡◌, drop, are_distinct}
 use Rattle.core_steps.proofs.rules.are_distinct.Given as goal
 
 -- the answer is that of what is left

@@ -1,4 +1,4 @@
-use Rattle.std.proofs.Common.{sym, ◌∙◌}
+use Rattle.core_steps.proofs.Words.{sym, ◌∙◌}
 use Rattle.core_steps.proofs.Ruled.{starts_none, starts_past, starts_fault, starts_pass}
 use Rattle.core_steps.proofs.rules.are_starts_along.Goals as goal
 

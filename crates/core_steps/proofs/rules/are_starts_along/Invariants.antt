@@ -1,5 +1,4 @@
-use Rattle.std.proofs.Common.{◌≡◌, drop, zip}
-use Rattle.core_model.specs.Rules.{are_starts_along}
+use Rattle.core_steps.proofs.Words.{◌≡◌, drop, zip, are_starts_along}
 use Rattle.core_steps.proofs.Ruled.{starts_from}
 use Rattle.core_steps.proofs.rules.are_starts_along.Given as goal
 

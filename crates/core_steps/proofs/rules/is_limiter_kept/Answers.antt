@@ -1,6 +1,4 @@
-use Rattle.std.proofs.Common.{◌≤◌, length, sym, ◌∙◌}
-use Rattle.std.specs.List.Sorted.{IsNonDecreasing}
-use Rattle.respawn_limit.specs.declared.TheConstants.{STARTS}
+use Rattle.core_steps.proofs.Words.{◌≤◌, length, sym, ◌∙◌, IsNonDecreasing, STARTS}
 use Rattle.core_steps.proofs.Ruled.{limit_kept}
 use Rattle.core_steps.proofs.rules.is_limiter_kept.Goals as goal
 

@@ -1,6 +1,5 @@
-use Rattle.std.proofs.Common.{sym, ◌∙◌}
+use Rattle.core_steps.proofs.Words.{sym, ◌∙◌, never_from_sorted, ordered_from_never}
 use Rattle.std.proofs.lemmas.List.Sorted.{non_decreasing_from_is_sorted}
-use Rattle.core_model.proofs.Falls.{never_from_sorted, ordered_from_never}
 use Rattle.core_steps.proofs.rules.never_fall.Goals as goal
 
 pub returns-clause-value : goal.returns-clause-value

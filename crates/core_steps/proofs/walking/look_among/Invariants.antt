@@ -1,5 +1,4 @@
-use Rattle.std.proofs.Common.{◌≡◌, drop}
-use Rattle.core_model.specs.Decide.{look_among}
+use Rattle.core_steps.proofs.Words.{◌≡◌, drop, look_among}
 use Rattle.core_steps.proofs.walking.look_among.Given as goal
 
 -- the answer is that of what is left

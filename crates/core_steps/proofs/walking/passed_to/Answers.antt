@@ -1,4 +1,4 @@
-use Rattle.std.proofs.Common.{refl, sym, ◌∙◌, Some}
+use Rattle.core_steps.proofs.Words.{refl, sym, ◌∙◌, Some}
 use Rattle.core_steps.proofs.Places.{passed_more}
 use Rattle.core_steps.proofs.walking.passed_to.Goals as goal
 

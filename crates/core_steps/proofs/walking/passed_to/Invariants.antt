@@ -1,5 +1,4 @@
-use Rattle.std.proofs.Common.{◌≡◌, true, Some}
-use Rattle.core_steps.specs.Places.{are_passed}
+use Rattle.core_steps.proofs.Words.{◌≡◌, true, Some, are_passed}
 use Rattle.core_steps.proofs.walking.passed_to.Given as goal
 
 abbrev pub invariant-loop-place : goal.invariant-loop-place

@@ -1,5 +1,4 @@
-use Rattle.std.proofs.Common.{◌≡◌, true}
-use Rattle.core_steps.specs.Places.{are_seen}
+use Rattle.core_steps.proofs.Words.{◌≡◌, true, are_seen}
 use Rattle.core_steps.proofs.walking.seen_to.Given as goal
 
 abbrev pub invariant-loop-place : goal.invariant-loop-place

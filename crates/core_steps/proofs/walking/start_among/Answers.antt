@@ -1,4 +1,4 @@
-use Rattle.std.proofs.Common.{sym}
+use Rattle.core_steps.proofs.Words.{sym}
 use Rattle.core_steps.proofs.Starts.{along_none, along_past, along_found, along_owed, along_pass}
 use Rattle.core_steps.proofs.Places.{start_from}
 use Rattle.core_steps.proofs.walking.start_among.Goals as goal

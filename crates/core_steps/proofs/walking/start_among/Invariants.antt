@@ -1,5 +1,4 @@
-use Rattle.std.proofs.Common.{◌≡◌, drop, zip}
-use Rattle.core_model.specs.Decide.{start_along}
+use Rattle.core_steps.proofs.Words.{◌≡◌, drop, zip, start_along}
 use Rattle.core_steps.proofs.walking.start_among.Given as goal
 
 -- the answer is that of what is left

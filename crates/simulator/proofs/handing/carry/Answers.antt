@@ -1,8 +1,4 @@
-use Rattle.std.proofs.Common.{Vec, ℕ, length, map, sym, ap, ◌∙◌, ◌≡◌, take, subst}
-use Rattle.std.specs.Prelude.{IfSome}
-use Rattle.core_model.specs.Parts.{state_of}
-use Rattle.simulator.specs.Handing.{comes_back, taken_of}
-use Rattle.simulator.specs.Texts.{IsTakenOver}
+use Rattle.simulator.proofs.Words.{Vec, ℕ, length, map, sym, ap, ◌∙◌, ◌≡◌, take, subst, IfSome, state_of, comes_back, taken_of, IsTakenOver}
 use Rattle.simulator.proofs.Foreign.{cut_foreign, made_foreign, made_is, may_cut, may_older, none_taken, own_taken}
 use Rattle.simulator.proofs.Hearing.{ok_gives}
 use Rattle.simulator.proofs.handing.carry.Goals as goal

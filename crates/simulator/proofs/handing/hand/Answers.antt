@@ -1,8 +1,5 @@
-use Rattle.std.proofs.Common.{Vec, ℕ, map, ◌∷◌, sym, ap, ◌∙◌, subst}
+use Rattle.simulator.proofs.Words.{Vec, ℕ, map, ◌∷◌, sym, ap, ◌∙◌, subst, StillFits, state_of, CoreState}
 use Rattle.trace_events.specs.declared.happenings.Happening.TheVariants as happening
-use Rattle.core_model.specs.Fit.{StillFits}
-use Rattle.core_model.specs.Parts.{state_of}
-use Rattle.core_model.specs.State.{CoreState}
 use Rattle.simulator.proofs.Foreign.{handed_then, kept_more, kept_push, more_texts, same_core, same_made}
 use Rattle.simulator.proofs.handing.hand.Goals as goal
 

@@ -1,6 +1,4 @@
-use Rattle.std.proofs.Common.{◌∙◌, ap}
-use Rattle.core_model.specs.Parts.{state_of}
-use Rattle.core_model.specs.State.{CoreState}
+use Rattle.simulator.proofs.Words.{◌∙◌, ap, state_of, CoreState}
 use Rattle.core_text.specs.declared.versions.Version.TheVariants.{V2}
 use Rattle.core_text.specs.Lines.{state_text}
 use Rattle.simulator.proofs.handing.make_text.Goals as goal

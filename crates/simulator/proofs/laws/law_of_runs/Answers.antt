@@ -1,6 +1,5 @@
 use Rattle.trace_laws.proofs.Laws.{lawful_unbroken}
-use Rattle.trace_laws.proofs.Runs.{run_lawful}
-use Rattle.simulator.specs.Simulation.{goal_in}
+use Rattle.simulator.proofs.Words.{run_lawful, goal_in}
 use Rattle.simulator.proofs.Only.{only}
 use Rattle.simulator.proofs.laws.law_of_runs.Goals as goal
 

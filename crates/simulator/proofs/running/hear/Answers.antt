@@ -1,8 +1,7 @@
-use Rattle.std.proofs.Common.{rules, ◌≡◌, Err}
-use Rattle.trace_text.specs.Lines.{event_text}
+use Rattle.simulator.proofs.Words.{rules, ◌≡◌, event_text, err_is}
+use Rattle.std.proofs.Common.{Err}
 use Rattle.simulator.specs.declared.running.SimFault.TheVariants as fault
 use Rattle.simulator.proofs.Hearing.{moment_heard}
-use Rattle.init_words.proofs.Tests.{err_is}
 use Rattle.simulator.proofs.Moves.{memory_after}
 use Rattle.simulator.proofs.running.hear.Goals as goal
 

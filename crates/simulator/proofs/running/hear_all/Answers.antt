@@ -1,12 +1,6 @@
-use Rattle.std.proofs.Common.{rules, ◌≡◌, ◌≢◌, ◌++◌, ◌+◌, ◌<◌, ◌≤◌, [], true, Err, length, ap, arith}
-use Rattle.std.proofs.lemmas.Grind.{common_steps}
-use Rattle.std.proofs.lemmas.List.{nil_from_length}
-use Rattle.trace_text.specs.Lines.{event_text}
-use Rattle.trace_events.specs.Range.{is_in_range}
-use Rattle.trace_text.specs.Texts.{BeginsNone}
-use Rattle.trace_text.proofs.ReadTexts.{lines_within}
+use Rattle.simulator.proofs.Words.{rules, ◌≡◌, ◌≢◌, ◌++◌, ◌+◌, ◌<◌, ◌≤◌, [], true, length, ap, arith, common_steps, nil_from_length, event_text, is_in_range, BeginsNone, lines_within, err_is}
+use Rattle.std.proofs.Common.{Err}
 use Rattle.simulator.specs.declared.running.SimFault.TheVariants as fault
-use Rattle.init_words.proofs.Tests.{err_is}
 use Rattle.simulator.proofs.Whole.{so_far_next, heard_ends, unread_ends, memory_ends, all_done}
 use Rattle.simulator.proofs.running.hear_all.Goals as goal
 

@@ -1,6 +1,4 @@
-use Rattle.std.proofs.Common.{◌+◌, ◌≤◌, length, map, Vec, ℕ}
-use Rattle.simulator.specs.Moments.{SoFar, SomeRest, FromScript}
-use Rattle.simulator.specs.Texts.{HasTexts}
+use Rattle.simulator.proofs.Words.{◌+◌, ◌≤◌, length, map, Vec, ℕ, SoFar, SomeRest, FromScript, HasTexts}
 use Rattle.simulator.proofs.running.hear_all.Given as goal
 
 -- what stands before the rest was heard, and init rests

@@ -1,7 +1,5 @@
-use Rattle.std.proofs.Common.{rules, ◌≡◌, Err, ◌++◌, ◌∷◌, sym, ◌∙◌, refl, inl}
-use Rattle.std.proofs.KnownBytes.{Appends-trans, Keeps-refl}
-use Rattle.trace_text.specs.Lines.{event_text}
-use Rattle.init_words.proofs.Tests.{err_is}
+use Rattle.simulator.proofs.Words.{rules, ◌≡◌, ◌++◌, ◌∷◌, sym, ◌∙◌, refl, inl, Appends-trans, Keeps-refl, event_text, err_is}
+use Rattle.std.proofs.Common.{Err}
 use Rattle.simulator.specs.declared.running.SimFault.TheVariants as fault
 use Rattle.simulator.proofs.Moves.{err_then, leaves_behind, run_hears}
 use Rattle.simulator.proofs.Hearing.{may_say, objected, ready, hears_one, hears_goes, broken_heard, ok_gives}

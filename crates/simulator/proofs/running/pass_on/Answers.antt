@@ -1,8 +1,5 @@
-use Rattle.std.proofs.Common.{sym, ◌∙◌, subst, true, ◌≡◌, ◌∷◌}
+use Rattle.simulator.proofs.Words.{sym, ◌∙◌, subst, true, ◌≡◌, ◌∷◌, is_in_range, run_sound, all_on}
 use Rattle.trace_events.specs.declared.happenings.Happening.TheVariants as event
-use Rattle.trace_events.specs.Range.{is_in_range}
-use Rattle.trace_laws.proofs.Runs.{run_sound}
-use Rattle.core_model.proofs.Fitted.{all_on}
 use Rattle.simulator.proofs.Hearing.{fits_at, fits_silent, nothing_told}
 use Rattle.simulator.proofs.Keeping.{lasts_at, lasts_adopt, lasts_not_read, lasts_told, lasts_clock, lasts_nudge, lasts_got, lasts_hand, lasts_silent}
 use Rattle.simulator.proofs.Moves.{said_parts}

@@ -1,10 +1,6 @@
-use Rattle.std.proofs.Common.{rules, ◌≡◌, ◌∷◌, [], Err, ◌∙◌, ap, subst}
-use Rattle.trace_events.specs.declared.happenings.Happening.TheVariants.{NewTable}
-use Rattle.init_words.proofs.Tests.{err_is}
-use Rattle.text_lines.specs.Lines.{ended}
+use Rattle.simulator.proofs.Words.{rules, ◌≡◌, ◌∷◌, [], ◌∙◌, ap, subst, NewTable, err_is, ended, SoFar, goal_in, script_in, table_in}
+use Rattle.std.proofs.Common.{Err}
 use Rattle.simulator.specs.declared.running.SimFault.TheVariants as fault
-use Rattle.simulator.specs.Moments.{SoFar}
-use Rattle.simulator.specs.Simulation.{goal_in, script_in, table_in}
 use Rattle.simulator.proofs.Hearing.{ok_then}
 use Rattle.simulator.proofs.Moves.{err_then}
 use Rattle.simulator.proofs.Whole.{broken_ends, broken_first, memory_ends, so_far_first}

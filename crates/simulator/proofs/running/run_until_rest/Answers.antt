@@ -1,16 +1,9 @@
-use Rattle.std.proofs.Common.{rules, ◌≡◌, Err, ◌++◌, ◌∷◌, ap, ◌∙◌}
-use Rattle.std.proofs.KnownBytes.{Appends-trans}
-use Rattle.trace_text.specs.Lines.{event_text}
-use Rattle.trace_laws.proofs.Runs.{run_sound}
-use Rattle.core_model.specs.Fit.{with_step}
-use Rattle.core_model.proofs.Fitted.{all_on}
+use Rattle.simulator.proofs.Words.{rules, ◌≡◌, ◌++◌, ◌∷◌, ap, ◌∙◌, Appends-trans, event_text, run_sound, with_step, all_on, err_is, CoreState, step_same}
+use Rattle.std.proofs.Common.{Err}
 use Rattle.simulator.specs.declared.running.SimFault.TheVariants as fault
-use Rattle.init_words.proofs.Tests.{err_is}
-use Rattle.core_model.specs.State.{CoreState}
 use Rattle.simulator.proofs.Keeping.{lasts_step}
 use Rattle.simulator.proofs.Moves.{at_rest, moment_step, went_step, goes_step, leaves_behind, memory_after, more_run}
 use Rattle.simulator.proofs.running.run_until_rest.Goals as goal
-use Rattle.core_handover.proofs.Generations.{step_same}
 
 -- init rests
 pub returns-in_default-clause-ok : goal.returns-in_default-clause-ok

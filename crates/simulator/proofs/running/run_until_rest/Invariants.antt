@@ -1,6 +1,5 @@
-use Rattle.std.proofs.Common.{◌≡◌}
+use Rattle.simulator.proofs.Words.{◌≡◌, FromMoment, SomeMoment}
 use Rattle.core_model.specs.Work.{work_left}
-use Rattle.simulator.specs.Moments.{FromMoment, SomeMoment}
 use Rattle.simulator.proofs.Moves.{WentOn}
 use Rattle.simulator.proofs.running.run_until_rest.Given as goal
 

@@ -1,9 +1,6 @@
-use Rattle.std.proofs.Common.{rules, ◌≡◌, ◌∷◌, [], Err, ◌∙◌, ap, refl}
-use Rattle.trace_events.specs.declared.happenings.Happening.TheVariants.{NewTable}
-use Rattle.inittab_text.specs.Reading.{table_of_text}
+use Rattle.simulator.proofs.Words.{rules, ◌≡◌, ◌∷◌, [], ◌∙◌, ap, refl, NewTable, table_of_text, goal_in, scenario, err_is}
+use Rattle.std.proofs.Common.{Err}
 use Rattle.simulator.specs.declared.running.SimFault.TheVariants as fault
-use Rattle.simulator.specs.Simulation.{goal_in, scenario}
-use Rattle.init_words.proofs.Tests.{err_is}
 use Rattle.simulator.proofs.Hearing.{ok_then}
 use Rattle.simulator.proofs.Moves.{err_then}
 use Rattle.simulator.proofs.Opening.{no_fault, none_opened, opening_breaks, opening_written}

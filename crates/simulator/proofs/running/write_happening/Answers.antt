@@ -1,8 +1,7 @@
-use Rattle.std.proofs.Common.{rules, ◌≡◌, Err, List, ℕ, subst}
+use Rattle.simulator.proofs.Words.{rules, ◌≡◌, List, ℕ, subst, event_text, err_is}
+use Rattle.std.proofs.Common.{Err}
 use Rattle.program_io.specs.Writing.{AppendsFront}
-use Rattle.trace_text.specs.Lines.{event_text}
 use Rattle.simulator.specs.declared.running.SimFault.TheVariants as fault
-use Rattle.init_words.proofs.Tests.{err_is}
 use Rattle.simulator.proofs.Moves.{memory_before}
 use Rattle.simulator.proofs.running.write_happening.Goals as goal
 

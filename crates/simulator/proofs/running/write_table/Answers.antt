@@ -1,8 +1,6 @@
-use Rattle.std.proofs.Common.{rules, ◌≡◌, Err}
-use Rattle.trace_events.specs.declared.happenings.Happening.TheVariants.{NewTable}
-use Rattle.trace_text.specs.Lines.{event_text}
+use Rattle.simulator.proofs.Words.{rules, ◌≡◌, NewTable, event_text, err_is}
+use Rattle.std.proofs.Common.{Err}
 use Rattle.simulator.specs.declared.running.SimFault.TheVariants as fault
-use Rattle.init_words.proofs.Tests.{err_is}
 use Rattle.simulator.proofs.Moves.{memory_before}
 use Rattle.simulator.proofs.running.write_table.Goals as goal
 

@@ -1,4 +1,4 @@
-use Rattle.std.proofs.Common.{refl}
+use Rattle.core_steps.proofs.Words.{refl}
 use Rattle.core_steps.proofs.Kept.{kept_adopted}
 use Rattle.core_steps.proofs.bare.BareCore.adopt_by_state.Goals as goal
 

@@ -1,6 +1,4 @@
-use Rattle.std.proofs.Common.{arith, sym}
-use Rattle.core_records.proofs.Timely.{timely_told}
-use Rattle.core_records.proofs.Ordered.{order_told}
+use Rattle.core_steps.proofs.Words.{arith, sym, timely_told, order_told}
 use Rattle.core_steps.proofs.Moved.{seen_told, passed_told}
 use Rattle.core_steps.proofs.bare.BareCore.answer_by_state.Goals as goal
 

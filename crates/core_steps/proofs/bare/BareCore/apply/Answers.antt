@@ -1,9 +1,4 @@
-use Rattle.std.proofs.Common.{◌∙◌, refl}
-use Rattle.core_records.specs.Changes.{after_hold}
-use Rattle.core_records.proofs.Timely.{timely_changed}
-use Rattle.core_records.proofs.Ordered.{order_changed}
-use Rattle.core_model.specs.Steps.{is_named}
-use Rattle.core_model.proofs.Allowed.{decide_allowed}
+use Rattle.core_steps.proofs.Words.{◌∙◌, refl, after_hold, timely_changed, order_changed, is_named, decide_allowed}
 use Rattle.core_steps.proofs.Kept.{kept_called, held_in}
 use Rattle.core_steps.proofs.Moved.{seen_called, seen_held, passed_held}
 use Rattle.core_steps.proofs.bare.BareCore.apply.Goals as goal

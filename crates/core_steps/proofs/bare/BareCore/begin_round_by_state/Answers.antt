@@ -1,7 +1,4 @@
-use Rattle.std.proofs.Common.{refl}
-use Rattle.core_records.specs.Changes.{after_begin_round}
-use Rattle.core_records.proofs.Timely.{timely_map}
-use Rattle.core_records.proofs.Ordered.{order_map}
+use Rattle.core_steps.proofs.Words.{refl, after_begin_round, timely_map, order_map}
 use Rattle.core_steps.proofs.Moved.{passed_nudged}
 use Rattle.core_steps.proofs.bare.BareCore.begin_round_by_state.Goals as goal
 

@@ -1,6 +1,4 @@
-use Rattle.std.proofs.Common.{◌≤◌, arith}
-use Rattle.respawn_limit.specs.declared.TheConstants.{CLOCK_LIMIT}
-use Rattle.core_records.proofs.Timely.{timely_later}
+use Rattle.core_steps.proofs.Words.{◌≤◌, arith, CLOCK_LIMIT, timely_later}
 use Rattle.core_steps.proofs.bare.BareCore.clock_by_state.Goals as goal
 
 pub invariant_of-self : goal.invariant_of-self

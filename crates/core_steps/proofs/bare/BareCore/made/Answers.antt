@@ -1,14 +1,6 @@
-use Rattle.std.proofs.Common.{◌≡◌, true, List, Err, sym, ◌∙◌, ap, subst, rules}
-use Rattle.core_records.specs.State.{RecordState}
-use Rattle.core_records.proofs.Timely.{timely_later}
-use Rattle.respawn_limit.specs.declared.TheConstants.{CLOCK_LIMIT}
-use Rattle.init_words.specs.declared.entries.Entry.{Entry}
+use Rattle.core_steps.proofs.Words.{◌≡◌, true, List, Err, sym, ◌∙◌, ap, subst, rules, RecordState, timely_later, CLOCK_LIMIT, Entry, PlainRecord, records_along, are_whole, IsFit, is_kept, CoreState}
 use Rattle.core_model.specs.declared.parts.CoreFields.{CoreFields}
-use Rattle.core_model.specs.declared.parts.PlainRecord.{PlainRecord}
 use Rattle.core_model.specs.Parts.{state_of}
-use Rattle.core_model.specs.Rebuilding.{records_along, are_whole}
-use Rattle.core_model.specs.Rules.{IsFit, is_kept}
-use Rattle.core_model.specs.State.{CoreState}
 use Rattle.core_model.proofs.Kept.{Rules, rules_of}
 use Rattle.core_model.proofs.Rebuilt.{made_kept, made_state, unfit_whole, unfit_kept}
 use Rattle.core_steps.specs.declared.rebuilding.Rebuild.TheVariants as rebuild

@@ -1,10 +1,6 @@
-use Rattle.std.proofs.Common.{◌≡◌, Option, Some, None, refl, arith}
-use Rattle.std.specs.Option.{option_or, unwrap_or}
+use Rattle.core_steps.proofs.Words.{◌≡◌, Option, Some, None, refl, arith, option_or, unwrap_or, default_level_of, order_new, opening_level}
 use Rattle.init_words.specs.declared.levels.Level.{Level}
 use Rattle.init_words.specs.declared.levels.Level.TheVariants.{S}
-use Rattle.inittab_text.specs.Tables.{default_level_of}
-use Rattle.core_records.proofs.Ordered.{order_new}
-use Rattle.core_model.specs.State.{opening_level}
 use Rattle.core_steps.proofs.Kept.{timely_opening}
 use Rattle.core_steps.proofs.bare.BareCore.new_by_state.Goals as goal
 

@@ -1,10 +1,4 @@
-use Rattle.std.proofs.Common.{arith, ap, ◌∙◌}
-use Rattle.core_model.specs.State.{CoreState}
-use Rattle.core_records.specs.Lists.{are_distinct, can_ask}
-use Rattle.core_records.specs.Changes.{after_order}
-use Rattle.core_records.proofs.Timely.{timely_changed, timely_order}
-use Rattle.core_records.proofs.Ordered.{order_changed, act-after_order}
-use Rattle.core_records.proofs.Changed.{id-after_order}
+use Rattle.core_steps.proofs.Words.{arith, ap, ◌∙◌, CoreState, are_distinct, can_ask, after_order, timely_changed, timely_order, order_changed, act-after_order, id-after_order}
 use Rattle.core_steps.proofs.Moved.{seen_ordered, passed_ordered}
 use Rattle.core_steps.proofs.bare.BareCore.order.Goals as goal
 

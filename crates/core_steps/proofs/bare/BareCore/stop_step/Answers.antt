@@ -1,9 +1,4 @@
-use Rattle.std.proofs.Common.{sym, ap, subst, ◌∙◌}
-use Rattle.std.specs.List.{list_any}
-use Rattle.core_records.specs.State.{RecordState}
-use Rattle.core_records.specs.Stopping.{is_stop_due, IsFirstTermed}
-use Rattle.core_model.specs.State.{CoreState}
-use Rattle.core_steps.specs.Signals.{is_past}
+use Rattle.core_steps.proofs.Words.{sym, ap, subst, ◌∙◌, list_any, RecordState, is_stop_due, IsFirstTermed, CoreState, is_past}
 use Rattle.core_steps.proofs.Excluded.{none_near}
 use Rattle.core_steps.proofs.bare.BareCore.stop_step.Goals as goal
 

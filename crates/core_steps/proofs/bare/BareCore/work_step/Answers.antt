@@ -1,5 +1,4 @@
-use Rattle.std.proofs.Common.{◌≡◌, sym, ap, ◌∙◌, false}
-use Rattle.core_model.specs.State.{CoreState}
+use Rattle.core_steps.proofs.Words.{◌≡◌, sym, ap, ◌∙◌, false, CoreState}
 use Rattle.core_model.specs.Decide as core
 use Rattle.core_steps.proofs.Excluded.{calm_work}
 use Rattle.core_steps.proofs.bare.BareCore.work_step.Goals as goal

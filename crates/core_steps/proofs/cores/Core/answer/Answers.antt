@@ -1,7 +1,4 @@
-use Rattle.std.proofs.Common.{◌∙◌, rules, ap}
-use Rattle.core_records.specs.Lists.{order_in, refusal_of}
-use Rattle.core_model.specs.State.{CoreState}
-use Rattle.core_model.proofs.Hearing.{answer_taken, fits_told}
+use Rattle.core_steps.proofs.Words.{◌∙◌, rules, ap, order_in, refusal_of, CoreState, answer_taken, fits_told}
 use Rattle.core_steps.proofs.Kept.{told_kept}
 use Rattle.core_steps.proofs.cores.Core.answer.Goals as goal
 

@@ -1,5 +1,4 @@
-use Rattle.core_model.proofs.Hearing.{fits_round}
-use Rattle.core_model.proofs.RuledHeard.{round_keeps}
+use Rattle.core_steps.proofs.Words.{fits_round, round_keeps}
 use Rattle.core_steps.proofs.cores.Core.begin_round.Goals as goal
 
 pub invariant_of-self : goal.invariant_of-self

@@ -1,5 +1,4 @@
-use Rattle.core_model.proofs.Hearing.{fits_clock}
-use Rattle.core_model.proofs.RuledHeard.{clock_keeps}
+use Rattle.core_steps.proofs.Words.{fits_clock, clock_keeps}
 use Rattle.core_steps.proofs.cores.Core.clock.Goals as goal
 
 pub invariant_of-self : goal.invariant_of-self

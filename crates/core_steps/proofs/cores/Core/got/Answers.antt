@@ -1,5 +1,4 @@
-use Rattle.core_model.proofs.Hearing.{fits_got}
-use Rattle.core_model.proofs.RuledHeard.{got_keeps}
+use Rattle.core_steps.proofs.Words.{fits_got, got_keeps}
 use Rattle.core_steps.proofs.cores.Core.got.Goals as goal
 
 pub invariant_of-self : goal.invariant_of-self

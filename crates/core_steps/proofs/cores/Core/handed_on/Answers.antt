@@ -1,5 +1,4 @@
-use Rattle.core_model.proofs.Hearing.{fits_handed_on}
-use Rattle.core_model.proofs.RuledHeard.{handed_on_keeps}
+use Rattle.core_steps.proofs.Words.{fits_handed_on, handed_on_keeps}
 use Rattle.core_steps.proofs.cores.Core.handed_on.Goals as goal
 
 pub invariant_of-self : goal.invariant_of-self

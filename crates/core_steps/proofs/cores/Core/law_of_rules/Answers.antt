@@ -1,5 +1,4 @@
-use Rattle.std.proofs.Common.{subst}
-use Rattle.core_model.specs.Rules.{IsFit}
+use Rattle.core_steps.proofs.Words.{subst, IsFit}
 use Rattle.core_steps.proofs.cores.Core.law_of_rules.Goals as goal
 
 pub returns : goal.returns

@@ -1,6 +1,4 @@
-use Rattle.core_model.specs.State.{opening_goal}
-use Rattle.core_model.proofs.Hearing.{fits_opening}
-use Rattle.core_model.proofs.RulesKept.{opening_keeps}
+use Rattle.core_steps.proofs.Words.{opening_goal, fits_opening, opening_keeps}
 use Rattle.core_steps.proofs.cores.Core.new.Goals as goal
 
 pub invariant_of-result : goal.invariant_of-result

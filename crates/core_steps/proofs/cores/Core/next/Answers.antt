@@ -1,8 +1,6 @@
-use Rattle.std.proofs.Common.{sym, ap, ◌∙◌}
-use Rattle.core_model.specs.Decide.{decide}
+use Rattle.core_steps.proofs.Words.{sym, ap, ◌∙◌, decide, step_keeps}
 use Rattle.core_model.proofs.Deciding.{decide_due}
 use Rattle.core_model.proofs.Stepping.{fits_step}
-use Rattle.core_model.proofs.RulesKept.{step_keeps}
 use Rattle.core_steps.proofs.cores.Core.next.Goals as goal
 
 pub invariant_of-self : goal.invariant_of-self

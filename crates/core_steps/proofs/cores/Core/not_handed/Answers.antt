@@ -1,5 +1,4 @@
-use Rattle.core_model.proofs.Hearing.{fits_handed}
-use Rattle.core_model.proofs.RuledHeard.{handed_keeps}
+use Rattle.core_steps.proofs.Words.{fits_handed, handed_keeps}
 use Rattle.core_steps.proofs.cores.Core.not_handed.Goals as goal
 
 pub invariant_of-self : goal.invariant_of-self

@@ -1,5 +1,4 @@
-use Rattle.core_model.proofs.Hearing.{fits_not_read}
-use Rattle.core_model.proofs.RuledHeard.{not_read_keeps}
+use Rattle.core_steps.proofs.Words.{fits_not_read, not_read_keeps}
 use Rattle.core_steps.proofs.cores.Core.not_read.Goals as goal
 
 pub invariant_of-self : goal.invariant_of-self

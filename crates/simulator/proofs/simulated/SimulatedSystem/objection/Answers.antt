@@ -1,4 +1,4 @@
-use Rattle.std.proofs.Common.{◌∙◌, ap, is_none}
+use Rattle.simulator.proofs.Words.{◌∙◌, ap, is_none}
 use Rattle.simulator.proofs.Allowing.{none_may}
 use Rattle.simulator.proofs.simulated.SimulatedSystem.objection.Goals as goal
 
