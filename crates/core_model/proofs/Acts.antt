@@ -1,25 +1,8 @@
 -- An act of the system, or a death, leaves the records what they are.
-use Rattle.std.proofs.Common.{◌≡◌, refl, sym, ◌∙◌, ap, ℕ, Bool, true, false, not, ◌&&◌, ◌||◌, cond, List, [], ◌∷◌, map, find, Option, Some, None, is_some}
-use Rattle.std.specs.List.{list_any}
-use Rattle.std.specs.Option.{option_map, option_map_or}
-use Rattle.std.proofs.lemmas.Bool.{false≢true}
-use Rattle.std.proofs.lemmas.Option.{none-some, same_Some}
-use Rattle.init_words.specs.Ids.{same_id}
-use Rattle.init_words.proofs.Same.{same_id-is}
-use Rattle.init_words.proofs.Tests.{both_ways, falsely, found_any}
-use Rattle.trace_events.specs.declared.happenings.Happening.TheVariants.{Birth, NoBirth, Death, Reaped, Still, NoLook, Hit, Miss}
-use Rattle.trace_events.specs.declared.steps.Goal.{Goal}
-use Rattle.trace_events.specs.Event.{Event}
-use Rattle.trace_events.specs.Past.{Child, is_of, has_child, kept_children, known_children}
+use Rattle.core_model.proofs.Words.{arith, ◌≡◌, refl, sym, ◌∙◌, ap, ℕ, Bool, true, false, not, ◌&&◌, ◌||◌, cond, List, [], ◌∷◌, map, find, Option, Some, None, is_some, list_any, option_map, option_map_or, false≢true, none-some, same_Some, same_id, same_id-is, both_ways, falsely, found_any, Birth, NoBirth, Death, Reaped, Still, Goal, Event, Child, is_of, has_child, kept_children, known_children, spell_hits, is_missed, record_ids, wants_look, is_sound, known_kept, birth_ready, is_still, spell_still, missed_still, spell_birth, missed_none, record_by_id, LastStatuses, child_known, living, known_child, stop_known, stop_of, is_to_look, was_missed, records_of}
+use Rattle.trace_events.specs.declared.happenings.Happening.TheVariants.{NoLook, Hit, Miss}
 use Rattle.trace_events.specs.Wanted.{is_excluded}
-use Rattle.trace_events.specs.Spells.{spell_hits, is_missed}
-use Rattle.trace_events.specs.Due.{record_ids, wants_look}
-use Rattle.trace_events.specs.Sound.{is_sound}
-use Rattle.trace_laws.proofs.Orders.{known_kept}
-use Rattle.trace_laws.proofs.Births.{birth_ready}
-use Rattle.trace_laws.proofs.Spells.{is_still, spell_still, missed_still, spell_birth, missed_none}
-use Rattle.core_records.specs.Lists.{record_by_id}
-use Rattle.core_model.specs.Fit.{LastStatuses, child_known, living, known_child, stop_after, stop_known, stop_of, is_to_look, was_missed, record_of, records_of, is_act}
+use Rattle.core_model.specs.Fit.{record_of, is_act}
 
 -- the child that is found for an id has the id
 pub found_own : (id : List ℕ) (xs : List Child) (child : Child) → find (is_of id) xs ≡ Some child → child.id ≡ id
@@ -49,12 +32,10 @@ no_record lasts past id ids none = found_if lasts past id ids ∙ ap (λ b. cond
 
 -- of a child that is excluded as before, with the same Hits, the stop is as before; and likewise with the Misses
 pub stop_same : (next past : List Event) (o : Option Child) → ((child : Child) → o ≡ Some child → is_excluded next child ≡ is_excluded past child) → ((child : Child) → o ≡ Some child → spell_hits child next ≡ spell_hits child past) → stop_known next o ≡ stop_known past o
-stop_same next past None excluded hits = refl
-stop_same next past (Some child) excluded hits = λ i. cond (excluded child refl i) (Some (stop_after (hits child refl i))) None
+stop_same next past o excluded hits = grind arith
 
 pub missed_same : (next past : List Event) (o : Option Child) → ((child : Child) → o ≡ Some child → is_missed child next ≡ is_missed child past) → option_map_or (λ child. is_missed child next) o false ≡ option_map_or (λ child. is_missed child past) o false
-missed_same next past None misses = refl
-missed_same next past (Some child) misses = misses child refl
+missed_same next past o misses = grind arith
 
 -- a happening that goes on with each spell
 stop_still : (happening : Event) (past : List Event) → is_still happening ≡ true → ((child : Child) → is_excluded (happening ∷ past) child ≡ is_excluded past child) → (id : List ℕ) → stop_known (happening ∷ past) (child_known id past) ≡ stop_of id past
@@ -74,10 +55,7 @@ module _ (i : List ℕ) (n : ℕ) (past : List Event) (childless : has_child i (
   birth_stop id = stop_same (Birth i n ∷ past) past (child_known id past) (λ child there. refl) (λ child there. spell_birth child i n past ∙ ap (λ b. cond b [] (spell_hits child past)) (of_other id child there))
 
   birth_missed : (id : List ℕ) → option_map_or (λ child. is_missed child (Birth i n ∷ past)) (child_known id past) false ≡ was_missed id past
-  birth_missed id = missed_same (Birth i n ∷ past) past (child_known id past) (λ child there. ap (λ b. (is_excluded past child && not b) && is_missed child past) (of_other id child there) ∙ split (is_excluded past child) (is_missed child past) (missed_none child past)) where
-    split : (b c : Bool) → (b ≡ false → c ≡ false) → ((b && true) && c) ≡ c
-    split true c none = refl
-    split false c none = sym (none refl)
+  birth_missed id = grind (arith, missed_same, of_other, missed_none)
 
   birth_look : (id : List ℕ) → (has_child id (known_children past) && (not (same_id id i) && wants_look id past)) ≡ is_to_look id past
   birth_look id = split (same_id id i) refl (has_child id (known_children past)) refl where

@@ -1,25 +1,7 @@
 -- There are at most as many records as entries and known children of ids without entry.
-use Rattle.std.proofs.Common.{◌≡◌, ◌≤◌, ◌+◌, refl, sym, ◌∙◌, ap, subst, ℕ, Bool, true, false, not, ◌&&◌, ◌||◌, cond, List, [], ◌∷◌, ◌++◌, filter, map, length, lit≤, le_trans, arith}
-use Rattle.std.proofs.lemmas.Bool.{and_parts, not-true}
+use Rattle.core_model.proofs.Words.{◌≡◌, ◌≤◌, ◌+◌, refl, sym, ◌∙◌, ap, subst, ℕ, Bool, true, false, not, ◌&&◌, ◌||◌, cond, List, [], ◌∷◌, ◌++◌, filter, map, length, lit≤, le_trans, arith, and_parts, not-true, filter-append, list_any, Entry, same_id, same_id-is, same_id-sym, any_within, has_id, ids_of, is_distinct, NewTable, Goal, Event, Child, table_of, is_of, has_child, known_children, left_ids, record_ids, may_come, is_sound, sound_holds, sound_ind, left_apart, Fits, is_without_entry, CoreState}
 use Rattle.std.proofs.lemmas.List.{length-append}
-use Rattle.std.proofs.lemmas.List.Elements.{filter-append}
-use Rattle.std.specs.List.{list_any}
-use Rattle.init_words.specs.declared.entries.Entry.{Entry}
-use Rattle.init_words.specs.Ids.{same_id}
-use Rattle.init_words.proofs.Same.{same_id-is, same_id-sym}
-use Rattle.init_words.proofs.Tests.{any_within}
-use Rattle.inittab_text.specs.Tables.{has_id, ids_of, is_distinct}
-use Rattle.trace_events.specs.declared.happenings.Happening.TheVariants.{NewTable}
-use Rattle.trace_events.specs.declared.steps.Goal.{Goal}
-use Rattle.trace_events.specs.Event.{Event}
-use Rattle.trace_events.specs.Past.{Child, table_of, is_of, has_child, known_children}
-use Rattle.trace_events.specs.Due.{left_ids, record_ids}
-use Rattle.trace_events.specs.Sound.{may_come, is_sound}
-use Rattle.trace_laws.proofs.Keeps.{sound_holds, sound_ind}
-use Rattle.trace_laws.proofs.Stopping.{left_apart}
-use Rattle.core_model.specs.Fit.{Fits, record_of}
-use Rattle.core_model.specs.Headline.{is_without_entry}
-use Rattle.core_model.specs.State.{CoreState}
+use Rattle.core_model.specs.Fit.{record_of}
 
 -- ---- lists of ids in which none stands twice
 

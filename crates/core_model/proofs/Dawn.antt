@@ -1,21 +1,7 @@
 -- Before the first stage no order is open in a sound trace.
-use Rattle.std.proofs.Common.{◌≡◌, refl, sym, ap, ℕ, true, not, cond, List, [], ◌∷◌, filter, Some, None}
-use Rattle.std.specs.List.{list_any}
-use Rattle.std.proofs.lemmas.Option.{none-some}
-use Rattle.init_words.specs.declared.orders.OrderKind.{OrderKind}
-use Rattle.init_words.specs.declared.orders.OrderKind.TheVariants.{Start, Look, Term, Kill}
-use Rattle.init_words.specs.Ids.{same_id}
-use Rattle.init_words.specs.Orders.{same_ask}
-use Rattle.init_words.proofs.Same.{same_id-self}
-use Rattle.trace_events.specs.declared.happenings.Happening.TheVariants.{Asked, Enter, Told}
-use Rattle.trace_events.specs.declared.steps.Step.TheVariants.{Order}
-use Rattle.trace_events.specs.declared.steps.Goal.{Goal}
-use Rattle.trace_events.specs.Event.{Event}
-use Rattle.trace_events.specs.Past.{is_of, is_quiet, open_orders, stage_of, undone_of}
-use Rattle.trace_events.specs.Sound.{is_sound, may_come}
-use Rattle.trace_laws.proofs.Dues.{MayLook, MayStop, due_facts}
-use Rattle.trace_laws.proofs.Keeps.{keeps, not_placed, sound_holds, sound_ind}
-use Rattle.trace_laws.proofs.Stopping.{dawn_known}
+use Rattle.core_model.proofs.Words.{◌≡◌, refl, sym, ap, ℕ, true, not, cond, List, [], ◌∷◌, filter, Some, None, list_any, none-some, OrderKind, Start, Look, Term, Kill, same_id, same_ask, same_id-self, Asked, Told, Order, Goal, Event, is_of, open_orders, stage_of, undone_of, is_sound, may_come, MayLook, MayStop, due_facts, keeps, not_placed, sound_holds, sound_ind, dawn_known}
+use Rattle.trace_events.specs.declared.happenings.Happening.TheVariants.{Enter}
+use Rattle.trace_events.specs.Past.{is_quiet}
 
 dawn_orders : (goal : Goal) (past : List Event) → is_sound goal past ≡ true → stage_of past ≡ None → open_orders past ≡ []
 dawn_orders goal past h = sound_ind goal (λ before. stage_of before ≡ None → open_orders before ≡ []) (λ table distinct is. refl) next past h

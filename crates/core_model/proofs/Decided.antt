@@ -1,31 +1,11 @@
 -- What is so of each step that is decided, where it is so of each kind of step.
-use Rattle.std.proofs.Common.{◌≡◌, refl, sym, ap, ◌∙◌, ℕ, Bool, true, false, not, ◌+◌, ◌&&◌, cond, List, [], ◌∷◌, zip, Option, Some, None, is_none, is_some, nat_le}
-use Rattle.std.proofs.lemmas.Bool.{false≢true}
-use Rattle.init_words.specs.declared.entries.Entry.{Entry}
-use Rattle.init_words.specs.declared.levels.Letter.{Letter}
-use Rattle.init_words.specs.declared.levels.Level.{Level}
-use Rattle.init_words.specs.declared.stages.Stage.{Stage}
+use Rattle.core_model.proofs.Words.{arith, ◌≡◌, refl, sym, ap, ◌∙◌, ℕ, Bool, true, false, not, ◌+◌, ◌&&◌, cond, List, [], ◌∷◌, zip, Option, Some, None, is_none, is_some, nat_le, false≢true, Entry, Letter, Level, Stage, OrderKind, Start, Look, Term, Kill, PowerKind, is_limited, may_of, Goal, Step, Reread, Order, Reexec, Idle, in_run, Stop, Due, Termed, Killed, RecordState, allows, News, first_news, CoreState, or_else, or_idle, level_step, news_step, wished_step, stop_step, stop_among, signal_step, limited_step, start_step, start_along, start_among, stage_step, settle_step, calm_step, work_step, look_among, can_look_record, can_start_record, is_owed_record, is_over_among, all_served, has_excluded, stands, decide_in, decide}
 use Rattle.init_words.specs.declared.stages.Stage.TheVariants as stage
 use Rattle.init_words.specs.declared.levels.Letter.TheVariants as letter
-use Rattle.init_words.specs.declared.orders.OrderKind.{OrderKind}
-use Rattle.init_words.specs.declared.orders.OrderKind.TheVariants.{Start, Look, Term, Kill}
-use Rattle.init_words.specs.declared.orders.PowerKind.{PowerKind}
 use Rattle.init_words.specs.declared.orders.PowerKind.TheVariants as power
-use Rattle.init_words.specs.Actions.{is_limited}
-use Rattle.respawn_limit.specs.Window.{is_held, may_of}
-use Rattle.trace_events.specs.declared.steps.Goal.{Goal}
-use Rattle.trace_events.specs.declared.steps.Step.{Step}
-use Rattle.trace_events.specs.declared.steps.Step.TheVariants.{Enter, Call, Power, Reread, Order, Hold, Settle, Reexec, Idle}
-use Rattle.trace_events.specs.Wishes.{in_run}
-use Rattle.core_records.specs.declared.children.Stop.{Stop}
-use Rattle.core_records.specs.declared.children.Stop.TheVariants.{Due, Termed, Killed}
-use Rattle.core_records.specs.State.{RecordState}
-use Rattle.core_records.specs.Changes.{allows}
-use Rattle.core_records.specs.Lists.{is_quiet}
-use Rattle.core_model.specs.declared.news.News.{News}
-use Rattle.core_model.specs.News.{first_news}
-use Rattle.core_model.specs.State.{CoreState}
-use Rattle.core_model.specs.Decide.{or_else, or_idle, level_step, news_step, wished_step, wish_step, stop_step, stop_among, signal_step, limited_step, start_step, start_along, start_among, stage_step, settle_step, calm_step, work_step, look_among, can_look_record, can_start_record, is_owed_record, is_over_among, all_served, is_idle, has_excluded, stands, first_step, decide_in, decide}
+use Rattle.respawn_limit.specs.Window.{is_held}
+use Rattle.trace_events.specs.declared.steps.Step.TheVariants.{Enter, Call, Power, Hold, Settle}
+use Rattle.core_model.specs.Decide.{is_idle}
 
 -- the kinds of step pass: an Enter with the seconds of the goal, or of the wish for a level, and a re-execution where
 -- it is wished
@@ -55,8 +35,7 @@ module _ (test : Step → Bool) (c : CoreState) (each : EachPasses test c) where
   by_else (Some step) y hx hy = hx
 
   by_idle : (x : Option Step) → Pass x → test (or_idle x) ≡ true
-  by_idle None h = each.idle
-  by_idle (Some step) h = h
+  by_idle x h = grind arith
 
   signals : (grace now : ℕ) (id : List ℕ) (stop : Option Stop) → Pass (signal_step grace now id stop)
   signals grace now id (Some Due) = each.orders id Term
@@ -130,11 +109,7 @@ module _ (test : Step → Bool) (c : CoreState) (each : EachPasses test c) where
       (by_cond (has_excluded c.slots) None (calm_step now c) (λ _. tt) (calm now)))
 
   decided_in : (now : Option Stage) → test (decide_in now c) ≡ true
-  decided_in None = by_idle (first_step c) (by_cond (is_quiet c.slots) (Some (Enter stage.Sysinit c.heads.goal.grace)) None (λ _. each.goal stage.Sysinit) tt)
-  decided_in (Some now) = by_idle (or_else (wish_step now c) (or_else (work_step now c) (look_among c.slots)))
-      (by_else (wish_step now c) (or_else (work_step now c) (look_among c.slots))
-      (by_cond (is_quiet c.slots) (wished_step now c) None (λ _. wishes now) tt)
-      (by_else (work_step now c) (look_among c.slots) (work now) (looks c.slots)))
+  decided_in now = grind (arith, by_idle, by_cond, by_else, wishes, work, looks)
 
   pub decided : test (decide c) ≡ true
   decided = decided_in c.heads.stage

@@ -1,31 +1,13 @@
 -- Under a fit the step that is decided is the first that is due.
-use Rattle.std.proofs.Common.{◌≡◌, refl, sym, ◌∙◌, ap, cond, ℕ, Bool, true, false, not, ◌&&◌, ◌||◌, List, [], ◌∷◌, ◌++◌, Option, Some, None, is_some}
-use Rattle.std.specs.List.{list_any, list_all}
-use Rattle.init_words.specs.declared.levels.Letter.TheVariants as letter
-use Rattle.init_words.specs.declared.orders.PowerKind.TheVariants as power
-use Rattle.init_words.specs.declared.stages.Stage.{Stage}
+use Rattle.core_model.proofs.Words.{arith, ◌≡◌, refl, sym, ◌∙◌, ap, cond, ℕ, Bool, true, false, not, ◌&&◌, ◌||◌, List, [], ◌++◌, Option, Some, None, is_some, list_all, Stage, waited_of, same_level-self, Step, Reread, Reexec, Goal, Event, table_of, stage_of, grace_of, time_of, has_child, kept_children, is_wanted, in_run, goal_of, wants_reexec, wants_reread, level_wish, powers, letters, keeps_news, wish_stands, was_booted, due, first, steps_if, due_first, due_reexec, due_reread, due_level, due_news, due_stops, due_starts, due_stage, due_settle, due_looks, enter_level, power_steps, letter_steps, stops_among, starts_among, is_announced, record_ids, is_sound, News, has_news, first_news, CoreState, or_else, or_idle, level_step, wish_step, stands, has_excluded, all_done, work_step, decide_in, decide, LastStatuses, Fits, core_read, news_of, records_of}
 use Rattle.init_words.specs.declared.stages.Stage.TheVariants as stage
-use Rattle.init_words.specs.Entries.{waited_of}
-use Rattle.init_words.proofs.Same.{same_level-self}
-use Rattle.trace_events.specs.declared.steps.Step.{Step}
-use Rattle.trace_events.specs.declared.steps.Step.TheVariants.{Enter, Call, Power, Reread, Settle, Reexec}
-use Rattle.trace_events.specs.declared.steps.Goal.{Goal}
-use Rattle.trace_events.specs.Event.{Event}
-use Rattle.trace_events.specs.Past.{table_of, stage_of, grace_of, time_of, has_child, is_quiet, is_idle, kept_children, known_children}
-use Rattle.trace_events.specs.Wanted.{is_wanted, is_excluded}
-use Rattle.trace_events.specs.Wishes.{is_level, in_run, goal_of, wants_reexec, wants_reread, level_wish, powers, letters, keeps_news, wish_stands, was_booted}
+use Rattle.trace_events.specs.declared.steps.Step.TheVariants.{Enter}
+use Rattle.trace_events.specs.Past.{is_quiet, is_idle}
 use Rattle.trace_events.specs.Due as due
-use Rattle.trace_events.specs.Due.{due, first, step_if, steps_if, due_first, due_reexec, due_reread, due_level, due_news, due_stops, due_starts, due_stage, due_settle, due_looks, enter_level, power_steps, letter_steps, stops_among, starts_among, looks_among, is_announced, is_served, is_settled, record_ids}
-use Rattle.trace_events.specs.Sound.{is_sound}
 use Rattle.core_records.specs.Lists as lists
-use Rattle.core_model.specs.declared.news.News.{News}
-use Rattle.core_model.specs.News.{has_news, first_news}
-use Rattle.core_model.specs.State.{CoreState}
 use Rattle.core_model.specs.Decide as core
-use Rattle.core_model.specs.Decide.{or_else, or_idle, level_step, wish_step, stands, has_excluded, all_done, all_served, look_among, work_step, decide_in, decide}
-use Rattle.core_model.specs.Fit.{LastStatuses, Fits, core_read, news_of, records_of}
 use Rattle.core_model.proofs.Dawn.{dawn_quiet}
-use Rattle.core_model.proofs.Firsts.{head, first_by_head, head_step_if, head_steps_if}
+use Rattle.core_model.proofs.Firsts.{head, head_step_if, head_steps_if}
 use Rattle.core_model.proofs.Newest.{by_first}
 use Rattle.core_model.proofs.Reading.{quiet_same, idle_same, excluded_same, kept_excluded_same}
 use Rattle.core_model.proofs.Ranks.{starts_same, all_done_same, all_served_same, looks_same}
@@ -33,15 +15,7 @@ use Rattle.core_model.proofs.Stops.{stops_same}
 
 -- the first of nine lists: of four, of four, and of one
 nine : (a b c d e f g h i : List Step) → first (a ++ b ++ c ++ d ++ e ++ f ++ g ++ h ++ i) ≡ or_idle (or_else (or_else (head a) (or_else (head b) (or_else (head c) (head d)))) (or_else (or_else (head e) (or_else (head f) (or_else (head g) (head h)))) (head i)))
-nine (x ∷ a) b c d e f g h i = refl
-nine [] (x ∷ b) c d e f g h i = refl
-nine [] [] (x ∷ c) d e f g h i = refl
-nine [] [] [] (x ∷ d) e f g h i = refl
-nine [] [] [] [] (x ∷ e) f g h i = refl
-nine [] [] [] [] [] (x ∷ f) g h i = refl
-nine [] [] [] [] [] [] (x ∷ g) h i = refl
-nine [] [] [] [] [] [] [] (x ∷ h) i = refl
-nine [] [] [] [] [] [] [] [] i = first_by_head i
+nine a b c d e f g h i = grind arith
 
 steps_if_nil : (b : Bool) → steps_if b [] ≡ []
 steps_if_nil true = refl
@@ -56,12 +30,10 @@ wish_by true false true run level news = refl
 wish_by true false false run level news = refl
 
 news_heads : (past : List Event) → head (power_steps powers past ++ letter_steps letters past) ≡ first_news (news_of past)
-news_heads past = by_first (λ (n : News). head ((step_if n.fail (Power power.Fail) ++ (step_if n.fail_now (Power power.FailNow) ++ (step_if n.ok (Power power.Ok) ++ []))) ++ (step_if n.a (Call letter.A) ++ (step_if n.b (Call letter.B) ++ (step_if n.c (Call letter.C) ++ [])))) ≡ first_news n)
-    (λ n o a b c. refl) (λ o a b c. refl) (λ a b c. refl) (λ b c. refl) (λ c. refl) refl refl (news_of past)
+news_heads past = grind arith
 
 level_head : (past : List Event) (wish : Option Goal) → head (enter_level wish past) ≡ level_step (was_booted past) wish
-level_head past None = refl
-level_head past (Some wish) = refl
+level_head past wish = grind arith
 
 any_news : (past : List Event) → keeps_news past ≡ has_news (news_of past)
 any_news past = by_first (λ (n : News). ((n.fail || (n.fail_now || (n.ok || false))) || (n.a || (n.b || (n.c || false)))) ≡ has_news n) (λ n o a b c. refl) (λ o a b c. refl) (λ a b c. refl) (λ b c. refl) (λ c. refl) refl refl (news_of past)
@@ -81,18 +53,13 @@ over_by true p l k same more = rw (← same) (more refl)
 over_by false p l k same more = rw (← same) refl
 
 next_head : (now : Stage) (goal : Goal) → head (due.next_stage goal (Some now)) ≡ core.enter_step (core.next_stage now goal.level) goal.grace
-next_head stage.Sysinit goal = refl
-next_head stage.Boot goal = refl
-next_head (stage.Run level) goal = refl
+next_head now goal = grind arith
 
 module _ (lasts : LastStatuses) (goal : Goal) (past : List Event) (sound : is_sound goal past ≡ true)
     (g : Goal) (n : ℕ) (same_goal : in_run (stage_of past) ≡ false → g ≡ goal_of goal past) where
   module _ (now : Stage) (in_stage : stage_of past ≡ Some now) where
     wish_same : or_else (head (due_reexec past)) (or_else (head (due_reread past)) (or_else (head (due_level past)) (head (due_news past)))) ≡ wish_step now (core_read lasts past g n)
-    wish_same = (λ i. or_else (head_step_if (is_quiet past && wants_reexec past) Reexec i) (or_else (head_step_if (is_quiet past && wants_reread past) Reread i)
-        (or_else (head_steps_if (is_quiet past) (enter_level (level_wish past) past) i) (head_steps_if (is_quiet past && in_run (stage_of past)) (power_steps powers past ++ letter_steps letters past) i))))
-        ∙ wish_by (is_quiet past) (wants_reexec past) (wants_reread past) (in_run (stage_of past)) (head (enter_level (level_wish past) past)) (head (power_steps powers past ++ letter_steps letters past))
-        ∙ (λ i. cond (quiet_same lasts goal past sound i) (cond (wants_reexec past) (Some Reexec) (cond (wants_reread past) (Some Reread) (or_else (level_head past (level_wish past) i) (cond (in_run (in_stage i)) (news_heads past i) None)))) None)
+    wish_same = grind (arith, head_step_if, head_steps_if, wish_by, head, quiet_same, level_head, news_heads)
 
     stands_same : wish_stands past ≡ stands now (core_read lasts past g n)
     stands_same = λ i. wants_reexec past || wants_reread past || is_some (level_wish past) || in_run (in_stage i) && any_news past i
@@ -112,34 +79,11 @@ module _ (lasts : LastStatuses) (goal : Goal) (past : List Event) (sound : is_so
 
   -- a level is settled by no excluded child
   settle_none : (now : Stage) → stage_of past ≡ Some now → has_excluded (records_of lasts past) ≡ true → due.settle_step (stage_of past) past ≡ []
-  settle_none stage.Sysinit is excluded = rw is refl
-  settle_none stage.Boot is excluded = rw is refl
-  settle_none (stage.Run level) is excluded = ap (λ o. due.settle_step o past) is ∙ ap (λ b. step_if b (Settle level)) (by (is_level level (stage_of past)) (list_any (is_excluded past) (known_children past)) (list_all (is_served level (known_children past) past) (table_of past)) (excluded_same lasts goal past sound ∙ excluded))
-    where
-      by : (l x s : Bool) → x ≡ true → (l && not x && s) ≡ false
-      by true x s h = rw h refl
-      by false x s h = refl
+  settle_none now is excluded = grind (arith, excluded_same)
 
   settle_same : (now : Stage) → stage_of past ≡ Some now → has_excluded (records_of lasts past) ≡ false → head (steps_if (is_idle past && not (is_announced past)) (due.settle_step (stage_of past) past)) ≡ core.settle_step now (is_announced past) (time_of past) (table_of past) (records_of lasts past)
-  settle_same stage.Sysinit is none = ap (λ o. head (steps_if (is_idle past && not (is_announced past)) (due.settle_step o past))) is ∙ ap head (steps_if_nil (is_idle past && not (is_announced past)))
-  settle_same stage.Boot is none = ap (λ o. head (steps_if (is_idle past && not (is_announced past)) (due.settle_step o past))) is ∙ ap head (steps_if_nil (is_idle past && not (is_announced past)))
-  settle_same (stage.Run level) is none = ap (λ o. head (steps_if (is_idle past && not (is_announced past)) (due.settle_step o past))) is
-      ∙ (λ i. head (steps_if (idle_same lasts goal past sound i && not (is_announced past)) (step_if (settled i) (Settle level))))
-      ∙ by (core.is_idle (records_of lasts past)) (is_announced past) (all_served level (time_of past) (table_of past) (records_of lasts past))
-    where
-      by : (i a s : Bool) → head (steps_if (i && not a) (step_if s (Settle level))) ≡ cond (not a && i && s) (Some (Settle level)) None
-      by true true s = refl
-      by true false true = refl
-      by true false false = refl
-      by false true s = refl
-      by false false s = refl
-
-      here : (l x s k : Bool) → l ≡ true → x ≡ false → s ≡ k → (l && not x && s) ≡ k
-      here l x s k hl hx hs = rw (hl, hx) hs
-
-      settled : is_settled level (known_children past) past ≡ all_served level (time_of past) (table_of past) (records_of lasts past)
-      settled = here (is_level level (stage_of past)) (list_any (is_excluded past) (known_children past)) (list_all (is_served level (known_children past) past) (table_of past)) (all_served level (time_of past) (table_of past) (records_of lasts past))
-          (ap (is_level level) is ∙ same_level-self level) (excluded_same lasts goal past sound ∙ none) (all_served_same lasts goal past sound level is)
+  settle_same now is none =
+      grind (arith, head, steps_if_nil, idle_same, same_level-self, excluded_same, all_served_same)
 
   module _ (now : Stage) (in_stage : stage_of past ≡ Some now) where
     work_same : or_else (head (due_stops past)) (or_else (head (due_starts past)) (or_else (head (due_stage goal past)) (head (due_settle past)))) ≡ work_step now (core_read lasts past g n)
@@ -152,9 +96,7 @@ module _ (lasts : LastStatuses) (goal : Goal) (past : List Event) (sound : is_so
         ∙ ap (λ b. cond b None (or_else (core.stop_among (grace_of past) (time_of past) (records_of lasts past)) (cond (has_excluded (records_of lasts past)) None (core.calm_step now (core_read lasts past g n))))) (stands_same now in_stage)
 
     first_some : first (due goal past) ≡ decide_in (Some now) (core_read lasts past g n)
-    first_some = ap (λ steps. first (steps ++ due_reexec past ++ due_reread past ++ due_level past ++ due_news past ++ due_stops past ++ due_starts past ++ due_stage goal past ++ due_settle past ++ due_looks past)) (ap (λ o. due_first goal o past) in_stage)
-        ∙ nine (due_reexec past) (due_reread past) (due_level past) (due_news past) (due_stops past) (due_starts past) (due_stage goal past) (due_settle past) (due_looks past)
-        ∙ (λ i. or_idle (or_else (wish_same now in_stage i) (or_else (work_same i) (looks_same lasts past i))))
+    first_some = grind (arith, nine, wish_same, work_same, looks_same)
 
   -- before the first stage no order is open
   first_none : stage_of past ≡ None → first (due goal past) ≡ decide_in None (core_read lasts past g n)
@@ -163,11 +105,7 @@ module _ (lasts : LastStatuses) (goal : Goal) (past : List Event) (sound : is_so
       ∙ ap (λ b. or_idle (cond b (Some (Enter stage.Sysinit g.grace)) None)) (sym (sym (quiet_same lasts goal past sound) ∙ dawn_quiet goal past sound is))
 
   pub read_due : decide (core_read lasts past g n) ≡ first (due goal past)
-  read_due = at (stage_of past) refl
-    where
-      at : (o : Option Stage) → stage_of past ≡ o → decide_in (stage_of past) (core_read lasts past g n) ≡ first (due goal past)
-      at None is = ap (λ o. decide_in o (core_read lasts past g n)) is ∙ sym (first_none is)
-      at (Some now) is = ap (λ o. decide_in o (core_read lasts past g n)) is ∙ sym (first_some now is)
+  read_due = grind (arith, first_none, first_some)
 
 -- under a fit, the step that is decided is the first that is due
 pub decide_due : (goal : Goal) (past : List Event) → is_sound goal past ≡ true → (c : CoreState) → Fits c goal past → decide c ≡ first (due goal past)

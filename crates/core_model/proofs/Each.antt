@@ -1,13 +1,6 @@
 -- What holds of each record, through the changes of their list; and that no id has two.
-use Rattle.std.proofs.Common.{◌≡◌, refl, subst, ℕ, Bool, true, false, ◌&&◌, ◌||◌, cond, List, [], ◌∷◌, ◌++◌, map, filter, Some, ◌∙◌, not, ap}
-use Rattle.std.specs.List.{list_any, list_all}
-use Rattle.std.proofs.lemmas.Bool.{and_parts, and_from, or_parts, not-true}
-use Rattle.init_words.proofs.Tests.{any_less, both_ways, or_either, any_filtered, falsely}
-use Rattle.core_records.specs.State.{RecordState}
-use Rattle.core_records.specs.Lists.{is_record_of, are_distinct, record_by_id, changed, with_changed}
-use Rattle.core_records.proofs.Found.{is_listed, others, rest_distinct}
+use Rattle.core_model.proofs.Words.{arith, ◌≡◌, refl, subst, ℕ, Bool, true, false, ◌&&◌, ◌||◌, cond, List, [], ◌∷◌, ◌++◌, map, filter, Some, list_any, list_all, and_parts, and_from, or_parts, not-true, any_less, both_ways, or_either, any_filtered, falsely, RecordState, is_record_of, are_distinct, record_by_id, changed, with_changed, is_listed, others, rest_distinct, same_id}
 use Rattle.core_model.proofs.Allowed.{has_with}
-use Rattle.init_words.specs.Ids.{same_id}
 
 abbrev pub Each : (RecordState → Type 0) → List RecordState → Type 0
 Each P [] = Unit {0}
@@ -93,21 +86,11 @@ listed_map change keeps id [] = refl
 listed_map change keeps id (slot ∷ slots) = λ i. same_id id (keeps slot i) || listed_map change keeps id slots i
 
 pub distinct_map : (change : RecordState → RecordState) → ((slot : RecordState) → (change slot).id ≡ slot.id) → (slots : List RecordState) → are_distinct slots ≡ true → are_distinct (map change slots) ≡ true
-distinct_map change keeps [] distinct = refl
+distinct_map change keeps [] distinct = grind (arith, is_listed, listed_map)
 distinct_map change keeps (slot ∷ slots) distinct =
-    let parts = and_parts (not (is_listed slot.id slots)) (are_distinct slots) distinct in
-    and_from (not (is_listed (change slot).id (map change slots))) (are_distinct (map change slots)) (ap (λ id. not (is_listed id (map change slots))) (keeps slot) ∙ ap not (listed_map change keeps slot.id slots) ∙ parts.0) (distinct_map change keeps slots parts.1)
+    grind (arith, distinct_map change keeps slots, is_listed, listed_map)
 
 pub distinct_filter : (p : RecordState → Bool) (slots : List RecordState) → are_distinct slots ≡ true → are_distinct (filter p slots) ≡ true
-distinct_filter p [] distinct = refl
-distinct_filter p (slot ∷ slots) distinct = at (p slot) (distinct_filter p slots parts.1)
-  where
-    parts : (not (is_listed slot.id slots) ≡ true) × (are_distinct slots ≡ true)
-    parts = and_parts (not (is_listed slot.id slots)) (are_distinct slots) distinct
-
-    none : is_listed slot.id (filter p slots) ≡ false
-    none = falsely (is_listed slot.id (filter p slots)) (is_listed slot.id slots) (any_filtered (is_record_of slot.id) p slots) (not-true (is_listed slot.id slots) parts.0)
-
-    at : (b : Bool) → are_distinct (filter p slots) ≡ true → are_distinct (cond b (slot ∷ filter p slots) (filter p slots)) ≡ true
-    at true rest = and_from (not (is_listed slot.id (filter p slots))) (are_distinct (filter p slots)) (ap not none) rest
-    at false rest = rest
+distinct_filter p [] distinct = grind (arith, is_listed, falsely, any_filtered, not-true)
+distinct_filter p (slot ∷ slots) distinct =
+    grind (arith, distinct_filter p slots, is_listed, falsely, any_filtered, not-true)

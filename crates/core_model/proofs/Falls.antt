@@ -1,10 +1,6 @@
 -- Times that never fall, one after another and by their places.
-use Rattle.std.proofs.Common.{◌≡◌, ◌≤◌, ◌<◌, ◌+◌, refl, sym, ℕ, Bool, zero, suc, true, false, List, [], ◌∷◌, length, get_or, nat_le, arith}
-use Rattle.std.specs.List.{list_all}
-use Rattle.std.specs.List.Sorted.{IsNonDecreasing}
+use Rattle.core_model.proofs.Words.{◌≡◌, ◌≤◌, ◌<◌, ◌+◌, refl, sym, ℕ, Bool, zero, suc, true, false, List, [], ◌∷◌, length, get_or, nat_le, arith, list_all, IsNonDecreasing, and_parts, and_from, le-leb, never_fall}
 use Rattle.std.specs.Bool.{MatchBool}
-use Rattle.std.proofs.lemmas.Bool.{and_parts, and_from, leb-true, le-leb}
-use Rattle.core_model.specs.Rules.{never_fall}
 
 all_later : (time : ℕ) (times : List ℕ) → ((j d : ℕ) → j < length times → time ≤ get_or times j d) → list_all (λ later. nat_le time later) times ≡ true
 all_later time [] later = refl
@@ -13,9 +9,8 @@ all_later time (next ∷ times) later =
     and_from (nat_le time next) (list_all (λ l. nat_le time l) times) (le-leb time next first) (all_later time times (λ j d h. later (suc j) d (omega arith)))
 
 later_at : (time : ℕ) (times : List ℕ) → list_all (λ later. nat_le time later) times ≡ true → (j d : ℕ) → j < length times → time ≤ get_or times j d
-later_at time [] all j d h = absurd (omega arith)
-later_at time (next ∷ times) all zero d h = leb-true time next (and_parts (nat_le time next) (list_all (λ l. nat_le time l) times) all).0
-later_at time (next ∷ times) all (suc j) d h = later_at time times (and_parts (nat_le time next) (list_all (λ l. nat_le time l) times) all).1 j d (omega arith)
+later_at time [] all j d h = grind arith
+later_at time (next ∷ times) all j d h = grind (arith, later_at time times)
 
 pub never_from_ordered : (times : List ℕ) → IsNonDecreasing times → never_fall times ≡ true
 never_from_ordered [] ordered = refl

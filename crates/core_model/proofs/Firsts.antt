@@ -1,8 +1,5 @@
 -- The first of a list of steps, part by part.
-use Rattle.std.proofs.Common.{Bool, true, false, ◌≡◌, List, [], ◌∷◌, ◌++◌, Option, Some, None, refl, cond}
-use Rattle.trace_events.specs.declared.steps.Step.{Step}
-use Rattle.trace_events.specs.Due.{first, step_if, steps_if}
-use Rattle.core_model.specs.Decide.{or_else, or_idle}
+use Rattle.core_model.proofs.Words.{arith, Bool, true, false, ◌≡◌, List, [], ◌∷◌, ◌++◌, Option, Some, None, refl, cond, Step, first, step_if, steps_if, or_else, or_idle}
 
 -- the first step, where there is one
 abbrev pub head : List Step → Option Step
@@ -10,12 +7,10 @@ head [] = None
 head (step ∷ steps) = Some step
 
 pub first_by_head : (steps : List Step) → first steps ≡ or_idle (head steps)
-first_by_head [] = refl
-first_by_head (step ∷ steps) = refl
+first_by_head steps = grind arith
 
 pub head_append : (xs ys : List Step) → head (xs ++ ys) ≡ or_else (head xs) (head ys)
-head_append [] ys = refl
-head_append (x ∷ xs) ys = refl
+head_append xs ys = grind arith
 
 pub head_step_if : (b : Bool) (step : Step) → head (step_if b step) ≡ cond b (Some step) None
 head_step_if true step = refl

@@ -1,13 +1,6 @@
 -- What a fit says of the records, and how what is read off the past goes on.
-use Rattle.std.proofs.Common.{◌≡◌, refl, sym, ◌∙◌, ap, ℕ, false, List, [], ◌∷◌, map}
-use Rattle.trace_events.specs.declared.steps.Goal.{Goal}
-use Rattle.trace_events.specs.Event.{Event}
-use Rattle.trace_events.specs.Past.{stage_of, table_of}
-use Rattle.trace_events.specs.Wishes.{in_run, goal_of}
-use Rattle.trace_events.specs.Due.{record_ids}
-use Rattle.core_records.specs.State.{RecordState}
-use Rattle.core_model.specs.State.{CoreState}
-use Rattle.core_model.specs.Fit.{LastStatuses, Fits, HasLasts, FitsAll, StillFits, lasts_after, lasts_of, record_of, records_of, core_read, with_lasts}
+use Rattle.core_model.proofs.Words.{◌≡◌, refl, sym, ◌∙◌, ap, ℕ, false, List, [], ◌∷◌, map, Goal, Event, stage_of, table_of, in_run, goal_of, record_ids, RecordState, CoreState, LastStatuses, Fits, HasLasts, FitsAll, StillFits, lasts_after, lasts_of, records_of, core_read, with_lasts}
+use Rattle.core_model.specs.Fit.{record_of}
 
 -- under a fit the records, the table and the single values are those of the past
 module _ (c : CoreState) (goal : Goal) (past : List Event) (fits : Fits c goal past) where

@@ -1,41 +1,12 @@
 -- What is read off a trace, said of its happenings: who was born and not reaped, started, ended, held.
-use Rattle.std.proofs.Common.{◌≡◌, refl, sym, ◌∙◌, ap, subst, ℕ, ◌+◌, Bool, true, false, not, ◌&&◌, ◌||◌, ◌==◌, cond, nat_lt, List, [], ◌∷◌, ◌++◌, arith, Option, Some, None, ◌⊎◌, inl, inr}
-use Rattle.std.proofs.lemmas.Bool.{false≢true, and_parts, and_from, not-true, ltb-true}
-use Rattle.std.specs.List.{list_any, list_all}
-use Rattle.respawn_limit.specs.declared.TheConstants.{HOLD}
-use Rattle.init_words.specs.declared.entries.Entry.{Entry}
-use Rattle.init_words.specs.declared.actions.Act.{Act}
+use Rattle.core_model.proofs.Words.{◌≡◌, refl, sym, ◌∙◌, ap, subst, ℕ, ◌+◌, Bool, true, false, not, ◌&&◌, ◌||◌, ◌==◌, cond, nat_lt, List, [], ◌∷◌, ◌++◌, arith, Option, Some, None, ◌⊎◌, inl, inr, false≢true, and_parts, and_from, not-true, ltb-true, list_any, list_all, HOLD, Entry, Act, Level, Mark, At, starts_by, served_by, wanted_by, names, Start, Stage, same_id, starts_of, waited_of, same_id-is, same_id-self, any_filter, any_less, any_within, falsely, not_from, or_either, has_id, entry_of, act_of, NewTable, Asked, Birth, Reaped, Told, Goal, Event, Child, table_of, stage_of, time_of, is_of, is_child, has_child, newborn, unreaped_children, kept_children, open_of, is_served, is_settled, is_level, may_come, is_sound, hold_times, same_acts, brings, is_asked, is_order, is_owed, may_live, entries_before, starts_now, starts_in, is_wanted, is_called, nothing_runs, is_owed_before, is_steady, is_reaping_of, asked_free, birth_in_turn, birth_spared, sound_step, step_at, due_facts, MaySettle, idle_none, told_finds, settle_settled, MayLive, AllMayLive, keeps_entry, is_told_of, WasStarted, WasEnded, starts_at_entry, IsThrough, AllThrough, HasChild, WasHeld, IsServed, IsReached}
 use Rattle.init_words.specs.declared.actions.Act.TheVariants as act
-use Rattle.init_words.specs.declared.levels.Level.{Level}
-use Rattle.init_words.specs.declared.levels.Mark.{Mark}
-use Rattle.init_words.specs.declared.levels.Mark.TheVariants.{At}
-use Rattle.init_words.specs.Actions.{starts_by, served_by, wanted_by}
-use Rattle.init_words.specs.Levels.{names}
-use Rattle.init_words.specs.declared.orders.OrderKind.TheVariants.{Start}
-use Rattle.init_words.specs.declared.stages.Stage.{Stage}
 use Rattle.init_words.specs.declared.stages.Stage.TheVariants.{Run}
-use Rattle.init_words.specs.Ids.{same_id}
-use Rattle.init_words.specs.Entries.{starts_of, waited_of}
-use Rattle.init_words.proofs.Same.{same_id-is, same_id-self}
-use Rattle.init_words.proofs.Tests.{any_filter, any_less, any_within, falsely, not_from, or_either}
-use Rattle.inittab_text.specs.Tables.{has_id, entry_of, act_of}
-use Rattle.trace_events.specs.declared.happenings.Happening.TheVariants.{NewTable, Enter, Asked, Hold, Settle, Birth, Reaped, Told}
+use Rattle.trace_events.specs.declared.happenings.Happening.TheVariants.{Enter, Hold, Settle}
 use Rattle.trace_events.specs.declared.steps.Step.TheVariants as step
-use Rattle.trace_events.specs.declared.steps.Goal.{Goal}
-use Rattle.trace_events.specs.Event.{Event}
-use Rattle.trace_events.specs.Past.{Child, table_of, stage_of, time_of, is_of, is_child, has_child, newborn, unreaped_children, kept_children, open_of, is_idle}
-use Rattle.trace_events.specs.Due.{is_served, is_settled}
-use Rattle.trace_events.specs.Wishes.{is_level}
-use Rattle.trace_events.specs.Sound.{may_come, is_sound}
-use Rattle.trace_events.specs.Timing.{hold_times, is_held}
-use Rattle.trace_events.specs.Wanted.{same_acts, brings, is_asked, is_order, is_owed, is_excluded, may_live, entries_before, starts_now, starts_in, is_wanted, is_called, nothing_runs, is_owed_before}
-use Rattle.trace_laws.specs.Stretches.{is_steady, is_reaping_of}
-use Rattle.trace_laws.proofs.Keeps.{asked_free}
-use Rattle.trace_laws.proofs.Births.{birth_in_turn, birth_spared, sound_step, step_at}
-use Rattle.trace_laws.proofs.Dues.{due_facts, MaySettle}
-use Rattle.trace_laws.proofs.Orders.{idle_none, told_finds}
-use Rattle.trace_laws.proofs.Settling.{settle_settled}
-use Rattle.core_model.specs.Happened.{MayLive, AllMayLive, keeps_entry, is_told_of, WasStarted, WasEnded, starts_at_entry, IsThrough, AllThrough, HasChild, WasHeld, IsServed, IsReached}
+use Rattle.trace_events.specs.Past.{is_idle}
+use Rattle.trace_events.specs.Timing.{is_held}
+use Rattle.trace_events.specs.Wanted.{is_excluded}
 
 -- ---- children that were born and not reaped
 

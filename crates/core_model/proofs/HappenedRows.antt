@@ -1,22 +1,11 @@
 -- What births and announcements need, worked: a run that has it, and traces that lack it.
-use Rattle.std.proofs.Common.{◌≡◌, refl, sym, ◌∙◌, ap, ℕ, Bool, true, false, List, [], ◌∷◌, ◌++◌, arith, codes}
-use Rattle.std.proofs.lemmas.Bool.{false≢true}
-use Rattle.std.specs.List.{list_any}
-use Rattle.init_words.specs.declared.entries.Entry.{Entry}
+use Rattle.core_model.proofs.Words.{◌≡◌, refl, sym, ◌∙◌, ap, ℕ, Bool, true, false, List, [], ◌∷◌, ◌++◌, arith, codes, false≢true, list_any, Entry, At, Start, Look, NewTable, Asked, Birth, Death, Reaped, Told, Nudge, Goal, Event, newborn, is_sound, is_reaping_of, MayLive, AllMayLive, AllThrough, WasEnded, IsReached}
 use Rattle.init_words.specs.declared.actions.Act.TheVariants as act
 use Rattle.init_words.specs.declared.children.Status.TheVariants.{Exit}
 use Rattle.init_words.specs.declared.levels.Level.TheVariants as level
-use Rattle.init_words.specs.declared.levels.Mark.TheVariants.{At}
-use Rattle.init_words.specs.declared.orders.OrderKind.TheVariants.{Start, Look}
 use Rattle.init_words.specs.declared.stages.Stage.TheVariants as stage
-use Rattle.trace_events.specs.declared.happenings.Happening.TheVariants.{NewTable, Enter, Asked, Settle, Birth, Death, Reaped, Told, Nudge}
-use Rattle.trace_events.specs.declared.steps.Goal.{Goal}
-use Rattle.trace_events.specs.Event.{Event}
-use Rattle.trace_events.specs.Past.{newborn}
-use Rattle.trace_events.specs.Sound.{is_sound}
+use Rattle.trace_events.specs.declared.happenings.Happening.TheVariants.{Enter, Settle}
 use Rattle.trace_events.specs.Wanted.{is_excluded}
-use Rattle.trace_laws.specs.Stretches.{is_reaping_of}
-use Rattle.core_model.specs.Happened.{MayLive, AllMayLive, AllThrough, WasEnded, IsReached}
 use Rattle.core_model.proofs.Happened.{birth_lives, birth_through, settle_reached}
 
 abbrev wait : Entry

@@ -1,28 +1,10 @@
 -- The core fits the trace with all that the system does and with all that it is told.
-use Rattle.std.proofs.Common.{◌≡◌, refl, sym, ◌∙◌, ap, ℕ, ◌+◌, Bool, true, false, not, List, [], ◌∷◌, map, Some, Ok, append-nil}
-use Rattle.std.proofs.lemmas.Bool.{false≢true}
-use Rattle.init_words.specs.declared.entries.Entry.{Entry}
-use Rattle.init_words.specs.declared.levels.Level.{Level}
-use Rattle.init_words.specs.declared.orders.Answer.{Answer}
-use Rattle.init_words.specs.Actions.{is_limited}
-use Rattle.init_words.proofs.Tests.{and_false}
-use Rattle.initctl_frame.specs.declared.requests.HeardRequest.{HeardRequest}
-use Rattle.inittab_text.specs.Tables.{ids_of, entry_of, is_distinct}
+use Rattle.core_model.proofs.Words.{arith, ◌≡◌, refl, sym, ◌∙◌, ap, ℕ, true, false, List, [], ◌∷◌, map, Some, Ok, append-nil, Entry, Level, Answer, HeardRequest, ids_of, entry_of, is_distinct, Goal, Event, stage_of, in_run, goal_of, answered_of, record_ids, is_sound, RecordState, new_record, CoreState, opening_heads, opening_state, after_round, after_clock, after_got, after_adopt, after_not_read, after_handed, after_handed_on, LastStatuses, Fits, HasLasts, StillFits, lasts_after, lasts_of, records_of, core_read, child_known}
 use Rattle.trace_events.specs.declared.happenings.Happening.TheVariants as event
 use Rattle.trace_events.specs.declared.happenings.Handed.{Handed}
-use Rattle.trace_events.specs.declared.steps.Goal.{Goal}
-use Rattle.trace_events.specs.Event.{Event}
-use Rattle.trace_events.specs.Past.{stage_of}
-use Rattle.trace_events.specs.Wishes.{in_run, goal_of}
-use Rattle.trace_events.specs.Wanted.{brings}
-use Rattle.trace_events.specs.Answered.{answered_of}
-use Rattle.trace_events.specs.Due.{record_ids}
-use Rattle.trace_events.specs.Sound.{is_sound}
-use Rattle.core_records.specs.State.{RecordState, new_record}
 use Rattle.core_records.specs.Lists as lists
-use Rattle.core_model.specs.State.{CoreState, opening_heads, opening_state}
-use Rattle.core_model.specs.Steps.{after_told, after_round, after_clock, after_got, after_adopt, after_not_read, after_handed, after_handed_on}
-use Rattle.core_model.specs.Fit.{LastStatuses, Fits, HasLasts, StillFits, lasts_after, lasts_of, record_of, records_of, core_read, child_known, is_act}
+use Rattle.core_model.specs.Steps.{after_told}
+use Rattle.core_model.specs.Fit.{record_of, is_act}
 use Rattle.core_model.proofs.Fitted.{fit_records, goes_on, read_has}
 use Rattle.core_model.proofs.Ordering.{stop_still, missed_known, nudged}
 use Rattle.core_model.proofs.Moments.{heads_got, goal_heard}
@@ -33,8 +15,7 @@ use Rattle.core_model.proofs.Reading.{Each, IsOwn, each_own}
 
 -- the records stay where the happening is of nobody
 kept_records : (f g : List ℕ → RecordState) → ((id : List ℕ) → f id ≡ g id) → (ids : List (List ℕ)) → map f ids ≡ map g ids
-kept_records f g same [] = refl
-kept_records f g same (id ∷ ids) = rw (same id, kept_records f g same ids) refl
+kept_records f g same ids = grind arith
 
 module _ (lasts : LastStatuses) (past : List Event) where
   got_records : (request : HeardRequest) → records_of lasts past ≡ records_of lasts (event.Got request ∷ past)
@@ -73,15 +54,7 @@ module _ (goal : Goal) (past : List Event) (c : CoreState) (sound : is_sound goa
 
   -- what is told
   pub fits_act : (happening : Event) → is_act happening ≡ true → is_sound goal (happening ∷ past) ≡ true → Kept c happening
-  fits_act (event.Birth id m) act more = goes c (event.Birth id m) (λ x. x) refl refl refl (λ lasts. unmoved lasts past g n _ (sym (act_records lasts goal (event.Birth id m) past act more))) fits.goal
-  fits_act (event.NoBirth id) act more = goes c (event.NoBirth id) (λ x. x) refl refl refl (λ lasts. unmoved lasts past g n _ (sym (act_records lasts goal (event.NoBirth id) past act more))) fits.goal
-  fits_act (event.Death m) act more = goes c (event.Death m) (λ x. x) refl refl refl (λ lasts. unmoved lasts past g n _ (sym (act_records lasts goal (event.Death m) past act more))) fits.goal
-  fits_act (event.Reaped id m status) act more = goes c (event.Reaped id m status) (λ x. x) refl refl refl (λ lasts. unmoved lasts past g n _ (sym (act_records lasts goal (event.Reaped id m status) past act more))) fits.goal
-  fits_act (event.Still id) act more = goes c (event.Still id) (λ x. x) refl refl refl (λ lasts. unmoved lasts past g n _ (sym (act_records lasts goal (event.Still id) past act more))) fits.goal
-  fits_act (event.NoLook id) act more = goes c (event.NoLook id) (λ x. x) refl refl refl (λ lasts. unmoved lasts past g n _ (sym (act_records lasts goal (event.NoLook id) past act more))) fits.goal
-  fits_act (event.Hit id) act more = goes c (event.Hit id) (λ x. x) refl refl refl (λ lasts. unmoved lasts past g n _ (sym (act_records lasts goal (event.Hit id) past act more))) fits.goal
-  fits_act (event.Miss id) act more = goes c (event.Miss id) (λ x. x) refl refl refl (λ lasts. unmoved lasts past g n _ (sym (act_records lasts goal (event.Miss id) past act more))) fits.goal
-  fits_act _ act more = absurd (false≢true act)
+  fits_act happening act more = grind (arith, goes, unmoved, act_records)
 
   pub fits_told : (id : List ℕ) (given : Answer) → answered_of id past ≡ Some given → Kept (after_told id given c) (event.Told id)
   fits_told id given told = goes (after_told id given c) (event.Told id) (after_told id given) refl refl refl
@@ -95,41 +68,27 @@ module _ (goal : Goal) (past : List Event) (c : CoreState) (sound : is_sound goa
       (λ lasts. ap (λ slots. record (core_read lasts (event.NewTable table ∷ past) g n) { slots = slots }) (table_records lasts goal table past sound distinct)) fits.goal
 
   pub fits_clock : (reading : ℕ) → Kept (after_clock reading c) (event.Clock reading)
-  fits_clock reading = goes (after_clock reading c) (event.Clock reading) (after_clock reading) refl refl refl
-      (λ lasts. ap (λ slots. record (core_read lasts (event.Clock reading ∷ past) g n) { slots = slots }) (clock_records lasts past reading)) fits.goal
+  fits_clock reading = grind (arith, goes, clock_records)
 
   pub fits_round : Kept (after_round c) event.Nudge
   fits_round = goes (after_round c) event.Nudge after_round refl refl refl
       (λ lasts. ap (λ slots. record (core_read lasts (event.Nudge ∷ past) g n) { slots = slots }) (nudged lasts past)) fits.goal
 
   pub fits_not_read : Kept (after_not_read c) event.NotRead
-  fits_not_read = goes (after_not_read c) event.NotRead after_not_read refl refl refl
-      (λ lasts. ap (λ slots. record (core_read lasts (event.NotRead ∷ past) g n) { slots = slots }) (unread_records lasts past)) fits.goal
+  fits_not_read = grind (arith, goes, unread_records)
 
   pub fits_handed : (how : Handed) → Kept (after_handed c) (event.Handed how)
-  fits_handed how = goes (after_handed c) (event.Handed how) after_handed refl refl refl
-      (λ lasts. ap (λ slots. record (core_read lasts (event.Handed how ∷ past) g n) { slots = slots }) (handed_records lasts past how)) fits.goal
+  fits_handed how = grind (arith, goes, handed_records)
 
   pub fits_handed_on : (how : Handed) → Kept (after_handed_on c) (event.Handed how)
-  fits_handed_on how = goes_on c (after_handed_on c) goal (event.Handed how) past fits
-      (λ lasts is. ap after_handed_on is ∙ ap (λ slots. record (core_read lasts (event.Handed how ∷ past) g (n + 1)) { slots = slots }) (handed_records lasts past how)) fits.goal
+  fits_handed_on how = grind (arith, goes_on, handed_records)
 
   pub fits_got : (request : HeardRequest) → Kept (after_got request c) (event.Got request)
-  fits_got request = goes_on c (after_got request c) goal (event.Got request) past fits
-      (λ lasts is i. record {
-        table = (is i).table;
-        slots = (ap (λ (x : CoreState). x.slots) is ∙ got_records lasts past request) i;
-        heads = heads_got c.heads past (ap (λ (x : CoreState). x.heads) is) request i;
-      })
-      (goal_heard c.heads past (ap (λ (x : CoreState). x.heads) fits.kept) goal fits.goal request)
+  fits_got request = grind (arith, goes_on, got_records, heads_got, goal_heard)
 
 -- the records of an opening
 opening_record : (table : List Entry) (e : Entry) → entry_of e.id table ≡ Some e → new_record e ≡ record_of (lasts_of (event.NewTable table ∷ [])) (event.NewTable table ∷ []) e.id
-opening_record table e own = at (is_limited e.act) refl
-  where
-    at : (b : Bool) → is_limited e.act ≡ b → new_record e ≡ record_of (lasts_of (event.NewTable table ∷ [])) (event.NewTable table ∷ []) e.id
-    at true is = rw (own, is, and_false (not (brings e.id table []))) refl
-    at false is = rw (own, is, and_false (not (brings e.id table []))) refl
+opening_record table e own = grind arith
 
 opening_along : (table es : List Entry) → Each (IsOwn table) es → map new_record es ≡ map (record_of (lasts_of (event.NewTable table ∷ [])) (event.NewTable table ∷ [])) (ids_of es)
 opening_along table [] own = refl

@@ -1,33 +1,14 @@
 -- The rules that a fit core keeps, one by one.
-use Rattle.std.proofs.Common.{◌≡◌, ◌≤◌, ℕ, Bool, true, not, ◌&&◌, ◌||◌, List, [], ◌∷◌, nat_le, Option, refl}
-use Rattle.std.specs.List.{list_all}
-use Rattle.std.proofs.lemmas.Bool.{and_parts, and_from, leb-true, le-leb}
-use Rattle.init_words.specs.declared.entries.Entry.{Entry}
-use Rattle.init_words.specs.declared.stages.Stage.{Stage}
-use Rattle.respawn_limit.specs.declared.TheConstants.{CLOCK_LIMIT}
-use Rattle.trace_events.specs.Wishes.{in_run}
-use Rattle.core_records.specs.State.{RecordState}
-use Rattle.core_records.specs.Lists.{are_distinct}
-use Rattle.core_records.specs.Order.{IsInOrder}
-use Rattle.core_records.specs.Times.{is_timely, are_timely}
-use Rattle.core_model.specs.Rules.{IsFit, has_cause, is_birth_known, is_order_allowed, is_stop_judged, are_marks_due, is_limiter_kept, are_starts_in, are_starts_free, is_other_level, is_goal_reached, are_heads_kept, is_record_kept, are_records_kept}
-use Rattle.core_model.specs.State.{CoreState}
+use Rattle.core_model.proofs.Words.{arith, ◌≡◌, ◌≤◌, ℕ, Bool, true, not, ◌&&◌, ◌||◌, List, [], ◌∷◌, nat_le, Option, list_all, and_parts, leb-true, le-leb, Entry, Stage, CLOCK_LIMIT, in_run, RecordState, are_distinct, IsInOrder, is_timely, are_timely, IsFit, has_cause, is_birth_known, is_order_allowed, is_stop_judged, are_marks_due, is_limiter_kept, are_starts_in, are_starts_free, is_other_level, is_goal_reached, are_heads_kept, is_record_kept, are_records_kept, CoreState}
 
 -- tests of all records, one by one and together
 all_parts : (p q : RecordState → Bool) (slots : List RecordState) → list_all (λ (s : RecordState). p s && q s) slots ≡ true → (list_all p slots ≡ true) × (list_all q slots ≡ true)
-all_parts p q [] h = (refl, refl)
-all_parts p q (slot ∷ slots) h =
-    let both = and_parts (p slot && q slot) (list_all (λ (s : RecordState). p s && q s) slots) h in
-    let first = and_parts (p slot) (q slot) both.0 in
-    let later = all_parts p q slots both.1 in
-    (and_from (p slot) (list_all p slots) first.0 later.0, and_from (q slot) (list_all q slots) first.1 later.1)
+all_parts p q [] h = grind arith
+all_parts p q (slot ∷ slots) h = grind (arith, all_parts p q slots)
 
 all_from : (p q : RecordState → Bool) (slots : List RecordState) → list_all p slots ≡ true → list_all q slots ≡ true → list_all (λ (s : RecordState). p s && q s) slots ≡ true
-all_from p q [] h k = refl
-all_from p q (slot ∷ slots) h k =
-    let first = and_parts (p slot) (list_all p slots) h in
-    let second = and_parts (q slot) (list_all q slots) k in
-    and_from (p slot && q slot) (list_all (λ (s : RecordState). p s && q s) slots) (and_from (p slot) (q slot) first.0 second.0) (all_from p q slots first.1 second.1)
+all_from p q [] h k = grind arith
+all_from p q (slot ∷ slots) h k = grind (arith, all_from p q slots)
 
 module _ (stage : Option Stage) (table : List Entry) (now : ℕ) where
   abbrev to_stop : RecordState → Bool
@@ -114,17 +95,4 @@ rules_of c fit =
     }
 
 pub fit_of : (c : CoreState) → IsInOrder c.table c.slots → Rules c → IsFit c
-fit_of c order rules = record {
-  in_order = order;
-  kept = and_from (are_heads_kept c.heads) (are_records_kept c.heads.stage c.table c.heads.time c.slots)
-      (and_from (nat_le c.heads.time CLOCK_LIMIT && is_other_level c.heads.stage c.heads.level_wish && (not c.heads.announced || in_run c.heads.stage)) (is_goal_reached c.heads.stage c.heads.goal c.heads.booted)
-      (and_from (nat_le c.heads.time CLOCK_LIMIT && is_other_level c.heads.stage c.heads.level_wish) (not c.heads.announced || in_run c.heads.stage)
-      (and_from (nat_le c.heads.time CLOCK_LIMIT) (is_other_level c.heads.stage c.heads.level_wish) (le-leb c.heads.time CLOCK_LIMIT rules.clock) rules.wish)
-      rules.announced)
-      rules.reached)
-      (and_from (are_distinct c.slots && are_starts_in c.heads.stage c.table c.slots && are_starts_free c.slots) (list_all (is_record_kept c.heads.stage c.table c.heads.time) c.slots)
-      (and_from (are_distinct c.slots && are_starts_in c.heads.stage c.table c.slots) (are_starts_free c.slots)
-      (and_from (are_distinct c.slots) (are_starts_in c.heads.stage c.table c.slots) rules.distinct rules.starts)
-      rules.free)
-      (all_kept c.heads.stage c.table c.heads.time c.slots (record { caused = rules.caused; births = rules.births; orders = rules.orders; stops = rules.stops; marks = rules.marks; limiters = rules.limiters; timely = rules.timely })));
-}
+fit_of c order rules = grind (arith, le-leb, all_kept)

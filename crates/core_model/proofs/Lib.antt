@@ -36,4 +36,5 @@ pub mod Stops
 pub mod Tables
 pub mod Telling
 pub mod Windows
+pub mod Words
 pub mod Working

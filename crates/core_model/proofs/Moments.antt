@@ -1,25 +1,11 @@
 -- Each happening leaves the single values of init what the past says.
-use Rattle.std.proofs.Common.{◌≡◌, refl, sym, ◌∙◌, ap, subst, ℕ, Bool, true, false, ◌||◌, cond, List, [], ◌∷◌, Option, Some, None}
-use Rattle.std.proofs.lemmas.Bool.{false≢true}
-use Rattle.init_words.specs.declared.levels.Level.{Level}
-use Rattle.init_words.specs.declared.levels.Letter.{Letter}
+use Rattle.core_model.proofs.Words.{◌≡◌, refl, sym, ◌∙◌, ap, subst, ℕ, Bool, true, false, ◌||◌, cond, List, [], ◌∷◌, Option, Some, None, false≢true, Level, Letter, PowerKind, Stage, same_level, HeardRequest, Goal, Event, stage_of, in_run, goal_of, heard_level, other_than, level_wish, was_booted, wants_reread, with_kind, with_call, is_boot, wished, heard_in, heads_heard, news_of, heads_of}
 use Rattle.init_words.specs.declared.levels.Letter.TheVariants as letter
-use Rattle.init_words.specs.declared.orders.PowerKind.{PowerKind}
 use Rattle.init_words.specs.declared.orders.PowerKind.TheVariants as power
-use Rattle.init_words.specs.declared.stages.Stage.{Stage}
 use Rattle.init_words.specs.declared.stages.Stage.TheVariants as stage
-use Rattle.init_words.specs.Levels.{same_level}
-use Rattle.initctl_frame.specs.declared.requests.HeardRequest.{HeardRequest}
 use Rattle.initctl_frame.specs.declared.requests.HeardRequest.TheVariants as got
 use Rattle.trace_events.specs.declared.happenings.Happening.TheVariants as event
-use Rattle.trace_events.specs.declared.steps.Goal.{Goal}
-use Rattle.trace_events.specs.Event.{Event}
-use Rattle.trace_events.specs.Past.{stage_of}
-use Rattle.trace_events.specs.Wishes.{in_run, goal_of, heard_level, other_than, level_wish, was_booted, wants_reread}
-use Rattle.core_model.specs.News.{with_kind, with_call}
 use Rattle.core_model.specs.declared.parts.CoreFields.{CoreFields}
-use Rattle.core_model.specs.Steps.{is_boot, wished, heard_in, heads_heard}
-use Rattle.core_model.specs.Fit.{news_of, heads_of}
 
 -- a wish for another level that stands was the last level asked for
 heard_goal : (opening : Goal) (past : List Event) (wish : Goal) → heard_level past ≡ Some wish → goal_of opening past ≡ wish

@@ -1,6 +1,5 @@
 -- A fact of news, by the first that there is.
-use Rattle.std.proofs.Common.{Bool, true, false}
-use Rattle.core_model.specs.declared.news.News.{News}
+use Rattle.core_model.proofs.Words.{Bool, true, false, News}
 
 module _ (P : News → Type 0)
     (fail : (n o a b c : Bool) → P (record { fail = true; fail_now = n; ok = o; a = a; b = b; c = c }))

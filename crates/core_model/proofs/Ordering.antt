@@ -1,35 +1,9 @@
 -- The records after an order, a hold, a round and a call are those of the past with it.
-use Rattle.std.proofs.Common.{◌≡◌, refl, sym, ◌∙◌, ap, subst, ℕ, Bool, true, false, not, ◌&&◌, ◌||◌, cond, List, [], ◌∷◌, map, reverse, Option, Some, None, is_some}
-use Rattle.std.specs.List.{list_any}
-use Rattle.std.specs.Option.{option_map_or}
-use Rattle.std.proofs.lemmas.Bool.{and_parts, or_parts, not-true}
-use Rattle.std.proofs.lemmas.Option.{none-some}
-use Rattle.std.proofs.lemmas.Grind.{reverse_onto}
-use Rattle.init_words.specs.declared.entries.Entry.{Entry}
-use Rattle.init_words.specs.declared.levels.Letter.{Letter}
-use Rattle.init_words.specs.declared.orders.OrderKind.TheVariants.{Start, Look, Term, Kill}
-use Rattle.init_words.specs.declared.orders.PowerKind.{PowerKind}
-use Rattle.init_words.specs.Ids.{same_id}
-use Rattle.init_words.specs.Actions.{is_limited, stays_called}
-use Rattle.init_words.proofs.Same.{same_id-is, same_id-self, same_id-sym}
-use Rattle.init_words.proofs.Tests.{and_false, or_false, or_true, found_any}
-use Rattle.inittab_text.specs.Tables.{has_id, entry_of, is_distinct}
-use Rattle.respawn_limit.specs.Window.{with_start}
-use Rattle.respawn_limit.proofs.WindowLemmas.{drop_last_push}
+use Rattle.core_model.proofs.Words.{arith, ◌≡◌, refl, sym, ◌∙◌, ap, subst, ℕ, Bool, true, false, not, ◌&&◌, ◌||◌, cond, List, [], ◌∷◌, map, reverse, Option, Some, None, list_any, option_map_or, and_parts, or_parts, not-true, reverse_onto, Entry, Letter, Start, Look, Term, Kill, PowerKind, same_id, is_limited, stays_called, same_id-is, same_id-self, same_id-sym, and_false, or_false, or_true, found_any, has_id, entry_of, is_distinct, with_start, drop_last_push, Asked, Nudge, Event, Child, has_child, table_of, stage_of, time_of, known_children, is_called, is_missed, start_times, hold_times, record_ids, is_still, spell_still, missed_still, spell_nudge, RecordState, after_order, after_hold, after_begin_round, changed, with_changed, is_named, called_if, with_called, LastStatuses, child_known, stop_known, limiter_by, last_hold_end, records_of}
 use Rattle.trace_events.specs.declared.steps.Step.TheVariants as step
-use Rattle.trace_events.specs.declared.happenings.Happening.TheVariants.{Asked, Hold, Power, Call, Nudge}
-use Rattle.trace_events.specs.Event.{Event}
-use Rattle.trace_events.specs.Past.{Child, is_of, has_child, table_of, stage_of, time_of, known_children}
-use Rattle.trace_events.specs.Wanted.{is_called, is_excluded}
-use Rattle.trace_events.specs.Spells.{is_missed, spell_hits}
-use Rattle.trace_events.specs.Timing.{start_times, hold_times}
-use Rattle.trace_events.specs.Due.{record_ids, wants_look}
-use Rattle.trace_laws.proofs.Spells.{is_still, spell_still, missed_still, spell_nudge}
-use Rattle.core_records.specs.State.{RecordState}
-use Rattle.core_records.specs.Changes.{after_order, after_hold, after_begin_round}
-use Rattle.core_records.specs.Lists.{changed, with_changed}
-use Rattle.core_model.specs.Steps.{is_named, called_if, with_called}
-use Rattle.core_model.specs.Fit.{LastStatuses, child_known, known_child, living, stop_known, stop_after, limiter_by, last_hold_end, record_of, records_of}
+use Rattle.trace_events.specs.declared.happenings.Happening.TheVariants.{Hold, Power, Call}
+use Rattle.trace_events.specs.Wanted.{is_excluded}
+use Rattle.core_model.specs.Fit.{record_of}
 
 -- two lists made along the same ids, alike at each
 pub records_same : (f g : List ℕ → RecordState) (change : RecordState → RecordState) → ((id : List ℕ) → change (f id) ≡ g id) → (ids : List (List ℕ)) → map change (map f ids) ≡ map g ids
@@ -38,29 +12,19 @@ records_same f g change same (id ∷ ids) = rw (same id, records_same f g change
 
 -- the records where one id's is changed: that one as changed, each other as it was
 pub one_changed : (id : List ℕ) (change : RecordState → RecordState) (f g : List ℕ → RecordState) → ((i : List ℕ) → (f i).id ≡ i) → ((i : List ℕ) → same_id id i ≡ true → change (f i) ≡ g i) → ((i : List ℕ) → same_id id i ≡ false → f i ≡ g i) → (i : List ℕ) → changed id change (f i) ≡ g i
-one_changed id change f g own here other i = ap (λ x. cond (same_id id x) (change (f i)) (f i)) (own i) ∙ at (same_id id i) refl
-  where
-    at : (b : Bool) → same_id id i ≡ b → cond b (change (f i)) (f i) ≡ g i
-    at true is = here i is
-    at false is = other i is
+one_changed id change f g own here other i = grind arith
 
 -- a still happening leaves the stops and the missed signals as they are
 pub stop_still : (happening : Event) (past : List Event) (o : Option Child) → is_still happening ≡ true → ((child : Child) → is_excluded (happening ∷ past) child ≡ is_excluded past child) → stop_known (happening ∷ past) o ≡ stop_known past o
-stop_still happening past None still same = refl
-stop_still happening past (Some child) still same = ap (λ b. cond b (Some (stop_after (spell_hits child (happening ∷ past)))) None) (same child) ∙ ap (λ hits. cond (is_excluded past child) (Some (stop_after hits)) None) (spell_still child happening past still)
+stop_still happening past o still same = grind (arith, spell_still)
 
 pub missed_known : (happening : Event) (past : List Event) (o : Option Child) → is_still happening ≡ true → option_map_or (λ child. is_missed child (happening ∷ past)) o false ≡ option_map_or (λ child. is_missed child past) o false
-missed_known happening past None still = refl
-missed_known happening past (Some child) still = missed_still child happening past still
+missed_known happening past o still = grind (arith, missed_still)
 
 -- the entry of an id has the id
 pub entry_has : (id : List ℕ) (es : List Entry) (e : Entry) → entry_of id es ≡ Some e → same_id id e.id ≡ true
-entry_has id [] e is = absurd (none-some e is)
-entry_has id (x ∷ es) e is = at (same_id id x.id) refl (entry_has id es e) is
-  where
-    at : (b : Bool) → same_id id x.id ≡ b → (entry_of id es ≡ Some e → same_id id e.id ≡ true) → cond b (Some x) (entry_of id es) ≡ Some e → same_id id e.id ≡ true
-    at true same rest is = let one : x ≡ e = cc in subst (λ (y : Entry). same_id id y.id ≡ true) one same
-    at false differ rest is = rest is
+entry_has id [] e is = grind arith
+entry_has id (x ∷ es) e is = grind (arith, entry_has id es e)
 
 -- a look, a TERM and a KILL were ordered
 module _ (lasts : LastStatuses) (id : List ℕ) (past : List Event) (now : ℕ) where
@@ -135,25 +99,7 @@ module _ (lasts : LastStatuses) (id : List ℕ) (past : List Event) (e : Entry) 
 
 -- a round began
 pub nudged : (lasts : LastStatuses) → (past : List Event) → map after_begin_round (records_of lasts past) ≡ records_of lasts (Nudge ∷ past)
-nudged lasts past = records_same (record_of lasts past) (record_of lasts (Nudge ∷ past)) after_begin_round one (record_ids past)
-  where
-    by : (c w : Bool) → (c || c && w) ≡ (c && c)
-    by true w = refl
-    by false w = refl
-
-    stops : (o : Option Child) → stop_known (Nudge ∷ past) o ≡ stop_known past o
-    stops None = refl
-    stops (Some child) = rw (spell_nudge child past) refl
-
-    missed : (o : Option Child) → option_map_or (λ child. is_missed child (Nudge ∷ past)) o false ≡ false
-    missed None = refl
-    missed (Some child) = refl
-
-    there : (id : List ℕ) → is_some (known_child id past) ≡ has_child id (known_children past)
-    there id = found_any living (is_of id) (known_children past)
-
-    one : (id : List ℕ) → after_begin_round (record_of lasts past id) ≡ record_of lasts (Nudge ∷ past) id
-    one id = rw (there id, by (has_child id (known_children past)) (wants_look id past), stops (child_known id past), missed (child_known id past)) refl
+nudged lasts past = grind (arith, records_same, spell_nudge, found_any)
 
 none_named : (p : Entry → Bool) (id : List ℕ) (es : List Entry) → list_any (has_id id) es ≡ false → list_any (λ e. has_id id e && p e) es ≡ false
 none_named p id [] h = refl
@@ -173,12 +119,7 @@ named_own p id (e ∷ es) distinct = at (same_id id e.id) refl (named_own p id e
 
 -- the entries that news of the power, or a letter, names were called
 called_same : (o : Option Entry) (named before after : Entry → Bool) → ((e : Entry) → after e ≡ (named e || before e)) → (slot : RecordState) → slot.called ≡ option_map_or before o false → called_if (option_map_or named o false) slot ≡ record slot { called = option_map_or after o false }
-called_same None named before after same slot is = rw (← is) refl
-called_same (Some e) named before after same slot is = rw (same e) (at (named e))
-  where
-    at : (b : Bool) → called_if b slot ≡ record slot { called = b || before e }
-    at true = refl
-    at false = rw (← is) refl
+called_same o named before after same slot is = grind arith
 
 module _ (lasts : LastStatuses) (past : List Event) (distinct : is_distinct (table_of past) ≡ true) where
   pub power_called : (kind : PowerKind) → with_called (is_named (step.Power kind) (stage_of past)) (table_of past) (records_of lasts past) ≡ records_of lasts (Power kind ∷ past)

@@ -1,33 +1,10 @@
 -- What the records say of ids and entries is what the past says of them.
-use Rattle.std.proofs.Common.{◌≡◌, ◌≤◌, refl, sym, ◌∙◌, ap, cond, arith, ℕ, ◌+◌, Bool, true, false, not, ◌&&◌, ◌||◌, List, [], ◌∷◌, ◌++◌, map, zip, filter, find, length, Option, Some, None, is_some, is_none}
-use Rattle.std.specs.List.{list_any, list_all}
-use Rattle.std.specs.Option.{option_map_or}
-use Rattle.std.proofs.lemmas.Bool.{false≢true, and_parts, and_from, or_parts, not-true}
-use Rattle.init_words.specs.declared.entries.Entry.{Entry}
-use Rattle.init_words.specs.declared.orders.OrderKind.{OrderKind}
-use Rattle.init_words.specs.declared.orders.OrderKind.TheVariants.{Look}
-use Rattle.init_words.specs.Ids.{same_id}
-use Rattle.init_words.specs.Orders.{same_ask}
-use Rattle.init_words.proofs.Same.{same_id-is, same_id-self, same_id-sym}
-use Rattle.init_words.proofs.Tests.{same_tests, passing, any_less, any_same, any_filter}
-use Rattle.inittab_text.specs.Tables.{ids_of, has_id, entry_of, is_distinct}
-use Rattle.trace_events.specs.declared.steps.Goal.{Goal}
-use Rattle.trace_events.specs.Event.{Event}
-use Rattle.trace_events.specs.Past.{table_of, Child, is_of, has_child, open_of, open_orders, is_quiet, is_idle, kept_children, known_children}
-use Rattle.trace_events.specs.Wanted.{is_asked, is_called, is_excluded}
-use Rattle.trace_events.specs.Spells.{spell_hits}
-use Rattle.trace_events.specs.Due.{left_ids, record_ids}
-use Rattle.trace_events.specs.Sound.{is_sound}
-use Rattle.trace_laws.proofs.Keeps.{sound_holds}
-use Rattle.trace_laws.proofs.Orders.{open_listed}
-use Rattle.trace_laws.proofs.Known.{excluded_known, known_single}
-use Rattle.trace_laws.proofs.Records.{open_in_records, child_in_records}
-use Rattle.core_records.specs.State.{RecordState}
-use Rattle.core_records.specs.Lists.{is_busy}
+use Rattle.core_model.proofs.Words.{◌≡◌, ◌≤◌, refl, sym, ◌∙◌, ap, cond, arith, ℕ, ◌+◌, Bool, true, false, not, ◌&&◌, ◌||◌, List, [], ◌∷◌, ◌++◌, map, zip, filter, find, length, Option, Some, None, is_some, is_none, list_any, list_all, option_map_or, false≢true, and_parts, and_from, or_parts, not-true, Entry, OrderKind, Look, same_id, same_ask, same_id-is, same_id-self, same_id-sym, same_tests, passing, any_less, any_same, any_filter, ids_of, has_id, entry_of, is_distinct, Goal, Event, table_of, Child, is_of, has_child, open_of, open_orders, kept_children, known_children, is_asked, is_called, spell_hits, left_ids, record_ids, is_sound, sound_holds, open_listed, excluded_known, known_single, open_in_records, child_in_records, RecordState, is_busy, has_excluded, LastStatuses, known_child, stop_after, stop_known, stop_of, asked_of, called_of, limiter_of, limits_of, records_of}
+use Rattle.trace_events.specs.Past.{is_quiet, is_idle}
+use Rattle.trace_events.specs.Wanted.{is_excluded}
 use Rattle.core_records.specs.Lists as lists
 use Rattle.core_model.specs.Decide as core
-use Rattle.core_model.specs.Decide.{or_else, signal_step, stop_step, stop_among, has_excluded, is_wanted_record, is_owed_record, limited_step, can_start_record, start_step, start_along, is_done_record, all_done, is_served_record, all_served, look_among}
-use Rattle.core_model.specs.Fit.{LastStatuses, known_child, stop_after, stop_known, stop_of, asked_of, called_of, limiter_of, limits_of, record_of, records_of}
+use Rattle.core_model.specs.Fit.{record_of}
 use Rattle.core_model.proofs.Acts.{child_some}
 
 -- a fact of each entry
@@ -40,10 +17,8 @@ abbrev pub IsOwn : List Entry → Entry → Type 0
 IsOwn table e = entry_of e.id table ≡ Some e
 
 none_has : (id : List ℕ) (es : List Entry) → list_any (has_id id) es ≡ false → Each (λ x. same_id x.id id ≡ false) es
-none_has id [] h = tt
-none_has id (x ∷ es) h =
-    let parts = or_parts (same_id id x.id) (list_any (has_id id) es) h in
-    (same_id-sym x.id id ∙ parts.0, none_has id es parts.1)
+none_has id [] h = grind (arith, or_parts, same_id-sym)
+none_has id (x ∷ es) h = grind (arith, none_has id es, or_parts, same_id-sym)
 
 own_behind : (e : Entry) (es xs : List Entry) → Each (λ x. same_id x.id e.id ≡ false) xs → Each (IsOwn es) xs → Each (IsOwn (e ∷ es)) xs
 own_behind e es [] apart own = tt
@@ -79,19 +54,10 @@ none_left (x ∷ xs) h = absurd (omega arith)
 
 pub any_found : {X : Type 0} (p q : X → Bool) (xs : List X) → length (filter p xs) ≤ 1 → list_any (λ x. p x && q x) xs ≡ option_map_or q (find p xs) false
 any_found p q [] one = refl
-any_found {X} p q (x ∷ xs) one = at (p x) one (any_found p q xs)
-  where
-    last : (b r : Bool) → r ≡ false → (b || r) ≡ b
-    last true r h = refl
-    last false r h = h
-
-    at : (b : Bool) → length (cond b (x ∷ filter p xs) (filter p xs)) ≤ 1 → (length (filter p xs) ≤ 1 → list_any (λ y. p y && q y) xs ≡ option_map_or q (find p xs) false) → (b && q x || list_any (λ y. p y && q y) xs) ≡ option_map_or q (cond b (Some x) (find p xs)) false
-    at true one later = last (q x) (list_any (λ y. p y && q y) xs) (sym (any_filter q p xs) ∙ ap (list_any q) (none_left (filter p xs) (omega (arith, one))))
-    at false one later = later one
+any_found {X} p q (x ∷ xs) one = grind (arith, any_found p q xs, any_filter, none_left)
 
 none_by_some : {X : Type 0} (o : Option X) → is_none o ≡ not (is_some o)
-none_by_some None = refl
-none_by_some (Some x) = refl
+none_by_some o = grind arith
 
 pub child_none : (id : List ℕ) (past : List Event) → is_none (known_child id past) ≡ not (has_child id (known_children past))
 child_none id past = none_by_some (known_child id past) ∙ ap not (child_some id past)

@@ -1,26 +1,7 @@
 -- The unreaped children are the records, corrected by the answers under way.
-use Rattle.std.proofs.Common.{◌≡◌, ◌≤◌, refl, sym, ◌∙◌, ap, ℕ, Bool, true, false, not, ◌&&◌, ◌||◌, ◌==◌, List, [], ◌∷◌, length, filter, find, Option, Some, None, is_some}
-use Rattle.std.specs.List.{list_any}
-use Rattle.std.specs.Option.{option_map, option_map_or}
-use Rattle.std.proofs.lemmas.Bool.{false≢true, and_right, eqb-true, eq-eqb}
-use Rattle.init_words.specs.Ids.{same_id}
-use Rattle.init_words.proofs.Same.{same_id-is}
-use Rattle.init_words.proofs.Tests.{same_tests}
-use Rattle.trace_events.specs.declared.steps.Goal.{Goal}
-use Rattle.trace_events.specs.Event.{Event}
-use Rattle.trace_events.specs.Past.{Child, is_of, is_child, unreaped_children, known_children}
+use Rattle.core_model.proofs.Words.{arith, ◌≡◌, ◌≤◌, refl, sym, ◌∙◌, ap, ℕ, Bool, true, false, not, ◌&&◌, ◌||◌, ◌==◌, List, [], ◌∷◌, length, filter, find, Option, is_some, list_any, option_map, option_map_or, and_right, same_id, same_id-is, Goal, Event, Child, is_of, is_child, unreaped_children, known_children, record_ids, is_sound, agrees_at, one_child, known_single, child_in_records, RecordState, is_record_of, is_numbered, CoreState, Fits, child_known, known_child, living, has_record, is_recorded}
 use Rattle.trace_events.specs.Agreement.{has_untold_birth, has_untold_end, is_unreaped, is_known}
-use Rattle.trace_events.specs.Due.{record_ids}
-use Rattle.trace_events.specs.Sound.{is_sound}
-use Rattle.trace_laws.proofs.Agreement.{agrees_at}
-use Rattle.trace_laws.proofs.Births.{one_child}
-use Rattle.trace_laws.proofs.Known.{known_single}
-use Rattle.trace_laws.proofs.Records.{child_in_records}
-use Rattle.core_records.specs.State.{RecordState}
-use Rattle.core_records.specs.Lists.{is_record_of, is_numbered}
-use Rattle.core_model.specs.State.{CoreState}
-use Rattle.core_model.specs.Fit.{Fits, child_known, known_child, living, record_of}
-use Rattle.core_model.specs.Headline.{has_record, is_recorded}
+use Rattle.core_model.specs.Fit.{record_of}
 use Rattle.core_model.proofs.Fitted.{fit_records}
 use Rattle.core_model.proofs.Acts.{child_some}
 use Rattle.core_model.proofs.Reading.{any_map, any_found}
@@ -43,16 +24,11 @@ one_id id p (i ∷ ids) = at (same_id id i) refl (one_id id p ids)
     at true is rest = ap (λ x. p i || x) rest ∙ ap (λ x. p x || list_any (same_id id) ids && p id) (sym (same_id-is id i is)) ∙ all (p id) (list_any (same_id id) ids)
     at false is rest = rest
 
-eq_flip : (m n : ℕ) → (m == n) ≡ (n == m)
-eq_flip m n = same_tests (m == n) (n == m) (λ h. eq-eqb n m (sym (eqb-true m n h))) (λ h. eq-eqb m n (sym (eqb-true n m h)))
-
 numbered_known : (n : ℕ) (o : Option Child) → is_numbered n (option_map living o) ≡ option_map_or (λ (child : Child). n == child.number) o false
-numbered_known n None = refl
-numbered_known n (Some child) = eq_flip child.number n
+numbered_known n o = grind arith
 
 numbered_some : (n : ℕ) (o : Option Child) → is_numbered n (option_map living o) ≡ true → is_some (option_map living o) ≡ true
-numbered_some n None h = absurd (false≢true h)
-numbered_some n (Some child) h = refl
+numbered_some n o h = grind arith
 
 module _ (goal : Goal) (past : List Event) (c : CoreState) (sound : is_sound goal past ≡ true) (fits : Fits c goal past) where
   -- a record has a child where it is known
@@ -76,8 +52,7 @@ module _ (goal : Goal) (past : List Event) (c : CoreState) (sound : is_sound goa
   single_number id m n xs one has_m has_n = by (find (is_of id) xs) (sym (any_found (is_of id) (λ (child : Child). m == child.number) xs one) ∙ has_m) (sym (any_found (is_of id) (λ (child : Child). n == child.number) xs one) ∙ has_n)
     where
       by : (o : Option Child) → option_map_or (λ (child : Child). m == child.number) o false ≡ true → option_map_or (λ (child : Child). n == child.number) o false ≡ true → m ≡ n
-      by None h k = absurd (false≢true h)
-      by (Some child) h k = eqb-true m child.number h ∙ sym (eqb-true n child.number k)
+      by o h k = grind arith
 
   pub one_recorded : (id : List ℕ) (m n : ℕ) → is_recorded id m c past ≡ true → is_recorded id n c past ≡ true → m ≡ n
   one_recorded id m n has_m has_n = single_number id m n (unreaped_children past) (one_child goal past sound id) (unreaped_recorded id m ∙ has_m) (unreaped_recorded id n ∙ has_n)

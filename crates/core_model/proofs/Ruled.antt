@@ -1,35 +1,6 @@
 -- What the rules say of each record, and the rules by what holds of each.
-use Rattle.std.proofs.Common.{◌≡◌, ◌≤◌, refl, sym, ap, ◌∙◌, Bool, true, false, not, ◌&&◌, ◌||◌, cond, ℕ, List, [], ◌∷◌, zip, Option, Some, None, is_some, is_none}
-use Rattle.std.specs.List.{list_any, list_all}
-use Rattle.std.specs.Option.{option_map}
-use Rattle.std.proofs.lemmas.Bool.{false≢true, and_parts, and_from, not-true}
-use Rattle.respawn_limit.specs.declared.TheConstants.{CLOCK_LIMIT}
-use Rattle.init_words.specs.declared.actions.Act.{Act}
-use Rattle.init_words.specs.declared.actions.Act.TheVariants as act
-use Rattle.init_words.specs.declared.entries.Entry.{Entry}
-use Rattle.init_words.specs.declared.levels.Mark.{Mark}
-use Rattle.init_words.specs.declared.orders.OrderKind.{OrderKind}
-use Rattle.init_words.specs.declared.orders.OrderKind.TheVariants.{Start, Look, Term, Kill}
-use Rattle.init_words.specs.declared.stages.Stage.{Stage}
-use Rattle.init_words.specs.declared.stages.Stage.TheVariants as stage
-use Rattle.init_words.specs.Actions.{starts_by, lives_by}
-use Rattle.init_words.specs.Entries.{starts_of, lives_of}
-use Rattle.init_words.specs.Ids.{same_id}
-use Rattle.init_words.proofs.Same.{same_id-self, same_id-sym, same_act-self}
-use Rattle.init_words.proofs.Tests.{both_ways, is_none-is}
-use Rattle.inittab_text.specs.Tables.{has_id, entry_of, act_of, is_distinct}
-use Rattle.trace_events.specs.declared.steps.Goal.{Goal}
-use Rattle.trace_events.specs.Wanted.{is_order}
-use Rattle.trace_events.specs.Wishes.{in_run}
-use Rattle.core_records.specs.State.{RecordState, is_act}
+use Rattle.core_model.proofs.Words.{arith, ◌≡◌, ◌≤◌, refl, sym, ap, ◌∙◌, Bool, true, false, not, ◌&&◌, ◌||◌, cond, ℕ, List, [], ◌∷◌, zip, Option, Some, None, is_some, is_none, list_any, list_all, option_map, false≢true, and_parts, and_from, not-true, CLOCK_LIMIT, Act, Entry, Mark, Stage, starts_by, lives_by, starts_of, lives_of, same_id, same_id-self, same_id-sym, same_act-self, both_ways, is_none-is, has_id, entry_of, act_of, is_distinct, Goal, in_run, RecordState, is_record_of, are_distinct, IsInOrder, is_timely, are_timely, is_listed, others, rest_distinct, has_cause, is_birth_known, is_order_allowed, is_started, are_starts_along, are_starts_in, are_starts_free, is_excluded_in, is_stop_judged, are_marks_due, is_limiter_kept, is_other_level, is_goal_reached, IsFit, CoreState}
 use Rattle.core_records.specs.Judging.{is_excluded}
-use Rattle.core_records.specs.Lists.{is_record_of, are_distinct}
-use Rattle.core_records.specs.Order.{IsInOrder}
-use Rattle.core_records.specs.Times.{is_timely, are_timely}
-use Rattle.core_records.proofs.Found.{is_listed, others, rest_distinct}
-use Rattle.core_model.specs.Decide.{is_owed_record}
-use Rattle.core_model.specs.Rules.{has_cause, is_birth_known, allows_order, is_order_allowed, is_started, is_start_allowed, are_starts_along, are_starts_in, are_starts_free, is_excluded_in, is_stop_judged, are_marks_due, is_limiter_kept, is_other_level, is_goal_reached, IsFit}
-use Rattle.core_model.specs.State.{CoreState}
 use Rattle.core_model.proofs.Each.{Each, each_from, each_fails, each_all, each_both, each_less}
 use Rattle.core_model.proofs.Kept.{rules_of, fit_of}
 use Rattle.core_model.proofs.RuledStarts.{along_rest}
@@ -45,9 +16,7 @@ pub record IsPlaced (stage : Option Stage) (table : List Entry) (now : ℕ) (slo
 
 -- a child may live where its entry starts
 lives_by-starts : (action : Act) (levels : List Mark) (now : Stage) → starts_by action levels now ≡ true → lives_by action levels now ≡ true
-lives_by-starts act.Boot levels (stage.Run level) h = refl
-lives_by-starts act.Bootwait levels (stage.Run level) h = refl
-lives_by-starts action levels now h = h
+lives_by-starts action levels now h = grind arith
 
 pub starts_live : (e : Entry) (now : Stage) → starts_of e now ≡ true → lives_of e now ≡ true
 starts_live e now h = lives_by-starts e.act e.levels.items now h
@@ -77,20 +46,18 @@ own_each (e ∷ table) (slot ∷ slots) order distinct = (
 
 -- no id stands in the table twice
 table_listed : (id : List ℕ) (table : List Entry) (slots : List RecordState) → IsInOrder table slots → is_listed id slots ≡ false → list_any (has_id id) table ≡ false
-table_listed id [] slots order none = refl
-table_listed id (e ∷ table) [] order none = absurd order
 table_listed id (e ∷ table) (slot ∷ slots) order none = at (is_record_of id slot) refl none (table_listed id table slots order.2)
   where
     at : (b : Bool) → is_record_of id slot ≡ b → (b || is_listed id slots) ≡ false → (is_listed id slots ≡ false → list_any (has_id id) table ≡ false) → (has_id id e || list_any (has_id id) table) ≡ false
     at true is h rest = absurd (false≢true (sym h))
     at false is h rest = ap (λ b. b || list_any (has_id id) table) (ap (same_id id) (sym order.0) ∙ is) ∙ rest h
+table_listed id table slots order none = grind arith
 
 pub table_distinct : (table : List Entry) (slots : List RecordState) → IsInOrder table slots → are_distinct slots ≡ true → is_distinct table ≡ true
-table_distinct [] slots order distinct = refl
-table_distinct (e ∷ table) [] order distinct = absurd order
 table_distinct (e ∷ table) (slot ∷ slots) order distinct =
     let none : list_any (has_id e.id) table ≡ false = ap (λ id. list_any (has_id id) table) (sym order.0) ∙ table_listed slot.id table slots order.2 (others slot.id slot slots distinct (same_id-self slot.id)) in
     and_from (not (list_any (has_id e.id) table)) (is_distinct table) (ap not none) (table_distinct table slots order.2 (rest_distinct slot slots distinct))
+table_distinct table slots order distinct = grind arith
 
 -- an open start is of an entry that starts
 start_asked : (s a b : Bool) → s ≡ true → (not s || (a && b)) ≡ true → b ≡ true
@@ -100,18 +67,10 @@ start_asked false a b h k = absurd (false≢true h)
 
 start_acts : (slot : RecordState) → is_started slot ≡ true → is_order_allowed slot ≡ true
     → is_some slot.table_act ≡ true
-start_acts slot started allowed = at slot.order started allowed
-  where
-    at : (order : Option OrderKind) → is_order Start order ≡ true → allows_order order slot ≡ true → is_some slot.table_act ≡ true
-    at None h k = absurd (false≢true h)
-    at (Some Start) h k = (and_parts (is_some slot.table_act) (is_none slot.child) k).0
-    at (Some Look) h k = absurd (false≢true h)
-    at (Some Term) h k = absurd (false≢true h)
-    at (Some Kill) h k = absurd (false≢true h)
+start_acts slot started allowed = grind arith
 
 none_some : {X : Type 0} (o : Option X) → is_none o ≡ true → is_some o ≡ true → ⊥
-none_some None none some = false≢true some
-none_some (Some x) none some = false≢true none
+none_some o none some = grind arith
 
 start_each : (now : Stage) (table : List Entry) (slots : List RecordState) → IsInOrder table slots → are_distinct slots ≡ true → list_all is_order_allowed slots ≡ true → are_starts_along now (zip table slots) ≡ true → Each (λ slot. is_started slot ≡ true → is_excluded now slot.table_act (entry_of slot.id table) ≡ false) slots
 start_each now [] slots order distinct allowed along = each_less (λ s. (is_none s.table_act ≡ true) × (is_order_allowed s ≡ true)) (λ s. is_started s ≡ true → is_excluded now s.table_act (entry_of s.id []) ≡ false) (λ s both started. absurd (none_some s.table_act both.0 (start_acts s started both.1))) slots
@@ -125,10 +84,7 @@ start_each now (e ∷ table) (slot ∷ slots) order distinct allowed along = (
 )
   where
     head : is_started slot ≡ true → is_excluded now slot.table_act (entry_of slot.id (e ∷ table)) ≡ false
-    head started =
-        let here = and_parts (is_start_allowed now e slot) (cond (is_owed_record now e slot) (not (list_any (λ (q : Entry × RecordState). is_started q.1) (zip table slots))) (are_starts_along now (zip table slots))) along in
-        let lives : lives_of e now ≡ true = starts_live e now (start_asked (is_started slot) slot.asked (starts_of e now) started here.0) in
-        ap (is_excluded now slot.table_act) (entry_first e table slot slots order distinct) ∙ ap (λ a. not (is_act e.act a && lives_of e now)) order.1 ∙ (λ i. not (same_act-self e.act i && lives i))
+    head started = grind (arith, starts_live, start_asked, entry_first, same_act-self)
 
 start_in : (now : Option Stage) (table : List Entry) (slots : List RecordState) → IsInOrder table slots → are_distinct slots ≡ true → list_all is_order_allowed slots ≡ true → are_starts_in now table slots ≡ true → Each (λ slot. is_started slot ≡ true → is_excluded_in now slot.table_act (entry_of slot.id table) ≡ false) slots
 start_in None table slots order distinct allowed none = each_less (λ s. is_started s ≡ false) (λ s. is_started s ≡ true → true ≡ false) (λ s free started. both_ways (is_started s) started free) slots (each_fails is_started slots (not-true (list_any is_started slots) none))

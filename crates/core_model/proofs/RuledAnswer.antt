@@ -1,21 +1,6 @@
 -- A record whose order is answered keeps the rules.
-use Rattle.std.proofs.Common.{◌≡◌, refl, sym, ap, ◌∙◌, subst, Bool, true, false, not, ◌&&◌, ◌||◌, cond, ℕ, List, Option, Some, None, is_some, is_none}
-use Rattle.std.proofs.lemmas.Bool.{false≢true, and_parts, or_left, or_right}
-use Rattle.init_words.specs.declared.children.Status.{Status}
-use Rattle.init_words.specs.declared.entries.Entry.{Entry}
-use Rattle.init_words.specs.declared.orders.OrderKind.{OrderKind}
-use Rattle.init_words.specs.declared.orders.OrderKind.TheVariants.{Start, Look, Term, Kill}
-use Rattle.init_words.specs.declared.orders.Answer.{Answer}
+use Rattle.core_model.proofs.Words.{arith, ◌≡◌, refl, sym, ap, ◌∙◌, subst, Bool, true, false, not, ◌&&◌, ◌||◌, cond, ℕ, List, Option, Some, None, is_some, is_none, false≢true, and_parts, Status, Entry, OrderKind, Start, Look, Term, Kill, Answer, Stage, answers, or_true, or_false, is_order, Stop, Termed, Killed, RecordState, after_hit, after_answer, is_over, may_follow, allows_order, is_started, is_child_excluded, may_be_signalled}
 use Rattle.init_words.specs.declared.orders.Answer.TheVariants.{Born, NotBorn, Ended, Alive, NoLook, Hit, Miss}
-use Rattle.init_words.specs.declared.stages.Stage.{Stage}
-use Rattle.init_words.specs.Orders.{answers}
-use Rattle.init_words.proofs.Tests.{is_none-is, or_true, or_false}
-use Rattle.trace_events.specs.Wanted.{is_order}
-use Rattle.core_records.specs.declared.children.Stop.{Stop}
-use Rattle.core_records.specs.declared.children.Stop.TheVariants.{Due, Termed, Killed}
-use Rattle.core_records.specs.State.{RecordState}
-use Rattle.core_records.specs.Changes.{after_hit, after_answer, is_over}
-use Rattle.core_model.specs.Rules.{may_follow, allows_order, is_started, is_child_excluded, may_be_signalled}
 use Rattle.core_model.proofs.Ruled.{IsPlaced}
 use Rattle.core_model.proofs.RuledRecord.{IsRuled, excluded_same, stop_same, marks_parts, marks_from, stop_childless}
 
@@ -26,20 +11,10 @@ is_answered answer (Some ask) = answers answer ask
 
 -- a child that is signalled may be, and is excluded
 signalled : (ask : OrderKind) (stop : Option Stop) → may_follow ask stop ≡ true → may_be_signalled stop ≡ true
-signalled Term (Some Due) h = refl
-signalled Term (Some (Termed time)) h = refl
-signalled Term (Some (Killed time)) h = absurd (false≢true h)
-signalled Term None h = absurd (false≢true h)
-signalled Kill (Some Due) h = refl
-signalled Kill (Some (Termed time)) h = refl
-signalled Kill (Some (Killed time)) h = absurd (false≢true h)
-signalled Kill None h = absurd (false≢true h)
-signalled Start stop h = absurd (false≢true h)
-signalled Look stop h = absurd (false≢true h)
+signalled ask stop h = grind arith
 
 stopped : (stop : Option Stop) → may_be_signalled stop ≡ true → is_some stop ≡ true
-stopped None h = absurd (false≢true h)
-stopped (Some stop) h = refl
+stopped stop h = grind arith
 
 excluded_stop : (x : Bool) (stop : Option Stop) → is_some stop ≡ true → cond x (is_some stop) (is_none stop) ≡ true → cond x true false ≡ true
 excluded_stop true stop some h = refl
@@ -47,12 +22,10 @@ excluded_stop false None some h = absurd (false≢true some)
 excluded_stop false (Some stop) some h = h
 
 some_from : {X : Type 0} (o : Option X) → is_none o ≡ false → is_some o ≡ true
-some_from None h = absurd (false≢true (sym h))
-some_from (Some x) h = refl
+some_from o h = grind arith
 
 none_from : {X Y : Type 0} (o : Option X) (p : Option Y) → is_none o ≡ true → (is_some o || is_none p) ≡ true → p ≡ None
-none_from None p h k = is_none-is p k
-none_from (Some x) p h k = absurd (false≢true h)
+none_from o p h k = grind arith
 
 -- one record: with its order answered
 module _ (stage : Option Stage) (table : List Entry) (now : ℕ) (slot : RecordState) (placed : IsPlaced stage table now slot) where
@@ -113,8 +86,7 @@ module _ (stage : Option Stage) (table : List Entry) (now : ℕ) (slot : RecordS
       }
     where
       by : (x : Bool) (s : Option Stop) → is_some s ≡ true → cond x true false ≡ true → cond x (is_some s) (is_none s) ≡ true
-      by x None some h = absurd (false≢true some)
-      by x (Some s) some h = h
+      by x s some h = grind arith
 
   signal_stop : (ask : OrderKind) → (is_some slot.child && may_follow ask slot.stop) ≡ true → may_be_signalled slot.stop ≡ true
   signal_stop ask may = signalled ask slot.stop (and_parts (is_some slot.child) (may_follow ask slot.stop) may).1
@@ -140,18 +112,10 @@ module _ (stage : Option Stage) (table : List Entry) (now : ℕ) (slot : RecordS
       }
 
   miss_by : (o : Option OrderKind) → slot.order ≡ o → is_answered Miss o ≡ true → may_be_signalled slot.stop ≡ true
-  miss_by None is h = absurd (false≢true h)
-  miss_by (Some Start) is h = absurd (false≢true h)
-  miss_by (Some Look) is h = absurd (false≢true h)
-  miss_by (Some Term) is h = signal_stop Term (allowed Term is)
-  miss_by (Some Kill) is h = signal_stop Kill (allowed Kill is)
+  miss_by o is h = grind arith
 
   born_by : (n : ℕ) (o : Option OrderKind) → slot.order ≡ o → is_answered (Born n) o ≡ true → slot.order ≡ Some Start
-  born_by n None is h = absurd (false≢true h)
-  born_by n (Some Start) is h = is
-  born_by n (Some Look) is h = absurd (false≢true h)
-  born_by n (Some Term) is h = absurd (false≢true h)
-  born_by n (Some Kill) is h = absurd (false≢true h)
+  born_by n o is h = grind arith
 
   pub told_ruled : (answer : Answer) → is_answered answer slot.order ≡ true → is_over answer slot ≡ false → IsRuled stage table now (after_answer answer now slot)
   told_ruled (Born n) is stays = born_ruled n (born_by n slot.order refl is)
@@ -164,25 +128,7 @@ module _ (stage : Option Stage) (table : List Entry) (now : ℕ) (slot : RecordS
 
   -- it had a child, or an open start; so its answer makes nothing more owed, and begins no stop
   pub was_busy : (answer : Answer) (o : Option OrderKind) → slot.order ≡ o → is_answered answer o ≡ true → (is_some slot.child || is_started slot) ≡ true
-  was_busy answer None is h = absurd (false≢true h)
-  was_busy answer (Some Start) is h = or_right (is_some slot.child) (is_started slot) (ap (is_order Start) is)
-  was_busy answer (Some Look) is h = or_left (is_some slot.child) (is_started slot) (allowed Look is)
-  was_busy answer (Some Term) is h = or_left (is_some slot.child) (is_started slot) (and_parts (is_some slot.child) (may_follow Term slot.stop) (allowed Term is)).0
-  was_busy answer (Some Kill) is h = or_left (is_some slot.child) (is_started slot) (and_parts (is_some slot.child) (may_follow Kill slot.stop) (allowed Kill is)).0
-
-  hit_begins : (o : Option OrderKind) → slot.order ≡ o → is_some (after_hit o now slot.stop) ≡ true
-      → is_some slot.stop ≡ true
-  hit_begins None is h = h
-  hit_begins (Some Start) is h = h
-  hit_begins (Some Look) is h = h
-  hit_begins (Some Term) is h = stopped slot.stop (signal_stop Term (allowed Term is))
-  hit_begins (Some Kill) is h = stopped slot.stop (signal_stop Kill (allowed Kill is))
+  was_busy answer o is h = grind arith
 
   pub begins_none : (answer : Answer) → is_some (after_answer answer now slot).stop ≡ true → is_some slot.stop ≡ true
-  begins_none (Born n) h = absurd (false≢true h)
-  begins_none (Ended status) h = absurd (false≢true h)
-  begins_none NotBorn h = h
-  begins_none Alive h = h
-  begins_none NoLook h = h
-  begins_none Hit h = hit_begins slot.order refl h
-  begins_none Miss h = h
+  begins_none answer h = grind arith

@@ -1,24 +1,6 @@
 -- The records after an order and after a hold keep the rules.
-use Rattle.std.proofs.Common.{◌≡◌, refl, sym, ap, ◌∙◌, Bool, true, false, not, ◌&&◌, ◌||◌, cond, ℕ, List, [], ◌∷◌, map, zip, Option, Some, is_some, is_none, arith}
-use Rattle.std.specs.List.{list_any}
-use Rattle.std.proofs.lemmas.Bool.{false≢true, and_parts, and_from, or_left}
-use Rattle.init_words.specs.declared.entries.Entry.{Entry}
-use Rattle.init_words.specs.declared.orders.OrderKind.{OrderKind}
-use Rattle.init_words.specs.declared.orders.OrderKind.TheVariants.{Start, Look, Term, Kill}
-use Rattle.init_words.specs.declared.stages.Stage.{Stage}
-use Rattle.init_words.proofs.Tests.{both_ways}
-use Rattle.respawn_limit.specs.Window.{may_of, with_start, with_hold}
-use Rattle.trace_events.specs.declared.steps.Step.TheVariants.{Order, Hold}
-use Rattle.core_records.specs.State.{RecordState, is_limited_record, stays_called_record}
-use Rattle.core_records.specs.Changes.{allows, can_be_asked, after_order, after_hold}
-use Rattle.core_records.specs.Lists.{is_record_of, changed, with_changed}
-use Rattle.core_records.proofs.Changed.{id-after_order}
-use Rattle.core_records.proofs.Ordered.{kept_by_one, order_changed, act-after_order}
-use Rattle.core_records.proofs.Timely.{timely_changed, timely_order, timely_parts}
-use Rattle.core_model.specs.Decide.{has_excluded, decide}
-use Rattle.core_model.specs.Rules.{may_follow, is_callable, is_started, are_starts_along, are_starts_in, are_starts_free, is_limit_kept, is_unused, IsFit}
-use Rattle.core_model.specs.State.{CoreState}
-use Rattle.core_model.specs.Work.{unheld}
+use Rattle.core_model.proofs.Words.{◌≡◌, refl, sym, ap, ◌∙◌, Bool, true, false, not, ◌&&◌, ◌||◌, cond, ℕ, List, [], ◌∷◌, map, zip, Option, Some, is_some, is_none, arith, list_any, false≢true, and_parts, and_from, or_left, Entry, OrderKind, Start, Look, Term, Kill, Stage, both_ways, may_of, with_start, with_hold, Order, RecordState, is_limited_record, stays_called_record, allows, can_be_asked, after_order, after_hold, is_record_of, changed, with_changed, id-after_order, kept_by_one, order_changed, act-after_order, timely_changed, timely_order, timely_parts, has_excluded, decide, may_follow, is_callable, is_started, are_starts_along, are_starts_in, are_starts_free, is_limit_kept, is_unused, IsFit, CoreState, unheld}
+use Rattle.trace_events.specs.declared.steps.Step.TheVariants.{Hold}
 use Rattle.core_model.proofs.Kept.{rules_of}
 use Rattle.core_model.proofs.Allowed.{is_askable, is_holdable, decided}
 use Rattle.core_model.proofs.Each.{Each, each_less, each_both, each_changed, each_own, distinct_map}
@@ -140,13 +122,7 @@ module _ (c : CoreState) (keeps : IsFit c) (id : List ℕ) where
     }
 
     order_stops : (slot : RecordState) → (after_order ask c.heads.time slot).stop ≡ slot.stop
-    order_stops slot = at ask
-      where
-        at : (a : OrderKind) → (after_order a c.heads.time slot).stop ≡ slot.stop
-        at Start = refl
-        at Look = refl
-        at Term = refl
-        at Kill = refl
+    order_stops slot = grind arith
 
     stop_of : (slot : RecordState) (b : Bool) → is_some (cond b (after_order ask c.heads.time slot) slot).stop ≡ is_some slot.stop
     stop_of slot true = ap is_some (order_stops slot)

@@ -1,21 +1,7 @@
 -- A request, a reading of the clock and a round leave a core that keeps the rules.
-use Rattle.std.proofs.Common.{◌≡◌, ◌≤◌, refl, sym, ap, ◌∙◌, Bool, true, false, not, ◌||◌, cond, ℕ, max, min, Option, Some, None, is_some, arith}
-use Rattle.respawn_limit.specs.declared.TheConstants.{CLOCK_LIMIT}
-use Rattle.init_words.specs.declared.entries.Entry.{Entry}
-use Rattle.init_words.specs.declared.levels.Level.{Level}
-use Rattle.init_words.specs.declared.stages.Stage.{Stage}
+use Rattle.core_model.proofs.Words.{◌≡◌, ◌≤◌, refl, ap, ◌∙◌, Bool, true, false, not, ◌||◌, cond, ℕ, max, min, Option, Some, None, is_some, arith, CLOCK_LIMIT, Entry, Level, Stage, same_level, HeardRequest, Goal, RecordState, after_begin_round, order_map, timely_map, timely_later, is_started, is_other_level, is_goal_reached, IsFit, CoreState, after_clock, after_round, heard_in, after_got, after_not_read, after_handed, after_handed_on}
 use Rattle.init_words.specs.declared.stages.Stage.TheVariants as stage
-use Rattle.init_words.specs.Levels.{same_level}
-use Rattle.initctl_frame.specs.declared.requests.HeardRequest.{HeardRequest}
 use Rattle.initctl_frame.specs.declared.requests.HeardRequest.TheVariants as got
-use Rattle.trace_events.specs.declared.steps.Goal.{Goal}
-use Rattle.core_records.specs.State.{RecordState}
-use Rattle.core_records.specs.Changes.{after_begin_round}
-use Rattle.core_records.proofs.Ordered.{order_map}
-use Rattle.core_records.proofs.Timely.{timely_map, timely_later}
-use Rattle.core_model.specs.Rules.{is_started, is_other_level, is_goal_reached, IsFit}
-use Rattle.core_model.specs.State.{CoreState}
-use Rattle.core_model.specs.Steps.{after_clock, after_round, heard_in, after_got, after_not_read, after_handed, after_handed_on}
 use Rattle.core_model.proofs.Kept.{rules_of}
 use Rattle.core_model.proofs.Each.{each_always, each_less, each_map, distinct_map}
 use Rattle.core_model.proofs.Ruled.{all_kept, heads_kept, kept_by}
@@ -33,10 +19,7 @@ module _ (c : CoreState) (keeps : IsFit c) where
   wish_heard now wish is false other = kept_by (record c { heads = record c.heads { level_wish = Some wish; reread = true } }) (all_kept c keeps) (record { clock = (rules_of c keeps).clock; wish = ap (λ o. is_other_level o (Some wish)) is ∙ ap not other; announced = (rules_of c keeps).announced; reached = (rules_of c keeps).reached })
 
   level_heard : (wish : Goal) (o : Option Stage) → c.heads.stage ≡ o → IsFit (record c { heads = heard_in o wish c.heads })
-  level_heard wish None is = goal_heard wish (ap (λ o. is_goal_reached o wish c.heads.booted) is ∙ sym (ap (λ o. is_goal_reached o c.heads.goal c.heads.booted) is))
-  level_heard wish (Some stage.Sysinit) is = goal_heard wish (ap (λ o. is_goal_reached o wish c.heads.booted) is ∙ sym (ap (λ o. is_goal_reached o c.heads.goal c.heads.booted) is))
-  level_heard wish (Some stage.Boot) is = goal_heard wish (ap (λ o. is_goal_reached o wish c.heads.booted) is ∙ sym (ap (λ o. is_goal_reached o c.heads.goal c.heads.booted) is))
-  level_heard wish (Some (stage.Run now)) is = wish_heard now wish is (same_level wish.level now) refl
+  level_heard wish o is = grind (arith, goal_heard, wish_heard)
 
   pub got_keeps : (request : HeardRequest) → IsFit (after_got request c)
   got_keeps (got.Level level grace) = level_heard (record { level = level; grace = grace }) c.heads.stage refl

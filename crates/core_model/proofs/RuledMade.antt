@@ -1,28 +1,8 @@
 -- The records that are made at a quiet point keep the rules: those of an opening, of a stage, of a table and of a call.
-use Rattle.std.proofs.Common.{◌≡◌, refl, sym, ap, ◌∙◌, subst, Bool, true, false, not, ◌&&◌, ◌||◌, ℕ, List, [], ◌∷◌, map, filter, Option, Some, None}
-use Rattle.std.specs.List.{list_any}
-use Rattle.std.specs.Option.{option_map, option_map_or}
-use Rattle.std.proofs.lemmas.Bool.{false≢true, and_parts, and_from}
-use Rattle.init_words.specs.declared.entries.Entry.{Entry}
-use Rattle.init_words.specs.declared.stages.Stage.{Stage}
-use Rattle.init_words.specs.Ids.{same_id}
-use Rattle.inittab_text.specs.Tables.{has_id, entry_of, act_of, is_distinct}
-use Rattle.core_records.specs.State.{RecordState, new_record}
-use Rattle.core_records.specs.Adopting.{adopted, left_over, is_left_over, entry_records, left_records}
+use Rattle.core_model.proofs.Words.{◌≡◌, refl, sym, ap, ◌∙◌, subst, Bool, true, false, not, ◌&&◌, ◌||◌, ℕ, List, [], ◌∷◌, map, filter, Option, Some, None, list_any, option_map, option_map_or, false≢true, and_parts, and_from, Entry, Stage, same_id, has_id, entry_of, act_of, is_distinct, RecordState, new_record, adopted, left_over, is_left_over, entry_records, left_records, after_call, after_enter, after_judge, are_distinct, record_by_id, is_busy, IsInOrder, is_timely, are_timely, id-after_judge, timely_judge, timely_enter, is_listed, order_map, order_adopt, order_new, act-after_judge, timely_map, is_callable, IsFit, CoreState, called_if, with_called, judged_in}
 use Rattle.core_records.specs.Adopting as adopting
-use Rattle.core_records.specs.Changes.{after_call, after_enter}
-use Rattle.core_records.specs.Judging.{after_judge}
-use Rattle.core_records.specs.Lists.{are_distinct, record_by_id, is_busy, is_quiet}
-use Rattle.core_records.specs.Order.{IsInOrder}
-use Rattle.core_records.specs.Times.{is_timely, are_timely}
+use Rattle.core_records.specs.Lists.{is_quiet}
 use Rattle.core_records.proofs.Adopted.{adopt_distinct, timely_adopt}
-use Rattle.core_records.proofs.Changed.{id-after_judge, timely_judge, timely_enter}
-use Rattle.core_records.proofs.Found.{is_listed}
-use Rattle.core_records.proofs.Ordered.{order_map, order_adopt, order_new, act-after_judge}
-use Rattle.core_records.proofs.Timely.{timely_map}
-use Rattle.core_model.specs.Rules.{is_callable, IsFit}
-use Rattle.core_model.specs.State.{CoreState}
-use Rattle.core_model.specs.Steps.{called_if, with_called, judged_in}
 use Rattle.core_model.proofs.Kept.{rules_of}
 use Rattle.core_model.proofs.Each.{Each, each_fails, each_less, each_both, each_map, each_filter, each_joined, each_found, distinct_map}
 use Rattle.core_model.proofs.Ordering.{named_own}

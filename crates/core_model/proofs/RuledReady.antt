@@ -1,22 +1,6 @@
 -- A record at a quiet point, as a stage judges it and as a table adopts it, keeps the rules.
-use Rattle.std.proofs.Common.{◌≡◌, refl, sym, ap, ◌∙◌, Bool, true, false, not, ◌||◌, cond, ℕ, List, Option, Some, None, is_some, is_none}
-use Rattle.std.specs.Option.{option_or}
-use Rattle.std.proofs.lemmas.Bool.{and_parts}
-use Rattle.respawn_limit.specs.State.{unused}
-use Rattle.init_words.specs.declared.entries.Entry.{Entry}
-use Rattle.init_words.specs.declared.stages.Stage.{Stage}
-use Rattle.init_words.specs.Actions.{is_limited}
-use Rattle.inittab_text.specs.Tables.{entry_of}
-use Rattle.core_records.specs.declared.children.KnownChild.{KnownChild}
-use Rattle.core_records.specs.declared.children.Stop.{Stop}
-use Rattle.core_records.specs.declared.children.Stop.TheVariants.{Due}
-use Rattle.core_records.specs.State.{RecordState, new_record, is_limited_record}
-use Rattle.core_records.specs.Adopting.{adopted, left_over, is_left_over}
-use Rattle.core_records.specs.Changes.{after_enter}
-use Rattle.core_records.specs.Judging.{is_excluded, judged, judged_child, after_judge}
-use Rattle.core_records.specs.Lists.{is_busy}
-use Rattle.core_records.proofs.Changed.{order-after_judge}
-use Rattle.core_model.specs.Rules.{has_cause, is_birth_known, is_order_allowed, is_child_excluded, is_stop_judged, may_be_signalled, is_limit_kept, is_unused, is_limiter_kept}
+use Rattle.core_model.proofs.Words.{arith, ◌≡◌, refl, sym, ap, ◌∙◌, Bool, true, false, not, ◌||◌, cond, ℕ, List, Option, Some, None, is_some, is_none, option_or, and_parts, unused, Entry, Stage, is_limited, entry_of, KnownChild, Stop, Due, RecordState, new_record, is_limited_record, adopted, left_over, is_left_over, after_enter, judged, judged_child, after_judge, is_busy, order-after_judge, has_cause, is_birth_known, is_order_allowed, is_child_excluded, is_stop_judged, may_be_signalled, is_limit_kept, is_unused, is_limiter_kept}
+use Rattle.core_records.specs.Judging.{is_excluded}
 use Rattle.core_model.proofs.RuledRecord.{IsRuled, IsMarked, marks_parts, marks_from, calm_order, stop_childless}
 
 -- a record at a quiet point that can be judged by a stage
@@ -36,13 +20,10 @@ pub judged_ruled : (stage : Stage) (table : List Entry) (now : ℕ) (slot : Reco
 judged_ruled stage table now slot ready = (by_child slot.child refl, ap is_busy (order-after_judge table stage slot) ∙ ready.calm)
   where
     begun : (stop : Option Stop) → is_some (option_or stop (Some Due)) ≡ true
-    begun None = refl
-    begun (Some stop) = refl
+    begun stop = grind arith
 
     signalled : (m : Bool) (stop : Option Stop) → (not m || may_be_signalled stop) ≡ true → (not m || may_be_signalled (option_or stop (Some Due))) ≡ true
-    signalled m (Some stop) h = h
-    signalled true None h = refl
-    signalled false None h = refl
+    signalled m stop h = grind arith
 
     by : (child : KnownChild) → slot.child ≡ Some child → (b : Bool) → is_excluded stage child.act (entry_of slot.id table) ≡ b → IsRuled (Some stage) table now (judged b slot)
     by child is true excluded = record {
@@ -131,8 +112,7 @@ ready_left stage table next now slot left calm =
 
 -- before the first stage each child stays excluded
 pub dawn_stop : (o : Option KnownChild) (table next : List Entry) (before after : RecordState) (stop : Option Stop) → cond (is_child_excluded None table before o) (is_some stop) (is_none stop) ≡ true → cond (is_child_excluded None next after o) (is_some stop) (is_none stop) ≡ true
-dawn_stop None table next before after stop h = h
-dawn_stop (Some child) table next before after stop h = h
+dawn_stop o table next before after stop h = grind arith
 
 pub dawn_ruled : (table : List Entry) (now : ℕ) (slot : RecordState) → IsReady now slot → is_stop_judged None table slot ≡ true → IsCalm None table now slot
 dawn_ruled table now slot ready stop = (record { cause = ready.cause; birth = ready.birth; order = ready.order; stop = stop; marks = marks_from slot ready.marks; limiter = ready.limiter }, ready.calm)

@@ -1,27 +1,11 @@
 -- Starts that are open stay where they may be, where a change opens none and makes no entry owed.
-use Rattle.std.proofs.Common.{◌≡◌, refl, sym, ap, ◌∙◌, Bool, true, false, not, ◌&&◌, ◌||◌, cond, List, [], ◌∷◌, map, filter, zip, Option, Some, None, is_some}
-use Rattle.std.specs.List.{list_any}
-use Rattle.std.proofs.lemmas.Bool.{false≢true, and_parts, and_from, or_parts, or_left, or_right, not-true, not_from_false}
-use Rattle.init_words.specs.declared.entries.Entry.{Entry}
-use Rattle.init_words.specs.declared.stages.Stage.{Stage}
-use Rattle.init_words.specs.declared.orders.OrderKind.{OrderKind}
-use Rattle.init_words.specs.declared.orders.OrderKind.TheVariants.{Start, Look, Term, Kill}
-use Rattle.init_words.specs.Entries.{starts_of, waited_of}
-use Rattle.init_words.proofs.Tests.{any_less, any_filtered, both_ways, falsely, or_either}
-use Rattle.trace_events.specs.Wanted.{is_order}
-use Rattle.core_records.specs.State.{RecordState}
-use Rattle.core_records.specs.Lists.{is_busy, is_quiet}
-use Rattle.core_model.specs.Decide.{has_excluded, is_wanted_record, is_owed_record}
-use Rattle.core_model.specs.Rules.{is_started, is_start_allowed, are_starts_along, are_starts_in, are_starts_free}
+use Rattle.core_model.proofs.Words.{arith, ◌≡◌, refl, ap, Bool, true, false, not, ◌&&◌, ◌||◌, cond, List, [], ◌∷◌, map, filter, zip, Option, Some, None, is_some, list_any, false≢true, and_parts, and_from, or_left, or_right, not-true, not_from_false, Entry, Stage, OrderKind, Start, starts_of, waited_of, any_less, any_filtered, both_ways, falsely, or_either, is_order, RecordState, is_busy, has_excluded, is_wanted_record, is_owed_record, is_started, is_start_allowed, are_starts_along, are_starts_in, are_starts_free}
+use Rattle.core_records.specs.Lists.{is_quiet}
 use Rattle.core_model.proofs.Each.{Each, each_less}
 
 -- a start that is open is one of the orders of which a quiet point has none
 pub started_busy : (order : Option OrderKind) → is_order Start order ≡ true → is_busy order ≡ true
-started_busy None h = absurd (false≢true h)
-started_busy (Some Start) h = refl
-started_busy (Some Look) h = absurd (false≢true h)
-started_busy (Some Term) h = absurd (false≢true h)
-started_busy (Some Kill) h = absurd (false≢true h)
+started_busy order h = grind arith
 
 abbrev is_busy_record : RecordState → Bool
 is_busy_record slot = is_busy slot.order
@@ -42,27 +26,16 @@ zip_any (e ∷ table) [] h = absurd (false≢true h)
 zip_any (e ∷ table) (slot ∷ slots) h = or_either (is_started slot) (list_any is_started_at (zip table slots)) h (λ here. or_left (is_started slot) (list_any is_started slots) here) (λ later. or_right (is_started slot) (list_any is_started slots) (zip_any table slots later))
 
 pub along_none : (stage : Stage) (ps : List (Entry × RecordState)) → list_any is_started_at ps ≡ false → are_starts_along stage ps ≡ true
-along_none stage [] none = refl
-along_none stage (p ∷ ps) none =
-    let parts = or_parts (is_started p.1) (list_any is_started_at ps) none in
-    and_from (is_start_allowed stage p.0 p.1) (cond (is_owed_record stage p.0 p.1) (not (list_any is_started_at ps)) (are_starts_along stage ps)) (ap (λ b. not b || p.1.asked && starts_of p.0 stage) parts.0) (at (is_owed_record stage p.0 p.1) parts.1 (along_none stage ps parts.1))
-  where
-    at : (b : Bool) → list_any is_started_at ps ≡ false → are_starts_along stage ps ≡ true → cond b (not (list_any is_started_at ps)) (are_starts_along stage ps) ≡ true
-    at true none rest = not_from_false (list_any is_started_at ps) none
-    at false none rest = rest
+along_none stage [] none = grind arith
+along_none stage (p ∷ ps) none = grind (arith, along_none stage ps)
 
 -- behind an entry the starts are as they may be, whether it is owed or not
 pub along_rest : (stage : Stage) (e : Entry) (slot : RecordState) (ps : List (Entry × RecordState)) → are_starts_along stage ((e, slot) ∷ ps) ≡ true → are_starts_along stage ps ≡ true
-along_rest stage e slot ps h = at (is_owed_record stage e slot) (and_parts (is_start_allowed stage e slot) (cond (is_owed_record stage e slot) (not (list_any is_started_at ps)) (are_starts_along stage ps)) h).1
-  where
-    at : (b : Bool) → cond b (not (list_any is_started_at ps)) (are_starts_along stage ps) ≡ true → are_starts_along stage ps ≡ true
-    at true none = along_none stage ps (not-true (list_any is_started_at ps) none)
-    at false rest = rest
+along_rest stage e slot ps h = grind (arith, along_none, not-true)
 
 -- at a quiet point no start is open at all
 pub quiet_starts : (stage : Option Stage) (table : List Entry) (slots : List RecordState) → is_quiet slots ≡ true → are_starts_in stage table slots ≡ true
-quiet_starts None table slots quiet = ap not (none_started slots quiet)
-quiet_starts (Some stage) table slots quiet = along_none stage (zip table slots) (falsely (list_any is_started_at (zip table slots)) (list_any is_started slots) (zip_any table slots) (none_started slots quiet))
+quiet_starts stage table slots quiet = grind (arith, none_started, along_none, falsely, zip_any)
 
 pub quiet_free : (slots : List RecordState) → is_quiet slots ≡ true → are_starts_free slots ≡ true
 quiet_free slots quiet = ap (λ b. not b || not (has_excluded slots)) (none_started slots quiet)
@@ -101,8 +74,6 @@ zip_less change (e ∷ table) [] each h = h
 zip_less change (e ∷ table) (slot ∷ slots) each h = or_either (is_started (change slot)) (list_any is_started_at (zip table (map change slots))) h (λ here. or_left (is_started slot) (list_any is_started_at (zip table slots)) (each.0 here)) (λ later. or_right (is_started slot) (list_any is_started_at (zip table slots)) (zip_less change table slots each.1 later))
 
 pub along_less : (stage : Stage) (change : RecordState → RecordState) (table : List Entry) (slots : List RecordState) → Each (λ slot. (e : Entry) → IsLess stage e slot (change slot)) slots → are_starts_along stage (zip table slots) ≡ true → are_starts_along stage (zip table (map change slots)) ≡ true
-along_less stage change [] slots each h = refl
-along_less stage change (e ∷ table) [] each h = refl
 along_less stage change (e ∷ table) (slot ∷ slots) each h =
     let parts = and_parts (is_start_allowed stage e slot) (cond (is_owed_record stage e slot) (not (list_any is_started_at (zip table slots))) (are_starts_along stage (zip table slots))) h in
     and_from (is_start_allowed stage e (change slot)) (cond (is_owed_record stage e (change slot)) (not (list_any is_started_at (zip table (map change slots)))) (are_starts_along stage (zip table (map change slots))))
@@ -125,6 +96,7 @@ along_less stage change (e ∷ table) (slot ∷ slots) each h =
     at true was false is h rest = along_none stage (zip table (map change slots)) (none h)
     at false was true is h rest = both_ways (is_owed_record stage e slot) (less.owed is) was
     at false was false is h rest = rest h
+along_less stage change table slots each h = grind arith
 
 pub starts_less : (stage : Option Stage) (change : RecordState → RecordState) (table : List Entry) (slots : List RecordState) → Each (λ slot. is_started (change slot) ≡ true → is_started slot ≡ true) slots → ((now : Stage) → Each (λ slot. (e : Entry) → IsLess now e slot (change slot)) slots) → are_starts_in stage table slots ≡ true → are_starts_in stage table (map change slots) ≡ true
 starts_less None change table slots started less none = not_from_false (list_any is_started (map change slots)) (falsely (list_any is_started (map change slots)) (list_any is_started slots) (any_map is_started change slots started) (not-true (list_any is_started slots) none))
@@ -134,12 +106,7 @@ starts_less (Some now) change table slots started less along = along_less now ch
 free_by : (s x t y : Bool) → (t ≡ true → s ≡ true) → (y ≡ true → x ≡ true) → (not s || not x) ≡ true → (not t || not y) ≡ true
 free_by s x false y starts stops h = refl
 free_by s x true false starts stops h = refl
-free_by s x true true starts stops h = sym (both s x (starts refl) (stops refl)) ∙ h
-  where
-    both : (s x : Bool) → s ≡ true → x ≡ true → (not s || not x) ≡ false
-    both true true h k = refl
-    both false x h k = absurd (false≢true h)
-    both true false h k = absurd (false≢true k)
+free_by s x true true starts stops h = grind arith
 
 abbrev is_stopped : RecordState → Bool
 is_stopped slot = is_some slot.stop

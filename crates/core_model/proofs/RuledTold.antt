@@ -1,28 +1,8 @@
 -- The records after an answer was told keep the rules.
-use Rattle.std.proofs.Common.{◌≡◌, refl, sym, ap, ◌∙◌, subst, Bool, true, false, not, ◌&&◌, ◌||◌, cond, ℕ, List, [], ◌∷◌, zip, Option, Some, None, is_some, is_none, Result, Ok, Err, arith}
-use Rattle.std.specs.List.{list_any}
-use Rattle.std.proofs.lemmas.Bool.{false≢true, not-true, not_from_false, or_left}
-use Rattle.init_words.specs.declared.entries.Entry.{Entry}
-use Rattle.init_words.specs.declared.orders.OrderKind.{OrderKind}
-use Rattle.init_words.specs.declared.orders.OrderKind.TheVariants.{Start}
-use Rattle.init_words.specs.declared.orders.Answer.{Answer}
-use Rattle.init_words.specs.declared.orders.Answer.TheVariants.{Born, NotBorn, Ended, Alive, NoLook, Hit, Miss}
+use Rattle.core_model.proofs.Words.{◌≡◌, refl, sym, ap, ◌∙◌, subst, Bool, true, false, not, cond, ℕ, List, [], ◌∷◌, zip, Option, Some, None, is_some, is_none, Result, Ok, Err, arith, list_any, false≢true, not-true, not_from_false, Entry, OrderKind, Start, Answer, Stage, any_filtered, falsely, is_order, RecordState, after_answer, is_over, is_record_of, record_by_id, order_of, order_in, changed, with_changed, without, refusal_of, is_over_of, IsInOrder, are_timely, id-after_answer, kept_by_one, over_none, order_told, timely_told, is_started, are_starts_along, are_starts_in, IsFit, CoreState}
 use Rattle.init_words.specs.declared.refusals.Refusal.{Refusal}
 use Rattle.init_words.specs.declared.refusals.Refusal.TheVariants.{WrongAnswer}
-use Rattle.init_words.specs.declared.stages.Stage.{Stage}
-use Rattle.init_words.specs.Orders.{answers}
-use Rattle.init_words.proofs.Tests.{any_filtered, falsely}
-use Rattle.trace_events.specs.Wanted.{is_order}
-use Rattle.core_records.specs.State.{RecordState}
-use Rattle.core_records.specs.Changes.{after_answer, is_over}
-use Rattle.core_records.specs.Lists.{is_record_of, record_by_id, order_of, order_in, changed, with_changed, without, refusal_of, is_over_of, after_told}
-use Rattle.core_records.specs.Order.{IsInOrder}
-use Rattle.core_records.specs.Times.{are_timely}
-use Rattle.core_records.proofs.Changed.{id-after_answer}
-use Rattle.core_records.proofs.Ordered.{kept_by_one, over_none, order_told}
-use Rattle.core_records.proofs.Timely.{timely_told}
-use Rattle.core_model.specs.Rules.{is_started, are_starts_along, are_starts_in, IsFit}
-use Rattle.core_model.specs.State.{CoreState}
+use Rattle.core_records.specs.Lists.{after_told}
 use Rattle.core_model.proofs.Kept.{rules_of}
 use Rattle.core_model.proofs.Allowed.{has_with}
 use Rattle.core_model.proofs.Each.{Each, each_less, each_both, each_filter, each_changed, each_own, distinct_map, distinct_filter}
@@ -32,39 +12,24 @@ use Rattle.core_model.proofs.RuledRecord.{IsRuled}
 use Rattle.core_model.proofs.RuledAnswer.{is_answered, told_ruled, was_busy, begins_none}
 
 order_over : (answer : Answer) (now : ℕ) (slot : RecordState) → (after_answer answer now slot).order ≡ None
-order_over (Born n) now slot = refl
-order_over NotBorn now slot = refl
-order_over (Ended status) now slot = refl
-order_over Alive now slot = refl
-order_over NoLook now slot = refl
-order_over Hit now slot = refl
-order_over Miss now slot = refl
+order_over answer now slot = grind arith
 
 -- a record that is found passes
 pub found_with : (id : List ℕ) (p : RecordState → Bool) (slots : List RecordState) (slot : RecordState) → record_by_id id slots ≡ Some slot → p slot ≡ true → has_with id p slots ≡ true
-found_with id p [] slot is h = absurd (cc)
-found_with id p (first ∷ slots) slot is h = at (is_record_of id first) is (found_with id p slots slot)
-  where
-    at : (b : Bool) → cond b (Some first) (record_by_id id slots) ≡ Some slot → (record_by_id id slots ≡ Some slot → p slot ≡ true → has_with id p slots ≡ true) → (b && p first || has_with id p slots) ≡ true
-    at true is later = let same : first ≡ slot = cc in or_left (p first) (has_with id p slots) (ap p same ∙ h)
-    at false is later = later is h
+found_with id p [] slot is h = grind arith
+found_with id p (first ∷ slots) slot is h = grind (arith, found_with id p slots slot)
 
 -- the pairs with a table's entries stay where records of no entry go
 zip_without : (id : List ℕ) (table : List Entry) (slots : List RecordState) → IsInOrder table slots → Each (λ s. is_record_of id s ≡ true → is_none s.table_act ≡ true) slots → zip table (without id slots) ≡ zip table slots
-zip_without id [] slots order none = refl
-zip_without id (e ∷ table) [] order none = absurd order
 zip_without id (e ∷ table) (slot ∷ slots) order none = at (is_record_of id slot) refl (zip_without id table slots order.2 none.1)
   where
     at : (b : Bool) → is_record_of id slot ≡ b → zip table (without id slots) ≡ zip table slots → zip (e ∷ table) (cond (not b) (slot ∷ without id slots) (without id slots)) ≡ (e, slot) ∷ zip table slots
     at true is rest = absurd (false≢true (ap is_none (sym order.1) ∙ none.0 is))
     at false is rest = ap (λ ps. (e, slot) ∷ ps) rest
+zip_without id table slots order none = grind arith
 
 abbrev verdict : Bool → Result (Unit {0}) Refusal
 verdict b = cond b (Ok tt) (Err WrongAnswer)
-
-accepted : (b : Bool) → verdict b ≡ Ok tt → b ≡ true
-accepted true is = refl
-accepted false is = absurd (cc)
 
 module _ (c : CoreState) (keeps : IsFit c) (id : List ℕ) (answer : Answer) where
   abbrev next : RecordState → RecordState
@@ -131,8 +96,7 @@ module _ (c : CoreState) (keeps : IsFit c) (id : List ℕ) (answer : Answer) whe
 
   -- an answer that is not refused has its record
   taken : (o : Option OrderKind) → refusal_of o answer ≡ Ok tt → is_answered answer o ≡ true
-  taken None is = absurd (cc)
-  taken (Some ask) is = accepted (answers answer ask) is
+  taken o is = grind arith
 
   pub answer_ruled : refusal_of (order_in id c.slots) answer ≡ Ok tt → AreRuled c.heads.stage c.table c.heads.time (after_told id answer c.heads.time c.slots)
   answer_ruled given = at (record_by_id id c.slots) refl

@@ -1,24 +1,7 @@
 -- The start that the walk along the table finds: no open start is behind an owed entry for it.
-use Rattle.std.proofs.Common.{◌≡◌, refl, sym, ap, ◌∙◌, Bool, true, false, not, ◌&&◌, ◌||◌, cond, ℕ, List, [], ◌∷◌, zip, Option, Some, None, is_some, is_none}
-use Rattle.std.specs.List.{list_any}
-use Rattle.std.proofs.lemmas.Bool.{false≢true, and_parts, and_from, or_left, or_right}
-use Rattle.init_words.specs.declared.entries.Entry.{Entry}
-use Rattle.init_words.specs.declared.orders.OrderKind.TheVariants.{Start}
-use Rattle.init_words.specs.declared.stages.Stage.{Stage}
-use Rattle.init_words.specs.Actions.{is_limited}
-use Rattle.init_words.specs.Entries.{starts_of, waited_of}
-use Rattle.init_words.proofs.Same.{same_id-from}
-use Rattle.init_words.proofs.Tests.{both_ways}
-use Rattle.respawn_limit.specs.Window.{may_of, is_held}
-use Rattle.trace_events.specs.declared.steps.Step.{Step}
-use Rattle.trace_events.specs.declared.steps.Step.TheVariants.{Order, Hold}
-use Rattle.core_records.specs.State.{RecordState}
-use Rattle.core_records.specs.Changes.{allows, after_order}
-use Rattle.core_records.specs.Lists.{is_record_of, are_distinct, with_changed}
-use Rattle.core_records.specs.Order.{IsInOrder}
-use Rattle.core_records.proofs.Found.{is_listed, others, rest_distinct, unchanged}
-use Rattle.core_model.specs.Decide.{or_else, is_wanted_record, is_owed_record, limited_step, start_step, start_along}
-use Rattle.core_model.specs.Rules.{is_started, is_start_allowed, are_starts_along}
+use Rattle.core_model.proofs.Words.{arith, ◌≡◌, refl, sym, ap, ◌∙◌, Bool, true, false, not, ◌&&◌, ◌||◌, cond, ℕ, List, ◌∷◌, zip, Option, Some, None, is_some, is_none, list_any, false≢true, and_parts, and_from, or_left, or_right, Entry, Start, Stage, is_limited, starts_of, waited_of, same_id-from, both_ways, may_of, Step, Order, RecordState, allows, after_order, is_record_of, are_distinct, with_changed, IsInOrder, is_listed, others, rest_distinct, unchanged, or_else, is_wanted_record, is_owed_record, limited_step, start_step, start_along, is_started, is_start_allowed, are_starts_along}
+use Rattle.respawn_limit.specs.Window.{is_held}
+use Rattle.trace_events.specs.declared.steps.Step.TheVariants.{Hold}
 
 -- the walk for a start: the first that is found is of a wanted entry, behind none that is owed
 pub record IsFound (now : Stage) (e : Entry) (slot : RecordState) (id : List ℕ) : Type 0 where
@@ -44,8 +27,6 @@ found_own : (id : List ℕ) (e : Entry) (slot : RecordState) → slot.id ≡ e.i
 found_own id e slot own same = same_id-from id slot.id (sym (own ∙ same))
 
 found_listed : (now : Stage) (time : ℕ) (id : List ℕ) (table : List Entry) (slots : List RecordState) → IsInOrder table slots → start_along now time (zip table slots) ≡ Some (Order id Start) → is_listed id slots ≡ true
-found_listed now time id [] slots order is = absurd (cc)
-found_listed now time id (e ∷ table) [] order is = absurd order
 found_listed now time id (e ∷ table) (slot ∷ slots) order is = at (start_step now time e slot) refl is (found_listed now time id table slots order.2)
   where
     behind : (b : Bool) → cond b None (start_along now time (zip table slots)) ≡ Some (Order id Start) → start_along now time (zip table slots) ≡ Some (Order id Start)
@@ -55,6 +36,7 @@ found_listed now time id (e ∷ table) (slot ∷ slots) order is = at (start_ste
     at : (o : Option Step) → start_step now time e slot ≡ o → or_else o (cond (is_owed_record now e slot) None (start_along now time (zip table slots))) ≡ Some (Order id Start) → (start_along now time (zip table slots) ≡ Some (Order id Start) → is_listed id slots ≡ true) → is_listed id (slot ∷ slots) ≡ true
     at (Some step) here is rest = or_left (is_record_of id slot) (is_listed id slots) (found_own id e slot order.0 (found_start now time e slot id (here ∙ is)).own)
     at None here is rest = or_right (is_record_of id slot) (is_listed id slots) (rest (behind (is_owed_record now e slot) is))
+found_listed now time id table slots order is = grind arith
 
 owed_started : (w i s z y n a : Bool) → z ≡ true → cond (w && (i || s || z)) n a ≡ true → cond (w && (i || true || y)) n a ≡ true
 owed_started false i s z y n a wanted h = h
@@ -70,8 +52,6 @@ abbrev started_in : ℕ → List ℕ → List RecordState → List RecordState
 started_in time id slots = with_changed id (after_order Start time) slots
 
 pub walk_kept : (now : Stage) (time : ℕ) (id : List ℕ) (table : List Entry) (slots : List RecordState) → IsInOrder table slots → are_distinct slots ≡ true → start_along now time (zip table slots) ≡ Some (Order id Start) → are_starts_along now (zip table slots) ≡ true → are_starts_along now (zip table (with_changed id (after_order Start time) slots)) ≡ true
-walk_kept now time id [] slots order distinct is along = refl
-walk_kept now time id (e ∷ table) [] order distinct is along = absurd order
 walk_kept now time id (e ∷ table) (slot ∷ slots) order distinct is along = at (start_step now time e slot) refl is
     (λ found. walk_kept now time id table slots order.2 (rest_distinct slot slots distinct) found)
   where
@@ -112,3 +92,4 @@ walk_kept now time id (e ∷ table) (slot ∷ slots) order distinct is along = a
     at : (o : Option Step) → start_step now time e slot ≡ o → or_else o (cond (is_owed_record now e slot) None (start_along now time (zip table slots))) ≡ Some (Order id Start) → (start_along now time (zip table slots) ≡ Some (Order id Start) → are_starts_along now (zip table slots) ≡ true → are_starts_along now (zip table (started_in time id slots)) ≡ true) → are_starts_along now (zip (e ∷ table) (with_changed id (after_order Start time) (slot ∷ slots))) ≡ true
     at (Some step) step_is is rest = here (found_start now time e slot id (step_is ∙ is))
     at None step_is is rest = by_owed (is_owed_record now e slot) refl is rest
+walk_kept now time id table slots order distinct is along = grind arith

@@ -1,34 +1,10 @@
 -- Each step of init, and each thing that it is told, leaves a core that keeps the rules.
-use Rattle.std.proofs.Common.{◌≡◌, ◌+◌, refl, sym, ap, ◌∙◌, subst, Bool, true, false, not, ◌&&◌, ◌||◌, cond, ℕ, List, [], ◌∷◌, zip, nat_le, Option, Some, None, is_some, is_none, Ok, arith}
-use Rattle.std.proofs.lemmas.Bool.{or_left, or_right, false≢true, and_parts, and_from, not-true}
-use Rattle.init_words.specs.declared.entries.Entry.{Entry}
-use Rattle.init_words.specs.declared.levels.Level.TheVariants.{S}
-use Rattle.init_words.specs.declared.levels.Mark.TheVariants.{OnCall}
-use Rattle.init_words.specs.declared.orders.Answer.{Answer}
-use Rattle.init_words.specs.declared.orders.OrderKind.TheVariants.{Start, Look, Term, Kill}
-use Rattle.init_words.specs.declared.orders.PowerKind.TheVariants as power
-use Rattle.init_words.specs.declared.stages.Stage.{Stage}
+use Rattle.core_model.proofs.Words.{◌≡◌, refl, sym, ap, ◌∙◌, subst, Bool, true, false, not, ◌&&◌, ◌||◌, cond, ℕ, List, [], ◌∷◌, zip, Option, Some, None, is_some, is_none, Ok, arith, false≢true, and_parts, and_from, not-true, Entry, Answer, Start, Look, Term, Kill, Stage, is_limited, same_level, names, same_level-self, is_distinct, may_of, Goal, Step, Order, Reread, Reexec, Idle, in_run, RecordState, allows, can_be_asked, after_order, with_changed, order_in, refusal_of, first_news, or_else, or_idle, level_step, news_step, wished_step, stop_among, has_excluded, is_owed_record, can_start_record, start_step, start_along, stage_step, settle_step, look_among, work_step, decide_in, decide, may_follow, are_starts_along, are_starts_in, is_callable, is_goal_reached, IsFit, CoreState, opening_state, is_boot, wished, is_named, after_step, after_adopt}
 use Rattle.init_words.specs.declared.stages.Stage.TheVariants as stage
-use Rattle.init_words.specs.Actions.{is_called_by, is_ondemand, is_limited}
-use Rattle.init_words.specs.Levels.{same_level, names}
-use Rattle.init_words.proofs.Same.{same_level-self}
-use Rattle.inittab_text.specs.Tables.{is_distinct}
-use Rattle.respawn_limit.specs.Window.{may_of, is_held}
-use Rattle.trace_events.specs.declared.steps.Goal.{Goal}
-use Rattle.trace_events.specs.declared.steps.Step.{Step}
-use Rattle.trace_events.specs.declared.steps.Step.TheVariants.{Enter, Call, Power, Order, Hold, Settle, Reread, Reexec, Idle}
-use Rattle.trace_events.specs.Wanted.{starts_in}
-use Rattle.trace_events.specs.Wishes.{in_run}
-use Rattle.core_records.specs.declared.children.Stop.{Stop}
-use Rattle.core_records.specs.declared.children.Stop.TheVariants.{Due, Termed, Killed}
-use Rattle.core_records.specs.State.{RecordState}
-use Rattle.core_records.specs.Changes.{allows, can_be_asked, after_order}
-use Rattle.core_records.specs.Lists.{is_quiet, with_changed, order_in, refusal_of}
-use Rattle.core_model.specs.News.{first_news}
-use Rattle.core_model.specs.Decide.{or_else, or_idle, level_step, news_step, wished_step, wish_step, stands, signal_step, stop_step, stop_among, has_excluded, is_owed_record, can_start_record, start_step, start_along, is_over_among, all_done, next_stage, enter_step, stage_step, is_idle, all_served, settle_step, can_look_record, look_among, calm_step, work_step, decide_in, decide}
-use Rattle.core_model.specs.Rules.{may_follow, are_starts_along, are_starts_in, is_callable, is_other_level, is_goal_reached, IsFit}
-use Rattle.core_model.specs.State.{CoreState, opening_state}
-use Rattle.core_model.specs.Steps.{is_boot, wished, is_named, after_step, after_told, after_adopt}
+use Rattle.respawn_limit.specs.Window.{is_held}
+use Rattle.trace_events.specs.declared.steps.Step.TheVariants.{Enter, Call, Power, Hold, Settle}
+use Rattle.core_records.specs.Lists.{is_quiet}
+use Rattle.core_model.specs.Steps.{after_told}
 use Rattle.core_model.proofs.Kept.{rules_of}
 use Rattle.core_model.proofs.Ruled.{all_kept, heads_kept, kept_by}
 use Rattle.core_model.proofs.RuledAsked.{start_all_ruled, child_ruled, hold_ruled}
@@ -52,8 +28,7 @@ module _ (c : CoreState) (keeps : IsFit c) (now : Stage) (in_stage : c.heads.sta
   is_lawful _ = true
 
   lawful_or : (a b : Option Step) → is_lawful a ≡ true → is_lawful b ≡ true → is_lawful (or_else a b) ≡ true
-  lawful_or None b ha hb = hb
-  lawful_or (Some step) b ha hb = ha
+  lawful_or a b ha hb = grind arith
 
   lawful_if : (b : Bool) (o : Option Step) → (b ≡ true → is_lawful o ≡ true) → is_lawful (cond b o None) ≡ true
   lawful_if true o h = h refl
@@ -72,78 +47,30 @@ module _ (c : CoreState) (keeps : IsFit c) (now : Stage) (in_stage : c.heads.sta
       reached wish is false = ap (λ o. same_level (wished o c.heads.goal).level wish.level) is ∙ same_level-self wish.level
 
       level : (wish : Option Goal) → c.heads.level_wish ≡ wish → is_lawful (level_step c.heads.booted wish) ≡ true
-      level None is = refl
-      level (Some wish) is =
-          let next : Stage = cond (not (same_level wish.level S) && not c.heads.booted) stage.Boot (stage.Run wish.level) in
-          and_from (is_quiet c.slots) (is_goal_reached (Some next) (wished c.heads.level_wish c.heads.goal) (is_boot next || c.heads.booted)) quiet (reached wish is (not (same_level wish.level S) && not c.heads.booted))
+      level wish is = grind arith
 
       news : is_lawful (first_news c.heads.news) ≡ true
-      news = one c.heads.news.fail c.heads.news.fail_now c.heads.news.ok c.heads.news.a c.heads.news.b c.heads.news.c
-        where
-          one : (f n o a b l : Bool) → is_lawful (first_news (record { fail = f; fail_now = n; ok = o; a = a; b = b; c = l })) ≡ true
-          one true n o a b l = quiet
-          one false true o a b l = quiet
-          one false false true a b l = quiet
-          one false false false true b l = quiet
-          one false false false false true l = quiet
-          one false false false false false true = quiet
-          one false false false false false false = refl
+      news = grind arith
 
       at : (x r : Bool) → is_lawful (cond x (Some Reexec) (cond r (Some Reread) (or_else (level_step c.heads.booted c.heads.level_wish) (news_step now c)))) ≡ true
       at true r = refl
       at false true = refl
       at false false = lawful_or (level_step c.heads.booted c.heads.level_wish) (news_step now c) (level c.heads.level_wish refl) (lawful_if (in_run (Some now)) (first_news c.heads.news) (λ run. news))
 
-  -- the stage that comes next, with no wish for another level
-  unwished : is_other_level (Some now) c.heads.level_wish ≡ true
-  unwished = sym (ap (λ s. is_other_level s c.heads.level_wish) in_stage) ∙ (rules_of c keeps).wish
-
   stage_lawful : is_lawful (stage_step now c.heads.goal c.table c.slots) ≡ true
-  stage_lawful = lawful_if (is_over_among now c.table c.slots) (enter_step (next_stage now c.heads.goal.level) c.heads.goal.grace) (λ over. at now unwished (and_parts (is_quiet c.slots) (all_done now c.table c.slots) over).0)
-    where
-      none : (early : Stage) → in_run (Some early) ≡ false → (o : Option Goal) → is_other_level (Some early) o ≡ true → o ≡ None
-      none early before None h = refl
-      none stage.Sysinit before (Some wish) h = absurd (false≢true h)
-      none stage.Boot before (Some wish) h = absurd (false≢true h)
-      none (stage.Run level) before (Some wish) h = absurd (false≢true (sym before))
-
-      first : c.heads.level_wish ≡ None → (b : Bool) → same_level c.heads.goal.level S ≡ b → is_goal_reached (Some (cond b (stage.Run S) stage.Boot)) (wished c.heads.level_wish c.heads.goal) (is_boot (cond b (stage.Run S) stage.Boot) || c.heads.booted) ≡ true
-      first is true same = ap (λ o. same_level (wished o c.heads.goal).level S) is ∙ same
-      first is false other = refl
-
-      at : (early : Stage) → is_other_level (Some early) c.heads.level_wish ≡ true → is_quiet c.slots ≡ true → is_lawful (enter_step (next_stage early c.heads.goal.level) c.heads.goal.grace) ≡ true
-      at stage.Sysinit wish quiet =
-          let next : Stage = cond (same_level c.heads.goal.level S) (stage.Run S) stage.Boot in
-          and_from (is_quiet c.slots) (is_goal_reached (Some next) (wished c.heads.level_wish c.heads.goal) (is_boot next || c.heads.booted)) quiet (first (none stage.Sysinit refl c.heads.level_wish wish) (same_level c.heads.goal.level S) refl)
-      at stage.Boot wish quiet = and_from (is_quiet c.slots) (same_level (wished c.heads.level_wish c.heads.goal).level c.heads.goal.level) quiet (ap (λ o. same_level (wished o c.heads.goal).level c.heads.goal.level) (none stage.Boot refl c.heads.level_wish wish) ∙ same_level-self c.heads.goal.level)
-      at (stage.Run level) wish quiet = refl
+  stage_lawful = grind arith
 
   settle_lawful : is_lawful (settle_step now c.heads.announced c.heads.time c.table c.slots) ≡ true
-  settle_lawful = at now (λ h. h)
-    where
-      at : (s : Stage) → (in_run (Some s) ≡ true → in_run (Some now) ≡ true) → is_lawful (settle_step s c.heads.announced c.heads.time c.table c.slots) ≡ true
-      at stage.Sysinit run = refl
-      at stage.Boot run = refl
-      at (stage.Run level) run = lawful_if (not c.heads.announced && is_idle c.slots && all_served level c.heads.time c.table c.slots) (Some (Settle level)) (λ h. run refl)
+  settle_lawful = grind arith
 
   -- signals and looks
   stops_lawful : (slots : List RecordState) → is_lawful (stop_among c.heads.grace c.heads.time slots) ≡ true
-  stops_lawful [] = refl
-  stops_lawful (slot ∷ slots) = lawful_or (stop_step c.heads.grace c.heads.time slot) (stop_among c.heads.grace c.heads.time slots) (lawful_if (is_some slot.child && is_none slot.order && not slot.missed) (signal_step c.heads.grace c.heads.time slot.id slot.stop) (λ h. signal slot.stop)) (stops_lawful slots)
-    where
-      signal : (stop : Option Stop) → is_lawful (signal_step c.heads.grace c.heads.time slot.id stop) ≡ true
-      signal None = refl
-      signal (Some Due) = refl
-      signal (Some (Termed time)) = lawful_if (nat_le (time + c.heads.grace) c.heads.time) (Some (Order slot.id Kill)) (λ h. refl)
-      signal (Some (Killed time)) = refl
+  stops_lawful [] = grind arith
+  stops_lawful (slot ∷ slots) = grind (arith, stops_lawful slots)
 
   looks_lawful : (slots : List RecordState) → is_lawful (look_among slots) ≡ true
-  looks_lawful [] = refl
-  looks_lawful (slot ∷ slots) = at (can_look_record slot) (looks_lawful slots)
-    where
-      at : (b : Bool) → is_lawful (look_among slots) ≡ true → is_lawful (cond b (Some (Order slot.id Look)) (look_among slots)) ≡ true
-      at true rest = refl
-      at false rest = rest
+  looks_lawful [] = grind arith
+  looks_lawful (slot ∷ slots) = grind (arith, looks_lawful slots)
 
   -- a start, by the walk
   abbrev is_walked : Option Step → Bool
@@ -153,8 +80,7 @@ module _ (c : CoreState) (keeps : IsFit c) (now : Stage) (in_stage : c.heads.sta
   is_walked _ = false
 
   walked_or : (a b : Option Step) → is_walked a ≡ true → is_walked b ≡ true → is_walked (or_else a b) ≡ true
-  walked_or None b ha hb = hb
-  walked_or (Some step) b ha hb = ha
+  walked_or a b ha hb = grind arith
 
   walked : (ps : List (Entry × RecordState)) → is_walked (start_along now c.heads.time ps) ≡ true
   walked [] = refl
@@ -190,19 +116,13 @@ module _ (c : CoreState) (keeps : IsFit c) (now : Stage) (in_stage : c.heads.sta
       at (Some Idle) is h = absurd (false≢true h)
 
   work_lawful : is_lawful (work_step now c) ≡ true
-  work_lawful = lawful_unless (stands now c) (or_else (stop_among c.heads.grace c.heads.time c.slots) (cond (has_excluded c.slots) None (calm_step now c))) (λ still. lawful_or (stop_among c.heads.grace c.heads.time c.slots) (cond (has_excluded c.slots) None (calm_step now c)) (stops_lawful c.slots) (lawful_unless (has_excluded c.slots) (calm_step now c) calm))
-    where
-      calm : has_excluded c.slots ≡ false → is_lawful (calm_step now c) ≡ true
-      calm spared = lawful_or (start_along now c.heads.time (zip c.table c.slots)) (or_else (stage_step now c.heads.goal c.table c.slots) (settle_step now c.heads.announced c.heads.time c.table c.slots)) (starts_lawful spared)
-          (lawful_or (stage_step now c.heads.goal c.table c.slots) (settle_step now c.heads.announced c.heads.time c.table c.slots) stage_lawful settle_lawful)
+  work_lawful = grind (arith, lawful_unless, lawful_or, stops_lawful, starts_lawful, stage_lawful, settle_lawful)
 
   idle_lawful : (o : Option Step) → is_lawful o ≡ true → is_lawful (Some (or_idle o)) ≡ true
-  idle_lawful None h = refl
-  idle_lawful (Some step) h = h
+  idle_lawful o h = grind arith
 
   decided_lawful : (s : Step) → decide c ≡ s → is_lawful (Some s) ≡ true
-  decided_lawful s is = ap (λ x. is_lawful (Some x)) (sym is ∙ ap (λ o. decide_in o c) in_stage)
-      ∙ idle_lawful (or_else (wish_step now c) (or_else (work_step now c) (look_among c.slots))) (lawful_or (wish_step now c) (or_else (work_step now c) (look_among c.slots)) (lawful_if (is_quiet c.slots) (wished_step now c) wished_lawful) (lawful_or (work_step now c) (look_among c.slots) work_lawful (looks_lawful c.slots)))
+  decided_lawful s is = grind (arith, idle_lawful, lawful_or, lawful_if, wished_lawful, work_lawful, looks_lawful)
 
 -- a stage that is entered at a quiet point
 entered_keeps : (c : CoreState) → IsFit c → (next : Stage) (grace : ℕ) → is_quiet c.slots ≡ true → is_goal_reached (Some next) (wished c.heads.level_wish c.heads.goal) (is_boot next || c.heads.booted) ≡ true → IsFit (after_step (Enter next grace) c)
@@ -210,11 +130,7 @@ entered_keeps c keeps next grace quiet reached = kept_by (after_step (Enter next
 
 -- an entry that a step names may be called
 named_callable : (s : Step) (now : Option Stage) (e : Entry) → is_named s now e ≡ true → is_callable (Some e.act) ≡ true
-named_callable (Power power.Fail) now e h = or_left (is_called_by power.Fail e.act || is_called_by power.FailNow e.act || is_called_by power.Ok e.act) (is_ondemand e.act) (or_left (is_called_by power.Fail e.act || is_called_by power.FailNow e.act) (is_called_by power.Ok e.act) (or_left (is_called_by power.Fail e.act) (is_called_by power.FailNow e.act) (and_parts (is_called_by power.Fail e.act) (starts_in e now) h).0))
-named_callable (Power power.FailNow) now e h = or_left (is_called_by power.Fail e.act || is_called_by power.FailNow e.act || is_called_by power.Ok e.act) (is_ondemand e.act) (or_left (is_called_by power.Fail e.act || is_called_by power.FailNow e.act) (is_called_by power.Ok e.act) (or_right (is_called_by power.Fail e.act) (is_called_by power.FailNow e.act) (and_parts (is_called_by power.FailNow e.act) (starts_in e now) h).0))
-named_callable (Power power.Ok) now e h = or_left (is_called_by power.Fail e.act || is_called_by power.FailNow e.act || is_called_by power.Ok e.act) (is_ondemand e.act) (or_right (is_called_by power.Fail e.act || is_called_by power.FailNow e.act) (is_called_by power.Ok e.act) (and_parts (is_called_by power.Ok e.act) (starts_in e now) h).0)
-named_callable (Call letter) now e h = or_right (is_called_by power.Fail e.act || is_called_by power.FailNow e.act || is_called_by power.Ok e.act) (is_ondemand e.act) (and_parts (is_ondemand e.act) (names (OnCall letter) e.levels.items) (and_parts (is_ondemand e.act && names (OnCall letter) e.levels.items) (starts_in e now) h).0).0
-named_callable _ now e h = absurd (false≢true h)
+named_callable s now e h = grind arith
 
 -- a step that was decided
 step_in : (c : CoreState) → IsFit c → (now : Stage) → c.heads.stage ≡ Some now → (s : Step) → decide c ≡ s → IsFit (after_step s c)

@@ -1,40 +1,10 @@
 -- The core fits the trace with each step that it takes.
-use Rattle.std.proofs.Common.{◌≡◌, refl, sym, ◌∙◌, ap, ℕ, ◌+◌, Bool, true, false, not, ◌&&◌, cond, List, [], ◌∷◌, zip, map, nat_le, Option, Some, None, is_some, is_none}
-use Rattle.std.specs.List.{list_any}
-use Rattle.std.proofs.lemmas.Bool.{false≢true}
-use Rattle.init_words.specs.declared.entries.Entry.{Entry}
-use Rattle.init_words.specs.declared.levels.Level.{Level}
-use Rattle.init_words.specs.declared.stages.Stage.{Stage}
+use Rattle.core_model.proofs.Words.{arith, ◌≡◌, refl, sym, ◌∙◌, ap, ℕ, Bool, true, false, cond, List, [], ◌∷◌, map, Option, Some, None, list_any, false≢true, Entry, Level, Stage, Start, Look, Term, Kill, is_limited, same_id-self, entry_of, is_distinct, Step, Reread, Order, Reexec, Idle, Goal, Event, table_of, stage_of, time_of, in_run, goal_of, due, first, same_step, is_sound, MayRun, due_facts, sound_holds, RecordState, after_enter, after_judge, News, first_news, CoreState, decide, or_else, or_idle, after_step, LastStatuses, Fits, StillFits, lasts_after, heads_of, core_read, with_step}
 use Rattle.init_words.specs.declared.stages.Stage.TheVariants as stage
-use Rattle.init_words.specs.declared.orders.OrderKind.TheVariants.{Start, Look, Term, Kill}
-use Rattle.init_words.specs.Actions.{is_limited}
-use Rattle.init_words.proofs.Same.{same_id-self}
-use Rattle.inittab_text.specs.Tables.{entry_of, is_distinct}
 use Rattle.respawn_limit.specs.Window.{is_held}
 use Rattle.trace_events.specs.declared.happenings.Happening.TheVariants as event
-use Rattle.trace_events.specs.declared.steps.Step.{Step}
-use Rattle.trace_events.specs.declared.steps.Step.TheVariants.{Enter, Call, Power, Reread, Order, Hold, Settle, Reexec, Idle}
-use Rattle.trace_events.specs.declared.steps.Goal.{Goal}
-use Rattle.trace_events.specs.Event.{Event}
-use Rattle.trace_events.specs.Past.{table_of, stage_of, time_of}
-use Rattle.trace_events.specs.Wishes.{in_run, goal_of}
-use Rattle.trace_events.specs.Due.{due, first, same_step}
-use Rattle.trace_events.specs.Sound.{is_sound}
-use Rattle.trace_laws.proofs.Dues.{MayRun, due_facts}
-use Rattle.trace_laws.proofs.Keeps.{sound_holds}
-use Rattle.core_records.specs.declared.children.Stop.{Stop}
-use Rattle.core_records.specs.declared.children.Stop.TheVariants.{Due, Termed, Killed}
-use Rattle.core_records.specs.State.{RecordState}
-use Rattle.core_records.specs.Changes.{after_enter}
-use Rattle.core_records.specs.Judging.{after_judge}
-use Rattle.core_records.specs.Lists as lists
-use Rattle.core_model.specs.declared.news.News.{News}
-use Rattle.core_model.specs.News.{first_news}
-use Rattle.core_model.specs.State.{CoreState}
+use Rattle.trace_events.specs.declared.steps.Step.TheVariants.{Enter, Call, Power, Hold, Settle}
 use Rattle.core_model.specs.Decide as core
-use Rattle.core_model.specs.Decide.{decide, or_else, or_idle}
-use Rattle.core_model.specs.Steps.{after_step}
-use Rattle.core_model.specs.Fit.{LastStatuses, Fits, StillFits, lasts_after, heads_of, core_read, with_step}
 use Rattle.core_model.proofs.Fitted.{fit_stage, goes_on, still}
 use Rattle.core_model.proofs.Ordering.{look_ordered, term_ordered, kill_ordered, start_ordered, hold_made, power_called, letter_called}
 use Rattle.core_model.proofs.Newest.{by_first}
@@ -49,8 +19,7 @@ enters (Some (Enter next grace)) = true
 enters _ = false
 
 neither : (a b : Option Step) → enters a ≡ false → enters b ≡ false → enters (or_else a b) ≡ false
-neither None b ha hb = hb
-neither (Some step) b ha hb = ha
+neither a b ha hb = grind arith
 
 not_if : (b : Bool) (o : Option Step) → enters o ≡ false → enters (cond b o None) ≡ false
 not_if true o h = h
@@ -72,64 +41,30 @@ start_enters now time (p ∷ ps) = neither (core.start_step now time p.0 p.1) (c
     told false h a = refl
 
 stop_enters : (grace now : ℕ) (slots : List RecordState) → enters (core.stop_among grace now slots) ≡ false
-stop_enters grace now [] = refl
-stop_enters grace now (slot ∷ slots) = neither (core.stop_step grace now slot) (core.stop_among grace now slots) (not_if (is_some slot.child && is_none slot.order && not slot.missed) (core.signal_step grace now slot.id slot.stop) (signal slot.stop)) (stop_enters grace now slots)
-  where
-    signal : (o : Option Stop) → enters (core.signal_step grace now slot.id o) ≡ false
-    signal None = refl
-    signal (Some Due) = refl
-    signal (Some (Termed time)) = not_if (nat_le (time + grace) now) (Some (Order slot.id Kill)) refl
-    signal (Some (Killed time)) = refl
+stop_enters grace now [] = grind arith
+stop_enters grace now (slot ∷ slots) = grind (arith, stop_enters grace now slots)
 
 look_enters : (slots : List RecordState) → enters (core.look_among slots) ≡ false
-look_enters [] = refl
-look_enters (slot ∷ slots) = at (core.can_look_record slot) (look_enters slots)
-  where
-    at : (b : Bool) → enters (core.look_among slots) ≡ false → enters (cond b (Some (Order slot.id Look)) (core.look_among slots)) ≡ false
-    at true h = refl
-    at false h = h
+look_enters [] = grind arith
+look_enters (slot ∷ slots) = grind (arith, look_enters slots)
 
 news_enters : (news : News) → enters (first_news news) ≡ false
 news_enters = by_first (λ (n : News). enters (first_news n) ≡ false) (λ n o a b c. refl) (λ o a b c. refl) (λ a b c. refl) (λ b c. refl) (λ c. refl) refl refl
 
 -- in a run level in which no other is wished for the core enters no stage
 run_enters : (c : CoreState) (level : Level) → c.heads.level_wish ≡ None → enters (or_else (core.wish_step (stage.Run level) c) (or_else (core.work_step (stage.Run level) c) (core.look_among c.slots))) ≡ false
-run_enters c level none = neither (core.wish_step (stage.Run level) c) (or_else (core.work_step (stage.Run level) c) (core.look_among c.slots)) (not_if (lists.is_quiet c.slots) (core.wished_step (stage.Run level) c) wished)
-    (neither (core.work_step (stage.Run level) c) (core.look_among c.slots) (not_else (core.stands (stage.Run level) c) _ worked) (look_enters c.slots))
-  where
-    wished : enters (core.wished_step (stage.Run level) c) ≡ false
-    wished = at c.heads.reexec c.heads.reread
-      where
-        other : enters (or_else (core.level_step c.heads.booted c.heads.level_wish) (first_news c.heads.news)) ≡ false
-        other = ap (λ o. enters (or_else (core.level_step c.heads.booted o) (first_news c.heads.news))) none ∙ news_enters c.heads.news
-
-        at : (x r : Bool) → enters (cond x (Some Reexec) (cond r (Some Reread) (or_else (core.level_step c.heads.booted c.heads.level_wish) (first_news c.heads.news)))) ≡ false
-        at true r = refl
-        at false true = refl
-        at false false = other
-
-    worked : enters (or_else (core.stop_among c.heads.grace c.heads.time c.slots) (cond (core.has_excluded c.slots) None (core.calm_step (stage.Run level) c))) ≡ false
-    worked = neither (core.stop_among c.heads.grace c.heads.time c.slots) (cond (core.has_excluded c.slots) None (core.calm_step (stage.Run level) c)) (stop_enters c.heads.grace c.heads.time c.slots)
-        (not_else (core.has_excluded c.slots) (core.calm_step (stage.Run level) c)
-        (neither (core.start_among (stage.Run level) c.heads.time c.table c.slots) _ (start_enters (stage.Run level) c.heads.time (zip c.table c.slots))
-        (neither (core.stage_step (stage.Run level) c.heads.goal c.table c.slots) (core.settle_step (stage.Run level) c.heads.announced c.heads.time c.table c.slots)
-        (not_if (core.is_over_among (stage.Run level) c.table c.slots) None refl)
-        (not_if (not c.heads.announced && core.is_idle c.slots && core.all_served level c.heads.time c.table c.slots) (Some (Settle level)) refl))))
+run_enters c level none = grind (arith, neither, not_if, not_else, look_enters, news_enters, stop_enters, start_enters)
 
 entered_before : (c : CoreState) (o : Option Stage) → c.heads.level_wish ≡ None → (next : Stage) (grace : ℕ) → core.decide_in o c ≡ Enter next grace → in_run o ≡ false
-entered_before c None none next grace is = refl
-entered_before c (Some stage.Sysinit) none next grace is = refl
-entered_before c (Some stage.Boot) none next grace is = refl
 entered_before c (Some (stage.Run level)) none next grace is = absurd (false≢true (sym (run_enters c level none) ∙ ap enters (of_idle _ is)))
   where
     of_idle : (o : Option Step) → or_idle o ≡ Enter next grace → o ≡ Some (Enter next grace)
-    of_idle None is = cc
-    of_idle (Some step) is = ap Some is
+    of_idle o is = grind arith
+entered_before c o none next grace is = grind arith
 
 -- the first step is a due one
 first_due : (s : Step) (steps : List Step) → same_step s s ≡ true → (s ≡ Idle → ⊥) → first steps ≡ s → list_any (same_step s) steps ≡ true
-first_due s [] self busy is = absurd (busy (sym is))
-first_due s (x ∷ steps) self busy is = rw (is, self) refl
+first_due s steps self busy is = grind arith
 
 module _ (goal : Goal) (past : List Event) (c : CoreState) (sound : is_sound goal past ≡ true) (fits : Fits c goal past) where
   -- a step: the first that is due

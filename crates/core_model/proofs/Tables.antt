@@ -1,64 +1,22 @@
 -- A stage that is entered, and another table, make of the records what the past says after them.
-use Rattle.std.proofs.Common.{◌≡◌, refl, sym, ◌∙◌, ap, ℕ, ◌==◌, Bool, true, false, not, ◌&&◌, ◌||◌, cond, List, [], ◌∷◌, ◌++◌, map, filter, find, Option, Some, None, is_none, eq-eqb}
-use Rattle.std.specs.List.{list_any}
-use Rattle.std.specs.Option.{option_map, option_map_or, option_or}
-use Rattle.std.proofs.lemmas.Bool.{eqb-true, and_parts, or_left, not-true}
-use Rattle.std.proofs.lemmas.List.Folds.{list_any-append}
-use Rattle.std.proofs.lemmas.List.{map-append}
-use Rattle.std.proofs.lemmas.List.Elements.{filter-append, filter_agree}
-use Rattle.std.proofs.lemmas.Option.{none-some, same_Some}
-use Rattle.respawn_limit.specs.State.{unused}
-use Rattle.init_words.specs.declared.entries.Entry.{Entry}
-use Rattle.init_words.specs.declared.actions.Act.{Act}
-use Rattle.init_words.specs.declared.stages.Stage.{Stage}
-use Rattle.init_words.specs.declared.orders.OrderKind.{OrderKind}
-use Rattle.init_words.specs.Actions.{act_number, same_act, is_limited}
-use Rattle.init_words.specs.Entries.{lives_of}
-use Rattle.init_words.specs.Ids.{same_id}
-use Rattle.init_words.proofs.Same.{same_id-is, same_id-self}
-use Rattle.init_words.proofs.Tests.{both_ways, falsely, same_tests, any_less, filter_both, filter_within, find_none}
-use Rattle.inittab_text.specs.Tables.{ids_of, has_id, entry_of, act_of, is_distinct}
-use Rattle.trace_events.specs.declared.happenings.Happening.TheVariants.{NewTable, Enter}
-use Rattle.trace_events.specs.declared.steps.Goal.{Goal}
-use Rattle.trace_events.specs.Event.{Event}
-use Rattle.trace_events.specs.Past.{table_of, stage_of, Child, is_of, has_child, open_of, kept_children, known_children}
-use Rattle.trace_events.specs.Wanted.{same_acts, may_live, is_asked, is_excluded}
-use Rattle.trace_events.specs.Spells.{spell_hits, is_missed}
-use Rattle.trace_events.specs.Due.{left_ids, record_ids, wants_look}
-use Rattle.trace_events.specs.Sound.{is_sound}
+use Rattle.core_model.proofs.Words.{arith, ◌≡◌, refl, sym, ◌∙◌, ap, ℕ, Bool, true, false, not, ◌&&◌, cond, List, [], ◌∷◌, ◌++◌, map, filter, find, Option, Some, None, is_none, list_any, option_map, option_map_or, option_or, and_parts, or_left, not-true, list_any-append, map-append, filter-append, filter_agree, none-some, same_Some, unused, Entry, Act, Stage, same_act, is_limited, same_id, same_id-is, same_id-self, both_ways, falsely, filter_both, filter_within, find_none, ids_of, has_id, entry_of, act_of, is_distinct, NewTable, Goal, Event, table_of, stage_of, Child, has_child, known_children, same_acts, is_asked, spell_hits, is_missed, left_ids, record_ids, is_sound, ids_listed, entry_listed, child_in_records, open_in_records, spell_none, spell_enter, missed_enter, spell_table, missed_table, Stop, Due, RecordState, record_by_id, after_enter, judged, judged_child, after_judge, adopted, left_over, is_left_over, entry_records, left_records, judged_in, LastStatuses, child_known, living, known_child, stop_after, stop_known, stop_of, was_missed, limiter_by, asked_of, lasts_after, records_of}
+use Rattle.trace_events.specs.declared.happenings.Happening.TheVariants.{Enter}
+use Rattle.trace_events.specs.Wanted.{is_excluded}
 use Rattle.std.proofs.Math.Bool.{and_comm}
 use Rattle.trace_laws.proofs.Tests.{never}
-use Rattle.trace_laws.proofs.Records.{ids_listed}
-use Rattle.trace_laws.proofs.Orders.{known_kept}
-use Rattle.trace_laws.proofs.Keeps.{sound_holds, entry_listed}
-use Rattle.trace_laws.proofs.Records.{child_in_records, open_in_records}
-use Rattle.trace_laws.proofs.Spells.{spell_none, spell_enter, missed_enter, spell_table, missed_table}
-use Rattle.core_records.specs.declared.children.Stop.{Stop}
-use Rattle.core_records.specs.declared.children.Stop.TheVariants.{Due}
-use Rattle.core_records.specs.State.{RecordState, is_act}
-use Rattle.core_records.specs.Lists.{record_by_id}
-use Rattle.core_records.specs.Changes.{after_enter}
-use Rattle.core_records.specs.Judging.{judged, judged_child, after_judge}
+use Rattle.core_records.specs.State.{is_act}
 use Rattle.core_records.specs.Judging as judging
-use Rattle.core_records.specs.Adopting.{adopted, left_over, is_left_over, entry_records, left_records}
 use Rattle.core_records.specs.Adopting as adopting
-use Rattle.core_model.specs.Steps.{judged_in}
-use Rattle.core_model.specs.Fit.{LastStatuses, child_known, living, known_child, stop_after, stop_known, stop_of, is_to_look, was_missed, limiter_by, asked_of, lasts_after, record_of, records_of}
+use Rattle.core_model.specs.Fit.{record_of}
 use Rattle.core_model.proofs.Acts.{found_own, child_some, found_record, no_record}
 
 -- two actions are one either way
 same_act-sym : (a b : Act) → same_act a b ≡ same_act b a
-same_act-sym a b = same_tests (same_act a b) (same_act b a) (flip (act_number a) (act_number b)) (flip (act_number b) (act_number a)) where
-  flip : (m n : ℕ) → (m == n) ≡ true → (n == m) ≡ true
-  flip m n h = eq-eqb n m (sym (eqb-true m n h))
+same_act-sym a b = grind arith
 
 -- where a stage is in force, a record's child is excluded exactly if the child is
 pub excluded_same : (past : List Event) (stage : Stage) → stage_of past ≡ Some stage → (child : Child) → judging.is_excluded stage child.act (entry_of child.id (table_of past)) ≡ is_excluded past child
-excluded_same past stage now child = by (entry_of child.id (table_of past)) child.act ∙ ap (λ s. not (may_live (entry_of child.id (table_of past)) child.act s)) (sym now) where
-  by : (e : Option Entry) (born : Option Act) → judging.is_excluded stage born e ≡ not (may_live e born (Some stage))
-  by None born = refl
-  by (Some e) None = refl
-  by (Some e) (Some action) = ap (λ b. not (b && lives_of e stage)) (same_act-sym action e.act)
+excluded_same past stage now child = grind arith
 
 -- a happening that cuts the spell of each child that it does not exclude: the records are judged
 module _ (next past : List Event) (hits : (child : Child) → spell_hits child next ≡ cond (is_excluded next child) (spell_hits child past) []) (misses : (child : Child) → is_missed child next ≡ (is_excluded next child && is_missed child past)) where
@@ -87,11 +45,7 @@ module _ (next past : List Event) (hits : (child : Child) → spell_hits child n
 
 -- what a record keeps of an entry, where the past has nothing since the stage began
 unused_same : (o : Option Entry) → unused ≡ option_map_or (λ (e : Entry). limiter_by (is_limited e.act) [] []) o unused
-unused_same None = refl
-unused_same (Some e) = by (is_limited e.act) where
-  by : (b : Bool) → unused ≡ limiter_by b [] []
-  by true = refl
-  by false = refl
+unused_same o = grind arith
 
 -- two changes one after the other, along a list
 pub mapped : {X : Type 0} (f : RecordState → RecordState) (g k : X → RecordState) → ((x : X) → f (g x) ≡ k x) → (xs : List X) → map f (map g xs) ≡ map k xs
@@ -119,10 +73,7 @@ entry_own id (x ∷ es) e there = split (same_id id x.id) refl there (entry_own 
 
 pub none_found : {X : Type 0} (p : X → Bool) (xs : List X) → is_none (find p xs) ≡ not (list_any p xs)
 none_found p [] = refl
-none_found {X} p (x ∷ xs) = split (p x) (none_found p xs) where
-  split : (b : Bool) → is_none (find p xs) ≡ not (list_any p xs) → is_none (cond b (Some x) (find p xs)) ≡ not (b || list_any p xs)
-  split true rest = refl
-  split false rest = rest
+none_found {X} p (x ∷ xs) = grind (arith, none_found p xs)
 
 -- along a table in which no id stands twice each entry is that of its id
 along : (table : List Entry) → is_distinct table ≡ true → (f g : Entry → RecordState) → ((e : Entry) → entry_of e.id table ≡ Some e → f e ≡ g e) → map f table ≡ map g table
@@ -150,17 +101,11 @@ judged_all None table slots = sym (each slots) where
 -- a filter of what is mapped
 pub filter_mapped : {X Y : Type 0} (p : Y → Bool) (f : X → Y) (xs : List X) → filter p (map f xs) ≡ map f (filter (λ x. p (f x)) xs)
 filter_mapped p f [] = refl
-filter_mapped {X} p f (x ∷ xs) = split (p (f x)) (filter_mapped p f xs) where
-  split : (b : Bool) → filter p (map f xs) ≡ map f (filter (λ y. p (f y)) xs) → cond b (f x ∷ filter p (map f xs)) (filter p (map f xs)) ≡ map f (cond b (x ∷ filter (λ y. p (f y)) xs) (filter (λ y. p (f y)) xs))
-  split true same = ap (λ rest. f x ∷ rest) same
-  split false same = same
+filter_mapped {X} p f (x ∷ xs) = grind (arith, filter_mapped p f xs)
 
 pub mapped_passing : {X Y : Type 0} (q : X → Bool) (f g : X → Y) → ((x : X) → q x ≡ true → f x ≡ g x) → (xs : List X) → map f (filter q xs) ≡ map g (filter q xs)
 mapped_passing q f g same [] = refl
-mapped_passing {X} q f g same (x ∷ xs) = split (q x) refl (mapped_passing q f g same xs) where
-  split : (b : Bool) → q x ≡ b → map f (filter q xs) ≡ map g (filter q xs) → map f (cond b (x ∷ filter q xs) (filter q xs)) ≡ map g (cond b (x ∷ filter q xs) (filter q xs))
-  split true passes rest = λ i. same x passes i ∷ rest i
-  split false fails rest = rest
+mapped_passing {X} q f g same (x ∷ xs) = grind (arith, mapped_passing q f g same xs)
 
 -- an id of the table in force has a record
 pub listed_record : (id : List ℕ) (past : List Event) → list_any (has_id id) (table_of past) ≡ true → list_any (same_id id) (record_ids past) ≡ true
@@ -174,17 +119,9 @@ module _ (lasts : LastStatuses) (goal : Goal) (table : List Entry) (past : List 
   abbrev later : LastStatuses
   later = lasts_after (NewTable table) past lasts
 
-  -- before the first stage no child is known
-  dawn_none : stage_of past ≡ None → (id : List ℕ) → child_known id past ≡ None
-  dawn_none dawn id = find_none (is_of id) (known_children past) (falsely (has_child id (known_children past)) (list_any (λ (child : Child). true) (kept_children past)) (λ there. any_less (is_of id) (λ child. true) (λ child _. refl) (kept_children past) (known_kept (is_of id) past there)) ((sound_holds goal past sound).dawn dawn))
-
   judged_record : (o : Option Stage) → stage_of past ≡ o → (id : List ℕ) (slot : RecordState) → slot.id ≡ id → slot.child ≡ known_child id past → slot.stop ≡ stop_of id past → slot.missed ≡ was_missed id past → judged_by o table slot ≡ record slot { stop = stop_of id next; missed = was_missed id next }
   judged_record (Some stage) now id slot is child stop missed = judged_known next past (λ c. spell_table c table past) (λ c. missed_table c table past) stage now id slot is child stop missed
-  judged_record None now id slot is child stop missed =
-      let none : child_known id past ≡ None = dawn_none now id in
-      let stops : slot.stop ≡ stop_of id next = stop ∙ ap (stop_known past) none ∙ sym (ap (stop_known next) none) in
-      let misses : slot.missed ≡ was_missed id next = missed ∙ ap (λ c. option_map_or (λ child. is_missed child past) c false) none ∙ sym (ap (λ c. option_map_or (λ child. is_missed child next) c false) none) in
-      λ i. record slot { stop = stops i; missed = misses i }
+  judged_record None now id slot is child stop missed = grind arith
 
   -- what was asked of an entry of the table
   asked_same : (e : Entry) → entry_of e.id table ≡ Some e → (asked_of e.id past && is_act e.act (act_of e.id (table_of past))) ≡ asked_of e.id next
@@ -211,42 +148,9 @@ module _ (lasts : LastStatuses) (goal : Goal) (table : List Entry) (past : List 
   entered_record e = record (record_of lasts past e.id) { table_act = Some e.act; asked = asked_of e.id past && is_act e.act (act_of e.id (table_of past)); called = false; limiter = unused; last = later e.id }
 
   adopted_same : (e : Entry) → adopted e (record_by_id e.id (records_of lasts past)) ≡ entered_record e
-  adopted_same e = by (list_any (same_id e.id) (record_ids past)) refl where
-    by : (b : Bool) → list_any (same_id e.id) (record_ids past) ≡ b → adopted e (record_by_id e.id (records_of lasts past)) ≡ entered_record e
-    by true there = ap (adopted e) (found_record lasts past e.id (record_ids past) there) ∙ (λ i. record (adopted e (Some (record_of lasts past e.id))) { last = last_kept e.id there i })
-    by false none = ap (adopted e) (no_record lasts past e.id (record_ids past) none) ∙ (λ i. record {
-      id = e.id;
-      table_act = Some e.act;
-      child = option_map living (childless i);
-      order = unasked i;
-      stop = stop_known past (childless i);
-      asked = option_map_or (λ (x : Entry). is_asked x.id past) (unlisted i) false && is_act e.act (option_map (λ (x : Entry). x.act) (unlisted i));
-      called = false;
-      look = unlooked i;
-      missed = option_map_or (λ child. is_missed child past) (childless i) false;
-      limiter = unused;
-      last = last_new i;
-    }) where
-      no_child : has_child e.id (known_children past) ≡ false
-      no_child = falsely (has_child e.id (known_children past)) (list_any (same_id e.id) (record_ids past)) (child_in_records goal past sound e.id) none
-
-      childless : None ≡ child_known e.id past
-      childless = sym (find_none (is_of e.id) (known_children past) no_child)
-
-      unasked : None ≡ open_of e.id past
-      unasked = read (open_of e.id past) refl where
-        read : (o : Option OrderKind) → open_of e.id past ≡ o → None ≡ o
-        read None is = refl
-        read (Some ask) is = both_ways (list_any (same_id e.id) (record_ids past)) (open_in_records goal past sound e.id ask is) none
-
-      unlisted : None ≡ entry_of e.id (table_of past)
-      unlisted = sym (find_none (has_id e.id) (table_of past) (falsely (list_any (has_id e.id) (table_of past)) (list_any (same_id e.id) (record_ids past)) (listed_record e.id past) none))
-
-      last_new : None ≡ later e.id
-      last_new = sym (ap (λ b. cond b (lasts e.id) None) none)
-
-      unlooked : false ≡ is_to_look e.id past
-      unlooked = sym (ap (λ b. b && wants_look e.id past) no_child)
+  adopted_same e =
+      grind (arith, found_record, last_kept, no_record, falsely, child_in_records, find_none, both_ways,
+          open_in_records, listed_record)
 
   entry_same : (e : Entry) → entry_of e.id table ≡ Some e → judged_by (stage_of past) table (adopted e (record_by_id e.id (records_of lasts past))) ≡ record_of later next e.id
   entry_same e found = ap (judged_by (stage_of past) table) (adopted_same e) ∙ judged_record (stage_of past) refl e.id (entered_record e) refl refl refl refl ∙ (λ i. record (record_of later next e.id) { table_act = option_map (λ (x : Entry). x.act) (sym found i); asked = asked_same e found i; called = never (entry_of e.id table) i; limiter = unused_same (entry_of e.id table) i })
@@ -281,15 +185,7 @@ module _ (lasts : LastStatuses) (goal : Goal) (table : List Entry) (past : List 
   left_ids_next = filter_both is_kept has_left (ids_of (table_of past) ++ left_ids past)
 
   left_same : (id : List ℕ) → stays id ≡ true → judged_by (stage_of past) table (left_over (record_of lasts past id)) ≡ record_of later next id
-  left_same id h = judged_record (stage_of past) refl id (left_over (record_of lasts past id)) refl refl refl refl ∙ (λ i. record (record_of later next id) { table_act = option_map (λ (x : Entry). x.act) (none i); asked = off_asked none i; called = never (entry_of id table) i; limiter = unused_same (entry_of id table) i; last = last_kept id placed i }) where
-    placed : list_any (same_id id) (record_ids past) ≡ true
-    placed = child_in_records goal past sound id (and_parts (has_left id) (is_kept id) h).1
-
-    none : None ≡ entry_of id table
-    none = sym (find_none (has_id id) table (not-true (list_any (has_id id) table) (and_parts (has_left id) (is_kept id) h).0))
-
-    off_asked : None ≡ entry_of id table → false ≡ asked_of id next
-    off_asked gone = ap (λ o. option_map_or (λ (x : Entry). is_asked x.id next) o false) gone
+  left_same id h = grind (arith, judged_record, never, unused_same, last_kept, child_in_records, find_none, not-true)
 
   lefts_same : judged_in (stage_of past) table (left_records table (records_of lasts past)) ≡ map (record_of later next) (filter is_kept (left_ids next))
   lefts_same = judged_all (stage_of past) table (left_records table (records_of lasts past)) ∙ ap (λ slots. map (judged_by (stage_of past) table) (map left_over slots)) (filter_mapped (is_left_over table) (record_of lasts past) (record_ids past) ∙ ap (map (record_of lasts past)) left_over_ids) ∙ ap (map (judged_by (stage_of past) table)) (mapped left_over (record_of lasts past) (λ id. left_over (record_of lasts past id)) (λ id. refl) kept) ∙ mapped (judged_by (stage_of past) table) (λ id. left_over (record_of lasts past id)) (λ id. judged_by (stage_of past) table (left_over (record_of lasts past id))) (λ id. refl) kept ∙ mapped_passing stays (λ id. judged_by (stage_of past) table (left_over (record_of lasts past id))) (record_of later next) left_same (ids_of (table_of past) ++ left_ids past) ∙ ap (map (record_of later next)) (sym left_ids_next) where
@@ -299,5 +195,4 @@ module _ (lasts : LastStatuses) (goal : Goal) (table : List Entry) (past : List 
 pub table_records : (lasts : LastStatuses) → (goal : Goal) (table : List Entry) (past : List Event) → is_sound goal past ≡ true → is_distinct table ≡ true → judged_in (stage_of past) table (adopting.after_adopt table (records_of lasts past)) ≡ records_of (lasts_after (NewTable table) past lasts) (NewTable table ∷ past)
 table_records lasts goal table past sound distinct = both (stage_of past) (entry_records table (records_of lasts past)) (left_records table (records_of lasts past)) ∙ (λ i. (entries_same lasts) goal table past sound distinct i ++ (lefts_same lasts) goal table past sound distinct i) ∙ sym (map-append (record_of (lasts_after (NewTable table) past lasts) (NewTable table ∷ past)) (ids_of table) (filter (λ id. has_child id (known_children past)) (left_ids (NewTable table ∷ past)))) where
   both : (o : Option Stage) (xs ys : List RecordState) → judged_in o table (xs ++ ys) ≡ judged_in o table xs ++ judged_in o table ys
-  both None xs ys = refl
-  both (Some stage) xs ys = map-append (after_judge table stage) xs ys
+  both o xs ys = grind (arith, map-append)

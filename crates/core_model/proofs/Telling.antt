@@ -1,57 +1,20 @@
 -- An answer that is told makes of the records what the past says after it, and it is of the order that a record has.
-use Rattle.std.proofs.Common.{◌≡◌, refl, sym, ◌∙◌, ap, ℕ, Bool, true, false, not, ◌&&◌, ◌||◌, cond, List, [], ◌∷◌, ◌++◌, map, filter, Option, Some, None, is_some, is_none, Ok, Err}
-use Rattle.std.specs.List.{list_any}
-use Rattle.std.specs.Option.{option_map, option_map_or}
-use Rattle.std.proofs.lemmas.Bool.{false≢true, and_right, or_parts, not-true}
-use Rattle.std.proofs.lemmas.List.Elements.{filter-append, filter_agree}
-use Rattle.init_words.specs.declared.entries.Entry.{Entry}
-use Rattle.init_words.specs.declared.children.Status.{Status}
-use Rattle.init_words.specs.declared.orders.OrderKind.{OrderKind}
-use Rattle.init_words.specs.declared.orders.OrderKind.TheVariants.{Start, Look, Term, Kill}
-use Rattle.init_words.specs.declared.orders.Answer.{Answer}
+use Rattle.core_model.proofs.Words.{arith, ◌≡◌, refl, sym, ◌∙◌, ap, ℕ, Bool, true, false, not, ◌&&◌, ◌||◌, cond, List, [], ◌∷◌, ◌++◌, map, filter, Option, Some, None, is_some, is_none, Ok, list_any, option_map, option_map_or, false≢true, and_right, not-true, filter-append, filter_agree, Entry, Status, OrderKind, Start, Look, Term, Kill, Answer, same_id, answers, is_hit, is_miss, same_id-is, same_id-self, same_id-sym, both_ways, and_false, and_true, filter_both, find_none, ids_of, has_id, entry_of, act_of, Told, Goal, Event, table_of, time_of, Child, is_of, has_child, open_of, newborn, unreaped_children, known_children, answered_of, child_after, untold_hits, has_untold_miss, told_at, spell_hits, is_missed, left_ids, record_ids, wants_look, is_sound, is_signal, told_other, same_has, open_in_records, start_in_table, ids_listed, missed_none, spell_told, missed_told, Tells, answered_tells, born_open, newborn_spared, unborn_childless, unborn_unlooked, left_apart, signal_excluded, signal_unmissed, has_after, told_leaves, answered_known, Stop, RecordState, after_hit, after_answer, is_over, LastStatuses, child_known, living, stop_after, stop_known, stop_of, is_to_look, was_missed, last_told, lasts_after, records_of}
 use Rattle.init_words.specs.declared.orders.Answer.TheVariants as answer
-use Rattle.init_words.specs.declared.refusals.Refusal.TheVariants.{WrongAnswer}
-use Rattle.init_words.specs.Ids.{same_id}
-use Rattle.init_words.specs.Orders.{answers, is_hit, is_miss}
-use Rattle.init_words.proofs.Same.{same_id-is, same_id-self, same_id-sym}
-use Rattle.init_words.proofs.Tests.{both_ways, and_false, and_true, filter_both, find_none}
-use Rattle.inittab_text.specs.Tables.{ids_of, has_id, entry_of, act_of}
-use Rattle.trace_events.specs.declared.happenings.Happening.TheVariants.{Told}
-use Rattle.trace_events.specs.declared.steps.Goal.{Goal}
-use Rattle.trace_events.specs.Event.{Event}
-use Rattle.trace_events.specs.Past.{table_of, time_of, Child, is_of, has_child, open_of, newborn, unreaped_children, known_children}
 use Rattle.trace_events.specs.Wanted.{is_excluded}
-use Rattle.trace_events.specs.Answered.{answered_of, child_after}
-use Rattle.trace_events.specs.Spells.{untold_hits, has_untold_miss, told_at, spell_hits, is_missed}
-use Rattle.trace_events.specs.Due.{left_ids, record_ids, wants_look}
-use Rattle.trace_events.specs.Sound.{is_sound}
-use Rattle.trace_laws.proofs.Dues.{is_signal}
-use Rattle.trace_laws.proofs.Orders.{told_other, same_has}
 use Rattle.trace_laws.proofs.Told.{answers_open, same_find, told_child}
-use Rattle.trace_laws.proofs.Records.{open_in_records, start_in_table, ids_listed}
-use Rattle.trace_laws.proofs.Spells.{missed_none, spell_told, missed_told, Tells, answered_tells}
-use Rattle.trace_laws.proofs.Stopping.{born_open, newborn_spared, unborn_childless, unborn_unlooked, left_apart, signal_excluded, signal_unmissed, has_after, told_leaves, answered_known}
-use Rattle.core_records.specs.declared.children.Stop.{Stop}
-use Rattle.core_records.specs.State.{RecordState}
-use Rattle.core_records.specs.Changes.{after_hit, after_answer, is_over}
 use Rattle.core_records.specs.Lists as lists
-use Rattle.core_model.specs.Fit.{LastStatuses, child_known, living, stop_after, stop_known, stop_of, is_to_look, was_missed, last_told, lasts_after, record_of, records_of}
+use Rattle.core_model.specs.Fit.{record_of}
 use Rattle.core_model.proofs.Acts.{found_own, child_some, found_record, stop_same, missed_same}
 use Rattle.core_model.proofs.Tables.{none_found, mapped, filter_mapped, mapped_passing}
 
 -- the record of an answered id is there, with an open order that is answered so
 module _ (lasts : LastStatuses) (goal : Goal) (past : List Event) (sound : is_sound goal past ≡ true) (id : List ℕ) (given : Answer) (is : answered_of id past ≡ Some given) where
   answered_record : lists.record_by_id id (records_of lasts past) ≡ Some (record_of lasts past id)
-  answered_record = read (open_of id past) refl (answers_open goal past sound id given is) where
-    read : (o : Option OrderKind) → open_of id past ≡ o → option_map_or (answers given) o false ≡ true → lists.record_by_id id (records_of lasts past) ≡ Some (record_of lasts past id)
-    read None order h = absurd (false≢true h)
-    read (Some ask) order h = found_record lasts past id (record_ids past) (open_in_records goal past sound id ask order)
+  answered_record = grind (arith, answers_open, found_record, open_in_records)
 
   pub told_taken : lists.refusal_of (lists.order_in id (records_of lasts past)) given ≡ Ok tt
-  told_taken = ap (λ o. lists.refusal_of (lists.order_of o) given) answered_record ∙ read (open_of id past) (answers_open goal past sound id given is) where
-    read : (o : Option OrderKind) → option_map_or (answers given) o false ≡ true → lists.refusal_of o given ≡ Ok tt
-    read None h = absurd (false≢true h)
-    read (Some ask) h = ap (λ b. cond b (Ok tt) (Err WrongAnswer)) h
+  told_taken = grind (arith, answered_record, answers_open)
 
 -- a Told of another id leaves the record of an id
 module _ (lasts : LastStatuses) (past : List Event) (id x : List ℕ) (differ : same_id x id ≡ false) where
@@ -68,20 +31,10 @@ module _ (lasts : LastStatuses) (past : List Event) (id x : List ℕ) (differ : 
   other_stop = ap (stop_known (Told id ∷ past)) other_child ∙ stop_same (Told id ∷ past) past (child_known x past) (λ child there. refl) (λ child there. spell_told child id past ∙ ap (λ b. cond (b && is_excluded past child) (map (told_at (time_of past)) (untold_hits child.id past) ++ spell_hits child past) (spell_hits child past)) (apart child there))
 
   other_missed : was_missed x (Told id ∷ past) ≡ was_missed x past
-  other_missed = ap (λ o. option_map_or (λ child. is_missed child (Told id ∷ past)) o false) other_child ∙ missed_same (Told id ∷ past) past (child_known x past) (λ child there. missed_told child id past ∙ ap (λ b. is_excluded past child && (b && has_untold_miss child.id past || is_missed child past)) (apart child there) ∙ goes_on (is_excluded past child) (is_missed child past) (missed_none child past)) where
-    goes_on : (b c : Bool) → (b ≡ false → c ≡ false) → (b && c) ≡ c
-    goes_on true c none = refl
-    goes_on false c none = sym (none refl)
+  other_missed = grind (arith, other_child, missed_same, missed_told, apart, missed_none)
 
   told_apart : record_of lasts past x ≡ record_of (lasts_after (Told id) past lasts) (Told id ∷ past) x
-  told_apart = sym (λ i. record (record_of lasts past x) {
-    child = option_map living (other_child i);
-    order = cond (differ i) None (open_of x past);
-    stop = other_stop i;
-    look = other_has i && wants_look x past;
-    missed = other_missed i;
-    last = cond (differ i) (last_told (answered_of x past) (lasts x)) (lasts x);
-  })
+  told_apart = grind (arith, other_child, other_stop, other_has, other_missed)
 
 -- the record of the id whose answer is told
 module _ (lasts : LastStatuses) (goal : Goal) (past : List Event) (sound : is_sound goal past ≡ true) (id : List ℕ) where
@@ -127,17 +80,7 @@ module _ (lasts : LastStatuses) (goal : Goal) (past : List Event) (sound : is_so
 
   -- the record with a child, a stop, a look, a Miss and a last status that are those of the past after the Told
   told_as : (child : Option Child) (stop : Option Stop) (look missed : Bool) (last : Option Status) → child_known id next ≡ child → stop ≡ stop_known next child → look ≡ is_to_look id next → missed ≡ option_map_or (λ (c : Child). is_missed c next) child false → last ≡ later id → record (record_of lasts past id) { child = option_map living child; order = None; stop = stop; look = look; missed = missed; last = last } ≡ record_of later next id
-  told_as child stop look missed last known stops looks misses ends =
-      let stops_all : stop ≡ stop_of id next = stops ∙ ap (stop_known next) (sym known) in
-      let misses_all : missed ≡ was_missed id next = misses ∙ ap (λ o. option_map_or (λ (c : Child). is_missed c next) o false) (sym known) in
-      λ i. record (record_of lasts past id) {
-        child = option_map living (sym known i);
-        order = cond (sym (same_id-self id) i) None (open_of id past);
-        stop = stops_all i;
-        look = looks i;
-        missed = misses_all i;
-        last = ends i;
-      }
+  told_as child stop look missed last known stops looks misses ends = grind (arith, same_id-self)
 
   -- of an answer that leaves the child
   module _ (given : Answer) (is : answered_of id past ≡ Some given) (child_stays : (o : Option Child) → child_after id past given o ≡ o) (has_stays : (b : Bool) → has_after given b ≡ b) (last_stays : (o : Option Status) → last_told (Some given) o ≡ o) where
@@ -247,16 +190,12 @@ module _ (lasts : LastStatuses) (goal : Goal) (past : List Event) (sound : is_so
 
 -- a filter that hides one id alone, where it isn't listed; and two filters that are one on the other ids
 hides_none : (id : List ℕ) (xs : List (List ℕ)) → list_any (same_id id) xs ≡ false → filter (λ x. not (same_id id x)) xs ≡ xs
-hides_none id [] none = refl
-hides_none id (x ∷ xs) none =
-    let parts = or_parts (same_id id x) (list_any (same_id id) xs) none in
-    rw parts.0 (ap (λ rest. x ∷ rest) (hides_none id xs parts.1))
+hides_none id [] none = grind arith
+hides_none id (x ∷ xs) none = grind (arith, hides_none id xs)
 
 alike_but : (id : List ℕ) (p q : List ℕ → Bool) → ((x : List ℕ) → same_id id x ≡ false → p x ≡ q x) → (xs : List (List ℕ)) → list_any (same_id id) xs ≡ false → filter p xs ≡ filter q xs
-alike_but id p q same [] none = refl
-alike_but id p q same (x ∷ xs) none =
-    let parts = or_parts (same_id id x) (list_any (same_id id) xs) none in
-    λ i. cond (same x parts.0 i) (x ∷ alike_but id p q same xs parts.1 i) (alike_but id p q same xs parts.1 i)
+alike_but id p q same [] none = grind arith
+alike_but id p q same (x ∷ xs) none = grind (arith, alike_but id p q same xs)
 
 -- an action is known exactly of the ids of a table
 act_listed : (id : List ℕ) (es : List Entry) → is_none (act_of id es) ≡ not (list_any (has_id id) es)
@@ -297,10 +236,7 @@ module _ (lasts : LastStatuses) (goal : Goal) (past : List Event) (sound : is_so
   ids_stay there = ap (λ rest. ids_of (table_of past) ++ rest) (alike_but id is_kept kept_after (λ x differ. sym (kept_other x differ)) (left_ids past) (left_apart goal past sound id there))
 
   ids_kept : ((b : Bool) → has_after given b ≡ b) → record_ids past ≡ record_ids after
-  ids_kept stays = ap (λ rest. ids_of (table_of past) ++ rest) (filter_agree is_kept kept_after (λ x. by x (same_id id x) refl) (left_ids past)) where
-    by : (x : List ℕ) (b : Bool) → same_id id x ≡ b → is_kept x ≡ kept_after x
-    by x true same = sym (kept_own x same ∙ stays (is_kept x))
-    by x false differ = sym (kept_other x differ)
+  ids_kept stays = grind (arith, filter_agree, kept_own, kept_other)
 
   -- the record of a child that ended goes, where the table doesn't have the id
   ended_without : list_any (has_id id) (table_of past) ≡ false → ((b : Bool) → has_after given b ≡ false) → lists.without id (records_of lasts past) ≡ records_of lasts_then after
@@ -326,13 +262,5 @@ module _ (lasts : LastStatuses) (goal : Goal) (past : List Event) (sound : is_so
 
 -- the records after an answer was told
 pub told_records : (lasts : LastStatuses) → (goal : Goal) (past : List Event) → is_sound goal past ≡ true → (id : List ℕ) (given : Answer) → answered_of id past ≡ Some given → lists.after_told id given (time_of past) (records_of lasts past) ≡ records_of (lasts_after (Told id) past lasts) (Told id ∷ past)
-told_records lasts goal past sound id (answer.Born n) is = stays_same lasts goal past sound id (answer.Born n) is refl (ids_stay lasts goal past sound id (answer.Born n) is (start_in_table goal past sound id (born_open goal past sound id n is)))
-told_records lasts goal past sound id (answer.Ended status) is = by (list_any (has_id id) (table_of past)) refl where
-  by : (b : Bool) → list_any (has_id id) (table_of past) ≡ b → lists.after_told id (answer.Ended status) (time_of past) (records_of lasts past) ≡ records_of (lasts_after (Told id) past lasts) (Told id ∷ past)
-  by true there = stays_same lasts goal past sound id (answer.Ended status) is (act_listed id (table_of past) ∙ ap not there) (ids_stay lasts goal past sound id (answer.Ended status) is there)
-  by false gone = goes_same lasts goal past sound id (answer.Ended status) is (act_listed id (table_of past) ∙ ap not gone) gone (λ b. refl)
-told_records lasts goal past sound id answer.NotBorn is = stays_same lasts goal past sound id answer.NotBorn is refl (ids_kept lasts goal past sound id answer.NotBorn is (λ b. refl))
-told_records lasts goal past sound id answer.Alive is = stays_same lasts goal past sound id answer.Alive is refl (ids_kept lasts goal past sound id answer.Alive is (λ b. refl))
-told_records lasts goal past sound id answer.NoLook is = stays_same lasts goal past sound id answer.NoLook is refl (ids_kept lasts goal past sound id answer.NoLook is (λ b. refl))
-told_records lasts goal past sound id answer.Hit is = stays_same lasts goal past sound id answer.Hit is refl (ids_kept lasts goal past sound id answer.Hit is (λ b. refl))
-told_records lasts goal past sound id answer.Miss is = stays_same lasts goal past sound id answer.Miss is refl (ids_kept lasts goal past sound id answer.Miss is (λ b. refl))
+told_records lasts goal past sound id given is =
+    grind (arith, stays_same, ids_stay, start_in_table, born_open, act_listed, goes_same, ids_kept)

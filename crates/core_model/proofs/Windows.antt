@@ -1,26 +1,9 @@
 -- The limiter's starts and hold say of the window what the past says.
-use Rattle.std.proofs.Common.{Bool, true, false, not, ◌≡◌, ◌≤◌, ◌+◌, ◌&&◌, ◌||◌, ℕ, List, [], ◌∷◌, reverse, filter, length, max, min, nat_le, nat_lt, Option, Some, None, refl, sym, ap, ◌∙◌, arith, cond, All}
-use Rattle.std.specs.List.{list_any, list_all}
-use Rattle.std.specs.List.Sorted.{IsNonDecreasing}
-use Rattle.std.proofs.lemmas.Bool.{and_parts, and_from, leb-true, le-leb}
-use Rattle.std.proofs.lemmas.Bool.Decides.{nat_tests}
-use Rattle.std.proofs.lemmas.Grind.{reverse_onto}
-use Rattle.std.proofs.lemmas.List.Elements.{All-push, filter-append}
-use Rattle.std.proofs.lemmas.List.Sums.{length-filter}
+use Rattle.core_model.proofs.Words.{Bool, true, false, not, ◌≡◌, ◌≤◌, ◌+◌, ◌&&◌, ◌||◌, ℕ, List, [], ◌∷◌, reverse, filter, length, max, min, nat_le, nat_lt, refl, sym, ap, ◌∙◌, arith, cond, All, list_any, list_all, IsNonDecreasing, and_parts, and_from, leb-true, le-leb, reverse_onto, All-push, filter-append, length-filter, HOLD, STARTS, CLOCK_LIMIT, Start, same_id, LimiterState, is_full-last_starts, IsNonDecreasing-push, NewTable, Asked, Clock, Event, time_of, start_times, hold_times, allows, last_hold_end}
 use Rattle.std.proofs.lemmas.List.{length-append}
-use Rattle.respawn_limit.specs.declared.TheConstants.{HOLD, STARTS, CLOCK_LIMIT}
-use Rattle.init_words.specs.declared.orders.OrderKind.TheVariants.{Start}
-use Rattle.init_words.specs.Ids.{same_id}
-use Rattle.respawn_limit.specs.State.{LimiterState}
 use Rattle.respawn_limit.specs.Window as window
-use Rattle.respawn_limit.specs.declared.May.TheVariants.{Yes, HoldUntil}
-use Rattle.respawn_limit.proofs.WindowLemmas.{is_full-last_starts, IsNonDecreasing-push}
-use Rattle.trace_events.specs.declared.happenings.Happening.TheVariants.{NewTable, Enter, Asked, Hold, Clock}
-use Rattle.trace_events.specs.Event.{Event}
-use Rattle.trace_events.specs.Past.{time_of}
-use Rattle.trace_events.specs.Timing.{start_times, hold_times, is_held, is_full}
-use Rattle.core_records.specs.Changes.{allows}
-use Rattle.core_model.specs.Fit.{last_hold_end}
+use Rattle.trace_events.specs.declared.happenings.Happening.TheVariants.{Enter, Hold}
+use Rattle.trace_events.specs.Timing.{is_held, is_full}
 
 -- times in order, none after now
 pub record Noted (now : ℕ) (times : List ℕ) : Type 0 where
@@ -50,12 +33,8 @@ starts_noted id (Clock reading ∷ past) = later (time_of past) (max (min readin
 starts_noted id (_ ∷ past) = starts_noted id past
 
 length-filter-reverse : (p : ℕ → Bool) (xs : List ℕ) → length (filter p (reverse xs)) ≡ length (filter p xs)
-length-filter-reverse p [] = refl
-length-filter-reverse p (x ∷ xs) = rw (reverse_onto xs x [], filter-append p (reverse xs) (x ∷ []), length-append (filter p (reverse xs)) (filter p (x ∷ [])), length-filter-reverse p xs) (at (p x))
-  where
-    at : (b : Bool) → length (filter p xs) + length (cond b (x ∷ []) []) ≡ length (cond b (x ∷ filter p xs) (filter p xs))
-    at true = omega arith
-    at false = omega arith
+length-filter-reverse p [] = grind (arith, reverse_onto, filter-append, length-append)
+length-filter-reverse p (x ∷ xs) = grind (arith, length-filter-reverse p xs, reverse_onto, filter-append, length-append)
 
 -- the window is full by the starts that are kept exactly if it is by the past
 pub full_fits : (id : List ℕ) (past : List Event) → window.is_full (window.last_starts (reverse (start_times id past))) (time_of past) ≡ is_full id past
@@ -83,15 +62,8 @@ holds_past id (Clock reading ∷ past) = all_later (hold_times id past) (holds_p
 holds_past id (_ ∷ past) = holds_past id past
 
 none_of : (now last : ℕ) (times : List ℕ) → list_all (λ began. nat_le began last) times ≡ true → nat_lt now (last + HOLD) ≡ false → list_any (λ began. nat_lt now (began + HOLD)) times ≡ false
-none_of now last [] h over = refl
-none_of now last (t ∷ times) h over =
-    let parts = and_parts (nat_le t last) (list_all (λ began. nat_le began last) times) h in
-    let before : t ≤ last = leb-true t last parts.0 in
-    let here : nat_lt now (t + HOLD) ≡ false = earlier now t last before over in
-    rw (here, none_of now last times parts.1 over) refl
-  where
-    earlier : (now t last : ℕ) → t ≤ last → nat_lt now (last + HOLD) ≡ false → nat_lt now (t + HOLD) ≡ false
-    earlier now t last before over = grind (arith, nat_tests)
+none_of now last [] h over = grind arith
+none_of now last (t ∷ times) h over = grind (arith, none_of now last times)
 
 -- a hold is in force by the last one exactly if one of all is
 pub held_by_last : (id : List ℕ) (past : List Event) (now : ℕ) → window.is_held (last_hold_end (hold_times id past)) now ≡ list_any (λ began. nat_lt now (began + HOLD)) (hold_times id past)
@@ -115,16 +87,4 @@ held_fits id past = held_by_last id past (time_of past)
 
 -- the limiter says yes exactly where no hold is in force and the window is not full
 pub allows_by : (limiter : LimiterState) (now : ℕ) → allows (window.may_of limiter now) ≡ (not (window.is_held limiter.held now) && not (window.is_full limiter.starts now))
-allows_by limiter now = at limiter.held
-  where
-    full : (b : Bool) → allows (cond b (HoldUntil (now + HOLD)) Yes) ≡ not b
-    full true = refl
-    full false = refl
-
-    by_end : (b : Bool) (end : ℕ) → allows (cond b (HoldUntil end) (window.window_answer limiter.starts now)) ≡ (not b && not (window.is_full limiter.starts now))
-    by_end true end = refl
-    by_end false end = full (window.is_full limiter.starts now)
-
-    at : (held : Option ℕ) → allows (window.answer limiter.starts held now) ≡ (not (window.is_held held now) && not (window.is_full limiter.starts now))
-    at None = full (window.is_full limiter.starts now)
-    at (Some end) = by_end (nat_lt now end) end
+allows_by limiter now = grind arith

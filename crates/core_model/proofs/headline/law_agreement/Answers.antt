@@ -1,13 +1,10 @@
 -- Each clause is a lemma on sound traces.
-use Rattle.std.proofs.Common.{arith}
-use Rattle.trace_laws.proofs.Births.{one_child_at}
-use Rattle.trace_laws.proofs.Settling.{settle_belongs}
+use Rattle.core_model.proofs.Words.{arith, one_child_at, settle_belongs, agrees_at}
 use Rattle.trace_laws.proofs.Pace.{start_paced}
 use Rattle.trace_laws.proofs.Targets.{hit_own}
 use Rattle.trace_laws.proofs.Kills.{killed_once}
 use Rattle.trace_laws.proofs.Pairs.{reaped_between, apart, rested, on_order}
 use Rattle.trace_laws.proofs.Laws.{sound_lawful}
-use Rattle.trace_laws.proofs.Agreement.{agrees_at}
 use Rattle.trace_laws.proofs.Warnings.{kill_warned}
 use Rattle.core_model.proofs.Bounded.{bounded}
 use Rattle.core_model.proofs.Happened.{birth_through, birth_lives, settle_reached}

@@ -1,8 +1,4 @@
-use Rattle.trace_events.specs.declared.happenings.Happening.TheVariants.{NewTable}
-use Rattle.std.proofs.Common.{◌≡◌, true, false, refl}
-use Rattle.std.proofs.lemmas.Bool.{false≢true}
-use Rattle.trace_events.specs.Event.{Event}
-use Rattle.trace_laws.proofs.Births.{is_table, sound_step}
+use Rattle.core_model.proofs.Words.{NewTable, ◌≡◌, true, false, refl, false≢true, Event, is_table, sound_step}
 use Rattle.core_model.specs.Fit.{is_act}
 use Rattle.core_model.proofs.Hearing.{fits_act}
 use Rattle.core_model.proofs.laws.law_of_acts.Goals as goal
