@@ -1,31 +1,9 @@
 -- A request for a level is answered: that level is settled.
-use Rattle.std.proofs.Common.{◌≡◌, ◌≤◌, ◌⊎◌, inl, inr, refl, sym, ◌∙◌, ap, ℕ, Bool, true, false, ◌&&◌, not, cond, List, [], ◌∷◌, ◌++◌, length, Option, Some, None}
-use Rattle.std.specs.List.{list_any}
-use Rattle.std.proofs.lemmas.Bool.{false≢true, not-true}
+use Rattle.core_waiting.proofs.Words.{arith, ◌≡◌, ◌≤◌, ◌⊎◌, inl, inr, refl, sym, ◌∙◌, ap, ℕ, Bool, true, false, ◌&&◌, not, cond, List, [], ◌∷◌, ◌++◌, length, Option, Some, None, list_any, false≢true, not-true, none-some, same_Some, Level, S, Stage, Sysinit, Boot, Run, same_level, same_level-is, same_level-self, both_ways, Enter, Got, Step, Goal, Event, stage_of, is_idle, is_quiet, goal_of, heard_level, level_wish, other_than, in_run, was_booted, powers, letters, is_due, same_step, due_first, enter_level, is_over, next_stage, power_steps, letter_steps, is_sound, each_append, each_steps_if, step_at, AreUndisturbed, destination, rounds_to_come, AtRest, after_rounds, is_level_announced, is_elsewhere, is_no_level_asked, is_stage_entered}
 use Rattle.std.proofs.lemmas.List.{append_assoc}
-use Rattle.std.proofs.lemmas.Option.{none-some, same_Some}
-use Rattle.init_words.specs.declared.levels.Level.{Level}
-use Rattle.init_words.specs.declared.levels.Level.TheVariants.{S}
-use Rattle.init_words.specs.declared.stages.Stage.{Stage}
-use Rattle.init_words.specs.declared.stages.Stage.TheVariants.{Sysinit, Boot, Run}
-use Rattle.init_words.specs.Levels.{same_level}
-use Rattle.init_words.proofs.Same.{same_level-is, same_level-self}
-use Rattle.init_words.proofs.Tests.{both_ways}
 use Rattle.initctl_frame.specs.declared.requests.HeardRequest.TheVariants as got
-use Rattle.trace_events.specs.declared.happenings.Happening.TheVariants.{Enter, Got}
-use Rattle.trace_events.specs.declared.steps.Step.{Step}
 use Rattle.trace_events.specs.declared.steps.Step.TheVariants as step
-use Rattle.trace_events.specs.declared.steps.Goal.{Goal}
-use Rattle.trace_events.specs.Event.{Event}
-use Rattle.trace_events.specs.Past.{stage_of, is_idle, is_quiet}
-use Rattle.trace_events.specs.Wishes.{goal_of, heard_level, level_wish, other_than, in_run, was_booted, powers, letters}
-use Rattle.trace_events.specs.Due.{is_due, same_step, due_first, enter_level, is_over, next_stage, power_steps, letter_steps}
-use Rattle.trace_events.specs.Sound.{is_sound}
-use Rattle.trace_laws.proofs.Dues.{Each, each_append, each_steps_if}
-use Rattle.trace_laws.proofs.Births.{step_at}
-use Rattle.core_waiting.specs.Arrival.{AreUndisturbed, destination, rounds_to_come}
-use Rattle.core_waiting.specs.Rest.{AtRest, after_rounds, is_level_announced}
-use Rattle.core_waiting.specs.Requests.{is_elsewhere, is_no_level_asked, is_stage_entered}
+use Rattle.trace_laws.proofs.Dues.{Each}
 use Rattle.core_waiting.proofs.Arriving.{arrives, arrives_there, last_rest}
 use Rattle.core_waiting.proofs.Asking.{goal_still, not_lost, stage_still}
 use Rattle.core_waiting.proofs.Climbing.{Unless, whole, powers_each, calls_each, why_due, one_step}
@@ -37,20 +15,11 @@ is_headed level (Some (Run now)) = same_level level now
 is_headed level _ = true
 
 heard_since : (between past : List Event) → is_no_level_asked between ≡ true → (heard_level (between ++ past) ≡ None) ⊎ (heard_level (between ++ past) ≡ heard_level past)
-heard_since [] past unasked = inr refl
-heard_since (Got (got.Level level grace) ∷ between) past unasked = absurd (false≢true unasked)
-heard_since (Enter now grace ∷ between) past unasked = inl refl
-heard_since (happening ∷ between) past unasked = heard_since between past unasked
+heard_since [] past unasked = grind arith
+heard_since (happening ∷ between) past unasked = grind (arith, heard_since between past)
 
 other_some : (o : Option Stage) (heard : Option Goal) (w : Goal) → other_than o heard ≡ Some w → heard ≡ Some w
-other_some None heard w is = absurd (none-some w is)
-other_some (Some Sysinit) heard w is = absurd (none-some w is)
-other_some (Some Boot) heard w is = absurd (none-some w is)
-other_some (Some (Run l)) None w is = absurd (none-some w is)
-other_some (Some (Run l)) (Some heard) w is = by (same_level heard.level l) is where
-  by : (same : Bool) → cond same None (Some heard) ≡ Some w → Some heard ≡ Some w
-  by true none = absurd (none-some w none)
-  by false some = some
+other_some o heard w is = grind arith
 
 -- the newest Enter of a stretch
 record Entered (between : List Event) : Type 0 where
@@ -165,7 +134,4 @@ module _ (goal : Goal) (between before : List Event) (level : Level) (grace : �
     headed = rest_headed first.2 other first.0 first.1
 
     there : (o : Option Stage) → is_headed level o ≡ true → destination level o ≡ level
-    there None h = refl
-    there (Some Sysinit) h = refl
-    there (Some Boot) h = refl
-    there (Some (Run now)) h = sym (same_level-is level now h)
+    there o h = grind arith

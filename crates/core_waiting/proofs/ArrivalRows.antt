@@ -1,24 +1,11 @@
 -- Worked undisturbed rounds: `refl` computes them. And rounds that lack one of the conditions, in which nothing comes nearer.
-use Rattle.std.proofs.Common.{◌≡◌, refl, ◌+◌, ℕ, Bool, true, false, not, nat_le, List, [], ◌∷◌, ◌++◌, codes, filter}
-use Rattle.std.specs.List.{list_any, list_all}
-use Rattle.init_words.specs.declared.entries.Entry.{Entry}
+use Rattle.core_waiting.proofs.Words.{◌≡◌, refl, ◌+◌, ℕ, Bool, true, false, not, nat_le, List, [], ◌∷◌, ◌++◌, codes, filter, list_any, list_all, Entry, At, Start, Look, Term, Kill, Exit, NewTable, Enter, Asked, Death, Reaped, Still, Hit, Miss, Told, Clock, Nudge, Got, Step, Event, is_idle, time_of, grace_of, kept_children, is_missed, due, is_sound, is_level_announced, after_rounds, has_to_end, is_found_ended, is_nudge, is_unasked, AreUndisturbed, waits_to_come, rounds_to_come}
 use Rattle.init_words.specs.declared.actions.Act.TheVariants as act
 use Rattle.init_words.specs.declared.levels.Level.TheVariants as level
-use Rattle.init_words.specs.declared.levels.Mark.TheVariants.{At}
 use Rattle.init_words.specs.declared.stages.Stage.TheVariants as stage
-use Rattle.init_words.specs.declared.orders.OrderKind.TheVariants.{Start, Look, Term, Kill}
 use Rattle.init_words.specs.declared.orders.PowerKind.TheVariants as power
-use Rattle.init_words.specs.declared.children.Status.TheVariants.{Exit}
 use Rattle.initctl_frame.specs.declared.requests.HeardRequest.TheVariants as got
-use Rattle.trace_events.specs.declared.happenings.Happening.TheVariants.{NewTable, Enter, Power, Asked, Settle, Death, Reaped, Still, Hit, Miss, Told, Clock, Nudge, Got}
-use Rattle.trace_events.specs.declared.steps.Step.{Step}
-use Rattle.trace_events.specs.Event.{Event}
-use Rattle.trace_events.specs.Past.{is_idle, time_of, grace_of, kept_children}
-use Rattle.trace_events.specs.Spells.{is_missed}
-use Rattle.trace_events.specs.Due.{due}
-use Rattle.trace_events.specs.Sound.{is_sound}
-use Rattle.core_waiting.specs.Rest.{is_level_announced, after_rounds}
-use Rattle.core_waiting.specs.Arrival.{has_to_end, is_found_ended, is_nudge, is_unasked, AreUndisturbed, waits_to_come, rounds_to_come}
+use Rattle.trace_events.specs.declared.happenings.Happening.TheVariants.{Power, Settle}
 use Rattle.core_waiting.proofs.Rows.{entry, opening, started, entered, goes_to, in_its_way}
 
 -- an order, its act, and that it is told

@@ -1,32 +1,9 @@
 -- From rests to a settled level: each undisturbed round takes one of the rounds to come.
-use Rattle.std.proofs.Common.{◌≡◌, ◌≤◌, ◌<◌, ◌+◌, ◌-◌, refl, sym, ◌∙◌, ap, subst, ◌⊎◌, inl, inr, ℕ, zero, suc, ◌==◌, Bool, true, false, not, ◌&&◌, ◌||◌, cond, nat_le, List, [], ◌∷◌, ◌++◌, filter, length, Option, Some, None, is_some, arith}
-use Rattle.std.specs.List.{list_any, list_all}
-use Rattle.std.proofs.lemmas.Bool.{false≢true, false_from_ne_true, true_from_ne_false, or_left, or_right, and_parts, and_from, le-leb, leb-true, not-true, eq-eqb}
-use Rattle.init_words.specs.declared.entries.Entry.{Entry}
-use Rattle.init_words.specs.declared.actions.Act.{Act}
+use Rattle.core_waiting.proofs.Words.{◌≡◌, ◌≤◌, ◌<◌, ◌+◌, ◌-◌, refl, sym, ◌∙◌, ap, subst, ◌⊎◌, inl, inr, ℕ, zero, suc, ◌==◌, Bool, true, false, not, ◌&&◌, ◌||◌, cond, nat_le, List, [], ◌∷◌, ◌++◌, filter, length, Option, Some, None, arith, list_any, list_all, false≢true, false_from_ne_true, true_from_ne_false, or_left, or_right, and_parts, and_from, le-leb, leb-true, not-true, eq-eqb, Entry, Act, Level, S, Mark, Stage, starts_by, waited_by, wanted_by, same_level, starts_of, waited_of, same_id-self, both_ways, falsely, not_from, all_less, all_fail, any_filter, Passing, passing, Goal, Event, Child, is_of, table_of, stage_of, is_idle, grace_of, time_of, kept_children, starts_in, nothing_runs, is_asked, is_called, is_excluded, spell_hits, is_missed, in_run, goal_of, wants_reexec, wants_reread, level_wish, keeps_news, wish_stands, is_announced, is_sound, AtRest, is_awaited, awaited_children, is_empty, is_calm, is_gone, is_level_announced, to_come, after_rounds, signals_to_come, has_to_end, is_found_ended, is_nudge, is_unasked, is_undisturbed, AreUndisturbed, greatest, stages_ahead, destination, is_ahead, waits_ahead, waits_to_come, rounds_to_come}
+use Rattle.std.proofs.Common.{is_some}
 use Rattle.init_words.specs.declared.actions.Act.TheVariants as act
-use Rattle.init_words.specs.declared.levels.Level.{Level}
-use Rattle.init_words.specs.declared.levels.Level.TheVariants.{S}
-use Rattle.init_words.specs.declared.levels.Mark.{Mark}
-use Rattle.init_words.specs.declared.levels.Mark.TheVariants.{At}
-use Rattle.init_words.specs.declared.stages.Stage.{Stage}
 use Rattle.init_words.specs.declared.stages.Stage.TheVariants as stage
-use Rattle.init_words.specs.Actions.{starts_by, waited_by, wanted_by}
-use Rattle.init_words.specs.Levels.{names, same_level}
-use Rattle.init_words.specs.Entries.{starts_of, waited_of}
-use Rattle.init_words.proofs.Same.{same_id-self}
-use Rattle.init_words.proofs.Tests.{both_ways, falsely, not_from, all_less, all_fail, any_filter, Passing, passing}
-use Rattle.trace_events.specs.declared.steps.Goal.{Goal}
-use Rattle.trace_events.specs.Event.{Event}
-use Rattle.trace_events.specs.Past.{Child, is_of, table_of, stage_of, is_idle, grace_of, time_of, kept_children}
-use Rattle.trace_events.specs.Wanted.{starts_in, nothing_runs, is_asked, is_called, is_wanted, is_excluded}
-use Rattle.trace_events.specs.Spells.{spell_hits, is_missed}
-use Rattle.trace_events.specs.Wishes.{in_run, goal_of, wants_reexec, wants_reread, level_wish, keeps_news, wish_stands}
-use Rattle.trace_events.specs.Due.{due_first, is_announced}
-use Rattle.trace_events.specs.Sound.{is_sound}
-use Rattle.core_waiting.specs.Rest.{AtRest, is_awaited, awaited_children, is_empty, is_calm, is_gone, is_level_announced, is_to_come, to_come, after_rounds}
-use Rattle.core_waiting.specs.Arrival.{signals_to_come, has_to_end, is_found_ended, is_nudge, is_unasked, is_undisturbed, AreUndisturbed, greatest, stages_ahead, destination, is_ahead, waits_ahead, waits_to_come, rounds_to_come}
-use Rattle.core_waiting.proofs.Rest.{rest_accounted, rest_heard, at_rest, idle_quiet}
+use Rattle.core_waiting.proofs.Rest.{rest_accounted, rest_heard, idle_quiet}
 use Rattle.core_waiting.proofs.Stops.{all_from}
 use Rattle.core_waiting.proofs.Once.{wanted_before, same_table}
 use Rattle.core_waiting.proofs.Progress.{filtered_none, progress}
@@ -41,12 +18,8 @@ all_at_most f k [] h = refl
 all_at_most f k (x ∷ xs) h = and_from (nat_le (f x) k) (list_all (λ y. nat_le (f y) k) xs) (le-leb (f x) k (omega arith)) (all_at_most f k xs (omega arith))
 
 at_most_all : (f : Child → ℕ) (k : ℕ) (xs : List Child) → list_all (λ x. nat_le (f x) k) xs ≡ true → greatest f xs ≤ k
-at_most_all f k [] h = omega arith
-at_most_all f k (x ∷ xs) h =
-    let parts = and_parts (nat_le (f x) k) (list_all (λ y. nat_le (f y) k) xs) h in
-    let here : f x ≤ k = leb-true (f x) k parts.0 in
-    let rest : greatest f xs ≤ k = at_most_all f k xs parts.1 in
-    omega arith
+at_most_all f k [] h = grind arith
+at_most_all f k (x ∷ xs) h = grind (arith, at_most_all f k xs)
 
 abbrev most : List Event → ℕ
 most past = greatest (signals_to_come past) (kept_children past)
@@ -97,9 +70,7 @@ round_of goal round past sound rest idle calm it rest_later idle_later = record 
 
 -- a waited entry that is to come behind a calm stretch was to come before it
 no_more : (between past : List Event) → is_calm between ≡ true → to_come (between ++ past) ≤ to_come past
-no_more between past calm = subst (λ es. length (filter (is_to_come (between ++ past)) es) ≤ to_come past) (sym (same_table between past calm)) (fewer (is_to_come (between ++ past)) (is_to_come past) less (table_of past)) where
-  less : (e : Entry) → is_to_come (between ++ past) e ≡ true → is_to_come past e ≡ true
-  less e h = let parts = and_parts (waited_of e) (is_wanted e (between ++ past)) h in and_from (waited_of e) (is_wanted e past) parts.0 (wanted_before e between past (unlimited e parts.0) calm parts.1)
+no_more between past calm = grind (arith, same_table, fewer, parts, wanted_before, unlimited)
 
 -- where no child lacks a signal, all that are awaited are gone behind the round
 all_gone : (goal : Goal) (round past : List Event) → Round goal round past → found round past ≡ true → list_all (lacks 0 past) (kept_children past) ≡ true → list_all (is_gone round past) (awaited_children past) ≡ true
@@ -140,10 +111,7 @@ one_awaited goal past sound rest idle untold = at (is_idle past) (is_level_annou
   at false b c own un h = absurd (false≢true own)
 
 some_few : (past : List Event) → some past ≤ 1
-some_few past = at (is_empty (awaited_children past)) where
-  at : (b : Bool) → one_unless b ≤ 1
-  at true = omega arith
-  at false = omega arith
+some_few past = grind arith
 
 -- a child that is not excluded lacks none
 none_lack : (past : List Event) → list_any (is_excluded past) (kept_children past) ≡ false → list_all (lacks 0 past) (kept_children past) ≡ true
@@ -168,18 +136,11 @@ more_ahead b c less table (now ∷ stages) =
       more_wanted _ h = h
 
 same_ahead : (goal : Goal) (round past : List Event) → table_of (round ++ past) ≡ table_of past → goal_of goal (round ++ past) ≡ goal_of goal past → (keeps_news (round ++ past) ≡ true → keeps_news past ≡ true) → waits_ahead (keeps_news (round ++ past)) (table_of (round ++ past)) (stages_ahead (goal_of goal (round ++ past)).level (stage_of (round ++ past))) ≤ aim_ahead goal past (stage_of (round ++ past))
-same_ahead goal round past table aim news = subst (λ n. n ≤ aim_ahead goal past (stage_of (round ++ past))) (sym same) (more_ahead (keeps_news (round ++ past)) (keeps_news past) news (table_of past) (stages_ahead (goal_of goal past).level (stage_of (round ++ past)))) where
-  same : waits_ahead (keeps_news (round ++ past)) (table_of (round ++ past)) (stages_ahead (goal_of goal (round ++ past)).level (stage_of (round ++ past))) ≡ waits_ahead (keeps_news (round ++ past)) (table_of past) (stages_ahead (goal_of goal past).level (stage_of (round ++ past)))
-  same = λ i. waits_ahead (keeps_news (round ++ past)) (table i) (stages_ahead (aim i).level (stage_of (round ++ past)))
+same_ahead goal round past table aim news = grind (arith, more_ahead)
 
 -- before the first stage there is no rest
 pub staged : (goal : Goal) (past : List Event) → AtRest goal past → is_some (stage_of past) ≡ true
-staged goal past rest = at (stage_of past) refl where
-  at : (o : Option Stage) → stage_of past ≡ o → is_some o ≡ true
-  at (Some now) is = refl
-  at None is = absurd (dawn (ap (λ o. due_first goal o past) (sym is) ∙ (at_rest goal past rest).first)) where
-    dawn : due_first goal None past ≡ [] → ⊥
-    dawn none = cc
+staged goal past rest = grind arith
 
 -- at a rest with no order open no other level is wished for
 pub unwished : (goal : Goal) (past : List Event) → AtRest goal past → is_idle past ≡ true → is_some (level_wish past) ≡ false
@@ -192,10 +153,7 @@ course_of goal round past sound rest idle it = course goal round past sound it.u
 
 -- an announced level stays announced
 still_announced : (goal : Goal) (round past : List Event) → Course goal round past → is_level_announced past ≡ true → is_level_announced (round ++ past) ≡ true
-still_announced goal round past it told = by it.path where
-  by : ((is_calm round ≡ true) × (stage_of (round ++ past) ≡ stage_of past)) ⊎ Entered goal past (round ++ past) → is_level_announced (round ++ past) ≡ true
-  by (inl path) = still_level round past path.0 told
-  by (inr path) = both_ways (in_run (stage_of past)) (and_parts (in_run (stage_of past)) (is_announced past) told).0 path.early
+still_announced goal round past it told = grind (arith, Entered, still_level, both_ways)
 
 falls_at : (goal : Goal) (round past : List Event) → is_sound goal (round ++ past) ≡ true → AtRest goal past → is_idle past ≡ true → is_undisturbed round past ≡ true → AtRest goal (round ++ past) → is_idle (round ++ past) ≡ true → is_level_announced (round ++ past) ≡ false → rounds_to_come goal (round ++ past) < rounds_to_come goal past
 falls_at goal round past sound rest idle let_be rest_later idle_later untold = add (waits_ahead (keeps_news (round ++ past)) (table_of (round ++ past)) (stages_ahead (goal_of goal (round ++ past)).level (stage_of (round ++ past)))) (aim_ahead goal past (stage_of (round ++ past))) (to_come (round ++ past)) (some (round ++ past)) (most (round ++ past)) (aim_ahead goal past (stage_of past) + to_come past + some past + most past) (same_ahead goal round past way.table way.aim way.news) (by way.path) where
@@ -266,9 +224,7 @@ count goal (round ∷ earlier) past sound are untold =
       add n w b a h less = omega arith
 
 left_over : (goal : Goal) (past : List Event) → is_sound goal past ≡ true → AtRest goal past → is_idle past ≡ true → is_level_announced past ≡ false → 1 ≤ rounds_to_come goal past
-left_over goal past sound rest idle untold = add (waits_to_come goal past) (some past) (most past) (one_awaited goal past sound rest idle untold) where
-  add : (a b c : ℕ) → b ≡ 1 → 1 ≤ a + b + c
-  add a b c h = omega arith
+left_over goal past sound rest idle untold = grind (arith, one_awaited)
 
 pub arrives : (goal : Goal) (later : List Event) (rounds : List (List Event)) (past : List Event) → is_sound goal (later ++ after_rounds rounds past) ≡ true → AreUndisturbed goal rounds past → rounds_to_come goal past ≤ length rounds → is_level_announced (after_rounds rounds past) ≡ true
 arrives goal later rounds past sound are enough = true_from_ne_false (is_level_announced (after_rounds rounds past)) wrong where
@@ -305,10 +261,7 @@ arrives_there goal later rounds past sound are told = there (stage_of (after_rou
 
 -- how many they are at most
 lacks_two : (past : List Event) (child : Child) → signals_to_come past child ≤ 2
-lacks_two past child = at (is_excluded past child) (length (spell_hits child past)) where
-  at : (b : Bool) (n : ℕ) → cond b (2 - n) 0 ≤ 2
-  at true n = omega arith
-  at false n = omega arith
+lacks_two past child = grind arith
 
 each_two : (past : List Event) (xs : List Child) → list_all (λ x. nat_le (signals_to_come past x) 2) xs ≡ true
 each_two past [] = refl
@@ -323,21 +276,13 @@ few goal past = add (waits_to_come goal past) (some past) (most past) (some_few 
 abbrev num : Bool → ℕ
 num b = cond b 1 0
 
-one_more : (b : Bool) (e : Entry) (es : List Entry) → length (cond b (e ∷ es) es) ≡ num b + length es
-one_more true e es = omega arith
-one_more false e es = omega arith
-
 split_two : (p q w : Entry → Bool) → ((e : Entry) → num (p e) + num (q e) ≤ num (w e)) → (es : List Entry) → length (filter p es) + length (filter q es) ≤ length (filter w es)
-split_two p q w each [] = omega arith
-split_two p q w each (e ∷ es) = add (num (p e)) (num (q e)) (num (w e)) (length (filter p es)) (length (filter q es)) (length (filter w es)) (length (cond (p e) (e ∷ filter p es) (filter p es))) (length (cond (q e) (e ∷ filter q es) (filter q es))) (length (cond (w e) (e ∷ filter w es) (filter w es))) (each e) (split_two p q w each es) (one_more (p e) e (filter p es)) (one_more (q e) e (filter q es)) (one_more (w e) e (filter w es)) where
-  add : (a b c x y z i j k : ℕ) → a + b ≤ c → x + y ≤ z → i ≡ a + x → j ≡ b + y → k ≡ c + z → i + j ≤ k
-  add a b c x y z i j k g h l m n = omega arith
+split_two p q w each [] = grind arith
+split_two p q w each (e ∷ es) = grind (arith, split_two p q w each es)
 
 split_three : (p q r w : Entry → Bool) → ((e : Entry) → num (p e) + num (q e) + num (r e) ≤ num (w e)) → (es : List Entry) → length (filter p es) + length (filter q es) + length (filter r es) ≤ length (filter w es)
-split_three p q r w each [] = omega arith
-split_three p q r w each (e ∷ es) = add (num (p e)) (num (q e)) (num (r e)) (num (w e)) (length (filter p es)) (length (filter q es)) (length (filter r es)) (length (filter w es)) (length (cond (p e) (e ∷ filter p es) (filter p es))) (length (cond (q e) (e ∷ filter q es) (filter q es))) (length (cond (r e) (e ∷ filter r es) (filter r es))) (length (cond (w e) (e ∷ filter w es) (filter w es))) (each e) (split_three p q r w each es) (one_more (p e) e (filter p es)) (one_more (q e) e (filter q es)) (one_more (r e) e (filter r es)) (one_more (w e) e (filter w es)) where
-  add : (a b c d x y z u i j k l : ℕ) → a + b + c ≤ d → x + y + z ≤ u → i ≡ a + x → j ≡ b + y → k ≡ c + z → l ≡ d + u → i + j + k ≤ l
-  add a b c d x y z u i j k l f g h m n o = omega arith
+split_three p q r w each [] = grind arith
+split_three p q r w each (e ∷ es) = grind (arith, split_three p q r w each es)
 
 num_one : (b : Bool) → num b ≤ 1
 num_one true = omega arith
@@ -349,28 +294,13 @@ num_and false c = omega arith
 
 -- of one entry, by its action
 at_boot : (a : Act) (marks : List Mark) (level : Level) (news x : Bool) → num (waited_by a && (starts_by a marks (stage.Run level) && wanted_by a true true news)) + num (waited_by a && (starts_by a marks stage.Boot && x)) ≤ num (waited_by a)
-at_boot act.Bootwait marks level news x = let one : num x ≤ 1 = num_one x in omega arith
-at_boot act.Wait marks level news x = let one : num (names (At level) marks && true) ≤ 1 = num_one (names (At level) marks && true) in omega arith
-at_boot act.Sysinit marks level news x = omega arith
-at_boot act.Powerwait marks level news x = let one : num (names (At level) marks && news) ≤ 1 = num_one (names (At level) marks && news) in omega arith
-at_boot act.Powerokwait marks level news x = let one : num (names (At level) marks && news) ≤ 1 = num_one (names (At level) marks && news) in omega arith
-at_boot _ marks level news x = omega arith
+at_boot a marks level news x = grind arith
 
 at_s : (a : Act) (marks : List Mark) (news x : Bool) → num (waited_by a && (starts_by a marks (stage.Run S) && wanted_by a true true news)) + num (waited_by a && (starts_by a marks stage.Sysinit && x)) ≤ num (waited_by a)
-at_s act.Sysinit marks news x = let one : num x ≤ 1 = num_one x in omega arith
-at_s act.Bootwait marks news x = omega arith
-at_s act.Wait marks news x = let one : num (names (At S) marks && true) ≤ 1 = num_one (names (At S) marks && true) in omega arith
-at_s act.Powerwait marks news x = let one : num (names (At S) marks && news) ≤ 1 = num_one (names (At S) marks && news) in omega arith
-at_s act.Powerokwait marks news x = let one : num (names (At S) marks && news) ≤ 1 = num_one (names (At S) marks && news) in omega arith
-at_s _ marks news x = omega arith
+at_s a marks news x = grind arith
 
 at_sysinit : (a : Act) (marks : List Mark) (level : Level) (news x : Bool) → num (waited_by a && (starts_by a marks stage.Boot && wanted_by a true true news)) + num (waited_by a && (starts_by a marks (stage.Run level) && wanted_by a true true news)) + num (waited_by a && (starts_by a marks stage.Sysinit && x)) ≤ num (waited_by a)
-at_sysinit act.Sysinit marks level news x = let one : num x ≤ 1 = num_one x in omega arith
-at_sysinit act.Bootwait marks level news x = omega arith
-at_sysinit act.Wait marks level news x = let one : num (names (At level) marks && true) ≤ 1 = num_one (names (At level) marks && true) in omega arith
-at_sysinit act.Powerwait marks level news x = let one : num (names (At level) marks && news) ≤ 1 = num_one (names (At level) marks && news) in omega arith
-at_sysinit act.Powerokwait marks level news x = let one : num (names (At level) marks && news) ≤ 1 = num_one (names (At level) marks && news) in omega arith
-at_sysinit _ marks level news x = omega arith
+at_sysinit a marks level news x = grind arith
 
 abbrev waited_in : List Event → ℕ
 waited_in past = length (filter waited_of (table_of past))

@@ -1,29 +1,10 @@
 -- No request for a level is lost: a stage is entered for it, that level or Boot on the way to it.
-use Rattle.std.proofs.Common.{◌≡◌, ◌⊎◌, inl, inr, refl, sym, ◌∙◌, ap, subst, ℕ, Bool, true, false, ◌&&◌, ◌||◌, ◌==◌, not, cond, List, [], ◌∷◌, ◌++◌, Some, None}
-use Rattle.std.specs.List.{list_any}
+use Rattle.core_waiting.proofs.Words.{arith, ◌≡◌, ◌⊎◌, inl, inr, refl, sym, ◌∙◌, ap, subst, ℕ, Bool, true, false, ◌&&◌, ◌||◌, ◌==◌, not, cond, List, [], ◌∷◌, ◌++◌, Some, list_any, false≢true, and_parts, eqb-true, true_from_ne_false, Level, S, Stage, Boot, Run, same_level, both_ways, or_false, Enter, Got, Step, Goal, Event, stage_of, is_idle, is_quiet, goal_of, heard_level, level_wish, in_run, was_booted, powers, letters, is_due, same_step, due_first, enter_level, is_over, next_stage, power_steps, letter_steps, is_sound, each_append, each_steps_if, step_at, AtRest, is_no_level_asked, is_stage_entered}
 use Rattle.std.specs.Option.{is_some}
-use Rattle.std.proofs.lemmas.Bool.{false≢true, and_parts, eqb-true, true_from_ne_false}
-use Rattle.init_words.specs.declared.levels.Level.{Level}
-use Rattle.init_words.specs.declared.levels.Level.TheVariants.{S}
-use Rattle.init_words.specs.declared.stages.Stage.{Stage}
-use Rattle.init_words.specs.declared.stages.Stage.TheVariants.{Boot, Run}
-use Rattle.init_words.specs.Levels.{same_level}
 use Rattle.init_words.specs.Orders.{same_stage}
-use Rattle.init_words.proofs.Tests.{both_ways, or_false}
 use Rattle.initctl_frame.specs.declared.requests.HeardRequest.TheVariants as got
-use Rattle.trace_events.specs.declared.happenings.Happening.TheVariants.{Enter, Got}
-use Rattle.trace_events.specs.declared.steps.Step.{Step}
 use Rattle.trace_events.specs.declared.steps.Step.TheVariants as step
-use Rattle.trace_events.specs.declared.steps.Goal.{Goal}
-use Rattle.trace_events.specs.Event.{Event}
-use Rattle.trace_events.specs.Past.{stage_of, is_idle, is_quiet}
-use Rattle.trace_events.specs.Wishes.{goal_of, heard_level, level_wish, other_than, in_run, was_booted, powers, letters}
-use Rattle.trace_events.specs.Due.{is_due, same_step, due_first, enter_level, is_over, next_stage, power_steps, letter_steps}
-use Rattle.trace_events.specs.Sound.{is_sound}
-use Rattle.trace_laws.proofs.Dues.{Each, each_append, each_steps_if}
-use Rattle.trace_laws.proofs.Births.{step_at}
-use Rattle.core_waiting.specs.Rest.{AtRest}
-use Rattle.core_waiting.specs.Requests.{is_no_level_asked, is_stage_entered}
+use Rattle.trace_laws.proofs.Dues.{Each}
 use Rattle.core_waiting.proofs.Climbing.{Unless, whole, powers_each, calls_each, why_due, one_step}
 use Rattle.core_waiting.proofs.Arriving.{unwished}
 
@@ -55,8 +36,7 @@ module _ (goal : Goal) (between before : List Event) (level now : Level) (grace 
   wish = record { level = level; grace = grace }
 
   wished : is_stage_entered between ≡ false → level_wish moment ≡ Some wish
-  wished none = (λ i. other_than ((stage_still between (Got (got.Level level grace) ∷ before) none ∙ stage) i) (heard_still between (Got (got.Level level grace) ∷ before) unasked none i))
-      ∙ ap (λ b. cond b None (Some wish)) other
+  wished none = grind (arith, stage_still, heard_still)
 
   pub not_lost : AtRest goal moment → is_idle moment ≡ true → is_stage_entered between ≡ true
   not_lost rest idle = true_from_ne_false (is_stage_entered between) (λ none. both_ways (is_some (level_wish moment)) (ap is_some (wished none)) (unwished goal moment rest idle))

@@ -1,18 +1,11 @@
 -- A request for another level, worked: `refl` computes it.
-use Rattle.std.proofs.Common.{◌≡◌, refl, true, List, [], ◌∷◌, ◌++◌, codes}
+use Rattle.core_waiting.proofs.Words.{◌≡◌, refl, true, List, [], ◌∷◌, ◌++◌, codes, At, Term, NotRead, Enter, Asked, Hit, Told, Got, Event, is_idle, due, is_sound, is_no_level_asked, is_stage_entered}
 use Rattle.init_words.specs.declared.actions.Act.TheVariants as act
 use Rattle.init_words.specs.declared.levels.Level.TheVariants as level
-use Rattle.init_words.specs.declared.levels.Mark.TheVariants.{At}
 use Rattle.init_words.specs.declared.stages.Stage.TheVariants as stage
-use Rattle.init_words.specs.declared.orders.OrderKind.TheVariants.{Term}
 use Rattle.initctl_frame.specs.declared.requests.HeardRequest.TheVariants as got
-use Rattle.trace_events.specs.declared.happenings.Happening.TheVariants.{NotRead, Enter, Asked, Settle, Hit, Told, Got}
+use Rattle.trace_events.specs.declared.happenings.Happening.TheVariants.{Settle}
 use Rattle.trace_events.specs.declared.steps.Step.TheVariants as step
-use Rattle.trace_events.specs.Event.{Event}
-use Rattle.trace_events.specs.Past.{is_idle}
-use Rattle.trace_events.specs.Due.{due}
-use Rattle.trace_events.specs.Sound.{is_sound}
-use Rattle.core_waiting.specs.Requests.{is_no_level_asked, is_stage_entered}
 use Rattle.core_waiting.proofs.Rows.{entry, opening, started, entered}
 
 abbrev before : List Event

@@ -1,47 +1,16 @@
 -- Whose end a core awaits is whose end is awaited in each trace that it fits.
-use Rattle.std.proofs.Common.{◌≡◌, ◌≤◌, refl, sym, ◌∙◌, ap, subst, ℕ, suc, Bool, true, false, not, ◌&&◌, ◌||◌, cond, List, [], ◌∷◌, ◌++◌, map, filter, filter_map, find, length, Option, Some, None, is_some, option_and_then, arith}
-use Rattle.std.specs.List.{list_any, cons_option}
-use Rattle.std.specs.Option.{option_map, option_map_or}
-use Rattle.std.proofs.lemmas.Bool.{false≢true, and_parts, and_from}
+use Rattle.core_waiting.proofs.Words.{◌≡◌, ◌≤◌, refl, sym, ◌∙◌, ap, subst, ℕ, Bool, true, false, not, ◌&&◌, cond, List, [], ◌∷◌, ◌++◌, map, filter, filter_map, find, length, Option, Some, None, option_and_then, arith, list_any, cons_option, option_map, option_map_or, and_parts, and_from, Entry, Stage, same_id, wanted_by, same_id-is, same_id-self, same_tests, any_less, any_filtered, filter_both, passing, entry_of, Goal, Event, Child, is_of, has_child, is_quiet, table_of, stage_of, kept_children, known_children, starts_in, nothing_runs, is_asked, is_called, is_wanted, is_excluded, spell_hits, record_ids, is_sound, quiet_known, quiet_start, has_known, known_single, child_in_records, at_moment, CoreState, is_wanted_record, LastStatuses, Fits, child_known, living, stop_after, stop_of, stop_known, record_of, fit_records, fit_table, fit_stage, any_found, Excluded, why_of_entry, why_awaited, is_awaited, awaited_children, with_why, in_record_order, awaited_known, is_wanted_in, why_by_entry, why_of_record, awaited_of_record, awaited_by, found_own}
+use Rattle.std.proofs.Common.{is_some}
 use Rattle.std.proofs.lemmas.List.Elements.{filter_agree}
-use Rattle.init_words.specs.declared.entries.Entry.{Entry}
-use Rattle.init_words.specs.declared.stages.Stage.{Stage}
-use Rattle.init_words.specs.Ids.{same_id}
-use Rattle.init_words.specs.Actions.{wanted_by}
-use Rattle.init_words.specs.Entries.{waited_of}
-use Rattle.init_words.proofs.Same.{same_id-is, same_id-self}
-use Rattle.init_words.proofs.Tests.{same_tests, any_less, any_filtered, filter_both, passing}
-use Rattle.inittab_text.specs.Tables.{entry_of}
-use Rattle.trace_events.specs.declared.steps.Goal.{Goal}
-use Rattle.trace_events.specs.Event.{Event}
-use Rattle.trace_events.specs.Past.{Child, is_of, has_child, is_quiet, table_of, stage_of, kept_children, known_children}
-use Rattle.trace_events.specs.Wanted.{starts_in, nothing_runs, is_asked, is_called, is_wanted, is_excluded}
-use Rattle.trace_events.specs.Spells.{spell_hits}
-use Rattle.trace_events.specs.Due.{record_ids}
-use Rattle.trace_events.specs.Sound.{is_sound}
-use Rattle.trace_laws.proofs.Known.{quiet_known, quiet_start, has_known, known_single}
-use Rattle.trace_laws.proofs.Records.{child_in_records}
-use Rattle.trace_laws.proofs.Births.{at_moment}
 use Rattle.core_records.specs.declared.children.KnownChild.{KnownChild}
 use Rattle.core_records.specs.declared.children.Stop.{Stop}
-use Rattle.core_model.specs.State.{CoreState}
-use Rattle.core_model.specs.Decide.{is_wanted_record}
-use Rattle.core_model.specs.Fit.{LastStatuses, Fits, child_known, living, stop_after, stop_of, stop_known, record_of}
-use Rattle.core_model.proofs.Fitted.{fit_records, fit_table, fit_stage}
-use Rattle.core_model.proofs.Reading.{any_found}
 use Rattle.core_model.proofs.Ranks.{wanted_same}
 use Rattle.core_waiting.specs.declared.rests.Awaited.{Awaited}
-use Rattle.core_waiting.specs.declared.rests.Why.{Why}
-use Rattle.core_waiting.specs.declared.rests.Why.TheVariants.{Excluded, WaitedFor, InTheWay}
-use Rattle.core_waiting.specs.Rest.{why_of_entry, why_awaited, is_awaited, awaited_children}
-use Rattle.core_waiting.specs.Awaiting.{with_why, in_record_order, awaited_known, is_wanted_in, why_by_entry, why_of_record, awaited_of_record, awaited_by}
 use Rattle.core_waiting.proofs.Settled.{found_id}
-use Rattle.trace_laws.proofs.Stopping.{found_own}
 
 -- lists
 same_filter_map : {X Y : Type 0} (f g : X → Option Y) → ((x : X) → f x ≡ g x) → (xs : List X) → filter_map f xs ≡ filter_map g xs
-same_filter_map f g same [] = refl
-same_filter_map f g same (x ∷ xs) = λ i. cons_option (same x i) (same_filter_map f g same xs i)
+same_filter_map f g same xs = grind arith
 
 filter_map_map : {X Y Z : Type 0} (f : Y → Option Z) (g : X → Y) (xs : List X) → filter_map f (map g xs) ≡ filter_map (λ x. f (g x)) xs
 filter_map_map f g [] = refl
@@ -49,36 +18,18 @@ filter_map_map f g (x ∷ xs) = ap (cons_option (f (g x))) (filter_map_map f g x
 
 any_filter_map : {X Y : Type 0} (test : Y → Bool) (f : X → Option Y) (xs : List X) → list_any test (filter_map f xs) ≡ list_any (λ x. option_map_or test (f x) false) xs
 any_filter_map test f [] = refl
-any_filter_map {X} {Y} test f (x ∷ xs) = by (f x) ∙ ap (λ b. option_map_or test (f x) false || b) (any_filter_map test f xs) where
-  by : (o : Option Y) → list_any test (cons_option o (filter_map f xs)) ≡ (option_map_or test o false || list_any test (filter_map f xs))
-  by None = refl
-  by (Some y) = refl
+any_filter_map {X} {Y} test f (x ∷ xs) = grind (arith, any_filter_map test f xs)
 
 no_more : {X : Type 0} (p : X → Bool) (xs : List X) → length (filter p xs) ≤ length xs
-no_more p [] = omega arith
-no_more p (x ∷ xs) = at (p x) (no_more p xs) where
-  at : (b : Bool) → length (filter p xs) ≤ length xs → length (cond b (x ∷ filter p xs) (filter p xs)) ≤ suc (length xs)
-  at true h = omega arith
-  at false h = omega arith
+no_more p [] = grind arith
+no_more p (x ∷ xs) = grind (arith, no_more p xs)
 
 -- the first of the awaited that has the id is the first with the id that is awaited
 module _ {X : Type 0} (p q : X → Bool) where
-  chosen : (x : X) (ys : List X) (b : Bool) → find p (cond b (x ∷ ys) ys) ≡ cond b (cond (p x) (Some x) (find p ys)) (find p ys)
-  chosen x ys true = refl
-  chosen x ys false = refl
 
   found_filter : (xs : List X) → find p (filter q xs) ≡ find q (filter p xs)
-  found_filter [] = refl
-  found_filter (x ∷ xs) = chosen x (filter q xs) (q x) ∙ by (p x) (q x) (find p (filter q xs)) (find q (filter p xs)) (found_filter xs) ∙ sym (other (p x)) where
-    other : (b : Bool) → find q (cond b (x ∷ filter p xs) (filter p xs)) ≡ cond b (cond (q x) (Some x) (find q (filter p xs))) (find q (filter p xs))
-    other true = refl
-    other false = refl
-
-    by : (a b : Bool) (l r : Option X) → l ≡ r → cond b (cond a (Some x) l) l ≡ cond a (cond b (Some x) r) r
-    by true true l r h = refl
-    by true false l r h = h
-    by false true l r h = h
-    by false false l r h = h
+  found_filter [] = grind arith
+  found_filter (x ∷ xs) = grind (arith, found_filter xs)
 
 -- of at most one with the id: what is said of it, where nothing is said of those that are not awaited
 abbrev head_of : {X : Type 0} → List X → Option X
@@ -87,18 +38,11 @@ head_of (x ∷ xs) = Some x
 
 found_head : {X : Type 0} (p : X → Bool) (xs : List X) → find p xs ≡ head_of (filter p xs)
 found_head p [] = refl
-found_head {X} p (x ∷ xs) = by (p x) (found_head p xs) where
-  by : (b : Bool) → find p xs ≡ head_of (filter p xs) → cond b (Some x) (find p xs) ≡ head_of (cond b (x ∷ filter p xs) (filter p xs))
-  by true h = refl
-  by false h = h
+found_head {X} p (x ∷ xs) = grind (arith, found_head p xs)
 
 one_found : {X Y : Type 0} (f : X → Option Y) (q : X → Bool) → ((x : X) → q x ≡ false → f x ≡ None) → (xs : List X) → length xs ≤ 1 → option_and_then f (find q xs) ≡ option_and_then f (head_of xs)
-one_found f q none [] few = refl
-one_found f q none (x ∷ y ∷ xs) few = absurd (omega arith)
-one_found {X} f q none (x ∷ []) few = by (q x) refl where
-  by : (b : Bool) → q x ≡ b → option_and_then f (cond b (Some x) None) ≡ f x
-  by true is = refl
-  by false is = sym (none x is)
+one_found f q none [] few = grind arith
+one_found f q none (happening ∷ xs) few = grind (arith, one_found f q none xs)
 
 turned : (a b : Bool) → (a && b) ≡ (b && a)
 turned true true = refl
@@ -108,21 +52,14 @@ turned false false = refl
 
 -- nothing is said of a child that is not awaited
 unsaid : (past : List Event) (child : Child) → is_awaited past child ≡ false → with_why past child ≡ None
-unsaid past child h = by (why_awaited past child) h where
-  by : (o : Option Why) → is_some o ≡ false → option_map {U = Awaited} (λ why. record { id = child.id; number = child.number; why = why }) o ≡ None
-  by None h = refl
-  by (Some why) h = absurd (false≢true (sym h))
+unsaid past child h = grind arith
 
 module _ (goal : Goal) (past : List Event) (sound : is_sound goal past ≡ true) where
   known_found : (id : List ℕ) → option_and_then (with_why past) (find (is_of id) (awaited_known past)) ≡ option_and_then (with_why past) (child_known id past)
-  known_found id = ap (option_and_then (with_why past)) (found_filter (is_of id) (is_awaited past) (known_children past))
-      ∙ one_found (with_why past) (is_awaited past) (unsaid past) (filter (is_of id) (known_children past)) (known_single goal past sound id)
-      ∙ ap (option_and_then (with_why past)) (sym (found_head (is_of id) (known_children past)))
+  known_found id = grind (arith, found_filter, one_found, unsaid, known_single, found_head)
 
   quiet_found : is_quiet past ≡ true → (id : List ℕ) → find (is_of id) (awaited_children past) ≡ find (is_of id) (awaited_known past)
-  quiet_found quiet id = found_filter (is_of id) (is_awaited past) (kept_children past)
-      ∙ ap (find (is_awaited past)) (quiet_known goal past sound quiet id)
-      ∙ sym (found_filter (is_of id) (is_awaited past) (known_children past))
+  quiet_found quiet id = grind (arith, found_filter, quiet_known)
 
   -- an entry of the table in force is wanted where its record says so
   wanted_in : (lasts : LastStatuses) (id : List ℕ) (e : Entry) → entry_of id (table_of past) ≡ Some e → is_wanted_in (stage_of past) e (record_of lasts past id) ≡ is_wanted e past
@@ -135,8 +72,7 @@ module _ (goal : Goal) (past : List Event) (sound : is_sound goal past ≡ true)
     at (Some now) is = ap (λ i. is_wanted_record now e (record_of lasts past i)) same ∙ sym (wanted_same lasts goal past sound now is e (ap (λ i. entry_of i (table_of past)) (sym same) ∙ found))
 
   by_entry : (lasts : LastStatuses) (id : List ℕ) (o : Option Entry) → entry_of id (table_of past) ≡ o → why_by_entry (stage_of past) o (record_of lasts past id) ≡ why_of_entry o past
-  by_entry lasts id None is = refl
-  by_entry lasts id (Some e) is = ap (λ b. cond (waited_of e) (Some WaitedFor) (cond b (Some InTheWay) None)) (wanted_in lasts id e is)
+  by_entry lasts id o is = grind (arith, wanted_in)
 
   -- so why the end of its child is awaited
   whys_same : (lasts : LastStatuses) (id : List ℕ) (child : Child) → child_known id past ≡ Some child → why_of_record (stage_of past) (table_of past) (record_of lasts past id) ≡ why_awaited past child
@@ -175,8 +111,7 @@ module _ (goal : Goal) (past : List Event) (sound : is_sound goal past ≡ true)
     at_id id = option_map_or test (option_and_then (with_why past) (find (is_of id) (awaited_children past))) false
 
     then_or : (o : Option Child) → option_map_or test (option_and_then (with_why past) o) false ≡ option_map_or says o false
-    then_or None = refl
-    then_or (Some child) = refl
+    then_or o = grind arith
 
     few : (id : List ℕ) → length (filter (is_of id) (awaited_children past)) ≤ 1
     few id =
@@ -205,9 +140,7 @@ module _ (goal : Goal) (past : List Event) (sound : is_sound goal past ≡ true)
         listed.within at_id (ap at_id (sym (same_id-is id listed.item listed.passes)) ∙ at_known id ∙ own)
 
     pub none_left_out : list_any test (in_record_order (awaited_children past) past) ≡ list_any test (filter_map (with_why past) (awaited_children past))
-    none_left_out = any_filter_map test (λ id. option_and_then (with_why past) (find (is_of id) (awaited_children past))) (record_ids past)
-        ∙ same_tests (list_any at_id (record_ids past)) (list_any says (awaited_children past)) there back
-        ∙ sym (any_filter_map test (with_why past) (awaited_children past))
+    none_left_out = grind (arith, any_filter_map, same_tests, there, back)
 
 pub awaits_known : (core : CoreState) (goal : Goal) (past : List Event) → is_sound goal past ≡ true → Fits core goal past → awaited_by core ≡ in_record_order (awaited_known past) past
 awaits_known core goal past sound fits = known_same goal past sound core fits

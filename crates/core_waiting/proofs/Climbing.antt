@@ -1,47 +1,12 @@
 -- Where nothing is asked of init, a stretch is calm, or init enters the next stage on its way up.
-use Rattle.std.proofs.Common.{◌≡◌, ◌≤◌, ◌<◌, ◌+◌, refl, sym, ◌∙◌, ap, subst, ◌⊎◌, inl, inr, ℕ, ◌==◌, Bool, true, false, not, ◌&&◌, ◌||◌, cond, List, [], ◌∷◌, ◌++◌, filter, length, Option, Some, None, is_some, is_none, arith}
-use Rattle.std.specs.List.{list_any, list_all}
-use Rattle.std.specs.Option.{option_map_or}
-use Rattle.std.proofs.lemmas.Bool.{false≢true, false_from_ne_true, true_from_ne_false, and_parts, and_from, or_left, or_right, not-true}
-use Rattle.init_words.specs.declared.entries.Entry.{Entry}
-use Rattle.init_words.specs.declared.actions.Act.{Act}
-use Rattle.init_words.specs.declared.actions.Act.TheVariants as act
-use Rattle.init_words.specs.declared.levels.Level.{Level}
-use Rattle.init_words.specs.declared.levels.Level.TheVariants.{S}
-use Rattle.init_words.specs.declared.levels.Letter.{Letter}
-use Rattle.init_words.specs.declared.levels.Mark.{Mark}
-use Rattle.init_words.specs.declared.stages.Stage.{Stage}
+use Rattle.core_waiting.proofs.Words.{◌≡◌, ◌≤◌, ◌<◌, ◌+◌, refl, sym, ◌∙◌, ap, subst, ◌⊎◌, inl, inr, ℕ, ◌==◌, Bool, true, false, not, ◌&&◌, ◌||◌, cond, List, [], ◌∷◌, ◌++◌, filter, length, Option, Some, None, is_none, arith, list_any, list_all, option_map_or, false≢true, false_from_ne_true, true_from_ne_false, and_parts, and_from, or_left, or_right, not-true, Entry, Act, Level, S, Letter, Stage, OrderKind, Start, Look, PowerKind, waited_by, wanted_by, is_limited, starts_of, waited_of, same_id, same_level, same_level-is, same_id-self, both_ways, falsely, or_either, or_false, and_false, not_from, any_less, filter_none, Passing, passing, entry_of, NewTable, Enter, Asked, Got, Step, Goal, Event, Child, is_of, has_child, open_of, table_of, stage_of, is_quiet, is_idle, kept_children, known_children, is_wanted, is_owed, may_live, is_excluded, stop_due, is_held, is_full, in_run, goal_of, wants_reexec, wants_reread, level_wish, other_than, keeps_power, keeps_letter, powers, letters, keeps_news, wish_stands, step_if, steps_if, none_excluded, due_first, due_reexec, due_reread, enter_level, due_level, power_steps, letter_steps, due_news, record_ids, stop_step, stops_of, stops_among, due_stops, can_start, start_steps, starts_among, due_starts, is_over, next_stage, due_stage, is_announced, settle_step, due_settle, is_settled, can_look, looks_among, due_looks, due, same_step, is_due, is_sound, each_append, each_step_if, each_steps_if, due_facts, sound_step, quiet_start, Excluded, AtRest, why_of_entry, is_awaited, awaited_children, is_level_announced, is_calm, is_start_of, is_waited_start, is_gone, to_come, is_unasked, stages_ahead, destination, is_ahead, waits_ahead}
+use Rattle.std.proofs.Common.{is_some}
 use Rattle.init_words.specs.declared.stages.Stage.TheVariants as stage
-use Rattle.init_words.specs.declared.orders.OrderKind.{OrderKind}
-use Rattle.init_words.specs.declared.orders.OrderKind.TheVariants.{Start, Look}
-use Rattle.init_words.specs.declared.orders.PowerKind.{PowerKind}
-use Rattle.init_words.specs.Actions.{same_act, starts_by, lives_by, waited_by, wanted_by, is_limited}
-use Rattle.init_words.specs.Entries.{starts_of, lives_of, waited_of}
-use Rattle.init_words.specs.Ids.{same_id}
-use Rattle.init_words.specs.Levels.{same_level}
 use Rattle.init_words.specs.Orders.{same_stage}
-use Rattle.init_words.proofs.Same.{same_level-is, same_id-self}
-use Rattle.init_words.proofs.Tests.{both_ways, falsely, or_either, or_false, and_false, not_from, any_less, filter_none, Passing, passing}
-use Rattle.inittab_text.specs.Tables.{entry_of}
 use Rattle.initctl_frame.specs.declared.requests.HeardRequest.TheVariants as got
-use Rattle.trace_events.specs.declared.happenings.Happening.TheVariants.{NewTable, Enter, Call, Power, Asked, Got}
-use Rattle.trace_events.specs.declared.steps.Step.{Step}
+use Rattle.trace_events.specs.declared.happenings.Happening.TheVariants.{Call, Power}
 use Rattle.trace_events.specs.declared.steps.Step.TheVariants as step
-use Rattle.trace_events.specs.declared.steps.Goal.{Goal}
-use Rattle.trace_events.specs.Event.{Event}
-use Rattle.trace_events.specs.Past.{Child, is_of, has_child, open_of, table_of, stage_of, is_quiet, is_idle, kept_children, known_children}
-use Rattle.trace_events.specs.Wanted.{starts_in, nothing_runs, is_asked, is_called, is_wanted, is_owed, may_live, is_excluded}
-use Rattle.trace_events.specs.Spells.{stop_due}
-use Rattle.trace_events.specs.Timing.{is_held, is_full}
-use Rattle.trace_events.specs.Wishes.{in_run, goal_of, wants_reexec, wants_reread, level_wish, other_than, keeps_power, keeps_letter, powers, letters, keeps_news, wish_stands}
-use Rattle.trace_events.specs.Due.{step_if, steps_if, none_excluded, due_first, due_reexec, due_reread, enter_level, due_level, power_steps, letter_steps, due_news, record_ids, stop_step, stops_of, stops_among, due_stops, can_start, start_steps, starts_among, due_starts, is_over, next_stage, due_stage, is_announced, settle_step, due_settle, is_settled, can_look, looks_among, due_looks, due, same_step, is_due}
-use Rattle.trace_events.specs.Sound.{is_sound}
-use Rattle.trace_laws.proofs.Dues.{Each, each_append, each_step_if, each_steps_if, due_facts}
-use Rattle.trace_laws.proofs.Births.{sound_step}
-use Rattle.trace_laws.proofs.Known.{quiet_start}
-use Rattle.core_waiting.specs.declared.rests.Why.TheVariants.{Excluded, WaitedFor, InTheWay}
-use Rattle.core_waiting.specs.Rest.{AtRest, why_of_entry, is_awaited, awaited_children, is_level_announced, is_calm, is_start_of, is_waited_start, is_gone, is_to_come, to_come}
-use Rattle.core_waiting.specs.Arrival.{is_unasked, stages_ahead, destination, is_ahead, waits_ahead}
+use Rattle.trace_laws.proofs.Dues.{Each}
 use Rattle.core_waiting.proofs.Settled.{all_found, found_id}
 use Rattle.core_waiting.proofs.Progress.{same_stage as stage_stays, excluded_still, kept_back, quit_at, progress}
 use Rattle.core_waiting.proofs.Rounds.{fewer, fewer_to_come}
@@ -287,10 +252,7 @@ is_climb (Some stage.Boot) (stage.Run level) = true
 is_climb _ s = false
 
 same_stage-is : (k l : Stage) → same_stage k l ≡ true → k ≡ l
-same_stage-is stage.Sysinit stage.Sysinit h = refl
-same_stage-is stage.Boot stage.Boot h = refl
-same_stage-is (stage.Run k) (stage.Run l) h = ap stage.Run (same_level-is k l h)
-same_stage-is _ _ h = absurd (false≢true h)
+same_stage-is k l h = grind arith
 
 pub one_step : (s x : Stage) (g grace : ℕ) → (same_stage s x && g == grace || false) ≡ true → s ≡ x
 one_step s x g grace h = same_stage-is s x (and_parts (same_stage s x) (g == grace) (sym (or_false (same_stage s x && g == grace)) ∙ h)).0
@@ -379,27 +341,8 @@ longer goal happening between past calm others stays starts (inr it) = inr (reco
   ahead = it.ahead;
 })
 
--- where a stage is over, what lives on in the next is not awaited there
-sysinit_waits : {P : Type 0} (a : Act) (levels : List Mark) → lives_by a levels stage.Sysinit ≡ true → waited_by a ≡ false → P
-sysinit_waits act.Sysinit levels lives other = absurd (false≢true (sym other))
-sysinit_waits _ levels lives other = absurd (false≢true lives)
-
-boot_stays : (a : Act) (levels : List Mark) (level : Level) → lives_by a levels stage.Boot ≡ true → waited_by a ≡ false → (lives_by a levels (stage.Run level) ≡ true) × (starts_by a levels (stage.Run level) ≡ false)
-boot_stays act.Boot levels level lives other = (refl, refl)
-boot_stays act.Bootwait levels level lives other = absurd (false≢true (sym other))
-boot_stays _ levels level lives other = absurd (false≢true lives)
-
 stays_on : (e : Entry) (born : Option Act) (o : Option Stage) (s : Stage) → is_climb o s ≡ true → may_live (Some e) born o ≡ true → waited_of e ≡ false → (may_live (Some e) born (Some s) ≡ true) × (starts_of e s ≡ false)
-stays_on e None o s climbs lives other = absurd (false≢true lives)
-stays_on e (Some a) None s climbs lives other = absurd (false≢true lives)
-stays_on e (Some a) (Some stage.Sysinit) s climbs lives other = sysinit_waits e.act e.levels.items (and_parts (same_act e.act a) (lives_of e stage.Sysinit) lives).1 other
-stays_on e (Some a) (Some stage.Boot) stage.Sysinit climbs lives other = absurd (false≢true climbs)
-stays_on e (Some a) (Some stage.Boot) stage.Boot climbs lives other = absurd (false≢true climbs)
-stays_on e (Some a) (Some stage.Boot) (stage.Run level) climbs lives other =
-    let parts = and_parts (same_act e.act a) (lives_of e stage.Boot) lives in
-    let stay = boot_stays e.act e.levels.items level parts.1 other in
-    (and_from (same_act e.act a) (lives_of e (stage.Run level)) parts.0 stay.0, stay.1)
-stays_on e (Some a) (Some (stage.Run level)) s climbs lives other = absurd (false≢true climbs)
+stays_on e born o s climbs lives other = grind arith
 
 abbrev is_done : List Event → Entry → Bool
 is_done past e = not (is_wanted e past) && not (waited_of e && has_child e.id (kept_children past))
@@ -447,55 +390,20 @@ bystanders_on goal table s after start sound calm quiet unstarted none = false_f
 
 -- and none of them is awaited
 not_awaited : (start : List Event) (s : Stage) → stage_of start ≡ Some s → (child : Child) → stands_by (table_of start) s child ≡ true → is_awaited start child ≡ false
-not_awaited start s here child h = by (entry_of child.id (table_of start)) refl where
-  by : (o : Option Entry) → entry_of child.id (table_of start) ≡ o → is_awaited start child ≡ false
-  by None is = absurd (false≢true (ap (λ o. option_map_or (λ (x : Entry). may_live (Some x) child.act (Some s) && (not (waited_of x) && not (starts_of x s))) o false) (sym is) ∙ h))
-  by (Some e) is = ap (λ o. is_some (cond (not (may_live o child.act (stage_of start))) (Some Excluded) (why_of_entry o start))) is ∙ ap (λ now. is_some (cond (not (may_live (Some e) child.act now)) (Some Excluded) (cond (waited_of e) (Some WaitedFor) (cond (starts_in e now && wanted_by e.act (nothing_runs e.id start) (not (is_asked e.id start)) (is_called e start)) (Some InTheWay) None)))) here ∙ none (may_live (Some e) child.act (Some s)) (waited_of e) (starts_of e s) parts.0 (not-true (waited_of e) two.0) (not-true (starts_of e s) two.1) where
-    parts : (may_live (Some e) child.act (Some s) ≡ true) × ((not (waited_of e) && not (starts_of e s)) ≡ true)
-    parts = and_parts (may_live (Some e) child.act (Some s)) (not (waited_of e) && not (starts_of e s)) (ap (λ o. option_map_or (λ (x : Entry). may_live (Some x) child.act (Some s) && (not (waited_of x) && not (starts_of x s))) o false) (sym is) ∙ h)
-
-    two : (not (waited_of e) ≡ true) × (not (starts_of e s) ≡ true)
-    two = and_parts (not (waited_of e)) (not (starts_of e s)) parts.1
-
-    none : (may waited starts : Bool) → may ≡ true → waited ≡ false → starts ≡ false → is_some (cond (not may) (Some Excluded) (cond waited (Some WaitedFor) (cond (starts && wanted_by e.act (nothing_runs e.id start) (not (is_asked e.id start)) (is_called e start)) (Some InTheWay) None))) ≡ false
-    none true false false a b c = refl
-    none true false true a b c = absurd (false≢true (sym c))
-    none true true starts a b c = absurd (false≢true (sym b))
-    none false waited starts a b c = absurd (false≢true a)
+not_awaited start s here child h = grind arith
 
 -- what is to come where a stage is entered, and where entries were called in it
 fresh_wanted : (a : Act) (idle news : Bool) → waited_by a ≡ true → wanted_by a idle true false ≡ true → wanted_by a true true news ≡ true
-fresh_wanted act.Respawn idle news waited h = absurd (false≢true waited)
-fresh_wanted act.Ondemand idle news waited h = absurd (false≢true waited)
-fresh_wanted act.Powerwait idle news waited h = absurd (false≢true h)
-fresh_wanted act.Powerokwait idle news waited h = absurd (false≢true h)
-fresh_wanted act.Powerfail idle news waited h = absurd (false≢true h)
-fresh_wanted act.Powerfailnow idle news waited h = absurd (false≢true h)
-fresh_wanted _ idle news waited h = h
+fresh_wanted a idle news waited h = grind arith
 
 called_wanted : (a : Act) (idle fresh called : Bool) → waited_by a ≡ true → wanted_by a idle fresh called ≡ true → wanted_by a true true true ≡ true
-called_wanted act.Sysinit idle fresh called waited h = refl
-called_wanted act.Bootwait idle fresh called waited h = refl
-called_wanted act.Wait idle fresh called waited h = refl
-called_wanted act.Powerwait idle fresh called waited h = refl
-called_wanted act.Powerokwait idle fresh called waited h = refl
-called_wanted _ idle fresh called waited h = absurd (false≢true waited)
+called_wanted a idle fresh called waited h = grind arith
 
 first_to_come : (news : Bool) (moment : List Event) (s : Stage) (grace : ℕ) → to_come (Enter s grace ∷ moment) ≤ length (filter (is_ahead news s) (table_of moment))
-first_to_come news moment s grace = fewer (is_to_come (Enter s grace ∷ moment)) (is_ahead news s) less (table_of moment) where
-  less : (e : Entry) → is_to_come (Enter s grace ∷ moment) e ≡ true → is_ahead news s e ≡ true
-  less e h =
-      let outer = and_parts (waited_of e) (starts_of e s && wanted_by e.act (nothing_runs e.id (Enter s grace ∷ moment)) true false) h in
-      let inner = and_parts (starts_of e s) (wanted_by e.act (nothing_runs e.id (Enter s grace ∷ moment)) true false) outer.1 in
-      and_from (waited_of e) (starts_of e s && wanted_by e.act true true news) outer.0 (and_from (starts_of e s) (wanted_by e.act true true news) inner.0 (fresh_wanted e.act (nothing_runs e.id (Enter s grace ∷ moment)) news outer.0 inner.1))
+first_to_come news moment s grace = grind (arith, fewer, fresh_wanted)
 
 called_to_come : (start : List Event) (s : Stage) → stage_of start ≡ Some s → to_come start ≤ length (filter (is_ahead true s) (table_of start))
-called_to_come start s here = fewer (is_to_come start) (is_ahead true s) less (table_of start) where
-  less : (e : Entry) → is_to_come start e ≡ true → is_ahead true s e ≡ true
-  less e h =
-      let outer = and_parts (waited_of e) (starts_in e (stage_of start) && wanted_by e.act (nothing_runs e.id start) (not (is_asked e.id start)) (is_called e start)) h in
-      let inner = and_parts (starts_in e (stage_of start)) (wanted_by e.act (nothing_runs e.id start) (not (is_asked e.id start)) (is_called e start)) outer.1 in
-      and_from (waited_of e) (starts_of e s && wanted_by e.act true true true) outer.0 (and_from (starts_of e s) (wanted_by e.act true true true) (ap (starts_in e) (sym here) ∙ inner.0) (called_wanted e.act (nothing_runs e.id start) (not (is_asked e.id start)) (is_called e start) outer.0 inner.1))
+called_to_come start s here = grind (arith, fewer, called_wanted)
 
 -- a stage is entered
 entering : (goal : Goal) (s : Stage) (grace : ℕ) (between past : List Event) → is_due goal (step.Enter s grace) (between ++ past) ≡ true → Course goal between past → Course goal (Enter s grace ∷ between) past

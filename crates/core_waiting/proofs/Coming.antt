@@ -1,37 +1,13 @@
 -- Init's own steps end, and where they end it rests.
-use Rattle.std.proofs.Common.{◌≡◌, ◌≤◌, ◌<◌, refl, sym, ◌∙◌, ap, subst, ℕ, Bool, zero, suc, true, false, ◌||◌, cond, List, [], ◌∷◌, ◌++◌, map, filter, None, is_none, arith}
-use Rattle.std.specs.List.{list_any, list_all}
-use Rattle.std.specs.Option.{option_map}
-use Rattle.std.proofs.lemmas.Bool.{false≢true, and_from, or_parts, false_from_ne_true}
-use Rattle.init_words.specs.declared.entries.Entry.{Entry}
-use Rattle.init_words.specs.Ids.{same_id}
-use Rattle.init_words.proofs.Same.{same_id-self}
-use Rattle.init_words.proofs.Tests.{find_none, any_filtered}
-use Rattle.inittab_text.specs.Tables.{ids_of, has_id, act_of}
-use Rattle.trace_events.specs.declared.steps.Goal.{Goal}
-use Rattle.trace_events.specs.declared.steps.Step.{Step}
-use Rattle.trace_events.specs.declared.steps.Step.TheVariants as step
-use Rattle.trace_events.specs.Event.{Event}
-use Rattle.trace_events.specs.Past.{table_of, has_child, known_children}
-use Rattle.trace_events.specs.Wishes.{wants_reexec, wants_reread}
-use Rattle.trace_events.specs.Due.{due, first, left_ids}
-use Rattle.trace_events.specs.Run.{is_rest}
-use Rattle.trace_events.specs.Sound.{is_sound}
+use Rattle.core_waiting.proofs.Words.{◌≡◌, ◌≤◌, ◌<◌, refl, sym, ◌∙◌, ap, subst, ℕ, Bool, zero, suc, true, false, ◌||◌, cond, List, [], ◌∷◌, ◌++◌, map, filter, None, is_none, arith, list_any, list_all, option_map, false≢true, and_from, or_parts, false_from_ne_true, Entry, same_id, same_id-self, find_none, any_filtered, ids_of, has_id, act_of, Goal, Step, Event, table_of, has_child, known_children, wants_reexec, wants_reread, due, first, left_ids, is_rest, is_sound, left_apart, CoreState, decide, LastStatuses, Fits, StillFits, record_of, records_of, with_step, fit_records, fit_table, still, IsOwn, table_own, decide_due, AtRest}
 use Rattle.trace_laws.proofs.Runs.{first_due}
-use Rattle.trace_laws.proofs.Stopping.{left_apart}
 use Rattle.core_records.specs.State.{RecordState}
 use Rattle.core_records.specs.Order.{IsInOrder}
-use Rattle.core_model.specs.State.{CoreState}
-use Rattle.core_model.specs.Decide.{decide}
 use Rattle.core_model.specs.Steps.{after_step}
-use Rattle.core_model.specs.Fit.{LastStatuses, Fits, StillFits, record_of, records_of, with_step}
 use Rattle.core_model.specs.Work.{work_left}
-use Rattle.core_model.proofs.Fitted.{fit_records, fit_table, still}
-use Rattle.core_model.proofs.Reading.{Each, IsOwn, table_own}
-use Rattle.core_model.proofs.Deciding.{decide_due}
+use Rattle.core_model.proofs.Reading.{Each}
 use Rattle.core_model.proofs.Stepping.{fits_step}
 use Rattle.core_model.proofs.Working.{decide_falls}
-use Rattle.core_waiting.specs.Rest.{AtRest}
 use Rattle.core_waiting.specs.Coming.{with_own_steps, after_own_steps}
 use Rattle.core_waiting.proofs.Idle.{rest_unwished}
 
@@ -70,13 +46,7 @@ module _ (goal : Goal) (past : List Event) (c : CoreState) (sound : is_sound goa
   fits_next = subst (λ s. StillFits c (after_step (decide c) c) goal past (with_step s past)) due_now (fits_step goal past c sound fits)
 
 sound_next : (goal : Goal) (past : List Event) (made : Step) → first (due goal past) ≡ made → is_sound goal past ≡ true → is_sound goal (with_step made past) ≡ true
-sound_next goal past (step.Enter stage grace) is sound = and_from _ (is_sound goal past) (first_due goal past (step.Enter stage grace) is refl) sound
-sound_next goal past (step.Call letter) is sound = and_from _ (is_sound goal past) (first_due goal past (step.Call letter) is refl) sound
-sound_next goal past (step.Power kind) is sound = and_from _ (is_sound goal past) (first_due goal past (step.Power kind) is refl) sound
-sound_next goal past (step.Order id ask) is sound = and_from _ (is_sound goal past) (first_due goal past (step.Order id ask) is refl) sound
-sound_next goal past (step.Hold id) is sound = and_from _ (is_sound goal past) (first_due goal past (step.Hold id) is refl) sound
-sound_next goal past (step.Settle level) is sound = and_from _ (is_sound goal past) (first_due goal past (step.Settle level) is refl) sound
-sound_next goal past _ is sound = sound
+sound_next goal past made is sound = grind (arith, first_due)
 
 -- so it comes to a rest
 comes_in : (n : ℕ) (goal : Goal) (past : List Event) (c : CoreState) → is_sound goal past ≡ true → Fits c goal past → work_left c ≤ n → is_rest (first (due goal (with_own_steps goal n past))) ≡ true
@@ -111,22 +81,10 @@ steps_fit (suc n) core goal past sound fits =
 
 -- init's own steps leave the two wishes as they are
 reexec_next : (made : Step) (past : List Event) → wants_reexec (with_step made past) ≡ wants_reexec past
-reexec_next (step.Enter stage grace) past = refl
-reexec_next (step.Call letter) past = refl
-reexec_next (step.Power kind) past = refl
-reexec_next (step.Order id ask) past = refl
-reexec_next (step.Hold id) past = refl
-reexec_next (step.Settle level) past = refl
-reexec_next _ past = refl
+reexec_next made past = grind arith
 
 reread_next : (made : Step) (past : List Event) → wants_reread (with_step made past) ≡ wants_reread past
-reread_next (step.Enter stage grace) past = refl
-reread_next (step.Call letter) past = refl
-reread_next (step.Power kind) past = refl
-reread_next (step.Order id ask) past = refl
-reread_next (step.Hold id) past = refl
-reread_next (step.Settle level) past = refl
-reread_next _ past = refl
+reread_next made past = grind arith
 
 wish_stays : (wants : List Event → Bool) → ((made : Step) (past : List Event) → wants (with_step made past) ≡ wants past) → (n : ℕ) (goal : Goal) (past : List Event) → wants (with_own_steps goal n past) ≡ wants past
 wish_stays wants next zero goal past = refl

@@ -1,34 +1,10 @@
 -- Over an undisturbed round a child that had to end, and lacks no signal, is gone.
-use Rattle.std.proofs.Common.{◌≡◌, ◌≤◌, ◌-◌, refl, sym, ◌∙◌, ap, subst, ℕ, ◌==◌, Bool, true, false, not, ◌&&◌, ◌||◌, cond, nat_le, List, [], ◌∷◌, ◌++◌, filter, length, Option, Some, None, is_some, length-append, arith}
-use Rattle.std.specs.List.{list_any, list_all}
-use Rattle.std.proofs.lemmas.Bool.{false≢true, false_from_ne_true, and_parts, and_from, or_left, or_right, or_parts, or_from, leb-true}
-use Rattle.std.proofs.lemmas.Option.{none-some, same_Some}
+use Rattle.core_waiting.proofs.Words.{◌≡◌, ◌≤◌, ◌-◌, refl, sym, ◌∙◌, ap, subst, ℕ, ◌==◌, Bool, true, false, not, ◌&&◌, ◌||◌, cond, nat_le, List, [], ◌∷◌, ◌++◌, filter, length, Option, Some, None, length-append, arith, list_any, list_all, false≢true, false_from_ne_true, and_parts, and_from, or_left, or_right, or_parts, or_from, leb-true, none-some, same_Some, OrderKind, Start, Look, Term, Kill, same_id, same_ask, same_id-is, both_ways, falsely, not_from, or_either, any_less, any_filtered, Passing, passing, NewTable, Enter, Asked, Birth, NoBirth, Reaped, Still, NoLook, Hit, Miss, Told, Nudge, Goal, Event, Child, is_of, is_child, has_child, open_of, undone_of, is_untold, is_idle, unreaped_children, kept_children, known_children, grace_of, time_of, is_order, is_excluded, Signal, stop_by, is_missed, spell_hits, wants_look, may_come, is_sound, is_order-is, idle_none, undone_is_open, told_same, told_other, reaped_other, told_known, kept_before_told, known_kept, same_has, MayStop, due_facts, sound_holds, look_undone, asked_free, free_told, one_child, has_known, order_known, AtRest, is_calm, is_start_of, is_gone, is_looked_at, is_end_seen, is_vain_look, is_found_ended, is_nudge}
+use Rattle.std.proofs.Common.{is_some}
 use Rattle.init_words.specs.declared.children.Status.{Status}
-use Rattle.init_words.specs.declared.orders.OrderKind.{OrderKind}
-use Rattle.init_words.specs.declared.orders.OrderKind.TheVariants.{Start, Look, Term, Kill}
-use Rattle.init_words.specs.Ids.{same_id}
-use Rattle.init_words.specs.Orders.{same_ask}
-use Rattle.init_words.proofs.Same.{same_id-is}
-use Rattle.init_words.proofs.Tests.{both_ways, falsely, not_from, or_either, any_less, any_filtered, Passing, passing}
-use Rattle.trace_events.specs.declared.happenings.Happening.TheVariants.{NewTable, Enter, Call, Power, Asked, Birth, NoBirth, Reaped, Still, NoLook, Hit, Miss, Told, Nudge}
-use Rattle.trace_events.specs.declared.steps.Goal.{Goal}
+use Rattle.trace_events.specs.declared.happenings.Happening.TheVariants.{Call, Power}
 use Rattle.trace_events.specs.declared.steps.Step.TheVariants as step
-use Rattle.trace_events.specs.Event.{Event}
-use Rattle.trace_events.specs.Past.{Child, is_of, is_child, has_child, open_of, undone_of, is_untold, is_idle, unreaped_children, kept_children, known_children, grace_of, time_of}
-use Rattle.trace_events.specs.Wanted.{is_order, is_excluded}
-use Rattle.trace_events.specs.Spells.{Signal, stop_by, is_missed, spell_hits}
-use Rattle.trace_events.specs.Due.{wants_look}
-use Rattle.trace_events.specs.Sound.{may_come, is_sound}
-use Rattle.trace_laws.proofs.Tests.{is_order-is}
-use Rattle.trace_laws.proofs.Orders.{idle_none, undone_is_open, told_same, told_other, reaped_other, told_known, kept_before_told, known_kept, same_has}
 use Rattle.trace_laws.proofs.Lone.{only_one}
-use Rattle.trace_laws.proofs.Dues.{MayStop, due_facts}
-use Rattle.trace_laws.proofs.Keeps.{sound_holds, look_undone, asked_free, free_told}
-use Rattle.trace_laws.proofs.Births.{one_child}
-use Rattle.trace_laws.proofs.Known.{has_known}
-use Rattle.trace_laws.proofs.Records.{order_known}
-use Rattle.core_waiting.specs.Rest.{AtRest, is_calm, is_start_of, is_gone, is_looked_at}
-use Rattle.core_waiting.specs.Arrival.{is_end_seen, is_vain_look, is_found_ended, is_nudge}
 use Rattle.core_waiting.proofs.Stops.{looks_at}
 use Rattle.core_waiting.proofs.Progress.{Next, next_of, excluded_still, no_start, kept_back}
 use Rattle.core_waiting.proofs.Reached.{Round, none_open, Grown, grown, unborn, lacks, lacks_of, passes_among}
@@ -104,10 +80,7 @@ asked_other id i ask past differ = record {
   looks = apart ask;
 } where
   apart : (given : OrderKind) → wants_look id (Asked i given ∷ past) ≡ wants_look id past
-  apart Start = refl
-  apart Look = ap (λ b. not b && wants_look id past) differ
-  apart Term = refl
-  apart Kill = refl
+  apart given = grind arith
 
 told_apart : (id i : List ℕ) (past : List Event) → same_id id i ≡ false → Carries id (Told i) past
 told_apart id i past differ = record {
@@ -153,11 +126,7 @@ at_most p r less (x ∷ xs) one some = at (r x) (p x) refl (less x) one some (at
   at false false is own one some rest = or_from (p x) (list_any p (filter (λ y. not (r y)) xs)) is (rest one some)
 
 not_acting : (id : List ℕ) (nudged seen vain : Bool) (past : List Event) (ask : OrderKind) → same_ask Look ask ≡ false → undone_of id past ≡ Some ask → Fate id nudged seen vain past → has_child id (kept_children past) ≡ false
-not_acting id nudged seen vain past ask other is (waits free known unseen looks) = absurd (none-some ask (sym free ∙ undone_is_open id ask past is))
-not_acting id nudged seen vain past ask other is (looked undone unseen) = both_ways (same_ask Look ask) (ap (same_ask Look) (sym (same_Some Look ask (sym undone ∙ is)))) other
-not_acting id nudged seen vain past ask other is (alive open_look done there unseen bad) = absurd (none-some ask (sym done ∙ is))
-not_acting id nudged seen vain past ask other is (ended open_look done none) = absurd (none-some ask (sym done ∙ is))
-not_acting id nudged seen vain past ask other is (gone none) = none
+not_acting id nudged seen vain past ask other is h = grind (arith, none-some, undone_is_open, both_ways, same_Some)
 
 signalled : (id i : List ℕ) (nudged seen vain : Bool) (past : List Event) → same_id id i ≡ true → (is_order Term (undone_of i past) || is_order Kill (undone_of i past)) ≡ true → Fate id nudged seen vain past → has_child id (kept_children past) ≡ false
 signalled id i nudged seen vain past same acts fate = or_either (is_order Term (undone_of i past)) (is_order Kill (undone_of i past)) acts (on Term refl) (on Kill refl) where

@@ -1,51 +1,14 @@
 -- In a run level each rest has an undisturbed round behind it: every child that is known ends, every signal hits.
-use Rattle.std.proofs.Common.{◌≡◌, ◌≤◌, ◌<◌, ◌+◌, ◌*◌, refl, sym, ◌∙◌, ap, subst, ◌⊎◌, inl, inr, ℕ, zero, suc, ◌==◌, Bool, true, false, not, ◌&&◌, ◌||◌, cond, nat_le, nat_lt, max, min, List, [], ◌∷◌, ◌++◌, filter, length, Option, Some, None, is_some, is_none, arith}
+use Rattle.core_waiting.proofs.Words.{◌≡◌, ◌≤◌, ◌<◌, ◌+◌, ◌*◌, refl, sym, ◌∙◌, ap, subst, ◌⊎◌, inl, inr, ℕ, zero, suc, ◌==◌, Bool, true, false, not, ◌&&◌, ◌||◌, cond, nat_le, nat_lt, max, min, List, [], ◌∷◌, ◌++◌, filter, length, Option, Some, None, is_none, arith, list_any, list_all, option_map_or, false≢true, false_from_ne_true, and_parts, and_from, and_right, or_left, or_right, or_parts, or_from, not-true, le-leb, eq-eqb, none-some, same_Some, CLOCK_LIMIT, HOLD, Entry, Level, S, Stage, Exit, OrderKind, Start, Look, same_id, same_level, starts_of, waited_of, is_limited, same_id-is, same_id-self, same_id-sym, same_id-flip, same_id-from, same_level-self, same_stage-self, both_ways, and_false, falsely, or_either, not_from, any_less, filter_none, Passing, passing, entry_of, NewTable, Enter, Asked, Birth, Death, Reaped, Still, NoLook, Miss, Told, Clock, Nudge, Got, Step, Goal, Event, Child, Open, is_of, is_child, has_child, has_number, open_of, undone_of, is_untold, open_orders, is_quiet, is_idle, is_dead, is_living, unreaped_children, kept_children, known_children, table_of, stage_of, grace_of, time_of, may_live, is_order, is_wanted, is_owed, is_excluded, stop_by, stop_due, spell_hits, has_untold_miss, in_spell, tells_miss, is_missed, is_held, hold_times, is_full, in_run, goal_of, wants_reexec, wants_reread, level_wish, other_than, powers, letters, keeps_news, wish_stands, steps_if, none_excluded, enter_level, power_steps, letter_steps, stop_step, stops_of, stops_among, can_start, start_steps, starts_among, is_over, next_stage, is_settled, settle_step, record_ids, due_first, due_reexec, due_reread, due_level, due_news, due_stops, due_starts, due_stage, due_settle, is_announced, wants_look, can_look, looks_among, due_looks, step_if, same_step, is_due, may_come, is_sound, idle_none, told_same, told_other, told_any, told_known, known_kept, same_of, same_has, sound_holds, free_told, each_append, each_steps_if, MayStart, MayHold, due_facts, one_child, same_any, quiet_known, child_in_records, AtRest, after_rounds, has_to_end, is_end_seen, is_vain_look, is_found_ended, is_nudge, is_unasked, is_undisturbed, AreUndisturbed, greatest}
+use Rattle.std.proofs.Common.{is_some}
 use Rattle.std.proofs.Math.Nat.{suc-mul}
-use Rattle.std.specs.List.{list_any, list_all}
-use Rattle.std.specs.Option.{option_map_or}
-use Rattle.std.proofs.lemmas.Bool.{false≢true, false_from_ne_true, and_parts, and_from, and_right, or_left, or_right, or_parts, or_from, not-true, le-leb, eqb-true, eq-eqb}
 use Rattle.std.proofs.lemmas.List.Folds.{list_any-append}
-use Rattle.std.proofs.lemmas.Option.{none-some, same_Some}
-use Rattle.respawn_limit.specs.declared.TheConstants.{CLOCK_LIMIT, HOLD}
-use Rattle.init_words.specs.declared.entries.Entry.{Entry}
-use Rattle.init_words.specs.declared.levels.Level.{Level}
-use Rattle.init_words.specs.declared.levels.Level.TheVariants.{S}
-use Rattle.init_words.specs.declared.stages.Stage.{Stage}
 use Rattle.init_words.specs.declared.stages.Stage.TheVariants as stage
-use Rattle.init_words.specs.declared.levels.Letter.{Letter}
-use Rattle.init_words.specs.declared.orders.PowerKind.{PowerKind}
-use Rattle.init_words.specs.declared.children.Status.TheVariants.{Exit}
-use Rattle.init_words.specs.declared.orders.OrderKind.{OrderKind}
-use Rattle.init_words.specs.declared.orders.OrderKind.TheVariants.{Start, Look}
-use Rattle.init_words.specs.Ids.{same_id}
-use Rattle.init_words.specs.Levels.{same_level}
 use Rattle.init_words.specs.Orders.{same_stage}
-use Rattle.init_words.specs.Entries.{starts_of, waited_of}
-use Rattle.init_words.specs.Actions.{is_limited}
-use Rattle.init_words.proofs.Same.{same_id-is, same_id-self, same_id-sym, same_id-flip, same_id-from, same_level-self, same_stage-self}
-use Rattle.init_words.proofs.Tests.{both_ways, and_false, falsely, or_either, not_from, any_less, filter_none, Passing, passing}
-use Rattle.inittab_text.specs.Tables.{entry_of}
-use Rattle.trace_events.specs.declared.happenings.Happening.TheVariants.{NewTable, Enter, Call, Power, Asked, Hold, Settle, Birth, Death, Reaped, Still, NoLook, Miss, Told, Clock, Nudge, Got}
-use Rattle.trace_events.specs.declared.steps.Step.{Step}
+use Rattle.trace_events.specs.declared.happenings.Happening.TheVariants.{Call, Power, Hold, Settle}
 use Rattle.trace_events.specs.declared.steps.Step.TheVariants as step
-use Rattle.trace_events.specs.declared.steps.Goal.{Goal}
-use Rattle.trace_events.specs.Event.{Event}
-use Rattle.trace_events.specs.Past.{Child, Open, is_of, is_child, has_child, has_number, open_of, undone_of, is_untold, open_orders, is_quiet, is_idle, is_dead, is_living, unreaped_children, kept_children, known_children, table_of, stage_of, grace_of, time_of}
-use Rattle.trace_events.specs.Wanted.{may_live, is_order, is_wanted, is_owed, is_excluded}
-use Rattle.trace_events.specs.Spells.{stop_by, stop_due, spell_hits, has_untold_miss, in_spell, tells_miss, is_missed}
-use Rattle.trace_events.specs.Timing.{is_held, hold_times, is_full}
-use Rattle.trace_events.specs.Wishes.{in_run, goal_of, wants_reexec, wants_reread, level_wish, other_than, keeps_power, keeps_letter, powers, letters, keeps_news, wish_stands}
-use Rattle.trace_events.specs.Due.{steps_if, none_excluded, enter_level, power_steps, letter_steps, stop_step, stops_of, stops_among, can_start, start_steps, starts_among, is_over, next_stage, is_settled, settle_step, record_ids, due_first, due_reexec, due_reread, due_level, due_news, due_stops, due_starts, due_stage, due_settle, is_announced, wants_look, can_look, looks_among, due_looks, step_if, same_step, is_due}
-use Rattle.trace_events.specs.Sound.{may_come, is_sound}
-use Rattle.trace_laws.proofs.Orders.{idle_none, told_same, told_other, told_any, told_known, known_kept, same_of, same_has}
-use Rattle.trace_laws.proofs.Keeps.{sound_holds, free_told}
-use Rattle.trace_laws.proofs.Dues.{Each, each_append, each_steps_if, MayStart, MayHold, due_facts}
-use Rattle.trace_laws.proofs.Births.{one_child}
-use Rattle.trace_laws.proofs.Settling.{same_any}
+use Rattle.trace_laws.proofs.Dues.{Each}
 use Rattle.trace_laws.proofs.Spells.{misses_told}
-use Rattle.trace_laws.proofs.Known.{quiet_known}
-use Rattle.trace_laws.proofs.Records.{child_in_records}
-use Rattle.core_waiting.specs.Rest.{AtRest, after_rounds}
 use Rattle.core_waiting.proofs.Rest.{rest_heard, idle_quiet}
 use Rattle.core_waiting.proofs.Rounds.{sound_rest}
 use Rattle.core_waiting.proofs.Stops.{all_from}
@@ -54,7 +17,6 @@ use Rattle.core_waiting.proofs.Progress.{spared_step}
 use Rattle.core_waiting.proofs.Ended.{at_most}
 use Rattle.core_waiting.proofs.Climbing.{is_climb, stands_by, bystanders_at}
 use Rattle.core_waiting.proofs.Arriving.{staged as at_stage}
-use Rattle.core_waiting.specs.Arrival.{has_to_end, is_end_seen, is_vain_look, is_found_ended, is_nudge, is_unasked, is_undisturbed, AreUndisturbed, greatest}
 
 -- what happens in the round: no request, no table, no look in vain, no miss and no call
 abbrev pub is_kind : Event → Bool
@@ -139,21 +101,12 @@ record Looked (goal : Goal) (id : List ℕ) (n : ℕ) (pre now : List Event) : T
   looks : (i : List ℕ) → wants_look i pre ≡ (not (same_id i id) && wants_look i now)
 
 few_left : (p : Child → Bool) (xs : List Child) → length (filter p xs) ≤ length xs
-few_left p [] = omega arith
-few_left p (x ∷ xs) = at (p x) (few_left p xs) where
-  at : (b : Bool) → length (filter p xs) ≤ length xs → length (cond b (x ∷ filter p xs) (filter p xs)) ≤ length (x ∷ xs)
-  at true h = omega arith
-  at false h = omega arith
+few_left p [] = grind arith
+few_left p (x ∷ xs) = grind (arith, few_left p xs)
 
 all_kept : (p q r : Child → Bool) → ((x : Child) → q x ≡ true → p x ≡ true → r x ≡ true) → (xs : List Child) → list_all p xs ≡ true → list_all r (filter q xs) ≡ true
-all_kept p q r less [] h = refl
-all_kept p q r less (x ∷ xs) h = at (q x) refl (all_kept p q r less xs parts.1) where
-  parts : (p x ≡ true) × (list_all p xs ≡ true)
-  parts = and_parts (p x) (list_all p xs) h
-
-  at : (b : Bool) → q x ≡ b → list_all r (filter q xs) ≡ true → list_all r (cond b (x ∷ filter q xs) (filter q xs)) ≡ true
-  at true own rest = and_from (r x) (list_all r (filter q xs)) (less x own parts.0) rest
-  at false own rest = rest
+all_kept p q r less [] h = grind arith
+all_kept p q r less (x ∷ xs) h = grind (arith, all_kept p q r less xs)
 
 abbrev all_want : List Event → Bool
 all_want past = list_all (λ (child : Child). wants_look child.id past) (known_children past)
@@ -297,21 +250,9 @@ total_less f g less [] = omega arith
 total_less f g less (e ∷ es) = let here = less e in let rest = total_less f g less es in omega (arith, here, rest)
 
 total_lower : (f g : Entry → ℕ) → ((e : Entry) → f e ≤ g e) → (id : List ℕ) (x : Entry) (es : List Entry) → entry_of id es ≡ Some x → f x < g x → total f es < total g es
-total_lower f g less id x [] found lower = absurd (none-some x found)
-total_lower f g less id x (e ∷ es) found lower = at (same_id id e.id) found (total_lower f g less id x es) where
-  here : f e ≤ g e
-  here = less e
-
-  others : total f es ≤ total g es
-  others = total_less f g less es
-
-  at : (b : Bool) → cond b (Some e) (entry_of id es) ≡ Some x → (entry_of id es ≡ Some x → f x < g x → total f es < total g es) → f e + total f es < g e + total g es
-  at true found rest =
-      let own : f e < g e = subst (λ y. f y < g y) (sym (same_Some e x found)) lower in
-      omega (arith, own, others)
-  at false found rest =
-      let more : total f es < total g es = rest found lower in
-      omega (arith, more, here)
+total_lower f g less id x [] found lower = grind (arith, none-some, total_less, same_Some)
+total_lower f g less id x (e ∷ es) found lower =
+    grind (arith, total_lower f g less id x es, none-some, total_less, same_Some)
 
 abbrev left : List Event → ℕ
 left past = total (weight past) (table_of past) + num (not (is_announced past))
@@ -341,10 +282,8 @@ record Higher (goal : Goal) (past : List Event) (n : ℕ) : Type 0 where
 
 -- a number that no unreaped child has
 fresh : (xs : List Child) (n : ℕ) → greatest (λ (child : Child). child.number) xs < n → list_any (has_number n) xs ≡ false
-fresh [] n h = refl
-fresh (x ∷ xs) n h = or_from (n == x.number) (list_any (has_number n) xs) (false_from_ne_true (n == x.number) (λ same. wrong n x.number (greatest (λ (child : Child). child.number) xs) h (eqb-true n x.number same))) (fresh xs n (omega arith)) where
-  wrong : (n a b : ℕ) → max a b < n → n ≡ a → ⊥
-  wrong n a b h is = omega arith
+fresh [] n h = grind arith
+fresh (x ∷ xs) n h = grind (arith, fresh xs n)
 
 starting : (goal : Goal) (round past : List Event) → Free goal round past → (i : List ℕ) → is_due goal (step.Order i Start) (round ++ past) ≡ true → Further goal past (left (round ++ past)) (stage_of (round ++ past))
 starting goal round past it i asks = record {
@@ -595,39 +534,16 @@ wishless past h =
     let p0 = or_parts (wants_reexec past) (wants_reread past) p1.0 in
     record { reexec = p0.0; reread = p0.1; level = p1.1; news = p2.1 }
 
-no_powers : (kinds : List PowerKind) (past : List Event) → list_any (λ k. keeps_power k past) kinds ≡ false → power_steps kinds past ≡ []
-no_powers [] past h = refl
-no_powers (kind ∷ kinds) past h =
-    let parts = or_parts (keeps_power kind past) (list_any (λ k. keeps_power k past) kinds) h in
-    nil_join (step_if (keeps_power kind past) (step.Power kind)) (power_steps kinds past) (ap (λ b. step_if b (step.Power kind)) parts.0) (no_powers kinds past parts.1)
-
-no_calls : (called : List Letter) (past : List Event) → list_any (λ l. keeps_letter l past) called ≡ false → letter_steps called past ≡ []
-no_calls [] past h = refl
-no_calls (letter ∷ called) past h =
-    let parts = or_parts (keeps_letter letter past) (list_any (λ l. keeps_letter l past) called) h in
-    nil_join (step_if (keeps_letter letter past) (step.Call letter)) (letter_steps called past) (ap (λ b. step_if b (step.Call letter)) parts.0) (no_calls called past parts.1)
-
 no_level : (past : List Event) (o : Option Goal) → is_some o ≡ false → enter_level o past ≡ []
-no_level past None h = refl
-no_level past (Some wish) h = absurd (false≢true (sym h))
+no_level past o h = grind arith
 
 no_news : (past : List Event) (running : Bool) → (running && keeps_news past) ≡ false → steps_if (is_quiet past && running) (power_steps powers past ++ letter_steps letters past) ≡ []
 no_news past false h = ap (λ b. steps_if b (power_steps powers past ++ letter_steps letters past)) (and_false (is_quiet past))
-no_news past true h =
-    let parts = or_parts (list_any (λ k. keeps_power k past) powers) (list_any (λ l. keeps_letter l past) letters) h in
-    steps_none (is_quiet past && true) (power_steps powers past ++ letter_steps letters past) (nil_join (power_steps powers past) (letter_steps letters past) (no_powers powers past parts.0) (no_calls letters past parts.1))
+no_news past true h = grind arith
 
 all_rest : (goal : Goal) (past : List Event) → is_some (stage_of past) ≡ true → wish_stands past ≡ false → list_any (is_excluded past) (known_children past) ≡ false → list_any (λ (child : Child). wants_look child.id past) (known_children past) ≡ false → due_starts past ≡ [] → due_stage goal past ≡ [] → due_settle past ≡ [] → AtRest goal past
-all_rest goal past staged unwished spared bare starts over settle = nil_join (to_six goal past ++ due_starts past ++ due_stage goal past ++ due_settle past) (due_looks past) (nil_join (to_six goal past ++ due_starts past ++ due_stage goal past) (due_settle past) (nil_join (to_six goal past ++ due_starts past) (due_stage goal past) (nil_join (to_six goal past) (due_starts past) six starts) over) settle) (no_looks (record_ids past) past bare) where
-  w : Wishless past
-  w = wishless past unwished
-
-  dawn : (o : Option Stage) → is_some o ≡ true → due_first goal o past ≡ []
-  dawn None h = absurd (false≢true h)
-  dawn (Some now) h = refl
-
-  six : due_first goal (stage_of past) past ++ due_reexec past ++ due_reread past ++ due_level past ++ due_news past ++ due_stops past ≡ []
-  six = nil_join (due_first goal (stage_of past) past ++ due_reexec past ++ due_reread past ++ due_level past ++ due_news past) (due_stops past) (nil_join (due_first goal (stage_of past) past ++ due_reexec past ++ due_reread past ++ due_level past) (due_news past) (nil_join (due_first goal (stage_of past) past ++ due_reexec past ++ due_reread past) (due_level past) (nil_join (due_first goal (stage_of past) past ++ due_reexec past) (due_reread past) (nil_join (due_first goal (stage_of past) past) (due_reexec past) (dawn (stage_of past) staged) (ap (λ b. step_if b step.Reexec) (and_right (is_quiet past) (wants_reexec past) w.reexec))) (ap (λ b. step_if b step.Reread) (and_right (is_quiet past) (wants_reread past) w.reread))) (steps_none (is_quiet past) (enter_level (level_wish past) past) (no_level past (level_wish past) w.level))) (no_news past (in_run (stage_of past)) w.news)) (steps_none (not (wish_stands past)) (stops_among (record_ids past) past) (no_stops (record_ids past) past spared))
+all_rest goal past staged unwished spared bare starts over settle =
+    grind (arith, nil_join, no_looks, wishless, and_right, steps_none, no_level, no_news, no_stops)
 
 -- the next stage is entered
 in_stage : (goal : Goal) (it : Step) (past : List Event) → list_any (same_step it) (due_stage goal past) ≡ true → is_due goal it past ≡ true

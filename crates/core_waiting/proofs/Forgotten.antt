@@ -1,26 +1,13 @@
 -- A list of due steps that forgot one of its ten ranks would break the law: for each rank a sound trace that takes no
 -- step of that rank, at whose end nothing of the other nine is due and no order is open, and of which a clause is wrong.
 -- And for each reason a rest at which `rest` would be wrong without it.
-use Rattle.std.proofs.Common.{◌≡◌, refl, ℕ, Bool, zero, suc, true, false, not, ◌||◌, List, [], ◌∷◌, ◌++◌, filter, codes, Option, Some}
-use Rattle.std.specs.List.{list_all}
-use Rattle.init_words.specs.declared.entries.Entry.{Entry}
+use Rattle.core_waiting.proofs.Words.{◌≡◌, refl, ℕ, Bool, zero, suc, true, false, not, ◌||◌, List, [], ◌∷◌, ◌++◌, filter, codes, Option, Some, list_all, Entry, At, NewTable, NotRead, Enter, Nudge, Got, Goal, Step, Event, stage_of, Child, is_idle, kept_children, known_children, wish_stands, due_first, due_reexec, due_reread, due_level, due_news, due_stops, due_starts, due_stage, due_settle, due_looks, due, is_sound, Why, Excluded, WaitedFor, InTheWay, why_awaited, awaited_children, is_level_announced, is_empty, is_stopping, is_looked_at}
 use Rattle.init_words.specs.declared.actions.Act.TheVariants as act
 use Rattle.init_words.specs.declared.levels.Level.TheVariants as level
-use Rattle.init_words.specs.declared.levels.Mark.TheVariants.{At}
 use Rattle.init_words.specs.declared.stages.Stage.TheVariants as stage
 use Rattle.init_words.specs.declared.orders.PowerKind.TheVariants as power
 use Rattle.initctl_frame.specs.declared.requests.HeardRequest.TheVariants as got
-use Rattle.trace_events.specs.declared.happenings.Happening.TheVariants.{NewTable, NotRead, Enter, Settle, Nudge, Got}
-use Rattle.trace_events.specs.declared.steps.Goal.{Goal}
-use Rattle.trace_events.specs.declared.steps.Step.{Step}
-use Rattle.trace_events.specs.Event.{Event}
-use Rattle.trace_events.specs.Past.{stage_of, Child, is_idle, kept_children, known_children}
-use Rattle.trace_events.specs.Wishes.{wish_stands}
-use Rattle.trace_events.specs.Due.{due_first, due_reexec, due_reread, due_level, due_news, due_stops, due_starts, due_stage, due_settle, due_looks, due}
-use Rattle.trace_events.specs.Sound.{is_sound}
-use Rattle.core_waiting.specs.declared.rests.Why.{Why}
-use Rattle.core_waiting.specs.declared.rests.Why.TheVariants.{Excluded, WaitedFor, InTheWay}
-use Rattle.core_waiting.specs.Rest.{why_awaited, awaited_children, is_level_announced, is_empty, is_stopping, is_looked_at}
+use Rattle.trace_events.specs.declared.happenings.Happening.TheVariants.{Settle}
 use Rattle.core_waiting.proofs.Rows.{entry, opening, started, goes_to, entered, stopped, waited_for}
 
 -- the ten ranks, and what is due of all of them but the one of this number

@@ -1,27 +1,9 @@
 -- No rank gives Idle, and none but those of the two wishes a reading of inittab or a re-execution: so the first step
 -- that is due is Idle only where none is, and one of those only where it is wished for.
-use Rattle.std.proofs.Common.{◌≡◌, refl, sym, ◌∙◌, subst, ◌⊎◌, inl, inr, ℕ, Bool, true, false, not, ◌&&◌, cond, List, [], ◌∷◌, ◌++◌, Option, Some, None, is_none}
-use Rattle.std.proofs.lemmas.Bool.{false≢true, and_parts}
-use Rattle.init_words.specs.declared.entries.Entry.{Entry}
-use Rattle.init_words.specs.declared.levels.Letter.{Letter}
-use Rattle.init_words.specs.declared.stages.Stage.{Stage}
+use Rattle.core_waiting.proofs.Words.{arith, ◌≡◌, ◌⊎◌, ℕ, Bool, true, false, not, ◌&&◌, cond, List, [], ◌∷◌, ◌++◌, Option, Some, None, is_none, and_parts, Entry, Letter, Stage, OrderKind, Start, Look, PowerKind, is_limited, Step, Reread, Order, Reexec, Idle, Goal, Event, Child, table_of, stage_of, is_of, open_of, is_quiet, is_idle, known_children, is_owed, stop_due, is_held, is_full, goal_of, wants_reexec, wants_reread, level_wish, keeps_power, keeps_letter, powers, letters, wish_stands, in_run, step_if, steps_if, none_excluded, due_first, due_reexec, due_reread, enter_level, due_level, power_steps, letter_steps, due_news, record_ids, stop_step, stops_of, stops_among, due_stops, can_start, start_steps, starts_among, due_starts, is_over, next_stage, due_stage, is_announced, is_settled, settle_step, due_settle, can_look, looks_among, due_looks, due, first, is_rest, each_append, each_step_if, each_steps_if}
 use Rattle.init_words.specs.declared.stages.Stage.TheVariants as stage
-use Rattle.init_words.specs.declared.orders.OrderKind.{OrderKind}
-use Rattle.init_words.specs.declared.orders.OrderKind.TheVariants.{Start, Look}
-use Rattle.init_words.specs.declared.orders.PowerKind.{PowerKind}
-use Rattle.init_words.specs.Actions.{is_limited}
-use Rattle.trace_events.specs.declared.steps.Step.{Step}
-use Rattle.trace_events.specs.declared.steps.Step.TheVariants.{Call, Power, Reread, Order, Hold, Settle, Reexec, Idle}
-use Rattle.trace_events.specs.declared.steps.Goal.{Goal}
-use Rattle.trace_events.specs.Event.{Event}
-use Rattle.trace_events.specs.Past.{Child, table_of, stage_of, is_of, open_of, is_quiet, is_idle, known_children}
-use Rattle.trace_events.specs.Wanted.{is_owed}
-use Rattle.trace_events.specs.Spells.{stop_due}
-use Rattle.trace_events.specs.Timing.{is_held, is_full}
-use Rattle.trace_events.specs.Wishes.{goal_of, wants_reexec, wants_reread, level_wish, keeps_power, keeps_letter, powers, letters, wish_stands, in_run}
-use Rattle.trace_events.specs.Due.{step_if, steps_if, none_excluded, due_first, due_reexec, due_reread, enter_level, due_level, power_steps, letter_steps, due_news, record_ids, stop_step, stops_of, stops_among, due_stops, can_start, start_steps, starts_among, due_starts, is_over, next_stage, due_stage, is_announced, is_settled, settle_step, due_settle, can_look, looks_among, due_looks, due, first}
-use Rattle.trace_events.specs.Run.{is_rest}
-use Rattle.trace_laws.proofs.Dues.{Each, each_append, each_step_if, each_steps_if}
+use Rattle.trace_events.specs.declared.steps.Step.TheVariants.{Call, Power, Hold, Settle}
+use Rattle.trace_laws.proofs.Dues.{Each}
 
 -- what a step of a rank says of the past
 abbrev Says : List Event → Step → Type 0
@@ -135,19 +117,13 @@ all_act goal past = join (one ++ two ++ three ++ four ++ five ++ six ++ seven ++
 pub idle_none_due : (goal : Goal) (past : List Event) → first (due goal past) ≡ Idle → due goal past ≡ []
 idle_none_due goal past h = by (due goal past) (all_act goal past) h where
   by : (steps : List Step) → Each (Says past) steps → first steps ≡ Idle → steps ≡ []
-  by [] says h = refl
-  by (step ∷ steps) says h = absurd (subst (Says past) h says.0)
+  by steps says h = grind arith
 
 -- where it is a reading of inittab or a re-execution, that is wished for
 first_said : (past : List Event) (steps : List Step) → Each (Says past) steps → first steps ≡ Idle ⊎ Says past (first steps)
-first_said past [] says = inl refl
-first_said past (step ∷ steps) says = inr says.0
+first_said past steps says = grind arith
 
 pub rest_unwished : (goal : Goal) (past : List Event) → is_rest (first (due goal past)) ≡ true → wants_reexec past ≡ false → wants_reread past ≡ false → due goal past ≡ []
 rest_unwished goal past rests executed read = idle_none_due goal past (by (first (due goal past)) rests (first_said past (due goal past) (all_act goal past))) where
   by : (step : Step) → is_rest step ≡ true → (step ≡ Idle) ⊎ Says past step → step ≡ Idle
-  by step rests (inl is) = is
-  by Idle rests (inr says) = refl
-  by Reread rests (inr says) = absurd (false≢true (sym read ∙ says))
-  by Reexec rests (inr says) = absurd (false≢true (sym executed ∙ says))
-  by _ rests (inr says) = absurd (false≢true rests)
+  by step rests h = grind arith

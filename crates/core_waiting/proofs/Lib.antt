@@ -19,3 +19,4 @@ pub mod Rounds
 pub mod Rows
 pub mod Settled
 pub mod Stops
+pub mod Words

@@ -1,28 +1,9 @@
 -- Over a calm stretch a waited entry starts once.
-use Rattle.std.proofs.Common.{◌≡◌, refl, sym, ◌∙◌, ap, subst, ℕ, Bool, true, false, not, ◌&&◌, ◌||◌, List, [], ◌∷◌, ◌++◌, Some}
-use Rattle.std.specs.Option.{option_map_or}
-use Rattle.std.proofs.lemmas.Bool.{false≢true, false_from_ne_true, and_parts, and_from}
-use Rattle.init_words.specs.declared.entries.Entry.{Entry}
-use Rattle.init_words.specs.declared.actions.Act.{Act}
+use Rattle.core_waiting.proofs.Words.{◌≡◌, refl, sym, ◌∙◌, ap, subst, ℕ, Bool, true, false, not, ◌&&◌, ◌||◌, List, [], ◌∷◌, ◌++◌, Some, option_map_or, false≢true, false_from_ne_true, and_parts, and_from, Entry, Act, Start, same_id, wanted_by, is_limited, stays_called, waited_of, same_id-self, entry_of, NewTable, Enter, Asked, Goal, Event, table_of, starts_now, nothing_runs, is_asked, is_called, is_wanted, is_sound, MayRun, due_facts, sound_holds, step_at, is_calm, is_waited_id}
 use Rattle.init_words.specs.declared.actions.Act.TheVariants as act
-use Rattle.init_words.specs.declared.orders.OrderKind.TheVariants.{Start}
-use Rattle.init_words.specs.Ids.{same_id}
-use Rattle.init_words.specs.Actions.{wanted_by, is_limited, stays_called}
-use Rattle.init_words.specs.Entries.{waited_of}
-use Rattle.init_words.proofs.Same.{same_id-self}
-use Rattle.inittab_text.specs.Tables.{entry_of}
-use Rattle.trace_events.specs.declared.happenings.Happening.TheVariants.{NewTable, Enter, Call, Power, Asked}
-use Rattle.trace_events.specs.declared.steps.Goal.{Goal}
+use Rattle.trace_events.specs.declared.happenings.Happening.TheVariants.{Call, Power}
 use Rattle.trace_events.specs.declared.steps.Step.TheVariants as step
-use Rattle.trace_events.specs.Event.{Event}
-use Rattle.trace_events.specs.Past.{table_of}
-use Rattle.trace_events.specs.Wanted.{starts_now, nothing_runs, is_asked, is_called, is_wanted}
-use Rattle.trace_events.specs.Sound.{is_sound}
-use Rattle.trace_laws.proofs.Dues.{MayRun, due_facts}
-use Rattle.trace_laws.proofs.Keeps.{sound_holds}
-use Rattle.trace_laws.proofs.Births.{step_at}
 use Rattle.core_waiting.proofs.Rest.{waited_free}
-use Rattle.core_waiting.specs.Rest.{is_calm, is_waited_id}
 
 -- what an action that is not kept up asks for is less where less is fresh and called, whatever runs
 less_wanted : (a : Act) (idle other fresh was_fresh called was_called : Bool) → is_limited a ≡ false → (fresh ≡ true → was_fresh ≡ true) → (called ≡ true → was_called ≡ true) → wanted_by a idle fresh called ≡ true → wanted_by a other was_fresh was_called ≡ true

@@ -1,35 +1,9 @@
 -- Between two rests, where what was awaited at the first is gone at the second, a waited entry was started, or the
 -- level is announced.
-use Rattle.std.proofs.Common.{◌≡◌, refl, sym, ◌∙◌, ap, ℕ, Bool, true, false, not, ◌&&◌, ◌||◌, cond, List, [], ◌∷◌, ◌++◌, filter, Option, Some, None, is_some}
-use Rattle.std.specs.List.{list_any, list_all}
-use Rattle.std.specs.Option.{option_map_or}
-use Rattle.std.proofs.lemmas.Bool.{false≢true, false_from_ne_true, true_from_ne_false, and_parts, and_from, or_left, or_right, or_parts, or_from}
-use Rattle.init_words.specs.declared.entries.Entry.{Entry}
-use Rattle.init_words.specs.declared.actions.Act.{Act}
-use Rattle.init_words.specs.declared.actions.Act.TheVariants as act
-use Rattle.init_words.specs.declared.orders.OrderKind.{OrderKind}
-use Rattle.init_words.specs.declared.orders.OrderKind.TheVariants.{Start, Look, Term, Kill}
-use Rattle.init_words.specs.Ids.{same_id}
-use Rattle.init_words.specs.Actions.{wanted_by, is_limited}
-use Rattle.init_words.specs.Entries.{waited_of}
-use Rattle.init_words.proofs.Same.{same_id-is, same_id-self}
-use Rattle.init_words.proofs.Tests.{both_ways, falsely, or_either, not_from, any_less, Passing, passing}
-use Rattle.inittab_text.specs.Tables.{entry_of}
-use Rattle.trace_events.specs.declared.happenings.Happening.TheVariants.{NewTable, Enter, Call, Power, Asked, Birth, Told}
-use Rattle.trace_events.specs.declared.steps.Goal.{Goal}
+use Rattle.core_waiting.proofs.Words.{arith, ◌≡◌, refl, sym, ◌∙◌, ap, ℕ, Bool, true, false, not, ◌&&◌, ◌||◌, cond, List, [], ◌∷◌, ◌++◌, filter, Option, Some, None, list_any, list_all, option_map_or, false≢true, false_from_ne_true, true_from_ne_false, and_parts, and_from, or_left, or_right, or_parts, or_from, Entry, Act, OrderKind, Start, Look, Term, Kill, same_id, wanted_by, is_limited, waited_of, same_id-is, same_id-self, both_ways, falsely, or_either, not_from, any_less, Passing, passing, entry_of, NewTable, Enter, Asked, Birth, Told, Goal, Event, table_of, stage_of, Child, is_of, has_child, open_of, is_quiet, is_idle, newborn, kept_children, starts_now, is_order, nothing_runs, is_asked, is_called, is_wanted, may_live, is_excluded, may_come, is_sound, kept_before_told, undone_is_open, is_order-is, due_facts, sound_holds, start_undone, born_ready, placed_spared, quiet_start, is_table, at_moment, sound_step, Excluded, WaitedFor, InTheWay, AtRest, why_of_entry, is_awaited, awaited_children, is_level_announced, is_calm, is_waited_id, is_start_of, is_waited_start, is_gone}
+use Rattle.std.proofs.Common.{is_some}
+use Rattle.trace_events.specs.declared.happenings.Happening.TheVariants.{Call, Power}
 use Rattle.trace_events.specs.declared.steps.Step.TheVariants as step
-use Rattle.trace_events.specs.Event.{Event}
-use Rattle.trace_events.specs.Past.{table_of, stage_of, Child, is_of, has_child, open_of, is_quiet, is_idle, newborn, kept_children}
-use Rattle.trace_events.specs.Wanted.{starts_now, is_order, nothing_runs, is_asked, is_called, is_wanted, may_live, is_excluded}
-use Rattle.trace_events.specs.Sound.{may_come, is_sound}
-use Rattle.trace_laws.proofs.Orders.{kept_before_told, undone_is_open}
-use Rattle.trace_laws.proofs.Tests.{is_order-is}
-use Rattle.trace_laws.proofs.Dues.{due_facts}
-use Rattle.trace_laws.proofs.Keeps.{sound_holds, start_undone, born_ready, placed_spared}
-use Rattle.trace_laws.proofs.Known.{quiet_start}
-use Rattle.trace_laws.proofs.Births.{is_table, at_moment, sound_step}
-use Rattle.core_waiting.specs.declared.rests.Why.TheVariants.{Excluded, WaitedFor, InTheWay}
-use Rattle.core_waiting.specs.Rest.{AtRest, why_of_entry, is_awaited, awaited_children, is_level_announced, is_calm, is_waited_id, is_start_of, is_waited_start, is_gone}
 use Rattle.core_waiting.proofs.Rest.{announced_or_awaited, entry_awaited, idle_quiet, not_first}
 use Rattle.core_waiting.proofs.Settled.{found_id}
 use Rattle.core_waiting.proofs.Once.{calm_before, calm_parts, wanted_before, same_table, not_again}
@@ -83,9 +57,6 @@ no_start id (Told i ∷ between) past free none = cleared_order (same_id id i) (
 no_start id (happening ∷ between) past free none = no_start id between past free none
 
 pub kept_back : (goal : Goal) (id : List ℕ) (q : Child → Bool) (between past : List Event) → is_sound goal (between ++ past) ≡ true → is_calm between ≡ true → is_order Start (open_of id past) ≡ false → list_any (is_start_of id) between ≡ false → list_any (λ x. is_of id x && q x) (kept_children (between ++ past)) ≡ true → list_any (λ x. is_of id x && q x) (kept_children past) ≡ true
-kept_back goal id q [] past sound calm free none there = there
-kept_back goal id q (NewTable table ∷ between) past sound calm free none there = absurd (false≢true calm)
-kept_back goal id q (Enter s grace ∷ between) past sound calm free none there = absurd (false≢true calm)
 kept_back goal id q (Asked i Start ∷ between) past sound calm free none there =
     let next = next_of goal (Asked i Start) between past sound calm in
     kept_back goal id q between past next.sound next.calm free (or_parts (same_id id i) (list_any (is_start_of id) between) none).1 there
@@ -100,6 +71,7 @@ kept_back goal id q (Told i ∷ between) past sound calm free none there =
 kept_back goal id q (happening ∷ between) past sound calm free none there =
     let next = next_of goal happening between past sound calm in
     kept_back goal id q between past next.sound next.calm free none there
+kept_back goal id q between past sound calm free none there = grind arith
 
 -- once an id was started, no kept child is excluded, and its entry is not wanted again
 pub record Quit (id : List ℕ) (past : List Event) : Type 0 where
@@ -138,9 +110,7 @@ quit_at goal id (happening ∷ between) past sound calm some =
 
 -- an entry that is kept up is wanted only where nothing of it runs
 limited_idle : (a : Act) (starts idle fresh called : Bool) → is_limited a ≡ true → (starts && wanted_by a idle fresh called) ≡ true → idle ≡ true
-limited_idle act.Respawn starts idle fresh called limited h = (and_parts starts idle h).1
-limited_idle act.Ondemand starts idle fresh called limited h = (and_parts called idle (and_parts starts (called && idle) h).1).1
-limited_idle _ starts idle fresh called limited h = absurd (false≢true limited)
+limited_idle a starts idle fresh called limited h = grind arith
 
 busy_unlimited : (e : Entry) (past : List Event) → has_child e.id (kept_children past) ≡ true → is_wanted e past ≡ true → is_limited e.act ≡ false
 busy_unlimited e past there wanted = false_from_ne_true (is_limited e.act) (λ limited. false≢true (sym (ap (λ b. not b && not (is_order Start (open_of e.id past))) there) ∙ limited_idle e.act (starts_now e past) (nothing_runs e.id past) (not (is_asked e.id past)) (is_called e past) limited wanted))
@@ -177,11 +147,8 @@ was_awaited between past calm child there h = at (is_excluded (between ++ past) 
       own = ap (λ i. has_child i (kept_children (between ++ past))) (sym (found_id child.id (table_of (between ++ past)) wants.entry wants.found)) ∙ there
 
 pub filtered_none : (p q : Child → Bool) (xs : List Child) → list_all p (filter q xs) ≡ true → list_any (λ x. q x && not (p x)) xs ≡ false
-filtered_none p q [] h = refl
-filtered_none p q (x ∷ xs) h = at (q x) h (filtered_none p q xs) where
-  at : (b : Bool) → list_all p (cond b (x ∷ filter q xs) (filter q xs)) ≡ true → (list_all p (filter q xs) ≡ true → list_any (λ y. q y && not (p y)) xs ≡ false) → (b && not (p x) || list_any (λ y. q y && not (p y)) xs) ≡ false
-  at true h rest = let parts = and_parts (p x) (list_all p (filter q xs)) h in or_from (not (p x)) (list_any (λ y. q y && not (p y)) xs) (ap not parts.0) (rest parts.1)
-  at false h rest = rest h
+filtered_none p q [] h = grind arith
+filtered_none p q (x ∷ xs) h = grind (arith, filtered_none p q xs)
 
 is_waited_at : (past : List Event) (id : List ℕ) → is_waited_id id past ≡ true → (happening : Event) → is_start_of id happening ≡ true → is_waited_start past happening ≡ true
 is_waited_at past id waited (Asked i Start) own = ap (λ x. is_waited_id x past) (sym (same_id-is id i own)) ∙ waited

@@ -1,44 +1,21 @@
 -- Over an undisturbed round a child that lacks a signal is sent one.
-use Rattle.std.proofs.Common.{◌≡◌, ◌≤◌, ◌+◌, ◌-◌, refl, sym, ◌∙◌, ap, subst, ℕ, suc, Bool, true, false, not, ◌&&◌, ◌||◌, cond, nat_le, max, min, List, [], ◌∷◌, ◌++◌, map, length, Option, append_assoc, length-append, arith}
-use Rattle.std.specs.List.{list_any, list_all}
-use Rattle.std.proofs.lemmas.Bool.{false≢true, false_from_ne_true, and_parts, and_from, or_parts, or_from, le-leb, leb-true, not-true}
-use Rattle.respawn_limit.specs.declared.TheConstants.{CLOCK_LIMIT}
-use Rattle.init_words.specs.declared.orders.OrderKind.{OrderKind}
-use Rattle.init_words.specs.declared.orders.OrderKind.TheVariants.{Start, Term}
-use Rattle.init_words.specs.Ids.{same_id}
-use Rattle.init_words.proofs.Same.{same_id-is, same_id-self}
-use Rattle.init_words.proofs.Tests.{both_ways, not_from, Passing, passing}
-use Rattle.trace_events.specs.declared.happenings.Happening.TheVariants.{NewTable, Enter, Call, Power, Birth, Told, Clock}
-use Rattle.trace_events.specs.declared.steps.Goal.{Goal}
-use Rattle.trace_events.specs.Event.{Event}
-use Rattle.trace_events.specs.Past.{Child, is_of, open_of, is_idle, grace_of, time_of, kept_children}
-use Rattle.trace_events.specs.Wanted.{is_order, is_excluded}
-use Rattle.trace_events.specs.Spells.{Signal, told_at, untold_hits, is_birth_of, in_spell, tells_hits, spell_hits, is_missed, is_ripe}
-use Rattle.trace_events.specs.Sound.{is_sound}
-use Rattle.trace_laws.proofs.Tests.{is_order-is}
-use Rattle.trace_laws.proofs.Orders.{idle_none, undone_is_open}
-use Rattle.trace_laws.proofs.Keeps.{start_undone}
-use Rattle.core_waiting.specs.Rest.{AtRest, are_in_force, is_stopping, is_calm, is_start_of}
-use Rattle.core_waiting.specs.Arrival.{signals_to_come, is_nudge}
+use Rattle.core_waiting.proofs.Words.{◌≡◌, ◌≤◌, ◌+◌, ◌-◌, refl, sym, ◌∙◌, ap, subst, ℕ, suc, Bool, true, false, not, ◌&&◌, cond, nat_le, max, min, List, [], ◌∷◌, ◌++◌, map, length, Option, length-append, arith, list_any, list_all, false≢true, false_from_ne_true, and_parts, and_from, or_parts, le-leb, leb-true, not-true, CLOCK_LIMIT, OrderKind, Start, Term, same_id, same_id-is, same_id-self, both_ways, not_from, Passing, passing, Birth, Told, Clock, Goal, Event, Child, is_of, open_of, is_idle, grace_of, time_of, kept_children, is_order, is_excluded, Signal, told_at, untold_hits, is_birth_of, in_spell, tells_hits, spell_hits, is_missed, is_ripe, is_sound, is_order-is, idle_none, undone_is_open, start_undone, AtRest, are_in_force, is_stopping, is_calm, is_start_of, signals_to_come, is_nudge}
+use Rattle.std.proofs.Common.{append_assoc}
 use Rattle.core_waiting.proofs.Stops.{all_from, stops_at}
 use Rattle.core_waiting.proofs.Progress.{Next, next_of, excluded_still, no_start, kept_back, quit_at}
 
 -- lists
 joined : (p : Signal → Bool) (xs ys : List Signal) → list_all p xs ≡ true → list_all p ys ≡ true → list_all p (xs ++ ys) ≡ true
-joined p [] ys f g = g
-joined p (x ∷ xs) ys f g =
-    let parts = and_parts (p x) (list_all p xs) f in
-    and_from (p x) (list_all p (xs ++ ys)) parts.0 (joined p xs ys parts.1 g)
+joined p [] ys f g = grind arith
+joined p (x ∷ xs) ys f g = grind (arith, joined p xs ys)
 
 cut : (p : Signal → Bool) (b : Bool) (xs : List Signal) → list_all p xs ≡ true → list_all p (cond b xs []) ≡ true
 cut p true xs h = h
 cut p false xs h = refl
 
 pub none_fails : (p : Child → Bool) (xs : List Child) → list_all p xs ≡ true → list_any (λ x. not (p x)) xs ≡ false
-none_fails p [] h = refl
-none_fails p (x ∷ xs) h =
-    let parts = and_parts (p x) (list_all p xs) h in
-    or_from (not (p x)) (list_any (λ y. not (p y)) xs) (ap not parts.0) (none_fails p xs parts.1)
+none_fails p [] h = grind arith
+none_fails p (x ∷ xs) h = grind (arith, none_fails p xs)
 
 -- what all pass, one that is among them passes
 pub passes_among : (p q : Child → Bool) (xs : List Child) → list_all p xs ≡ true → (there : Passing q xs) → p there.item ≡ true
@@ -126,12 +103,8 @@ lacks_excluded true n k h = refl
 lacks_excluded false n k h = both_ways (nat_le 0 k) (le-leb 0 k (omega arith)) (not-true (nat_le 0 k) h)
 
 same_grace : (between past : List Event) → is_calm between ≡ true → grace_of (between ++ past) ≡ grace_of past
-same_grace [] past calm = refl
-same_grace (NewTable table ∷ between) past calm = absurd (false≢true calm)
-same_grace (Enter s grace ∷ between) past calm = absurd (false≢true calm)
-same_grace (Power kind ∷ between) past calm = absurd (false≢true calm)
-same_grace (Call letter ∷ between) past calm = absurd (false≢true calm)
-same_grace (happening ∷ between) past calm = same_grace between past calm
+same_grace [] past calm = grind arith
+same_grace (happening ∷ between) past calm = grind (arith, same_grace between past)
 
 -- what a child lacks
 abbrev pub lacks : ℕ → List Event → Child → Bool
@@ -145,11 +118,7 @@ of_lacks k past child own less = ap (λ b. nat_le (cond b (2 - length (spell_hit
 
 -- the signals of a child that is being stopped at its end
 stopped_force : (past : List Event) (child : Child) → is_excluded past child ≡ true → is_missed child past ≡ false → is_stopping past child ≡ true → are_in_force (grace_of past) (time_of past) (spell_hits child past) ≡ true
-stopped_force past child own hit h = at (is_excluded past child) (is_missed child past) own hit h where
-  at : (b c : Bool) → b ≡ true → c ≡ false → (not b || c || are_in_force (grace_of past) (time_of past) (spell_hits child past)) ≡ true → are_in_force (grace_of past) (time_of past) (spell_hits child past) ≡ true
-  at true false own hit h = h
-  at true true own hit h = absurd (false≢true (sym hit))
-  at false c own hit h = absurd (false≢true own)
+stopped_force past child own hit h = grind arith
 
 -- what of a round is known here
 pub record Round (goal : Goal) (round past : List Event) : Type 0 where

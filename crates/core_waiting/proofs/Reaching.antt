@@ -1,14 +1,6 @@
 -- From each rest at which no news waits a settled level can be reached.
-use Rattle.std.proofs.Common.{◌≡◌, ◌≤◌, ◌+◌, ◌*◌, refl, sym, ◌∙◌, ap, subst, ℕ, true, false, max, List, [], ◌∷◌, ◌++◌, length, Some, append_assoc, arith}
-use Rattle.respawn_limit.specs.declared.TheConstants.{CLOCK_LIMIT}
-use Rattle.init_words.specs.declared.stages.Stage.TheVariants.{Run}
-use Rattle.trace_events.specs.declared.steps.Goal.{Goal}
-use Rattle.trace_events.specs.Event.{Event}
-use Rattle.trace_events.specs.Past.{is_idle, stage_of, grace_of, time_of}
-use Rattle.trace_events.specs.Wishes.{goal_of, keeps_news}
-use Rattle.trace_events.specs.Sound.{is_sound}
-use Rattle.core_waiting.specs.Rest.{AtRest, is_level_announced, after_rounds}
-use Rattle.core_waiting.specs.Arrival.{AreUndisturbed, destination, rounds_to_come}
+use Rattle.core_waiting.proofs.Words.{◌≡◌, ◌≤◌, ◌+◌, ◌*◌, refl, sym, ◌∙◌, ap, subst, true, false, max, List, [], ◌∷◌, ◌++◌, length, Some, arith, CLOCK_LIMIT, Run, Goal, Event, is_idle, stage_of, grace_of, time_of, goal_of, keeps_news, is_sound, AtRest, is_level_announced, after_rounds, AreUndisturbed, destination, rounds_to_come}
+use Rattle.std.proofs.Common.{append_assoc}
 use Rattle.core_waiting.proofs.Arriving.{arrives, arrives_there}
 use Rattle.core_waiting.proofs.Existing.{rounds_exist}
 
@@ -29,9 +21,7 @@ reached goal later past sound rest idle news early = by (rounds_exist goal later
   by : (rounds : List (List Event)) × (length rounds ≡ rounds_to_come goal past) × (is_sound goal (after_rounds rounds past) ≡ true) × AreUndisturbed goal rounds past → (onward : List Event) × (is_sound goal (onward ++ past) ≡ true) × (is_level_announced (onward ++ past) ≡ true) × (stage_of (onward ++ past) ≡ Some (Run (destination (goal_of goal past).level (stage_of past))))
   by some = (in_one some.0, there.0, there.1, there.2) where
     enough : rounds_to_come goal past ≤ length some.0
-    enough = least (length some.0) (rounds_to_come goal past) some.1 where
-      least : (a b : ℕ) → a ≡ b → b ≤ a
-      least a b is = omega arith
+    enough = grind arith
 
     told : is_level_announced (after_rounds some.0 past) ≡ true
     told = arrives goal [] some.0 past some.2 some.3 enough

@@ -1,42 +1,7 @@
 -- Where no step is due and no order is open, no wish stands, and the level is announced settled or a child is awaited.
-use Rattle.std.proofs.Common.{◌≡◌, refl, sym, ◌∙◌, ap, subst, ℕ, Bool, true, false, not, ◌&&◌, ◌||◌, cond, List, [], ◌∷◌, ◌++◌, Option, Some, None, is_some}
-use Rattle.std.specs.List.{list_any, list_all}
-use Rattle.std.proofs.lemmas.Bool.{false≢true, false_from_ne_true, true_from_ne_false, and_parts, and_from, or_left, or_right, or_parts, or_from, not-true}
-use Rattle.init_words.specs.declared.entries.Entry.{Entry}
-use Rattle.init_words.specs.declared.actions.Act.{Act}
-use Rattle.init_words.specs.declared.actions.Act.TheVariants as act
-use Rattle.init_words.specs.declared.levels.Level.{Level}
-use Rattle.init_words.specs.declared.levels.Letter.{Letter}
-use Rattle.init_words.specs.declared.levels.Mark.{Mark}
-use Rattle.init_words.specs.declared.levels.Mark.TheVariants.{At}
-use Rattle.init_words.specs.declared.stages.Stage.{Stage}
+use Rattle.core_waiting.proofs.Words.{arith, ◌≡◌, refl, sym, ◌∙◌, ap, subst, ℕ, Bool, true, false, not, ◌&&◌, ◌||◌, cond, List, [], ◌∷◌, ◌++◌, Some, None, list_any, list_all, false≢true, true_from_ne_false, and_parts, and_from, or_left, or_right, or_parts, not-true, Entry, Act, Level, Mark, At, Stage, Start, Look, same_id, same_ask, names, starts_by, waited_by, wanted_by, is_limited, served_by, waited_of, same_id-is, same_id-self, same_level-self, both_ways, falsely, or_either, not_from, any_less, all_less, any_filter, has_id, entry_of, is_distinct, Step, Goal, Event, table_of, stage_of, Child, is_of, has_child, open_of, open_orders, is_quiet, is_idle, kept_children, known_children, Open, starts_in, is_order, nothing_runs, is_asked, is_called, is_wanted, is_owed, is_excluded, is_held, wish_stands, step_if, steps_if, due_first, due_reexec, due_reread, due_level, due_news, due_stops, can_start, start_steps, starts_among, due_starts, due_stage, is_served, due_settle, due_looks, is_sound, idle_none, known_kept, sound_holds, entry_listed, at_moment, has_known, Excluded, why_of_entry, is_awaited, awaited_children, is_level_announced, is_empty, AtRest}
+use Rattle.std.proofs.Common.{is_some}
 use Rattle.init_words.specs.declared.stages.Stage.TheVariants as stage
-use Rattle.init_words.specs.declared.orders.OrderKind.TheVariants.{Start, Look}
-use Rattle.init_words.specs.declared.orders.PowerKind.{PowerKind}
-use Rattle.init_words.specs.Ids.{same_id}
-use Rattle.init_words.specs.Orders.{same_ask}
-use Rattle.init_words.specs.Levels.{names}
-use Rattle.init_words.specs.Actions.{starts_by, waited_by, wanted_by, is_limited, served_by}
-use Rattle.init_words.specs.Entries.{waited_of}
-use Rattle.init_words.proofs.Same.{same_id-is, same_id-self, same_level-self}
-use Rattle.init_words.proofs.Tests.{both_ways, falsely, or_either, not_from, or_true, any_less, all_less, any_filter}
-use Rattle.inittab_text.specs.Tables.{has_id, entry_of, is_distinct}
-use Rattle.trace_events.specs.declared.steps.Step.{Step}
-use Rattle.trace_events.specs.declared.steps.Step.TheVariants.{Call, Power, Reread, Order, Hold, Settle, Reexec}
-use Rattle.trace_events.specs.declared.steps.Goal.{Goal}
-use Rattle.trace_events.specs.Event.{Event}
-use Rattle.trace_events.specs.Past.{table_of, stage_of, Child, is_of, has_child, open_of, open_orders, is_quiet, is_idle, kept_children, known_children, Open}
-use Rattle.trace_events.specs.Wanted.{starts_in, is_order, nothing_runs, is_asked, is_called, is_wanted, is_owed, is_excluded}
-use Rattle.trace_events.specs.Timing.{is_held, is_full}
-use Rattle.trace_events.specs.Wishes.{in_run, is_level, goal_of, wants_reexec, wants_reread, level_wish, keeps_power, keeps_letter, powers, letters, keeps_news, wish_stands}
-use Rattle.trace_events.specs.Due.{step_if, steps_if, none_excluded, due_first, due_reexec, due_reread, enter_level, due_level, power_steps, letter_steps, due_news, due_stops, can_start, start_steps, starts_among, due_starts, is_over, next_stage, due_stage, is_announced, is_served, is_settled, settle_step, due_settle, due_looks}
-use Rattle.trace_events.specs.Sound.{is_sound}
-use Rattle.trace_laws.proofs.Orders.{idle_none, known_kept}
-use Rattle.trace_laws.proofs.Keeps.{sound_holds, entry_listed}
-use Rattle.trace_laws.proofs.Births.{at_moment}
-use Rattle.trace_laws.proofs.Known.{has_known}
-use Rattle.core_waiting.specs.declared.rests.Why.TheVariants.{Excluded, WaitedFor, InTheWay}
-use Rattle.core_waiting.specs.Rest.{why_of_entry, is_awaited, awaited_children, is_level_announced, is_empty, AtRest}
 
 -- lists and tests
 pub nil_parts : (xs ys : List Step) → xs ++ ys ≡ [] → (xs ≡ []) × (ys ≡ [])
@@ -51,13 +16,8 @@ pub none_of : (b : Bool) (steps : List Step) → steps_if b steps ≡ [] → b �
 none_of true steps h own = h
 none_of false steps h own = absurd (false≢true own)
 
-and_false_at : (a b : Bool) → a ≡ true → (a && b) ≡ false → b ≡ false
-and_false_at true b own h = h
-and_false_at false b own h = absurd (false≢true own)
-
 not_empty : (xs : List Child) → list_any (λ child. true) xs ≡ true → is_empty xs ≡ false
-not_empty [] h = absurd (false≢true h)
-not_empty (x ∷ xs) h = refl
+not_empty xs h = grind arith
 
 -- the ten ranks at rest
 pub record Rest (goal : Goal) (past : List Event) : Type 0 where
@@ -73,17 +33,7 @@ pub record Rest (goal : Goal) (past : List Event) : Type 0 where
   pub looks : due_looks past ≡ []
 
 ten_parts : (a b c d e f g h i j : List Step) → (a ++ b ++ c ++ d ++ e ++ f ++ g ++ h ++ i ++ j) ≡ [] → (a ≡ []) × (b ≡ []) × (c ≡ []) × (d ≡ []) × (e ≡ []) × (f ≡ []) × (g ≡ []) × (h ≡ []) × (i ≡ []) × (j ≡ [])
-ten_parts a b c d e f g h i j none =
-    let p9 = nil_parts (a ++ b ++ c ++ d ++ e ++ f ++ g ++ h ++ i) j none in
-    let p8 = nil_parts (a ++ b ++ c ++ d ++ e ++ f ++ g ++ h) i p9.0 in
-    let p7 = nil_parts (a ++ b ++ c ++ d ++ e ++ f ++ g) h p8.0 in
-    let p6 = nil_parts (a ++ b ++ c ++ d ++ e ++ f) g p7.0 in
-    let p5 = nil_parts (a ++ b ++ c ++ d ++ e) f p6.0 in
-    let p4 = nil_parts (a ++ b ++ c ++ d) e p5.0 in
-    let p3 = nil_parts (a ++ b ++ c) d p4.0 in
-    let p2 = nil_parts (a ++ b) c p3.0 in
-    let p1 = nil_parts a b p2.0 in
-    (p1.0, p1.1, p2.1, p3.1, p4.1, p5.1, p6.1, p7.1, p8.1, p9.1)
+ten_parts a b c d e f g h i j none = grind (arith, nil_parts)
 
 pub at_rest : (goal : Goal) (past : List Event) → AtRest goal past → Rest goal past
 at_rest goal past h =
@@ -94,36 +44,8 @@ at_rest goal past h =
 pub idle_quiet : (past : List Event) → is_idle past ≡ true → is_quiet past ≡ true
 idle_quiet past idle = not_from (list_any (λ (order : Open). not (same_ask Look order.ask)) (open_orders past)) (falsely (list_any (λ (order : Open). not (same_ask Look order.ask)) (open_orders past)) (list_any (λ (order : Open). true) (open_orders past)) (any_less (λ (order : Open). not (same_ask Look order.ask)) (λ order. true) (λ order h. refl) (open_orders past)) (not-true (list_any (λ (order : Open). true) (open_orders past)) idle))
 
--- ranks 2 to 5: there no wish stands
-no_powers : (kinds : List PowerKind) (past : List Event) → power_steps kinds past ≡ [] → list_any (λ kind. keeps_power kind past) kinds ≡ false
-no_powers [] past h = refl
-no_powers (kind ∷ kinds) past h =
-    let parts = nil_parts (step_if (keeps_power kind past) (Power kind)) (power_steps kinds past) h in
-    or_from (keeps_power kind past) (list_any (λ k. keeps_power k past) kinds) (none_if (keeps_power kind past) (Power kind) parts.0) (no_powers kinds past parts.1)
-
-no_letters : (called : List Letter) (past : List Event) → letter_steps called past ≡ [] → list_any (λ letter. keeps_letter letter past) called ≡ false
-no_letters [] past h = refl
-no_letters (letter ∷ rest) past h =
-    let parts = nil_parts (step_if (keeps_letter letter past) (Call letter)) (letter_steps rest past) h in
-    or_from (keeps_letter letter past) (list_any (λ l. keeps_letter l past) rest) (none_if (keeps_letter letter past) (Call letter) parts.0) (no_letters rest past parts.1)
-
-no_level : (o : Option Goal) (past : List Event) → enter_level o past ≡ [] → is_some o ≡ false
-no_level None past h = refl
-no_level (Some wish) past h = cc
-
-no_news : (running quiet : Bool) (past : List Event) → quiet ≡ true → steps_if (quiet && running) (power_steps powers past ++ letter_steps letters past) ≡ [] → (running && keeps_news past) ≡ false
-no_news false quiet past own h = refl
-no_news true quiet past own h =
-    let parts = nil_parts (power_steps powers past) (letter_steps letters past) (none_of (quiet && true) (power_steps powers past ++ letter_steps letters past) h (and_from quiet true own refl)) in
-    or_from (list_any (λ kind. keeps_power kind past) powers) (list_any (λ letter. keeps_letter letter past) letters) (no_powers powers past parts.0) (no_letters letters past parts.1)
-
 pub no_wish : (goal : Goal) (past : List Event) → Rest goal past → is_quiet past ≡ true → wish_stands past ≡ false
-no_wish goal past rest quiet =
-    or_from (wants_reexec past || wants_reread past || is_some (level_wish past)) (in_run (stage_of past) && keeps_news past)
-    (or_from (wants_reexec past || wants_reread past) (is_some (level_wish past))
-    (or_from (wants_reexec past) (wants_reread past) (and_false_at (is_quiet past) (wants_reexec past) quiet (none_if (is_quiet past && wants_reexec past) Reexec rest.reexec)) (and_false_at (is_quiet past) (wants_reread past) quiet (none_if (is_quiet past && wants_reread past) Reread rest.reread)))
-    (no_level (level_wish past) past (none_of (is_quiet past) (enter_level (level_wish past) past) rest.level quiet)))
-    (no_news (in_run (stage_of past)) (is_quiet past) past quiet rest.news)
+no_wish goal past rest quiet = grind arith
 
 -- an entry that is waited for or wanted
 abbrev pub asks_room : List Event → Entry → Bool
@@ -161,11 +83,7 @@ found_entry p (e ∷ es) distinct h = or_either (p e) (list_any p es) h here (λ
 -- the kept child of an entry that asks for room is awaited
 why_some : (b : Bool) (e : Entry) (past : List Event) → asks_room past e ≡ true → is_some (cond b (Some Excluded) (why_of_entry (Some e) past)) ≡ true
 why_some true e past h = refl
-why_some false e past h = by (waited_of e) (is_wanted e past) h where
-  by : (waited wanted : Bool) → (waited || wanted) ≡ true → is_some (cond waited (Some WaitedFor) (cond wanted (Some InTheWay) None)) ≡ true
-  by true wanted h = refl
-  by false true h = refl
-  by false false h = absurd (false≢true h)
+why_some false e past h = grind arith
 
 pub entry_awaited : (past : List Event) (child : Child) (e : Entry) → entry_of child.id (table_of past) ≡ Some e → asks_room past e ≡ true → is_awaited past child ≡ true
 entry_awaited past child e found room = ap (λ o. is_some (cond (is_excluded past child) (Some Excluded) (why_of_entry o past))) found ∙ why_some (is_excluded past child) e past room
@@ -182,35 +100,14 @@ excluded_awaited past h = any_less (is_excluded past) (is_awaited past) (λ chil
 
 -- rank 7: where no entry lacks room, all stand still
 pub waited_free : (a : Act) → waited_by a ≡ true → is_limited a ≡ true → false ≡ true
-waited_free act.Respawn waited limited = waited
-waited_free act.Ondemand waited limited = waited
-waited_free _ waited limited = limited
+waited_free a waited limited = grind arith
 
 still : (e : Entry) (past : List Event) → open_of e.id past ≡ None → lacks_room past e ≡ false → steps_if (can_start e past) (start_steps e past) ≡ [] → is_wanted e past ≡ true → (is_limited e.act ≡ true) × (is_held e.id past ≡ true)
-still e past free room none wanted = limit (is_limited e.act) refl (none_of (can_start e past) (start_steps e past) none can) where
-  childless : has_child e.id (kept_children past) ≡ false
-  childless = and_false_at (asks_room past e) (has_child e.id (kept_children past)) (or_right (waited_of e) (is_wanted e past) wanted) room
-
-  can : can_start e past ≡ true
-  can = rw (wanted, childless, free) refl
-
-  held : (h : Bool) → steps_if (not h) (cond (is_full e.id past) (Hold e.id) (Order e.id Start) ∷ []) ≡ [] → h ≡ true
-  held true none = refl
-  held false none = cc
-
-  limit : (b : Bool) → is_limited e.act ≡ b → cond b (steps_if (not (is_held e.id past)) (cond (is_full e.id past) (Hold e.id) (Order e.id Start) ∷ [])) (Order e.id Start ∷ []) ≡ [] → (is_limited e.act ≡ true) × (is_held e.id past ≡ true)
-  limit true is none = (is, held (is_held e.id past) none)
-  limit false is none = cc
+still e past free room none wanted = grind arith
 
 -- of one entry: whether it is waited for, has a child, an open Start, is wanted, is limited and held
 not_owed : (e : Entry) (past : List Event) → open_of e.id past ≡ None → lacks_room past e ≡ false → (is_wanted e past ≡ true → (is_limited e.act ≡ true) × (is_held e.id past ≡ true)) → is_owed e past ≡ false
-not_owed e past free room held = at (waited_of e) refl where
-  at : (b : Bool) → waited_of e ≡ b → (b && (has_child e.id (kept_children past) || is_order Start (open_of e.id past) || is_wanted e past)) ≡ false
-  at false is = refl
-  at true is =
-      or_from (has_child e.id (kept_children past) || is_order Start (open_of e.id past)) (is_wanted e past)
-      (or_from (has_child e.id (kept_children past)) (is_order Start (open_of e.id past)) (and_false_at (asks_room past e) (has_child e.id (kept_children past)) (or_left (waited_of e) (is_wanted e past) is) room) (ap (is_order Start) free))
-      (false_from_ne_true (is_wanted e past) (λ wanted. false≢true (waited_free e.act is (held wanted).0)))
+not_owed e past free room held = grind arith
 
 wanted_held : (wanted : Bool) (limited held : Bool) → (wanted ≡ true → (limited ≡ true) × (held ≡ true)) → (not wanted || limited && held) ≡ true
 wanted_held false limited held h = refl
@@ -233,24 +130,10 @@ abbrev is_run : Stage → Bool
 is_run (stage.Run level) = true
 is_run _ = false
 
-limited_runs : (a : Act) (levels : List Mark) (now : Stage) → is_limited a ≡ true → is_run now ≡ false → starts_by a levels now ≡ false
-limited_runs act.Respawn levels stage.Sysinit h early = refl
-limited_runs act.Respawn levels stage.Boot h early = refl
-limited_runs act.Ondemand levels stage.Sysinit h early = refl
-limited_runs act.Ondemand levels stage.Boot h early = refl
-limited_runs _ levels (stage.Run level) h early = absurd (false≢true (sym early))
-limited_runs _ levels now h early = absurd (false≢true h)
-
 over_by : (past : List Event) (now : Stage) → stage_of past ≡ Some now → is_run now ≡ false → list_any (lacks_room past) (table_of past) ≡ false → list_all (stands_still past) (table_of past) ≡ true → list_all (λ e. not (is_wanted e past) && not (waited_of e && has_child e.id (kept_children past))) (table_of past) ≡ true
 over_by past now is early room all = along (table_of past) room all where
   unwanted : (e : Entry) → stands_still past e ≡ true → is_wanted e past ≡ false
-  unwanted e h = false_from_ne_true (is_wanted e past) wrong where
-    wrong : is_wanted e past ≡ true → ⊥
-    wrong wanted =
-        let rest = (and_parts (not (is_owed e past)) (not (is_wanted e past) || is_limited e.act && is_held e.id past) h).1 in
-        let limited = or_either (not (is_wanted e past)) (is_limited e.act && is_held e.id past) rest (λ not_wanted. both_ways {P = is_limited e.act ≡ true} (is_wanted e past) wanted (not-true (is_wanted e past) not_wanted)) (λ both. (and_parts (is_limited e.act) (is_held e.id past) both).0) in
-        let starts = (and_parts (starts_in e (stage_of past)) (wanted_by e.act (nothing_runs e.id past) (not (is_asked e.id past)) (is_called e past)) wanted).0 in
-        false≢true (sym (limited_runs e.act e.levels.items now limited early) ∙ ap (starts_in e) (sym is) ∙ starts)
+  unwanted e h = grind arith
 
   along : (es : List Entry) → list_any (lacks_room past) es ≡ false → list_all (stands_still past) es ≡ true → list_all (λ e. not (is_wanted e past) && not (waited_of e && has_child e.id (kept_children past))) es ≡ true
   along [] room all = refl
@@ -263,22 +146,7 @@ over_by past now is early room all = along (table_of past) room all where
 
 -- rank 9: what stands still in a run level is served
 served : (a : Act) (levels : List Mark) (level : Level) (idle asked called there held : Bool) → ((starts_by a levels (stage.Run level) && wanted_by a idle (not asked) called) ≡ true → (is_limited a && held) ≡ true) → (there ≡ false → idle ≡ true) → (not (names (At level) levels) || served_by a asked (there || held)) ≡ true
-served act.Wait levels level idle asked called there held still free = once (names (At level) levels) asked still where
-  once : (n asked : Bool) → ((n && not asked) ≡ true → false ≡ true) → (not n || asked) ≡ true
-  once false asked h = refl
-  once true true h = refl
-  once true false h = h refl
-served act.Once levels level idle asked called there held still free = once (names (At level) levels) asked still where
-  once : (n asked : Bool) → ((n && not asked) ≡ true → false ≡ true) → (not n || asked) ≡ true
-  once false asked h = refl
-  once true true h = refl
-  once true false h = h refl
-served act.Respawn levels level idle asked called there held still free = kept (names (At level) levels) there still free where
-  kept : (n there : Bool) → ((n && idle) ≡ true → held ≡ true) → (there ≡ false → idle ≡ true) → (not n || (there || held)) ≡ true
-  kept false there h free = refl
-  kept true true h free = refl
-  kept true false h free = h (free refl)
-served _ levels level idle asked called there held still free = or_true (not (names (At level) levels))
+served a levels level idle asked called there held still free = grind arith
 
 all_served : (goal : Goal) (past : List Event) → is_sound goal past ≡ true → is_idle past ≡ true → (level : Level) → stage_of past ≡ Some (stage.Run level) → (es : List Entry) → list_all (stands_still past) es ≡ true → list_all (is_served level (known_children past) past) es ≡ true
 all_served goal past sound idle level is es all = all_less (stands_still past) (is_served level (known_children past) past) one es all where
@@ -301,45 +169,9 @@ spared_known : (past : List Event) → list_any (is_excluded past) (kept_childre
 spared_known past none = falsely (list_any (is_excluded past) (known_children past)) (list_any (is_excluded past) (kept_children past)) (known_kept (is_excluded past) past) none
 
 pub announced_or_awaited : (goal : Goal) (past : List Event) → is_sound goal past ≡ true → AtRest goal past → is_idle past ≡ true → list_any (is_awaited past) (kept_children past) ≡ false → is_level_announced past ≡ true
-announced_or_awaited goal past sound h idle none = by (stage_of past) refl where
-  rest : Rest goal past
-  rest = at_rest goal past h
-
-  quiet : is_quiet past ≡ true
-  quiet = idle_quiet past idle
-
-  unwished : wish_stands past ≡ false
-  unwished = no_wish goal past rest quiet
-
-  spared : list_any (is_excluded past) (kept_children past) ≡ false
-  spared = falsely (list_any (is_excluded past) (kept_children past)) (list_any (is_awaited past) (kept_children past)) (excluded_awaited past) none
-
-  room : list_any (lacks_room past) (table_of past) ≡ false
-  room = falsely (list_any (lacks_room past) (table_of past)) (list_any (is_awaited past) (kept_children past)) (room_awaited past (sound_holds goal past sound).distinct) none
-
-  all : list_all (stands_still past) (table_of past) ≡ true
-  all = all_still past idle (table_of past) room (none_of (not (wish_stands past) && none_excluded past) (starts_among (table_of past) past) rest.starts (rw (unwished, spared) refl))
-
-  stays : (now : Stage) → stage_of past ≡ Some now → is_run now ≡ false → next_stage (goal_of goal past) (Some now) ≡ []
-  stays now is early = ap (next_stage (goal_of goal past)) (sym is) ∙ none_of (is_over past) (next_stage (goal_of goal past) (stage_of past)) rest.stage (and_from (not (wish_stands past) && is_quiet past && none_excluded past) (list_all (λ e. not (is_wanted e past) && not (waited_of e && has_child e.id (kept_children past))) (table_of past)) (rw (unwished, quiet, spared) refl) (over_by past now is early room all))
-
-  settled : (level : Level) → stage_of past ≡ Some (stage.Run level) → is_settled level (known_children past) past ≡ true
-  settled level is = and_from (is_level level (stage_of past) && not (list_any (is_excluded past) (known_children past))) (list_all (is_served level (known_children past) past) (table_of past)) (rw (is, same_level-self level, spared_known past spared) refl) (all_served goal past sound idle level is (table_of past) all)
-
-  told : (level : Level) → stage_of past ≡ Some (stage.Run level) → is_announced past ≡ true
-  told level is = true_from_ne_false (is_announced past) (λ untold. false≢true (sym (none_if (is_settled level (known_children past) past) (Settle level) (ap (λ now. settle_step now past) (sym is) ∙ none_of (not (wish_stands past) && is_idle past && not (is_announced past)) (settle_step (stage_of past) past) rest.settle (rw (unwished, idle, untold) refl))) ∙ settled level is))
-
-  by : (o : Option Stage) → stage_of past ≡ o → is_level_announced past ≡ true
-  by None is = absurd (dawn (ap (λ o. due_first goal o past) (sym is) ∙ rest.first)) where
-    dawn : due_first goal None past ≡ [] → ⊥
-    dawn none = cc
-  by (Some stage.Sysinit) is = absurd (early (stays stage.Sysinit is refl)) where
-    early : next_stage (goal_of goal past) (Some stage.Sysinit) ≡ [] → ⊥
-    early none = cc
-  by (Some stage.Boot) is = absurd (early (stays stage.Boot is refl)) where
-    early : next_stage (goal_of goal past) (Some stage.Boot) ≡ [] → ⊥
-    early none = cc
-  by (Some (stage.Run level)) is = rw (is, told level is) refl
+announced_or_awaited goal past sound h idle none =
+    grind (arith, at_rest, idle_quiet, no_wish, falsely, excluded_awaited, room_awaited, sound_holds, all_still,
+        none_of, over_by, same_level-self, spared_known, all_served, true_from_ne_false, none_if)
 
 -- as tests, at each rest
 three : (idle announced empty awaited : Bool) → (idle ≡ true → awaited ≡ false → announced ≡ true) → (awaited ≡ true → empty ≡ false) → (not idle || announced || not empty) ≡ true

@@ -1,30 +1,7 @@
 -- A level is announced after one round more than there are waited entries to come.
-use Rattle.std.proofs.Common.{◌≡◌, ◌≤◌, ◌<◌, refl, sym, ◌∙◌, ap, subst, ℕ, Bool, true, false, not, ◌&&◌, ◌||◌, cond, List, [], ◌∷◌, ◌++◌, filter, length, Some, arith}
-use Rattle.std.specs.List.{list_any}
-use Rattle.std.specs.Option.{option_map_or}
-use Rattle.std.proofs.lemmas.Bool.{false≢true, false_from_ne_true, and_parts, and_from, or_left, or_right}
-use Rattle.std.proofs.lemmas.Option.{none-some, same_Some}
-use Rattle.init_words.specs.declared.entries.Entry.{Entry}
-use Rattle.init_words.specs.declared.orders.OrderKind.TheVariants.{Start}
-use Rattle.init_words.specs.Ids.{same_id}
-use Rattle.init_words.specs.Actions.{is_limited}
-use Rattle.init_words.specs.Entries.{waited_of}
-use Rattle.init_words.proofs.Same.{same_id-self}
-use Rattle.init_words.proofs.Tests.{or_either, not_from}
-use Rattle.inittab_text.specs.Tables.{entry_of}
-use Rattle.trace_events.specs.declared.happenings.Happening.TheVariants.{NewTable, Enter, Call, Power, Asked, Settle}
-use Rattle.trace_events.specs.declared.steps.Goal.{Goal}
+use Rattle.core_waiting.proofs.Words.{◌≡◌, ◌≤◌, ◌<◌, refl, sym, ◌∙◌, ap, subst, ℕ, Bool, true, false, not, ◌&&◌, List, [], ◌∷◌, ◌++◌, filter, length, Some, arith, list_any, option_map_or, false≢true, false_from_ne_true, and_parts, and_from, or_left, or_right, Entry, Start, same_id, is_limited, waited_of, same_id-self, or_either, not_from, entry_of, NewTable, Enter, Asked, Goal, Event, table_of, is_wanted, is_announced, is_sound, MayRun, due_facts, sound_holds, at_moment, AtRest, is_level_announced, is_calm, is_start_of, is_waited_start, is_waited_id, is_to_come, to_come}
+use Rattle.trace_events.specs.declared.happenings.Happening.TheVariants.{Call, Power, Settle}
 use Rattle.trace_events.specs.declared.steps.Step.TheVariants as step
-use Rattle.trace_events.specs.Event.{Event}
-use Rattle.trace_events.specs.Past.{table_of, stage_of}
-use Rattle.trace_events.specs.Wanted.{is_wanted}
-use Rattle.trace_events.specs.Wishes.{in_run}
-use Rattle.trace_events.specs.Due.{is_announced}
-use Rattle.trace_events.specs.Sound.{is_sound}
-use Rattle.trace_laws.proofs.Dues.{MayRun, due_facts}
-use Rattle.trace_laws.proofs.Keeps.{sound_holds}
-use Rattle.trace_laws.proofs.Births.{at_moment}
-use Rattle.core_waiting.specs.Rest.{AtRest, is_level_announced, is_calm, is_start_of, is_waited_start, is_waited_id, is_to_come, to_come}
 use Rattle.core_waiting.proofs.Rest.{waited_free, not_first}
 use Rattle.core_waiting.proofs.Settled.{found_id}
 use Rattle.core_waiting.proofs.Once.{wanted_before, same_table}
@@ -32,29 +9,16 @@ use Rattle.core_waiting.proofs.Progress.{Next, next_of, Quit, quit_at, same_stag
 
 -- fewer pass the narrower test
 pub fewer : (p q : Entry → Bool) → ((e : Entry) → p e ≡ true → q e ≡ true) → (es : List Entry) → length (filter p es) ≤ length (filter q es)
-fewer p q less [] = omega arith
-fewer p q less (e ∷ es) = at (p e) (q e) (less e) (fewer p q less es) where
-  at : (b c : Bool) → (b ≡ true → c ≡ true) → length (filter p es) ≤ length (filter q es) → length (cond b (e ∷ filter p es) (filter p es)) ≤ length (cond c (e ∷ filter q es) (filter q es))
-  at true true h rest = omega arith
-  at true false h rest = absurd (false≢true (h refl))
-  at false true h rest = omega arith
-  at false false h rest = rest
+fewer p q less [] = grind arith
+fewer p q less (e ∷ es) = grind (arith, fewer p q less es)
 
 fewer_by_one : (p q : Entry → Bool) → ((e : Entry) → p e ≡ true → q e ≡ true) → (es : List Entry) → list_any (λ e. q e && not (p e)) es ≡ true → length (filter p es) < length (filter q es)
-fewer_by_one p q less [] h = absurd (false≢true h)
-fewer_by_one p q less (e ∷ es) h = at (p e) (q e) (less e) h (fewer p q less es) (fewer_by_one p q less es) where
-  at : (b c : Bool) → (b ≡ true → c ≡ true) → (c && not b || list_any (λ x. q x && not (p x)) es) ≡ true → length (filter p es) ≤ length (filter q es) → (list_any (λ x. q x && not (p x)) es ≡ true → length (filter p es) < length (filter q es)) → length (cond b (e ∷ filter p es) (filter p es)) < length (cond c (e ∷ filter q es) (filter q es))
-  at true true own h most rest = let less_one : length (filter p es) < length (filter q es) = rest h in omega arith
-  at true false own h most rest = absurd (false≢true (own refl))
-  at false true own h most rest = omega arith
-  at false false own h most rest = rest h
+fewer_by_one p q less [] h = grind (arith, fewer)
+fewer_by_one p q less (e ∷ es) h = grind (arith, fewer_by_one p q less es, fewer)
 
 entry_any : (r : Entry → Bool) (id : List ℕ) (es : List Entry) (e : Entry) → entry_of id es ≡ Some e → r e ≡ true → list_any r es ≡ true
-entry_any r id [] e found own = absurd (none-some e found)
-entry_any r id (x ∷ es) e found own = at (same_id id x.id) found (entry_any r id es e) where
-  at : (b : Bool) → cond b (Some x) (entry_of id es) ≡ Some e → (entry_of id es ≡ Some e → r e ≡ true → list_any r es ≡ true) → (r x || list_any r es) ≡ true
-  at true found rest = or_left (r x) (list_any r es) (ap r (same_Some x e found) ∙ own)
-  at false found rest = or_right (r x) (list_any r es) (rest found own)
+entry_any r id [] e found own = grind arith
+entry_any r id (x ∷ es) e found own = grind (arith, entry_any r id es e)
 
 pub unlimited : (e : Entry) → waited_of e ≡ true → is_limited e.act ≡ false
 unlimited e waited = false_from_ne_true (is_limited e.act) (λ limited. false≢true (waited_free e.act waited limited))
@@ -122,9 +86,7 @@ still_announced (Settle level ∷ between) past calm told = refl
 still_announced (happening ∷ between) past calm told = still_announced between past calm told
 
 pub still_level : (between past : List Event) → is_calm between ≡ true → is_level_announced past ≡ true → is_level_announced (between ++ past) ≡ true
-still_level between past calm h =
-    let parts = and_parts (in_run (stage_of past)) (is_announced past) h in
-    and_from (in_run (stage_of (between ++ past))) (is_announced (between ++ past)) (ap in_run (same_stage between past calm) ∙ parts.0) (still_announced between past calm parts.1)
+still_level between past calm h = grind (arith, same_stage, still_announced)
 
 pub sound_rest : (goal : Goal) (later past : List Event) → is_sound goal (later ++ past) ≡ true → AtRest goal past → is_sound goal past ≡ true
 sound_rest goal later past sound rest = at_moment goal (λ x. AtRest goal x → is_sound goal x ≡ true) (λ h. absurd (not_first goal h)) (λ x ok h. ok) later past sound rest

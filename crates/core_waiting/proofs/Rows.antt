@@ -1,28 +1,12 @@
 -- Worked rests, each with whose end init awaits there and why: `refl` computes them.
-use Rattle.std.proofs.Common.{◌≡◌, refl, ℕ, true, false, List, [], ◌∷◌, ◌++◌, codes, map, Option, Some}
-use Rattle.init_words.specs.declared.entries.Entry.{Entry}
-use Rattle.init_words.specs.declared.actions.Act.{Act}
+use Rattle.core_waiting.proofs.Words.{◌≡◌, refl, ℕ, true, false, List, [], ◌∷◌, ◌++◌, codes, map, Option, Some, Entry, Act, Level, Mark, At, OnCall, Start, Look, Term, Exit, NewTable, NotRead, Enter, Asked, Birth, NoBirth, Death, Reaped, Hit, Miss, Told, Clock, Nudge, Got, Goal, Event, Child, is_idle, due, is_sound, Why, Excluded, WaitedFor, InTheWay, why_awaited, awaited_children, is_level_announced, is_on_power, to_come, after_rounds, AreUndisturbed}
 use Rattle.init_words.specs.declared.actions.Act.TheVariants as act
-use Rattle.init_words.specs.declared.levels.Level.{Level}
 use Rattle.init_words.specs.declared.levels.Level.TheVariants as level
 use Rattle.init_words.specs.declared.levels.Letter.TheVariants as letter
-use Rattle.init_words.specs.declared.levels.Mark.{Mark}
-use Rattle.init_words.specs.declared.levels.Mark.TheVariants.{At, OnCall}
 use Rattle.init_words.specs.declared.stages.Stage.TheVariants as stage
-use Rattle.init_words.specs.declared.orders.OrderKind.TheVariants.{Start, Look, Term}
 use Rattle.init_words.specs.declared.orders.PowerKind.TheVariants as power
-use Rattle.init_words.specs.declared.children.Status.TheVariants.{Exit}
 use Rattle.initctl_frame.specs.declared.requests.HeardRequest.TheVariants as got
-use Rattle.trace_events.specs.declared.happenings.Happening.TheVariants.{NewTable, NotRead, Enter, Call, Power, Asked, Hold, Settle, Birth, NoBirth, Death, Reaped, Hit, Miss, Told, Clock, Nudge, Got}
-use Rattle.trace_events.specs.declared.steps.Goal.{Goal}
-use Rattle.trace_events.specs.Event.{Event}
-use Rattle.trace_events.specs.Past.{Child, is_idle}
-use Rattle.trace_events.specs.Due.{due}
-use Rattle.trace_events.specs.Sound.{is_sound}
-use Rattle.core_waiting.specs.declared.rests.Why.{Why}
-use Rattle.core_waiting.specs.declared.rests.Why.TheVariants.{Excluded, WaitedFor, InTheWay}
-use Rattle.core_waiting.specs.Rest.{why_awaited, awaited_children, is_level_announced, is_on_power, to_come, after_rounds}
-use Rattle.core_waiting.specs.Arrival.{AreUndisturbed}
+use Rattle.trace_events.specs.declared.happenings.Happening.TheVariants.{Call, Power, Hold, Settle}
 
 abbrev pub entry : List ℕ → List Mark → Act → Entry
 entry id levels action = record { id = id; levels = record { items = levels }; act = action; process = record { items = codes "x" } }

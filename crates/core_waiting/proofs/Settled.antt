@@ -1,43 +1,10 @@
 -- While a level is announced, the only children awaited are those of entries that answer news of the power.
-use Rattle.std.proofs.Common.{◌≡◌, refl, sym, ◌∙◌, ap, ℕ, Bool, true, false, not, ◌&&◌, ◌||◌, cond, List, [], ◌∷◌, ◌++◌, filter, Option, Some, None, is_some}
-use Rattle.std.specs.List.{list_any, list_all}
-use Rattle.std.specs.Option.{option_map_or}
-use Rattle.std.proofs.lemmas.Bool.{false≢true, false_from_ne_true, and_parts, and_from, or_left, or_right, or_parts, or_from, not-true}
-use Rattle.std.proofs.lemmas.Option.{none-some, same_Some}
-use Rattle.init_words.specs.declared.entries.Entry.{Entry}
-use Rattle.init_words.specs.declared.actions.Act.{Act}
+use Rattle.core_waiting.proofs.Words.{arith, ◌≡◌, refl, sym, ◌∙◌, ap, ℕ, Bool, true, false, not, ◌&&◌, ◌||◌, cond, List, [], ◌∷◌, ◌++◌, filter, Option, Some, None, list_any, list_all, option_map_or, false≢true, false_from_ne_true, and_parts, and_from, or_left, or_right, or_from, not-true, none-some, same_Some, Entry, Act, Level, Mark, At, Stage, Start, same_id, names, starts_by, waited_by, wanted_by, served_by, waited_of, same_id-is, same_id-self, falsely, or_either, all_less, Passing, passing, entry_of, NewTable, Enter, Asked, Birth, Told, Goal, Event, table_of, stage_of, Child, is_of, has_child, open_of, newborn, kept_children, known_children, starts_in, starts_now, is_order, nothing_runs, is_asked, is_called, is_wanted, is_owed, is_excluded, is_held, in_run, is_level, is_announced, is_served, may_come, is_sound, cleared, idle_none, kept_before_told, undone_is_open, is_order-is, MayRun, MaySettle, due_facts, sound_holds, sound_ind, start_stays, start_undone, born_ready, placed_spared, at_moment, excluded_known, Excluded, WaitedFor, InTheWay, why_of_entry, is_awaited, awaited_children, answers_power, is_on_power}
+use Rattle.std.proofs.Common.{is_some}
 use Rattle.init_words.specs.declared.actions.Act.TheVariants as act
-use Rattle.init_words.specs.declared.levels.Level.{Level}
-use Rattle.init_words.specs.declared.levels.Mark.{Mark}
-use Rattle.init_words.specs.declared.levels.Mark.TheVariants.{At}
-use Rattle.init_words.specs.declared.stages.Stage.{Stage}
 use Rattle.init_words.specs.declared.stages.Stage.TheVariants as stage
-use Rattle.init_words.specs.declared.orders.OrderKind.TheVariants.{Start}
-use Rattle.init_words.specs.Ids.{same_id}
-use Rattle.init_words.specs.Levels.{names}
-use Rattle.init_words.specs.Actions.{starts_by, waited_by, wanted_by, served_by}
-use Rattle.init_words.specs.Entries.{waited_of}
-use Rattle.init_words.proofs.Same.{same_id-is, same_id-self, same_level-is}
-use Rattle.init_words.proofs.Tests.{both_ways, falsely, or_either, all_less, Passing, passing}
-use Rattle.inittab_text.specs.Tables.{entry_of}
-use Rattle.trace_events.specs.declared.happenings.Happening.TheVariants.{NewTable, Enter, Asked, Settle, Birth, Told}
-use Rattle.trace_events.specs.declared.steps.Goal.{Goal}
+use Rattle.trace_events.specs.declared.happenings.Happening.TheVariants.{Settle}
 use Rattle.trace_events.specs.declared.steps.Step.TheVariants as step
-use Rattle.trace_events.specs.Event.{Event}
-use Rattle.trace_events.specs.Past.{table_of, stage_of, Child, is_of, has_child, open_of, newborn, kept_children, known_children}
-use Rattle.trace_events.specs.Wanted.{starts_in, starts_now, is_order, nothing_runs, is_asked, is_called, is_wanted, is_owed, is_excluded}
-use Rattle.trace_events.specs.Timing.{is_held}
-use Rattle.trace_events.specs.Wishes.{in_run, is_level}
-use Rattle.trace_events.specs.Due.{is_announced, is_served}
-use Rattle.trace_events.specs.Sound.{may_come, is_sound}
-use Rattle.trace_laws.proofs.Orders.{cleared, idle_none, kept_before_told, undone_is_open}
-use Rattle.trace_laws.proofs.Tests.{is_order-is}
-use Rattle.trace_laws.proofs.Dues.{MayRun, MaySettle, due_facts}
-use Rattle.trace_laws.proofs.Keeps.{sound_holds, sound_ind, start_stays, start_undone, born_ready, placed_spared}
-use Rattle.trace_laws.proofs.Births.{at_moment}
-use Rattle.trace_laws.proofs.Known.{excluded_known}
-use Rattle.core_waiting.specs.declared.rests.Why.TheVariants.{Excluded, WaitedFor, InTheWay}
-use Rattle.core_waiting.specs.Rest.{why_of_entry, is_awaited, awaited_children, answers_power, is_on_power}
 
 -- what is wanted once in a level
 abbrev is_once : Act → Bool
@@ -66,61 +33,28 @@ record Settled (past : List Event) : Type 0 where
 
 -- tables
 pub all_found : (p : Entry → Bool) (id : List ℕ) (es : List Entry) (e : Entry) → list_all p es ≡ true → entry_of id es ≡ Some e → p e ≡ true
-all_found p id [] e all found = absurd (none-some e found)
-all_found p id (x ∷ es) e all found = at_id (same_id id x.id) found (all_found p id es e parts.1) where
-  parts : (p x ≡ true) × (list_all p es ≡ true)
-  parts = and_parts (p x) (list_all p es) all
-
-  at_id : (b : Bool) → cond b (Some x) (entry_of id es) ≡ Some e → (entry_of id es ≡ Some e → p e ≡ true) → p e ≡ true
-  at_id true found rest = ap p (sym (same_Some x e found)) ∙ parts.0
-  at_id false found rest = rest found
+all_found p id [] e all found = grind arith
+all_found p id (x ∷ es) e all found = grind (arith, all_found p id es e)
 
 pub found_id : (id : List ℕ) (es : List Entry) (e : Entry) → entry_of id es ≡ Some e → id ≡ e.id
-found_id id [] e found = absurd (none-some e found)
-found_id id (x ∷ es) e found = at_id (same_id id x.id) refl found (found_id id es e) where
-  at_id : (b : Bool) → same_id id x.id ≡ b → cond b (Some x) (entry_of id es) ≡ Some e → (entry_of id es ≡ Some e → id ≡ e.id) → id ≡ e.id
-  at_id true same found rest = same_id-is id x.id same ∙ ap (λ (y : Entry). y.id) (same_Some x e found)
-  at_id false same found rest = rest found
+found_id id [] e found = grind (arith, none-some, same_id-is, same_Some)
+found_id id (x ∷ es) e found = grind (arith, found_id id es e, none-some, same_id-is, same_Some)
 
 level_run : (level : Level) (o : Option Stage) → is_level level o ≡ true → o ≡ Some (stage.Run level)
-level_run level None h = absurd (false≢true h)
-level_run level (Some stage.Sysinit) h = absurd (false≢true h)
-level_run level (Some stage.Boot) h = absurd (false≢true h)
-level_run level (Some (stage.Run l)) h = ap (λ k. Some (stage.Run k)) (sym (same_level-is level l h))
+level_run level o h = grind arith
 
 -- what is read off an action, in a run level
 served_asked : (a : Act) (levels : List Mark) (level : Level) (asked kept : Bool) → (not (names (At level) levels) || served_by a asked kept) ≡ true → (not (is_once a && starts_by a levels (stage.Run level)) || asked) ≡ true
-served_asked act.Wait levels level asked kept h = h
-served_asked act.Once levels level asked kept h = h
-served_asked _ levels level asked kept h = refl
-
-once_asked : {P : Type 0} (n asked : Bool) → (n && not asked) ≡ true → (not n || asked) ≡ true → P
-once_asked true true wanted was = absurd (false≢true wanted)
-once_asked true false wanted was = absurd (false≢true was)
-once_asked false asked wanted was = absurd (false≢true wanted)
+served_asked a levels level asked kept h = grind arith
 
 wanted_lets : (a : Act) (levels : List Mark) (level : Level) (idle asked called : Bool) → (starts_by a levels (stage.Run level) && wanted_by a idle (not asked) called) ≡ true → (not (is_once a && starts_by a levels (stage.Run level)) || asked) ≡ true → (not (waited_by a) || answers_power a) ≡ true
-wanted_lets act.Sysinit levels level idle asked called wanted was = absurd (false≢true wanted)
-wanted_lets act.Bootwait levels level idle asked called wanted was = absurd (false≢true wanted)
-wanted_lets act.Wait levels level idle asked called wanted was = once_asked (names (At level) levels) asked wanted was
-wanted_lets _ levels level idle asked called wanted was = refl
+wanted_lets a levels level idle asked called wanted was = grind arith
 
 wanted_power : (a : Act) (levels : List Mark) (level : Level) (idle asked called : Bool) → (starts_by a levels (stage.Run level) && wanted_by a idle (not asked) called) ≡ true → (not (is_once a && starts_by a levels (stage.Run level)) || asked) ≡ true → idle ≡ false → answers_power a ≡ true
-wanted_power act.Powerwait levels level idle asked called wanted was busy = refl
-wanted_power act.Powerfail levels level idle asked called wanted was busy = refl
-wanted_power act.Powerokwait levels level idle asked called wanted was busy = refl
-wanted_power act.Powerfailnow levels level idle asked called wanted was busy = refl
-wanted_power act.Wait levels level idle asked called wanted was busy = once_asked (names (At level) levels) asked wanted was
-wanted_power act.Once levels level idle asked called wanted was busy = once_asked (names (At level) levels) asked wanted was
-wanted_power act.Respawn levels level idle asked called wanted was busy = both_ways idle (and_parts (names (At level) levels) idle wanted).1 busy
-wanted_power act.Ondemand levels level idle asked called wanted was busy = both_ways idle (and_parts called idle (and_parts (starts_by act.Ondemand levels (stage.Run level)) (called && idle) wanted).1).1 busy
-wanted_power _ levels level idle asked called wanted was busy = absurd (false≢true wanted)
+wanted_power a levels level idle asked called wanted was busy = grind arith
 
 pub in_level : (o : Option Stage) → in_run o ≡ true → (level : Level) × (o ≡ Some (stage.Run level))
-in_level None h = absurd (false≢true h)
-in_level (Some stage.Sysinit) h = absurd (false≢true h)
-in_level (Some stage.Boot) h = absurd (false≢true h)
-in_level (Some (stage.Run level)) h = (level, refl)
+in_level o h = grind arith
 
 -- where a level is announced
 at_settle : (goal : Goal) (level : Level) (past : List Event) → is_sound goal past ≡ true → MaySettle level past → Settled (Settle level ∷ past)
@@ -163,20 +97,10 @@ at_settle goal level past sound may = record {
 
 -- and with each happening after it
 start_lets : (i : List ℕ) (past : List Event) → Settled past → (may : MayRun i (table_of past) past) → entry_of i (table_of past) ≡ Some may.entry → option_map_or lets_on (entry_of i (table_of past)) false ≡ true
-start_lets i past before may found = ap (λ o. option_map_or lets_on o false) found ∙ read (in_level (stage_of past) before.running) where
-  e : Entry
-  e = may.entry
-
-  read : (level : Level) × (stage_of past ≡ Some (stage.Run level)) → lets_on may.entry ≡ true
-  read now = wanted_lets may.entry.act may.entry.levels.items now.0 (nothing_runs may.entry.id past) (is_asked may.entry.id past) (is_called may.entry past)
-      (ap (λ o. starts_in may.entry o && wanted_by may.entry.act (nothing_runs may.entry.id past) (not (is_asked may.entry.id past)) (is_called may.entry past)) (sym now.1) ∙ may.wanted)
-      (ap (λ o. not (is_once may.entry.act && starts_in may.entry o) || is_asked may.entry.id past) (sym now.1) ∙ all_found (was_asked past) i (table_of past) may.entry before.asked found)
+start_lets i past before may found = grind (arith, in_level, wanted_lets, all_found)
 
 born_lets : (i : List ℕ) (n : ℕ) (past : List Event) → Settled past → open_of i past ≡ Some Start → holds_on past (newborn i n past) ≡ false
-born_lets i n past before started = read (entry_of i (table_of past)) (before.started i started) where
-  read : (o : Option Entry) → option_map_or lets_on o false ≡ true → option_map_or (λ (e : Entry). not (lets_on e)) o false ≡ false
-  read None h = refl
-  read (Some e) h = ap not h
+born_lets i n past before started = grind arith
 
 settled_keeps : (goal : Goal) (past : List Event) → is_sound goal past ≡ true → is_announced past ≡ true → Settled past
 settled_keeps goal past h = sound_ind goal (λ before. is_announced before ≡ true → Settled before) (λ table distinct told. absurd (false≢true told)) next past h where
@@ -226,15 +150,8 @@ settled_keeps goal past h = sound_ind goal (λ before. is_announced before ≡ t
 
 -- so a child that is awaited there is of an entry that answers news of the power
 all_filtered : (p q : Child → Bool) (xs : List Child) → list_any (λ x. q x && not (p x)) xs ≡ false → list_all p (filter q xs) ≡ true
-all_filtered p q [] h = refl
-all_filtered p q (x ∷ xs) h = at (q x) (p x) refl parts.0 (all_filtered p q xs parts.1) where
-  parts : ((q x && not (p x)) ≡ false) × (list_any (λ y. q y && not (p y)) xs ≡ false)
-  parts = or_parts (q x && not (p x)) (list_any (λ y. q y && not (p y)) xs) h
-
-  at : (b c : Bool) → p x ≡ c → (b && not c) ≡ false → list_all p (filter q xs) ≡ true → list_all p (cond b (x ∷ filter q xs) (filter q xs)) ≡ true
-  at true true own h rest = and_from (p x) (list_all p (filter q xs)) own rest
-  at true false own h rest = absurd (false≢true (sym h))
-  at false c own h rest = rest
+all_filtered p q [] h = grind arith
+all_filtered p q (x ∷ xs) h = grind (arith, all_filtered p q xs)
 
 settled_power : (past : List Event) → Settled past → list_all (is_on_power past) (awaited_children past) ≡ true
 settled_power past was = all_filtered (is_on_power past) (is_awaited past) (kept_children past) (false_from_ne_true (list_any other (kept_children past)) (λ h. none (passing other (kept_children past) h))) where

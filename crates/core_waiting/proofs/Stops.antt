@@ -1,29 +1,6 @@
 -- What came of the children at a rest: no signal and no look is due to one.
-use Rattle.std.proofs.Common.{◌≡◌, refl, sym, ◌∙◌, ap, ℕ, Bool, true, false, not, ◌&&◌, ◌||◌, cond, List, [], ◌∷◌, ◌++◌, Option, Some, None, is_none, is_some, find}
-use Rattle.std.specs.List.{list_any, list_all}
-use Rattle.std.proofs.lemmas.Bool.{false≢true, false_from_ne_true, and_parts, and_from, or_left, or_right, or_parts, or_from, not-true}
-use Rattle.std.proofs.lemmas.Option.{none-some, same_Some}
-use Rattle.init_words.specs.declared.orders.OrderKind.{OrderKind}
-use Rattle.init_words.specs.declared.orders.OrderKind.TheVariants.{Look, Term, Kill}
-use Rattle.init_words.specs.Ids.{same_id}
-use Rattle.init_words.proofs.Same.{same_id-is, same_id-self}
-use Rattle.init_words.proofs.Tests.{both_ways, falsely, not_from, or_either, Passing, passing}
-use Rattle.trace_events.specs.declared.steps.Step.TheVariants.{Order}
-use Rattle.trace_events.specs.declared.steps.Goal.{Goal}
-use Rattle.trace_events.specs.Event.{Event}
-use Rattle.trace_events.specs.Past.{Child, is_of, has_child, open_of, is_idle, kept_children, known_children, grace_of, time_of}
-use Rattle.trace_events.specs.Wanted.{is_order, is_excluded}
-use Rattle.trace_events.specs.Spells.{Signal, is_ripe, stop_by, stop_due, is_missed, spell_hits}
-use Rattle.trace_events.specs.Wishes.{wish_stands}
-use Rattle.trace_events.specs.Due.{step_if, steps_if, record_ids, stop_step, stops_of, stops_among, wants_look, can_look, looks_among}
-use Rattle.trace_events.specs.Sound.{is_sound}
-use Rattle.trace_laws.proofs.Orders.{idle_none}
-use Rattle.trace_laws.proofs.Settling.{same_any}
-use Rattle.trace_laws.proofs.Births.{at_moment}
-use Rattle.trace_laws.proofs.Known.{quiet_known, known_single}
-use Rattle.trace_laws.proofs.Stopping.{hits_are, hits_shape, found_holds}
-use Rattle.trace_laws.proofs.Records.{child_in_records}
-use Rattle.core_waiting.specs.Rest.{AtRest, are_in_force, is_stopping, is_looked_at}
+use Rattle.core_waiting.proofs.Words.{◌≡◌, refl, sym, ◌∙◌, ap, ℕ, Bool, true, false, not, ◌&&◌, ◌||◌, cond, List, [], ◌∷◌, ◌++◌, Option, Some, None, is_none, find, list_any, list_all, false≢true, false_from_ne_true, and_parts, and_from, or_left, or_right, or_parts, or_from, not-true, none-some, same_Some, OrderKind, Look, Term, Kill, same_id, same_id-is, same_id-self, both_ways, falsely, not_from, or_either, Passing, passing, Order, Goal, Event, Child, is_of, has_child, open_of, is_idle, kept_children, known_children, grace_of, time_of, is_order, is_excluded, Signal, is_ripe, stop_by, stop_due, is_missed, spell_hits, wish_stands, step_if, steps_if, record_ids, stop_step, stops_of, stops_among, wants_look, can_look, looks_among, is_sound, idle_none, same_any, at_moment, quiet_known, known_single, hits_are, hits_shape, found_holds, child_in_records, AtRest, are_in_force, is_stopping, is_looked_at}
+use Rattle.std.proofs.Common.{is_some}
 use Rattle.core_waiting.proofs.Rest.{Rest, at_rest, nil_parts, none_if, none_of, no_wish, idle_quiet, not_first}
 
 -- every child passes that no child fails

@@ -1,5 +1,4 @@
-use Rattle.std.proofs.Common.{◌≡◌, ◌++◌, length}
-use Rattle.core_waiting.specs.Lines.{answers_text}
+use Rattle.core_waiting.proofs.Words.{◌≡◌, ◌++◌, length, answers_text}
 use Rattle.core_waiting.proofs.lines.add_answers.Given as goal
 
 -- the text so far, and behind it the lines of the records that are left, is the text and the lines of all

@@ -1,6 +1,4 @@
-use Rattle.std.proofs.Common.{◌≡◌, ◌++◌}
-use Rattle.core_waiting.specs.Awaiting.{awaited_by}
-use Rattle.core_waiting.specs.Lines.{ends_text}
+use Rattle.core_waiting.proofs.Words.{◌≡◌, ◌++◌, awaited_by, ends_text}
 use Rattle.core_waiting.proofs.lines.add_ends.Given as goal
 
 -- the text so far, and behind it the lines of the children that are left, is the text and the lines of all

@@ -1,6 +1,4 @@
-use Rattle.std.proofs.Common.{sym, ◌∙◌, ap}
-use Rattle.trace_events.specs.Due.{first}
-use Rattle.core_model.proofs.Deciding.{decide_due}
+use Rattle.core_waiting.proofs.Words.{sym, ◌∙◌, ap, first, decide_due}
 use Rattle.core_waiting.proofs.Idle.{idle_none_due}
 use Rattle.core_waiting.proofs.Rest.{rest_accounted, rest_heard}
 use Rattle.core_waiting.proofs.Settled.{announced_power, announced_spared}

@@ -1,5 +1,4 @@
-use Rattle.std.proofs.Common.{◌≡◌, filter_map, length}
-use Rattle.core_waiting.specs.Awaiting.{awaited_of_record}
+use Rattle.core_waiting.proofs.Words.{◌≡◌, filter_map, length, awaited_of_record}
 use Rattle.core_waiting.proofs.awaited.AwaitedChildrenIterator.next.Given as goal
 
 -- only records were passed by whose child is not awaited
