@@ -24,8 +24,12 @@ few_parents : (ids : List (List ℕ)) (children : List Child)
     → length (filter (λ x. has_child x children) ids) ≤ length children
 few_parents ids [] once = rw (childless ids) (lit≤ tt)
 few_parents ids (child ∷ children) once =
-    grind (arith, few_either (λ x. same_id x child.id) (λ x. has_child x children) ids, once child.id,
-        few_parents ids children once)
+    grind (
+      arith,
+      few_either (λ x. same_id x child.id) (λ x. has_child x children) ids,
+      once child.id,
+      few_parents ids children once,
+    )
 
 -- ---- the ids that left the table
 
@@ -58,18 +62,26 @@ left_once goal past sound = sound_ind goal
         → length (filter (λ x. same_id x id) (left_ids before)) ≤ 1 → (b : Bool)
         → list_any (has_id id) (table_of before) ≡ b
         → length (filter (λ x. same_id x id) (ids_of (table_of before) ++ left_ids before)) ≤ 1
-    both before sound id rest true there = rw
-        (filter-append (λ x. same_id x id) (ids_of (table_of before)) (left_ids before), length-append
-        (filter (λ x. same_id x id) (ids_of (table_of before))) (filter (λ x. same_id x id) (left_ids before)))
-        (grind (arith, table_once (table_of before) id (sound_holds goal before sound).distinct, gone
-            (left_ids before) (left_apart goal before sound id there)))
+    both before sound id rest true there = rw (
+      filter-append (λ x. same_id x id) (ids_of (table_of before)) (left_ids before),
+      length-append
+          (filter (λ x. same_id x id) (ids_of (table_of before))) (filter (λ x. same_id x id) (left_ids before)),
+    )
+        (grind (
+          arith,
+          table_once (table_of before) id (sound_holds goal before sound).distinct,
+          gone
+              (left_ids before) (left_apart goal before sound id there),
+        ))
       where
         gone : (xs : List (List ℕ)) → list_any (same_id id) xs ≡ false → length (filter (λ x. same_id x id) xs) ≡ 0
         gone [] h = refl
         gone (x ∷ xs) h = grind (arith, same_id-sym, gone xs)
-    both before sound id rest false none = rw
-        (filter-append (λ x. same_id x id) (ids_of (table_of before)) (left_ids before), length-append
-        (filter (λ x. same_id x id) (ids_of (table_of before))) (filter (λ x. same_id x id) (left_ids before)))
+    both before sound id rest false none = rw (
+      filter-append (λ x. same_id x id) (ids_of (table_of before)) (left_ids before),
+      length-append
+          (filter (λ x. same_id x id) (ids_of (table_of before))) (filter (λ x. same_id x id) (left_ids before)),
+    )
         (grind (arith, rest, gone (table_of before) none))
       where
         gone : (es : List Entry) → list_any (has_id id) es ≡ false → length (filter (λ x. same_id x id) (ids_of es)) ≡ 0
@@ -120,9 +132,13 @@ pub bounded : (core : CoreState) (goal : Goal) (past : List Event) → is_sound 
 bounded core goal past sound fits = subst
     (λ n. n ≤ length (table_of past) + length (filter (is_without_entry (table_of past)) (known_children past)))
     (sym count)
-    (grind (arith, few_parents (left_ids past) (filter (is_without_entry (table_of past)) (known_children past))
-        (left_once goal past sound), own_parents (table_of past) (known_children past) (left_ids past)
-        (left_gone past (λ id. true))))
+    (grind (
+      arith,
+      few_parents (left_ids past) (filter (is_without_entry (table_of past)) (known_children past))
+          (left_once goal past sound),
+      own_parents (table_of past) (known_children past) (left_ids past)
+          (left_gone past (λ id. true)),
+    ))
   where
     mapped : (ids : List (List ℕ)) → length (map (record_of fits.lasts past) ids) ≡ length ids
     mapped [] = refl

@@ -29,8 +29,8 @@ born_there p id n [] before own is none = grind arith
 born_there p id n (Birth i m ∷ since) before own is none = grind (arith, born_there p id n since before)
 born_there p id n (Reaped i m status ∷ since) before own is none =
     any_within p (λ child. not (is_child i m child))
-        (λ child has. ap not (other_child id i n m child (grind arith) (own child has)))
-        (unreaped_children (since ++ Birth id n ∷ before))
+    (λ child has. ap not (other_child id i n m child (grind arith) (own child has)))
+    (unreaped_children (since ++ Birth id n ∷ before))
     ∙ born_there p id n since before own is (grind arith)
 born_there p id n (happening ∷ since) before own is none = born_there p id n since before own is none
 
@@ -115,10 +115,10 @@ was_born p (Birth i m ∷ past) there = at (was_born p past) (p (newborn i m pas
 was_born p (Reaped i m status ∷ past) there =
     let all : Child → Bool = λ child. not (is_child i m child) && p child in
     let b = was_born all past (sym (any_filter p (λ child. not (is_child i m child)) (unreaped_children past))
-        ∙ there) in
+    ∙ there) in
     born_later p all (Reaped i m status) past b
-        (λ h. (and_parts (not (is_child i m (newborn b.id b.number b.before)))
-        (p (newborn b.id b.number b.before)) h).1) (other b)
+    (λ h. (and_parts (not (is_child i m (newborn b.id b.number b.before)))
+    (p (newborn b.id b.number b.before)) h).1) (other b)
   where
     other : (b : Born (λ child. not (is_child i m child) && p child) past)
         → is_reaping_of b.id b.number (Reaped i m status) ≡ false
@@ -130,15 +130,15 @@ was_born p (Reaped i m status ∷ past) there =
         same h =
             let two = and_parts (same_id b.id i) (b.number == m) h in
             and_from (same_id i b.id) (m == b.number)
-                (subst (λ x. same_id x b.id ≡ true) (same_id-is b.id i two.0) (same_id-self b.id))
-                (grind (arith, two.1))
+            (subst (λ x. same_id x b.id ≡ true) (same_id-is b.id i two.0) (same_id-self b.id))
+            (grind (arith, two.1))
 was_born p (happening ∷ past) there = born_later p p happening past (was_born p past there) (λ h. h) refl
 
 pub has_child_of : (id : List ℕ) (past : List Event) → has_child id (unreaped_children past) ≡ true → HasChild id past
 has_child_of id past there =
     let b = was_born (is_of id) past there in
     subst (λ i. HasChild i past) (sym (same_id-is id b.id b.is))
-        (record { number = b.number; since = b.since; before = b.before; born = b.born; unreaped = b.unreaped })
+    (record { number = b.number; since = b.since; before = b.before; born = b.born; unreaped = b.unreaped })
 
 -- ---- starts and ends
 
@@ -151,8 +151,13 @@ pub record Ordered (id : List ℕ) (past : List Event) : Type 0 where
 ordered_later : (id : List ℕ) (happening : Event) (past : List Event) → (o : Ordered id past)
     → keeps_entry id (happening ∷ o.since) (Asked id Start ∷ o.before) ≡ true → Ordered id (happening ∷ past)
 ordered_later id happening past o kept =
-    record { since = happening ∷ o.since; before = o.before; ordered = ap (λ xs. happening ∷ xs) o.ordered; kept =
-    kept }
+    record {
+      since = happening ∷ o.since;
+      before = o.before;
+      ordered = ap (λ xs. happening ∷ xs) o.ordered;
+      kept =
+          kept;
+    }
 
 pub was_ordered : (id : List ℕ) (past : List Event) → is_asked id past ≡ true → Ordered id past
 was_ordered id [] asked = absurd (false≢true asked)
@@ -162,8 +167,8 @@ was_ordered id (NewTable table ∷ past) asked =
     let o = was_ordered id past two.1 in
     ordered_later id (NewTable table) past o
     (and_from (not (brings id table (table_of (o.since ++ Asked id Start ∷ o.before))))
-        (keeps_entry id o.since (Asked id Start ∷ o.before))
-        (subst (λ xs. not (brings id table (table_of xs)) ≡ true) o.ordered two.0) o.kept)
+    (keeps_entry id o.since (Asked id Start ∷ o.before))
+    (subst (λ xs. not (brings id table (table_of xs)) ≡ true) o.ordered two.0) o.kept)
 was_ordered id (Asked i Start ∷ past) asked = at (was_ordered id past) (same_id id i) refl asked
   where
     at : (is_asked id past ≡ true → Ordered id past) → (b : Bool) → same_id id i ≡ b → (b || is_asked id past) ≡ true
@@ -199,7 +204,7 @@ order_told goal id (Told i ∷ since) before sound free = at
 order_told goal id (Asked i ask ∷ since) before sound free =
     let step = sound_step goal (Asked i ask) (since ++ Asked id Start ∷ before) refl sound in
     at (order_told goal id since before step.1) (same_id id i) refl free
-        (asked_free goal i ask (since ++ Asked id Start ∷ before) step.0)
+    (asked_free goal i ask (since ++ Asked id Start ∷ before) step.0)
   where
     at : (is_order Start (open_of id (since ++ Asked id Start ∷ before)) ≡ false
         → list_any (is_told_of id) since ≡ true) → (b : Bool) → same_id id i ≡ b
@@ -228,17 +233,22 @@ was_started goal id past sound asked free =
 ended_later : (id : List ℕ) (n : ℕ) (happening : Event) (since : List Event) → WasEnded id n since
     → WasEnded id n (happening ∷ since)
 ended_later id n happening since e =
-    record { later = happening ∷ e.later; between = e.between; told = ap (λ xs. happening ∷ xs) e.told; reaped =
-    e.reaped }
+    record {
+      later = happening ∷ e.later;
+      between = e.between;
+      told = ap (λ xs. happening ∷ xs) e.told;
+      reaped =
+          e.reaped;
+    }
 
 pub kept_or_ended : (id : List ℕ) (n : ℕ) (since before : List Event)
     → (has_child id (kept_children (since ++ Birth id n ∷ before)) ≡ true) ⊎ WasEnded id n since
 kept_or_ended id n [] before = inl
     (subst (λ b. (b || has_child id (kept_children before)) ≡ true) (sym (same_id-self id)) refl)
 kept_or_ended id n (Birth i m ∷ since) before = elim (kept_or_ended id n since before) [
-    inl there ↦ inl (grind (arith, there))
+  | inl there ↦ inl (grind (arith, there))
   | inr ended ↦ inr (ended_later id n (Birth i m) since ended)
-  ]
+]
 kept_or_ended id n (Told i ∷ since) before = at (kept_or_ended id n since before) (same_id id i) refl
     (list_any (is_reaping_of id n) since) refl
   where
@@ -262,7 +272,7 @@ kept_or_ended id n (Told i ∷ since) before = at (kept_or_ended id n since befo
         own child is =
             let one = (and_parts (same_id id child.id) (n == child.number) is).0 in
             and_from (same_id i child.id) (same_id id child.id)
-                (subst (λ x. same_id x child.id ≡ true) (same_id-is id i same) one) one
+            (subst (λ x. same_id x child.id ≡ true) (same_id-is id i same) one) one
     at (inl there) false other r reaped = inl
         (told_finds (is_of id) i (unreaped_children past) (kept_children past)
         (inr (any_less (is_of id) (λ child. not (is_of i child) && is_of id child) apart (kept_children past) there)))
@@ -273,9 +283,9 @@ kept_or_ended id n (Told i ∷ since) before = at (kept_or_ended id n since befo
             (falsely (same_id i child.id) (same_id id i)
             (λ also. subst (λ x. same_id id x ≡ true) (sym (same_id-is i child.id also)) is) other)) is
 kept_or_ended id n (happening ∷ since) before = elim (kept_or_ended id n since before) [
-    inl there ↦ inl there
+  | inl there ↦ inl there
   | inr ended ↦ inr (ended_later id n happening since ended)
-  ]
+]
 
 -- ---- what is owed, served, settled
 
@@ -294,10 +304,10 @@ through goal past sound e waited free = record { ended = ended; started = starte
     ended : (number : ℕ) (since before : List Event) → past ≡ since ++ Birth e.id number ∷ before
         → WasEnded e.id number since
     ended number since before born = elim (kept_or_ended e.id number since before) [
-        inl there ↦ absurd (false≢true
-            (sym childless ∙ subst (λ xs. has_child e.id (kept_children xs) ≡ true) (sym born) there))
+      | inl there ↦ absurd (false≢true
+          (sym childless ∙ subst (λ xs. has_child e.id (kept_children xs) ≡ true) (sym born) there))
       | inr over ↦ over
-      ]
+    ]
       where
         childless : has_child e.id (kept_children past) ≡ false
         childless = grind (arith, none)
@@ -314,7 +324,7 @@ through goal past sound e waited free = record { ended = ended; started = starte
         asked = twice (is_asked e.id past)
             (sym (at_entry_wanted e.act (nothing_runs e.id past) (not (is_asked e.id past)) (is_called e past) entry)
             ∙ ap (λ b. b && wanted_by e.act (nothing_runs e.id past) (not (is_asked e.id past)) (is_called e past))
-                (sym (ap (starts_in e) is ∙ starts)) ∙ unwanted)
+            (sym (ap (starts_in e) is ∙ starts)) ∙ unwanted)
           where
             twice : (b : Bool) → not b ≡ false → b ≡ true
             twice b h = grind arith
@@ -349,8 +359,14 @@ record Held (id : List ℕ) (p : ℕ → Bool) (past : List Event) : Type 0 wher
 held_later : (id : List ℕ) (p : ℕ → Bool) (happening : Event) (past : List Event) → (h : Held id p past)
     → (is_steady h.since ≡ true → is_steady (happening ∷ h.since) ≡ true) → Held id p (happening ∷ past)
 held_later id p happening past h steady =
-    record { since = happening ∷ h.since; before = h.before; held = ap (λ xs. happening ∷ xs) h.held; steady =
-    steady h.steady; is = h.is }
+    record {
+      since = happening ∷ h.since;
+      before = h.before;
+      held = ap (λ xs. happening ∷ xs) h.held;
+      steady =
+          steady h.steady;
+      is = h.is;
+    }
 
 was_held : (id : List ℕ) (p : ℕ → Bool) (past : List Event) → list_any p (hold_times id past) ≡ true → Held id p past
 was_held id p [] there = absurd (false≢true there)
@@ -382,12 +398,18 @@ served goal past sound idle level act.Once levels id starts is = was_started goa
     (ap (is_order Start) (idle_none id past idle))
 served goal past sound idle level act.Respawn levels id starts is =
     or_either (has_child id (unreaped_children past)) (is_held id past) (grind arith)
-        (λ there. inl (has_child_of id past there))
+    (λ there. inl (has_child_of id past there))
     (λ held. inr (lately (was_held id (λ began. nat_lt (time_of past) (began + HOLD)) past held)))
   where
     lately : Held id (λ began. nat_lt (time_of past) (began + HOLD)) past → WasHeld id past
-    lately h = record { since = h.since; before = h.before; held = h.held; steady = h.steady; lately = ltb-true
-        (time_of past) (time_of h.before + HOLD) h.is }
+    lately h = record {
+      since = h.since;
+      before = h.before;
+      held = h.held;
+      steady = h.steady;
+      lately = ltb-true
+          (time_of past) (time_of h.before + HOLD) h.is;
+    }
 served goal past sound idle level _ levels id starts is = tt
 
 -- a level that is settled is reached
@@ -418,7 +440,7 @@ reached goal past level sound idle settled = record {
         (not (names (At level) e.levels.items)
         || served_by e.act (is_asked e.id past) (has_child e.id (unreaped_children past) || is_held e.id past))
         (all_at (is_served level (unreaped_children past) past) front rest e
-            (subst (λ es. list_all (is_served level (unreaped_children past) past) es ≡ true) table all.1))
+        (subst (λ es. list_all (is_served level (unreaped_children past) past) es ≡ true) table all.1))
 
     in_stage : (now : Option Stage) → is_level level now ≡ true → now ≡ Some (Run level)
     in_stage now is = grind arith

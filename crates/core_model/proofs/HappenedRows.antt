@@ -9,12 +9,22 @@ use Rattle.trace_events.specs.Wanted.{is_excluded}
 use Rattle.core_model.proofs.Happened.{birth_lives, birth_through, settle_reached}
 
 abbrev wait : Entry
-wait = record { id = codes "w"; levels = record { items = At level.L3 ∷ [] }; act = act.Wait; process =
-    record { items = codes "prep" } }
+wait = record {
+  id = codes "w";
+  levels = record { items = At level.L3 ∷ [] };
+  act = act.Wait;
+  process =
+      record { items = codes "prep" };
+}
 
 abbrev service : Entry
-service = record { id = codes "s"; levels = record { items = At level.L3 ∷ [] }; act = act.Respawn; process =
-    record { items = codes "serve" } }
+service = record {
+  id = codes "s";
+  levels = record { items = At level.L3 ∷ [] };
+  act = act.Respawn;
+  process =
+      record { items = codes "serve" };
+}
 
 abbrev goal : Goal
 goal = record { level = level.L3; grace = 5 }

@@ -149,8 +149,18 @@ module _ (lasts : LastStatuses) (goal : Goal) (table : List Entry) (past : List 
 
   adopted_same : (e : Entry) → adopted e (record_by_id e.id (records_of lasts past)) ≡ entered_record e
   adopted_same e =
-      grind (arith, found_record, last_kept, no_record, falsely, child_in_records, find_none, both_ways,
-          open_in_records, listed_record)
+      grind (
+        arith,
+        found_record,
+        last_kept,
+        no_record,
+        falsely,
+        child_in_records,
+        find_none,
+        both_ways,
+        open_in_records,
+        listed_record,
+      )
 
   entry_same : (e : Entry) → entry_of e.id table ≡ Some e → judged_by (stage_of past) table (adopted e (record_by_id e.id (records_of lasts past))) ≡ record_of later next e.id
   entry_same e found = ap (judged_by (stage_of past) table) (adopted_same e) ∙ judged_record (stage_of past) refl e.id (entered_record e) refl refl refl refl ∙ (λ i. record (record_of later next e.id) { table_act = option_map (λ (x : Entry). x.act) (sym found i); asked = asked_same e found i; called = never (entry_of e.id table) i; limiter = unused_same (entry_of e.id table) i })

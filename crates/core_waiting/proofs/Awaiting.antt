@@ -26,7 +26,6 @@ no_more p (x ∷ xs) = grind (arith, no_more p xs)
 
 -- the first of the awaited that has the id is the first with the id that is awaited
 module _ {X : Type 0} (p q : X → Bool) where
-
   found_filter : (xs : List X) → find p (filter q xs) ≡ find q (filter p xs)
   found_filter [] = grind arith
   found_filter (x ∷ xs) = grind (arith, found_filter xs)

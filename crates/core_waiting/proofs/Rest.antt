@@ -170,8 +170,24 @@ spared_known past none = falsely (list_any (is_excluded past) (known_children pa
 
 pub announced_or_awaited : (goal : Goal) (past : List Event) → is_sound goal past ≡ true → AtRest goal past → is_idle past ≡ true → list_any (is_awaited past) (kept_children past) ≡ false → is_level_announced past ≡ true
 announced_or_awaited goal past sound h idle none =
-    grind (arith, at_rest, idle_quiet, no_wish, falsely, excluded_awaited, room_awaited, sound_holds, all_still,
-        none_of, over_by, same_level-self, spared_known, all_served, true_from_ne_false, none_if)
+    grind (
+      arith,
+      at_rest,
+      idle_quiet,
+      no_wish,
+      falsely,
+      excluded_awaited,
+      room_awaited,
+      sound_holds,
+      all_still,
+      none_of,
+      over_by,
+      same_level-self,
+      spared_known,
+      all_served,
+      true_from_ne_false,
+      none_if,
+    )
 
 -- as tests, at each rest
 three : (idle announced empty awaited : Bool) → (idle ≡ true → awaited ≡ false → announced ≡ true) → (awaited ≡ true → empty ≡ false) → (not idle || announced || not empty) ≡ true

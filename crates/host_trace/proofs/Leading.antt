@@ -44,8 +44,16 @@ module _ (goal : Goal) where
 
   pub after_allowed : (call : HostCall) (p : Point) → is_allowed goal (after call p).past ≡ true → is_allowed goal p.past ≡ true
   after_allowed call p h =
-      grind (arith, ordered_allowed, come_allowed, nudged_allowed, allowed_rest, bytes_allowed, handed_allowed,
-          announced_allowed)
+      grind (
+        arith,
+        ordered_allowed,
+        come_allowed,
+        nudged_allowed,
+        allowed_rest,
+        bytes_allowed,
+        handed_allowed,
+        announced_allowed,
+      )
 
   pub calls_allowed : (calls : List HostCall) (p : Point) → is_allowed goal (point_after calls p).past ≡ true → is_allowed goal p.past ≡ true
   calls_allowed [] p h = h
