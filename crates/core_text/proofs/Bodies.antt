@@ -1,31 +1,8 @@
 -- The lines before the last: what is read of them, and that nothing else is; and a text split at its last line.
-use Rattle.std.proofs.Common.{◌≡◌, ◌≢◌, ℕ, zero, suc, ◌-◌, ◌<◌, ◌^◌, Bool, true, false, cond, not, ◌&&◌, ◌==◌, List, [], ◌∷◌, ◌++◌, length, take, map, append-nil, codes, Option, Some, None, Result, Ok, Err, refl, sym, ap, ◌∙◌, subst, arith, lit<}
-use Rattle.std.specs.List.{list_all, starts_with}
+use Rattle.core_text.proofs.Words.{◌≡◌, ◌≢◌, ℕ, zero, suc, ◌-◌, Bool, true, false, cond, not, ◌&&◌, ◌==◌, List, [], ◌∷◌, ◌++◌, length, take, map, append-nil, codes, Option, Some, None, Result, Ok, Err, refl, sym, ap, ◌∙◌, subst, arith, list_all, starts_with, and_parts, and_from, lt-ltb, not-true, append_assoc, list_all-append, option_and_then_some, same_Some, some_pair_parts, after_lines, cut, has_byte, newlines, cut-append, cut-parts, newlines-append, newlines-line, take-front, Entry, table_parts, option_map_some, one_line, parts, fields_written, is_empty, is_table, is_written, CoreFields, StateFault, PlainRecord, SavedState, Version, holds_table, body_lines, head_lines, slot_line, table_line, text_of_lines, version_line, are_heads, is_record, is_state, OnLine, end_split, heads_read, last_line, table_read, version_read, AreRecords, IsBody, IsBodyIn, NoBody, NoRecords, RefusedBody, is_line}
 use Rattle.std.specs.Option.{option_map}
 use Rattle.std.specs.Result.{IfErr, IsErrAnd, MatchResult}
-use Rattle.std.proofs.lemmas.Bool.{and_parts, and_from, lt-ltb, not-true}
-use Rattle.std.proofs.lemmas.List.{append_assoc}
-use Rattle.std.proofs.lemmas.List.Folds.{list_all-append}
-use Rattle.std.proofs.lemmas.Option.{option_and_then_some, same_Some, some_pair_parts}
-use Rattle.text_lines.specs.Lines.{after_lines, cut, has_byte, newlines}
-use Rattle.text_lines.proofs.CutLemmas.{cut-append, cut-parts}
-use Rattle.text_lines.proofs.PieceLemmas.{newlines-append, newlines-line, take-front}
-use Rattle.init_words.specs.declared.entries.Entry.{Entry}
-use Rattle.inittab_text.proofs.Entries.{table_parts}
-use Rattle.inittab_text.proofs.ReadLemmas.{option_map_some}
-use Rattle.inittab_text.proofs.WriteLemmas.{one_line, parts}
-use Rattle.inittab_text.specs.Written.{fields_written, is_empty, is_table, is_written}
-use Rattle.core_model.specs.declared.parts.CoreFields.{CoreFields}
-use Rattle.core_text.specs.declared.state_fault.StateFault.{StateFault}
 use Rattle.core_text.specs.declared.state_fault.StateFault.TheVariants as fault
-use Rattle.core_model.specs.declared.parts.PlainRecord.{PlainRecord}
-use Rattle.core_model.specs.Parts.{SavedState}
-use Rattle.core_text.specs.declared.versions.Version.{Version}
-use Rattle.core_text.specs.Versions.{holds_table}
-use Rattle.core_text.specs.Lines.{body_lines, head_lines, slot_line, table_line, text_of_lines, version_line}
-use Rattle.core_text.specs.Range.{are_heads, is_record, is_state}
-use Rattle.core_text.specs.Reading.{OnLine, end_split, heads_read, last_line, table_read, version_read}
-use Rattle.core_text.specs.Refused.{AreRecords, IsBody, IsBodyIn, NoBody, NoRecords, RefusedBody, is_line}
 use Rattle.core_text.proofs.LineForms.{head_lines_are, heads_front, more_lines_are, slot_line_lacks, version_front}
 use Rattle.core_text.proofs.Whole.{records_text, table_back, table_own, table_text}
 use Rattle.core_text.proofs.WordForms.{time_lacks, version_lacks}
@@ -93,11 +70,7 @@ pub record Kept (v : Version) (state : SavedState) : Type 0 where
   pub records : list_all (is_record v) state.records ≡ true
 
 pub state_parts : (v : Version) (state : SavedState) → is_state v state ≡ true → Kept v state
-state_parts v state is =
-    let both = and_parts (are_heads state.heads && (is_table state.table && holds_table v state.table)) (list_all (is_record v) state.records) is in
-    let first = and_parts (are_heads state.heads) (is_table state.table && holds_table v state.table) both.0 in
-    let table = and_parts (is_table state.table) (holds_table v state.table) first.1 in
-    record { heads = first.0; table = table.0; holds = table.1; records = both.1 }
+state_parts v state is = grind arith
 
 -- what is read of the text of a state, and of more behind it
 pub record Steps (v : Version) (state : SavedState) (text more : List ℕ) : Type 0 where
@@ -152,8 +125,7 @@ no_heads v text first at none = (
 -- behind the heads
 pub to_heads : (v : Version) (state : SavedState) (text first second : List ℕ) (heads : CoreFields) → version_read text ≡ Some (v, first) → heads_read first ≡ Some (heads, second) → Steps v state text []
     → (heads ≡ state.heads) × (second ≡ table_text state.table ++ (records_text v state.records ++ []))
-to_heads v state text first second heads at found read =
-    some_pair_parts heads state.heads second (table_text state.table ++ (records_text v state.records ++ [])) (sym found ∙ ap heads_read (behind_version v state text first at read) ∙ read.heads)
+to_heads v state text first second heads at found read = grind arith
 
 pub no_table : (v : Version) (text first second : List ℕ) (heads : CoreFields) → version_read text ≡ Some (v, first) → heads_read first ≡ Some (heads, second) → table_read v second ≡ None → (version_read text ≢ None) × NoBody text
 no_table v text first second heads at found none = (
@@ -194,18 +166,12 @@ is_body v text first second third heads table records at found then are =
 
 -- lines without newlines
 pub newlines_are : (lines : List (List ℕ)) → list_all is_line lines ≡ true → newlines (text_of_lines lines) ≡ length lines
-newlines_are [] are = refl
-newlines_are (line ∷ lines) are =
-    let both = and_parts (is_line line) (list_all is_line lines) are in
-    newlines-append (line ++ 10 ∷ []) (text_of_lines lines) ∙ omega (arith, newlines-line line (not-true (has_byte 10 line) both.0), newlines_are lines both.1)
+newlines_are [] are = grind (arith, newlines-append, newlines-line, not-true)
+newlines_are (line ∷ lines) are = grind (arith, newlines_are lines, newlines-append, newlines-line, not-true)
 
 after_these : (lines : List (List ℕ)) (rest : List ℕ) → list_all is_line lines ≡ true → after_lines (length lines) (text_of_lines lines ++ rest) ≡ Some rest
-after_these [] rest are = refl
-after_these (line ∷ lines) rest are =
-    let both = and_parts (is_line line) (list_all is_line lines) are in
-    let regrouped : ((line ++ 10 ∷ []) ++ text_of_lines lines) ++ rest ≡ line ++ 10 ∷ (text_of_lines lines ++ rest) =
-    append_assoc (line ++ 10 ∷ []) (text_of_lines lines) rest ∙ append_assoc line (10 ∷ []) (text_of_lines lines ++ rest) in
-    rw (regrouped, cut-append 10 line (text_of_lines lines ++ rest) (not-true (has_byte 10 line) both.0)) (after_these lines rest both.1)
+after_these [] rest are = grind (arith, append_assoc, cut-append, not-true)
+after_these (line ∷ lines) rest are = grind (arith, after_these lines rest, append_assoc, cut-append, not-true)
 
 -- the lines that stand before the rest
 record Lined (text rest : List ℕ) : Type 0 where
@@ -247,8 +213,7 @@ last_own rest last found =
     option_and_then_some (λ (parts : List ℕ × List ℕ). cond (is_empty parts.1 && starts_with ◌==◌ parts.0 (codes "end ")) (Some parts.0) None) (cut 10 rest) last found (λ parts at chosen. by parts at (is_empty parts.1 && starts_with ◌==◌ parts.0 (codes "end ")) refl chosen)
   where
     empty : (xs : List ℕ) → is_empty xs ≡ true → xs ≡ []
-    empty [] e = refl
-    empty (x ∷ xs) e = absurd (cc)
+    empty xs e = grind arith
 
     by : (parts : List ℕ × List ℕ) → cut 10 rest ≡ Some parts → (b : Bool) → is_empty parts.1 && starts_with ◌==◌ parts.0 (codes "end ") ≡ b → cond b (Some parts.0) None ≡ Some last
         → (last ++ 10 ∷ [] ≡ rest) × (is_line last ≡ true) × (starts_with ◌==◌ last (codes "end ") ≡ true)
@@ -293,10 +258,16 @@ slots_are v (r ∷ records) are =
 
 pub body_lines_are : (v : Version) (state : SavedState) → is_state v state ≡ true → list_all is_line (body_lines v state) ≡ true
 body_lines_are v state is =
-    let known = state_parts v state is in
-    let table = table_parts state.table known.table in
-    let counts : length state.table < 2 ^ 64 = omega (arith, table.0) in
-    let end = list_all-append is_line (map fields_written state.table) (map (slot_line v) state.records) ∙ and_from _ _ (entries_are state.table table.2) (slots_are v state.records known.records) in
-    let tail = more_lines_are (table_line (length state.table)) (map fields_written state.table ++ map (slot_line v) state.records) (time_lacks 10 (lit< tt) (length state.table) (lt-ltb (length state.table) (2 ^ 64) counts)) end in
-    more_lines_are (version_line v) (head_lines state.heads ++ (table_line (length state.table) ∷ (map fields_written state.table ++ map (slot_line v) state.records))) (version_lacks v refl)
-    (list_all-append is_line (head_lines state.heads) (table_line (length state.table) ∷ (map fields_written state.table ++ map (slot_line v) state.records)) ∙ and_from _ _ (head_lines_are state.heads known.heads) tail)
+    grind (
+      arith,
+      state_parts,
+      table_parts,
+      list_all-append,
+      entries_are,
+      slots_are,
+      more_lines_are,
+      time_lacks,
+      lt-ltb,
+      version_lacks,
+      head_lines_are,
+    )

@@ -1,29 +1,7 @@
 -- No line of a state's text but the last begins with `end `: so no text that is cut short is whole.
-use Rattle.std.proofs.Common.{◌≡◌, ℕ, zero, suc, ◌+◌, ◌/◌, ◌%◌, ◌<◌, Bool, true, false, cond, not, ◌==◌, nat_lt, List, [], ◌∷◌, ◌++◌, length, drop, map, codes, decimal, refl, sym, ap, ◌∙◌, subst, arith, lit<, length-append}
+use Rattle.core_text.proofs.Words.{◌≡◌, ℕ, zero, suc, ◌+◌, ◌/◌, ◌%◌, ◌<◌, Bool, true, false, cond, not, ◌==◌, nat_lt, List, [], ◌∷◌, ◌++◌, length, drop, map, codes, decimal, refl, sym, ap, ◌∙◌, subst, arith, lit<, length-append, list_all, starts_with, and_parts, ne_eqb, not-true, or_from, append_assoc, list_all-append, some_pair_parts, starts_is, cut, has_byte, cut-append, Entry, word_of, is_id_byte, id_parts, table_parts, parts, fields_written, is_written, levels_written, PlainRecord, SavedState, Version, body_lines, end_line, slot_line, text_of_lines, is_state, IsTextOf, Whole, is_line}
 use Rattle.std.specs.Fmt.{digit_glyph, digits, digits_onto}
-use Rattle.std.specs.List.{list_all, starts_with}
-use Rattle.std.proofs.lemmas.Bool.{and_parts, and_from, ne_eqb, not-true, or_from}
 use Rattle.std.proofs.lemmas.Bool.Decides.{Decides-eqb}
-use Rattle.std.proofs.lemmas.List.{append_assoc}
-use Rattle.std.proofs.lemmas.List.Folds.{list_all-append}
-use Rattle.std.proofs.lemmas.Option.{some_pair_parts}
-use Rattle.std.proofs.lemmas.Slice.Eq.{starts_is}
-use Rattle.text_lines.specs.Lines.{cut, has_byte}
-use Rattle.text_lines.proofs.CutLemmas.{cut-append}
-use Rattle.init_words.specs.declared.entries.Entry.{Entry}
-use Rattle.init_words.specs.Actions.{word_of}
-use Rattle.init_words.specs.Ids.{is_id_byte}
-use Rattle.init_words.proofs.IdParts.{id_parts}
-use Rattle.inittab_text.proofs.Entries.{table_parts}
-use Rattle.inittab_text.proofs.WriteLemmas.{parts}
-use Rattle.inittab_text.specs.Written.{fields_written, is_written, levels_written}
-use Rattle.core_model.specs.declared.parts.PlainRecord.{PlainRecord}
-use Rattle.core_model.specs.Parts.{SavedState}
-use Rattle.core_text.specs.declared.versions.Version.{Version}
-use Rattle.core_text.specs.declared.versions.Version.TheVariants.{V1, V2}
-use Rattle.core_text.specs.Lines.{body_lines, end_line, slot_line, text_of_lines}
-use Rattle.core_text.specs.Range.{is_state}
-use Rattle.core_text.specs.Refused.{IsTextOf, Whole, is_line}
 use Rattle.core_text.proofs.Bodies.{body_lines_are, state_parts}
 use Rattle.core_text.proofs.Taken.{whole_text}
 
@@ -63,25 +41,18 @@ entry_inner e written = by (starts_with ◌==◌ (fields_written e) (codes "end 
     by false starts = refl
 
 entries_inner : (table : List Entry) → list_all is_written table ≡ true → list_all is_inner (map fields_written table) ≡ true
-entries_inner [] are = refl
-entries_inner (e ∷ table) are =
-    let both = and_parts (is_written e) (list_all is_written table) are in
-    and_from (is_inner (fields_written e)) (list_all is_inner (map fields_written table)) (entry_inner e both.0) (entries_inner table both.1)
+entries_inner [] are = grind (arith, entry_inner)
+entries_inner (e ∷ table) are = grind (arith, entries_inner table, entry_inner)
 
 slots_inner : (v : Version) (records : List PlainRecord) → list_all is_inner (map (slot_line v) records) ≡ true
-slots_inner v [] = refl
-slots_inner V1 (r ∷ records) = slots_inner V1 records
-slots_inner V2 (r ∷ records) = slots_inner V2 records
+slots_inner v [] = grind arith
+slots_inner v (r ∷ records) = grind (arith, slots_inner v records)
 
 lines_inner : (v : Version) (state : SavedState) → is_state v state ≡ true → list_all is_inner (map fields_written state.table ++ map (slot_line v) state.records) ≡ true
-lines_inner v state is =
-    let table = (table_parts state.table (state_parts v state is).table).2 in
-    list_all-append is_inner (map fields_written state.table) (map (slot_line v) state.records)
-    ∙ and_from (list_all is_inner (map fields_written state.table)) (list_all is_inner (map (slot_line v) state.records)) (entries_inner state.table table) (slots_inner v state.records)
+lines_inner v state is = grind (arith, table_parts, state_parts, list_all-append, entries_inner, slots_inner)
 
 body_inner : (v : Version) (state : SavedState) → is_state v state ≡ true → list_all is_inner (body_lines v state) ≡ true
-body_inner V1 state is = lines_inner V1 state is
-body_inner V2 state is = lines_inner V2 state is
+body_inner v state is = grind (arith, lines_inner)
 
 -- ---- the last line
 

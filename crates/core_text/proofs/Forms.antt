@@ -1,19 +1,6 @@
 -- Written forms that are read exactly: what is written is read as it was, and what is read is written so.
-use Rattle.std.proofs.Common.{◌≡◌, ◌⊎◌, inl, inr, ℕ, Bool, true, false, cond, ◌&&◌, ◌==◌, List, [], ◌∷◌, ◌++◌, Option, Some, None, refl, sym, ap, ◌∙◌, subst}
+use Rattle.core_text.proofs.Words.{arith, ◌≡◌, ◌⊎◌, inl, inr, ℕ, Bool, true, false, cond, ◌&&◌, ◌==◌, List, [], ◌∷◌, ◌++◌, Option, Some, None, refl, sym, ap, ◌∙◌, subst, and_parts, and_from, or_from, eqb-true, append_assoc, option_and_then_some, same_Some, cut, has_byte, cut-parts, cut-append, has_byte-append, same_id, same_id-is, same_id-self, option_map_some, both, both_some, bit, or_word, passes, checked_by, pair, pair_read, behind, named_read, or_read, bit_read, first_bit, line_read, then_read, made_read}
 use Rattle.std.specs.Option.{option_map}
-use Rattle.std.proofs.lemmas.Bool.{and_parts, and_from, or_from, eqb-true}
-use Rattle.std.proofs.lemmas.List.{append_assoc}
-use Rattle.std.proofs.lemmas.Option.{option_and_then_some, same_Some}
-use Rattle.text_lines.specs.Lines.{cut, has_byte}
-use Rattle.text_lines.proofs.CutLemmas.{cut-parts, cut-append, has_byte-append}
-use Rattle.init_words.specs.Ids.{same_id}
-use Rattle.init_words.proofs.Same.{same_id-is, same_id-self}
-use Rattle.inittab_text.proofs.ReadLemmas.{option_map_some}
-use Rattle.trace_text.specs.Reading.{both}
-use Rattle.trace_text.proofs.LineWords.{both_some}
-use Rattle.core_text.specs.Lines.{bit, or_word}
-use Rattle.core_text.specs.Range.{passes}
-use Rattle.core_text.specs.Reading.{checked_by, pair, pair_read, behind, named_read, or_read, bit_read, first_bit, line_read, then_read, made_read}
 
 pub record Form {X : Type 0} (ok : X → Bool) (write : X → List ℕ) (read : List ℕ → Option X) : Type 0 where
   pub back : (x : X) → ok x ≡ true → read (write x) ≡ Some x
@@ -54,10 +41,7 @@ pair_form {X} {Y} mark okx wx rx oky wy ry first lacks second = record {
 }
   where
     joined : (text : List ℕ) (parts : List ℕ × List ℕ) (x : X) (y : Y) → cut mark text ≡ Some parts → rx parts.0 ≡ Some x → ry parts.1 ≡ Some y → (wx x ++ mark ∷ wy y ≡ text) × (okx x && oky y ≡ true)
-    joined text parts x y at xs ys =
-        let one = first.own parts.0 x xs in
-        let two = second.own parts.1 y ys in
-        (rw (one.0, two.0) (sym (cut-parts mark text parts.0 parts.1 at).0), and_from (okx x) (oky y) one.1 two.1)
+    joined text parts x y at xs ys = grind (arith, cut-parts)
 
 pub pair_lacks : {X Y : Type 0} (byte mark : ℕ) (okx : X → Bool) (wx : X → List ℕ) (oky : Y → Bool) (wy : Y → List ℕ)
     → (mark == byte) ≡ false → Lacks byte okx wx → Lacks byte oky wy → Lacks byte (λ (p : X × Y). okx p.0 && oky p.1) (λ (p : X × Y). wx p.0 ++ mark ∷ wy p.1)
@@ -102,15 +86,7 @@ made_form {X} {Y} make parts okx oky wx wy read undo redo tested written form = 
 -- a word that says that there is none, or another
 or_back : {X : Type 0} (none : List ℕ) (ok : X → Bool) (write : X → List ℕ) (read : List ℕ → Option X) → read none ≡ None → Form ok write read
     → (o : Option X) → passes ok o ≡ true → or_read none read (or_word none write o) ≡ Some o
-or_back {X = X} none ok write read never form None is = rw (same_id-self none) refl
-or_back {X = X} none ok write read never form (Some x) is = by (same_id (write x) none) refl
-  where
-    by : (b : Bool) → same_id (write x) none ≡ b → cond b (Some None) (option_map Some (read (write x))) ≡ Some (Some x)
-    by true same = absurd (lost (sym never ∙ ap read (sym (same_id-is (write x) none same)) ∙ form.back x is))
-      where
-        lost : ◌≡◌ {A = Option X} None (Some x) → ⊥
-        lost e = cc
-    by false same = rw (form.back x is) refl
+or_back none ok write read h never form holds = grind (arith, same_id-self, same_id-is)
 
 or_own : {X : Type 0} (none : List ℕ) (ok : X → Bool) (write : X → List ℕ) (read : List ℕ → Option X) → Form ok write read
     → (word : List ℕ) (o : Option X) → or_read none read word ≡ Some o → (or_word none write o ≡ word) × (passes ok o ≡ true)
@@ -158,10 +134,7 @@ first_bit_form {X} ok write read form = record {
 }
   where
     owned : (word : List ℕ) (p : Bool × X) → first_bit read word ≡ Some p → (bit p.0 ∷ write p.1 ≡ word) × (ok p.1 ≡ true)
-    owned [] p is = absurd (cc)
-    owned (byte ∷ word) p is = both_some pair (bit_read byte) (read word) p is (λ flag x at found same.
-        let own = form.own word x found in
-        subst (λ (q : Bool × X). (bit q.0 ∷ write q.1 ≡ byte ∷ word) × (ok q.1 ≡ true)) same (rw (bit_own byte flag at, own.0) refl, own.1))
+    owned word p is = grind arith
 
 pub first_bit_lacks : {X : Type 0} (byte : ℕ) (ok : X → Bool) (write : X → List ℕ) → byte ≡ 10 ⊎ byte ≡ 32 → Lacks byte ok write → Lacks byte (λ (p : Bool × X). ok p.1) (λ (p : Bool × X). bit p.0 ∷ write p.1)
 first_bit_lacks byte ok write is rest = λ p good. or_from (bit p.0 == byte) (has_byte byte (write p.1)) (bit_lacks byte p.0 is) (rest p.1 good)
@@ -177,16 +150,8 @@ abbrev pub ended_line : List ℕ → List ℕ
 ended_line line = line ++ 10 ∷ []
 
 pub line_front : {X : Type 0} (ok : X → Bool) (write : X → List ℕ) (read : List ℕ → Option X) → Form ok write read → Lacks 10 ok write → Front ok (λ x. ended_line (write x)) (line_read read)
-line_front {X} ok write read form lacks = record {
-  back = λ x rest is. rw (append_assoc (write x) (10 ∷ []) rest, cut-append 10 (write x) rest (lacks x is), form.back x is) refl;
-  own = λ text x rest is. option_and_then_some (λ (parts : List ℕ × List ℕ). option_map {U = X × List ℕ} (λ y. (y, parts.1)) (read parts.0)) (cut 10 text) (x, rest) is (λ parts at found.
-      option_map_some {Y = X × List ℕ} (λ y. (y, parts.1)) (read parts.0) (x, rest) found (λ y was same. subst (λ (q : X × List ℕ). (ended_line (write q.0) ++ q.1 ≡ text) × (ok q.0 ≡ true)) same (whole text parts y at was)));
-}
-  where
-    whole : (text : List ℕ) (parts : List ℕ × List ℕ) (y : X) → cut 10 text ≡ Some parts → read parts.0 ≡ Some y → (ended_line (write y) ++ parts.1 ≡ text) × (ok y ≡ true)
-    whole text parts y at was =
-        let own = form.own parts.0 y was in
-        (append_assoc (write y) (10 ∷ []) parts.1 ∙ ap (λ t. t ++ 10 ∷ parts.1) own.0 ∙ sym (cut-parts 10 text parts.0 parts.1 at).0, own.1)
+line_front ok write read h form =
+    grind (arith, append_assoc, cut-append, option_and_then_some, option_map_some, cut-parts)
 
 -- one behind the other
 pub then_front : {X Y : Type 0} (okx : X → Bool) (wx : X → List ℕ) (rx : List ℕ → Option (X × List ℕ)) (oky : Y → Bool) (wy : Y → List ℕ) (ry : List ℕ → Option (Y × List ℕ))

@@ -9,4 +9,5 @@ pub mod Starts
 pub mod Taken
 pub mod Whole
 pub mod WordForms
+pub mod Words
 pub mod Written

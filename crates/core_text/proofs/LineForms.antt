@@ -1,30 +1,7 @@
 -- Each line of a state text is read exactly, and so are the heads, a record, and a table.
-use Rattle.std.proofs.Common.{◌≡◌, ◌⊎◌, inl, inr, ℕ, ◌<◌, Bool, true, false, not, ◌&&◌, ◌==◌, List, [], ◌∷◌, ◌++◌, nat_le, append-nil, codes, decimal, Option, Some, None, is_none, option_map, subst, refl, sym, ap, ◌∙◌, arith, lit<}
-use Rattle.std.proofs.lemmas.Bool.{and_parts, and_from, eqb-true, false≢true}
-use Rattle.std.proofs.lemmas.List.{append_assoc}
-use Rattle.text_lines.specs.Lines.{has_byte}
-use Rattle.init_words.specs.declared.actions.Act.{Act}
-use Rattle.init_words.specs.declared.children.Status.{Status}
-use Rattle.init_words.specs.declared.orders.OrderKind.{OrderKind}
-use Rattle.init_words.specs.declared.stages.Stage.{Stage}
-use Rattle.init_words.specs.Actions.{act_read, word_of}
-use Rattle.init_words.specs.Ids.{is_id}
-use Rattle.init_words.proofs.Tests.{and_false}
-use Rattle.inittab_text.proofs.ReadLemmas.{option_map_some}
+use Rattle.core_text.proofs.Words.{◌≡◌, ◌⊎◌, inl, inr, ℕ, ◌<◌, Bool, true, false, not, ◌&&◌, ◌==◌, List, [], ◌∷◌, ◌++◌, nat_le, append-nil, codes, decimal, Option, Some, None, is_none, subst, refl, sym, ap, ◌∙◌, arith, lit<, and_parts, and_from, append_assoc, has_byte, Act, Status, OrderKind, Stage, act_read, word_of, is_id, option_map_some, level_word, order_word, stage_word, is_status, child_of_word, order_of_word, stage_of_word, CoreFields, PlainRecord, Version, V1, V2, holds_id, bit, clock_line, flags_line, generation_line, goal_line, goal_word, head_lines, or_dash, or_word, slot_line, stage_line, starts_word, status_word, stop_word, text_of_lines, version_line, wish_line, are_heads, are_starts, is_child, is_generation, is_goal, is_last_status, is_record, is_seconds, is_stage, is_stop, is_time, passes, EndWords, FlagWords, LimitWords, MarkWords, PlaceWords, SlotWords, TimeWords, WishWords, clock_line_read, dash_read, ends_read, without_status, status_read, starts_read, flags_line_read, flags_read, four_bits, generation_line_read, generation_read, goal_line_read, goal_made, goal_read, heads_made, heads_read, limits_read, marks_read, named_read, one_bit, places_read, reread_read, slot_line_read, slot_made, slot_words_read, stage_line_read, stage_pair_read, line_read, then_read, stop_read, table_line_read, end_line_read, three_bits, time_read, times_read, two_bits, version_of_line, version_read, wish_line_read, wishes_read, list_all, is_line}
+use Rattle.std.proofs.Common.{option_map}
 use Rattle.trace_events.specs.declared.steps.Goal.{Goal}
-use Rattle.trace_text.specs.Lines.{level_word, order_word, stage_word}
-use Rattle.trace_events.specs.Range.{is_status}
-use Rattle.trace_text.specs.Reading.{child_of_word, order_of_word, stage_of_word}
-use Rattle.core_model.specs.declared.parts.CoreFields.{CoreFields}
-use Rattle.core_model.specs.declared.parts.PlainRecord.{PlainRecord}
-use Rattle.core_text.specs.declared.versions.Version.{Version}
-use Rattle.core_text.specs.declared.versions.Version.TheVariants.{V1, V2}
-use Rattle.core_text.specs.Versions.{holds_id}
-use Rattle.core_text.specs.Lines.{bit, clock_line, flags_line, generation_line, goal_line, goal_word, head_lines, or_dash, or_word, slot_line, stage_line, starts_word, status_word, stop_word, text_of_lines, version_line, wish_line}
-use Rattle.core_text.specs.Range.{are_heads, are_starts, is_child, is_generation, is_goal, is_last_status, is_record, is_seconds, is_stage, is_stop, is_time, passes}
-use Rattle.core_text.specs.Reading.{EndWords, FlagWords, LimitWords, MarkWords, PlaceWords, SlotWords, TimeWords, WishWords, clock_line_read, dash_read, ends_read, without_status, status_read, starts_read, flags_line_read, flags_read, four_bits, generation_line_read, generation_read, goal_line_read, goal_made, goal_read, heads_made, heads_read, limits_read, marks_read, named_read, one_bit, places_read, reread_read, slot_line_read, slot_made, slot_words_read, stage_line_read, stage_pair_read, line_read, then_read, stop_read, table_line_read, end_line_read, three_bits, time_read, times_read, two_bits, version_of_line, version_read, wish_line_read, wishes_read}
-use Rattle.std.specs.List.{list_all}
-use Rattle.core_text.specs.Refused.{is_line}
 use Rattle.core_text.proofs.Forms.{Form, Front, Lacks, checked_form, first_bit_form, first_bit_lacks, line_front, made_form, made_front, named_form, or_form, or_lacks, pair_form, pair_lacks, retested, then_front}
 use Rattle.core_text.proofs.WordForms.{act_form, act_lacks, always, child_form, child_lacks, generation_form, id_in_form, id_in_lacks, level_form, level_lacks, level_lacks_colon, no_act, no_child, no_order, no_stage, no_status, no_stop, no_time, one_bit_form, one_bit_lacks, order_form, order_lacks, seconds_form, seconds_lacks, stage_form, stage_lacks, starts_form, starts_lacks, status_form, status_lacks, stop_form, stop_lacks, time_form, time_lacks, version_form, version_lacks}
 
@@ -91,18 +68,8 @@ table_line_form = named_form (codes "table") 32 is_time decimal time_read refl t
 pub end_line_form : Form is_time (λ n. codes "end" ++ 32 ∷ decimal n) end_line_read
 end_line_form = named_form (codes "end") 32 is_time decimal time_read refl time_form
 
--- the stage and its seconds
-twice : (b : Bool) → b && b ≡ b
-twice true = refl
-twice false = refl
-
-zero_seconds : (n : ℕ) (b : Bool) → (n == 0) ≡ b → is_seconds n && b ≡ b
-zero_seconds n true is = let zeroed : n ≡ 0 = eqb-true n 0 is in rw zeroed refl
-zero_seconds n false is = and_false (is_seconds n)
-
 stage_tested : (stage : Option Stage) (n : ℕ) → (passes always stage && is_seconds n) && is_stage stage n ≡ is_stage stage n
-stage_tested None n = zero_seconds n (n == 0) refl
-stage_tested (Some stage) n = twice (is_seconds n)
+stage_tested stage n = grind arith
 
 abbrev stage_words : (Option Stage × ℕ) → List ℕ
 stage_words p = or_word (codes "none") stage_word p.0 ++ 32 ∷ decimal p.1
@@ -217,8 +184,7 @@ heads_front =
 
 -- a record
 always_passes : {X : Type 0} (o : Option X) → passes always o ≡ true
-always_passes None = refl
-always_passes (Some x) = refl
+always_passes o = grind arith
 
 dashed_act : Form always (or_dash word_of) (dash_read act_read)
 dashed_act = retested _ _ _ _ always_passes (or_form (codes "-") always word_of act_read no_act act_form)
@@ -265,8 +231,7 @@ end_words V1 w = starts_word w.0
 end_words V2 w = starts_word w.0 ++ 32 ∷ or_dash status_word w.1
 
 old_back : (starts : List ℕ) (last : Option Status) → are_starts starts ≡ true → is_none last ≡ true → option_map without_status (starts_read (starts_word starts)) ≡ Some (starts, last)
-old_back starts None are none = ap (option_map without_status) (starts_form.back starts are)
-old_back starts (Some status) are none = absurd (false≢true none)
+old_back starts last are none = grind (arith, starts_form)
 
 ends_form : (v : Version) → Form (is_ends v) (end_words v) (ends_read v)
 ends_form V1 = record {
@@ -345,8 +310,7 @@ slot_tested : (v : Version) (r : PlainRecord) → is_slot v (slot_parts r) ≡ i
 slot_tested v r = five_tests (is_id r.id && holds_id v r.id) (passes is_child r.child) (passes is_stop r.stop) (passes is_time r.held_until) (are_starts r.starts.items && is_last_status v r.last)
 
 slot_written : (v : Version) (r : PlainRecord) → codes "slot" ++ 32 ∷ slot_words v (slot_parts r) ≡ slot_line v r
-slot_written V1 r = refl
-slot_written V2 r = refl
+slot_written v r = grind arith
 
 pub slot_line_form : (v : Version) → Form (is_record v) (slot_line v) (slot_line_read v)
 slot_line_form v =

@@ -1,20 +1,5 @@
 -- A text of a state says one state, and the generation that its second line names.
-use Rattle.std.proofs.Common.{◌≡◌, ℕ, true, false, not, subst, ◌&&◌, List, [], ◌∷◌, ◌++◌, length, drop, Some, refl, sym, ap, ◌∙◌, arith}
-use Rattle.std.specs.List.{list_all}
-use Rattle.std.proofs.lemmas.Bool.{and_parts}
-use Rattle.std.proofs.lemmas.List.{append_assoc}
-use Rattle.std.proofs.lemmas.Option.{some_pair_parts}
-use Rattle.text_lines.specs.Lines.{cut, has_byte}
-use Rattle.text_lines.proofs.CutLemmas.{cut-append}
-use Rattle.core_model.specs.declared.parts.CoreFields.{CoreFields}
-use Rattle.core_model.specs.declared.parts.PlainRecord.{PlainRecord}
-use Rattle.core_model.specs.Parts.{SavedState}
-use Rattle.core_text.specs.declared.versions.Version.{Version}
-use Rattle.core_text.specs.declared.versions.Version.TheVariants.{V1, V2}
-use Rattle.core_text.specs.Lines.{body_lines, end_line, generation_line, slot_line, state_lines, text_of_lines, version_line}
-use Rattle.core_text.specs.Range.{are_heads, is_generation, is_goal, is_record, is_stage, is_time, passes}
-use Rattle.core_text.specs.Reading.{generation_line_read, generation_of, heads_read, line_read, slot_line_read, table_read}
-use Rattle.core_text.specs.Refused.{IsTextIn, IsTextOf}
+use Rattle.core_text.proofs.Words.{◌≡◌, ℕ, true, false, subst, List, [], ◌∷◌, ◌++◌, length, drop, Some, refl, sym, ap, ◌∙◌, arith, list_all, and_parts, append_assoc, some_pair_parts, has_byte, cut-append, CoreFields, PlainRecord, SavedState, Version, V1, V2, body_lines, end_line, generation_line, slot_line, state_lines, text_of_lines, version_line, are_heads, is_generation, is_record, generation_line_read, generation_of, heads_read, line_read, slot_line_read, table_read, IsTextIn, IsTextOf}
 use Rattle.core_text.proofs.Bodies.{Steps, body_text, state_parts, steps}
 use Rattle.core_text.proofs.LineForms.{generation_lacks, generation_line_form, slot_front}
 use Rattle.core_text.proofs.Taken.{whole_text}
@@ -80,11 +65,7 @@ one_state text one two first second = same_in second.0 one two text (subst (λ v
 
 -- the generation of a state's text
 said_by : (v : Version) (line more text : List ℕ) (generation : ℕ) → has_byte 10 line ≡ false → generation_line_read line ≡ Some generation → (version_line v ++ 10 ∷ []) ++ ((line ++ 10 ∷ []) ++ more) ≡ text → generation_of text ≡ Some generation
-said_by v line more text generation lacks read whole =
-    let behind = (line ++ 10 ∷ []) ++ more in
-    let one : cut 10 text ≡ Some (version_line v, behind) = ap (cut 10) (sym whole ∙ append_assoc (version_line v) (10 ∷ []) behind) ∙ cut-append 10 (version_line v) behind (version_lacks v refl) in
-    let at : cut 10 behind ≡ Some (line, more) = ap (cut 10) (append_assoc line (10 ∷ []) more) ∙ cut-append 10 line more lacks in
-    rw (one, at) read
+said_by v line more text generation lacks read whole = grind (arith, append_assoc, cut-append, version_lacks)
 
 pub generation_said : (text : List ℕ) (state : SavedState) → IsTextOf text state → generation_of text ≡ Some state.heads.generation
 generation_said text state says =
@@ -93,9 +74,4 @@ generation_said text state says =
     said_by v (generation_line state.heads.generation) (text_of_lines (drop 2 (state_lines v state))) text state.heads.generation (generation_lacks state.heads.generation known) (generation_line_form.back state.heads.generation known) says.1.1
   where
     head_known : (h : CoreFields) → are_heads h ≡ true → is_generation h.generation ≡ true
-    head_known h are =
-        (and_parts (is_generation h.generation) (is_time h.time)
-        (and_parts (is_generation h.generation && is_time h.time) (is_stage h.stage h.grace)
-        (and_parts (is_generation h.generation && is_time h.time && is_stage h.stage h.grace) (is_goal h.goal)
-        (and_parts (is_generation h.generation && is_time h.time && is_stage h.stage h.grace && is_goal h.goal) (not h.reexec)
-        (and_parts (is_generation h.generation && is_time h.time && is_stage h.stage h.grace && is_goal h.goal && not h.reexec) (passes is_goal h.level_wish) are).0).0).0).0).0
+    head_known h are = grind arith

@@ -1,18 +1,11 @@
 -- The text of a state: no entry, and one child that is to be stopped, with a signal under way; and as version 1 says it.
-use Rattle.std.proofs.Common.{◌≡◌, refl, true, false, [], ◌∷◌, codes, Some, None, lit<}
+use Rattle.core_text.proofs.Words.{◌≡◌, refl, true, false, [], ◌∷◌, codes, Some, None, lit<, Exit, Due, CoreFields, PlainRecord, SavedState, V1, state_text, text_in}
 use Rattle.std.proofs.lemmas.Fmt.{decimal_digit}
 use Rattle.init_words.specs.declared.actions.Act.TheVariants as act
-use Rattle.init_words.specs.declared.children.Status.TheVariants.{Exit}
 use Rattle.init_words.specs.declared.levels.Level.TheVariants as level
 use Rattle.init_words.specs.declared.orders.OrderKind.TheVariants.{Term}
 use Rattle.init_words.specs.declared.stages.Stage.TheVariants as stage
-use Rattle.core_records.specs.declared.children.Stop.TheVariants.{Due}
 use Rattle.core_model.specs.News.{no_news}
-use Rattle.core_model.specs.declared.parts.CoreFields.{CoreFields}
-use Rattle.core_model.specs.declared.parts.PlainRecord.{PlainRecord}
-use Rattle.core_model.specs.Parts.{SavedState}
-use Rattle.core_text.specs.declared.versions.Version.TheVariants.{V1}
-use Rattle.core_text.specs.Lines.{state_text, text_in}
 
 abbrev left : PlainRecord
 left = record {

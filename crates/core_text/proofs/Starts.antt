@@ -1,14 +1,6 @@
 -- Times read one by one, and how many there may be.
-use Rattle.std.proofs.Common.{◌≡◌, ℕ, ◌<◌, ◌≤◌, true, false, nat_le, List, [], ◌∷◌, codes, ◌++◌, length, Option, Some, None, refl, sym, ap, ◌∙◌, arith, length-append}
+use Rattle.core_text.proofs.Words.{◌≡◌, ℕ, ◌<◌, ◌≤◌, true, false, nat_le, List, [], ◌∷◌, codes, ◌++◌, length, Option, Some, None, refl, sym, ap, ◌∙◌, arith, length-append, leb-true, false_from_ne_true, append_assoc, cut, pieces_of, pieces_of-cut, pieces_of-whole, both, same_id, STARTS, all_read, checked_by, starts_read, time_read}
 use Rattle.std.specs.Option.{option_map}
-use Rattle.std.proofs.lemmas.Bool.{leb-true, false_from_ne_true}
-use Rattle.std.proofs.lemmas.List.{append_assoc}
-use Rattle.text_lines.specs.Lines.{cut, pieces_of}
-use Rattle.text_lines.proofs.PieceLemmas.{pieces_of-cut, pieces_of-whole}
-use Rattle.trace_text.specs.Reading.{both}
-use Rattle.init_words.specs.Ids.{same_id}
-use Rattle.respawn_limit.specs.declared.TheConstants.{STARTS}
-use Rattle.core_text.specs.Reading.{all_read, checked_by, starts_read, time_read}
 
 -- these before what was read
 pub joined : List ℕ → Option (List ℕ) → Option (List ℕ)

@@ -1,22 +1,7 @@
 -- A whole text is read as one state at most, and why it is refused.
-use Rattle.std.proofs.Common.{◌≡◌, ◌≢◌, ℕ, ◌<◌, ◌^◌, true, false, not, ◌==◌, List, [], ◌∷◌, ◌++◌, length, append-nil, codes, Option, Some, None, refl, sym, ap, ◌∙◌, subst, arith, lit<, length-append}
-use Rattle.std.specs.List.{list_all, starts_with}
-use Rattle.std.proofs.lemmas.Bool.{and_parts, lt-ltb, not-true}
-use Rattle.std.proofs.lemmas.List.{append_assoc}
-use Rattle.std.proofs.lemmas.Option.{some_pair_parts}
-use Rattle.text_lines.specs.Lines.{cut, has_byte, newlines}
-use Rattle.text_lines.proofs.CutLemmas.{cut-append}
+use Rattle.core_text.proofs.Words.{◌≡◌, ◌≢◌, ℕ, ◌<◌, ◌^◌, true, false, not, ◌==◌, List, [], ◌∷◌, ◌++◌, length, append-nil, codes, Option, Some, None, refl, sym, ap, ◌∙◌, subst, arith, lit<, length-append, list_all, starts_with, and_parts, lt-ltb, not-true, append_assoc, some_pair_parts, cut, has_byte, newlines, cut-append, StateFault, Version, PlainRecord, SavedState, body_lines, end_line, slot_line, text_in, text_of_lines, version_line, is_record, is_time, end_line_read, end_split, line_read, slot_line_read, table_read, version_read, BeginsAs, BeginsAsKnown, IsBody, IsBodyIn, IsCut, IsOtherVersion, Refused, RefusedBody, IsTextIn, IsTextOf, SaysNone, Whole, is_line}
 use Rattle.trace_text.proofs.ReadTexts.{newlines-few}
-use Rattle.core_text.specs.declared.state_fault.StateFault.{StateFault}
 use Rattle.core_text.specs.declared.state_fault.StateFault.TheVariants as fault
-use Rattle.core_text.specs.declared.versions.Version.{Version}
-use Rattle.core_text.specs.declared.versions.Version.TheVariants.{V1, V2}
-use Rattle.core_model.specs.declared.parts.PlainRecord.{PlainRecord}
-use Rattle.core_model.specs.Parts.{SavedState}
-use Rattle.core_text.specs.Lines.{body_lines, end_line, slot_line, text_in, text_of_lines, version_line}
-use Rattle.core_text.specs.Range.{is_record, is_time}
-use Rattle.core_text.specs.Reading.{end_line_read, end_split, line_read, slot_line_read, table_read, version_read}
-use Rattle.core_text.specs.Refused.{BeginsAs, BeginsAsKnown, IsBody, IsBodyIn, IsCut, IsOtherVersion, Refused, RefusedBody, IsTextIn, IsTextOf, SaysNone, Whole, is_line}
 use Rattle.core_text.proofs.Bodies.{body_lines_are, heads_text, lost, newlines_are, of_version, split_back, split_own, state_parts, steps_of, to_heads, version_back, version_own}
 use Rattle.core_text.proofs.LineForms.{end_line_form, slot_front}
 use Rattle.core_text.proofs.Whole.{records_text, table_text}
@@ -118,8 +103,7 @@ falsely : false ≡ true → ⊥
 falsely e = cc
 
 not_last : (v : Version) → starts_with ◌==◌ (version_line v) (codes "end ") ≡ false
-not_last V1 = refl
-not_last V2 = refl
+not_last v = grind arith
 
 -- what is cut off at the first newline of a text that begins with the version's line
 cut_version : (v : Version) (rest : List ℕ) → cut 10 (version_line v ++ 10 ∷ rest) ≡ Some (version_line v, rest)
@@ -145,11 +129,7 @@ record Named (body : List ℕ) : Type 0 where
   pub read : version_read body ≡ Some (version, rest)
 
 some_version : (body : List ℕ) → version_read body ≢ None → Named body
-some_version body known = by (version_read body) refl
-  where
-    by : (o : Option (Version × List ℕ)) → version_read body ≡ o → Named body
-    by None is = absurd (known is)
-    by (Some p) is = record { version = p.0; rest = p.1; read = is }
+some_version body known = grind arith
 
 known_by : (text body last : List ℕ) → end_split text ≡ Some (body, last) → Named body → BeginsAsKnown text
 known_by text body last at known = (known.version, (known.rest ++ (last ++ 10 ∷ []), known_of known.version text body last known.rest at known.read))

@@ -1,20 +1,6 @@
 -- A whole text, part by part: what is read of the text of a state, and that nothing else is.
-use Rattle.std.proofs.Common.{◌≡◌, ◌≢◌, ℕ, ◌<◌, ◌^◌, true, cond, ◌&&◌, List, [], ◌∷◌, ◌++◌, length, map, append-nil, Option, Some, None, refl, sym, ap, ◌∙◌, arith, lit<, length-append}
-use Rattle.std.specs.List.{list_all}
-use Rattle.std.proofs.lemmas.Bool.{and_parts, and_from, lt-ltb}
-use Rattle.std.proofs.lemmas.List.{append_assoc}
-use Rattle.std.proofs.lemmas.List.Folds.{list_all-append}
-use Rattle.std.proofs.lemmas.Option.{option_and_then_some, some_pair_parts}
-use Rattle.init_words.specs.declared.entries.Entry.{Entry}
-use Rattle.inittab_text.proofs.Entries.{table_parts}
+use Rattle.core_text.proofs.Words.{◌≡◌, ◌≢◌, ℕ, ◌<◌, ◌^◌, true, ◌&&◌, List, [], ◌∷◌, ◌++◌, length, map, append-nil, Option, Some, None, refl, sym, ap, ◌∙◌, arith, lit<, length-append, list_all, and_parts, and_from, lt-ltb, append_assoc, list_all-append, option_and_then_some, some_pair_parts, Entry, table_parts, table_begun, fields_written, is_table, text_of, PlainRecord, Version, holds_table, slot_line, table_line, text_of_lines, is_record, line_read, slot_line_read, table_in, table_line_read, table_read}
 use Rattle.inittab_text.proofs.LineLemmas.{begun_back, begun_own}
-use Rattle.inittab_text.specs.Written.{table_begun, fields_written, is_table, text_of}
-use Rattle.core_model.specs.declared.parts.PlainRecord.{PlainRecord}
-use Rattle.core_text.specs.declared.versions.Version.{Version}
-use Rattle.core_text.specs.Versions.{holds_table}
-use Rattle.core_text.specs.Lines.{slot_line, table_line, text_of_lines}
-use Rattle.core_text.specs.Range.{is_record}
-use Rattle.core_text.specs.Reading.{checked_by, line_read, slot_line_read, table_in, table_line_read, table_read}
 use Rattle.core_text.proofs.Forms.{checked_some, line_front}
 use Rattle.core_text.proofs.LineForms.{slot_front, table_line_form}
 use Rattle.core_text.proofs.WordForms.{time_lacks}
@@ -37,8 +23,7 @@ counted table rest is =
     ap (line_read table_line_read) regrouped ∙ front.back (length table) (text_of table ++ rest) (lt-ltb (length table) (2 ^ 64) (count_fits table is))
 
 in_back : (v : Version) (table : List Entry) (rest : List ℕ) → is_table table ≡ true → holds_table v table ≡ true → table_in v (length table) (text_of table ++ rest) ≡ Some (table, rest)
-in_back v table rest is holds =
-    ap (checked_by (λ (p : List Entry × List ℕ). holds_table v p.0)) (begun_back table rest is) ∙ ap (λ b. cond b (Some (table, rest)) None) holds
+in_back v table rest is holds = grind (arith, begun_back)
 
 pub table_back : (v : Version) (table : List Entry) (rest : List ℕ) → is_table table ≡ true → holds_table v table ≡ true → table_read v (table_text table ++ rest) ≡ Some (table, rest)
 table_back v table rest is holds = rw (counted table rest is) (in_back v table rest is holds)

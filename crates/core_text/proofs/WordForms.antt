@@ -1,48 +1,15 @@
 -- Each word of a state text is read exactly, and no blank and no newline stands in it.
-use Rattle.std.proofs.Common.{◌≡◌, ◌⊎◌, inl, inr, ℕ, ◌+◌, ◌<◌, ◌≤◌, ◌^◌, Bool, true, false, not, ◌&&◌, ◌==◌, nat_lt, nat_le, List, [], ◌∷◌, ◌++◌, length, map, find, codes, decimal, Option, Some, None, refl, sym, ap, ◌∙◌, subst, arith, lit<}
-use Rattle.std.specs.List.{list_all, join_with_byte}
+use Rattle.core_text.proofs.Words.{◌≡◌, ◌⊎◌, inl, inr, ℕ, ◌+◌, ◌<◌, ◌≤◌, ◌^◌, Bool, true, false, not, ◌&&◌, ◌==◌, nat_lt, nat_le, List, [], ◌∷◌, ◌++◌, length, map, find, codes, decimal, Some, None, refl, sym, ap, ◌∙◌, subst, arith, lit<, list_all, join_with_byte, and_parts, and_from, or_from, ltb-true, bytes_eq-Decides, option_and_then_some, same_Some, cut, has_byte, pieces_of, cut-parts, has_byte-append, pieces_of-joined, Act, Status, Exit, id_parts, OrderKind, Stage, acts, word_of, id_read, is_id, same_id, same_id-is, option_map_some, act_back, level_word, order_word, stage_word, is_status, level_of_word, order_of_word, seconds_of_word, stage_of_word, child_of_word, code_of_word, both_some, choice, id_own, level_own, named, nothing, order_own, stage_own, STARTS, Stop, Due, Termed, Killed, Version, V1, V2, holds_id, bit, starts_word, status_word, stop_word, version_line, are_starts, is_child, is_generation, is_seconds, is_stop, is_time, all_read, behind, generation_read, id_in_read, one_bit, signal_read, starts_read, status_read, stop_read, time_read, version_of_line}
 use Rattle.std.specs.Str.{bytes_eq}
-use Rattle.std.proofs.lemmas.Bool.{and_parts, and_from, or_from, ltb-true, ne_eqb}
 use Rattle.std.proofs.lemmas.List.Splits.{join_with_byte-slice_split}
-use Rattle.std.proofs.lemmas.Slice.Eq.{bytes_eq-Decides}
-use Rattle.std.proofs.lemmas.Option.{option_and_then_some, same_Some}
-use Rattle.text_lines.specs.Lines.{cut, has_byte, pieces_of}
 use Rattle.text_lines.specs.Numbers.{number_read}
-use Rattle.text_lines.proofs.CutLemmas.{cut-parts, has_byte-append}
-use Rattle.text_lines.proofs.PieceLemmas.{pieces_of-joined}
 use Rattle.text_lines.proofs.NumberLemmas.{number_read-decimal, decimal-number_read, decimal-lacks}
-use Rattle.init_words.specs.declared.actions.Act.{Act}
-use Rattle.init_words.specs.declared.actions.Act.TheVariants as act
-use Rattle.init_words.specs.declared.children.Status.{Status}
-use Rattle.init_words.specs.declared.children.Status.TheVariants.{Exit, Killed as KilledBySignal}
+use Rattle.init_words.specs.declared.children.Status.TheVariants.{Killed as KilledBySignal}
 use Rattle.init_words.specs.declared.levels.Level.{Level}
-use Rattle.init_words.specs.declared.levels.Level.TheVariants.{L0, L1, L2, L3, L4, L5, L6, L7, L8, L9, S}
-use Rattle.init_words.proofs.IdParts.{id_parts}
 use Rattle.init_words.specs.declared.limits.TheConstants.{GRACE_LIMIT}
-use Rattle.init_words.specs.declared.orders.OrderKind.{OrderKind}
-use Rattle.init_words.specs.declared.orders.OrderKind.TheVariants.{Start, Look, Term, Kill}
-use Rattle.init_words.specs.declared.stages.Stage.{Stage}
-use Rattle.init_words.specs.declared.stages.Stage.TheVariants as stage
-use Rattle.init_words.specs.Actions.{act_read, acts, word_of}
-use Rattle.init_words.specs.Ids.{id_read, is_id, same_id}
-use Rattle.init_words.proofs.Same.{same_id-is}
-use Rattle.inittab_text.proofs.ReadLemmas.{option_map_some}
-use Rattle.inittab_text.proofs.WriteLemmas.{act_back}
-use Rattle.trace_text.specs.Lines.{level_word, order_word, stage_word}
-use Rattle.trace_events.specs.Range.{is_status}
-use Rattle.trace_text.specs.Reading.{level_of_word, order_of_word, seconds_of_word, stage_of_word, child_of_word, code_of_word}
+use Rattle.init_words.specs.Actions.{act_read}
 use Rattle.trace_text.proofs.LineTexts.{lacks_low, level_back, order_back, stage_back}
-use Rattle.trace_text.proofs.LineWords.{both_some, choice, id_own, level_own, named, nothing, order_own, stage_own}
-use Rattle.respawn_limit.specs.declared.TheConstants.{STARTS}
-use Rattle.core_records.specs.declared.children.Stop.{Stop}
-use Rattle.core_records.specs.declared.children.Stop.TheVariants.{Due, Termed, Killed}
-use Rattle.core_text.specs.declared.versions.Version.{Version}
-use Rattle.core_text.specs.declared.versions.Version.TheVariants.{V1, V2}
-use Rattle.core_text.specs.Versions.{holds_id}
-use Rattle.core_text.specs.Lines.{bit, starts_word, status_word, stop_word, version_line}
-use Rattle.core_text.specs.Range.{are_starts, is_child, is_generation, is_seconds, is_stop, is_time}
-use Rattle.core_text.specs.Reading.{all_read, behind, generation_read, id_in_read, one_bit, signal_read, starts_read, status_read, stop_read, time_read, version_of_line}
-use Rattle.core_text.proofs.Forms.{Form, Lacks, behind_some, bit_lacks, bit_own, checked_form, checked_some}
+use Rattle.core_text.proofs.Forms.{Form, Lacks, behind_some, bit_lacks, checked_form, checked_some}
 
 -- numbers
 below : (limit n : ℕ) → limit ≤ 2 ^ 64 → nat_lt n limit ≡ true → n < 2 ^ 64
@@ -90,11 +57,7 @@ dash_lost limit n is fits =
     lost e = cc
 
 pub no_number : (limit : ℕ) → limit ≤ 2 ^ 64 → number_read limit (codes "-") ≡ None
-no_number limit fits = by (number_read limit (codes "-")) refl
-  where
-    by : (o : Option ℕ) → number_read limit (codes "-") ≡ o → o ≡ None
-    by None is = refl
-    by (Some n) is = absurd (dash_lost limit n is fits)
+no_number limit fits = grind (arith, dash_lost)
 
 pub no_time : time_read (codes "-") ≡ None
 no_time = no_number (2 ^ 64) (omega arith)
@@ -110,33 +73,13 @@ pub level_form : Form always level_word level_of_word
 level_form = record { back = λ level is. level_back level; own = λ word level is. (level_own word level is, refl) }
 
 is_above : (byte : ℕ) → byte < 48 → (level : Level) → has_byte byte (level_word level) ≡ false
-is_above byte low L0 = rw (ne_eqb 48 byte (λ same. omega (arith, low, same))) refl
-is_above byte low L1 = rw (ne_eqb 49 byte (λ same. omega (arith, low, same))) refl
-is_above byte low L2 = rw (ne_eqb 50 byte (λ same. omega (arith, low, same))) refl
-is_above byte low L3 = rw (ne_eqb 51 byte (λ same. omega (arith, low, same))) refl
-is_above byte low L4 = rw (ne_eqb 52 byte (λ same. omega (arith, low, same))) refl
-is_above byte low L5 = rw (ne_eqb 53 byte (λ same. omega (arith, low, same))) refl
-is_above byte low L6 = rw (ne_eqb 54 byte (λ same. omega (arith, low, same))) refl
-is_above byte low L7 = rw (ne_eqb 55 byte (λ same. omega (arith, low, same))) refl
-is_above byte low L8 = rw (ne_eqb 56 byte (λ same. omega (arith, low, same))) refl
-is_above byte low L9 = rw (ne_eqb 57 byte (λ same. omega (arith, low, same))) refl
-is_above byte low S = rw (ne_eqb 83 byte (λ same. omega (arith, low, same))) refl
+is_above byte low level = grind arith
 
 pub level_lacks : (byte : ℕ) → byte < 48 → Lacks byte always level_word
 level_lacks byte low = λ level is. is_above byte low level
 
 no_colon : (level : Level) → has_byte 58 (level_word level) ≡ false
-no_colon L0 = refl
-no_colon L1 = refl
-no_colon L2 = refl
-no_colon L3 = refl
-no_colon L4 = refl
-no_colon L5 = refl
-no_colon L6 = refl
-no_colon L7 = refl
-no_colon L8 = refl
-no_colon L9 = refl
-no_colon S = refl
+no_colon level = grind arith
 
 pub level_lacks_colon : Lacks 58 always level_word
 level_lacks_colon = λ level is. no_colon level
@@ -149,9 +92,7 @@ pub no_stage : stage_of_word (codes "none") ≡ None
 no_stage = refl
 
 stage_plain : (byte : ℕ) → (byte ≡ 10) ⊎ (byte ≡ 32) → (now : Stage) → has_byte byte (stage_word now) ≡ false
-stage_plain byte is stage.Sysinit = elim is [ inl e ↦ rw e refl | inr e ↦ rw e refl ]
-stage_plain byte is stage.Boot = elim is [ inl e ↦ rw e refl | inr e ↦ rw e refl ]
-stage_plain byte is (stage.Run level) = elim is [ inl e ↦ is_above byte (omega (arith, e)) level | inr e ↦ is_above byte (omega (arith, e)) level ]
+stage_plain byte is now = grind arith
 
 pub stage_lacks : (byte : ℕ) → (byte ≡ 10) ⊎ (byte ≡ 32) → Lacks byte always stage_word
 stage_lacks byte is = λ now good. stage_plain byte is now
@@ -164,10 +105,7 @@ pub no_order : order_of_word (codes "-") ≡ None
 no_order = refl
 
 order_plain : (byte : ℕ) → (byte ≡ 10) ⊎ (byte ≡ 32) → (order : OrderKind) → has_byte byte (order_word order) ≡ false
-order_plain byte is Start = elim is [ inl e ↦ rw e refl | inr e ↦ rw e refl ]
-order_plain byte is Look = elim is [ inl e ↦ rw e refl | inr e ↦ rw e refl ]
-order_plain byte is Term = elim is [ inl e ↦ rw e refl | inr e ↦ rw e refl ]
-order_plain byte is Kill = elim is [ inl e ↦ rw e refl | inr e ↦ rw e refl ]
+order_plain byte is order = grind arith
 
 pub order_lacks : (byte : ℕ) → (byte ≡ 10) ⊎ (byte ≡ 32) → Lacks byte always order_word
 order_lacks byte is = λ order good. order_plain byte is order
@@ -188,8 +126,7 @@ id_in_lacks v byte low = λ id is. id_lacks byte low id (and_parts (is_id id) (h
 
 -- versions
 version_line_back : (v : Version) → version_of_line (version_line v) ≡ Some v
-version_line_back V1 = refl
-version_line_back V2 = refl
+version_line_back v = grind arith
 
 version_line_own : (word : List ℕ) (v : Version) → version_of_line word ≡ Some v → (version_line v ≡ word) × (true ≡ true)
 version_line_own word v is =
@@ -200,8 +137,7 @@ pub version_form : Form always version_line version_of_line
 version_form = record { back = λ v is. version_line_back v; own = version_line_own }
 
 no_newline : (v : Version) → has_byte 10 (version_line v) ≡ false
-no_newline V1 = refl
-no_newline V2 = refl
+no_newline v = grind arith
 
 pub version_lacks : Lacks 10 always version_line
 version_lacks = λ v is. no_newline v
@@ -212,9 +148,7 @@ one_bit_back true = refl
 one_bit_back false = refl
 
 one_bit_own : (word : List ℕ) (flag : Bool) → one_bit word ≡ Some flag → (bit flag ∷ [] ≡ word) × (true ≡ true)
-one_bit_own [] flag is = nothing flag is
-one_bit_own (byte ∷ []) flag is = (ap (λ b. b ∷ []) (bit_own byte flag is), refl)
-one_bit_own (byte ∷ b ∷ word) flag is = nothing flag is
+one_bit_own word flag is = grind arith
 
 pub one_bit_form : Form always (λ flag. bit flag ∷ []) one_bit
 one_bit_form = record { back = λ flag is. one_bit_back flag; own = one_bit_own }
@@ -224,9 +158,7 @@ one_bit_lacks byte is = λ flag good. or_from (bit flag == byte) false (bit_lack
 
 -- stops
 stop_back : (stop : Stop) → is_stop stop ≡ true → stop_read (stop_word stop) ≡ Some stop
-stop_back Due is = refl
-stop_back (Termed time) is = rw (time_form.back time is) refl
-stop_back (Killed time) is = rw (time_form.back time is) refl
+stop_back stop is = grind (arith, time_form)
 
 OwnStop : List ℕ → Stop → Type 0
 OwnStop word stop = (stop_word stop ≡ word) × (is_stop stop ≡ true)
@@ -239,8 +171,7 @@ signal_own word parts stop at is =
     named parts.0 (codes "kill") _ _ stop is (λ same made. option_map_some Killed (time_read parts.1) stop made (λ time found this. of_name parts.0 (codes "kill") same whole (Killed time) this (ap (λ t. codes "kill" ++ 58 ∷ t) (time_form.own parts.1 time found).0) (time_form.own parts.1 time found).1)) (nothing stop))
   where
     of_name : (left name : List ℕ) → left ≡ name → word ≡ left ++ 58 ∷ parts.1 → (k : Stop) → k ≡ stop → stop_word k ≡ name ++ 58 ∷ parts.1 → is_stop k ≡ true → (stop_word stop ≡ word) × (is_stop stop ≡ true)
-    of_name left name same whole k this spelled good =
-        subst (λ s. (stop_word s ≡ word) × (is_stop s ≡ true)) this (spelled ∙ ap (λ l. l ++ 58 ∷ parts.1) (sym same) ∙ sym whole, good)
+    of_name left name same whole k this spelled good = grind arith
 
 stop_own : (word : List ℕ) (stop : Stop) → stop_read word ≡ Some stop → (stop_word stop ≡ word) × (is_stop stop ≡ true)
 unfolding OwnStop
@@ -255,9 +186,7 @@ pub no_stop : stop_read (codes "-") ≡ None
 no_stop = refl
 
 stop_plain : (byte : ℕ) → (byte ≡ 10) ⊎ (byte ≡ 32) → (stop : Stop) → is_stop stop ≡ true → has_byte byte (stop_word stop) ≡ false
-stop_plain byte is Due good = elim is [ inl e ↦ rw e refl | inr e ↦ rw e refl ]
-stop_plain byte is (Termed time) good = elim is [ inl e ↦ subst (λ b. has_byte b (stop_word (Termed time)) ≡ false) (sym e) (time_lacks 10 (lit< tt) time good) | inr e ↦ subst (λ b. has_byte b (stop_word (Termed time)) ≡ false) (sym e) (time_lacks 32 (lit< tt) time good) ]
-stop_plain byte is (Killed time) good = elim is [ inl e ↦ subst (λ b. has_byte b (stop_word (Killed time)) ≡ false) (sym e) (time_lacks 10 (lit< tt) time good) | inr e ↦ subst (λ b. has_byte b (stop_word (Killed time)) ≡ false) (sym e) (time_lacks 32 (lit< tt) time good) ]
+stop_plain byte is stop good = grind (arith, time_lacks)
 
 pub stop_lacks : (byte : ℕ) → (byte ≡ 10) ⊎ (byte ≡ 32) → Lacks byte is_stop stop_word
 stop_lacks byte is = λ stop good. stop_plain byte is stop good
@@ -270,8 +199,7 @@ code_lacks : (byte : ℕ) → byte < 48 → Lacks byte (λ n. nat_lt n 256) deci
 code_lacks byte low = number_lacks byte 256 low (lit< tt)
 
 status_back : (status : Status) → is_status status ≡ true → status_read (status_word status) ≡ Some status
-status_back (Exit code) is = rw (code_form.back code is) refl
-status_back KilledBySignal is = refl
+status_back status is = grind (arith, code_form)
 
 status_own : (word : List ℕ) (status : Status) → status_read word ≡ Some status → (status_word status ≡ word) × (is_status status ≡ true)
 status_own word status is =
@@ -289,8 +217,7 @@ pub no_status : status_read (codes "-") ≡ None
 no_status = refl
 
 status_plain : (byte : ℕ) → (byte ≡ 10) ⊎ (byte ≡ 32) → (status : Status) → is_status status ≡ true → has_byte byte (status_word status) ≡ false
-status_plain byte is (Exit code) good = elim is [ inl e ↦ subst (λ b. has_byte b (status_word (Exit code)) ≡ false) (sym e) (code_lacks 10 (lit< tt) code good) | inr e ↦ subst (λ b. has_byte b (status_word (Exit code)) ≡ false) (sym e) (code_lacks 32 (lit< tt) code good) ]
-status_plain byte is KilledBySignal good = elim is [ inl e ↦ rw e refl | inr e ↦ rw e refl ]
+status_plain byte is status good = grind (arith, code_lacks)
 
 pub status_lacks : (byte : ℕ) → (byte ≡ 10) ⊎ (byte ≡ 32) → Lacks byte is_status status_word
 status_lacks byte is = λ status good. status_plain byte is status good
@@ -312,31 +239,15 @@ unfolding act_read
 no_act = refl
 
 act_plain : (a : Act) → (has_byte 10 (word_of a) ≡ false) × (has_byte 32 (word_of a) ≡ false)
-act_plain act.Sysinit = (refl, refl)
-act_plain act.Boot = (refl, refl)
-act_plain act.Bootwait = (refl, refl)
-act_plain act.Wait = (refl, refl)
-act_plain act.Once = (refl, refl)
-act_plain act.Respawn = (refl, refl)
-act_plain act.Ondemand = (refl, refl)
-act_plain act.Powerwait = (refl, refl)
-act_plain act.Powerfail = (refl, refl)
-act_plain act.Powerokwait = (refl, refl)
-act_plain act.Powerfailnow = (refl, refl)
-act_plain act.Off = (refl, refl)
-act_plain act.Initdefault = (refl, refl)
-act_plain act.Ctrlaltdel = (refl, refl)
-act_plain act.Kbrequest = (refl, refl)
+act_plain a = grind arith
 
 pub act_lacks : (byte : ℕ) → (byte ≡ 10) ⊎ (byte ≡ 32) → Lacks byte always word_of
 act_lacks byte is = λ a good. elim is [ inl e ↦ rw e (act_plain a).0 | inr e ↦ rw e (act_plain a).1 ]
 
 -- times, joined by commas
 times_back : (times : List ℕ) → list_all is_time times ≡ true → all_read time_read (map decimal times) ≡ Some times
-times_back [] are = refl
-times_back (time ∷ times) are =
-    let parts = and_parts (is_time time) (list_all is_time times) are in
-    rw (time_form.back time parts.0, times_back times parts.1) refl
+times_back [] are = grind (arith, time_form)
+times_back (time ∷ times) are = grind (arith, times_back times, time_form)
 
 times_own : (words : List (List ℕ)) (times : List ℕ) → all_read time_read words ≡ Some times → (map decimal times ≡ words) × (list_all is_time times ≡ true)
 times_own [] times is = let this : [] ≡ times = same_Some [] times is in subst (λ ts. (map decimal ts ≡ []) × (list_all is_time ts ≡ true)) this (refl, refl)
@@ -346,10 +257,8 @@ times_own (word ∷ words) times is = both_some ◌∷◌ (time_read word) (all_
     subst (λ ts. (map decimal ts ≡ word ∷ words) × (list_all is_time ts ≡ true)) this (rw (one.0, rest.0) refl, and_from (is_time time) (list_all is_time more) one.1 rest.1))
 
 no_commas : (byte : ℕ) (times : List ℕ) → byte < 48 → list_all is_time times ≡ true → list_all (λ w. not (has_byte byte w)) (map decimal times) ≡ true
-no_commas byte [] low are = refl
-no_commas byte (time ∷ times) low are =
-    let parts = and_parts (is_time time) (list_all is_time times) are in
-    and_from (not (has_byte byte (decimal time))) _ (ap not (time_lacks byte low time parts.0)) (no_commas byte times low parts.1)
+no_commas byte [] low are = grind (arith, time_lacks)
+no_commas byte (time ∷ times) low are = grind (arith, no_commas byte times, time_lacks)
 
 joined_lacks : (byte : ℕ) (times : List ℕ) → byte < 48 → (44 == byte) ≡ false → list_all is_time times ≡ true → has_byte byte (join_with_byte 44 (map decimal times)) ≡ false
 joined_lacks byte [] low other are = refl
@@ -386,11 +295,7 @@ starts_own word times is =
     (spelled times (ap (join_with_byte 44) own.0 ∙ join_with_byte-slice_split 44 word) own.0, and_from (nat_le (length times) STARTS) (list_all is_time times) few own.1)))
   where
     spelled : (ts : List ℕ) → join_with_byte 44 (map decimal ts) ≡ word → map decimal ts ≡ pieces_of 44 word → starts_word ts ≡ word
-    spelled [] whole pieces = absurd (none (pieces ∙ ap (pieces_of 44) (sym whole)))
-      where
-        none : ◌≡◌ {A = List (List ℕ)} [] (pieces_of 44 []) → ⊥
-        none e = cc
-    spelled (time ∷ ts) whole pieces = whole
+    spelled ts whole pieces = grind arith
 
 pub starts_form : Form are_starts starts_word starts_read
 starts_form = record { back = starts_back; own = starts_own }

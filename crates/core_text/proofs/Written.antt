@@ -1,13 +1,5 @@
 -- What is appended part by part.
-use Rattle.std.proofs.Common.{◌≡◌, ℕ, ◌+◌, List, [], ◌∷◌, ◌++◌, codes, map, length, decimal, append-nil, refl, sym, ap, ◌∙◌, arith, length-append}
-use Rattle.std.specs.List.{flat_map}
-use Rattle.std.proofs.lemmas.Grind.{flat_map-append}
-use Rattle.std.proofs.lemmas.List.{append_assoc, length-map}
-use Rattle.init_words.specs.declared.entries.Entry.{Entry}
-use Rattle.inittab_text.specs.Written.{fields_written, text_of}
-use Rattle.core_model.specs.Parts.{SavedState}
-use Rattle.core_text.specs.declared.versions.Version.{Version}
-use Rattle.core_text.specs.Lines.{body_lines, slot_line, starts_word, table_line, text_of_lines}
+use Rattle.core_text.proofs.Words.{◌≡◌, ℕ, ◌+◌, List, [], ◌∷◌, ◌++◌, codes, map, length, decimal, append-nil, refl, sym, ap, ◌∙◌, arith, length-append, flat_map, flat_map-append, append_assoc, length-map, Entry, fields_written, text_of, SavedState, Version, body_lines, slot_line, starts_word, table_line, text_of_lines}
 
 -- times with commas between them
 pub starts_joined : (time : ℕ) (times : List ℕ) → starts_word (time ∷ times) ≡ decimal time ++ flat_map (λ t. 44 ∷ decimal t) times
@@ -19,8 +11,7 @@ pub text_of_lines-append : (xs ys : List (List ℕ)) → text_of_lines (xs ++ ys
 text_of_lines-append xs ys = flat_map-append (λ line. line ++ 10 ∷ []) xs ys
 
 pub more_lines : (old mid new : List ℕ) (xs ys : List (List ℕ)) → mid ≡ old ++ text_of_lines xs → new ≡ mid ++ text_of_lines ys → new ≡ old ++ text_of_lines (xs ++ ys)
-more_lines old mid new xs ys first second =
-    second ∙ ap (λ t. t ++ text_of_lines ys) first ∙ append_assoc old (text_of_lines xs) (text_of_lines ys) ∙ ap (λ t. old ++ t) (sym (text_of_lines-append xs ys))
+more_lines old mid new xs ys first second = grind (arith, append_assoc, text_of_lines-append)
 
 -- the words of a record
 life_more : (child act order more : List ℕ) → (32 ∷ (child ++ 32 ∷ (act ++ 32 ∷ order))) ++ more ≡ 32 ∷ (child ++ 32 ∷ (act ++ 32 ∷ (order ++ more)))
@@ -32,12 +23,7 @@ appended old a b c d = append_assoc ((old ++ a) ++ b) c d ∙ append_assoc (old 
 pub slot_words : (old n1 n2 n3 n4 new id child act order limits : List ℕ) → n1 ≡ old ++ codes "slot " → n2 ≡ n1 ++ id → n3 ≡ n2 ++ 32 ∷ (child ++ 32 ∷ (act ++ 32 ∷ order)) → n4 ≡ n3 ++ limits → new ≡ n4 ++ 10 ∷ []
     → new ≡ old ++ ((codes "slot " ++ (id ++ 32 ∷ (child ++ 32 ∷ (act ++ 32 ∷ (order ++ limits))))) ++ 10 ∷ [])
 slot_words old n1 n2 n3 n4 new id child act order limits e1 e2 e3 e4 e5 =
-    let whole : n4 ≡ old ++ (codes "slot " ++ (id ++ (32 ∷ (child ++ 32 ∷ (act ++ 32 ∷ order)) ++ limits))) =
-    e4 ∙ ap (λ t. t ++ limits) (e3 ∙ ap (λ t. t ++ 32 ∷ (child ++ 32 ∷ (act ++ 32 ∷ order))) (e2 ∙ ap (λ t. t ++ id) e1)) ∙ appended old (codes "slot ") id (32 ∷ (child ++ 32 ∷ (act ++ 32 ∷ order))) limits in
-    let words : n4 ≡ old ++ (codes "slot " ++ (id ++ 32 ∷ (child ++ 32 ∷ (act ++ 32 ∷ (order ++ limits))))) =
-    whole ∙ ap (λ t. old ++ (codes "slot " ++ (id ++ t))) (life_more child act order limits) in
-    let line = codes "slot " ++ (id ++ 32 ∷ (child ++ 32 ∷ (act ++ 32 ∷ (order ++ limits)))) in
-    e5 ∙ ap (λ t. t ++ 10 ∷ []) words ∙ append_assoc old line (10 ∷ [])
+    grind (arith, appended, life_more, append_assoc)
 
 -- the lines of a table
 pub table_lines : (table : List Entry) → text_of table ≡ text_of_lines (map fields_written table)

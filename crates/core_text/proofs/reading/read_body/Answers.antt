@@ -1,5 +1,4 @@
-use Rattle.std.proofs.Common.{rules, ◌≡◌, Some}
-use Rattle.core_text.specs.Reading.{version_read}
+use Rattle.core_text.proofs.Words.{rules, ◌≡◌, Some, version_read}
 use Rattle.core_text.proofs.Bodies.{err_kept, is_body, no_body, no_heads, no_table, on_body}
 use Rattle.core_text.proofs.reading.read_body.Goals as goal
 

@@ -1,6 +1,4 @@
-use Rattle.std.proofs.Common.{◌≡◌, ◌++◌, true, length}
-use Rattle.std.specs.List.{list_all}
-use Rattle.core_text.specs.Range.{is_record}
+use Rattle.core_text.proofs.Words.{◌≡◌, ◌++◌, true, length, list_all, is_record}
 use Rattle.core_text.proofs.Whole.{records_text}
 use Rattle.core_text.proofs.reading.take_records.Given as goal
 

@@ -1,10 +1,4 @@
-use Rattle.std.proofs.Common.{rules, ◌≡◌, ◌≤◌, ◌∷◌, false, codes, length, Some, None, arith, sym, ap, ◌∙◌, length-append}
-use Rattle.std.proofs.lemmas.Grind.{common_steps}
-use Rattle.text_lines.specs.Lines.{cut}
-use Rattle.text_lines.proofs.CutLemmas.{cut-parts}
-use Rattle.init_words.specs.Ids.{same_id}
-use Rattle.respawn_limit.specs.declared.TheConstants.{STARTS}
-use Rattle.core_text.specs.Reading.{time_read}
+use Rattle.core_text.proofs.Words.{rules, ◌≡◌, ◌≤◌, ◌∷◌, false, codes, length, Some, None, arith, sym, ap, ◌∙◌, length-append, common_steps, cut, cut-parts, same_id, STARTS, time_read}
 use Rattle.core_text.proofs.Starts.{enough, few, joined-nil, last, many, many_last, no_last, no_time, starts_few, step, times_of}
 use Rattle.core_text.proofs.words.read_starts.Goals as goal
 

@@ -1,5 +1,4 @@
-use Rattle.std.proofs.Common.{◌≡◌, ◌++◌, ◌∷◌, drop, decimal}
-use Rattle.std.specs.List.{flat_map}
+use Rattle.core_text.proofs.Words.{◌≡◌, ◌++◌, ◌∷◌, drop, decimal, flat_map}
 use Rattle.core_text.proofs.writing.put_more.Given as goal
 
 -- what is there, and the times that are left, make the whole

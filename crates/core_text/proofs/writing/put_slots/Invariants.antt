@@ -1,7 +1,4 @@
-use Rattle.std.proofs.Common.{◌≡◌, ◌++◌, map, drop}
-use Rattle.core_model.specs.Parts.{record_of}
-use Rattle.core_text.specs.Lines.{slot_line, text_of_lines}
-use Rattle.core_text.specs.declared.versions.Version.TheVariants.{V2}
+use Rattle.core_text.proofs.Words.{◌≡◌, ◌++◌, map, drop, record_of, slot_line, text_of_lines, V2}
 use Rattle.core_text.proofs.writing.put_slots.Given as goal
 
 -- what is there, and the records that are left, make the whole

@@ -1,7 +1,4 @@
-use Rattle.std.proofs.Common.{◌≡◌, ◌<◌, ◌++◌, ◌∷◌, [], drop, take, ◌-◌, refl, decimal, get_or, length, sym, ap, ◌∙◌, ℕ, List, arith}
-use Rattle.std.specs.List.{flat_map}
-use Rattle.std.proofs.lemmas.List.{append_assoc}
-use Rattle.core_text.specs.Lines.{starts_word}
+use Rattle.core_text.proofs.Words.{◌≡◌, ◌<◌, ◌++◌, ◌∷◌, [], drop, take, ◌-◌, refl, decimal, get_or, length, sym, ap, ◌∙◌, ℕ, List, arith, flat_map, append_assoc, starts_word}
 use Rattle.core_text.proofs.Written.{starts_joined}
 use Rattle.core_text.proofs.writing.put_starts.Goals as goal
 

@@ -1,9 +1,4 @@
-use Rattle.std.proofs.Common.{◌≡◌, ◌+◌, ◌++◌, [], ◌∷◌, map, length, ap, ◌∙◌, arith}
-use Rattle.std.proofs.lemmas.List.{length-map}
-use Rattle.inittab_text.specs.Written.{fields_written}
-use Rattle.core_model.specs.Parts.{SavedState, record_of}
-use Rattle.core_text.specs.Lines.{body_lines, end_line, head_lines, slot_line, table_line, text_of_lines, version_line}
-use Rattle.core_text.specs.declared.versions.Version.TheVariants.{V2}
+use Rattle.core_text.proofs.Words.{◌≡◌, ◌+◌, ◌++◌, [], ◌∷◌, map, length, ap, ◌∙◌, arith, length-map, fields_written, SavedState, record_of, body_lines, end_line, head_lines, slot_line, table_line, text_of_lines, version_line, V2}
 use Rattle.core_text.proofs.Written.{body_length, more_lines, table_part}
 use Rattle.core_text.proofs.writing.write_state.Goals as goal
 
