@@ -1,5 +1,5 @@
 -- The lines before the last: what is read of them, and that nothing else is; and a text split at its last line.
-use Rattle.core_text.proofs.Words.{◌≡◌, ◌≢◌, ℕ, zero, suc, ◌-◌, Bool, true, false, cond, not, ◌&&◌, ◌==◌, List, [], ◌∷◌, ◌++◌, length, take, map, append-nil, codes, Option, Some, None, Result, Ok, Err, refl, sym, ap, ◌∙◌, subst, arith, list_all, starts_with, and_parts, and_from, lt-ltb, not-true, append_assoc, list_all-append, option_and_then_some, same_Some, some_pair_parts, after_lines, cut, has_byte, newlines, cut-append, cut-parts, newlines-append, newlines-line, take-front, Entry, table_parts, option_map_some, one_line, parts, fields_written, is_empty, is_table, is_written, CoreFields, StateFault, PlainRecord, SavedState, Version, holds_table, body_lines, head_lines, slot_line, table_line, text_of_lines, version_line, are_heads, is_record, is_state, OnLine, end_split, heads_read, last_line, table_read, version_read, AreRecords, IsBody, IsBodyIn, NoBody, NoRecords, RefusedBody, is_line}
+use Rattle.core_text.proofs.CommonWords.{◌≡◌, ◌≢◌, ℕ, zero, suc, ◌-◌, Bool, true, false, cond, not, ◌&&◌, ◌==◌, List, [], ◌∷◌, ◌++◌, length, take, map, append-nil, codes, Option, Some, None, Result, Ok, Err, refl, sym, ap, ◌∙◌, subst, arith, list_all, starts_with, and_parts, and_from, lt-ltb, not-true, append_assoc, list_all-append, option_and_then_some, same_Some, some_pair_parts, after_lines, cut, has_byte, newlines, cut-append, cut-parts, newlines-append, newlines-line, take-front, Entry, table_parts, option_map_some, one_line, parts, fields_written, is_empty, is_table, is_written, CoreFields, StateFault, PlainRecord, SavedState, Version, holds_table, body_lines, head_lines, slot_line, table_line, text_of_lines, version_line, are_heads, is_record, is_state, OnLine, end_split, heads_read, last_line, table_read, version_read, AreRecords, IsBody, IsBodyIn, NoBody, NoRecords, RefusedBody, is_line}
 use Rattle.std.specs.Option.{option_map}
 use Rattle.std.specs.Result.{IfErr, IsErrAnd, MatchResult}
 use Rattle.core_text.specs.declared.state_fault.StateFault.TheVariants as fault

@@ -1,5 +1,5 @@
 -- No line of a state's text but the last begins with `end `: so no text that is cut short is whole.
-use Rattle.core_text.proofs.Words.{◌≡◌, ℕ, zero, suc, ◌+◌, ◌/◌, ◌%◌, ◌<◌, Bool, true, false, cond, not, ◌==◌, nat_lt, List, [], ◌∷◌, ◌++◌, length, drop, map, codes, decimal, refl, sym, ap, ◌∙◌, subst, arith, lit<, length-append, list_all, starts_with, and_parts, ne_eqb, not-true, or_from, append_assoc, list_all-append, some_pair_parts, starts_is, cut, has_byte, cut-append, Entry, word_of, is_id_byte, id_parts, table_parts, parts, fields_written, is_written, levels_written, PlainRecord, SavedState, Version, body_lines, end_line, slot_line, text_of_lines, is_state, IsTextOf, Whole, is_line}
+use Rattle.core_text.proofs.CommonWords.{◌≡◌, ℕ, zero, suc, ◌+◌, ◌/◌, ◌%◌, ◌<◌, Bool, true, false, cond, not, ◌==◌, nat_lt, List, [], ◌∷◌, ◌++◌, length, drop, map, codes, decimal, refl, sym, ap, ◌∙◌, subst, arith, lit<, length-append, list_all, starts_with, and_parts, ne_eqb, not-true, or_from, append_assoc, list_all-append, some_pair_parts, starts_is, cut, has_byte, cut-append, Entry, word_of, is_id_byte, id_parts, table_parts, parts, fields_written, is_written, levels_written, PlainRecord, SavedState, Version, body_lines, end_line, slot_line, text_of_lines, is_state, IsTextOf, Whole, is_line}
 use Rattle.std.specs.Fmt.{digit_glyph, digits, digits_onto}
 use Rattle.std.proofs.lemmas.Bool.Decides.{Decides-eqb}
 use Rattle.core_text.proofs.Bodies.{body_lines_are, state_parts}

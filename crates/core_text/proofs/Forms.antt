@@ -1,5 +1,5 @@
 -- Written forms that are read exactly: what is written is read as it was, and what is read is written so.
-use Rattle.core_text.proofs.Words.{arith, ◌≡◌, ◌⊎◌, inl, inr, ℕ, Bool, true, false, cond, ◌&&◌, ◌==◌, List, [], ◌∷◌, ◌++◌, Option, Some, None, refl, sym, ap, ◌∙◌, subst, and_parts, and_from, or_from, eqb-true, append_assoc, option_and_then_some, same_Some, cut, has_byte, cut-parts, cut-append, has_byte-append, same_id, same_id-is, same_id-self, option_map_some, both, both_some, bit, or_word, passes, checked_by, pair, pair_read, behind, named_read, or_read, bit_read, first_bit, line_read, then_read, made_read}
+use Rattle.core_text.proofs.CommonWords.{arith, ◌≡◌, ◌⊎◌, inl, inr, ℕ, Bool, true, false, cond, ◌&&◌, ◌==◌, List, [], ◌∷◌, ◌++◌, Option, Some, None, refl, sym, ap, ◌∙◌, subst, and_parts, and_from, or_from, eqb-true, append_assoc, option_and_then_some, same_Some, cut, has_byte, cut-parts, cut-append, has_byte-append, same_id, same_id-is, same_id-self, option_map_some, both, both_some, bit, or_word, passes, checked_by, pair, pair_read, behind, named_read, or_read, bit_read, first_bit, line_read, then_read, made_read}
 use Rattle.std.specs.Option.{option_map}
 
 pub record Form {X : Type 0} (ok : X → Bool) (write : X → List ℕ) (read : List ℕ → Option X) : Type 0 where

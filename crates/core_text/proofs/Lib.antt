@@ -1,4 +1,5 @@
 pub mod Bodies
+pub mod CommonWords
 pub mod Ends
 pub mod Forms
 pub mod LineForms
@@ -9,5 +10,4 @@ pub mod Starts
 pub mod Taken
 pub mod Whole
 pub mod WordForms
-pub mod Words
 pub mod Written

@@ -1,5 +1,5 @@
 -- A text of a state says one state, and the generation that its second line names.
-use Rattle.core_text.proofs.Words.{◌≡◌, ℕ, true, false, subst, List, [], ◌∷◌, ◌++◌, length, drop, Some, refl, sym, ap, ◌∙◌, arith, list_all, and_parts, append_assoc, some_pair_parts, has_byte, cut-append, CoreFields, PlainRecord, SavedState, Version, V1, V2, body_lines, end_line, generation_line, slot_line, state_lines, text_of_lines, version_line, are_heads, is_generation, is_record, generation_line_read, generation_of, heads_read, line_read, slot_line_read, table_read, IsTextIn, IsTextOf}
+use Rattle.core_text.proofs.CommonWords.{◌≡◌, ℕ, true, false, subst, List, [], ◌∷◌, ◌++◌, length, drop, Some, refl, sym, ap, ◌∙◌, arith, list_all, and_parts, append_assoc, some_pair_parts, has_byte, cut-append, CoreFields, PlainRecord, SavedState, Version, V1, V2, body_lines, end_line, generation_line, slot_line, state_lines, text_of_lines, version_line, are_heads, is_generation, is_record, generation_line_read, generation_of, heads_read, line_read, slot_line_read, table_read, IsTextIn, IsTextOf}
 use Rattle.core_text.proofs.Bodies.{Steps, body_text, state_parts, steps}
 use Rattle.core_text.proofs.LineForms.{generation_lacks, generation_line_form, slot_front}
 use Rattle.core_text.proofs.Taken.{whole_text}

@@ -1,5 +1,5 @@
 -- A state that keeps the rules can be said in a text, where its seconds are in range.
-use Rattle.core_text.proofs.Words.{◌≡◌, refl, ℕ, ◌+◌, ◌^◌, ◌<◌, ◌≤◌, ◌==◌, Bool, true, false, ◌&&◌, cond, List, [], ◌∷◌, map, length, nat_le, Option, is_none, arith, list_all, and_parts, and_from, lt-ltb, le-leb, leb-true, eqb-true, Entry, is_id, id_parts, table_parts, parts, is_status, V2, holds_id, holds_table, is_table, is_written, CLOCK_LIMIT, HOLD, STARTS, Stop, record_of, state_of, are_starts, has_ranged_words, has_short_seconds, is_child, is_record, is_state, is_stop, is_time, passes}
+use Rattle.core_text.proofs.CommonWords.{◌≡◌, refl, ℕ, ◌+◌, ◌^◌, ◌<◌, ◌≤◌, ◌==◌, Bool, true, false, ◌&&◌, cond, List, [], ◌∷◌, map, length, nat_le, Option, is_none, arith, list_all, and_parts, and_from, lt-ltb, le-leb, leb-true, eqb-true, Entry, is_id, id_parts, table_parts, parts, is_status, V2, holds_id, holds_table, is_table, is_written, CLOCK_LIMIT, HOLD, STARTS, Stop, record_of, state_of, are_starts, has_ranged_words, has_short_seconds, is_child, is_record, is_state, is_stop, is_time, passes}
 use Rattle.init_words.specs.declared.ids.TheConstants.{ID_LIMIT}
 use Rattle.inittab_text.specs.declared.tables.TheConstants.{ENTRY_LIMIT}
 use Rattle.respawn_limit.specs.State.{LimiterState}

@@ -1,5 +1,5 @@
 -- The text of a state: no entry, and one child that is to be stopped, with a signal under way; and as version 1 says it.
-use Rattle.core_text.proofs.Words.{◌≡◌, refl, true, false, [], ◌∷◌, codes, Some, None, lit<, Exit, Due, CoreFields, PlainRecord, SavedState, V1, state_text, text_in}
+use Rattle.core_text.proofs.CommonWords.{◌≡◌, refl, true, false, [], ◌∷◌, codes, Some, None, lit<, Exit, Due, CoreFields, PlainRecord, SavedState, V1, state_text, text_in}
 use Rattle.std.proofs.lemmas.Fmt.{decimal_digit}
 use Rattle.init_words.specs.declared.actions.Act.TheVariants as act
 use Rattle.init_words.specs.declared.levels.Level.TheVariants as level

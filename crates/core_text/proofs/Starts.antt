@@ -1,5 +1,5 @@
 -- Times read one by one, and how many there may be.
-use Rattle.core_text.proofs.Words.{◌≡◌, ℕ, ◌<◌, ◌≤◌, true, false, nat_le, List, [], ◌∷◌, codes, ◌++◌, length, Option, Some, None, refl, sym, ap, ◌∙◌, arith, length-append, leb-true, false_from_ne_true, append_assoc, cut, pieces_of, pieces_of-cut, pieces_of-whole, both, same_id, STARTS, all_read, checked_by, starts_read, time_read}
+use Rattle.core_text.proofs.CommonWords.{◌≡◌, ℕ, ◌<◌, ◌≤◌, true, false, nat_le, List, [], ◌∷◌, codes, ◌++◌, length, Option, Some, None, refl, sym, ap, ◌∙◌, arith, length-append, leb-true, false_from_ne_true, append_assoc, cut, pieces_of, pieces_of-cut, pieces_of-whole, both, same_id, STARTS, all_read, checked_by, starts_read, time_read}
 use Rattle.std.specs.Option.{option_map}
 
 -- these before what was read

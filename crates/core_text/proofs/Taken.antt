@@ -1,5 +1,5 @@
 -- A whole text is read as one state at most, and why it is refused.
-use Rattle.core_text.proofs.Words.{◌≡◌, ◌≢◌, ℕ, ◌<◌, ◌^◌, true, false, not, ◌==◌, List, [], ◌∷◌, ◌++◌, length, append-nil, codes, Option, Some, None, refl, sym, ap, ◌∙◌, subst, arith, lit<, length-append, list_all, starts_with, and_parts, lt-ltb, not-true, append_assoc, some_pair_parts, cut, has_byte, newlines, cut-append, StateFault, Version, PlainRecord, SavedState, body_lines, end_line, slot_line, text_in, text_of_lines, version_line, is_record, is_time, end_line_read, end_split, line_read, slot_line_read, table_read, version_read, BeginsAs, BeginsAsKnown, IsBody, IsBodyIn, IsCut, IsOtherVersion, Refused, RefusedBody, IsTextIn, IsTextOf, SaysNone, Whole, is_line}
+use Rattle.core_text.proofs.CommonWords.{◌≡◌, ◌≢◌, ℕ, ◌<◌, ◌^◌, true, false, not, ◌==◌, List, [], ◌∷◌, ◌++◌, length, append-nil, codes, Option, Some, None, refl, sym, ap, ◌∙◌, subst, arith, lit<, length-append, list_all, starts_with, and_parts, lt-ltb, not-true, append_assoc, some_pair_parts, cut, has_byte, newlines, cut-append, StateFault, Version, PlainRecord, SavedState, body_lines, end_line, slot_line, text_in, text_of_lines, version_line, is_record, is_time, end_line_read, end_split, line_read, slot_line_read, table_read, version_read, BeginsAs, BeginsAsKnown, IsBody, IsBodyIn, IsCut, IsOtherVersion, Refused, RefusedBody, IsTextIn, IsTextOf, SaysNone, Whole, is_line}
 use Rattle.trace_text.proofs.ReadTexts.{newlines-few}
 use Rattle.core_text.specs.declared.state_fault.StateFault.TheVariants as fault
 use Rattle.core_text.proofs.Bodies.{body_lines_are, heads_text, lost, newlines_are, of_version, split_back, split_own, state_parts, steps_of, to_heads, version_back, version_own}

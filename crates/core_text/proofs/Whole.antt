@@ -1,5 +1,5 @@
 -- A whole text, part by part: what is read of the text of a state, and that nothing else is.
-use Rattle.core_text.proofs.Words.{◌≡◌, ◌≢◌, ℕ, ◌<◌, ◌^◌, true, ◌&&◌, List, [], ◌∷◌, ◌++◌, length, map, append-nil, Option, Some, None, refl, sym, ap, ◌∙◌, arith, lit<, length-append, list_all, and_parts, and_from, lt-ltb, append_assoc, list_all-append, option_and_then_some, some_pair_parts, Entry, table_parts, table_begun, fields_written, is_table, text_of, PlainRecord, Version, holds_table, slot_line, table_line, text_of_lines, is_record, line_read, slot_line_read, table_in, table_line_read, table_read}
+use Rattle.core_text.proofs.CommonWords.{◌≡◌, ◌≢◌, ℕ, ◌<◌, ◌^◌, true, ◌&&◌, List, [], ◌∷◌, ◌++◌, length, map, append-nil, Option, Some, None, refl, sym, ap, ◌∙◌, arith, lit<, length-append, list_all, and_parts, and_from, lt-ltb, append_assoc, list_all-append, option_and_then_some, some_pair_parts, Entry, table_parts, table_begun, fields_written, is_table, text_of, PlainRecord, Version, holds_table, slot_line, table_line, text_of_lines, is_record, line_read, slot_line_read, table_in, table_line_read, table_read}
 use Rattle.inittab_text.proofs.LineLemmas.{begun_back, begun_own}
 use Rattle.core_text.proofs.Forms.{checked_some, line_front}
 use Rattle.core_text.proofs.LineForms.{slot_front, table_line_form}

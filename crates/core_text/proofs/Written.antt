@@ -1,5 +1,5 @@
 -- What is appended part by part.
-use Rattle.core_text.proofs.Words.{◌≡◌, ℕ, ◌+◌, List, [], ◌∷◌, ◌++◌, codes, map, length, decimal, append-nil, refl, sym, ap, ◌∙◌, arith, length-append, flat_map, flat_map-append, append_assoc, length-map, Entry, fields_written, text_of, SavedState, Version, body_lines, slot_line, starts_word, table_line, text_of_lines}
+use Rattle.core_text.proofs.CommonWords.{◌≡◌, ℕ, ◌+◌, List, [], ◌∷◌, ◌++◌, codes, map, length, decimal, append-nil, refl, sym, ap, ◌∙◌, arith, length-append, flat_map, flat_map-append, append_assoc, length-map, Entry, fields_written, text_of, SavedState, Version, body_lines, slot_line, starts_word, table_line, text_of_lines}
 
 -- times with commas between them
 pub starts_joined : (time : ℕ) (times : List ℕ) → starts_word (time ∷ times) ≡ decimal time ++ flat_map (λ t. 44 ∷ decimal t) times

@@ -1,4 +1,4 @@
-use Rattle.core_text.proofs.Words.{◌∙◌}
+use Rattle.core_text.proofs.CommonWords.{◌∙◌}
 use Rattle.core_text.proofs.Prefixes.{generation_said}
 use Rattle.core_text.proofs.reading.generation_of.Goals as goal
 

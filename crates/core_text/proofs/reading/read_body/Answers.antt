@@ -1,4 +1,4 @@
-use Rattle.core_text.proofs.Words.{rules, ◌≡◌, Some, version_read}
+use Rattle.core_text.proofs.CommonWords.{rules, ◌≡◌, Some, version_read}
 use Rattle.core_text.proofs.Bodies.{err_kept, is_body, no_body, no_heads, no_table, on_body}
 use Rattle.core_text.proofs.reading.read_body.Goals as goal
 

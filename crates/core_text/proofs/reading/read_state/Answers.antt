@@ -1,4 +1,4 @@
-use Rattle.core_text.proofs.Words.{rules, ◌≡◌, ◌≢◌, ◌<◌, ◌^◌, Some, None, Err, length, subst, sym, ap, ◌∙◌, arith, common_steps, newlines, end_line_read, end_split, SavedState, Refused}
+use Rattle.core_text.proofs.CommonWords.{rules, ◌≡◌, ◌≢◌, ◌<◌, ◌^◌, Some, None, Err, length, subst, sym, ap, ◌∙◌, arith, common_steps, newlines, end_line_read, end_split, SavedState, Refused}
 use Rattle.core_text.specs.declared.state_fault.StateFault.TheVariants.{Cut}
 use Rattle.core_text.proofs.Bodies.{err_kept, match_kept}
 use Rattle.core_text.proofs.Taken.{body_never, body_of, body_refused, cut_refused, end_refused, no_split, only_one, other_body, says_of, whole_of}

@@ -1,4 +1,4 @@
-use Rattle.core_text.proofs.Words.{rules, ◌≡◌, Some, arith, length, length-append, ap, after_lines, after_lines-front}
+use Rattle.core_text.proofs.CommonWords.{rules, ◌≡◌, Some, arith, length, length-append, ap, after_lines, after_lines-front}
 use Rattle.core_text.proofs.reading.split_end.Goals as goal
 
 pub slice_bounds-result-count : goal.slice_bounds-result-count

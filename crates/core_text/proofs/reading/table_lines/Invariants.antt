@@ -1,4 +1,4 @@
-use Rattle.core_text.proofs.Words.{◌≤◌, ◌+◌}
+use Rattle.core_text.proofs.CommonWords.{◌≤◌, ◌+◌}
 use Rattle.core_text.proofs.reading.table_lines.Given as goal
 
 -- the lines that are known, and those among which the first that is wrong stands, are no more than were given

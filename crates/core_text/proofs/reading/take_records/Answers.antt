@@ -1,4 +1,4 @@
-use Rattle.core_text.proofs.Words.{◌≡◌, ◌≢◌, ◌<◌, [], length, Some, None, sym, ap, ◌∙◌, arith, common_steps, nil_from_length, line_read, slot_line_read, NoRecords}
+use Rattle.core_text.proofs.CommonWords.{◌≡◌, ◌≢◌, ◌<◌, [], length, Some, None, sym, ap, ◌∙◌, arith, common_steps, nil_from_length, line_read, slot_line_read, NoRecords}
 use Rattle.core_text.proofs.Bodies.{err_kept, on_line}
 use Rattle.core_text.proofs.Whole.{no_records, none_left, one_record, records_are, start}
 use Rattle.core_text.proofs.reading.take_records.Goals as goal

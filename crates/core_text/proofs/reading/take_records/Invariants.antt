@@ -1,4 +1,4 @@
-use Rattle.core_text.proofs.Words.{◌≡◌, ◌++◌, true, length, list_all, is_record}
+use Rattle.core_text.proofs.CommonWords.{◌≡◌, ◌++◌, true, length, list_all, is_record}
 use Rattle.core_text.proofs.Whole.{records_text}
 use Rattle.core_text.proofs.reading.take_records.Given as goal
 

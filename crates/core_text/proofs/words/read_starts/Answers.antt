@@ -1,4 +1,4 @@
-use Rattle.core_text.proofs.Words.{rules, ◌≡◌, ◌≤◌, ◌∷◌, false, codes, length, Some, None, arith, sym, ap, ◌∙◌, length-append, common_steps, cut, cut-parts, same_id, STARTS, time_read}
+use Rattle.core_text.proofs.CommonWords.{rules, ◌≡◌, ◌≤◌, ◌∷◌, false, codes, length, Some, None, arith, sym, ap, ◌∙◌, length-append, common_steps, cut, cut-parts, same_id, STARTS, time_read}
 use Rattle.core_text.proofs.Starts.{enough, few, joined-nil, last, many, many_last, no_last, no_time, starts_few, step, times_of}
 use Rattle.core_text.proofs.words.read_starts.Goals as goal
 

@@ -1,4 +1,4 @@
-use Rattle.core_text.proofs.Words.{◌≡◌, length}
+use Rattle.core_text.proofs.CommonWords.{◌≡◌, length}
 use Rattle.core_text.proofs.Starts.{joined, times_of}
 use Rattle.core_text.proofs.words.read_starts.Given as goal
 

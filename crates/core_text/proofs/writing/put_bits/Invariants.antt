@@ -1,4 +1,4 @@
-use Rattle.core_text.proofs.Words.{◌≡◌, ◌++◌, ◌∷◌, drop, bits}
+use Rattle.core_text.proofs.CommonWords.{◌≡◌, ◌++◌, ◌∷◌, drop, bits}
 use Rattle.core_text.proofs.writing.put_bits.Given as goal
 
 -- what is there, and the flags that are left, make the whole

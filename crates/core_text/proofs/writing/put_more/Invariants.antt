@@ -1,4 +1,4 @@
-use Rattle.core_text.proofs.Words.{◌≡◌, ◌++◌, ◌∷◌, drop, decimal, flat_map}
+use Rattle.core_text.proofs.CommonWords.{◌≡◌, ◌++◌, ◌∷◌, drop, decimal, flat_map}
 use Rattle.core_text.proofs.writing.put_more.Given as goal
 
 -- what is there, and the times that are left, make the whole

@@ -1,4 +1,4 @@
-use Rattle.core_text.proofs.Words.{◌++◌, ap, ◌∙◌}
+use Rattle.core_text.proofs.CommonWords.{◌++◌, ap, ◌∙◌}
 use Rattle.core_text.proofs.Written.{slot_words}
 use Rattle.core_text.proofs.writing.put_slot.Goals as goal
 

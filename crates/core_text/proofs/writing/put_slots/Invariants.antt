@@ -1,4 +1,4 @@
-use Rattle.core_text.proofs.Words.{◌≡◌, ◌++◌, map, drop, record_of, slot_line, text_of_lines, V2}
+use Rattle.core_text.proofs.CommonWords.{◌≡◌, ◌++◌, map, drop, record_of, slot_line, text_of_lines, V2}
 use Rattle.core_text.proofs.writing.put_slots.Given as goal
 
 -- what is there, and the records that are left, make the whole

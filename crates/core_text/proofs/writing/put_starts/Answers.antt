@@ -1,4 +1,4 @@
-use Rattle.core_text.proofs.Words.{◌≡◌, ◌<◌, ◌++◌, ◌∷◌, [], drop, take, ◌-◌, refl, decimal, get_or, length, sym, ap, ◌∙◌, ℕ, List, arith, flat_map, append_assoc, starts_word}
+use Rattle.core_text.proofs.CommonWords.{◌≡◌, ◌<◌, ◌++◌, ◌∷◌, [], drop, take, ◌-◌, refl, decimal, get_or, length, sym, ap, ◌∙◌, ℕ, List, arith, flat_map, append_assoc, starts_word}
 use Rattle.core_text.proofs.Written.{starts_joined}
 use Rattle.core_text.proofs.writing.put_starts.Goals as goal
 

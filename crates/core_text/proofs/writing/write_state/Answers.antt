@@ -1,4 +1,4 @@
-use Rattle.core_text.proofs.Words.{◌≡◌, ◌+◌, ◌++◌, [], ◌∷◌, map, length, ap, ◌∙◌, arith, length-map, fields_written, SavedState, record_of, body_lines, end_line, head_lines, slot_line, table_line, text_of_lines, version_line, V2}
+use Rattle.core_text.proofs.CommonWords.{◌≡◌, ◌+◌, ◌++◌, [], ◌∷◌, map, length, ap, ◌∙◌, arith, length-map, fields_written, SavedState, record_of, body_lines, end_line, head_lines, slot_line, table_line, text_of_lines, version_line, V2}
 use Rattle.core_text.proofs.Written.{body_length, more_lines, table_part}
 use Rattle.core_text.proofs.writing.write_state.Goals as goal
 
