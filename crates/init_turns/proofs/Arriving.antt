@@ -1,27 +1,8 @@
 -- Turns as rounds, and the level that they come to.
-use Rattle.std.proofs.Common.{◌≡◌, refl, sym, ap, ◌∙◌, subst, ℕ, zero, suc, ◌+◌, ◌-◌, ◌<◌, ◌≤◌, ◌==◌, inl, inr, Bool, true, false, ◌&&◌, nat_lt, List, [], ◌∷◌, ◌++◌, length, take, None, arith, length-append}
-use Rattle.std.specs.List.{list_all}
-use Rattle.std.proofs.lemmas.Bool.{false≢true, and_from, and_parts, ltb-true}
-use Rattle.std.proofs.lemmas.List.Folds.{list_all-append}
-use Rattle.trace_events.specs.declared.steps.Goal.{Goal}
-use Rattle.trace_events.specs.Event.{Event}
+use Rattle.init_turns.proofs.Words.{◌≡◌, refl, sym, ap, ◌∙◌, subst, ℕ, zero, suc, ◌+◌, ◌-◌, ◌<◌, ◌≤◌, inl, inr, Bool, true, false, ◌&&◌, nat_lt, List, [], ◌∷◌, ◌++◌, length, take, arith, length-append, list_all, and_from, and_parts, ltb-true, list_all-append, Goal, Event, is_sound, CoreState, AreUndisturbed, is_undisturbed, AtRest, after_rounds, Clock, Pause, HostCall, STEP_LIMIT, are_carried, are_seconds_short, is_allowed, Point, point_after, AreSteps, AreTurns, IsTurn, are_full, are_lates, are_takes, has_come, is_step, calls_allowed, carried_parts, point_after-append, ArrivesIn, IsSettled, are_undisturbed_turns, is_answered_turn, past_after, round_of, up_to_pause, without_turn, without_turns}
 use Rattle.trace_events.specs.Past.{is_idle}
-use Rattle.trace_events.specs.Sound.{is_sound}
-use Rattle.core_model.specs.State.{CoreState}
-use Rattle.core_waiting.specs.Arrival.{AreUndisturbed, is_undisturbed}
-use Rattle.core_waiting.specs.Rest.{AtRest, after_rounds}
 use Rattle.core_waiting.proofs.Arriving.{arrives, arrives_there}
 use Rattle.core_waiting.proofs.Idle.{idle_none_due}
-use Rattle.host_calls.specs.declared.calls.Call.TheVariants.{Start, Look, Signal, Late, Clock, TakeBytes, ReadTables, Carry, Announce, Pause}
-use Rattle.trace_events.specs.declared.happenings.Happening.TheVariants as past
-use Rattle.host_calls.specs.Calls.{HostCall}
-use Rattle.host_trace.specs.declared.TheConstants.{STEP_LIMIT, LATE_LIMIT}
-use Rattle.host_trace.specs.Leads.{are_carried, are_seconds_short, is_allowed}
-use Rattle.host_trace.specs.Point.{Point, point_after}
-use Rattle.host_trace.specs.Turns.{AreSteps, AreTurns, IsTurn, are_full, are_lates, are_takes, bytes_taken, has_come, is_room, is_step}
-use Rattle.host_trace.proofs.Leading.{calls_allowed, carried_parts}
-use Rattle.host_trace.proofs.Point.{point_after-append}
-use Rattle.init_turns.specs.Arriving.{ArrivesIn, IsSettled, are_undisturbed_turns, is_answered_turn, past_after, round_of, up_to_pause, without_turn, without_turns}
 
 -- ---- a turn has no pause
 
@@ -30,36 +11,21 @@ goes_on Pause = false
 goes_on _ = true
 
 come_goes : (calls : List HostCall) → list_all has_come calls ≡ true → list_all goes_on calls ≡ true
-come_goes [] all = refl
-come_goes (Late late ∷ calls) all = come_goes calls (and_parts (has_come (Late late)) (list_all has_come calls) all).1
-come_goes (_ ∷ calls) all = absurd (false≢true all)
+come_goes [] all = grind arith
+come_goes (happening ∷ calls) all = grind (arith, come_goes calls)
 
 lates_go : (calls : List HostCall) → are_lates calls ≡ true → list_all goes_on calls ≡ true
-lates_go [] h = refl
-lates_go (Late None ∷ calls) h = come_goes calls (and_parts (list_all has_come calls) (nat_lt (length calls) LATE_LIMIT) h).0
-lates_go (call ∷ calls) h = come_goes (call ∷ calls) (and_parts (list_all has_come (call ∷ calls)) (length (call ∷ calls) == LATE_LIMIT) h).0
+lates_go calls h = grind (arith, come_goes)
 
 full_go : (calls : List HostCall) → are_full calls ≡ true → list_all goes_on calls ≡ true
-full_go [] full = refl
-full_go (TakeBytes room taken ∷ calls) full = full_go calls (and_parts _ (are_full calls) full).1
-full_go (_ ∷ calls) full = absurd (false≢true full)
+full_go [] full = grind arith
+full_go (happening ∷ calls) full = grind (arith, full_go calls)
 
 takes_go : (calls : List HostCall) → are_takes calls ≡ true → list_all goes_on calls ≡ true
-takes_go (TakeBytes room taken ∷ calls) takes =
-    full_go calls (and_parts (is_room room (bytes_taken calls)) (are_full calls) (and_parts (is_room room (bytes_taken calls) && are_full calls) _ takes).0).1
-takes_go [] takes = refl
-takes_go (_ ∷ calls) takes = absurd (false≢true takes)
+takes_go calls takes = grind (arith, full_go)
 
 step_goes : (calls : List HostCall) → is_step calls ≡ true → (list_all goes_on calls ≡ true) × (1 ≤ length calls)
-step_goes (Start id command reply ∷ []) h = (refl, omega arith)
-step_goes (Look id reply ∷ []) h = (refl, omega arith)
-step_goes (Signal id sent reply ∷ []) h = (refl, omega arith)
-step_goes (ReadTables parts ∷ []) h = (refl, omega arith)
-step_goes (Carry text back ∷ []) h = (refl, omega arith)
-step_goes (Announce happening ∷ []) h = (refl, omega arith)
-step_goes (Announce past.NotRead ∷ ReadTables parts ∷ []) h = (refl, omega arith)
-step_goes (Announce (past.Handed how) ∷ Carry text back ∷ []) h = (refl, omega arith)
-step_goes _ h = absurd (false≢true h)
+step_goes calls h = grind arith
 
 steps_go : (count : ℕ) (calls : List HostCall) → AreSteps count calls → (list_all goes_on calls ≡ true) × (count ≤ length calls)
 steps_go zero calls none = (ap (list_all goes_on) none, omega arith)
@@ -71,12 +37,7 @@ steps_go (suc count) calls (last, before, is, step, steps) =
     )
 
 turn_goes : (done : Bool) (calls : List HostCall) → IsTurn done calls → list_all goes_on calls ≡ true
-turn_goes done calls turn =
-    ap (list_all goes_on) turn.whole ∙ list_all-append goes_on turn.steps (turn.lates ++ (turn.takes ++ Clock turn.time ∷ []))
-    ∙ and_from (list_all goes_on turn.steps) _ (steps_go turn.count turn.steps turn.step_calls).0
-    (list_all-append goes_on turn.lates (turn.takes ++ Clock turn.time ∷ [])
-    ∙ and_from (list_all goes_on turn.lates) _ (lates_go turn.lates turn.late_calls)
-    (list_all-append goes_on turn.takes (Clock turn.time ∷ []) ∙ and_from (list_all goes_on turn.takes) true (takes_go turn.takes turn.byte_calls) refl))
+turn_goes done calls turn = grind (arith, list_all-append, steps_go, lates_go, takes_go)
 
 -- one of fewer calls than it may take steps is done
 short_done : (done : Bool) (calls : List HostCall) → IsTurn done calls → length calls < STEP_LIMIT → done ≡ true
@@ -86,17 +47,8 @@ short_done done calls turn short = elim turn.ended [
 ]
 
 up_to-append : (front calls : List HostCall) → list_all goes_on front ≡ true → up_to_pause (front ++ calls) ≡ up_to_pause calls
-up_to-append [] calls all = refl
-up_to-append (Pause ∷ front) calls all = absurd (false≢true all)
-up_to-append (Start id command reply ∷ front) calls all = up_to-append front calls all
-up_to-append (Look id reply ∷ front) calls all = up_to-append front calls all
-up_to-append (Signal id sent reply ∷ front) calls all = up_to-append front calls all
-up_to-append (Late late ∷ front) calls all = up_to-append front calls all
-up_to-append (Clock time ∷ front) calls all = up_to-append front calls all
-up_to-append (TakeBytes room taken ∷ front) calls all = up_to-append front calls all
-up_to-append (ReadTables parts ∷ front) calls all = up_to-append front calls all
-up_to-append (Carry text back ∷ front) calls all = up_to-append front calls all
-up_to-append (Announce happening ∷ front) calls all = up_to-append front calls all
+up_to-append [] calls all = grind arith
+up_to-append (happening ∷ front) calls all = grind (arith, up_to-append front calls)
 
 -- turns end with a pause
 up_to_turns : (fitted : Goal → Point → Type 0) (cores : List CoreState) (calls : List HostCall) → AreTurns fitted cores calls → up_to_pause calls ≡ calls
@@ -112,8 +64,7 @@ take_front front rest = by front (length (front ++ rest) - length rest) (omega (
   by : (xs : List Event) (n : ℕ) → n ≡ length xs → take n (xs ++ rest) ≡ xs
   by [] n is = ap (λ k. take k rest) is ∙ none rest where
     none : (ys : List Event) → take 0 ys ≡ []
-    none [] = refl
-    none (y ∷ ys) = refl
+    none ys = grind arith
   by (x ∷ xs) n is = ap (λ k. take k (x ∷ (xs ++ rest))) is ∙ ap (λ ys. x ∷ ys) (by xs (length xs) refl)
 
 module _ (fitted : Goal → Point → Type 0) (goal : Goal) (p : Point) (sound : is_sound goal p.past ≡ true) (fits : fitted goal p) (short : are_seconds_short goal p.past ≡ true) where

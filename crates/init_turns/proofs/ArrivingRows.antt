@@ -1,23 +1,11 @@
 -- Two turns, the second of which settles the level: `refl` computes them.
-use Rattle.std.proofs.Common.{◌≡◌, refl, true, false, List, [], ◌∷◌, codes, None, Some, Ok}
+use Rattle.init_turns.proofs.Words.{◌≡◌, refl, true, false, List, [], ◌∷◌, codes, None, Some, Ok, Entry, Alive, Born, Ended, Enter, Settle, opening_goal, rounds_to_come, is_level_announced, Start, Look, Late, Clock, TakeBytes, Announce, Pause, HostCall, is_allowed, has_trace, are_undisturbed_turns, past_after, without_turns, opening_point}
 use Rattle.init_words.specs.declared.actions.Act.TheVariants as act
 use Rattle.init_words.specs.declared.children.Status.TheVariants.{Exit}
-use Rattle.init_words.specs.declared.entries.Entry.{Entry}
 use Rattle.init_words.specs.declared.levels.Level.TheVariants as level
 use Rattle.init_words.specs.declared.levels.Mark.TheVariants.{At}
-use Rattle.init_words.specs.declared.orders.Answer.TheVariants.{Alive, Born, Ended}
 use Rattle.init_words.specs.declared.stages.Stage.TheVariants as stage
-use Rattle.trace_events.specs.declared.happenings.Happening.TheVariants.{Enter, Settle}
-use Rattle.core_model.specs.State.{opening_goal}
-use Rattle.core_waiting.specs.Arrival.{rounds_to_come}
-use Rattle.core_waiting.specs.Rest.{is_level_announced}
-use Rattle.host_calls.specs.declared.calls.Call.TheVariants.{Start, Look, Late, Clock, TakeBytes, Announce, Pause}
 use Rattle.host_calls.specs.declared.calls.Reply.TheVariants.{Now}
-use Rattle.host_calls.specs.Calls.{HostCall}
-use Rattle.host_trace.specs.Leads.{is_allowed}
-use Rattle.host_trace.specs.Point.{has_trace}
-use Rattle.init_turns.specs.Arriving.{are_undisturbed_turns, past_after, without_turns}
-use Rattle.init_turns.specs.Opening.{opening_point}
 
 abbrev table : List Entry
 table =

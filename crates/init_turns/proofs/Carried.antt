@@ -1,42 +1,18 @@
 -- What a step leads to that is only said, and what comes of steps that were due.
-use Rattle.std.proofs.Common.{◌≡◌, refl, sym, ◌∙◌, ap, subst, ℕ, Bool, true, false, cond, List, [], ◌∷◌, Option, Some, Result, Ok, Err, OnOk, OnErr, is_ok}
-use Rattle.std.specs.Option.{option_and_then}
-use Rattle.init_words.specs.declared.orders.Answer.{Answer}
-use Rattle.init_words.specs.declared.orders.Answer.TheVariants.{Ended}
+use Rattle.init_turns.proofs.Words.{arith, ◌≡◌, refl, sym, ◌∙◌, ap, subst, ℕ, Bool, true, false, List, [], ◌∷◌, Option, Some, Result, Ok, Err, OnOk, OnErr, is_ok, option_and_then, Answer, Ended, false≢true, Begun, Goal, Step, Event, is_sound, child_number, order_in, refusal_of, record_by_id, CoreState, after_told, Fits, FitsAll, StillFits, OnEachTrace, with_step, unreaped_recorded, LogState, Announce, HostCall, Point, point_after, last_birth, acted, answered, announced, is_announcement, Gave, gone_on, Hears, Lasts, Leads, Logs, Tracks, Went, is_allowed, Leads-heard, Leads-weaken, Logs-none, Hears-answer, Hears-step, Hears-tracks, tracks, AndRests, IsStep, IsStepUnless, Left, Makes, SaysStep, is_end}
 use Rattle.init_words.specs.declared.refusals.Refusal.{Refusal}
-use Rattle.std.proofs.lemmas.Bool.{false≢true}
-use Rattle.initctl_frame.specs.Blocks.{Begun}
 use Rattle.trace_events.specs.declared.happenings.Happening.TheVariants as past
-use Rattle.trace_events.specs.declared.steps.Goal.{Goal}
-use Rattle.trace_events.specs.declared.steps.Step.{Step}
 use Rattle.trace_events.specs.declared.steps.Step.TheVariants as step
 use Rattle.trace_events.specs.Due.{due, first}
-use Rattle.trace_events.specs.Event.{Event}
-use Rattle.trace_events.specs.Sound.{is_sound}
-use Rattle.core_records.specs.State.{child_number}
-use Rattle.core_records.specs.Lists.{order_in, refusal_of, record_by_id}
-use Rattle.core_model.specs.State.{CoreState}
-use Rattle.core_model.specs.Steps.{after_told}
-use Rattle.core_model.specs.Fit.{Fits, FitsAll, StillFits, OnEachTrace, with_step}
 use Rattle.core_text.specs.Range as range
 use Rattle.core_model.proofs.Fitted.{all_on}
-use Rattle.core_model.proofs.Recorded.{unreaped_recorded}
-use Rattle.trace_log.specs.Logs.{LogState}
-use Rattle.host_calls.specs.declared.calls.Call.TheVariants.{Announce}
-use Rattle.host_calls.specs.Calls.{HostCall}
-use Rattle.host_trace.specs.Point.{Point, point_after, last_birth, acted, answered, announced, is_announcement}
-use Rattle.host_trace.specs.Leads.{At, Gave, gone_on, Hears, Lasts, Leads, Logs, Tracks, Went, is_allowed}
-use Rattle.host_trace.proofs.Leading.{Leads-heard, Leads-weaken}
-use Rattle.host_trace.proofs.Taking.{Logs-none}
-use Rattle.host_trace.proofs.Acting.{Hears-answer, Hears-step, Hears-tracks, tracks}
+use Rattle.host_trace.specs.Leads.{At}
 use Rattle.host_trace.proofs.Ending.{HasNumber, end_number}
-use Rattle.init_turns.specs.Parts.{AndRests, IsStep, IsStepUnless, Left, Makes, SaysStep, is_end, is_idle}
+use Rattle.init_turns.specs.Parts.{is_idle}
 use Rattle.init_turns.proofs.Parts.{Makes-map, Makes-none}
 
 announced_said : (happening : Event) (so_far : List Event) → is_announcement happening ≡ true → announced happening so_far ≡ happening ∷ so_far
-announced_said past.NotRead so_far said = absurd (false≢true said)
-announced_said (past.Handed how) so_far said = absurd (false≢true said)
-announced_said happening so_far said = ap (λ b. cond b (happening ∷ so_far) so_far) said
+announced_said happening so_far said = grind arith
 
 pub Leads-said : (c : CoreState) (l₀ l₁ : LogState) (made : Step) (happening : Event) → SaysStep made happening → ((so_far : List Event) → Logs l₀ l₁ so_far (happening ∷ so_far)) → Leads (Gave (Tracks c) made) (Tracks c) l₀ l₁ (Announce happening ∷ [])
 Leads-said c l₀ l₁ made happening says took = Leads-heard (Gave (Tracks c) made) (Tracks c) l₀ l₁ (Announce happening) (with_step made) (Hears-step (Tracks c) l₀ l₁ made (λ so_far. subst (Logs l₀ l₁ so_far) (sym (says.step so_far)) (took so_far))) (λ p. ap (λ l. record p { past = l }) (announced_said happening p.past says.said ∙ sym (says.step p.past))) (λ goal p sound gave. says.place goal [] p.past gave.0) (λ goal p. tt)
@@ -90,8 +66,7 @@ Makes-idle now log c given is =
     (λ calls none leads. (none, Leads-weaken (Tracks c) (Gave (Tracks c) step.Idle) (Tracks c) (Tracks c) log log calls (λ goal p gave. gave.1) (λ goal p fits. fits) leads)))
 
 idle_is : (made : Step) → is_idle made ≡ true → made ≡ step.Idle
-idle_is step.Idle h = refl
-idle_is _ h = absurd (false≢true h)
+idle_is made h = grind arith
 
 -- the step was the first due, and was carried out; where it was none, nothing is due still
 pub Makes-stepped : (old new : Option (List HostCall)) (l₀ l₁ : LogState) (c between behind : CoreState) (made : Step) → OnEachTrace c (λ goal so_far. made ≡ first (due goal so_far)) → OnEachTrace c (λ goal so_far. StillFits c between goal so_far (with_step made so_far)) → Lasts c between → Makes old new l₀ l₁ (IsStepUnless (is_idle made)) (Gave (Tracks between) made) (Tracks behind) → Makes old new l₀ l₁ (IsStepUnless (is_idle made)) (Tracks c) (AndRests (is_idle made) (Tracks behind))

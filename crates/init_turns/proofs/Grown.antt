@@ -1,28 +1,8 @@
 -- What the parts of a turn make of a log that only takes more, whatever was answered.
-use Rattle.std.proofs.Common.{◌≡◌, ◌<◌, refl, ℕ, true, ◌&&◌, not, List, [], ◌++◌, Option}
-use Rattle.std.specs.List.{list_all}
-use Rattle.std.specs.Option.{option_to_list}
-use Rattle.std.proofs.lemmas.Bool.{and_parts, and_from}
-use Rattle.initctl_frame.specs.declared.requests.HeardRequest.{HeardRequest}
-use Rattle.initctl_frame.specs.Blocks.{Begun, Stands, gots_of}
-use Rattle.trace_events.specs.declared.steps.Step.{Step}
-use Rattle.trace_events.specs.declared.steps.Step.TheVariants.{Enter}
-use Rattle.trace_events.specs.Range.{is_request}
+use Rattle.init_turns.proofs.Words.{arith, ◌≡◌, ◌<◌, ℕ, true, ◌&&◌, List, [], ◌++◌, Option, list_all, option_to_list, HeardRequest, Begun, Stands, gots_of, Step, is_request, decide, state_of, CoreState, after_step, are_heads, has_short_seconds, is_goal, is_stage, passes, IsTextOf, LogState, GrowsBy, GrowsReading, HasRead, GrowsBy-then, Point, bytes_after, piece_fed, is_short_step}
 use Rattle.core_model.specs.declared.parts.CoreFields.{CoreFields}
-use Rattle.core_model.specs.Decide.{decide}
-use Rattle.core_model.specs.Parts.{state_of}
-use Rattle.core_model.specs.State.{CoreState}
-use Rattle.core_model.specs.Steps.{after_step, wished}
 use Rattle.core_handover.proofs.Lasting.{step_lasts}
-use Rattle.core_text.specs.Range.{are_heads, has_short_seconds, is_generation, is_goal, is_seconds, is_stage, is_time, passes}
-use Rattle.core_text.specs.Refused.{IsTextOf}
 use Rattle.core_text.proofs.Bodies.{state_parts}
-use Rattle.trace_log.specs.Logs.{LogState}
-use Rattle.host_trace.specs.Grows.{GrowsBy, GrowsReading, HasRead}
-use Rattle.host_trace.proofs.Growing.{GrowsBy-then}
-use Rattle.host_trace.specs.Point.{Point, bytes_after}
-use Rattle.host_trace.proofs.Bytes.{piece_fed}
-use Rattle.init_turns.specs.Parts.{is_short_step}
 
 -- ---- requests
 
@@ -38,10 +18,7 @@ piece_reads old new part given some fed gots read =
 
 -- a step whose seconds are kept names an hour at most where those are
 short_made : (made : Step) (c : CoreState) → has_short_seconds (after_step made c) ≡ true → is_short_step made ≡ true
-short_made (Enter now grace) c short =
-    let aim = is_goal (wished c.heads.level_wish c.heads.goal) in
-    (and_parts (is_seconds grace) aim (and_parts (is_seconds grace && aim) true short).0).0
-short_made _ c short = refl
+short_made made c short = grind arith
 
 -- so does one that init gives, where its seconds are at most an hour
 pub decide_short : (c : CoreState) → has_short_seconds c ≡ true → is_short_step (decide c) ≡ true
@@ -50,12 +27,7 @@ decide_short c short = short_made (decide c) c (step_lasts c short)
 -- ---- re-executions
 
 heads_short : (h : CoreFields) → are_heads h ≡ true → (is_stage h.stage h.grace && is_goal h.goal && passes is_goal h.level_wish) ≡ true
-heads_short h are =
-    let wishes = and_parts (is_generation h.generation && is_time h.time && is_stage h.stage h.grace && is_goal h.goal && not h.reexec) (passes is_goal h.level_wish) are in
-    let flags = and_parts (is_generation h.generation && is_time h.time && is_stage h.stage h.grace && is_goal h.goal) (not h.reexec) wishes.0 in
-    let goals = and_parts (is_generation h.generation && is_time h.time && is_stage h.stage h.grace) (is_goal h.goal) flags.0 in
-    let stages = and_parts (is_generation h.generation && is_time h.time) (is_stage h.stage h.grace) goals.0 in
-    and_from (is_stage h.stage h.grace && is_goal h.goal) (passes is_goal h.level_wish) (and_from (is_stage h.stage h.grace) (is_goal h.goal) stages.1 goals.1) wishes.1
+heads_short h are = grind arith
 
 -- a core that a text says
 pub text_short : (c : CoreState) (text : List ℕ) → IsTextOf text (state_of c) → has_short_seconds c ≡ true

@@ -1,35 +1,14 @@
 -- What comes of a state text that is carried.
-use Rattle.std.proofs.Common.{◌≡◌, refl, sym, ap, ◌∙◌, subst, ℕ, Bool, true, false, ◌==◌, ◌||◌, not, nat_lt, List, [], ◌∷◌, ◌++◌, length, drop, append-nil, Option, Some, Ok, arith, length-append}
-use Rattle.std.specs.List.{starts_with}
-use Rattle.std.specs.Option.{option_map_or}
-use Rattle.std.proofs.lemmas.Bool.{false≢true, and_from, and_parts, eq-eqb, eqb-true, ltb-true}
+use Rattle.init_turns.proofs.Words.{◌≡◌, refl, sym, ap, ◌∙◌, subst, ℕ, Bool, true, false, ◌==◌, ◌||◌, not, nat_lt, List, [], ◌∷◌, ◌++◌, length, drop, append-nil, Option, Some, Ok, arith, length-append, starts_with, option_map_or, false≢true, and_from, and_parts, eq-eqb, eqb-true, ltb-true, same_Some, same_id-self, Event, StillFits, OnEachTrace, SavedState, state_of, IsFit, CoreState, after_handed_on, V2, IsCut, IsOther, IsTextIn, IsTextOf, generation_said, LogState, Announce, Carry, AddsCall, HostCall, TextRead, came_cut, carrying, is_of_generation, is_outcome, same_text, Gave, Leads, Logs, Tracks, comes_back, HandedOn, Leads-carried, ComesTo, IsStep, Makes, Saying}
 use Rattle.std.proofs.lemmas.Bool.Decides.{Decides-eqb}
-use Rattle.std.proofs.lemmas.Option.{same_Some}
 use Rattle.std.proofs.lemmas.Slice.Eq.{starts_is}
-use Rattle.init_words.proofs.Same.{same_id-self}
 use Rattle.trace_events.specs.declared.happenings.Handed.{Handed as HandOver}
 use Rattle.trace_events.specs.declared.happenings.Handed.TheVariants as handed
 use Rattle.trace_events.specs.declared.happenings.Happening.TheVariants as past
 use Rattle.trace_events.specs.declared.steps.Step.TheVariants as step
-use Rattle.trace_events.specs.Event.{Event}
-use Rattle.core_model.specs.Fit.{StillFits, OnEachTrace}
-use Rattle.core_model.specs.Parts.{SavedState, state_of}
-use Rattle.core_model.specs.Rules.{IsFit}
-use Rattle.core_model.specs.State.{CoreState}
-use Rattle.core_model.specs.Steps.{after_handed_on}
 use Rattle.core_text.specs.Range as range
 use Rattle.core_text.specs.Reading.{generation_of}
-use Rattle.core_text.specs.declared.versions.Version.TheVariants.{V2}
-use Rattle.core_text.specs.Refused.{IsCut, IsOther, IsTextIn, IsTextOf}
 use Rattle.core_text.proofs.Ends.{no_prefix, whole_ends}
-use Rattle.core_text.proofs.Prefixes.{generation_said}
-use Rattle.trace_log.specs.Logs.{LogState}
-use Rattle.host_calls.specs.declared.calls.Call.TheVariants.{Announce, Carry}
-use Rattle.host_calls.specs.Calls.{AddsCall, HostCall, TextRead}
-use Rattle.host_trace.specs.Point.{came_cut, carrying, is_of_generation, is_outcome, same_text}
-use Rattle.host_trace.specs.Leads.{Gave, Leads, Logs, Tracks, comes_back}
-use Rattle.host_trace.proofs.Calling.{HandedOn, Leads-carried}
-use Rattle.init_turns.specs.Parts.{ComesTo, IsStep, Makes, Saying}
 use Rattle.init_turns.proofs.Parts.{Makes-one, Makes-two}
 
 -- ---- what came back was taken over

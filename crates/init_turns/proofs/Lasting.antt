@@ -1,14 +1,6 @@
 -- What init does and hears leaves a core that keeps the rules, and names an hour at most, such a core.
-use Rattle.std.proofs.Common.{◌≡◌, refl, ap, ◌∙◌, ℕ, true, List}
-use Rattle.init_words.specs.declared.entries.Entry.{Entry}
-use Rattle.initctl_frame.specs.declared.requests.HeardRequest.{HeardRequest}
-use Rattle.trace_events.specs.declared.steps.Step.{Step}
-use Rattle.trace_events.specs.Range.{is_request}
-use Rattle.core_model.specs.Decide.{decide}
-use Rattle.core_model.specs.State.{CoreState}
-use Rattle.core_model.specs.Steps.{after_adopt, after_clock, after_got, after_handed, after_not_read, after_round, after_step}
+use Rattle.init_turns.proofs.Words.{◌≡◌, refl, ap, ◌∙◌, ℕ, true, List, Entry, HeardRequest, Step, is_request, decide, CoreState, after_adopt, after_clock, after_got, after_handed, after_not_read, after_round, after_step, Lasts}
 use Rattle.core_handover.proofs.Lasting as lasting
-use Rattle.host_trace.specs.Leads.{Lasts}
 use Rattle.init_turns.proofs.Carried.{lasts_as}
 use Rattle.core_handover.proofs.Generations.{request_same, step_same}
 

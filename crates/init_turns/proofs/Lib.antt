@@ -9,3 +9,4 @@ pub mod Opened
 pub mod Parts
 pub mod Taken
 pub mod Turning
+pub mod Words

@@ -1,26 +1,9 @@
 -- A run from its opening.
-use Rattle.std.proofs.Common.{◌≡◌, ◌<◌, ◌+◌, refl, sym, subst, ℕ, Bool, true, List, [], ◌∷◌, Option}
-use Rattle.init_words.specs.declared.entries.Entry.{Entry}
+use Rattle.init_turns.proofs.Words.{◌≡◌, ◌<◌, ◌+◌, refl, sym, subst, ℕ, Bool, true, List, [], ◌∷◌, Option, Entry, is_distinct, NewTable, Goal, CoreState, opening_goal, opening_state, LogState, HostCall, Fronts, Leads, Logs, Went, Point, point_after, AreTurns, MadeTurns, Since-map, Began-then, Took-then, Fresh, LeftBy, Makes, Arrives, ServesTurns, FrontsFrom, IsOpening, IsOpeningOf, LeadsFrom, OpeningState, Opens, opening_point}
 use Rattle.init_words.specs.declared.levels.Level.{Level}
-use Rattle.inittab_text.specs.Tables.{is_distinct}
-use Rattle.trace_events.specs.declared.happenings.Happening.TheVariants.{NewTable}
-use Rattle.trace_events.specs.declared.steps.Goal.{Goal}
 use Rattle.trace_laws.proofs.Laws.{lawful_unbroken, sound_lawful}
 use Rattle.core_model.proofs.Hearing.{fits_opening}
-use Rattle.core_model.specs.State.{CoreState, opening_goal, opening_state}
-use Rattle.trace_log.specs.Logs.{LogState}
-use Rattle.host_calls.specs.Calls.{HostCall}
-use Rattle.host_trace.specs.Fronts.{Fronts}
-use Rattle.host_trace.specs.Leads.{Leads, Logs, Went}
-use Rattle.host_trace.specs.Point.{Point, point_after}
-use Rattle.host_trace.specs.Turns.{AreTurns, MadeTurns}
-use Rattle.host_calls.proofs.Record.{Since-map}
-use Rattle.host_trace.proofs.Fronts.{Began-then}
-use Rattle.host_trace.proofs.Taking.{Took-then}
-use Rattle.init_turns.specs.Parts.{Fresh, LeftBy, Makes}
-use Rattle.init_turns.specs.Arriving.{Arrives, ServesTurns}
 use Rattle.init_turns.proofs.Arriving.{arrives_up}
-use Rattle.init_turns.specs.Opening.{FrontsFrom, IsOpening, IsOpeningOf, LeadsFrom, OpeningState, Opens, opening_point}
 
 -- turns that are said of what fitted are said of what is narrower
 turns_narrower : (f g : Goal → Point → Type 0) → ((goal : Goal) (p : Point) → g goal p → f goal p) → (cores : List CoreState) (calls : List HostCall) → AreTurns f cores calls → AreTurns g cores calls

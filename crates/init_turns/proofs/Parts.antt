@@ -1,19 +1,5 @@
 -- Parts of a turn, one behind the other.
-use Rattle.std.proofs.Common.{◌≡◌, refl, sym, subst, ℕ, suc, ◌+◌, ◌≤◌, true, false, inl, inr, List, [], ◌∷◌, ◌++◌, Option, arith}
-use Rattle.trace_events.specs.declared.steps.Goal.{Goal}
-use Rattle.trace_events.specs.Sound.{is_sound}
-use Rattle.trace_log.specs.Logs.{LogState}
-use Rattle.host_calls.specs.Calls.{HostCall, AddsCall}
-use Rattle.host_trace.specs.Point.{Point}
-use Rattle.host_trace.specs.Fronts.{Fronts, says_of}
-use Rattle.host_trace.specs.Grows.{Grows}
-use Rattle.host_trace.specs.Leads.{Leads}
-use Rattle.host_trace.specs.declared.TheConstants.{STEP_LIMIT}
-use Rattle.host_trace.specs.Turns.{AreSteps}
-use Rattle.host_calls.proofs.Record.{Since-one, Since-none, Since-map, Since-then}
-use Rattle.host_trace.proofs.Fronts.{fronts_narrower, fronts_none, fronts_one, fronts_then, fronts_two}
-use Rattle.host_trace.proofs.Leading.{Leads-none, Leads-then}
-use Rattle.init_turns.specs.Parts.{AreAllSteps, IsStep, IsStepUnless, Makes}
+use Rattle.init_turns.proofs.Words.{◌≡◌, refl, sym, subst, ℕ, suc, ◌+◌, ◌≤◌, true, false, inl, inr, List, [], ◌∷◌, ◌++◌, Option, arith, Goal, is_sound, LogState, HostCall, AddsCall, Point, Fronts, says_of, Grows, Leads, STEP_LIMIT, AreSteps, Since-one, Since-none, Since-map, Since-then, fronts_narrower, fronts_none, fronts_one, fronts_then, fronts_two, Leads-none, Leads-then, AreAllSteps, IsStep, IsStepUnless, Makes}
 
 pub Makes-one : (old new : Option (List HostCall)) (l₀ l₁ : LogState) (call : HostCall) (Shape : List HostCall → Type 0) (f₀ f₁ : Goal → Point → Type 0) → AddsCall old new call → Shape (call ∷ []) → Leads f₀ f₁ l₀ l₁ (call ∷ []) → Makes old new l₀ l₁ Shape f₀ f₁
 Makes-one old new l₀ l₁ call Shape f₀ f₁ adds shape leads = Since-one old new call (λ calls. Shape calls × Leads f₀ f₁ l₀ l₁ calls × Fronts f₀ l₀ l₁ calls) adds (shape, leads, fronts_one f₀ l₀ l₁ call)

@@ -1,69 +1,31 @@
 -- The parts of a turn, and turns one behind the other.
-use Rattle.std.proofs.Common.{◌≡◌, refl, sym, ap, ◌∙◌, subst, ℕ, zero, suc, ◌==◌, nat_lt, Bool, true, false, not, ◌&&◌, List, [], ◌∷◌, ◌++◌, drop, length, Option, None, Result}
-use Rattle.std.specs.List.{list_all}
-use Rattle.std.proofs.lemmas.Bool.{false≢true, and_from, and_parts}
-use Rattle.std.proofs.lemmas.List.Folds.{list_all-append}
-use Rattle.initctl_frame.specs.Blocks.{Begun, Stands}
-use Rattle.trace_events.specs.declared.happenings.Happening.TheVariants as past
-use Rattle.trace_events.specs.declared.steps.Goal.{Goal}
-use Rattle.core_model.specs.State.{CoreState}
-use Rattle.core_model.specs.Decide.{is_drained}
-use Rattle.core_model.proofs.Recorded.{unreaped_recorded}
-use Rattle.trace_log.specs.Logs.{LogState}
-use Rattle.host_calls.specs.declared.calls.Call.TheVariants.{Start, Look, Signal, Late, Clock, TakeBytes, ReadTables, Carry, Announce, Pause}
+use Rattle.init_turns.proofs.Words.{arith, ◌≡◌, refl, sym, ap, ◌∙◌, subst, ℕ, zero, suc, Bool, true, false, not, ◌&&◌, List, [], ◌∷◌, ◌++◌, drop, length, Option, Result, list_all, false≢true, and_from, and_parts, list_all-append, Begun, Stands, Goal, CoreState, is_drained, unreaped_recorded, LogState, Clock, TakeBytes, Pause, HostCall, AddsCall, Point, point_after, Brings, has_short_seconds, Fronts, Grows, HasRead, Counted, IsOver, Leads, Took, Tracks, Went, is_allowed, AddsTo, AreSteps, AreTurns, IsTurn, MadeTurns, are_full, are_lates, are_takes, bytes_taken, has_come, is_busy, is_room, is_step, takes_none, fronts_one, fronts_then, Grows-none, point_after-append, calls_allowed, carried_parts, Leads-beside, Leads-frame, Leads-still, Leads-then, Leads-weaken, bytes_counted, Since-map, Since-none, Since-one, Since-then, AndRests, AreAllSteps, Fresh, IsReading, Left, LeftBy, Makes}
 use Rattle.host_calls.specs.declared.calls.HostFault.{HostFault}
-use Rattle.host_calls.specs.Calls.{HostCall, AddsCall}
-use Rattle.host_trace.specs.declared.TheConstants.{LATE_LIMIT}
-use Rattle.host_trace.specs.Point.{Point, point_after}
 use Rattle.host_calls.specs.Record.{Since}
-use Rattle.host_trace.specs.Requests.{Brings}
-use Rattle.core_text.specs.Range.{has_short_seconds}
-use Rattle.host_trace.specs.Fronts.{Fronts}
-use Rattle.host_trace.specs.Grows.{Grows, HasRead}
-use Rattle.host_trace.specs.Leads.{At, Counted, IsOver, Leads, Took, Tracks, Went, is_allowed}
-use Rattle.host_trace.specs.Turns.{AddsTo, AreSteps, AreTurns, IsTurn, MadeTurns, are_full, are_lates, are_takes, bytes_taken, has_come, is_busy, is_room, is_step, takes_none}
-use Rattle.host_trace.proofs.Fronts.{fronts_one, fronts_then}
-use Rattle.host_trace.proofs.Growing.{Grows-none}
-use Rattle.host_trace.proofs.Point.{point_after-append}
+use Rattle.host_trace.specs.Leads.{At}
 use Rattle.host_trace.proofs.Seconds.{short_then}
-use Rattle.host_trace.proofs.Leading.{calls_allowed, carried_parts, Leads-beside, Leads-frame, Leads-still, Leads-then, Leads-weaken, bytes_counted}
-use Rattle.host_calls.proofs.Record.{Since-map, Since-none, Since-one, Since-then}
 use Rattle.host_trace.proofs.Requests.{calls_bring}
-use Rattle.init_turns.specs.Parts.{AndRests, AreAllSteps, Fresh, IsReading, Left, LeftBy, Makes}
 use Rattle.init_turns.proofs.Carried.{Leads-left}
 use Rattle.init_turns.proofs.Parts.{Makes-map, Makes-none, Makes-then}
 
 -- ---- what calls leave as it is
 
 all_by : (p q : HostCall → Bool) → ((call : HostCall) → p call ≡ true → q call ≡ true) → (calls : List HostCall) → list_all p calls ≡ true → list_all q calls ≡ true
-all_by p q more [] all = refl
-all_by p q more (call ∷ calls) all =
-    let parts = and_parts (p call) (list_all p calls) all in
-    and_from (q call) (list_all q calls) (more call parts.0) (all_by p q more calls parts.1)
+all_by p q more [] all = grind arith
+all_by p q more (call ∷ calls) all = grind (arith, all_by p q more calls)
 
 come_none : (call : HostCall) → has_come call ≡ true → takes_none call ≡ true
-come_none (TakeBytes room taken) h = absurd (false≢true h)
-come_none _ h = refl
+come_none call h = grind arith
 
 step_none : (calls : List HostCall) → is_step calls ≡ true → list_all takes_none calls ≡ true
-step_none (Start id command reply ∷ []) h = refl
-step_none (Look id reply ∷ []) h = refl
-step_none (Signal id sent reply ∷ []) h = refl
-step_none (ReadTables parts ∷ []) h = refl
-step_none (Carry text back ∷ []) h = refl
-step_none (Announce happening ∷ []) h = refl
-step_none (Announce past.NotRead ∷ ReadTables parts ∷ []) h = refl
-step_none (Announce (past.Handed how) ∷ Carry text back ∷ []) h = refl
-step_none _ h = absurd (false≢true h)
+step_none calls h = grind arith
 
 steps_none : (count : ℕ) (calls : List HostCall) → AreSteps count calls → list_all takes_none calls ≡ true
 steps_none zero calls none = ap (list_all takes_none) none
 steps_none (suc count) calls (last, before, is, step, steps) = ap (list_all takes_none) is ∙ list_all-append takes_none last before ∙ and_from (list_all takes_none last) (list_all takes_none before) (step_none last step) (steps_none count before steps)
 
 lates_none : (calls : List HostCall) → are_lates calls ≡ true → list_all takes_none calls ≡ true
-lates_none [] h = refl
-lates_none (Late None ∷ calls) h = all_by has_come takes_none come_none calls (and_parts (list_all has_come calls) (nat_lt (length calls) LATE_LIMIT) h).0
-lates_none (call ∷ calls) h = all_by has_come takes_none come_none (call ∷ calls) (and_parts (list_all has_come (call ∷ calls)) (length (call ∷ calls) == LATE_LIMIT) h).0
+lates_none calls h = grind (arith, all_by, come_none)
 
 full_counted : (count : ℕ) (calls : List HostCall) → are_full calls ≡ true → (goal : Goal) (p : Point) → Counted count goal p → Counted count goal (point_after calls p)
 full_counted count [] full goal p is = is
@@ -87,19 +49,7 @@ abbrev HasHeard : List HostCall → Type 0
 HasHeard calls = (time : Result ℕ HostFault) × (takes lates : List HostCall) × (calls ≡ lates ++ (takes ++ Clock time ∷ [])) × (are_takes takes ≡ true) × (are_lates lates ≡ true)
 
 turned : (done : Bool) (xs ys : List HostCall) → HasHeard xs → AreAllSteps done ys → IsTurn done (ys ++ xs)
-turned done xs ys (time, takes, lates, is, byte_calls, late_calls) steps = record {
-  time = time;
-  takes = takes;
-  lates = lates;
-  steps = ys;
-  count = steps.count;
-  whole = ap (λ calls. ys ++ calls) is;
-  byte_calls = byte_calls;
-  late_calls = late_calls;
-  step_calls = steps.step_calls;
-  most = steps.most;
-  ended = steps.ended;
-}
+turned done xs ys h steps = grind arith
 
 -- what fits, where no late answer was asked for since the clock was read
 abbrev Counting : (Goal → Point → Type 0) → Goal → Point → Type 0

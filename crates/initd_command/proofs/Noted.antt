@@ -11,7 +11,7 @@ use Rattle.host_trace.specs.Leads.{Takes}
 use Rattle.host_trace.specs.Point.{point_after}
 use Rattle.trace_log_wrappers.specs.declared.run_notes.LastEnd.TheVariants.{Unnoted}
 use Rattle.trace_log_wrappers.specs.Ends.{last_end}
-use Rattle.trace_log_wrappers.specs.Notes.{IsRunning, Notes, NotesOf, end_in, last_noted, last_of}
+use Rattle.trace_log_wrappers.specs.Notes.{IsRunning, Notes, NotesOf, is_wanted, last_noted, last_of}
 use Rattle.trace_log_wrappers.proofs.Noted.{last_by_notes}
 use Rattle.init_turns.specs.declared.serving.Served.{Served}
 use Rattle.trace_events.specs.declared.steps.Goal.{Goal}
@@ -50,7 +50,7 @@ IsWaiting waiting past = (goal : Goal) × (core : CoreState) × FitsAll core goa
 noted_of_trace : (notes : Notes) (waiting : List ℕ) (judgement : Option Judgement) (past : List Event)
     → NotesOf notes past → IsWaiting waiting past → IfSome judgement (λ found. Finds found past) → IsNoted (noted_of notes waiting judgement) past
 noted_of_trace notes waiting judgement past of waits finds = record {
-  last = λ id. known id notes.complete refl;
+  last = λ id. known id (is_wanted id notes.wanted) refl;
   running = going notes.complete refl;
   waiting = waits;
   judgement = finds;
@@ -60,9 +60,9 @@ noted_of_trace notes waiting judgement past of waits finds = record {
     going true all = of.running all
     going false none = tt
 
-    known : (id : List ℕ) (complete : Bool) → notes.complete ≡ complete → (last_noted id notes ≡ Unnoted) ⊎ (last_noted id notes ≡ last_of (last_end id past))
-    known id true all = inr (last_by_notes notes id past of all)
-    known id false none = inl (ap (λ complete. if complete then last_of (end_in id notes.ends) else Unnoted) none)
+    known : (id : List ℕ) (wanted : Bool) → is_wanted id notes.wanted ≡ wanted → (last_noted id notes ≡ Unnoted) ⊎ (last_noted id notes ≡ last_of (last_end id past))
+    known id true is = inr (last_by_notes notes id past of is)
+    known id false other = inl (ap (λ b. if b then last_of notes.last else Unnoted) other)
 
 -- turns are as many behind the end of their log
 pub served_still : (P : ℕ → Bool → Type 0) (served ended : Served) (logged : Bool) → ended ≡ record served { logged = logged } → P served.turns served.drained → P ended.turns ended.drained

@@ -27,8 +27,8 @@ const UNLOGGED: &str = "initd: the trace could not be written\n";
 /// What is reported in place of the children that go on.
 const UNNAMED: &str = "initd: there was no memory to name all children that go on\n";
 
-/// What is reported behind an id whose ends were not all noted.
-const UNNOTED: &str = ": there was no memory to note how it ended\n";
+/// What is reported behind an id whose ends were not noted.
+const UNNOTED: &str = ": how it ended was not noted\n";
 
 /// What is reported of a run whose judge had no memory to judge it to its end.
 const UNJUDGED: &str = "initd: there was no memory to judge the run to its end\n";

@@ -598,7 +598,7 @@ where
         (L.has_ended result.1) (run_of said.now) table end)) }
 {
     let judged = JudgedLog::new(rt, alloc, log, said.judge);
-    let mut noted = NotedLog::new(alloc, judged);
+    let mut noted = NotedLog::new(alloc, judged, said.result);
     let mut watch = Watcher::new(rt, alloc, said.verbose, said.initctl.as_str());
     let (served, core) = opening.serve(alloc, host, &mut noted, said.turns, said.drain, &mut watch);
     let (judged, notes) = noted.into_parts();

@@ -157,7 +157,8 @@ fn noted_over<'a>(
     alloc: Global,
     heap: &'a LocalHeap,
 ) -> Result<Box<NotedLog<ListLog, &'a LocalHeap>>, AllocError> {
-    Ok(boxed(alloc, NotedLog::new(heap, ListLog::new(alloc)))?)
+    let log = ListLog::new(alloc);
+    Ok(boxed(alloc, NotedLog::new(heap, log, Id::read(b"r")))?)
 }
 
 /// Whether notes are complete behind the log that has this list.
@@ -167,13 +168,14 @@ fn are_notes(
     notes: &RunNotes<&LocalHeap>,
 ) -> Option<bool> {
     let text = trace_text::print(alloc, list).ok()?;
-    if text.as_slice() != TRACE || notes.births() != 1 {
+    let is_known = notes.last(&Id::read(b"r")?) == LastEnd::Ended(Status::Killed);
+    if text.as_slice() != TRACE || !is_known || notes.last(&Id::read(b"s")?) != LastEnd::Unnoted {
         return None;
     }
-    match (notes.last(&Id::read(b"r")?), notes.running()) {
-        (LastEnd::Unnoted, None) => Some(false),
-        (LastEnd::Ended(Status::Killed), Some(running)) if running.len() == 0 => Some(true),
-        _ => None,
+    match notes.running() {
+        None => Some(false),
+        Some(running) if running.len() == 0 => Some(true),
+        Some(_) => None,
     }
 }
 

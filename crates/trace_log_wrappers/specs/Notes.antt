@@ -1,5 +1,5 @@
 -- What a log of notes keeps beside the log that it stands in front of.
-use Rattle.std.specs.Prelude.{◌≡◌, if◌then◌else◌, ℕ, Bool, true, min, List, reverse, Option, Some, None}
+use Rattle.std.specs.Prelude.{◌≡◌, if◌then◌else◌, ℕ, Bool, true, false, List, reverse, Option, Some, None}
 use Rattle.std.specs.Map.{lookup}
 use Rattle.init_words.specs.declared.children.Status.{Status}
 use Rattle.init_words.specs.Ids.{same_id}
@@ -7,27 +7,32 @@ use Rattle.trace_events.specs.Event.{Event}
 use Rattle.trace_log.specs.Logs.{LogState}
 use Rattle.trace_log_wrappers.specs.declared.run_notes.LastEnd.{LastEnd}
 use Rattle.trace_log_wrappers.specs.declared.run_notes.LastEnd.TheVariants.{Ended, Never, Unnoted}
-use Rattle.trace_log_wrappers.specs.declared.run_notes.TheConstants.{BIRTHS_LIMIT}
-use Rattle.trace_log_wrappers.specs.Ends.{births, ends_of, number_of}
+use Rattle.trace_log_wrappers.specs.Ends.{last_end, number_of}
 
--- how many children were born; how the last child of each id ended; the numbers of the unreaped children by id; and
--- whether there was memory to note all of these
+-- the id whose last end is noted, if one is, and that end; the numbers of the unreaped children by id, and whether there
+-- was memory to note all of these
 pub record Notes : Type 0 where
-  pub births : ℕ
-  pub ends : List (List ℕ × Status)
+  pub wanted : Option (List ℕ)
+  pub last : Option Status
   pub running : List (List ℕ × ℕ)
   pub complete : Bool
 
-abbrev pub end_in : List ℕ → List (List ℕ × Status) → Option Status
-end_in id ends = lookup (same_id id) ends
+-- the id is the one that is wanted
+abbrev pub is_wanted : List ℕ → Option (List ℕ) → Bool
+is_wanted id None = false
+is_wanted id (Some wanted) = same_id id wanted
 
 abbrev pub last_of : Option Status → LastEnd
 last_of (Some status) = Ended status
 last_of None = Never
 
--- how the last child of the id that ended did so, where there was memory to note each end
+-- how the last child of the id that ended did so, where that is noted
 abbrev pub last_noted : List ℕ → Notes → LastEnd
-last_noted id notes = if notes.complete then last_of (end_in id notes.ends) else Unnoted
+last_noted id notes = if is_wanted id notes.wanted then last_of notes.last else Unnoted
+
+-- of an id that is wanted it is the last end in this trace, the newest happening first
+abbrev pub IsLast : Option Status → Option (List ℕ) → List Event → Type 0
+IsLast last wanted past = (id : List ℕ) → is_wanted id wanted ≡ true → last ≡ last_end id past
 
 abbrev pub number_in : List ℕ → List (List ℕ × ℕ) → Option ℕ
 number_in id running = lookup (same_id id) running
@@ -38,8 +43,7 @@ IsRunning running past = (id : List ℕ) → number_in id running ≡ number_of 
 
 -- they are the notes of this trace, the newest happening first
 pub record NotesOf (notes : Notes) (past : List Event) : Type 0 where
-  pub births : notes.births ≡ min (births past) BIRTHS_LIMIT
-  pub ends : notes.complete ≡ true → notes.ends ≡ ends_of past
+  pub last : IsLast notes.last notes.wanted past
   pub running : notes.complete ≡ true → IsRunning notes.running past
 
 -- a log with notes: the log in front of which it stands, and what is noted

@@ -1,10 +1,10 @@
-//! A log in front of another one, that notes of the happenings what the end of a run tells: how many children were
-//! born, which of them are not reaped, and how the last child of each id ended.
+//! A log in front of another one, that notes of the happenings what the end of a run tells: which children are not
+//! reaped, and how the last child of one id ended.
 
-ghost use Rattle.std.specs.Prelude.{◌≡◌, ◌+◌, ◌∷◌, [], min, true, List, OnOk};
+ghost use Rattle.std.specs.Prelude.{◌≡◌, ◌∷◌, [], true, List, OnOk, Option};
 ghost use Rattle.trace_events.specs.Event.{Event};
-ghost use Rattle.trace_log_wrappers.specs.Ends.{births, ends_of, last_end};
-ghost use Rattle.trace_log_wrappers.specs.Notes.{IsRunning, NotesOf, last_noted, last_of};
+ghost use Rattle.trace_log_wrappers.specs.Ends.{last_end};
+ghost use Rattle.trace_log_wrappers.specs.Notes.{IsLast, IsRunning, NotesOf, is_wanted, last_noted, last_of};
 
 use indexmap::IndexMap;
 use init_words::{ChildNumber, Id, Memory, Status};
@@ -17,27 +17,22 @@ use trace_log::{Log, LogFault};
 /// The numbers of children by id, those that were born first in front.
 pub type Numbers<A = Global> = IndexMap<Id, ChildNumber, BuildHasherDefault<FoldHasher>, A>;
 
-/// How the last children of ids ended.
-type Ends<A> = IndexMap<Id, Status, BuildHasherDefault<FoldHasher>, A>;
-
 /// How the last child of an id that ended did so.
 #[derive(Clone, Copy, PartialEq, Eq)]
 pub enum LastEnd {
     Ended(Status),
     /// None has ended.
     Never,
-    /// There was no memory to note each end.
+    /// The ends of the id are not noted.
     Unnoted,
 }
-
-/// The greatest number of births that is counted.
-pub const BIRTHS_LIMIT: u64 = u64::MAX;
 
 /// What is noted of the happenings of a run.
 #[derive(Drop)]
 pub struct RunNotes<A: Allocator = Global> {
-    births: u64,
-    ends: Ends<A>,
+    /// The id whose last end is noted, where one is.
+    wanted: Option<Id>,
+    last: Option<Status>,
     running: Numbers<A>,
     is_complete: bool,
 }
@@ -48,8 +43,8 @@ impl<A: Allocator> Model for RunNotes<A> {
     ghost Value = { Notes };
 
     ghost view = { λ notes. record {
-      births = notes.births;
-      ends = notes.ends.entries;
+      wanted = notes.wanted;
+      last = notes.last;
       running = notes.running.entries;
       complete = notes.is_complete;
     } };
@@ -58,32 +53,25 @@ impl<A: Allocator> Model for RunNotes<A> {
 impl<A: Allocator + Copy> RunNotes<A> {
     ghost use Rattle.std.specs.Prelude.{IfSome, IsSome, ◌↔◌, true};
 
-    /// Notes of nothing. It takes no memory.
-    fn new(alloc: A) -> RunNotes<A>
-        ensures { NotesOf result [] }
+    /// Notes of nothing, for the last end of this id, where one is wanted. It takes no memory.
+    fn new(alloc: A, wanted: Option<Id>) -> RunNotes<A>
+        ensures nothing { NotesOf result [] }
+        ensures wanted { result.wanted ≡ wanted }
     {
         RunNotes {
-            births: 0,
-            ends: IndexMap::new(alloc),
+            wanted,
+            last: None,
             running: IndexMap::new(alloc),
             is_complete: true,
         }
-    }
-
-    /// How many children were born.
-    pub fn births(&self) -> u64
-        ensures value { result ≡ self.now.births }
-        ensures trace { (past : List Event) → NotesOf self.now past
-            → result ≡ min (births past) BIRTHS_LIMIT }
-    {
-        self.births
     }
 
     /// How the last child of the id that ended did so.
     pub fn last(&self, id: &Id) -> LastEnd
         ensures value { result ≡ last_noted id.now self.now }
         ensures trace { (past : List Event) → NotesOf self.now past
-            → self.now.complete ≡ true → result ≡ last_of (last_end id.now past) }
+            → is_wanted id.now self.now.wanted ≡ true
+            → result ≡ last_of (last_end id.now past) }
     {
         self.noted_end(id)
     }
@@ -91,11 +79,11 @@ impl<A: Allocator + Copy> RunNotes<A> {
     fn noted_end(&self, id: &Id) -> LastEnd
         ensures { result ≡ last_noted id.now self.now }
     {
-        if !self.is_complete {
+        if !is_wanted(id, &self.wanted) {
             return LastEnd::Unnoted;
         }
-        match self.ends.get(id) {
-            Some(status) => LastEnd::Ended(*status),
+        match self.last {
+            Some(status) => LastEnd::Ended(status),
             None => LastEnd::Never,
         }
     }
@@ -119,10 +107,8 @@ impl<A: Allocator + Copy> RunNotes<A> {
         ensures { (past : List Event) → NotesOf self.old past
             → NotesOf self.new (happening.now ∷ past) }
     {
-        self.births = counted(self.births, happening);
-        let ends = note_end(&mut self.ends, happening);
-        let children = note_child(&mut self.running, happening);
-        if ends.is_err() || children.is_err() {
+        self.last = end_behind(self.last, &self.wanted, happening);
+        if note_child(&mut self.running, happening).is_err() {
             self.is_complete = false;
         }
     }
@@ -146,14 +132,16 @@ impl<L, A: Allocator> Model for NotedLog<L, A> {
 impl<L: Log, A: Allocator + Copy> NotedLog<L, A> {
     ghost use Rattle.trace_log_wrappers.specs.Notes.{noted_state};
 
-    /// A log with notes of nothing, in front of this log. It takes no memory.
-    pub fn new(alloc: A, log: L) -> NotedLog<L, A>
+    /// A log with notes of nothing, in front of this log, for the last end of this id, where one is wanted. It takes no
+    /// memory.
+    pub fn new(alloc: A, log: L, wanted: Option<Id>) -> NotedLog<L, A>
         ensures log { result.log ≡ log }
+        ensures wanted { result.notes.wanted ≡ wanted }
         ensures nothing { (L.state log).taken [] → (noted_state L.state result).taken [] }
     {
         NotedLog {
             log,
-            notes: RunNotes::new(alloc),
+            notes: RunNotes::new(alloc, wanted),
         }
     }
 
@@ -166,29 +154,29 @@ impl<L: Log, A: Allocator + Copy> NotedLog<L, A> {
     }
 }
 
-/// How many births there are behind a happening, with so many before it.
-fn counted<B: Allocator>(before: u64, happening: &HappeningIn<B>) -> u64
-    ensures { (past : List Event) → before ≡ min (births past) BIRTHS_LIMIT
-        → result ≡ min (births (happening.now ∷ past)) BIRTHS_LIMIT }
+/// The id is the one that is wanted.
+fn is_wanted(id: &Id, wanted: &Option<Id>) -> bool
+    ensures { result ≡ is_wanted id.now wanted.now }
 {
-    match happening {
-        Happening::Birth(_, _) => before.saturating_add(1),
-        _ => before,
+    match wanted {
+        Some(wanted) => *id == *wanted,
+        None => false,
     }
 }
 
-/// Keeps how the last children ended behind a happening.
-fn note_end<A: Allocator, B: Allocator>(
-    ends: &mut Ends<A>,
+/// How the last child of the id that is wanted ended behind a happening, with this end before it.
+fn end_behind<B: Allocator>(
+    last: Option<Status>,
+    wanted: &Option<Id>,
     happening: &HappeningIn<B>,
-) -> Result<(), Memory>
-    ensures { OnOk result ((past : List Event) → ends.old.entries ≡ ends_of past
-        → ends.new.entries ≡ ends_of (happening.now ∷ past)) }
+) -> Option<Status>
+    ensures { (past : List Event) → IsLast last wanted.now past
+        → IsLast result wanted.now (happening.now ∷ past) }
 {
-    if let Happening::Reaped(id, _, status) = happening {
-        ends.insert(*id, *status)?;
+    match happening {
+        Happening::Reaped(id, _, status) if is_wanted(id, wanted) => Some(*status),
+        _ => last,
     }
-    Ok(())
 }
 
 /// Keeps the numbers of the unreaped children behind a happening.

@@ -1,8 +1,5 @@
-use Rattle.std.proofs.Common.{rules, ◌≡◌, ◌∙◌, ap, true, false, is_ok}
-use Rattle.core_model.specs.Steps.{after_told}
-use Rattle.core_text.specs.Range.{has_short_seconds}
+use Rattle.init_turns.proofs.Words.{rules, ◌≡◌, ◌∙◌, ap, true, false, is_ok, after_told, has_short_seconds, GrowsBy-one, Grows-none}
 use Rattle.init_turns.proofs.Carried.{Hears-taken, Hears-refused, end_known}
-use Rattle.host_trace.proofs.Growing.{GrowsBy-one, Grows-none}
 use Rattle.init_turns.proofs.answering.hear_answer.Goals as goal
 
 pub returns-then-is_ok-clause-hears : goal.returns-then-is_ok-clause-hears

@@ -1,5 +1,4 @@
-use Rattle.std.proofs.Common.{rules}
-use Rattle.host_trace.proofs.Growing.{GrowsBy-none}
+use Rattle.init_turns.proofs.Words.{rules, GrowsBy-none}
 use Rattle.init_turns.proofs.answering.hear_reply.Goals as goal
 
 pub returns-in-Later-clause-grows : goal.returns-in-Later-clause-grows

@@ -1,6 +1,4 @@
-use Rattle.std.proofs.Common.{rules, ◌≡◌, true, false}
-use Rattle.host_trace.proofs.Taking.{Logs-handed, Logs-same}
-use Rattle.host_trace.proofs.Growing.{Grows-handed, Grows-none}
+use Rattle.init_turns.proofs.Words.{rules, ◌≡◌, true, false, Logs-handed, Logs-same, Grows-handed, Grows-none}
 use Rattle.init_turns.proofs.answering.write.Goals as goal
 
 pub returns-then-not-failed-clause-logs : goal.returns-then-not-failed-clause-logs

@@ -1,8 +1,4 @@
-use Rattle.std.proofs.Common.{◌∷◌, refl}
-use Rattle.trace_events.specs.declared.happenings.Happening.TheVariants.{Told}
-use Rattle.host_trace.specs.Point.{acted}
-use Rattle.host_trace.proofs.Taking.{Logs-then}
-use Rattle.host_trace.proofs.Growing.{Grows-then}
+use Rattle.init_turns.proofs.Words.{◌∷◌, refl, Told, acted, Logs-then, Grows-then}
 use Rattle.init_turns.proofs.answering.write_answer.Goals as goal
 
 pub returns-clause-logs : goal.returns-clause-logs

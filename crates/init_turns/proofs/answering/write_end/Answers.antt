@@ -1,10 +1,4 @@
-use Rattle.std.proofs.Common.{rules, ◌≡◌, subst, ◌∷◌, refl}
-use Rattle.std.proofs.lemmas.Option.{same_Some}
-use Rattle.trace_events.specs.declared.happenings.Happening.TheVariants.{Death, Reaped}
-use Rattle.host_trace.specs.Leads.{Logs}
-use Rattle.host_trace.specs.Point.{last_birth}
-use Rattle.host_trace.proofs.Taking.{Logs-then}
-use Rattle.host_trace.proofs.Growing.{Grows-none, Grows-then}
+use Rattle.init_turns.proofs.Words.{rules, ◌≡◌, subst, ◌∷◌, refl, same_Some, Death, Reaped, Logs, last_birth, Logs-then, Grows-none, Grows-then}
 use Rattle.init_turns.proofs.answering.write_end.Goals as goal
 
 pub returns-clause-logs : goal.returns-clause-logs

@@ -1,8 +1,6 @@
-use Rattle.std.proofs.Common.{refl, ◌∷◌}
+use Rattle.init_turns.proofs.Words.{refl, ◌∷◌, Hears-told, Hears-tracks, GrowsBy-one}
 use Rattle.trace_events.specs.declared.happenings.Happening.TheVariants as past
-use Rattle.host_trace.proofs.Acting.{Hears-told, Hears-tracks}
 use Rattle.init_turns.proofs.Lasting.{round_lasts}
-use Rattle.host_trace.proofs.Growing.{GrowsBy-one}
 use Rattle.init_turns.proofs.hearing.begin_round.Goals as goal
 
 pub returns-clause-hears : goal.returns-clause-hears

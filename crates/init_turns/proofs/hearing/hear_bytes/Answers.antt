@@ -1,9 +1,6 @@
-use Rattle.std.proofs.Common.{rules, ◌≡◌, ◌++◌, ◌∙◌, refl, sym, ap, subst, [], ◌∷◌, take, drop, append-nil, append_assoc, Ok}
+use Rattle.init_turns.proofs.Words.{rules, ◌≡◌, ◌++◌, ◌∙◌, refl, sym, ap, subst, [], ◌∷◌, take, drop, append-nil, append_assoc, Ok, TakeBytes, Leads, Leads-no_bytes, Leads-pieces, GrowsReading-none, GrowsReading-then}
 use Rattle.std.proofs.lemmas.List.{nil_from_length, take-append-drop, take_rest}
-use Rattle.host_calls.specs.declared.calls.Call.TheVariants.{TakeBytes}
-use Rattle.host_trace.specs.Leads.{At, Leads}
-use Rattle.host_trace.proofs.Bytes.{Leads-no_bytes, Leads-pieces}
-use Rattle.host_trace.proofs.Growing.{GrowsReading-none, GrowsReading-then}
+use Rattle.host_trace.specs.Leads.{At}
 use Rattle.init_turns.proofs.hearing.hear_bytes.Goals as goal
 
 pub loop-rest-init : goal.loop-rest-init

@@ -1,7 +1,5 @@
-use Rattle.std.proofs.Common.{◌≡◌, ◌++◌, ℕ, List, [], ◌∷◌, length, Ok}
-use Rattle.host_calls.specs.declared.calls.Call.TheVariants.{TakeBytes}
-use Rattle.host_trace.specs.Leads.{At, Leads}
-use Rattle.host_trace.specs.Grows.{GrowsReading}
+use Rattle.init_turns.proofs.Words.{◌≡◌, ◌++◌, ℕ, List, [], ◌∷◌, length, Ok, TakeBytes, Leads, GrowsReading}
+use Rattle.host_trace.specs.Leads.{At}
 use Rattle.init_turns.proofs.hearing.hear_bytes.Given as goal
 
 -- what stands before the rest was heard

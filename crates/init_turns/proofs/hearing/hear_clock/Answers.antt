@@ -1,15 +1,7 @@
-use Rattle.std.proofs.Common.{rules, ◌≡◌, refl, sym, subst, Ok, Err}
+use Rattle.init_turns.proofs.Words.{rules, ◌≡◌, refl, sym, subst, Ok, Err, Clock, Counted, Hears, Tracks, clocked, Hears-none, Hears-told, Hears-tracks, Leads-clock, IsReading, GrowsBy-none, GrowsBy-one}
 use Rattle.trace_events.specs.declared.happenings.Happening.TheVariants as past
-use Rattle.host_calls.specs.declared.calls.Call.TheVariants.{Clock}
-use Rattle.host_trace.specs.Leads.{Counted, Hears, Tracks}
-use Rattle.host_trace.specs.Point.{clocked}
-use Rattle.host_trace.proofs.Leading.{Hears-none}
-use Rattle.host_trace.proofs.Acting.{Hears-told, Hears-tracks}
-use Rattle.host_trace.proofs.Calling.{Leads-clock}
-use Rattle.init_turns.specs.Parts.{IsReading}
 use Rattle.init_turns.proofs.Lasting.{clock_lasts}
 use Rattle.init_turns.proofs.Parts.{Makes-one}
-use Rattle.host_trace.proofs.Growing.{GrowsBy-none, GrowsBy-one}
 use Rattle.init_turns.proofs.hearing.hear_clock.Goals as goal
 
 pub returns-in-Ok-clause-makes : goal.returns-in-Ok-clause-makes

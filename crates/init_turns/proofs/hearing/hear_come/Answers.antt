@@ -1,8 +1,4 @@
-use Rattle.std.proofs.Common.{rules, ◌≡◌, sym, subst, None}
-use Rattle.host_trace.specs.Leads.{Hears, Tracks}
-use Rattle.host_trace.specs.Point.{come}
-use Rattle.host_trace.proofs.Leading.{Hears-none}
-use Rattle.host_trace.proofs.Growing.{GrowsBy-none}
+use Rattle.init_turns.proofs.Words.{rules, ◌≡◌, sym, subst, None, Hears, Tracks, come, Hears-none, GrowsBy-none}
 use Rattle.init_turns.proofs.hearing.hear_come.Goals as goal
 
 pub returns-in_default-clause-hears : goal.returns-in_default-clause-hears

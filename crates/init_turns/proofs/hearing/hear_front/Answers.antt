@@ -1,13 +1,4 @@
-use Rattle.std.proofs.Common.{rules, ◌≡◌, ◌<◌, ◌-◌, ℕ, min, sym, subst, length, take, true, Some, None, arith}
-use Rattle.std.specs.List.{list_all}
-use Rattle.std.specs.Option.{option_to_list}
-use Rattle.std.proofs.lemmas.Bool.{and_parts}
-use Rattle.trace_events.specs.Range.{is_request}
-use Rattle.host_trace.specs.Leads.{Hears, Tracks}
-use Rattle.host_trace.specs.Requests.{requested}
-use Rattle.host_trace.proofs.Bytes.{Leads-fed}
-use Rattle.host_trace.proofs.Leading.{Hears-none}
-use Rattle.host_trace.proofs.Growing.{GrowsBy-none}
+use Rattle.init_turns.proofs.Words.{rules, ◌≡◌, ◌<◌, ◌-◌, ℕ, min, sym, subst, length, take, true, Some, None, arith, list_all, option_to_list, and_parts, is_request, Hears, Tracks, requested, Leads-fed, Hears-none, GrowsBy-none}
 use Rattle.init_turns.proofs.Grown.{piece_reads}
 use Rattle.init_turns.proofs.hearing.hear_front.Goals as goal
 

@@ -1,11 +1,6 @@
-use Rattle.std.proofs.Common.{rules, ◌≡◌, ◌∙◌, ◌+◌, refl, sym, true, false}
-use Rattle.host_calls.specs.declared.calls.Call.TheVariants.{Late}
-use Rattle.host_trace.specs.Leads.{Counted, Tracks}
-use Rattle.host_trace.proofs.Calling.{Hears-last, Hears-more, Leads-late}
-use Rattle.init_turns.specs.Parts.{IsLate}
+use Rattle.init_turns.proofs.Words.{rules, ◌≡◌, ◌∙◌, ◌+◌, refl, sym, true, false, Late, Counted, Tracks, Hears-last, Hears-more, Leads-late, IsLate, GrowsBy-then}
 use Rattle.init_turns.proofs.Parts.{Makes-one}
 use Rattle.init_turns.proofs.Taken.{room_left}
-use Rattle.host_trace.proofs.Growing.{GrowsBy-then}
 use Rattle.init_turns.proofs.hearing.hear_late.Goals as goal
 
 pub returns-then-last-clause-lates : goal.returns-then-last-clause-lates

@@ -1,14 +1,6 @@
-use Rattle.std.proofs.Common.{rules, ◌≡◌, ◌+◌, refl, subst, List, true, false, arith}
-use Rattle.trace_events.specs.declared.steps.Goal.{Goal}
-use Rattle.host_calls.specs.Calls.{HostCall}
-use Rattle.host_trace.specs.Leads.{Counted, Tracks}
-use Rattle.host_trace.specs.Point.{Point}
-use Rattle.host_trace.specs.Turns.{are_lates}
-use Rattle.host_trace.proofs.Leading.{Leads-weaken}
-use Rattle.init_turns.specs.Parts.{IsLate, Makes}
+use Rattle.init_turns.proofs.Words.{rules, ◌≡◌, ◌+◌, refl, subst, List, true, false, arith, Goal, HostCall, Counted, Tracks, Point, are_lates, Leads-weaken, IsLate, Makes, GrowsBy-none, GrowsBy-then}
 use Rattle.init_turns.proofs.Parts.{Makes-map, Makes-none, Makes-then}
 use Rattle.init_turns.proofs.Taken.{HaveCome, come_end, come_more}
-use Rattle.host_trace.proofs.Growing.{GrowsBy-none, GrowsBy-then}
 use Rattle.init_turns.proofs.hearing.hear_lates.Goals as goal
 
 pub loop-asked-init : goal.loop-asked-init

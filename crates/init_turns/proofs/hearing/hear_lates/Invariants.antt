@@ -1,9 +1,5 @@
-use Rattle.std.proofs.Common.{◌<◌, ◌-◌}
-use Rattle.host_trace.specs.declared.TheConstants.{LATE_LIMIT}
-use Rattle.host_trace.specs.Leads.{Counted, Tracks}
-use Rattle.init_turns.specs.Parts.{Makes}
+use Rattle.init_turns.proofs.Words.{◌<◌, ◌-◌, LATE_LIMIT, Counted, Tracks, Makes, GrowsBy}
 use Rattle.init_turns.proofs.Taken.{HaveCome}
-use Rattle.host_trace.specs.Grows.{GrowsBy}
 use Rattle.init_turns.proofs.hearing.hear_lates.Given as goal
 
 -- so many answers have come late

@@ -1,11 +1,7 @@
-use Rattle.std.proofs.Common.{rules, ◌≡◌, ◌+◌, ◌<◌, refl, subst, true, arith}
+use Rattle.init_turns.proofs.Words.{rules, ◌≡◌, ◌+◌, ◌<◌, refl, subst, true, arith, are_takes, BYTE_LIMIT, IsTake, Makes, GrowsReading-none, GrowsReading-then}
 use Rattle.host_trace.specs.Leads.{At}
-use Rattle.host_trace.specs.Turns.{are_takes}
-use Rattle.host_trace.specs.declared.TheConstants.{BYTE_LIMIT}
-use Rattle.init_turns.specs.Parts.{IsTake, Makes}
 use Rattle.init_turns.proofs.Parts.{Makes-map, Makes-none, Makes-then}
 use Rattle.init_turns.proofs.Taken.{HaveTaken, taken_more, takes_all, takes_end}
-use Rattle.host_trace.proofs.Growing.{GrowsReading-none, GrowsReading-then}
 use Rattle.init_turns.proofs.hearing.hear_requests.Goals as goal
 
 pub loop-taken-init : goal.loop-taken-init

@@ -1,9 +1,6 @@
-use Rattle.std.proofs.Common.{◌≤◌, ◌-◌}
-use Rattle.host_trace.specs.declared.TheConstants.{BYTE_LIMIT}
+use Rattle.init_turns.proofs.Words.{◌≤◌, ◌-◌, BYTE_LIMIT, Makes, GrowsReading}
 use Rattle.host_trace.specs.Leads.{At}
-use Rattle.init_turns.specs.Parts.{Makes}
 use Rattle.init_turns.proofs.Taken.{HaveTaken}
-use Rattle.host_trace.specs.Grows.{GrowsReading}
 use Rattle.init_turns.proofs.hearing.hear_requests.Given as goal
 
 -- so many bytes were taken, by calls that each gave some

@@ -1,13 +1,7 @@
-use Rattle.std.proofs.Common.{rules, ◌≡◌, ◌∙◌, refl, sym, ap, subst, length, take, ◌∷◌, [], Ok, Err, arith}
+use Rattle.init_turns.proofs.Words.{rules, ◌≡◌, ◌∙◌, refl, sym, ap, subst, length, take, ◌∷◌, [], Ok, Err, arith, TakeBytes, AddsCall, front_read, Leads, bytes_in, Leads-still, IsTake, GrowsReading-none}
 use Rattle.std.proofs.lemmas.Grind.{common_steps}
-use Rattle.host_calls.specs.declared.calls.Call.TheVariants.{TakeBytes}
-use Rattle.host_calls.specs.Calls.{AddsCall, front_read}
-use Rattle.host_trace.specs.Leads.{At, Leads}
-use Rattle.host_trace.specs.Turns.{bytes_in}
-use Rattle.host_trace.proofs.Leading.{Leads-still}
-use Rattle.init_turns.specs.Parts.{IsTake}
+use Rattle.host_trace.specs.Leads.{At}
 use Rattle.init_turns.proofs.Parts.{Makes-one}
-use Rattle.host_trace.proofs.Growing.{GrowsReading-none}
 use Rattle.init_turns.proofs.hearing.take_into.Goals as goal
 
 pub returns-in_default-clause-takes : goal.returns-in_default-clause-takes

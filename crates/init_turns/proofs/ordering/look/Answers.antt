@@ -1,14 +1,7 @@
-use Rattle.std.proofs.Common.{refl}
+use Rattle.init_turns.proofs.Words.{refl, Look, Gave, Tracks, ordered, Hears-order, first_is, Leads-heard, IsStep, GrowsBy-behind}
 use Rattle.init_words.specs.declared.orders.OrderKind.TheVariants as ask
 use Rattle.trace_events.specs.declared.steps.Step.TheVariants as step
-use Rattle.host_calls.specs.declared.calls.Call.TheVariants.{Look}
-use Rattle.host_trace.specs.Leads.{Gave, Tracks}
-use Rattle.host_trace.specs.Point.{ordered}
-use Rattle.host_trace.proofs.Calling.{Hears-order, first_is}
-use Rattle.host_trace.proofs.Leading.{Leads-heard}
-use Rattle.init_turns.specs.Parts.{IsStep}
 use Rattle.init_turns.proofs.Parts.{Makes-one}
-use Rattle.host_trace.proofs.Growing.{GrowsBy-behind}
 use Rattle.init_turns.proofs.ordering.look.Goals as goal
 
 pub returns-clause-makes : goal.returns-clause-makes

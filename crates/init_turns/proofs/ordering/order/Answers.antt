@@ -1,4 +1,4 @@
-use Rattle.std.proofs.Common.{ap}
+use Rattle.init_turns.proofs.Words.{ap}
 use Rattle.trace_events.specs.declared.steps.Step.TheVariants as step
 use Rattle.init_turns.proofs.Carried.{Makes-given}
 use Rattle.init_turns.proofs.ordering.order.Goals as goal

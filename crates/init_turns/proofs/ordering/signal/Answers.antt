@@ -1,15 +1,6 @@
-use Rattle.std.proofs.Common.{refl, subst, List, ◌∷◌}
+use Rattle.init_turns.proofs.Words.{refl, subst, List, ◌∷◌, Asked, Event, Signal, Gave, Logs, Tracks, order_for, ordered, Hears-order, first_is, Leads-heard, IsStep, GrowsBy-behind}
 use Rattle.trace_events.specs.declared.steps.Step.TheVariants as step
-use Rattle.trace_events.specs.declared.happenings.Happening.TheVariants.{Asked}
-use Rattle.trace_events.specs.Event.{Event}
-use Rattle.host_calls.specs.declared.calls.Call.TheVariants.{Signal}
-use Rattle.host_trace.specs.Leads.{Gave, Logs, Tracks}
-use Rattle.host_trace.specs.Point.{order_for, ordered}
-use Rattle.host_trace.proofs.Calling.{Hears-order, first_is}
-use Rattle.host_trace.proofs.Leading.{Leads-heard}
-use Rattle.init_turns.specs.Parts.{IsStep}
 use Rattle.init_turns.proofs.Parts.{Makes-one}
-use Rattle.host_trace.proofs.Growing.{GrowsBy-behind}
 use Rattle.init_turns.proofs.ordering.signal.Goals as goal
 
 pub returns-clause-makes : goal.returns-clause-makes

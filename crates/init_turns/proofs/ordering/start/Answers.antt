@@ -1,13 +1,7 @@
-use Rattle.std.proofs.Common.{rules, ◌≡◌, refl, Some}
+use Rattle.init_turns.proofs.Words.{rules, ◌≡◌, refl, Some, entry_of, Start, Gave, Tracks, Hears-order, Leads-start, IsStep, GrowsBy-behind}
 use Rattle.init_words.specs.declared.orders.OrderKind.TheVariants as ask
-use Rattle.inittab_text.specs.Tables.{entry_of}
 use Rattle.trace_events.specs.declared.steps.Step.TheVariants as step
-use Rattle.host_calls.specs.declared.calls.Call.TheVariants.{Start}
-use Rattle.host_trace.specs.Leads.{Gave, Tracks}
-use Rattle.host_trace.proofs.Calling.{Hears-order, Leads-start}
-use Rattle.init_turns.specs.Parts.{IsStep}
 use Rattle.init_turns.proofs.Parts.{Makes-one}
-use Rattle.host_trace.proofs.Growing.{GrowsBy-behind}
 use Rattle.init_turns.proofs.ordering.start.Goals as goal
 
 pub returns-clause-makes : goal.returns-clause-makes

@@ -1,14 +1,9 @@
-use Rattle.std.proofs.Common.{refl}
+use Rattle.init_turns.proofs.Words.{refl, Announce, Gave, Tracks, Leads-not_handed, IsStep, GrowsBy-one}
 use Rattle.trace_events.specs.declared.happenings.Handed.TheVariants as handed
 use Rattle.trace_events.specs.declared.happenings.Happening.TheVariants as past
 use Rattle.trace_events.specs.declared.steps.Step.TheVariants as step
-use Rattle.host_calls.specs.declared.calls.Call.TheVariants.{Announce}
-use Rattle.host_trace.specs.Leads.{Gave, Tracks}
-use Rattle.host_trace.proofs.Calling.{Leads-not_handed}
-use Rattle.init_turns.specs.Parts.{IsStep}
 use Rattle.init_turns.proofs.Lasting.{unhanded_lasts}
 use Rattle.init_turns.proofs.Parts.{Makes-one}
-use Rattle.host_trace.proofs.Growing.{GrowsBy-one}
 use Rattle.init_turns.proofs.reexecuting.not_handed.Goals as goal
 
 pub returns-clause-makes : goal.returns-clause-makes

@@ -1,4 +1,4 @@
-use Rattle.std.proofs.Common.{◌≡◌, None, Some, sym}
+use Rattle.init_turns.proofs.Words.{◌≡◌, None, Some, sym}
 use Rattle.init_turns.proofs.HandOvers.{older_said}
 use Rattle.init_turns.proofs.reexecuting.older_back.Goals as goal
 

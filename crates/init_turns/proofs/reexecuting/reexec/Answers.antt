@@ -1,15 +1,6 @@
-use Rattle.std.proofs.Common.{rules, ◌≡◌, subst, ap, ◌∙◌}
-use Rattle.core_model.specs.Parts.{state_of}
-use Rattle.core_model.specs.Rules.{IsFit}
-use Rattle.core_text.specs.declared.versions.Version.TheVariants.{V2}
-use Rattle.core_text.specs.Refused.{IsTextIn}
+use Rattle.init_turns.proofs.Words.{rules, ◌≡◌, subst, ap, ◌∙◌, state_of, IsFit, V2, IsTextIn, Gave, Tracks, IsStep, Makes, has_short_seconds, GrowsBy, GrowsBy-one}
 use Rattle.trace_events.specs.declared.steps.Step.TheVariants as step
-use Rattle.host_trace.specs.Leads.{Gave, Tracks}
-use Rattle.init_turns.specs.Parts.{IsStep, Makes}
 use Rattle.init_turns.proofs.HandOvers.{Makes-carried}
-use Rattle.core_text.specs.Range.{has_short_seconds}
-use Rattle.host_trace.specs.Grows.{GrowsBy}
-use Rattle.host_trace.proofs.Growing.{GrowsBy-one}
 use Rattle.init_turns.proofs.reexecuting.reexec.Goals as goal
 
 pub returns-clause-makes : goal.returns-clause-makes

@@ -1,7 +1,5 @@
-use Rattle.std.proofs.Common.{rules, ◌≡◌, subst}
+use Rattle.init_turns.proofs.Words.{rules, ◌≡◌, subst, generation_said, NotTaken}
 use Rattle.core_text.specs.declared.state_fault.StateFault.TheVariants as fault
-use Rattle.core_text.proofs.Prefixes.{generation_said}
-use Rattle.core_handover.specs.Taken.{NotTaken}
 use Rattle.init_turns.proofs.HandOvers.{failed_said}
 use Rattle.init_turns.proofs.reexecuting.refused.Goals as goal
 

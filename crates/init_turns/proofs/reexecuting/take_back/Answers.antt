@@ -1,6 +1,4 @@
-use Rattle.std.proofs.Common.{refl, sym, subst, ◌∙◌}
-use Rattle.core_model.specs.Parts.{state_of}
-use Rattle.core_handover.specs.Taken.{NotTaken}
+use Rattle.init_turns.proofs.Words.{refl, sym, subst, ◌∙◌, state_of, NotTaken}
 use Rattle.init_turns.proofs.HandOvers.{taken_back}
 use Rattle.init_turns.proofs.Grown.{text_short}
 use Rattle.init_turns.proofs.reexecuting.take_back.Goals as goal

@@ -1,15 +1,8 @@
-use Rattle.std.proofs.Common.{rules, ◌≡◌, refl, subst, ◌∷◌, false}
+use Rattle.init_turns.proofs.Words.{rules, ◌≡◌, refl, subst, ◌∷◌, false, StillFits, Announce, ReadTables, OnEachTrace, Gave, Lasts, Logs, Tracks, Leads-not_read, IsStep, GrowsBy-one, GrowsBy-then}
 use Rattle.trace_events.specs.declared.happenings.Happening.TheVariants as past
 use Rattle.trace_events.specs.declared.steps.Step.TheVariants as step
-use Rattle.core_model.specs.Fit.{StillFits}
-use Rattle.host_calls.specs.declared.calls.Call.TheVariants.{Announce, ReadTables}
-use Rattle.core_model.specs.Fit.{OnEachTrace}
-use Rattle.host_trace.specs.Leads.{Gave, Lasts, Logs, Tracks}
-use Rattle.host_trace.proofs.Calling.{Leads-not_read}
-use Rattle.init_turns.specs.Parts.{IsStep}
 use Rattle.init_turns.proofs.Parts.{Makes-two}
 use Rattle.init_turns.proofs.Lasting.{unread_lasts}
-use Rattle.host_trace.proofs.Growing.{GrowsBy-one, GrowsBy-then}
 use Rattle.init_turns.proofs.rereading.reread.Goals as goal
 
 pub returns-clause-makes : goal.returns-clause-makes

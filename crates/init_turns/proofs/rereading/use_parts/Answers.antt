@@ -1,16 +1,8 @@
-use Rattle.std.proofs.Common.{rules, ◌≡◌, refl, sym, ◌∙◌, ap, ◌∷◌, List, subst, is_err, Bool, true, false, OnOk, Result, Ok, Err}
-use Rattle.std.proofs.lemmas.Bool.{false≢true}
+use Rattle.init_turns.proofs.Words.{rules, ◌≡◌, refl, sym, ◌∙◌, ap, ◌∷◌, List, subst, is_err, Bool, true, false, OnOk, Result, Ok, Err, false≢true, NewTable, Event, is_quiet, StillFits, OnEachTrace, has_short_seconds, Logs, Grows-none, GrowsBy-one}
 use Rattle.init_words.specs.Parts.{texts_of}
 use Rattle.inittab_text.specs.Parts.{table_of_texts}
 use Rattle.inittab_text.proofs.PartLemmas.{was_readable}
-use Rattle.trace_events.specs.declared.happenings.Happening.TheVariants.{NewTable}
-use Rattle.trace_events.specs.Event.{Event}
-use Rattle.core_records.specs.Lists.{is_quiet}
-use Rattle.core_model.specs.Fit.{StillFits, OnEachTrace}
-use Rattle.core_text.specs.Range.{has_short_seconds}
-use Rattle.host_trace.specs.Leads.{Logs}
 use Rattle.init_turns.proofs.Lasting.{adopt_lasts}
-use Rattle.host_trace.proofs.Growing.{Grows-none, GrowsBy-one}
 use Rattle.init_turns.proofs.rereading.use_parts.Goals as goal
 
 was_ok : {E : Type 0} (result : Result (Unit {0}) E) (P : Type 0) → is_err result ≡ false → OnOk result P → P

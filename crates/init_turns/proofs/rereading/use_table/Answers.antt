@@ -1,10 +1,5 @@
-use Rattle.std.proofs.Common.{rules, ◌≡◌, refl, sym, subst, ◌∷◌, [], Ok}
+use Rattle.init_turns.proofs.Words.{rules, ◌≡◌, refl, sym, subst, ◌∷◌, [], Ok, ReadTables, AddsCall, parts_read, Gave, Leads, Tracks, Leads-used, IsStep}
 use Rattle.trace_events.specs.declared.steps.Step.TheVariants as step
-use Rattle.host_calls.specs.declared.calls.Call.TheVariants.{ReadTables}
-use Rattle.host_calls.specs.Calls.{AddsCall, parts_read}
-use Rattle.host_trace.specs.Leads.{Gave, Leads, Tracks}
-use Rattle.host_trace.proofs.Calling.{Leads-used}
-use Rattle.init_turns.specs.Parts.{IsStep}
 use Rattle.init_turns.proofs.Parts.{Makes-one}
 use Rattle.init_turns.proofs.rereading.use_table.Goals as goal
 

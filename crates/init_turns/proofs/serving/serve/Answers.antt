@@ -1,11 +1,6 @@
-use Rattle.std.proofs.Common.{rules, ◌≡◌, ◌&&◌, ◌+◌, suc, Bool, true, false, ℕ, arith, []}
-use Rattle.std.proofs.lemmas.Bool.{false≢true}
-use Rattle.core_model.specs.Decide.{is_drained}
+use Rattle.init_turns.proofs.Words.{rules, ◌≡◌, ◌&&◌, ◌+◌, suc, Bool, true, false, ℕ, arith, [], false≢true, is_drained, MadeTurns, Fresh, Makes, GrowsBy-none, GrowsBy-then}
 use Rattle.host_trace.specs.Leads.{At}
-use Rattle.host_trace.specs.Turns.{MadeTurns}
-use Rattle.init_turns.specs.Parts.{Fresh, Makes}
 use Rattle.init_turns.proofs.Turning.{Going, Gone, turns_bring, turns_end, turns_left, turns_limit, turns_more, turns_none, turns_on}
-use Rattle.host_trace.proofs.Growing.{GrowsBy-none, GrowsBy-then}
 use Rattle.init_turns.proofs.serving.serve.Goals as goal
 
 next : (n : ℕ) → suc n ≡ n + 1

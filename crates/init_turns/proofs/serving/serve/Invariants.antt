@@ -1,6 +1,5 @@
+use Rattle.init_turns.proofs.Words.{Fresh, Makes, GrowsBy, HasRead}
 use Rattle.host_trace.specs.Leads.{At}
-use Rattle.init_turns.specs.Parts.{Fresh, Makes}
-use Rattle.host_trace.specs.Grows.{GrowsBy, HasRead}
 use Rattle.init_turns.proofs.Turning.{Going}
 use Rattle.init_turns.proofs.serving.serve.Given as goal
 

@@ -1,10 +1,7 @@
-use Rattle.std.proofs.Common.{rules, ◌≡◌, refl, sym, ap, ◌∙◌}
+use Rattle.init_turns.proofs.Words.{rules, ◌≡◌, refl, sym, ap, ◌∙◌, first_is, GrowsBy-none, GrowsBy-one, is_short_step}
 use Rattle.trace_events.specs.declared.happenings.Happening.TheVariants as past
 use Rattle.trace_events.specs.declared.steps.Step.TheVariants as step
-use Rattle.host_trace.proofs.Calling.{first_is}
 use Rattle.init_turns.proofs.Carried.{Makes-idle, Makes-said, Makes-unless}
-use Rattle.host_trace.proofs.Growing.{GrowsBy-none, GrowsBy-one}
-use Rattle.init_turns.specs.Parts.{is_short_step}
 use Rattle.init_turns.proofs.stepping.carry_out.Goals as goal
 
 pub returns-in-Enter-clause-makes : goal.returns-in-Enter-clause-makes

@@ -1,7 +1,4 @@
-use Rattle.std.proofs.Common.{refl}
-use Rattle.host_calls.specs.declared.calls.Call.TheVariants.{Announce}
-use Rattle.host_trace.specs.Leads.{Gave, Tracks}
-use Rattle.init_turns.specs.Parts.{IsStep}
+use Rattle.init_turns.proofs.Words.{refl, Announce, Gave, Tracks, IsStep}
 use Rattle.init_turns.proofs.Carried.{Leads-said}
 use Rattle.init_turns.proofs.Parts.{Makes-one}
 use Rattle.init_turns.proofs.stepping.say.Goals as goal

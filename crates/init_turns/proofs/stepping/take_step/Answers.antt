@@ -1,6 +1,4 @@
-use Rattle.std.proofs.Common.{◌∙◌, sym, ap, subst}
-use Rattle.host_trace.specs.Leads.{Tracks}
-use Rattle.init_turns.specs.Parts.{AndRests, IsStepUnless, Makes, is_listed, is_short_step}
+use Rattle.init_turns.proofs.Words.{◌∙◌, sym, ap, subst, Tracks, AndRests, IsStepUnless, Makes, is_listed, is_short_step}
 use Rattle.init_turns.proofs.Carried.{Makes-stepped}
 use Rattle.init_turns.proofs.Listed.{decide_listed, table_kept}
 use Rattle.init_turns.proofs.Lasting.{step_lasts}

@@ -1,12 +1,5 @@
-use Rattle.std.proofs.Common.{rules, ◌≡◌, ◌≤◌, ◌+◌, refl, subst, true, false}
-use Rattle.std.proofs.lemmas.Bool.{false≢true}
-use Rattle.host_trace.specs.declared.TheConstants.{STEP_LIMIT}
-use Rattle.host_trace.specs.Leads.{Tracks}
-use Rattle.host_trace.proofs.Leading.{Leads-weaken}
-use Rattle.host_trace.specs.Turns.{AreSteps}
-use Rattle.init_turns.specs.Parts.{AndRests, AreAllSteps, IsStep, IsStepUnless, Makes}
+use Rattle.init_turns.proofs.Words.{rules, ◌≡◌, ◌≤◌, ◌+◌, refl, subst, true, false, false≢true, STEP_LIMIT, Tracks, Leads-weaken, AreSteps, AndRests, AreAllSteps, IsStep, IsStepUnless, Makes, GrowsBy-none, GrowsBy-then}
 use Rattle.init_turns.proofs.Parts.{Makes-map, Makes-none, Makes-then, steps_all, steps_end, steps_more}
-use Rattle.host_trace.proofs.Growing.{GrowsBy-none, GrowsBy-then}
 use Rattle.init_turns.proofs.stepping.take_steps.Goals as goal
 
 pub loop-made-init : goal.loop-made-init

@@ -1,7 +1,4 @@
-use Rattle.host_trace.specs.Leads.{Tracks}
-use Rattle.host_trace.specs.Turns.{AreSteps}
-use Rattle.init_turns.specs.Parts.{Makes}
-use Rattle.host_trace.specs.Grows.{GrowsBy}
+use Rattle.init_turns.proofs.Words.{Tracks, AreSteps, Makes, GrowsBy}
 use Rattle.init_turns.proofs.stepping.take_steps.Given as goal
 
 -- so many steps were carried out

@@ -1,4 +1,4 @@
-use Rattle.std.proofs.Common.{[]}
+use Rattle.init_turns.proofs.Words.{[]}
 use Rattle.init_turns.proofs.Opened.{opened_by}
 use Rattle.init_turns.proofs.opening.Opening.serve.Goals as goal
 

@@ -1,0 +1,11 @@
+use Rattle.std.proofs.Common.{◌∷◌, [], rules, sym, subst, List, reverse, ◌++◌}
+use Rattle.std.proofs.lemmas.List.{reverse-append}
+use Rattle.trace_events.specs.Event.{Event}
+use Rattle.trace_log_wrappers.specs.Notes.{NotesOf}
+use Rattle.trace_log_wrappers.proofs.run_notes.NotedLogLog.take.Goals as goal
+
+pub returns-clause-ok : goal.returns-clause-ok
+returns-clause-ok g c = λ ranged before kept. (noted before (search rules), search rules)
+  where
+    noted : (before : List Event) → NotesOf c.self.inside.notes (reverse before) → NotesOf c.note.new.self (reverse (before ++ c.args.happening.now ∷ []))
+    noted before of = subst (NotesOf c.note.new.self) (sym (reverse-append before (c.args.happening.now ∷ []))) (c.note.ensures (reverse before) of)
