@@ -1,3 +1,4 @@
 pub mod CommandLines
 pub mod Faults
+pub mod Slips
 pub mod VersionLine

@@ -66,7 +66,11 @@ fn refusal(alloc: Global, error: &Error) -> Result<String, AllocError> {
         ErrorKind::MissingRequiredArgument => String::from_str(alloc, "a word is missing"),
         _ => {
             let text = format!(in alloc; "{error}")?;
-            String::from_str(alloc, reason_in(text.as_str()))
+            let reason = reason_in(text.as_str());
+            match guess_in(text.as_str()) {
+                Some(guess) => format!(in alloc; "{reason}: {guess}?"),
+                None => String::from_str(alloc, reason),
+            }
         }
     }
 }
@@ -80,6 +84,13 @@ fn reason_in(text: &str) -> &str
         Some(reason) => reason,
         None => line,
     }
+}
+
+/// The word that was probably meant, where a text of clap has one.
+fn guess_in(text: &str) -> Option<&str> {
+    let (_, tip) = text.split_once("\n  tip: a similar ")?;
+    let (_, guess) = first_line(tip).split_once('\'')?;
+    guess.strip_suffix('\'')
 }
 
 fn first_line(text: &str) -> &str

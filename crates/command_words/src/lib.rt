@@ -1,8 +1,9 @@
-//! What the programs do alike with a command line: its arguments, why words are refused and how that is reported, the
-//! value of an argument, and whether the version is asked for.
+//! What the programs do alike with a command line: its arguments, why words are refused, what was probably meant and how
+//! that is reported, the value of an argument, and whether the version is asked for.
 #![tactic(auto)]
 
 mod faults;
+mod slips;
 mod versions;
 
 ghost use Rattle.std.specs.Prelude.{◌≡◌, [], unwrap_or, map, string_bytes, IfOk};
@@ -11,6 +12,7 @@ ghost use Rattle.command_words.specs.CommandLines.{AddsArgument, IsLine, asks_ve
 
 use clap::{Arg, ArgAction, ArgMatches, Command};
 pub use faults::{WordFault, report_refused_words, report_word_fault, word_fault};
+pub use slips::{is_slip, meant_of};
 use std::alloc::{AllocError, Global};
 pub use versions::{KIT, VERSION, print_version, write_version};
 

@@ -9,8 +9,9 @@ mod shell;
 mod slips;
 mod traps;
 
+pub use command_words::is_slip;
 pub use linting::{Found, Lint, lint_parts, warnings};
 pub use own_lines::id_lines;
 pub use shell::{Operator, operator_of};
-pub use slips::{is_slip, meant};
+pub use slips::meant;
 pub use traps::{LineWarning, Warning};

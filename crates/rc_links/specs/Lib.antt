@@ -6,6 +6,7 @@ pub mod FaultTexts
 pub mod Faults
 pub mod FolderText
 pub mod Folders
+pub mod Kept
 pub mod Links
 pub mod Names
 pub mod PlannedText

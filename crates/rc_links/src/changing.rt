@@ -11,7 +11,7 @@ use init_words::Memory;
 use std::alloc::Allocator;
 
 /// `S` or `K`, two digits and one more byte at least.
-fn is_numbered(name: &[u8]) -> bool
+pub(crate) fn is_numbered(name: &[u8]) -> bool
     ensures { result ≡ is_numbered name.now }
 {
     match name {

@@ -1,11 +1,11 @@
 //! A plan: each script with its start and stop numbers.
 
-ghost use Rattle.std.specs.Prelude.{◌≡◌, string_bytes, find, IfSome, IfNone};
+ghost use Rattle.std.specs.Prelude.{◌≡◌, string_bytes, find, IfOk, IfSome, IfNone};
 ghost use Rattle.std.specs.Option.{option_map};
 ghost use Rattle.std.specs.Str.{bytes_eq};
 
 use init_words::Level;
-use std::alloc::{Allocator, Global};
+use std::alloc::{AllocError, Allocator, Global};
 use std::marker::Model;
 
 /// A script with its numbers.
@@ -92,6 +92,18 @@ impl<A: Allocator> Planned<A> {
         ensures { result.now ≡ self.now.stops }
     {
         self.stops.as_slice()
+    }
+}
+
+impl<A: Allocator + Copy> Planned<A> {
+    /// The same script once more.
+    pub(crate) fn copy(&self, alloc: A) -> Result<Planned<A>, AllocError>
+        ensures { IfOk result (λ copied. copied ≡ self.now) }
+    {
+        let name = String::from_str(alloc, self.name())?;
+        let starts = Vec::from_slice(alloc, self.starts())?;
+        let stops = Vec::from_slice(alloc, self.stops())?;
+        Ok(Planned::new(name, self.start, self.stop, starts, stops))
     }
 }
 

@@ -1,0 +1,48 @@
+-- The runlevels of the links that folders hold, and links whose script is gone.
+use Rattle.std.specs.Prelude.{ℕ, Bool, true, false, not, ◌==◌, ◌&&◌, if◌then◌else◌, List, [], ◌∷◌, map, drop, take, codes}
+use Rattle.std.specs.List.{filter, list_any}
+use Rattle.std.specs.Str.{byte, bytes_eq}
+use Rattle.init_words.specs.declared.levels.Level.{Level}
+use Rattle.rc_links.specs.Changes.{is_numbered}
+use Rattle.rc_links.specs.Entries.{has_name}
+use Rattle.rc_links.specs.EntryText.{EntryText}
+use Rattle.rc_links.specs.FolderText.{FolderText}
+use Rattle.rc_links.specs.Names.{is_name}
+use Rattle.rc_links.specs.PlannedText.{PlannedText}
+
+abbrev pub begins_with : ℕ → List ℕ → Bool
+begins_with letter [] = false
+begins_with letter (b ∷ name) = b == letter
+
+-- the name behind `../init.d/`, to which a link leads; nothing where it leads elsewhere
+abbrev pub target_in : List ℕ → List ℕ
+target_in leads = if bytes_eq (take 10 leads) (codes "../init.d/") then drop 10 leads else []
+
+-- a numbered link of the letter to the script of a name
+abbrev pub is_link_of : ℕ → List ℕ → EntryText → Bool
+is_link_of letter name e = begins_with letter e.name && (is_numbered e.name && bytes_eq (target_in e.leads) name)
+
+-- the runlevels of the folders that hold such a link
+abbrev pub levels_in : ℕ → List ℕ → List FolderText → List Level
+levels_in letter name folders =
+    map (λ (f : FolderText). f.level) (filter (λ (f : FolderText). list_any (is_link_of letter name) f.held) folders)
+
+-- there are no runlevels
+abbrev pub is_nowhere : List Level → List Level → Bool
+is_nowhere [] [] = true
+is_nowhere _ _ = false
+
+-- a script that starts and stops at these runlevels, where there are some
+abbrev pub with_levels : List Level → List Level → PlannedText → PlannedText
+with_levels starts stops s = if is_nowhere starts stops then s else record s { starts = starts; stops = stops }
+
+-- a script with the runlevels of its links, where it has some
+abbrev pub kept_script : List FolderText → PlannedText → PlannedText
+kept_script folders s = with_levels (levels_in (byte "S") s.name folders) (levels_in (byte "K") s.name folders) s
+
+abbrev pub kept_plan : List FolderText → List PlannedText → List PlannedText
+kept_plan folders plan = map (kept_script folders) plan
+
+-- the entry leads to an init script that is none of these entries
+abbrev pub is_gone : List EntryText → EntryText → Bool
+is_gone scripts e = is_name (target_in e.leads) && not (has_name (target_in e.leads) scripts)
