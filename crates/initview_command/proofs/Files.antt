@@ -7,10 +7,6 @@ use Rattle.initview_command.specs.Tables.{AreFilesAt}
 abbrev pub file_of : List ℕ → List ℕ → NamedText
 file_of path text = record { name = path; bytes = text }
 
-pub is_none : {X : Type 0} (xs : List X) → length xs ≡ 0 → xs ≡ []
-is_none [] is = refl
-is_none (x ∷ xs) is = absurd (omega (arith, is))
-
 -- a path's file before those of others
 pub one_before : (text_at : KnownTexts) (path text : List ℕ) (paths : List (List ℕ)) (others : List NamedText) → IsTextAt text_at path text → AreFilesAt text_at paths others → AreFilesAt text_at (path ∷ paths) (file_of path text ∷ others)
 one_before text_at path text paths others at files = (text, others, refl, at, files)

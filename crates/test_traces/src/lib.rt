@@ -17,6 +17,8 @@ mod piece_tests;
 #[cfg(test)]
 mod pieces;
 #[cfg(test)]
+mod seen_tests;
+#[cfg(test)]
 mod side_tests;
 #[cfg(test)]
 mod texts;
