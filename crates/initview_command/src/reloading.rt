@@ -3,15 +3,15 @@
 ghost use Rattle.std.specs.Prelude.{◌≡◌, ◌∷◌, List, map, string_bytes, OnOk};
 ghost use Rattle.trace_events.specs.declared.happenings.Happening.TheVariants.{NewTable};
 ghost use Rattle.trace_events.specs.Event.{Event};
-ghost use Rattle.trace_events.specs.Wishes.{is_level};
 ghost use Rattle.trace_view.specs.Viewing.{Viewed};
-ghost use Rattle.initview_lines.specs.Reloads.{entered, gone_on, reloaded};
+ghost use Rattle.initview_lines.specs.Reloads.{gone_on, reloaded, with_request};
 ghost use Rattle.initview_command.specs.Reloading.{Reloads, ReloadsFiles};
 
 use crate::growing::{GrowingTexts, Writer};
 use crate::showing::{Asks, show_file, stop_status};
 use crate::tables::{old_and_new, read_files, report_fault};
-use init_words::{Level, Memory, Part, Stage};
+use init_words::{Level, Memory, Part};
+use initctl_frame::HeardRequest;
 use inittab_text::Table;
 use initview_lines::reload_lines;
 use program_io::{DEVICE_FAULT, Texts};
@@ -28,41 +28,31 @@ struct Reload {
     level: Option<Level>,
 }
 
-/// The stage is the level.
-fn is_level(level: Level, stage: Option<Stage>) -> bool
-    ensures { result ≡ is_level level stage }
-{
-    match stage {
-        Some(Stage::Run(current)) => level == current,
-        _ => false,
-    }
-}
-
-/// Shows the view that init goes to a level, where that isn't in force.
-fn enter(text: &mut SeenText<()>, level: Level) -> Result<(), Memory>
+/// Shows the view that a level is asked for, where one is named.
+fn ask(text: &mut SeenText<()>, level: Option<Level>) -> Result<(), Memory>
     ensures { OnOk result ((past : List Event) → Viewed text.old.viewing.viewing past
-        → Viewed text.new.viewing.viewing (entered level past)) }
+        → Viewed text.new.viewing.viewing (with_request level past)) }
 {
-    if is_level(level, text.view().stage()) {
+    let Some(level) = level else {
         return Ok(());
-    }
+    };
     let grace = text.view().grace();
-    let happening: HappeningIn<Global> = Happening::Enter(Stage::Run(level), grace);
+    let happening: HappeningIn<Global> = Happening::Got(HeardRequest::Level(level, grace));
     let _lawful = text.show(&happening)?;
     Ok(())
 }
 
-fn go_on(text: &mut SeenText<()>, level: Option<Level>) -> Result<(), Memory>
+/// Shows the view that init goes on to a level that is asked for.
+fn go_on(text: &mut SeenText<()>) -> Result<(), Memory>
     ensures { OnOk result ((past : List Event) → Viewed text.old.viewing.viewing past
-        → Viewed text.new.viewing.viewing (gone_on level past)) }
+        → Viewed text.new.viewing.viewing (gone_on past)) }
 {
-    match level {
-        Some(level) => {
-            enter(text, level)?;
-            Ok(())
-        }
-        None => Ok(()),
-    }
+    let Some((stage, grace)) = text.view().next_stage() else {
+        return Ok(());
+    };
+    let happening: HappeningIn<Global> = Happening::Enter(stage, grace);
+    let _lawful = text.show(&happening)?;
+    Ok(())
 }
 
 fn show_table(alloc: Global, text: &mut SeenText<()>, table: &Table) -> Result<(), Memory>
@@ -74,7 +64,7 @@ fn show_table(alloc: Global, text: &mut SeenText<()>, table: &Table) -> Result<(
     Ok(())
 }
 
-/// Shows the view that init reads an inittab, and that it goes to a level, where one is named that isn't in force. No law
+/// Shows the view that init reads an inittab, and that it goes on to a level, where one is named or was asked for. No law
 /// forbids either at any time.
 fn read_anew(
     alloc: Global,
@@ -85,8 +75,9 @@ fn read_anew(
     ensures { OnOk result ((past : List Event) → Viewed text.old.viewing.viewing past
         → Viewed text.new.viewing.viewing (reloaded table.now level past)) }
 {
+    ask(text, level)?;
     show_table(alloc, text, table)?;
-    go_on(text, level)?;
+    go_on(text)?;
     Ok(())
 }
 

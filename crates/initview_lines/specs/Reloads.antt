@@ -4,34 +4,40 @@ use Rattle.std.specs.Option.{option_map, option_map_or}
 use Rattle.init_words.specs.declared.actions.Act.{Act}
 use Rattle.init_words.specs.declared.entries.Entry.{Entry}
 use Rattle.init_words.specs.declared.levels.Level.{Level}
-use Rattle.init_words.specs.declared.stages.Stage.TheVariants.{Run}
+use Rattle.init_words.specs.declared.stages.Stage.{Stage}
+use Rattle.initctl_frame.specs.declared.requests.HeardRequest.TheVariants as got
 use Rattle.init_words.specs.Actions.{is_limited, wanted_by}
 use Rattle.inittab_text.specs.Tables.{entry_of, act_of}
-use Rattle.trace_events.specs.declared.happenings.Happening.TheVariants.{NewTable, Enter}
+use Rattle.trace_events.specs.declared.happenings.Happening.TheVariants.{NewTable, Enter, Got}
 use Rattle.trace_events.specs.Event.{Event}
 use Rattle.trace_events.specs.Past.{table_of, stage_of, grace_of, Child, unreaped_children}
 use Rattle.trace_events.specs.Wanted.{starts_now, is_asked, is_excluded}
-use Rattle.trace_events.specs.Wishes.{is_level}
 use Rattle.trace_check.specs.Reading.{child_of}
 use Rattle.trace_view.specs.Rows.{gone_ids}
 use Rattle.trace_view.specs.Why.{number_of}
+use Rattle.trace_view.specs.Wishes.{next_stage}
 use Rattle.initview_lines.specs.declared.changes.Change.{Change}
 use Rattle.initview_lines.specs.declared.changes.Change.TheVariants.{Keep, NextStart, Stop, StopStart, Start, NotAgain, NotHere}
 use Rattle.initview_lines.specs.Changes.{change_words, same_process}
 use Rattle.initview_lines.specs.Words.{act_words, numbered, padded, stage_words}
 
--- init goes to a level, where that isn't in force
-abbrev pub entered : Level → List Event → List Event
-entered level past =
-    if is_level level (stage_of past) then past else Enter (Run level) (grace_of past) ∷ past
+-- a level is asked for, where one is named
+abbrev pub with_request : Option Level → List Event → List Event
+with_request None past = past
+with_request (Some level) past = Got (got.Level level (grace_of past)) ∷ past
 
-abbrev pub gone_on : Option Level → List Event → List Event
-gone_on None past = past
-gone_on (Some level) past = entered level past
+-- init enters a stage, where there is one to enter
+abbrev pub entered : Option (Stage × ℕ) → List Event → List Event
+entered None past = past
+entered (Some next) past = Enter next.0 next.1 ∷ past
 
--- init reads an inittab, and goes to a level where one is named, as for telinit q and for telinit with a level
+abbrev pub gone_on : List Event → List Event
+gone_on past = entered (next_stage past) past
+
+-- init reads an inittab, as for telinit q, or for telinit with a level where one is named, and enters the stage that is
+-- next on the way to a level that is asked for
 abbrev pub reloaded : List Entry → Option Level → List Event → List Event
-reloaded table level past = gone_on level (NewTable table ∷ past)
+reloaded table level past = gone_on (NewTable table ∷ with_request level past)
 
 -- In what follows the past is one in which the inittab was just read, so that nothing is called (is_called).
 

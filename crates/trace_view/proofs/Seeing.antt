@@ -2,6 +2,7 @@
 use Rattle.std.proofs.Common.{◌≡◌, refl, ◌∙◌, ap, ℕ, List, ◌∷◌, Option}
 use Rattle.init_words.specs.declared.entries.Entry.{Entry}
 use Rattle.init_words.specs.declared.stages.Stage.{Stage}
+use Rattle.init_words.specs.declared.stages.Stage.TheVariants.{Boot, Run, Sysinit}
 use Rattle.initctl_frame.specs.declared.requests.HeardRequest.TheVariants as got
 use Rattle.trace_events.specs.declared.happenings.Happening.TheVariants.{NewTable, NotRead, Enter, Call, Power, Birth, NoBirth, Reaped, Told, Got, Handed}
 use Rattle.trace_events.specs.Event.{Event}
@@ -16,7 +17,9 @@ use Rattle.trace_view.specs.Viewing.{ViewState, Viewed, unreaped_after, kept_aft
 wishes_step : (happening : Event) (past : List Event) → wishes_after (stage_of (happening ∷ past)) happening (wishes_of past) ≡ wishes_of (happening ∷ past)
 wishes_step (NewTable table) past = refl
 wishes_step NotRead past = refl
-wishes_step (Enter stage grace) past = refl
+wishes_step (Enter Boot grace) past = refl
+wishes_step (Enter Sysinit grace) past = refl
+wishes_step (Enter (Run level) grace) past = refl
 wishes_step (Call letter) past = refl
 wishes_step (Power kind) past = refl
 wishes_step (Handed how) past = refl

@@ -1,19 +1,24 @@
 -- The wishes, as a view keeps them, and which of them is carried out first (telinit(8), initreq.h).
-use Rattle.std.specs.Prelude.{Bool, true, false, not, ◌&&◌, ◌||◌, if◌then◌else◌, List, Option, Some, None}
+use Rattle.std.specs.Prelude.{ℕ, Bool, true, false, not, ◌&&◌, ◌||◌, if◌then◌else◌, List, ◌∷◌, Option, Some, None}
 use Rattle.init_words.specs.declared.levels.Letter.{Letter}
 use Rattle.init_words.specs.declared.levels.Level.{Level}
 use Rattle.init_words.specs.declared.levels.Letter.TheVariants as letter
 use Rattle.init_words.specs.declared.orders.PowerKind.{PowerKind}
 use Rattle.init_words.specs.declared.orders.PowerKind.TheVariants as power
+use Rattle.init_words.specs.declared.levels.Level.TheVariants.{S}
 use Rattle.init_words.specs.declared.stages.Stage.{Stage}
-use Rattle.init_words.specs.Levels.{same_letter}
+use Rattle.init_words.specs.declared.stages.Stage.TheVariants.{Boot, Run}
+use Rattle.init_words.specs.Levels.{same_letter, same_level}
 use Rattle.init_words.specs.Orders.{same_power}
 use Rattle.initctl_frame.specs.declared.requests.HeardRequest.TheVariants as got
 use Rattle.trace_events.specs.declared.happenings.Happening.TheVariants.{NewTable, NotRead, Enter, Call, Power, Got, Handed}
 use Rattle.trace_events.specs.declared.steps.Goal.{Goal}
+use Rattle.trace_events.specs.declared.steps.Step.{Step}
+use Rattle.trace_events.specs.declared.steps.Step.TheVariants as step
 use Rattle.trace_events.specs.Event.{Event}
 use Rattle.trace_events.specs.Past.{stage_of}
-use Rattle.trace_events.specs.Wishes.{is_level, in_run, other_than, wants_reexec, wants_reread, heard_level, level_wish, keeps_power, keeps_letter, keeps_news}
+use Rattle.trace_events.specs.Due.{enter_level}
+use Rattle.trace_events.specs.Wishes.{is_level, in_run, other_than, wants_reexec, wants_reread, heard_level, level_wish, was_booted, keeps_power, keeps_letter, keeps_news}
 use Rattle.trace_view.specs.declared.wishes.Wish.{Wish}
 use Rattle.trace_view.specs.declared.wishes.Wish.TheVariants as wish
 use Rattle.trace_view.specs.declared.wishes.Wishes.{Wishes}
@@ -39,7 +44,16 @@ unless_here stage (Some heard) = if is_level heard.level stage then None else So
 abbrev pub asked_level : List Event → Option Level
 asked_level past = unless_here (stage_of past) (heard_level past)
 
--- the wishes as the past has them
+-- the stage that the first of these steps enters, with the seconds between its signals
+abbrev pub entered_by : List Step → Option (Stage × ℕ)
+entered_by (step.Enter stage grace ∷ steps) = Some (stage, grace)
+entered_by _ = None
+
+-- the stage that init enters for another level that is asked for
+abbrev pub next_stage : List Event → Option (Stage × ℕ)
+next_stage past = entered_by (enter_level (level_wish past) past)
+
+-- the wishes as the past has them, and whether Boot was entered, by which the way to a level goes
 abbrev pub wishes_of : List Event → Wishes
 wishes_of past = record {
   reexec = wants_reexec past;
@@ -51,6 +65,7 @@ wishes_of past = record {
   a = keeps_letter letter.A past;
   b = keeps_letter letter.B past;
   c = keeps_letter letter.C past;
+  booted = was_booted past;
 }
 
 abbrev pub no_wishes : Wishes
@@ -64,6 +79,7 @@ no_wishes = record {
   a = false;
   b = false;
   c = false;
+  booted = false;
 }
 
 -- what a happening makes of each, where the stage is in force after it
@@ -94,6 +110,10 @@ letter_after letter (Call l) before = not (same_letter letter l) && before
 letter_after letter (Got (got.Call l)) before = same_letter letter l || before
 letter_after letter _ before = before
 
+abbrev pub booted_after : Event → Bool → Bool
+booted_after (Enter Boot grace) before = true
+booted_after _ before = before
+
 abbrev pub wishes_after : Option Stage → Event → Wishes → Wishes
 wishes_after stage happening w = record {
   reexec = reexec_after happening w.reexec;
@@ -105,6 +125,7 @@ wishes_after stage happening w = record {
   a = letter_after letter.A happening w.a;
   b = letter_after letter.B happening w.b;
   c = letter_after letter.C happening w.c;
+  booted = booted_after happening w.booted;
 }
 
 abbrev pub has_news : Wishes → Bool
@@ -112,3 +133,11 @@ has_news w = w.fail || w.fail_now || w.ok || w.a || w.b || w.c
 
 abbrev pub first_wish_in : Option Stage → Wishes → Option Wish
 first_wish_in stage w = first_of w.reexec w.reread (other_than stage w.heard) (in_run stage && has_news w)
+
+abbrev pub stage_for : Bool → Option Goal → Option (Stage × ℕ)
+stage_for booted None = None
+stage_for booted (Some wish) =
+    Some (if not (same_level wish.level S) && not booted then Boot else Run wish.level, wish.grace)
+
+abbrev pub next_stage_in : Option Stage → Wishes → Option (Stage × ℕ)
+next_stage_in stage w = stage_for w.booted (other_than stage w.heard)

@@ -13,7 +13,7 @@ ghost use Rattle.trace_check.specs.Laws.{law_number};
 ghost use Rattle.trace_view.specs.Viewing.{unviewed, Viewed, SeesNext};
 ghost use Rattle.trace_view.specs.Why.{entry_id, first_awaited, standing_of, stops_now, why};
 ghost use Rattle.trace_view.specs.Rows.{row_of, gone_ids, is_settled_now, settled_in};
-ghost use Rattle.trace_view.specs.Wishes.{asked_level, first_wish};
+ghost use Rattle.trace_view.specs.Wishes.{asked_level, first_wish, next_stage};
 
 use crate::children::{
     BornChild, child_of_id, excluded_of, excludes, gone_of, number_of_id, take_kept, take_unreaped,
@@ -304,6 +304,13 @@ impl<A: Allocator> TraceView<A> {
         ensures { (past : List Event) → Viewed self.now past → result ≡ asked_level past }
     {
         self.wishes.asked(self.judge.stage())
+    }
+
+    /// The stage that init enters for another level that is asked for, with the seconds between its signals.
+    pub fn next_stage(&self) -> Option<(Stage, u16)>
+        ensures { (past : List Event) → Viewed self.now past → result ≡ next_stage past }
+    {
+        self.wishes.next_stage(self.judge.stage())
     }
 
     /// The stage in force is a runlevel, and settled.

@@ -1,8 +1,8 @@
 //! The wishes that stand.
 
 ghost use Rattle.std.specs.Prelude.{◌≡◌};
-ghost use Rattle.trace_events.specs.Wishes.{is_level, in_run};
-ghost use Rattle.trace_view.specs.Wishes.{reexec_after, reread_after, heard_after, power_after, letter_after, no_wishes, wishes_after, has_news, first_wish_in, unless_here};
+ghost use Rattle.trace_events.specs.Wishes.{is_level, in_run, other_than};
+ghost use Rattle.trace_view.specs.Wishes.{reexec_after, reread_after, heard_after, power_after, letter_after, no_wishes, wishes_after, has_news, first_wish_in, unless_here, booted_after, next_stage_in};
 
 use init_words::{Letter, Level, PowerKind, Stage};
 use initctl_frame::HeardRequest;
@@ -34,6 +34,8 @@ pub(crate) struct Wishes {
     pub(crate) a: bool,
     pub(crate) b: bool,
     pub(crate) c: bool,
+    /// Boot was entered.
+    pub(crate) booted: bool,
 }
 
 fn is_level(level: Level, stage: Option<Stage>) -> bool
@@ -112,6 +114,15 @@ fn letter_after<B: Allocator>(letter: Letter, happening: &HappeningIn<B>, before
     }
 }
 
+fn booted_after<B: Allocator>(happening: &HappeningIn<B>, before: bool) -> bool
+    ensures { result ≡ booted_after happening.now before }
+{
+    match happening {
+        Happening::Enter(Stage::Boot, _) => true,
+        _ => before,
+    }
+}
+
 impl Wishes {
     /// Nothing was wished.
     pub(crate) fn new() -> Wishes
@@ -127,6 +138,7 @@ impl Wishes {
             a: false,
             b: false,
             c: false,
+            booted: false,
         }
     }
 
@@ -148,6 +160,7 @@ impl Wishes {
             a: letter_after(Letter::A, happening, self.a),
             b: letter_after(Letter::B, happening, self.b),
             c: letter_after(Letter::C, happening, self.c),
+            booted: booted_after(happening, self.booted),
         }
     }
 
@@ -169,6 +182,31 @@ impl Wishes {
         }
     }
 
+    /// The wish for another level, in this stage.
+    fn level(self, stage: Option<Stage>) -> Option<Goal>
+        ensures { result ≡ other_than stage self.heard }
+    {
+        let (Some(Stage::Run(current)), Some(heard)) = (stage, self.heard) else {
+            return None;
+        };
+        if heard.level == current {
+            None
+        } else {
+            Some(heard)
+        }
+    }
+
+    /// The stage that is entered for it, with the seconds between its signals: Boot first, where that was not entered.
+    pub(crate) fn next_stage(self, stage: Option<Stage>) -> Option<(Stage, u16)>
+        ensures { result ≡ next_stage_in stage self }
+    {
+        let wish = self.level(stage)?;
+        if wish.level != Level::S && !self.booted {
+            return Some((Stage::Boot, wish.grace));
+        }
+        Some((Stage::Run(wish.level), wish.grace))
+    }
+
     /// The wish that is carried out first, in this stage.
     pub(crate) fn first(self, stage: Option<Stage>) -> Option<Wish>
         ensures { result ≡ first_wish_in stage self }
@@ -179,10 +217,8 @@ impl Wishes {
         if self.reread {
             return Some(Wish::Reread);
         }
-        if let (Some(Stage::Run(current)), Some(heard)) = (stage, self.heard) {
-            if heard.level != current {
-                return Some(Wish::Level(heard.level));
-            }
+        if let Some(heard) = self.level(stage) {
+            return Some(Wish::Level(heard.level));
         }
         if in_run(stage) && self.has_news() {
             return Some(Wish::News);

@@ -1,0 +1,4 @@
+use Rattle.initview_command.proofs.reloading.go_on.Goals as goal
+
+pub returns : goal.returns
+returns c = ?
