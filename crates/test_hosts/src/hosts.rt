@@ -54,7 +54,7 @@ pub(crate) fn pausing(
 ) -> Result<Box<SystemHost>, Memory> {
     Ok(boxed(
         rt.alloc(),
-        plain(rt, rt.alloc(), paths)?.with_pause(length)?,
+        plain(rt, rt.alloc(), paths)?.with_pause(length, true)?,
     )?)
 }
 
