@@ -3,24 +3,47 @@
 #![tactic(auto)]
 
 use program_io::{StandardFiles, report_unread_words, words};
-use rclinks_command::{SystemFolders, USAGE, run_words};
+use rclinks_command::{SHORT_USAGE, SystemFolders, run_words};
+use std::alloc::Global;
+use std::fs::{read_dir, read_link};
+use std::io;
 use std::process::ExitCode;
+
+/// Where the facility files are, from the folder of the program's on.
+const FACILITIES: &str = "share/initd/facilities";
+
+/// The facility files that are installed with the program, in byte order of their names: none where it isn't installed.
+fn facilities(rt: &HostRuntime, alloc: Global) -> io::Result<Vec<String>> {
+    let mut files = Vec::new(alloc);
+    let program = read_link(rt, "/proc/self/exe")?;
+    let Some((prefix, _)) = program.as_path().as_str().rsplit_once("/bin/") else {
+        return Ok(files);
+    };
+    let folder = format!(in alloc; "{prefix}/{FACILITIES}")?;
+    for entry in read_dir(rt, folder.as_str())? {
+        files.push(String::from_str(alloc, entry?.path().as_str())?)?;
+    }
+    files.sort()?;
+    Ok(files)
+}
 
 fn main(rt: HostRuntime) -> ExitCode {
     let _standard = StandardFiles::hold(&rt);
     let alloc = rt.alloc();
     let status = match words(&rt, alloc) {
         Ok(words) => {
+            let facilities = facilities(&rt, alloc).unwrap_or(Vec::new(alloc));
             run_words(
                 &rt,
                 &mut SystemFolders::new(&rt),
                 alloc,
+                facilities.as_slice(),
                 words.as_slice(),
                 &mut rt.stdout(),
                 &mut rt.stderr(),
             )
         }
-        Err(error) => report_unread_words("rclinks", USAGE, &error, &mut rt.stderr()),
+        Err(error) => report_unread_words("rclinks", SHORT_USAGE, &error, &mut rt.stderr()),
     };
     ExitCode::from(status)
 }

@@ -18,7 +18,7 @@ use Rattle.rc_links.specs.declared.folders.Act.{Act}
 use Rattle.rc_links.specs.declared.folders.Act.TheVariants.{Make, Remove}
 use Rattle.rc_links.specs.PlannedText.{PlannedText}
 use Rattle.rclinks_command.specs.Folders.{KnownFolders, changed, changed_by, changed_in}
-use Rattle.rclinks_command.specs.Writing.{AreFolders, IsFolder, all_levels, changes_in, planned_at, settled_in, targets_in}
+use Rattle.rclinks_command.specs.Writing.{AreFolders, IsFolder, all_levels, changes_in, planned_at, settled_in}
 use Rattle.rc_links.proofs.LinkLemmas.{same_bytes, same_itself}
 
 -- changes, and then others
@@ -194,43 +194,43 @@ not_in_dir dir other level (f ∷ folders) differs =
     ap (λ b. (b && same_level f.level level) || has_folder dir other level folders) differs ∙ not_in_dir dir other level folders differs
 
 -- a folder that is known is settled by its changes
-own_known : (known : KnownFolders) (dir other : List ℕ) (level : Level) (plan : List PlannedText) (f : FolderText) (es : List EntryText) → IsFolder known dir plan f
+own_known : (known : KnownFolders) (dir other : List ℕ) (level : Level) (plan : List PlannedText) (targets : List (List ℕ)) (f : FolderText) (es : List EntryText) → IsFolder known dir plan f
     → bytes_eq dir other ≡ true → same_level f.level level ≡ true → known other level ≡ Some es
-    → changed_by dir (changes_of (targets_in plan) f) other level es ≡ settled (targets_in plan) (planned_at plan level) es
-own_known known dir other level plan f es is at same holds =
+    → changed_by dir (changes_of targets f) other level es ≡ settled targets (planned_at plan level) es
+own_known known dir other level plan targets f es is at same holds =
     let one : f.level ≡ level = same_level-is f.level level same in
     let dirs : dir ≡ other = same_bytes dir other at in
     let here : known dir f.level ≡ Some es = ap (λ d. known d f.level) dirs ∙ ap (λ l. known other l) one ∙ holds in
     let held : f.held ≡ es = is.held es here in
     let both : (bytes_eq dir other && same_level f.level level) ≡ true = ap (λ b. b && same_level f.level level) at ∙ same in
-    ap (λ ys. changed_by dir (map (removal f.level) (filter (is_stale (targets_in plan) f.planned) ys) ++ map (making f.level) (filter (is_missing ys) f.planned)) other level es) held
-    ∙ own_folder dir other level f.level (targets_in plan) f.planned es both
-    ∙ ap (λ links. settled (targets_in plan) links es) (is.planned ∙ ap (λ l. planned_at plan l) one)
+    ap (λ ys. changed_by dir (map (removal f.level) (filter (is_stale targets f.planned) ys) ++ map (making f.level) (filter (is_missing ys) f.planned)) other level es) held
+    ∙ own_folder dir other level f.level targets f.planned es both
+    ∙ ap (λ links. settled targets links es) (is.planned ∙ ap (λ l. planned_at plan l) one)
 
-settles_here : (known : KnownFolders) (dir other : List ℕ) (level : Level) (plan : List PlannedText) (f : FolderText) (folders : List FolderText) (es : List EntryText) (b : Bool)
+settles_here : (known : KnownFolders) (dir other : List ℕ) (level : Level) (plan : List PlannedText) (targets : List (List ℕ)) (f : FolderText) (folders : List FolderText) (es : List EntryText) (b : Bool)
     → same_level f.level level ≡ b → IsFolder known dir plan f → list_any (λ l. same_level l f.level) (map level_of folders) ≡ false → bytes_eq dir other ≡ true → known other level ≡ Some es
-    → (same_level f.level level ≡ false → changed_by dir (flat_map (changes_of (targets_in plan)) folders) other level es ≡ settled (targets_in plan) (planned_at plan level) es)
-    → changed_by dir (flat_map (changes_of (targets_in plan)) folders) other level (changed_by dir (changes_of (targets_in plan) f) other level es) ≡ settled (targets_in plan) (planned_at plan level) es
-settles_here known dir other level plan f folders es true same is single at holds rest =
+    → (same_level f.level level ≡ false → changed_by dir (flat_map (changes_of targets) folders) other level es ≡ settled targets (planned_at plan level) es)
+    → changed_by dir (flat_map (changes_of targets) folders) other level (changed_by dir (changes_of targets f) other level es) ≡ settled targets (planned_at plan level) es
+settles_here known dir other level plan targets f folders es true same is single at holds rest =
     let one : f.level ≡ level = same_level-is f.level level same in
     let absent : list_any (λ (g : FolderText). same_level g.level level) folders ≡ false =
     sym (has_level_of level folders) ∙ ap (λ l. list_any (λ k. same_level k l) (map level_of folders)) (sym one) ∙ single in
-    other_folders dir other level (targets_in plan) folders (changed_by dir (changes_of (targets_in plan) f) other level es) (in_dir dir other level folders at ∙ absent)
-    ∙ own_known known dir other level plan f es is at same holds
-settles_here known dir other level plan f folders es false differs is single at holds rest =
+    other_folders dir other level targets folders (changed_by dir (changes_of targets f) other level es) (in_dir dir other level folders at ∙ absent)
+    ∙ own_known known dir other level plan targets f es is at same holds
+settles_here known dir other level plan targets f folders es false differs is single at holds rest =
     let away_here : (bytes_eq dir other && same_level f.level level) ≡ false = ap (λ b. b && same_level f.level level) at ∙ differs in
-    ap (λ ys. changed_by dir (flat_map (changes_of (targets_in plan)) folders) other level ys) (other_folder dir other level (targets_in plan) f es away_here)
+    ap (λ ys. changed_by dir (flat_map (changes_of targets) folders) other level ys) (other_folder dir other level targets f es away_here)
     ∙ rest differs
 
-settles_by : (known : KnownFolders) (dir other : List ℕ) (level : Level) (plan : List PlannedText) (folders : List FolderText) (es : List EntryText)
+settles_by : (known : KnownFolders) (dir other : List ℕ) (level : Level) (plan : List PlannedText) (targets : List (List ℕ)) (folders : List FolderText) (es : List EntryText)
     → AllByRecursion (IsFolder known dir plan) folders → once (map level_of folders) → bytes_eq dir other ≡ true → known other level ≡ Some es
     → list_any (λ (f : FolderText). same_level f.level level) folders ≡ true
-    → changed_by dir (flat_map (changes_of (targets_in plan)) folders) other level es ≡ settled (targets_in plan) (planned_at plan level) es
-settles_by known dir other level plan [] es each single at holds there = absurd (true≢false (sym there))
-settles_by known dir other level plan (f ∷ folders) es each single at holds there =
-    changed_by-append dir (changes_of (targets_in plan) f) (flat_map (changes_of (targets_in plan)) folders) other level es
-    ∙ settles_here known dir other level plan f folders es (same_level f.level level) refl each.0 single.0 at holds
-    (λ differs. settles_by known dir other level plan folders es each.1 single.1 at holds (sym (ap (λ b. b || list_any (λ (g : FolderText). same_level g.level level) folders) differs) ∙ there))
+    → changed_by dir (flat_map (changes_of targets) folders) other level es ≡ settled targets (planned_at plan level) es
+settles_by known dir other level plan targets [] es each single at holds there = absurd (true≢false (sym there))
+settles_by known dir other level plan targets (f ∷ folders) es each single at holds there =
+    changed_by-append dir (changes_of targets f) (flat_map (changes_of targets) folders) other level es
+    ∙ settles_here known dir other level plan targets f folders es (same_level f.level level) refl each.0 single.0 at holds
+    (λ differs. settles_by known dir other level plan targets folders es each.1 single.1 at holds (sym (ap (λ b. b || list_any (λ (g : FolderText). same_level g.level level) folders) differs) ∙ there))
 
 every_level : (level : Level) → list_any (λ l. same_level l level) all_levels ≡ true
 every_level L0 = refl
@@ -248,17 +248,17 @@ every_level S = refl
 all_once : once all_levels
 all_once = (refl, (refl, (refl, (refl, (refl, (refl, (refl, (refl, (refl, (refl, (refl, tt)))))))))))
 
-settled_by : (known : KnownFolders) (dir other : List ℕ) (level : Level) (plan : List PlannedText) (folders : List FolderText) (es : List EntryText) (b : Bool)
+settled_by : (known : KnownFolders) (dir other : List ℕ) (level : Level) (plan : List PlannedText) (targets : List (List ℕ)) (folders : List FolderText) (es : List EntryText) (b : Bool)
     → AreFolders known dir plan folders → bytes_eq dir other ≡ b → known other level ≡ Some es
-    → changed_by dir (flat_map (changes_of (targets_in plan)) folders) other level es ≡ cond b (settled (targets_in plan) (planned_at plan level) es) es
-settled_by known dir other level plan folders es true are at holds =
-    settles_by known dir other level plan folders es are.each (subst once (sym are.levels) all_once) at holds
+    → changed_by dir (flat_map (changes_of targets) folders) other level es ≡ cond b (settled targets (planned_at plan level) es) es
+settled_by known dir other level plan targets folders es true are at holds =
+    settles_by known dir other level plan targets folders es are.each (subst once (sym are.levels) all_once) at holds
     (sym (has_level_of level folders) ∙ ap (λ ls. list_any (λ l. same_level l level) ls) are.levels ∙ every_level level)
-settled_by known dir other level plan folders es false are differs holds =
-    other_folders dir other level (targets_in plan) folders es (not_in_dir dir other level folders differs)
+settled_by known dir other level plan targets folders es false are differs holds =
+    other_folders dir other level targets folders es (not_in_dir dir other level folders differs)
 
 -- the changes that all folders of a directory need settle them, and no other
-pub settles : (known : KnownFolders) (dir other : List ℕ) (level : Level) (plan : List PlannedText) (folders : List FolderText) (es : List EntryText)
+pub settles : (known : KnownFolders) (dir other : List ℕ) (level : Level) (plan : List PlannedText) (targets : List (List ℕ)) (folders : List FolderText) (es : List EntryText)
     → AreFolders known dir plan folders → known other level ≡ Some es
-    → changed_by dir (changes_in plan folders) other level es ≡ settled_in dir plan other level es
-settles known dir other level plan folders es are holds = settled_by known dir other level plan folders es (bytes_eq dir other) are refl holds
+    → changed_by dir (changes_in targets folders) other level es ≡ settled_in dir targets plan other level es
+settles known dir other level plan targets folders es are holds = settled_by known dir other level plan targets folders es (bytes_eq dir other) are refl holds

@@ -1,9 +1,9 @@
 -- Changes, one more on, and the folders behind all of them.
-use Rattle.std.proofs.Common.{◌≡◌, ℕ, ◌+◌, ◌<◌, List, [], ◌∷◌, ◌++◌, length, get_or, drop, take, map, Some, sym, ap, ◌∙◌, append_assoc}
+use Rattle.std.proofs.Common.{◌≡◌, ℕ, Bool, ◌+◌, ◌<◌, List, [], ◌∷◌, ◌++◌, length, get_or, drop, take, map, Some, sym, ap, ◌∙◌, append_assoc}
 use Rattle.rc_links.proofs.NameLemmas.{cut_at}
 use Rattle.rc_links.specs.ChangeText.{ChangeText}
 use Rattle.rc_links.specs.PlannedText.{PlannedText}
-use Rattle.rclinks_command.specs.Folders.{Becomes, KnownFolders, changed_by, changed_in}
+use Rattle.rclinks_command.specs.Folders.{Becomes, KnownFolders, KnownScripts, changed_by, changed_in}
 use Rattle.rclinks_command.specs.Writing.{IsWritten, Wants}
 use Rattle.rclinks_command.proofs.SettledLemmas.{changed_by-append, settles}
 
@@ -23,11 +23,12 @@ changed-next old before after dir changes place c within at so_far one = λ othe
     ∙ ap Some (sym (ap (λ cs. changed_by dir cs other level es) (cut_at changes place c within at).1 ∙ changed_by-append dir (take place changes) (c ∷ []) other level es))
 
 -- all changes that a plan's folders want were made
-pub written : (known after : KnownFolders) (dir : List ℕ) (plan : List PlannedText) (changes : List ChangeText) → Wants known dir plan changes → Becomes known after (changed_by dir changes)
-    → IsWritten known dir plan after
-written known after dir plan changes wanted made = (
+pub written : (known after : KnownFolders) (scripts : KnownScripts) (prunes : Bool) (dir : List ℕ) (plan : List PlannedText) (changes : List ChangeText)
+    → Wants known scripts prunes dir plan changes → Becomes known after (changed_by dir changes) → IsWritten known scripts prunes dir plan after
+written known after scripts prunes dir plan changes wanted made = (
   changes,
   wanted,
   λ other level es is.
-      made other level es is ∙ ap Some (ap (λ cs. changed_by dir cs other level es) wanted.3 ∙ settles known dir other level plan wanted.0 es wanted.1 is),
+      made other level es is
+      ∙ ap Some (ap (λ cs. changed_by dir cs other level es) wanted.whole ∙ settles known dir other level plan wanted.targets wanted.folders es wanted.are is),
 )

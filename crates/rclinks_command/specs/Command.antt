@@ -14,11 +14,13 @@ use Rattle.rc_links.specs.Plans.{IsPlan, IsRefused}
 use Rattle.rc_links.specs.ScriptText.{ScriptText}
 use Rattle.rc_links.specs.declared.faults.PlanFault.{PlanFault}
 use Rattle.rc_links.specs.declared.faults.PlanFault.TheVariants as plan_fault
+use Rattle.command_words.specs.Faults.{usage_report}
+use Rattle.rclinks_command.specs.Facilities.{files_with}
 use Rattle.rclinks_command.specs.Files.{IsNoScriptAt, IsScriptAt, file_status}
-use Rattle.rclinks_command.specs.Folders.{KnownFolders}
+use Rattle.rclinks_command.specs.Folders.{KnownFolders, KnownScripts}
 use Rattle.rclinks_command.specs.Reading.{Reads}
 use Rattle.rclinks_command.specs.Skipping.{LeavesSome}
-use Rattle.rclinks_command.specs.Writing.{IsTaken, IsWritten, IsWrittenPart, Previews}
+use Rattle.rclinks_command.specs.Writing.{InFolders, IsTaken, IsWritten, IsWrittenPart, Previews}
 use Rattle.rclinks_command.specs.declared.files.FileFault.{FileFault}
 
 -- a word that asks for the usage
@@ -29,9 +31,11 @@ is_help word = bytes_eq word (codes "--help") || bytes_eq word (codes "-h")
 abbrev pub wants_usage : List (List ℕ) → Bool
 wants_usage words = is_empty words || list_any is_help words
 
--- why the usage is told: no file is given; nothing is said of a request for help
-abbrev pub usage_reason : List (List ℕ) → List ℕ
-usage_reason words = if is_empty words then codes "no file is given" else []
+-- what is told where the usage is: that no file is given, and its line; the whole of it of a request for help
+abbrev pub words_report : List ℕ → List ℕ → List (List ℕ) → List ℕ
+words_report whole short words =
+    if is_empty words then usage_report (codes "rclinks") (codes "no file is given") short
+    else usage_report (codes "rclinks") [] whole
 
 -- a script for each path, in order
 abbrev pub AreScripts : KnownTexts → List (List ℕ) → List ScriptText → Type 0
@@ -59,11 +63,16 @@ HasRefused text_at paths = (before later : List (List ℕ)) × (path : List ℕ)
     × (found : FileFault) × IsNoScriptAt text_at path found × (file_status found ≡ 1)
 
 -- what words ask for: that all faults are told, that scripts which can't be read or planned are left out, that changes
--- of folders are printed and not made, the directory of the folders that are written, and the paths of the files
+-- of folders are printed and not made, that no facility file is read that is not among the files, that the runlevels of
+-- links that are there are kept, that links are taken away whose script is gone, the directory of the folders that are
+-- written, and the paths of the files
 pub record Line : Type 0 where
   pub all : Bool
   pub skips : Bool
   pub dry : Bool
+  pub bare : Bool
+  pub keeps : Bool
+  pub prunes : Bool
   pub dir : Option (List ℕ)
   pub files : List (List ℕ)
 
@@ -79,11 +88,29 @@ line_from false line (word ∷ words) =
     if bytes_eq word (codes "--all") then line_from false (record line { all = true }) words
     else if bytes_eq word (codes "--skip") then line_from false (record line { skips = true }) words
     else if bytes_eq word (codes "-n") then line_from false (record line { dry = true }) words
+    else if bytes_eq word (codes "--no-facilities") then line_from false (record line { bare = true }) words
+    else if bytes_eq word (codes "--keep") then line_from false (record line { keeps = true }) words
+    else if bytes_eq word (codes "--prune") then line_from false (record line { prunes = true }) words
     else if bytes_eq word (codes "--write") then line_from true line words
     else record line { files = word ∷ words }
 
 abbrev pub line_of : List (List ℕ) → Line
-line_of words = line_from false (record { all = false; skips = false; dry = false; dir = None; files = [] }) words
+line_of words =
+    line_from false (record {
+      all = false;
+      skips = false;
+      dry = false;
+      bare = false;
+      keeps = false;
+      prunes = false;
+      dir = None;
+      files = [];
+    }) words
+
+-- The same with these facility files in front of the files, where links are made, or their changes printed.
+abbrev pub line_with : List (List ℕ) → Line → Line
+line_with facilities line =
+    record line { files = files_with facilities (is_some line.dir && not line.bare) line.files }
 
 -- scripts that have this are those of all of the files; or those of the files that give one, without some of them, each
 -- left out since there was no plan with it
@@ -101,39 +128,59 @@ PlanOf text_at line P =
 abbrev pub writes : Line → Bool
 writes line = is_some line.dir && not line.dry
 
--- what is done by a plan: its links are printed; or the changes by which the folders of a directory hold them are
--- printed, or made
-abbrev pub DoesBy : Option (List ℕ) → Bool → KnownFolders → KnownFolders → Option (List ℕ) → Option (List ℕ)
+-- what is done in the folders of a directory: the changes by which they hold a plan's links are printed, or made
+abbrev pub DoesIn : Bool → Bool → KnownScripts → KnownFolders → List ℕ → KnownFolders → Option (List ℕ) → Option (List ℕ)
     → List PlannedText → Type 0
-DoesBy None dry before after old new plan = Appends old new (plan_text plan)
-DoesBy (Some dir) true before after old new plan =
-    (text : List ℕ) × Previews before dir plan text × Appends old new text
-DoesBy (Some dir) false before after old new plan = IsWritten before dir plan after
+DoesIn true prunes scripts before dir after old new plan =
+    (text : List ℕ) × Previews before scripts prunes dir plan text × Appends old new text
+DoesIn false prunes scripts before dir after old new plan = IsWritten before scripts prunes dir plan after
 
-abbrev pub Does : KnownTexts → Line → KnownFolders → KnownFolders → Option (List ℕ) → Option (List ℕ) → Type 0
-Does text_at line before after old new = PlanOf text_at line (DoesBy line.dir line.dry before after old new)
+-- what is done by a plan: its links are printed, or the folders of a directory are to hold them
+abbrev pub DoesBy : Option (List ℕ) → Line → KnownScripts → KnownFolders → KnownFolders → Option (List ℕ)
+    → Option (List ℕ) → List PlannedText → Type 0
+DoesBy None line scripts before after old new plan = Appends old new (plan_text plan)
+DoesBy (Some dir) line scripts before after old new plan =
+    InFolders line.keeps before dir plan (DoesIn line.dry line.prunes scripts before dir after old new)
+
+abbrev pub Does : KnownTexts → Line → KnownScripts → KnownFolders → KnownFolders → Option (List ℕ) → Option (List ℕ)
+    → Type 0
+Does text_at line scripts before after old new =
+    PlanOf text_at line (DoesBy line.dir line scripts before after old new)
 
 -- as far as it came: a prefix of the text, or the first of the changes
-abbrev pub PartBy : Option (List ℕ) → Bool → KnownFolders → KnownFolders → Option (List ℕ) → Option (List ℕ)
+abbrev pub PartIn : Bool → Bool → KnownScripts → KnownFolders → List ℕ → KnownFolders → Option (List ℕ) → Option (List ℕ)
     → List PlannedText → Type 0
-PartBy None dry before after old new plan = AppendsPrefix old new (plan_text plan)
-PartBy (Some dir) true before after old new plan =
-    (text : List ℕ) × Previews before dir plan text × AppendsPrefix old new text
-PartBy (Some dir) false before after old new plan = IsWrittenPart before dir plan after
+PartIn true prunes scripts before dir after old new plan =
+    (text : List ℕ) × Previews before scripts prunes dir plan text × AppendsPrefix old new text
+PartIn false prunes scripts before dir after old new plan = IsWrittenPart before scripts prunes dir plan after
 
-abbrev pub DoesPart : KnownTexts → Line → KnownFolders → KnownFolders → Option (List ℕ) → Option (List ℕ) → Type 0
-DoesPart text_at line before after old new = PlanOf text_at line (PartBy line.dir line.dry before after old new)
+abbrev pub PartBy : Option (List ℕ) → Line → KnownScripts → KnownFolders → KnownFolders → Option (List ℕ)
+    → Option (List ℕ) → List PlannedText → Type 0
+PartBy None line scripts before after old new plan = AppendsPrefix old new (plan_text plan)
+PartBy (Some dir) line scripts before after old new plan =
+    InFolders line.keeps before dir plan (PartIn line.dry line.prunes scripts before dir after old new)
+
+abbrev pub DoesPart : KnownTexts → Line → KnownScripts → KnownFolders → KnownFolders → Option (List ℕ)
+    → Option (List ℕ) → Type 0
+DoesPart text_at line scripts before after old new =
+    PlanOf text_at line (PartBy line.dir line scripts before after old new)
 
 -- a name that the plan needs in the folders of a directory is taken
-abbrev pub TakenBy : Option (List ℕ) → KnownFolders → List PlannedText → Type 0
-TakenBy None before plan = ⊥
-TakenBy (Some dir) before plan = IsTaken before dir plan
+abbrev pub TakenBy : Option (List ℕ) → Line → KnownScripts → KnownFolders → List PlannedText → Type 0
+TakenBy None line scripts before plan = ⊥
+TakenBy (Some dir) line scripts before plan =
+    InFolders line.keeps before dir plan (IsTaken before scripts line.prunes dir)
 
 -- why a run over these files is refused: a file is, or the scripts have no plan
 abbrev pub IsRefusedFor : KnownTexts → Bool → List (List ℕ) → Type 0
 IsRefusedFor text_at skips paths = HasRefused text_at paths ⊎ ScriptsOf text_at skips paths HasNoPlan
 
--- why a run on what words ask for is refused: the usage is wanted, it is refused for its files, or a name is taken
-abbrev pub IsRefusedRun : KnownTexts → Line → KnownFolders → Type 0
-IsRefusedRun text_at line before = (wants_usage line.files ≡ true) ⊎ IsRefusedFor text_at line.skips line.files
-    ⊎ PlanOf text_at line (TakenBy line.dir before)
+-- why a run on these files is refused: it is refused for them, or a name is taken
+abbrev pub IsRefusedBy : KnownTexts → Line → KnownScripts → KnownFolders → Type 0
+IsRefusedBy text_at line scripts before =
+    IsRefusedFor text_at line.skips line.files ⊎ PlanOf text_at line (TakenBy line.dir line scripts before)
+
+-- why a run on what words ask for, with these facility files, is refused: the usage is wanted, or the run on the files is
+abbrev pub IsRefusedRun : KnownTexts → List (List ℕ) → Line → KnownScripts → KnownFolders → Type 0
+IsRefusedRun text_at facilities line scripts before =
+    (wants_usage line.files ≡ true) ⊎ IsRefusedBy text_at (line_with facilities line) scripts before

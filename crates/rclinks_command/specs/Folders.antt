@@ -14,6 +14,10 @@ use Rattle.rc_links.specs.declared.folders.Act.TheVariants.{Make, Remove}
 abbrev pub KnownFolders : Type 0
 KnownFolders = List ℕ → Level → Option (List EntryText)
 
+-- the entries of `init.d` in each directory, where they are known
+abbrev pub KnownScripts : Type 0
+KnownScripts = List ℕ → Option (List EntryText)
+
 -- each folder that is known holds what this says of what it held
 abbrev pub Becomes : KnownFolders → KnownFolders → (List ℕ → Level → List EntryText → List EntryText) → Type 0
 Becomes old new f =

@@ -1,4 +1,5 @@
 pub mod Command
+pub mod Facilities
 pub mod Files
 pub mod Folders
 pub mod KeptLinks

@@ -9,6 +9,9 @@ line_said line = record {
   all = line.all;
   skips = line.skips;
   dry = line.dry;
+  bare = line.bare;
+  keeps = line.keeps;
+  prunes = line.prunes;
   dir = option_map (λ dir. dir.now) line.dir;
   files = map string_bytes line.files.now;
 }

@@ -1,6 +1,6 @@
 -- What rclinks makes of the folders of a directory by a plan.
 use Rattle.std.specs.Prelude.{◌≡◌, ℕ, Bool, true, false, if◌then◌else◌, List, [], ◌∷◌, ◌++◌, map, flat_map, take, codes, Some}
-use Rattle.std.specs.List.{AllByRecursion, list_any}
+use Rattle.std.specs.List.{AllByRecursion, filter, list_any}
 use Rattle.std.specs.Str.{bytes_eq}
 use Rattle.init_words.specs.declared.levels.Level.{Level}
 use Rattle.init_words.specs.declared.levels.Level.TheVariants.{L0, L1, L2, L3, L4, L5, L6, L7, L8, L9, S}
@@ -10,11 +10,12 @@ use Rattle.rc_links.specs.Changes.{changes_of, is_taken, settled}
 use Rattle.rc_links.specs.Entries.{entry_of}
 use Rattle.rc_links.specs.EntryText.{EntryText}
 use Rattle.rc_links.specs.FolderText.{FolderText}
+use Rattle.rc_links.specs.Kept.{is_gone, kept_plan}
 use Rattle.rc_links.specs.declared.folders.Act.{Act}
 use Rattle.rc_links.specs.declared.folders.Act.TheVariants.{Make, Remove}
 use Rattle.rc_links.specs.Links.{linked_name, links_at}
 use Rattle.rc_links.specs.PlannedText.{PlannedText}
-use Rattle.rclinks_command.specs.Folders.{Becomes, KnownFolders, changed_by}
+use Rattle.rclinks_command.specs.Folders.{Becomes, KnownFolders, KnownScripts, changed_by}
 
 -- the runlevels that have a folder
 abbrev pub all_levels : List Level
@@ -50,15 +51,27 @@ pub record AreFolders (known : KnownFolders) (dir : List ℕ) (plan : List Plann
 abbrev pub has_taken : List (List ℕ) → List FolderText → Bool
 has_taken targets folders = list_any (λ (f : FolderText). list_any (is_taken targets f.planned) f.held) folders
 
--- the changes that the folders need
-abbrev pub changes_in : List PlannedText → List FolderText → List ChangeText
-changes_in plan folders = flat_map (changes_of (targets_in plan)) folders
+-- where the links of a folder lead whose script is none of these entries
+abbrev pub gone_at : List EntryText → FolderText → List (List ℕ)
+gone_at scripts f = map (λ (e : EntryText). e.leads) (filter (is_gone scripts) f.held)
 
--- the folders of the directory hold just the plan's links, of all numbered links that lead to its scripts, and what
+-- Where the links lead that are settled: to the scripts of the plan; and, where links are taken away whose script is
+-- gone, to those scripts.
+abbrev pub AreTargets : Bool → KnownScripts → List ℕ → List PlannedText → List FolderText → List (List ℕ) → Type 0
+AreTargets false known dir plan folders targets = targets ≡ targets_in plan
+AreTargets true known dir plan folders targets = (scripts : List EntryText)
+    × ((es : List EntryText) → known dir ≡ Some es → scripts ≡ es)
+    × (targets ≡ targets_in plan ++ flat_map (gone_at scripts) folders)
+
+-- the changes that the folders need, where links that lead there are settled
+abbrev pub changes_in : List (List ℕ) → List FolderText → List ChangeText
+changes_in targets folders = flat_map (changes_of targets) folders
+
+-- the folders of the directory hold just the plan's links, of all numbered links that lead to these places, and what
 -- they held besides; all other folders hold what they held
-abbrev pub settled_in : List ℕ → List PlannedText → List ℕ → Level → List EntryText → List EntryText
-settled_in dir plan other level es =
-    if bytes_eq dir other then settled (targets_in plan) (planned_at plan level) es else es
+abbrev pub settled_in : List ℕ → List (List ℕ) → List PlannedText → List ℕ → Level → List EntryText → List EntryText
+settled_in dir targets plan other level es =
+    if bytes_eq dir other then settled targets (planned_at plan level) es else es
 
 -- a change, as it is printed
 abbrev pub act_word : Act → List ℕ
@@ -74,27 +87,40 @@ abbrev pub changes_text : List ChangeText → List ℕ
 changes_text changes = flat_map change_line changes
 
 -- a name that the plan needs in the directory's folders is taken
-abbrev pub IsTaken : KnownFolders → List ℕ → List PlannedText → Type 0
-IsTaken known dir plan =
-    (folders : List FolderText) × AreFolders known dir plan folders × (has_taken (targets_in plan) folders ≡ true)
+abbrev pub IsTaken : KnownFolders → KnownScripts → Bool → List ℕ → List PlannedText → Type 0
+IsTaken known scripts prunes dir plan = (folders : List FolderText) × (targets : List (List ℕ))
+    × AreFolders known dir plan folders × AreTargets prunes scripts dir plan folders targets
+    × (has_taken targets folders ≡ true)
 
 -- no such name is taken, and these are the changes that the folders need
-abbrev pub Wants : KnownFolders → List ℕ → List PlannedText → List ChangeText → Type 0
-Wants known dir plan changes =
-    (folders : List FolderText) × AreFolders known dir plan folders × (has_taken (targets_in plan) folders ≡ false)
-    × (changes ≡ changes_in plan folders)
+pub record Wants (known : KnownFolders) (scripts : KnownScripts) (prunes : Bool) (dir : List ℕ) (plan : List PlannedText)
+    (changes : List ChangeText) : Type 0 where
+  pub folders : List FolderText
+  pub targets : List (List ℕ)
+  pub are : AreFolders known dir plan folders
+  pub aimed : AreTargets prunes scripts dir plan folders targets
+  pub free : has_taken targets folders ≡ false
+  pub whole : changes ≡ changes_in targets folders
 
 -- the text of the changes that the folders need
-abbrev pub Previews : KnownFolders → List ℕ → List PlannedText → List ℕ → Type 0
-Previews known dir plan text =
-    (changes : List ChangeText) × Wants known dir plan changes × (text ≡ changes_text changes)
+abbrev pub Previews : KnownFolders → KnownScripts → Bool → List ℕ → List PlannedText → List ℕ → Type 0
+Previews known scripts prunes dir plan text =
+    (changes : List ChangeText) × Wants known scripts prunes dir plan changes × (text ≡ changes_text changes)
 
 -- no name was taken, and behind the run the folders of the directory hold the plan's links
-abbrev pub IsWritten : KnownFolders → List ℕ → List PlannedText → KnownFolders → Type 0
-IsWritten known dir plan after =
-    (changes : List ChangeText) × Wants known dir plan changes × Becomes known after (settled_in dir plan)
+abbrev pub IsWritten : KnownFolders → KnownScripts → Bool → List ℕ → List PlannedText → KnownFolders → Type 0
+IsWritten known scripts prunes dir plan after =
+    (changes : List ChangeText) × (wanted : Wants known scripts prunes dir plan changes)
+    × Becomes known after (settled_in dir wanted.targets plan)
 
 -- the first of the changes were made
-abbrev pub IsWrittenPart : KnownFolders → List ℕ → List PlannedText → KnownFolders → Type 0
-IsWrittenPart known dir plan after = (changes : List ChangeText) × (count : ℕ) × Wants known dir plan changes
+abbrev pub IsWrittenPart : KnownFolders → KnownScripts → Bool → List ℕ → List PlannedText → KnownFolders → Type 0
+IsWrittenPart known scripts prunes dir plan after =
+    (changes : List ChangeText) × (count : ℕ) × Wants known scripts prunes dir plan changes
     × Becomes known after (changed_by dir (take count changes))
+
+-- a plan in the folders of a directory has this, as it is, or with the runlevels of the links that are there
+abbrev pub InFolders : Bool → KnownFolders → List ℕ → List PlannedText → (List PlannedText → Type 0) → Type 0
+InFolders false known dir plan P = P plan
+InFolders true known dir plan P =
+    (folders : List FolderText) × AreFolders known dir plan folders × P (kept_plan folders plan)

@@ -6,15 +6,17 @@ ghost use Rattle.std.specs.Io.KnownBytes.{Appends};
 ghost use Rattle.program_io.specs.Writing.{AppendsPrefix};
 ghost use Rattle.command_words.specs.VersionLine.{PrintsVersion};
 ghost use Rattle.command_words.specs.CommandLines.{asks_version};
-ghost use Rattle.command_words.specs.Faults.{usage_report};
 ghost use Rattle.rc_links.specs.Links.{plan_text};
 ghost use Rattle.rc_links.specs.Plans.{IsPlan};
 ghost use Rattle.rclinks_command.specs.Said.{line_said};
-ghost use Rattle.rclinks_command.specs.Command.{goes_on, Does, DoesBy, DoesPart, HasNoPlan, IsRefusedFor, IsRefusedRun, PartBy, ScriptsOf, TakenBy, is_help, line_from, line_of, plan_status, usage_reason, wants_usage, writes};
+ghost use Rattle.rclinks_command.specs.Command.{goes_on, Does, DoesBy, DoesIn, DoesPart, HasNoPlan, IsRefusedBy, IsRefusedFor, IsRefusedRun, PartBy, PartIn, ScriptsOf, TakenBy, is_help, line_from, line_of, line_with, plan_status, wants_usage, words_report, writes};
 ghost use Rattle.rclinks_command.specs.Skipping.{LeavesSome};
+ghost use Rattle.rclinks_command.specs.Writing.{InFolders, IsTaken};
 
+use crate::facilities::files_with;
 use crate::files::FileFault;
 use crate::folders::LinkFolders;
+use crate::planned::kept_in;
 use crate::reading::read_files;
 use crate::skipping::{plan_rest, tell_first};
 use crate::telling::tell_system_names;
@@ -22,17 +24,27 @@ use crate::writing::{preview, write_folders};
 use command_words::{is_version, print_version, report_refused_words};
 use program_io::{DEVICE_FAULT, DONE, REFUSED, Texts, report_no_memory, write_text};
 use rc_links::{Plan, PlanFault, Script, plan};
-use std::alloc::Global;
+use std::alloc::{AllocError, Global};
 use std::io::Write;
 
-/// What is told of words that are no command line, behind a line that says why, and where help is asked for.
-pub const USAGE: &str = "usage: rclinks [--all] [--skip] [--write DIR] [-n] FILE..
+/// What is told where help is asked for.
+pub const USAGE: &str =
+    "usage: rclinks [--all] [--skip] [--write DIR [-n] [--keep] [--prune] [--no-facilities]] FILE..
        rclinks --version
   --all        tell all faults, and not the first alone
   --skip       leave out the scripts that can't be read or planned, and plan the others
-  --write DIR  make the links in DIR, in rc0.d to rc9.d and rcS.d, and take away the scripts' other numbered links
+  --write DIR  make the links in DIR, in rc0.d to rc9.d and rcS.d, and take away the scripts' other numbered links;
+               the facility files that are installed are read in front of the scripts
   -n           print what --write would do, and change nothing
+  --keep       leave a script that has links in DIR in their runlevels, and only number it
+  --prune      take away numbered links to ../init.d/NAME where DIR/init.d has no NAME
+  --no-facilities
+               read no facility file that is not among the files
 ";
+
+/// What is told of words that are no command line, behind a line that says why.
+pub const SHORT_USAGE: &str =
+    "usage: rclinks [--all] [--skip] [--write DIR [-n] [--keep] [--prune] [--no-facilities]] FILE.. | --help\n";
 
 /// What words ask for.
 #[derive(Clone, Copy)]
@@ -43,6 +55,12 @@ struct Line<'w> {
     skips: bool,
     /// Changes of folders are printed, and not made.
     dry: bool,
+    /// No facility file is read that is not among the files.
+    bare: bool,
+    /// A script that has links keeps their runlevels.
+    keeps: bool,
+    /// Links whose script is gone are taken away.
+    prunes: bool,
     /// The directory of the folders that are written.
     dir: Option<&'w str>,
     /// The paths of the scripts.
@@ -82,6 +100,27 @@ fn line_from<'w>(line: Line<'w>, words: &'w [String]) -> Line<'w>
             rest,
         ),
         [word, rest @ ..] if word.as_str() == "-n" => line_from(Line { dry: true, ..line }, rest),
+        [word, rest @ ..] if word.as_str() == "--no-facilities" => {
+            line_from(Line { bare: true, ..line }, rest)
+        }
+        [word, rest @ ..] if word.as_str() == "--keep" => {
+            line_from(
+                Line {
+                    keeps: true,
+                    ..line
+                },
+                rest,
+            )
+        }
+        [word, rest @ ..] if word.as_str() == "--prune" => {
+            line_from(
+                Line {
+                    prunes: true,
+                    ..line
+                },
+                rest,
+            )
+        }
         [word, dir, rest @ ..] if word.as_str() == "--write" => line_from(
             Line {
                 dir: Some(dir.as_str()),
@@ -109,6 +148,9 @@ fn line_of(words: &[String]) -> Line<'_>
             all: false,
             skips: false,
             dry: false,
+            bare: false,
+            keeps: false,
+            prunes: false,
             dir: None,
             files: &[],
         },
@@ -242,14 +284,13 @@ fn wants_usage(words: &[String]) -> bool
 fn report_words<E: Write>(words: &[String], err: &mut E) -> u8
     ensures status { result ≡ REFUSED }
     ensures report { AppendsPrefix (E.contents err.old) (E.contents err.new)
-        (usage_report (codes "rclinks") (usage_reason (map string_bytes words.now)) USAGE.now) }
+        (words_report USAGE.now SHORT_USAGE.now (map string_bytes words.now)) }
 {
-    let reason = if words.is_empty() {
-        "no file is given"
+    if words.is_empty() {
+        report_refused_words("rclinks", "no file is given", SHORT_USAGE, err)
     } else {
-        ""
-    };
-    report_refused_words("rclinks", reason, USAGE, err)
+        report_refused_words("rclinks", "", USAGE, err)
+    }
 }
 
 /// The plan of the files' scripts; the exit status where a file or the plan is refused, a file can't be read or memory
@@ -303,20 +344,86 @@ fn print_changes<F: LinkFolders, W: Write, E: Write>(
     folders: &F,
     alloc: Global,
     dir: &str,
+    prunes: bool,
     plan: &Plan,
     out: &mut W,
     err: &mut E,
 ) -> u8
     ensures statuses { (result ≡ DONE) ⊎ (result ≡ REFUSED) ⊎ (result ≡ DEVICE_FAULT) }
-    ensures done { result ≡ DONE → DoesBy (Some dir.now) true (F.held folders.now)
-        (F.held folders.now) (W.contents out.old) (W.contents out.new) plan.now }
-    ensures refused { result ≡ REFUSED
-        → TakenBy (Some dir.now) (F.held folders.now) plan.now × (out.new ≡ out.old) }
-    ensures part { (out.new ≡ out.old) ⊎ PartBy (Some dir.now) true (F.held folders.now)
-        (F.held folders.now) (W.contents out.old) (W.contents out.new) plan.now }
+    ensures done { result ≡ DONE → DoesIn true prunes (F.scripts_in folders.now)
+        (F.held folders.now) dir.now (F.held folders.now) (W.contents out.old) (W.contents out.new)
+        plan.now }
+    ensures refused { result ≡ REFUSED → IsTaken (F.held folders.now) (F.scripts_in folders.now)
+        prunes dir.now plan.now × (out.new ≡ out.old) }
+    ensures part { (out.new ≡ out.old) ⊎ PartIn true prunes (F.scripts_in folders.now)
+        (F.held folders.now) dir.now (F.held folders.now) (W.contents out.old) (W.contents out.new)
+        plan.now }
 {
-    match preview(folders, alloc, dir, plan, err) {
+    match preview(folders, alloc, dir, prunes, plan, err) {
         Ok(text) => write_links(text.as_slice(), out, err),
+        Err(status) => status,
+    }
+}
+
+/// Makes the folders of a directory hold a plan's links, or prints the changes, and gives the exit status.
+fn do_in<F: LinkFolders, W: Write, E: Write>(
+    folders: &mut F,
+    alloc: Global,
+    dir: &str,
+    dry: bool,
+    prunes: bool,
+    plan: &Plan,
+    out: &mut W,
+    err: &mut E,
+) -> u8
+    ensures statuses { (result ≡ DONE) ⊎ (result ≡ REFUSED) ⊎ (result ≡ DEVICE_FAULT) }
+    ensures done { result ≡ DONE → DoesIn dry prunes (F.scripts_in folders.old)
+        (F.held folders.old) dir.now (F.held folders.new) (W.contents out.old) (W.contents out.new)
+        plan.now }
+    ensures refused { result ≡ REFUSED → IsTaken (F.held folders.old) (F.scripts_in folders.old)
+        prunes dir.now plan.now × (out.new ≡ out.old) × (folders.new ≡ folders.old) }
+    ensures kept { dry ≡ true → folders.new ≡ folders.old }
+    ensures silent { dry ≡ false → out.new ≡ out.old }
+    ensures part { (out.new ≡ out.old) × (folders.new ≡ folders.old)
+        ⊎ PartIn dry prunes (F.scripts_in folders.old) (F.held folders.old) dir.now
+        (F.held folders.new) (W.contents out.old) (W.contents out.new) plan.now }
+{
+    if dry {
+        print_changes(folders, alloc, dir, prunes, plan, out, err)
+    } else {
+        write_folders(folders, alloc, dir, prunes, plan, err)
+    }
+}
+
+/// The same, with the runlevels of the links that are there, where they are kept.
+fn do_kept<F: LinkFolders, W: Write, E: Write>(
+    folders: &mut F,
+    alloc: Global,
+    dir: &str,
+    line: &Line,
+    plan: &Plan,
+    out: &mut W,
+    err: &mut E,
+) -> u8
+    ensures statuses { (result ≡ DONE) ⊎ (result ≡ REFUSED) ⊎ (result ≡ DEVICE_FAULT) }
+    ensures done { result ≡ DONE → InFolders line.now.keeps (F.held folders.old) dir.now plan.now
+        (DoesIn line.now.dry line.now.prunes (F.scripts_in folders.old) (F.held folders.old)
+        dir.now (F.held folders.new) (W.contents out.old) (W.contents out.new)) }
+    ensures refused { result ≡ REFUSED → InFolders line.now.keeps (F.held folders.old) dir.now
+        plan.now (IsTaken (F.held folders.old) (F.scripts_in folders.old) line.now.prunes dir.now)
+        × (out.new ≡ out.old) × (folders.new ≡ folders.old) }
+    ensures kept { line.now.dry ≡ true → folders.new ≡ folders.old }
+    ensures silent { line.now.dry ≡ false → out.new ≡ out.old }
+    ensures part { (out.new ≡ out.old) × (folders.new ≡ folders.old)
+        ⊎ InFolders line.now.keeps (F.held folders.old) dir.now plan.now
+        (PartIn line.now.dry line.now.prunes (F.scripts_in folders.old) (F.held folders.old)
+        dir.now (F.held folders.new) (W.contents out.old) (W.contents out.new)) }
+{
+    if !line.keeps {
+        return do_in(folders, alloc, dir, line.dry, line.prunes, plan, out, err);
+    }
+    match kept_in(folders, alloc, dir, plan, err) {
+        Ok(kept) => do_in(folders, alloc, dir, line.dry, line.prunes, &kept, out, err),
         Err(status) => status,
     }
 }
@@ -331,21 +438,94 @@ fn do_by<F: LinkFolders, W: Write, E: Write>(
     err: &mut E,
 ) -> u8
     ensures statuses { (result ≡ DONE) ⊎ (result ≡ REFUSED) ⊎ (result ≡ DEVICE_FAULT) }
-    ensures done { result ≡ DONE → DoesBy (line_said line.now).dir line.now.dry
-        (F.held folders.old) (F.held folders.new) (W.contents out.old) (W.contents out.new)
-        plan.now }
-    ensures refused { result ≡ REFUSED → TakenBy (line_said line.now).dir (F.held folders.old)
-        plan.now × (out.new ≡ out.old) × (folders.new ≡ folders.old) }
+    ensures done { result ≡ DONE → DoesBy (line_said line.now).dir (line_said line.now)
+        (F.scripts_in folders.old) (F.held folders.old) (F.held folders.new)
+        (W.contents out.old) (W.contents out.new) plan.now }
+    ensures refused { result ≡ REFUSED → TakenBy (line_said line.now).dir (line_said line.now)
+        (F.scripts_in folders.old) (F.held folders.old) plan.now
+        × (out.new ≡ out.old) × (folders.new ≡ folders.old) }
     ensures kept { writes (line_said line.now) ≡ false → folders.new ≡ folders.old }
     ensures silent { writes (line_said line.now) ≡ true → out.new ≡ out.old }
     ensures part { (out.new ≡ out.old) × (folders.new ≡ folders.old)
-        ⊎ PartBy (line_said line.now).dir line.now.dry (F.held folders.old) (F.held folders.new)
-        (W.contents out.old) (W.contents out.new) plan.now }
+        ⊎ PartBy (line_said line.now).dir (line_said line.now) (F.scripts_in folders.old)
+        (F.held folders.old) (F.held folders.new) (W.contents out.old) (W.contents out.new)
+        plan.now }
 {
     match line.dir {
         None => print_links(alloc, plan, out, err),
-        Some(dir) if line.dry => print_changes(folders, alloc, dir, plan, out, err),
-        Some(dir) => write_folders(folders, alloc, dir, plan, err),
+        Some(dir) => do_kept(folders, alloc, dir, line, plan, out, err),
+    }
+}
+
+/// Runs rclinks on what words ask for, and gives its exit status.
+fn run_line<T: Texts, F: LinkFolders, W: Write, E: Write>(
+    texts: &T,
+    folders: &mut F,
+    alloc: Global,
+    line: &Line,
+    out: &mut W,
+    err: &mut E,
+) -> u8
+    ensures statuses { (result ≡ DONE) ⊎ (result ≡ REFUSED) ⊎ (result ≡ DEVICE_FAULT) }
+    ensures done { result ≡ DONE → Does (T.text_at texts.now) (line_said line.now)
+        (F.scripts_in folders.old) (F.held folders.old) (F.held folders.new) (W.contents out.old)
+        (W.contents out.new) }
+    ensures refused { result ≡ REFUSED → IsRefusedBy (T.text_at texts.now) (line_said line.now)
+        (F.scripts_in folders.old) (F.held folders.old) }
+    ensures quiet { result ≡ REFUSED → (out.new ≡ out.old) × (folders.new ≡ folders.old) }
+    ensures kept { writes (line_said line.now) ≡ false → folders.new ≡ folders.old }
+    ensures silent { writes (line_said line.now) ≡ true → out.new ≡ out.old }
+    ensures part { (out.new ≡ out.old) × (folders.new ≡ folders.old)
+        ⊎ DoesPart (T.text_at texts.now) (line_said line.now) (F.scripts_in folders.old)
+        (F.held folders.old) (F.held folders.new) (W.contents out.old) (W.contents out.new) }
+{
+    match plan_of(texts, alloc, line, err) {
+        Ok(plan) => do_by(folders, alloc, line, &plan, out, err),
+        Err(status) => status,
+    }
+}
+
+/// The same line with other files.
+fn over<'w>(line: Line<'w>, files: &'w [String]) -> Line<'w>
+    ensures { line_said result ≡ record (line_said line.entry) { files = map string_bytes files.entry.now } }
+{
+    Line { files, ..line }
+}
+
+/// Runs rclinks on what words ask for, with facility files, and gives its exit status.
+fn run_with<T: Texts, F: LinkFolders, W: Write, E: Write>(
+    texts: &T,
+    folders: &mut F,
+    alloc: Global,
+    facilities: &[String],
+    line: Line,
+    out: &mut W,
+    err: &mut E,
+) -> u8
+    ensures statuses { (result ≡ DONE) ⊎ (result ≡ REFUSED) ⊎ (result ≡ DEVICE_FAULT) }
+    ensures done { result ≡ DONE → Does (T.text_at texts.now)
+        (line_with (map string_bytes facilities.now) (line_said line.entry))
+        (F.scripts_in folders.old) (F.held folders.old) (F.held folders.new) (W.contents out.old)
+        (W.contents out.new) }
+    ensures refused { result ≡ REFUSED → IsRefusedBy (T.text_at texts.now)
+        (line_with (map string_bytes facilities.now) (line_said line.entry))
+        (F.scripts_in folders.old) (F.held folders.old) }
+    ensures quiet { result ≡ REFUSED → (out.new ≡ out.old) × (folders.new ≡ folders.old) }
+    ensures kept { writes (line_said line.entry) ≡ false → folders.new ≡ folders.old }
+    ensures silent { writes (line_said line.entry) ≡ true → out.new ≡ out.old }
+    ensures part { (out.new ≡ out.old) × (folders.new ≡ folders.old)
+        ⊎ DoesPart (T.text_at texts.now)
+        (line_with (map string_bytes facilities.now) (line_said line.entry))
+        (F.scripts_in folders.old) (F.held folders.old) (F.held folders.new) (W.contents out.old)
+        (W.contents out.new) }
+{
+    let takes = line.dir.is_some() && !line.bare;
+    match files_with(alloc, facilities, takes, line.files) {
+        Ok(files) => {
+            let whole = over(line, files.as_slice());
+            run_line(texts, folders, alloc, &whole, out, err)
+        }
+        Err(AllocError) => report_no_memory("rclinks", err),
     }
 }
 
@@ -354,30 +534,36 @@ fn do_by<F: LinkFolders, W: Write, E: Write>(
 /// `--help` or `-h`, where a script's name or header or the plan is refused, or where a name of a link is taken; 4 where
 /// a file can't be read, a folder can't be listed or changed, the output fails or memory runs out. The first fault ends
 /// the run, and is told on `err`; with `--all` all faults are told there, and the status is that of the first. With
-/// `--skip` a script that can't be read or planned is left out. With `--write DIR` the links are not printed but made in the folders of a directory, and numbered links of the scripts
-/// that the plan doesn't have are taken away; with `-n` besides what would be changed is printed, and nothing is
-/// changed. What is odd in a header is told on `err` too, whatever the status.
+/// `--skip` a script that can't be read or planned is left out. With `--write DIR` the links are not printed but made in
+/// the folders of a directory, and numbered links of the scripts that the plan doesn't have are taken away; with `-n`
+/// besides what would be changed is printed, and nothing is changed. With `--keep` besides a script that has numbered
+/// links there stays in their runlevels, and with `--prune` those are taken away whose script `init.d` of the directory
+/// hasn't. With `--write`, and without `--no-facilities`, the facility files are read in front of the scripts, but for
+/// those whose name a script has. What is odd in a header is told on `err` too, whatever the status.
 pub fn run_words<T: Texts, F: LinkFolders, W: Write, E: Write>(
     texts: &T,
     folders: &mut F,
     alloc: Global,
+    facilities: &[String],
     words: &[String],
     out: &mut W,
     err: &mut E,
 ) -> u8
     ensures statuses { (result ≡ DONE) ⊎ (result ≡ REFUSED) ⊎ (result ≡ DEVICE_FAULT) }
     ensures usage { wants_usage (line_of (map string_bytes words.now)).files ≡ true
-        → (result ≡ REFUSED) × AppendsPrefix (E.contents err.old) (E.contents err.new) (usage_report
-        (codes "rclinks") (usage_reason (line_of (map string_bytes words.now)).files) USAGE.now) }
+        → (result ≡ REFUSED) × AppendsPrefix (E.contents err.old) (E.contents err.new) (words_report
+        USAGE.now SHORT_USAGE.now (line_of (map string_bytes words.now)).files) }
     ensures version { asks_version (map string_bytes words.now) ≡ true
         → PrintsVersion (codes "rclinks") result (W.contents out.old) (W.contents out.new) }
     // The links of all of the files, or of those that are not left out, were printed or made, or the changes printed.
     ensures done { asks_version (map string_bytes words.now) ≡ false → result ≡ DONE →
-        Does (T.text_at texts.now) (line_of (map string_bytes words.now)) (F.held folders.old)
+        Does (T.text_at texts.now) (line_with (map string_bytes facilities.now)
+        (line_of (map string_bytes words.now))) (F.scripts_in folders.old) (F.held folders.old)
         (F.held folders.new) (W.contents out.old) (W.contents out.new) }
     // The usage was wanted, a file was refused, the scripts have no plan, or a name of a link is taken.
     ensures refused { result ≡ REFUSED → IsRefusedRun (T.text_at texts.now)
-        (line_of (map string_bytes words.now)) (F.held folders.old) }
+        (map string_bytes facilities.now) (line_of (map string_bytes words.now))
+        (F.scripts_in folders.old) (F.held folders.old) }
     ensures quiet { result ≡ REFUSED → (out.new ≡ out.old) × (folders.new ≡ folders.old) }
     // Nothing is changed but by `--write` without `-n`, and then nothing is printed.
     ensures kept { writes (line_of (map string_bytes words.now)) ≡ false
@@ -387,7 +573,8 @@ pub fn run_words<T: Texts, F: LinkFolders, W: Write, E: Write>(
     // Nothing was written, or a prefix of the text, which may be the whole, or the first of the changes were made.
     ensures part { asks_version (map string_bytes words.now) ≡ false
         → (out.new ≡ out.old) × (folders.new ≡ folders.old)
-        ⊎ DoesPart (T.text_at texts.now) (line_of (map string_bytes words.now)) (F.held folders.old)
+        ⊎ DoesPart (T.text_at texts.now) (line_with (map string_bytes facilities.now)
+        (line_of (map string_bytes words.now))) (F.scripts_in folders.old) (F.held folders.old)
         (F.held folders.new) (W.contents out.old) (W.contents out.new) }
 {
     if is_version(words) {
@@ -397,8 +584,5 @@ pub fn run_words<T: Texts, F: LinkFolders, W: Write, E: Write>(
     if wants_usage(line.files) {
         return report_words(line.files, err);
     }
-    match plan_of(texts, alloc, &line, err) {
-        Ok(plan) => do_by(folders, alloc, &line, &plan, out, err),
-        Err(status) => status,
-    }
+    run_with(texts, folders, alloc, facilities, line, out, err)
 }

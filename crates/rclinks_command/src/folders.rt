@@ -1,7 +1,7 @@
 //! The folders of the runlevels, where their links are listed and changed.
 
 ghost use Rattle.std.specs.Prelude.{◌≡◌, IfOk, IfSome, OnOk, OnErr, string_bytes};
-ghost use Rattle.rclinks_command.specs.Folders.{Becomes, KnownFolders, Stays, changed_in};
+ghost use Rattle.rclinks_command.specs.Folders.{Becomes, KnownFolders, KnownScripts, Stays, changed_in};
 
 use init_words::Level;
 use rc_links::{Act, Change, FolderEntry};
@@ -20,10 +20,18 @@ pub trait LinkFolders {
     /// The entries of a runlevel's folder in a directory; None where they aren't known.
     ghost held: { Self → KnownFolders };
 
+    /// What `init.d` in a directory holds; None where that isn't known.
+    ghost scripts_in: { Self → KnownScripts };
+
     /// The entries of a runlevel's folder in a directory. A folder that isn't there has none.
     fn entries(&self, alloc: Global, dir: &str, level: Level) -> io::Result<Vec<FolderEntry>>
         ensures { IfOk result (λ found.
             IfSome (held self.now dir.now level) (λ known. found.items ≡ known)) };
+
+    /// The entries of `init.d` in a directory.
+    fn scripts(&self, alloc: Global, dir: &str) -> io::Result<Vec<FolderEntry>>
+        ensures { IfOk result (λ found.
+            IfSome (scripts_in self.now dir.now) (λ known. found.items ≡ known)) };
 
     /// Changes a runlevel's folder in a directory. One that isn't there is made with its first link. Where the change
     /// is refused, the folders hold what they held.
@@ -51,17 +59,20 @@ impl<'r, R: Files + Alloc + Clone + Drop> LinkFolders for SystemFolders<'r, R> {
 
     ghost held = { λ _ _ _. None };
 
+    ghost scripts_in = { λ _ _. None };
+
     fn entries(&self, alloc: Global, dir: &str, level: Level) -> io::Result<Vec<FolderEntry>> {
-        let mut found = Vec::new(alloc);
         let path = folder_path(alloc, dir, level)?;
         if is_absent(self.rt, path.as_str()) {
             fs::metadata(self.rt, dir)?;
-            return Ok(found);
+            return Ok(Vec::new(alloc));
         }
-        for entry in read_dir(self.rt, path.as_str())? {
-            add_entry(self.rt, alloc, &mut found, entry)?;
-        }
-        Ok(found)
+        entries_at(self.rt, alloc, path.as_str())
+    }
+
+    fn scripts(&self, alloc: Global, dir: &str) -> io::Result<Vec<FolderEntry>> {
+        let path = format!(in alloc; "{dir}/init.d")?;
+        entries_at(self.rt, alloc, path.as_str())
     }
 
     fn change(&mut self, alloc: Global, dir: &str, change: &Change) -> io::Result<()> {
@@ -76,6 +87,19 @@ impl<'r, R: Files + Alloc + Clone + Drop> LinkFolders for SystemFolders<'r, R> {
             }
         }
     }
+}
+
+/// The entries of a folder.
+fn entries_at<R: Files + Alloc + Clone + Drop>(
+    rt: &R,
+    alloc: Global,
+    path: &str,
+) -> io::Result<Vec<FolderEntry>> {
+    let mut found = Vec::new(alloc);
+    for entry in read_dir(rt, path)? {
+        add_entry(rt, alloc, &mut found, entry)?;
+    }
+    Ok(found)
 }
 
 /// The path of a runlevel's folder.

@@ -29,8 +29,8 @@ impl Model for KeptLink {
     ghost view = { λ k. record { dir = string_bytes k.dir; level = k.level; entry = k.entry } };
 }
 
-/// Folders that are kept in memory. All of them are known, and each stands there, if only with no entry. They serve
-/// tests: no program keeps any.
+/// Folders that are kept in memory. All of them are known, and each stands there, if only with no entry; of `init.d`
+/// nothing is known, and it gives no script. They serve tests: no program keeps any.
 #[derive(Drop)]
 pub struct KeptLinks {
     entries: Vec<KeptLink>,
@@ -108,11 +108,13 @@ impl KeptLinks {
 }
 
 impl LinkFolders for KeptLinks {
-    ghost use Rattle.std.specs.Prelude.{List, Some};
+    ghost use Rattle.std.specs.Prelude.{List, None, Some};
     ghost use Rattle.rclinks_command.specs.KeptLinks.{entries_in};
     ghost use Rattle.rclinks_command.specs.KeptText.{KeptText};
 
     ghost held = { λ (kept : List KeptText) dir level. Some (entries_in kept dir level) };
+
+    ghost scripts_in = { λ _ _. None };
 
     fn entries(&self, alloc: Global, dir: &str, level: Level) -> io::Result<Vec<FolderEntry>> {
         let mut found = Vec::new(alloc);
@@ -122,6 +124,10 @@ impl LinkFolders for KeptLinks {
             }
         }
         Ok(found)
+    }
+
+    fn scripts(&self, alloc: Global, _dir: &str) -> io::Result<Vec<FolderEntry>> {
+        Ok(Vec::new(alloc))
     }
 
     fn change(&mut self, _alloc: Global, dir: &str, change: &Change) -> io::Result<()> {

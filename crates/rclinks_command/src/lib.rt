@@ -3,6 +3,7 @@
 #![tactic(auto)]
 
 mod command;
+mod facilities;
 mod faulty;
 mod files;
 mod folders;
@@ -14,7 +15,7 @@ mod skipping;
 mod telling;
 mod writing;
 
-pub use command::{USAGE, run_words};
+pub use command::{SHORT_USAGE, USAGE, run_words};
 pub use files::{FileFault, script_in};
 pub use folders::{LinkFolders, SystemFolders};
 pub use kept_links::KeptLinks;

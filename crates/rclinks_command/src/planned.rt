@@ -1,15 +1,17 @@
 //! The folders of a directory, with the links that a plan has there.
 
-ghost use Rattle.std.specs.Prelude.{◌≡◌, IfOk, IfErr};
-ghost use Rattle.std.specs.List.{list_any};
+ghost use Rattle.std.specs.Prelude.{◌≡◌, ◌++◌, ◌∷◌, [], List, true, flat_map, map, IfOk, IfErr, IfSome, OnOk};
+ghost use Rattle.std.specs.List.{filter, list_any};
 ghost use Rattle.rc_links.specs.Changes.{targets_of, is_taken};
+ghost use Rattle.rc_links.specs.FolderText.{FolderText};
+ghost use Rattle.rc_links.specs.Kept.{is_gone, kept_plan};
 ghost use Rattle.rc_links.specs.Links.{linked_name};
-ghost use Rattle.rclinks_command.specs.Writing.{AreFolders, IsFolder, all_levels, has_taken, link_entry, planned_at, target_of, targets_in};
+ghost use Rattle.rclinks_command.specs.Writing.{AreFolders, AreTargets, IsFolder, all_levels, gone_at, has_taken, link_entry, planned_at, target_of, targets_in};
 
 use crate::folders::LinkFolders;
 use init_words::{Level, Memory};
 use program_io::{DEVICE_FAULT, report_no_memory};
-use rc_links::{Folder, FolderEntry, LEVELS, Plan, is_taken};
+use rc_links::{Folder, FolderEntry, LEVELS, Plan, is_gone, is_taken};
 use std::alloc::Global;
 use std::io::Write;
 
@@ -51,7 +53,7 @@ fn planned_at(alloc: Global, plan: &Plan, level: Level) -> Result<Vec<FolderEntr
 }
 
 /// Where the links of a plan's scripts lead.
-pub(crate) fn targets_in(alloc: Global, plan: &Plan) -> Result<Vec<Vec<u8>>, Memory>
+fn targets_in(alloc: Global, plan: &Plan) -> Result<Vec<Vec<u8>>, Memory>
     ensures { IfOk result (λ targets. targets_of targets.items ≡ targets_in plan.now) }
 {
     let names = plan.names(alloc)?;
@@ -112,6 +114,145 @@ pub(crate) fn folders_in<F: LinkFolders, E: Write>(
         }
     }
     Ok(found)
+}
+
+/// The plan with the runlevels of the links that the folders of a directory hold; the exit status where one can't be
+/// listed, or memory runs out, which is told.
+pub(crate) fn kept_in<F: LinkFolders, E: Write>(
+    folders: &F,
+    alloc: Global,
+    dir: &str,
+    plan: &Plan,
+    err: &mut E,
+) -> Result<Plan, u8>
+    ensures kept { IfOk result (λ kept. (read : List FolderText)
+        × AreFolders (F.held folders.now) dir.now plan.now read × (kept ≡ kept_plan read plan.now)) }
+    ensures status { IfErr result (λ status. status ≡ DEVICE_FAULT) }
+{
+    let read = folders_in(folders, alloc, dir, plan, err)?;
+    match plan.kept(alloc, read.as_slice()) {
+        Ok(kept) => Ok(kept),
+        Err(Memory) => Err(report_no_memory("rclinks", err)),
+    }
+}
+
+/// Adds where an entry leads, where its script is none of those that are there.
+fn add_gone(
+    alloc: Global,
+    scripts: &[FolderEntry],
+    entry: &FolderEntry,
+    targets: &mut Vec<Vec<u8>>,
+) -> Result<(), Memory>
+    ensures { OnOk result (targets_of targets.new.items ≡ targets_of targets.old.items
+        ++ map (λ e. e.leads) (filter (is_gone scripts.now) (entry.now ∷ []))) }
+{
+    if is_gone(scripts, entry) {
+        targets.push(Vec::from_slice(alloc, entry.leads())?)?;
+    }
+    Ok(())
+}
+
+/// Adds where the links of a folder lead whose script is none of those that are there.
+fn add_gone_at(
+    alloc: Global,
+    scripts: &[FolderEntry],
+    folder: &Folder,
+    targets: &mut Vec<Vec<u8>>,
+) -> Result<(), Memory>
+    ensures { OnOk result (targets_of targets.new.items
+        ≡ targets_of targets.old.items ++ gone_at scripts.now folder.now) }
+{
+    for entry in folder.held() {
+        add_gone(alloc, scripts, entry, targets)?;
+    }
+    Ok(())
+}
+
+/// The same of all folders.
+fn add_gone_in(
+    alloc: Global,
+    scripts: &[FolderEntry],
+    folders: &[Folder],
+    targets: &mut Vec<Vec<u8>>,
+) -> Result<(), Memory>
+    ensures { OnOk result (targets_of targets.new.items
+        ≡ targets_of targets.old.items ++ flat_map (gone_at scripts.now) folders.now) }
+{
+    for folder in folders {
+        add_gone_at(alloc, scripts, folder, targets)?;
+    }
+    Ok(())
+}
+
+/// The entries of `init.d` in a directory; the exit status where they can't be listed, which is told.
+fn scripts_in<F: LinkFolders, E: Write>(
+    folders: &F,
+    alloc: Global,
+    dir: &str,
+    err: &mut E,
+) -> Result<Vec<FolderEntry>, u8>
+    ensures scripts { IfOk result (λ found. IfSome (F.scripts_in folders.now dir.now)
+        (λ known. found.items ≡ known)) }
+    ensures status { IfErr result (λ status. status ≡ DEVICE_FAULT) }
+{
+    match folders.scripts(alloc, dir) {
+        Ok(found) => Ok(found),
+        Err(error) => {
+            let _ = writeln!(
+                err,
+                "rclinks: {dir}/init.d: cannot list: {error}; nothing was changed"
+            );
+            Err(DEVICE_FAULT)
+        }
+    }
+}
+
+/// Where the links lead that are settled where those are taken away whose script is gone; the exit status where the
+/// scripts can't be listed, or memory runs out, which is told.
+fn pruned_targets<F: LinkFolders, E: Write>(
+    folders: &F,
+    alloc: Global,
+    dir: &str,
+    plan: &Plan,
+    read: &[Folder],
+    err: &mut E,
+) -> Result<Vec<Vec<u8>>, u8>
+    ensures targets { IfOk result (λ targets. AreTargets true (F.scripts_in folders.now) dir.now
+        plan.now read.now (targets_of targets.items)) }
+    ensures status { IfErr result (λ status. status ≡ DEVICE_FAULT) }
+{
+    let scripts = scripts_in(folders, alloc, dir, err)?;
+    let Ok(mut targets) = targets_in(alloc, plan) else {
+        return Err(report_no_memory("rclinks", err));
+    };
+    match add_gone_in(alloc, scripts.as_slice(), read, &mut targets) {
+        Ok(()) => Ok(targets),
+        Err(Memory) => Err(report_no_memory("rclinks", err)),
+    }
+}
+
+/// Where the links lead that are settled in the folders of a directory: to the scripts of the plan; and where links are
+/// pruned, to scripts that are gone. The exit status where the scripts can't be listed, or memory runs out, which is told.
+pub(crate) fn targets_for<F: LinkFolders, E: Write>(
+    folders: &F,
+    alloc: Global,
+    dir: &str,
+    prunes: bool,
+    plan: &Plan,
+    read: &[Folder],
+    err: &mut E,
+) -> Result<Vec<Vec<u8>>, u8>
+    ensures targets { IfOk result (λ targets. AreTargets prunes (F.scripts_in folders.now) dir.now
+        plan.now read.now (targets_of targets.items)) }
+    ensures status { IfErr result (λ status. status ≡ DEVICE_FAULT) }
+{
+    if prunes {
+        return pruned_targets(folders, alloc, dir, plan, read, err);
+    }
+    match targets_in(alloc, plan) {
+        Ok(targets) => Ok(targets),
+        Err(Memory) => Err(report_no_memory("rclinks", err)),
+    }
 }
 
 /// Tells the entries of a folder by which a name of the plan is taken, and whether there is one.

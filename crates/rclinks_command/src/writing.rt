@@ -5,7 +5,7 @@ ghost use Rattle.rclinks_command.specs.Folders.{Becomes, changed_by};
 ghost use Rattle.rclinks_command.specs.Writing.{IsTaken, IsWritten, IsWrittenPart, Previews, Wants, act_word, change_line, changes_text};
 
 use crate::folders::LinkFolders;
-use crate::planned::{folders_in, targets_in, tell_taken};
+use crate::planned::{folders_in, targets_for, tell_taken};
 use init_words::Memory;
 use program_io::{DEVICE_FAULT, DONE, REFUSED, report_no_memory, write_text};
 use rc_links::{Act, Change, Plan, changes};
@@ -105,18 +105,17 @@ fn changes_for<F: LinkFolders, E: Write>(
     folders: &F,
     alloc: Global,
     dir: &str,
+    prunes: bool,
     plan: &Plan,
     err: &mut E,
 ) -> Result<Vec<Change>, u8>
-    ensures wanted { IfOk result (λ found.
-        Wants (F.held folders.now) dir.now plan.now found.items) }
-    ensures refused { IfErr result (λ status. (status ≡ DEVICE_FAULT)
-        ⊎ (status ≡ REFUSED) × IsTaken (F.held folders.now) dir.now plan.now) }
+    ensures wanted { IfOk result (λ found. Wants (F.held folders.now) (F.scripts_in folders.now)
+        prunes dir.now plan.now found.items) }
+    ensures refused { IfErr result (λ status. (status ≡ DEVICE_FAULT) ⊎ (status ≡ REFUSED)
+        × IsTaken (F.held folders.now) (F.scripts_in folders.now) prunes dir.now plan.now) }
 {
     let read = folders_in(folders, alloc, dir, plan, err)?;
-    let Ok(targets) = targets_in(alloc, plan) else {
-        return Err(report_no_memory("rclinks", err));
-    };
+    let targets = targets_for(folders, alloc, dir, prunes, plan, read.as_slice(), err)?;
     if tell_taken(dir, targets.as_slice(), read.as_slice(), err) {
         return Err(REFUSED);
     }
@@ -131,18 +130,19 @@ pub(crate) fn write_folders<F: LinkFolders, E: Write>(
     folders: &mut F,
     alloc: Global,
     dir: &str,
+    prunes: bool,
     plan: &Plan,
     err: &mut E,
 ) -> u8
     ensures statuses { (result ≡ DONE) ⊎ (result ≡ REFUSED) ⊎ (result ≡ DEVICE_FAULT) }
-    ensures done { result ≡ DONE
-        → IsWritten (F.held folders.old) dir.now plan.now (F.held folders.new) }
-    ensures refused { result ≡ REFUSED
-        → IsTaken (F.held folders.old) dir.now plan.now × (folders.new ≡ folders.old) }
-    ensures part { (folders.new ≡ folders.old)
-        ⊎ IsWrittenPart (F.held folders.old) dir.now plan.now (F.held folders.new) }
+    ensures done { result ≡ DONE → IsWritten (F.held folders.old) (F.scripts_in folders.old)
+        prunes dir.now plan.now (F.held folders.new) }
+    ensures refused { result ≡ REFUSED → IsTaken (F.held folders.old) (F.scripts_in folders.old)
+        prunes dir.now plan.now × (folders.new ≡ folders.old) }
+    ensures part { (folders.new ≡ folders.old) ⊎ IsWrittenPart (F.held folders.old)
+        (F.scripts_in folders.old) prunes dir.now plan.now (F.held folders.new) }
 {
-    match changes_for(folders, alloc, dir, plan, err) {
+    match changes_for(folders, alloc, dir, prunes, plan, err) {
         Ok(found) => make_changes(folders, alloc, dir, found.as_slice(), err),
         Err(status) => status,
     }
@@ -154,14 +154,16 @@ pub(crate) fn preview<F: LinkFolders, E: Write>(
     folders: &F,
     alloc: Global,
     dir: &str,
+    prunes: bool,
     plan: &Plan,
     err: &mut E,
 ) -> Result<Vec<u8>, u8>
-    ensures text { IfOk result (λ text. Previews (F.held folders.now) dir.now plan.now text.items) }
-    ensures refused { IfErr result (λ status. (status ≡ DEVICE_FAULT)
-        ⊎ (status ≡ REFUSED) × IsTaken (F.held folders.now) dir.now plan.now) }
+    ensures text { IfOk result (λ text. Previews (F.held folders.now) (F.scripts_in folders.now)
+        prunes dir.now plan.now text.items) }
+    ensures refused { IfErr result (λ status. (status ≡ DEVICE_FAULT) ⊎ (status ≡ REFUSED)
+        × IsTaken (F.held folders.now) (F.scripts_in folders.now) prunes dir.now plan.now) }
 {
-    let found = changes_for(folders, alloc, dir, plan, err)?;
+    let found = changes_for(folders, alloc, dir, prunes, plan, err)?;
     match changes_text(alloc, found.as_slice()) {
         Ok(text) => Ok(text),
         Err(Memory) => Err(report_no_memory("rclinks", err)),

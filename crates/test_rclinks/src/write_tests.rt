@@ -139,6 +139,32 @@ const ROWS: &[Row] = &[
         "rclinks: bad header: bad\nrclinks: bad: no line \"### BEGIN INIT INFO\"\nrclinks: bad: left out\n",
         &[OLD0, NET0, NET2, NET3],
     ),
+    // A script that has links stays in their runlevels.
+    (
+        &[OLD3],
+        &["--keep", "--write", "etc", "init.d/net", "init.d/web"],
+        0,
+        "",
+        "",
+        &[NET3, WEB3],
+    ),
+    (
+        &[OLD0, NET2],
+        &["--keep", "--write", "etc", "-n", "init.d/net", "init.d/web"],
+        0,
+        "remove rc0.d/K09web ../init.d/web\nmake rc0.d/K01web ../init.d/web\n",
+        "",
+        &[OLD0, NET2],
+    ),
+    // These folders have no script.
+    (
+        &[DB, README, ABSOLUTE, UNNUMBERED, ELSEWHERE],
+        &["--write", "etc", "--prune", "init.d/net"],
+        0,
+        "",
+        "",
+        &[README, ABSOLUTE, UNNUMBERED, ELSEWHERE, NET0, NET2, NET3],
+    ),
 ];
 
 fn texts_of(alloc: Global) -> Result<KeptTexts, Fail> {
@@ -193,6 +219,7 @@ fn is_written(rt: &impl Abort, alloc: Global, texts: &KeptTexts, row: &Row) -> R
         texts,
         &mut links,
         alloc,
+        &[],
         words.as_slice(),
         &mut out,
         &mut err,

@@ -1,0 +1,9 @@
+use Rattle.std.proofs.Common.{string_bytes, ◌≡◌, ◌++◌, map, drop}
+use Rattle.std.specs.List.{filter}
+use Rattle.rclinks_command.specs.Facilities.{is_unnamed}
+use Rattle.rclinks_command.proofs.facilities.add_facilities.Given as goal
+
+abbrev pub invariant-loop-facility : goal.invariant-loop-facility
+invariant-loop-facility l =
+    map string_bytes l.all.items ++ filter (is_unnamed (map string_bytes l.fn.files)) (map string_bytes (drop l.facility-index l.facilities))
+    ≡ map string_bytes l.fn.all.items ++ filter (is_unnamed (map string_bytes l.fn.files)) (map string_bytes l.facilities)

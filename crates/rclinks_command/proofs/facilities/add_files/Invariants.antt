@@ -1,0 +1,7 @@
+use Rattle.std.proofs.Common.{string_bytes, ◌≡◌, ◌++◌, map, drop}
+use Rattle.rclinks_command.proofs.facilities.add_files.Given as goal
+
+abbrev pub invariant-loop-file : goal.invariant-loop-file
+invariant-loop-file l =
+    map string_bytes l.all.items ++ map string_bytes (drop l.file-index l.files)
+    ≡ map string_bytes l.fn.all.items ++ map string_bytes l.files

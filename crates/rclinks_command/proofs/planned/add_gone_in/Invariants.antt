@@ -1,0 +1,9 @@
+use Rattle.std.proofs.Common.{◌≡◌, ◌++◌, drop, flat_map}
+use Rattle.rc_links.specs.Changes.{targets_of}
+use Rattle.rclinks_command.specs.Writing.{gone_at}
+use Rattle.rclinks_command.proofs.planned.add_gone_in.Given as goal
+
+abbrev pub invariant-loop-folder : goal.invariant-loop-folder
+invariant-loop-folder l =
+    targets_of l.targets.items ++ flat_map (gone_at l.scripts) (drop l.folder-index l.folders)
+    ≡ targets_of l.fn.targets.items ++ flat_map (gone_at l.scripts) l.folders
