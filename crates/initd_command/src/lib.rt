@@ -8,6 +8,7 @@ mod hosts;
 mod lines;
 mod logs;
 mod os_hosts;
+mod passed_over;
 mod patience;
 mod reports;
 mod run;

@@ -16,6 +16,7 @@ ghost use Rattle.initd_command.specs.Services.{AreFiles, EndsRun, EndsServed, En
 use crate::ends::report_end;
 use crate::hosts::Hosts;
 use crate::logs::{FileLog, NoLog, is_held};
+use crate::passed_over::AskedLog;
 use crate::reports::{
     report, report_busy, report_cannot, report_fault, report_flawed, report_memory, report_shared,
     report_too_many, report_unlisted, tell,
@@ -556,13 +557,15 @@ where
         → Since (H.told host.old) (H.told host.new) (MakesTurns ⊤ (run_of said.now) table end)) }
 {
     let Some(file) = trace else {
-        return make_turns(rt, alloc, said, opening, host, NoLog {}, err).0;
+        let log = AskedLog::new(rt, NoLog {});
+        return make_turns(rt, alloc, said, opening, host, log, err).0;
     };
     let log = FileLog::new(rt, alloc, trace_of(said), file);
     if said.brief {
-        return make_turns(rt, alloc, said, opening, host, BriefLog::new(log), err).0;
+        let log = AskedLog::new(rt, BriefLog::new(log));
+        return make_turns(rt, alloc, said, opening, host, log, err).0;
     }
-    make_turns(rt, alloc, said, opening, host, log, err).0
+    make_turns(rt, alloc, said, opening, host, AskedLog::new(rt, log), err).0
 }
 
 /// Reports that nothing names a level, where that is so.
