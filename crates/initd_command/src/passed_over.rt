@@ -3,6 +3,7 @@
 use init_words::{Level, Stage};
 use initctl_frame::HeardRequest;
 use std::alloc::Allocator;
+use std::marker::Model;
 use trace_events::{Happening, HappeningIn};
 use trace_log::{EndedLog, Log, LogFault};
 
@@ -51,9 +52,20 @@ pub(crate) struct AskedLog<'a, R, L> {
     asked: Asked,
 }
 
+/// A contract sees of it the other log.
+impl<'a, R, L> Model for AskedLog<'a, R, L> {
+    ghost Value = { L };
+
+    ghost view = { λ asked. asked.log };
+}
+
 impl<'a, R, L> AskedLog<'a, R, L> {
+    ghost use Rattle.std.specs.Prelude.{◌≡◌};
+
     /// One in front of this log.
-    pub(crate) fn new(rt: &'a R, log: L) -> AskedLog<'a, R, L> {
+    pub(crate) fn new(rt: &'a R, log: L) -> AskedLog<'a, R, L>
+        ensures { result ≡ log }
+    {
         AskedLog {
             rt,
             log,
@@ -66,7 +78,7 @@ impl<'a, R, L> AskedLog<'a, R, L> {
 }
 
 impl<R: Eprint, L: Log> Log for AskedLog<'_, R, L> {
-    ghost state = { λ asked. L.state asked.log };
+    ghost state = { L.state };
 
     fn take<B: Allocator>(&mut self, happening: &HappeningIn<B>) -> Result<(), LogFault> {
         if let Some((earlier, later)) = self.asked.note(happening) {
