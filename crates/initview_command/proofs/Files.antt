@@ -1,15 +1,11 @@
 -- The files of paths, one more after the others.
-use Rattle.std.proofs.Common.{◌≡◌, refl, ℕ, List, [], ◌∷◌, ◌++◌, length, append_assoc, arith}
+use Rattle.std.proofs.Common.{◌≡◌, refl, ℕ, List, [], ◌∷◌, ◌++◌, append_assoc}
 use Rattle.program_io.specs.Known.{IsTextAt, KnownTexts}
 use Rattle.init_words.specs.Parts.{NamedText}
 use Rattle.initview_command.specs.Tables.{AreFilesAt}
 
 abbrev pub file_of : List ℕ → List ℕ → NamedText
 file_of path text = record { name = path; bytes = text }
-
-pub is_none : {X : Type 0} (xs : List X) → length xs ≡ 0 → xs ≡ []
-is_none [] is = refl
-is_none (x ∷ xs) is = absurd (omega (arith, is))
 
 -- a path's file before those of others
 pub one_before : (text_at : KnownTexts) (path text : List ℕ) (paths : List (List ℕ)) (others : List NamedText) → IsTextAt text_at path text → AreFilesAt text_at paths others → AreFilesAt text_at (path ∷ paths) (file_of path text ∷ others)

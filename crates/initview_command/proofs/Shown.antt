@@ -1,8 +1,7 @@
 -- What is written of a trace, and where nothing is.
-use Rattle.std.proofs.Common.{◌≡◌, ◌⊎◌, Bool, true, false, refl, sym, ap, ◌∙◌, inl, inr, subst, ℕ, List, [], reverse, Option, Some, None}
-use Rattle.std.specs.Io.KnownBytes.{Appends, Keeps}
-use Rattle.std.proofs.KnownBytes.{Appends-nil, Keeps-refl}
-use Rattle.program_io.specs.Writing.{AppendsPrefix}
+use Rattle.std.proofs.Common.{◌≡◌, ◌⊎◌, Bool, true, false, inl, inr, subst, ℕ, List, reverse, Option}
+use Rattle.std.specs.Io.KnownBytes.{Keeps}
+use Rattle.std.proofs.KnownBytes.{Keeps-refl}
 use Rattle.program_io.specs.declared.statuses.TheConstants.{REFUSED, DEVICE_FAULT}
 use Rattle.program_io.specs.Known.{IsTextAt, KnownTexts}
 use Rattle.inittab_text.specs.declared.faults.TableFault.{TableFault}
@@ -13,6 +12,8 @@ use Rattle.trace_view.specs.Viewing.{ViewState, Viewed}
 use Rattle.trace_view.specs.declared.text_views.Stop.{Stop}
 use Rattle.initview_command.specs.Showing.{Shows, ShowsBy, ShowsOf, Writes, is_within}
 use Rattle.initview_command.specs.Tables.{FailsBy, fault_status}
+use Rattle.initview_command.specs.Writers.{IsWriterAt, KnownWriters}
+use Rattle.initview_command.specs.declared.growing.Writer.{Writer}
 
 -- what was written of a text is what is said of it
 pub writes_as : (text said : List ℕ) (given ends status : ℕ) (old new : Option (List ℕ)) → text ≡ said → given ≡ ends → Writes text given status old new → Writes said ends status old new
@@ -20,24 +21,24 @@ writes_as text said given ends status old new same is written =
     subst (λ e. Writes said e status old new) is (subst (λ t. Writes t given status old new) same written)
 
 -- a text that begins within a run is refused, and any other answered
-refused_by : (within : Bool) (said : List ℕ) (ends status : ℕ) (now : Option (List ℕ)) → within ≡ true → status ≡ REFUSED → ShowsBy within said ends status now now
-refused_by true said ends status now is ends_so = (ends_so, Keeps-refl now)
-refused_by false said ends status now is ends_so = absurd (cc)
+refused_by : (within : Bool) (answer : List ℕ × ℕ) (status : ℕ) (now : Option (List ℕ)) → within ≡ true → status ≡ REFUSED → ShowsBy within answer status now now
+refused_by true answer status now is ends = (ends, Keeps-refl now)
+refused_by false answer status now is ends = absurd (cc)
 
-pub refused : (stop : Option Stop) (said : List ℕ) (ends status : ℕ) (now : Option (List ℕ)) → is_within stop ≡ true → status ≡ REFUSED → ShowsOf stop said ends status now now
-refused stop said ends status now is ends_so = refused_by (is_within stop) said ends status now is ends_so
+pub refused : (stop : Option Stop) (answer : List ℕ × ℕ) (status : ℕ) (now : Option (List ℕ)) → is_within stop ≡ true → status ≡ REFUSED → ShowsOf stop answer status now now
+refused stop answer status now is ends = refused_by (is_within stop) answer status now is ends
 
-answered_by : (within : Bool) (said : List ℕ) (ends status : ℕ) (old new : Option (List ℕ)) → within ≡ false → Writes said ends status old new → ShowsBy within said ends status old new
-answered_by true said ends status old new is written = absurd (cc)
-answered_by false said ends status old new is written = written
+answered_by : (within : Bool) (answer : List ℕ × ℕ) (status : ℕ) (old new : Option (List ℕ)) → within ≡ false → Writes answer.0 answer.1 status old new → ShowsBy within answer status old new
+answered_by true answer status old new is written = absurd (cc)
+answered_by false answer status old new is written = written
 
-pub answered : (stop : Option Stop) (said : List ℕ) (ends status : ℕ) (old new : Option (List ℕ)) → is_within stop ≡ false → Writes said ends status old new → ShowsOf stop said ends status old new
-answered stop said ends status old new is written = answered_by (is_within stop) said ends status old new is written
+pub answered : (stop : Option Stop) (answer : List ℕ × ℕ) (status : ℕ) (old new : Option (List ℕ)) → is_within stop ≡ false → Writes answer.0 answer.1 status old new → ShowsOf stop answer status old new
+answered stop answer status old new is written = answered_by (is_within stop) answer status old new is written
 
 -- what is shown of a text that was taken
-pub shows : {S : Type 0} (has : S → List Event → Type 0) (text_at : KnownTexts) (path text : List ℕ) (says : List Event → List ℕ) (ends : Option Stop → List Event → ℕ) (view : ViewState) (seen : S) (stop : Option Stop) (left : Option ℕ) (status : ℕ) (old new : Option (List ℕ)) → IsTextAt text_at path text → IsSeen has text stop left view seen → ((past : List Event) → Viewed view past → has seen past → ShowsOf stop (says past) (ends stop past) status old new) → Shows text_at path says ends status old new
-shows has text_at path text says ends view seen stop left status old new at is of =
-    inl (text, stop, left, is.0, at, is.1, is.2.judged.lawful, of (reverse is.0) is.2 is.3)
+pub shows : {S : Type 0} (has : S → List Event → Type 0) (text_at : KnownTexts) (writers : KnownWriters) (path text : List ℕ) (gives : Writer → Option Stop → List Event → List ℕ × ℕ) (view : ViewState) (seen : S) (writer : Writer) (stop : Option Stop) (left : Option ℕ) (status : ℕ) (old new : Option (List ℕ)) → IsTextAt text_at path text → IsWriterAt writers path writer → IsSeen has text stop left view seen → ((past : List Event) → Viewed view past → has seen past → ShowsOf stop (gives writer stop past) status old new) → Shows text_at writers path gives status old new
+shows has text_at writers path text gives view seen writer stop left status old new at by is of =
+    inl (text, writer, stop, left, is.0, at, by, is.1, is.2.judged.lawful, of (reverse is.0) is.2 is.3)
 
 -- files that are refused, or memory that runs out
 pub fails_by : (X Not : Type 0) (why : TableFault) (status : ℕ) (now : Option (List ℕ)) → FailsBy Not why → status ≡ fault_status why → ((status ≡ DEVICE_FAULT) × Keeps now now → X) → X ⊎ ((status ≡ REFUSED) × Not × Keeps now now)

@@ -2,7 +2,6 @@
 use Rattle.std.specs.Prelude.{ℕ, Bool, true, false, not, ◌&&◌, ◌||◌, ◌==◌, if◌then◌else◌, List, [], ◌∷◌, ◌++◌, codes, Option, Some, None}
 use Rattle.std.specs.Option.{option_map}
 use Rattle.std.specs.Str.{bytes_eq}
-use Rattle.text_lines.specs.Numbers.{number_read}
 use Rattle.init_words.specs.declared.levels.Level.{Level}
 use Rattle.init_words.specs.Ids.{id_read}
 use Rattle.init_words.specs.Levels.{level_read}

@@ -12,37 +12,38 @@ use Rattle.initview_command.specs.Charting.{drawing}
 use Rattle.initview_command.specs.Explaining.{Explains}
 use Rattle.initview_command.specs.Following.{Follows}
 use Rattle.initview_command.specs.Reloading.{Reloads}
-use Rattle.initview_command.specs.Showing.{Shows, said, status_by, stop_status}
+use Rattle.initview_command.specs.Showing.{Shows, answer_by, stop_status}
 use Rattle.initview_command.specs.Tables.{Answers}
+use Rattle.initview_command.specs.Writers.{KnownWriters}
 
 -- what is asked of the trace at a path, or of files, is done
-abbrev pub Does : KnownTexts → KnownTexts → List ℕ → List (List ℕ) → What → ℕ → Option (List ℕ) → Option (List ℕ) → Type 0
-Does text_at growing_at path files (Show question) status old new =
-    Shows text_at path (said question) (status_by question) status old new
-Does text_at growing_at path files (Draw form) status old new =
-    Shows text_at path (drawing form) (λ stop past. stop_status stop) status old new
-Does text_at growing_at path files Follow status old new = Follows (growing_at path) status old new
-Does text_at growing_at path files (Explain id) status old new = Explains text_at path files id status old new
-Does text_at growing_at path files (Reload level) status old new = Reloads text_at path files level status old new
-Does text_at growing_at path files (Tables question) status old new = Answers text_at files question status old new
+abbrev pub Does : KnownTexts → KnownTexts → KnownWriters → List ℕ → List (List ℕ) → What → ℕ → Option (List ℕ) → Option (List ℕ) → Type 0
+Does text_at growing_at writers path files (Show question) status old new =
+    Shows text_at writers path (answer_by question) status old new
+Does text_at growing_at writers path files (Draw form) status old new =
+    Shows text_at writers path (λ writer stop past. (drawing form past, stop_status stop)) status old new
+Does text_at growing_at writers path files Follow status old new = Follows (growing_at path) status old new
+Does text_at growing_at writers path files (Explain id) status old new = Explains text_at writers path files id status old new
+Does text_at growing_at writers path files (Reload level) status old new = Reloads text_at writers path files level status old new
+Does text_at growing_at writers path files (Tables question) status old new = Answers text_at files question status old new
 
 -- so of options and other words; where they ask nothing they are refused, and nothing was written
-abbrev pub EndsOf : KnownTexts → KnownTexts → List (List ℕ) → List (List ℕ) → Option What → ℕ → Option (List ℕ) → Option (List ℕ) → Type 0
-EndsOf text_at growing_at options words (Some what) status old new =
-    Does text_at growing_at (trace_of what options words) (files_of what words) what status old new
-EndsOf text_at growing_at options words None status old new = (status ≡ REFUSED) × Keeps old new
+abbrev pub EndsOf : KnownTexts → KnownTexts → KnownWriters → List (List ℕ) → List (List ℕ) → Option What → ℕ → Option (List ℕ) → Option (List ℕ) → Type 0
+EndsOf text_at growing_at writers options words (Some what) status old new =
+    Does text_at growing_at writers (trace_of what options words) (files_of what words) what status old new
+EndsOf text_at growing_at writers options words None status old new = (status ≡ REFUSED) × Keeps old new
 
 -- so of words that don't ask for the version; or memory ran out, and nothing was written
-abbrev pub EndsOn : KnownTexts → KnownTexts → List (List ℕ) → List (List ℕ) → ℕ → Option (List ℕ) → Option (List ℕ) → Type 0
-EndsOn text_at growing_at options words status old new =
-    EndsOf text_at growing_at options words (what_of options words) status old new
+abbrev pub EndsOn : KnownTexts → KnownTexts → KnownWriters → List (List ℕ) → List (List ℕ) → ℕ → Option (List ℕ) → Option (List ℕ) → Type 0
+EndsOn text_at growing_at writers options words status old new =
+    EndsOf text_at growing_at writers options words (what_of options words) status old new
     ⊎ ((status ≡ DEVICE_FAULT) × Keeps old new)
 
-abbrev pub EndsAs : Bool → KnownTexts → KnownTexts → List (List ℕ) → ℕ → Option (List ℕ) → Option (List ℕ) → Type 0
-EndsAs true text_at growing_at words status old new = PrintsVersion (codes "initview") status old new
-EndsAs false text_at growing_at words status old new =
-    EndsOn text_at growing_at (picked true false words) (picked false false words) status old new
+abbrev pub EndsAs : Bool → KnownTexts → KnownTexts → KnownWriters → List (List ℕ) → ℕ → Option (List ℕ) → Option (List ℕ) → Type 0
+EndsAs true text_at growing_at writers words status old new = PrintsVersion (codes "initview") status old new
+EndsAs false text_at growing_at writers words status old new =
+    EndsOn text_at growing_at writers (picked true false words) (picked false false words) status old new
 
-abbrev pub EndsBy : KnownTexts → KnownTexts → List (List ℕ) → ℕ → Option (List ℕ) → Option (List ℕ) → Type 0
-EndsBy text_at growing_at words status old new =
-    EndsAs (asks_version words) text_at growing_at words status old new
+abbrev pub EndsBy : KnownTexts → KnownTexts → KnownWriters → List (List ℕ) → ℕ → Option (List ℕ) → Option (List ℕ) → Type 0
+EndsBy text_at growing_at writers words status old new =
+    EndsAs (asks_version words) text_at growing_at writers words status old new

@@ -11,6 +11,8 @@ use Rattle.trace_view.specs.LastLines.{line_at_fault}
 use Rattle.initview_lines.specs.Reasons.{why_text}
 use Rattle.initview_command.specs.Showing.{Shows, stop_status}
 use Rattle.initview_command.specs.Tables.{AreFilesAt, AreNone}
+use Rattle.initview_command.specs.Writers.{KnownWriters}
+use Rattle.trace_view.specs.declared.text_views.Stop.{Stop}
 
 -- of the id's lines in the inittab, where one is named
 abbrev pub files_text : List ℕ → List NamedText → List ℕ
@@ -21,15 +23,18 @@ files_text id (file ∷ files) = id_text id (file ∷ files)
 abbrev pub explanation : List ℕ → List ℕ → List ℕ → List Event → List ℕ
 explanation path id told past = why_text id path (line_at_fault id (why id past) past) past ++ told
 
+abbrev pub explained : List ℕ → List ℕ → List ℕ → Option Stop → List Event → List ℕ × ℕ
+explained path id told stop past = (explanation path id told past, stop_status stop)
+
 -- so of the trace at the path, with the inittab of these files; or they are too many or too long, or memory ran out, and
 -- nothing was written
-abbrev pub ExplainsFiles : KnownTexts → List ℕ → List NamedText → List ℕ → ℕ → Option (List ℕ) → Option (List ℕ) → Type 0
-ExplainsFiles text_at path files id status old new =
-    Shows text_at path (explanation path id (files_text id files)) (λ stop past. stop_status stop) status old new
+abbrev pub ExplainsFiles : KnownTexts → KnownWriters → List ℕ → List NamedText → List ℕ → ℕ → Option (List ℕ) → Option (List ℕ) → Type 0
+ExplainsFiles text_at writers path files id status old new =
+    Shows text_at writers path (λ writer. explained path id (files_text id files)) status old new
     ⊎ ((status ≡ REFUSED) × AreNone files × Keeps old new)
 
 -- so of the files at the paths; or one was not read, and nothing was written
-abbrev pub Explains : KnownTexts → List ℕ → List (List ℕ) → List ℕ → ℕ → Option (List ℕ) → Option (List ℕ) → Type 0
-Explains text_at path paths id status old new =
-    ((files : List NamedText) × AreFilesAt text_at paths files × ExplainsFiles text_at path files id status old new)
+abbrev pub Explains : KnownTexts → KnownWriters → List ℕ → List (List ℕ) → List ℕ → ℕ → Option (List ℕ) → Option (List ℕ) → Type 0
+Explains text_at writers path paths id status old new =
+    ((files : List NamedText) × AreFilesAt text_at paths files × ExplainsFiles text_at writers path files id status old new)
     ⊎ ((status ≡ DEVICE_FAULT) × Keeps old new)

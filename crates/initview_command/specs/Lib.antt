@@ -6,3 +6,4 @@ pub mod Following
 pub mod Reloading
 pub mod Showing
 pub mod Tables
+pub mod Writers

@@ -15,6 +15,9 @@ use Rattle.initview_lines.specs.Left.{left_text}
 use Rattle.initview_lines.specs.Rows.{row_of_in, status_in}
 use Rattle.initview_command.specs.declared.asking.Question.{Question}
 use Rattle.initview_command.specs.declared.asking.Question.TheVariants as question
+use Rattle.initview_command.specs.declared.growing.Writer.{Writer}
+use Rattle.initview_command.specs.declared.growing.Writer.TheVariants.{Nobody}
+use Rattle.initview_command.specs.Writers.{IsWriterAt, KnownWriters, present}
 
 -- the answer to a question, by the past of a trace
 abbrev pub said : Question → List Event → List ℕ
@@ -22,9 +25,14 @@ said (question.Status shape) past = status_in shape past
 said (question.Row id shape) past = row_of_in shape id past
 said question.Left past = left_text past
 
--- the exit statuses of the action `status` in the LSB: it runs, it doesn't, it is unknown
-abbrev pub lsb_status : Row → ℕ
-lsb_status row = if is_some row.child then 0 else if is_some row.act then 3 else 4
+-- the exit statuses of the action `status` in the LSB: it runs, which is unknown where no init writes the trace; it
+-- doesn't; it is unknown
+abbrev pub running_status : Writer → ℕ
+running_status Nobody = 4
+running_status writer = 0
+
+abbrev pub lsb_status : Writer → Row → ℕ
+lsb_status writer row = if is_some row.child then running_status writer else if is_some row.act then 3 else 4
 
 -- the exit status of a trace that was shown up to its end, up to a breach, up to a line that is none, or not at all
 abbrev pub stop_status : Option Stop → ℕ
@@ -33,35 +41,42 @@ stop_status (Some (Breach law line)) = UNLAWFUL
 stop_status (Some (Torn number)) = REFUSED
 stop_status (Some Within) = REFUSED
 
-abbrev pub row_status : List ℕ → Option Stop → List Event → ℕ
-row_status id None past = lsb_status (row_of id past)
-row_status id (Some stop) past = DEVICE_FAULT
+abbrev pub row_status : List ℕ → Writer → Option Stop → List Event → ℕ
+row_status id writer None past = lsb_status writer (row_of id past)
+row_status id writer (Some stop) past = DEVICE_FAULT
 
-abbrev pub status_by : Question → Option Stop → List Event → ℕ
-status_by (question.Row id shape) stop past = row_status id stop past
-status_by _ stop past = stop_status stop
+abbrev pub status_by : Question → Writer → Option Stop → List Event → ℕ
+status_by (question.Row id shape) writer stop past = row_status id writer stop past
+status_by _ writer stop past = stop_status stop
+
+-- the answer and the exit status, of a trace as it stands by now
+abbrev pub answer_by : Question → Writer → Option Stop → List Event → List ℕ × ℕ
+answer_by question writer stop past =
+    (said question (present writer stop past), status_by question writer stop (present writer stop past))
 
 -- the text was written, and the exit status is this; or the output failed or memory ran out, and a part of it was written
 abbrev pub Writes : List ℕ → ℕ → ℕ → Option (List ℕ) → Option (List ℕ) → Type 0
 Writes text ends status old new =
     ((status ≡ ends) × Appends old new text) ⊎ ((status ≡ DEVICE_FAULT) × AppendsPrefix old new text)
 
--- so of what is said of a trace; a text that begins within a run is refused, and nothing was written
+-- so of an answer and its exit status; a text that begins within a run is refused, and nothing was written
 abbrev pub is_within : Option Stop → Bool
 is_within (Some Within) = true
 is_within _ = false
 
-abbrev pub ShowsBy : Bool → List ℕ → ℕ → ℕ → Option (List ℕ) → Option (List ℕ) → Type 0
-ShowsBy true text ends status old new = (status ≡ REFUSED) × Keeps old new
-ShowsBy false text ends status old new = Writes text ends status old new
+abbrev pub ShowsBy : Bool → List ℕ × ℕ → ℕ → Option (List ℕ) → Option (List ℕ) → Type 0
+ShowsBy true answer status old new = (status ≡ REFUSED) × Keeps old new
+ShowsBy false answer status old new = Writes answer.0 answer.1 status old new
 
-abbrev pub ShowsOf : Option Stop → List ℕ → ℕ → ℕ → Option (List ℕ) → Option (List ℕ) → Type 0
-ShowsOf stop text ends status old new = ShowsBy (is_within stop) text ends status old new
+abbrev pub ShowsOf : Option Stop → List ℕ × ℕ → ℕ → Option (List ℕ) → Option (List ℕ) → Type 0
+ShowsOf stop answer status old new = ShowsBy (is_within stop) answer status old new
 
--- so of what a view shows of the text at the path, which breaks no law; or it was not read, and nothing was written
-abbrev pub Shows : KnownTexts → List ℕ → (List Event → List ℕ) → (Option Stop → List Event → ℕ) → ℕ → Option (List ℕ) → Option (List ℕ) → Type 0
-Shows text_at path says ends status old new =
-    ((text : List ℕ) × (stop : Option Stop) × (left : Option ℕ) × (trace : List Event) × IsTextAt text_at path text
+-- so of what a view shows of the text at the path, which breaks no law, and is written by whom its lock names; or it was
+-- not read, and nothing was written
+abbrev pub Shows : KnownTexts → KnownWriters → List ℕ → (Writer → Option Stop → List Event → List ℕ × ℕ) → ℕ → Option (List ℕ) → Option (List ℕ) → Type 0
+Shows text_at writers path gives status old new =
+    ((text : List ℕ) × (writer : Writer) × (stop : Option Stop) × (left : Option ℕ) × (trace : List Event)
+    × IsTextAt text_at path text × IsWriterAt writers path writer
     × IsShown text stop left trace × (first_breach (reverse trace) ≡ None)
-    × ShowsOf stop (says (reverse trace)) (ends stop (reverse trace)) status old new)
+    × ShowsOf stop (gives writer stop (reverse trace)) status old new)
     ⊎ ((status ≡ DEVICE_FAULT) × Keeps old new)

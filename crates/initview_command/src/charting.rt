@@ -8,6 +8,7 @@ ghost use Rattle.initview_timeline.specs.Marks.{marks_of};
 ghost use Rattle.initview_timeline.specs.Svg.{svg_text};
 ghost use Rattle.initview_command.specs.Charting.{drawing, lines_of};
 
+use crate::growing::Writer;
 use crate::showing::{Asks, stop_status};
 use init_words::Memory;
 use initview_timeline::{Mark, Marks, chart_lines, svg_text};
@@ -81,9 +82,11 @@ impl Asks for Form {
 
     type Seen = Marks;
 
-    ghost said = { λ form path past. drawing form past };
+    ghost gives = { λ form path writer stop past. (drawing form past, stop_status stop) };
 
-    ghost ends = { λ form stop past. stop_status stop };
+    fn asks_writer(&self) -> bool {
+        false
+    }
 
     fn nothing(&self, alloc: Global) -> Marks {
         Marks::new(alloc)
@@ -94,6 +97,7 @@ impl Asks for Form {
         alloc: Global,
         _path: &str,
         text: &mut SeenText<Marks>,
+        _writer: Writer,
         stop: Option<Stop>,
     ) -> Result<(Vec<u8>, u8), Memory> {
         let drawn = draw(alloc, *self, text.seen().as_slice(), text.view())?;

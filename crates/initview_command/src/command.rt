@@ -69,7 +69,8 @@ pub fn run_words<T: Texts, G: GrowingTexts, W: Write, E: Write>(
     out: &mut W,
     err: &mut E,
 ) -> u8
-    ensures { EndsBy (T.text_at texts.now) (G.text_at growing.now) (map string_bytes words.now)
+    ensures { EndsBy (T.text_at texts.now) (G.text_at growing.now)
+        (G.writer_at growing.now) (map string_bytes words.now)
         result (W.contents out.old) (W.contents out.new) }
 {
     if is_version(words) {
@@ -101,6 +102,7 @@ fn run_cut<T: Texts, G: GrowingTexts, W: Write, E: Write>(
     err: &mut E,
 ) -> u8
     ensures { EndsOf (T.text_at texts.now) (G.text_at growing.now)
+        (G.writer_at growing.now)
         (map string_bytes options.now) (map string_bytes words.now)
         (what_of (map string_bytes options.now) (map string_bytes words.now))
         result (W.contents out.old) (W.contents out.new) }
@@ -126,15 +128,16 @@ fn run_asked<T: Texts, G: GrowingTexts, W: Write, E: Write>(
     out: &mut W,
     err: &mut E,
 ) -> u8
-    ensures { Does (T.text_at texts.now) (G.text_at growing.now) path.now
+    ensures { Does (T.text_at texts.now) (G.text_at growing.now)
+        (G.writer_at growing.now) path.now
         (map string_bytes files.now) what.now result (W.contents out.old) (W.contents out.new) }
 {
     match what {
-        What::Show(question) => show_file(texts, alloc, path, question, out, err),
-        What::Draw(form) => show_file(texts, alloc, path, form, out, err),
+        What::Show(question) => show_file(texts, growing, alloc, path, question, out, err),
+        What::Draw(form) => show_file(texts, growing, alloc, path, form, out, err),
         What::Follow => follow_file(growing, alloc, path, out, err),
-        What::Explain(id) => explain_file(texts, alloc, path, files, id, out, err),
-        What::Reload(level) => show_reload(texts, alloc, path, files, *level, out, err),
+        What::Explain(id) => explain_file(texts, growing, alloc, path, files, id, out, err),
+        What::Reload(level) => show_reload(texts, growing, alloc, path, files, *level, out, err),
         What::Tables(question) => show_files(texts, alloc, files, *question, out, err),
     }
 }

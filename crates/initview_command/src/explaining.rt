@@ -7,6 +7,7 @@ ghost use Rattle.trace_view.specs.LastLines.{Lined};
 ghost use Rattle.initview_command.specs.Explaining.{Explains, ExplainsFiles, explanation, files_text};
 ghost use Rattle.initview_command.specs.Tables.{AreNone, FailsBy};
 
+use crate::growing::{GrowingTexts, Writer};
 use crate::showing::{Asks, show_file, stop_status};
 use crate::tables::{read_files, report_fault};
 use init_words::{Id, Memory, Part};
@@ -45,14 +46,16 @@ fn explanation(
 }
 
 impl Asks for Reason {
-    ghost use Rattle.initview_command.specs.Explaining.{explanation};
-    ghost use Rattle.initview_command.specs.Showing.{stop_status};
+    ghost use Rattle.initview_command.specs.Explaining.{explained};
 
     type Seen = LastLines;
 
-    ghost said = { λ asked path past. explanation path asked.id asked.told.items past };
+    ghost gives = { λ asked path writer stop past.
+        explained path asked.id asked.told.items stop past };
 
-    ghost ends = { λ asked stop past. stop_status stop };
+    fn asks_writer(&self) -> bool {
+        true
+    }
 
     fn nothing(&self, alloc: Global) -> LastLines {
         LastLines::new(alloc)
@@ -63,6 +66,7 @@ impl Asks for Reason {
         alloc: Global,
         path: &str,
         text: &mut SeenText<LastLines>,
+        _writer: Writer,
         stop: Option<Stop>,
     ) -> Result<(Vec<u8>, u8), Memory> {
         let said = explanation(alloc, path, self, text.view(), text.seen())?;
@@ -71,8 +75,9 @@ impl Asks for Reason {
 }
 
 /// Reads the files of an inittab and the trace of a path, writes why the id isn't started, and gives the exit status.
-pub(crate) fn explain_file<T: Texts, W: Write, E: Write>(
+pub(crate) fn explain_file<T: Texts, G: GrowingTexts, W: Write, E: Write>(
     texts: &T,
+    growing: &G,
     alloc: Global,
     path: &str,
     paths: &[String],
@@ -80,11 +85,11 @@ pub(crate) fn explain_file<T: Texts, W: Write, E: Write>(
     out: &mut W,
     err: &mut E,
 ) -> u8
-    ensures { Explains (T.text_at texts.now) path.now (map string_bytes paths.now) id.now result
+    ensures { Explains (T.text_at texts.now) (G.writer_at growing.now) path.now (map string_bytes paths.now) id.now result
         (W.contents out.old) (W.contents out.new) }
 {
     match read_files(texts, alloc, paths, err) {
-        Some(files) => explain_files(texts, alloc, path, &files, id, out, err),
+        Some(files) => explain_files(texts, growing, alloc, path, &files, id, out, err),
         None => DEVICE_FAULT,
     }
 }
@@ -105,8 +110,9 @@ fn files_text(alloc: Global, files: &[Part], id: &Id) -> Result<Vec<u8>, TableFa
     }
 }
 
-fn explain_files<T: Texts, W: Write, E: Write>(
+fn explain_files<T: Texts, G: GrowingTexts, W: Write, E: Write>(
     texts: &T,
+    growing: &G,
     alloc: Global,
     path: &str,
     files: &[Part],
@@ -114,11 +120,19 @@ fn explain_files<T: Texts, W: Write, E: Write>(
     out: &mut W,
     err: &mut E,
 ) -> u8
-    ensures { ExplainsFiles (T.text_at texts.now) path.now files.now id.now result
+    ensures { ExplainsFiles (T.text_at texts.now) (G.writer_at growing.now) path.now files.now id.now result
         (W.contents out.old) (W.contents out.new) }
 {
     match files_text(alloc, files, id) {
-        Ok(told) => show_file(texts, alloc, path, &Reason { id: *id, told }, out, err),
+        Ok(told) => show_file(
+            texts,
+            growing,
+            alloc,
+            path,
+            &Reason { id: *id, told },
+            out,
+            err,
+        ),
         Err(fault) => report_fault(fault, err),
     }
 }

@@ -1,23 +1,38 @@
-//! Texts that may still grow while they are read.
+//! Texts that may still grow while they are read, and who writes them.
 
 ghost use Rattle.std.specs.Prelude.{◌≡◌, IfOk};
 ghost use Rattle.program_io.specs.Known.{KnownTexts};
+ghost use Rattle.initview_command.specs.Writers.{IsWriterAt, KnownWriters};
 
 use program_io::{KeptTexts, Texts, open_plain};
 use std::alloc::{Allocator, Global};
-use std::fs::{File, Metadata};
+use std::fs::{File, Metadata, TryLockError};
 use std::io::{Cursor, Error, ErrorKind, Read};
 use std::os::unix::fs::MetadataExt;
 use std::rt::{Clock, Files};
 use std::time::Duration;
 use std::{fs, io, thread};
 
-/// What opens a text to follow it while it grows.
+/// Who writes a trace, as its lock answers: init holds it while it writes.
+#[derive(Clone, Copy)]
+pub enum Writer {
+    /// It has no lock: standard input, what is no plain file, or a file system without locks.
+    Unknown,
+    /// No init: the lock is free.
+    Nobody,
+    /// An init, and how many seconds ago it wrote last.
+    Init(u64),
+}
+
+/// What opens a text to follow it while it grows, and knows who writes it.
 ///
-/// A contract sees of it the text that stands at a path, where it is known: all of it, which ends.
+/// A contract sees of it the text that stands at a path, all of it, which ends, and its writer, where they are known.
 pub trait GrowingTexts {
     /// The text at a path; None where it isn't known.
     ghost text_at: { Self → KnownTexts };
+
+    /// Who writes the text at a path; None where it isn't known.
+    ghost writer_at: { Self → KnownWriters };
 
     /// A text that is followed. A read waits for more, and gives no byte where nothing more can come.
     type Growing: Read + Drop;
@@ -25,23 +40,35 @@ pub trait GrowingTexts {
     /// Opens the text at a path.
     fn open(&self, alloc: Global, path: &str) -> io::Result<Self::Growing>
         ensures { IfOk result (λ text. Self.Growing.remaining text ≡ text_at self.now path.now) };
+
+    /// Who writes the text at a path: what its lock answers.
+    fn writer(&self, path: &str) -> Writer
+        ensures { IsWriterAt (writer_at self.now) path.now result };
 }
 
-/// A text in memory is whole.
+/// A text in memory is whole, and has no lock.
 impl<A: Allocator> GrowingTexts for KeptTexts<A> {
-    ghost use Rattle.std.specs.Prelude.{List};
+    ghost use Rattle.std.specs.Prelude.{List, Some};
     ghost use Rattle.program_io.specs.Known.{Kept, text_in};
+    ghost use Rattle.initview_command.specs.declared.growing.Writer.TheVariants as writer;
 
     ghost text_at = { λ (kept : List Kept) path. text_in kept path };
+
+    ghost writer_at = { λ (kept : List Kept) path. Some writer.Unknown };
 
     type Growing = Cursor<Vec<u8>>;
 
     fn open(&self, alloc: Global, path: &str) -> io::Result<Cursor<Vec<u8>>> {
         Ok(Cursor::new(self.read(alloc, path)?))
     }
+
+    fn writer(&self, _path: &str) -> Writer {
+        Writer::Unknown
+    }
 }
 
-/// The files of the operating system, which may be written to while they are followed. Nothing is known of their texts.
+/// The files of the operating system, which may be written to while they are followed. Nothing is known of their texts,
+/// nor of who writes them.
 #[derive(Drop)]
 pub struct GrowingFiles<'a, R> {
     rt: &'a R,
@@ -58,6 +85,8 @@ impl<'a, R: Files<File = File> + Clock> GrowingTexts for GrowingFiles<'a, R> {
     ghost use Rattle.std.specs.Prelude.{None};
 
     ghost text_at = { λ _ _. None };
+
+    ghost writer_at = { λ _ _. None };
 
     type Growing = GrowingFile<'a, R>;
 
@@ -77,6 +106,37 @@ impl<'a, R: Files<File = File> + Clock> GrowingTexts for GrowingFiles<'a, R> {
             place: 0,
             next: None,
         })
+    }
+
+    /// The lock is asked for in the shared form, which keeps no other that asks from its answer, and let go at once.
+    fn writer(&self, path: &str) -> Writer {
+        if path == "-" || path.starts_with("/dev/") {
+            return Writer::Unknown;
+        }
+        match open_plain(self.rt, path) {
+            Ok(file) => writer_of(self.rt, &file),
+            Err(_) => Writer::Unknown,
+        }
+    }
+}
+
+/// Who writes a file.
+fn writer_of(rt: &impl Clock, file: &File) -> Writer {
+    match file.metadata() {
+        Ok(found) if found.is_file() => match file.try_lock_shared() {
+            Ok(()) => Writer::Nobody,
+            Err(TryLockError::WouldBlock) => Writer::Init(seconds_since(rt, &found)),
+            Err(TryLockError::Error(_)) => Writer::Unknown,
+        },
+        _ => Writer::Unknown,
+    }
+}
+
+/// The seconds from when a file was written last, by the clock that its time is of.
+fn seconds_since(rt: &impl Clock, found: &Metadata) -> u64 {
+    match (rt.since_1970(), u64::try_from(found.mtime())) {
+        (Ok(now), Ok(written)) => now.as_secs().saturating_sub(written),
+        _ => 0,
     }
 }
 

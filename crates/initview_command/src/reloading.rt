@@ -8,6 +8,7 @@ ghost use Rattle.trace_view.specs.Viewing.{Viewed};
 ghost use Rattle.initview_lines.specs.Reloads.{entered, gone_on, reloaded};
 ghost use Rattle.initview_command.specs.Reloading.{Reloads, ReloadsFiles};
 
+use crate::growing::{GrowingTexts, Writer};
 use crate::showing::{Asks, show_file, stop_status};
 use crate::tables::{old_and_new, read_files, report_fault};
 use init_words::{Level, Memory, Part, Stage};
@@ -90,14 +91,16 @@ fn read_anew(
 }
 
 impl Asks for Reload {
-    ghost use Rattle.initview_lines.specs.Reloads.{reload_text, reloaded};
-    ghost use Rattle.initview_command.specs.Showing.{stop_status};
+    ghost use Rattle.initview_command.specs.Reloading.{reload_answer};
 
     type Seen = ();
 
-    ghost said = { λ asked path past. reload_text asked.old (reloaded asked.new asked.level past) };
+    ghost gives = { λ asked path writer stop past.
+        reload_answer asked.old asked.new asked.level stop past };
 
-    ghost ends = { λ asked stop past. stop_status stop };
+    fn asks_writer(&self) -> bool {
+        false
+    }
 
     fn nothing(&self, _alloc: Global) {}
 
@@ -106,6 +109,7 @@ impl Asks for Reload {
         alloc: Global,
         _path: &str,
         text: &mut SeenText<()>,
+        _writer: Writer,
         stop: Option<Stop>,
     ) -> Result<(Vec<u8>, u8), Memory> {
         read_anew(alloc, text, &self.new, self.level)?;
@@ -116,8 +120,9 @@ impl Asks for Reload {
 
 /// Reads inittabs and the trace of a path, writes what becomes of each id where init reads the second one behind the
 /// trace, and gives the exit status.
-pub(crate) fn show_reload<T: Texts, W: Write, E: Write>(
+pub(crate) fn show_reload<T: Texts, G: GrowingTexts, W: Write, E: Write>(
     texts: &T,
+    growing: &G,
     alloc: Global,
     path: &str,
     paths: &[String],
@@ -125,17 +130,19 @@ pub(crate) fn show_reload<T: Texts, W: Write, E: Write>(
     out: &mut W,
     err: &mut E,
 ) -> u8
-    ensures { Reloads (T.text_at texts.now) path.now (map string_bytes paths.now) level result
+    ensures { Reloads (T.text_at texts.now) (G.writer_at growing.now) path.now
+        (map string_bytes paths.now) level result
         (W.contents out.old) (W.contents out.new) }
 {
     match read_files(texts, alloc, paths, err) {
-        Some(parts) => show_files(texts, alloc, path, &parts, level, out, err),
+        Some(parts) => show_files(texts, growing, alloc, path, &parts, level, out, err),
         None => DEVICE_FAULT,
     }
 }
 
-fn show_files<T: Texts, W: Write, E: Write>(
+fn show_files<T: Texts, G: GrowingTexts, W: Write, E: Write>(
     texts: &T,
+    growing: &G,
     alloc: Global,
     path: &str,
     parts: &[Part],
@@ -143,11 +150,21 @@ fn show_files<T: Texts, W: Write, E: Write>(
     out: &mut W,
     err: &mut E,
 ) -> u8
-    ensures { ReloadsFiles (T.text_at texts.now) path.now parts.now level result
+    ensures { ReloadsFiles (T.text_at texts.now) (G.writer_at growing.now) path.now parts.now level result
         (W.contents out.old) (W.contents out.new) }
 {
     match old_and_new(alloc, parts, err) {
-        Ok((old, new)) => show_file(texts, alloc, path, &Reload { old, new, level }, out, err),
+        Ok((old, new)) => {
+            show_file(
+                texts,
+                growing,
+                alloc,
+                path,
+                &Reload { old, new, level },
+                out,
+                err,
+            )
+        },
         Err(fault) => report_fault(fault, err),
     }
 }

@@ -5,9 +5,12 @@ ghost use Rattle.trace_events.specs.Event.{Event};
 ghost use Rattle.trace_view.specs.SeenTexts.{HasSeenText};
 ghost use Rattle.trace_view.specs.Viewing.{Viewed};
 ghost use Rattle.trace_view.specs.declared.text_views.Stop.{Stop};
-ghost use Rattle.initview_command.specs.Showing.{Shows, ShowsOf, Writes, is_within, lsb_status, row_status, said, status_by, stop_status};
+ghost use Rattle.initview_command.specs.declared.growing.Writer.{Writer};
+ghost use Rattle.initview_command.specs.Showing.{Shows, ShowsOf, Writes, is_within, lsb_status, row_status, running_status, said, status_by, stop_status};
 
 use crate::asking::Question;
+use crate::growing::{GrowingTexts, Writer};
+use crate::presence::{show_present, tell_writer};
 use crate::telling::{report_memory, report_unread, report_unwritten, tell};
 use init_words::{Id, Memory};
 use initview_lines::{left_lines, row_line, status_lines};
@@ -21,11 +24,12 @@ pub(crate) trait Asks {
     /// What sees the happenings for it.
     type Seen: Sees<Global> + Drop;
 
-    /// What is written, by the path of the trace and its past.
-    ghost said: { Self → List ℕ → List Event → List ℕ };
+    /// What is written and the exit status, by the path of the trace, who writes it, why it is shown no further, and its
+    /// past.
+    ghost gives: { Self → List ℕ → Writer → Option Stop → List Event → List ℕ × ℕ };
 
-    /// The exit status, by why the trace is shown no further.
-    ghost ends: { Self → Option Stop → List Event → ℕ };
+    /// Whether it is told that nobody writes the trace.
+    fn asks_writer(&self) -> bool;
 
     /// What has seen nothing.
     fn nothing(&self, alloc: Global) -> Self::Seen
@@ -37,11 +41,13 @@ pub(crate) trait Asks {
         alloc: Global,
         path: &str,
         text: &mut SeenText<Self::Seen>,
+        writer: Writer,
         stop: Option<Stop>,
     ) -> Result<(Vec<u8>, u8), Memory>
         ensures { IfOk result (λ given. (past : List Event) → Viewed text.old.viewing.viewing past
             → Self.Seen.has_seen text.old.seen past
-            → (given.0.items ≡ said self.now path.now past) × (given.1 ≡ ends self.now stop past)) };
+            → (given.0.items ≡ (gives self.now path.now writer stop past).0)
+            × (given.1 ≡ (gives self.now path.now writer stop past).1)) };
 }
 
 /// The text of a trace that is read in pieces.
@@ -83,13 +89,24 @@ impl<S: Sees<Global> + Drop> PieceTaker for FileText<S> {
     }
 }
 
-/// The exit status of what the LSB names `status`: 0 for an id that runs, 3 for one that doesn't, 4 for one that the
-/// trace doesn't know.
-fn lsb_status(row: &Row) -> u8
-    ensures { result ≡ lsb_status row.now }
+/// The exit status of a child that runs: 4, unknown, where no init writes the trace.
+fn running_status(writer: Writer) -> u8
+    ensures { result ≡ running_status writer }
+{
+    match writer {
+        Writer::Nobody => DEVICE_FAULT,
+        Writer::Unknown => DONE,
+        Writer::Init(_) => DONE,
+    }
+}
+
+/// The exit status of what the LSB names `status`: that of a child for an id that has one, 3 for one that doesn't, 4 for
+/// one that the trace doesn't know.
+fn lsb_status(writer: Writer, row: &Row) -> u8
+    ensures { result ≡ lsb_status writer row.now }
 {
     if row.child.is_some() {
-        0
+        running_status(writer)
     } else if row.act.is_some() {
         3
     } else {
@@ -110,24 +127,24 @@ pub(crate) fn stop_status(stop: Option<Stop>) -> u8
 }
 
 /// The exit status of an answer.
-fn status_of(view: &TraceView, question: &Question, stop: Option<Stop>) -> u8
+fn status_of(view: &TraceView, question: &Question, writer: Writer, stop: Option<Stop>) -> u8
     ensures { (past : List Event) → Viewed view.now past
-        → result ≡ status_by question.now stop past }
+        → result ≡ status_by question.now writer stop past }
 {
     match question {
-        Question::Row(id, _) => row_status(view, id, stop),
+        Question::Row(id, _) => row_status(view, id, writer, stop),
         Question::Status(_) => stop_status(stop),
         Question::Left => stop_status(stop),
     }
 }
 
 /// The exit status of one id's row: unknown where the trace was not shown up to its end.
-fn row_status(view: &TraceView, id: &Id, stop: Option<Stop>) -> u8
+fn row_status(view: &TraceView, id: &Id, writer: Writer, stop: Option<Stop>) -> u8
     ensures { (past : List Event) → Viewed view.now past
-        → result ≡ row_status id.now stop past }
+        → result ≡ row_status id.now writer stop past }
 {
     match stop {
-        None => lsb_status(&view.row(id)),
+        None => lsb_status(writer, &view.row(id)),
         Some(_) => DEVICE_FAULT,
     }
 }
@@ -145,13 +162,15 @@ fn lines(alloc: Global, view: &TraceView, question: &Question) -> Result<Vec<u8>
 }
 
 impl Asks for Question {
-    ghost use Rattle.initview_command.specs.Showing.{said, status_by};
+    ghost use Rattle.initview_command.specs.Showing.{answer_by};
 
     type Seen = ();
 
-    ghost said = { λ question path past. said question past };
+    ghost gives = { λ question path writer stop past. answer_by question writer stop past };
 
-    ghost ends = { λ question stop past. status_by question stop past };
+    fn asks_writer(&self) -> bool {
+        true
+    }
 
     fn nothing(&self, _alloc: Global) {}
 
@@ -160,35 +179,39 @@ impl Asks for Question {
         alloc: Global,
         _path: &str,
         text: &mut SeenText<()>,
+        writer: Writer,
         stop: Option<Stop>,
     ) -> Result<(Vec<u8>, u8), Memory> {
+        show_present(text, writer, stop)?;
         let said = lines(alloc, text.view(), self)?;
-        let status = status_of(text.view(), self, stop);
+        let status = status_of(text.view(), self, writer, stop);
         Ok((said, status))
     }
 }
 
 /// Reads the trace of a path, writes what is asked of it, and gives the exit status.
-pub(crate) fn show_file<T: Texts, Q: Asks, W: Write, E: Write>(
+pub(crate) fn show_file<T: Texts, G: GrowingTexts, Q: Asks, W: Write, E: Write>(
     texts: &T,
+    growing: &G,
     alloc: Global,
     path: &str,
     asked: &Q,
     out: &mut W,
     err: &mut E,
 ) -> u8
-    ensures { Shows (T.text_at texts.now) path.now (Q.said asked.now path.now) (Q.ends asked.now)
-        result (W.contents out.old) (W.contents out.new) }
+    ensures { Shows (T.text_at texts.now) (G.writer_at growing.now) path.now
+        (Q.gives asked.now path.now) result (W.contents out.old) (W.contents out.new) }
 {
     match file_text(alloc, asked.nothing(alloc)) {
-        Ok(mut file) => show_text(texts, alloc, path, asked, &mut file, out, err),
+        Ok(mut file) => show_text(texts, growing, alloc, path, asked, &mut file, out, err),
         Err(_) => report_memory(err),
     }
 }
 
 /// Hands the text of a path to what has taken none, and writes what is asked of it.
-fn show_text<T: Texts, Q: Asks, W: Write, E: Write>(
+fn show_text<T: Texts, G: GrowingTexts, Q: Asks, W: Write, E: Write>(
     texts: &T,
+    growing: &G,
     alloc: Global,
     path: &str,
     asked: &Q,
@@ -197,16 +220,32 @@ fn show_text<T: Texts, Q: Asks, W: Write, E: Write>(
     err: &mut E,
 ) -> u8
     requires { HasSeenText Q.Seen.has_seen file.old.text [] }
-    ensures { Shows (T.text_at texts.now) path.now (Q.said asked.now path.now) (Q.ends asked.now)
-        result (W.contents out.old) (W.contents out.new) }
+    ensures { Shows (T.text_at texts.now) (G.writer_at growing.now) path.now
+        (Q.gives asked.now path.now) result (W.contents out.old) (W.contents out.new) }
 {
     match texts.read_pieces(path, file) {
         Ok(()) => {
             let (stop, left) = file.text.end();
-            tell_stop(path, stop, left, err);
-            show_seen(alloc, path, asked, &mut file.text, stop, out, err)
+            let writer = growing.writer(path);
+            tell_end(path, asked, writer, stop, left, err);
+            show_seen(alloc, path, asked, &mut file.text, writer, stop, out, err)
         }
         Err(error) => report_unread(path, &error, err),
+    }
+}
+
+/// Tells how a trace ends.
+fn tell_end<Q: Asks, E: Write>(
+    path: &str,
+    asked: &Q,
+    writer: Writer,
+    stop: Option<Stop>,
+    left: Option<u64>,
+    err: &mut E,
+) {
+    tell_stop(path, stop, left, err);
+    if asked.asks_writer() {
+        tell_writer(path, writer, stop, err);
     }
 }
 
@@ -226,19 +265,20 @@ fn show_seen<Q: Asks, W: Write, E: Write>(
     path: &str,
     asked: &Q,
     text: &mut SeenText<Q::Seen>,
+    writer: Writer,
     stop: Option<Stop>,
     out: &mut W,
     err: &mut E,
 ) -> u8
     ensures { (past : List Event) → Viewed text.old.viewing.viewing past
         → Q.Seen.has_seen text.old.seen past
-        → ShowsOf stop (Q.said asked.now path.now past) (Q.ends asked.now stop past) result
+        → ShowsOf stop (Q.gives asked.now path.now writer stop past) result
         (W.contents out.old) (W.contents out.new) }
 {
     if is_within(stop) {
         return REFUSED;
     }
-    match asked.answer(alloc, path, text, stop) {
+    match asked.answer(alloc, path, text, writer, stop) {
         Ok((said, status)) => write_answer(&said, status, out, err),
         Err(_) => report_memory(err),
     }

@@ -1,4 +1,4 @@
-use Rattle.std.proofs.Common.{◌∙◌, ap, false, true, inl, inr, map, string_bytes, subst, sym}
+use Rattle.std.proofs.Common.{◌∙◌, ap, false, inl, inr, map, string_bytes, subst, sym}
 use Rattle.std.proofs.KnownBytes.{Keeps-refl}
 use Rattle.initview_command.specs.Asking.{picked, what_of}
 use Rattle.initview_command.specs.Endings.{EndsOf}
@@ -7,21 +7,22 @@ use Rattle.initview_command.proofs.command.run_words.Goals as goal
 
 pub returns-then-is_version : goal.returns-then-is_version
 returns-then-is_version g c =
-    version_done _ _ (map string_bytes c.args.words.now) _ _ _ _ (sym c.is_version.ensures ∙ c.if-is_version.true) c.print_version.ensures.version
+    version_done _ _ _ (map string_bytes c.args.words.now) _ _ _ _ (sym c.is_version.ensures ∙ c.if-is_version.true) c.print_version.ensures.version
 
 pub returns-in-Ok : goal.returns-in-Ok
 returns-in-Ok g c =
     let text_at = g.T.Texts.text_at c.args.texts.now in
     let growing_at = g.G.GrowingTexts.text_at c.args.growing.now in
+    let writers = g.G.GrowingTexts.writer_at c.args.growing.now in
     let words = map string_bytes c.args.words.now in
     let given = map string_bytes c.deref.result.now in
     let old = g.W.Write.contents c.args.out.now in
     let new = g.W.Write.contents c.run_cut.new.out in
-    words_done text_at growing_at words _ c.run_cut.result old new (sym c.is_version.ensures ∙ c.if-is_version.false)
-    (inl (subst (λ options. EndsOf text_at growing_at options (picked false false words) (what_of options (picked false false words)) c.run_cut.result old new) (ap (map string_bytes) c.deref.ensures.value ∙ c.in-Ok.ensures.0)
-    (subst (λ others. EndsOf text_at growing_at given others (what_of given others) c.run_cut.result old new) (ap (map string_bytes) c.deref-in-Ok.ensures.value ∙ c.in-Ok.ensures.1) c.run_cut.ensures)))
+    words_done text_at growing_at writers words _ c.run_cut.result old new (sym c.is_version.ensures ∙ c.if-is_version.false)
+    (inl (subst (λ options. EndsOf text_at growing_at writers options (picked false false words) (what_of options (picked false false words)) c.run_cut.result old new) (ap (map string_bytes) c.deref.ensures.value ∙ c.in-Ok.ensures.0)
+    (subst (λ others. EndsOf text_at growing_at writers given others (what_of given others) c.run_cut.result old new) (ap (map string_bytes) c.deref-in-Ok.ensures.value ∙ c.in-Ok.ensures.1) c.run_cut.ensures)))
 
 pub returns-in-Err : goal.returns-in-Err
 returns-in-Err g c =
-    words_done _ _ (map string_bytes c.args.words.now) _ _ _ _ (sym c.is_version.ensures ∙ c.if-is_version.false)
+    words_done _ _ _ (map string_bytes c.args.words.now) _ _ _ _ (sym c.is_version.ensures ∙ c.if-is_version.false)
     (inr (c.report_memory.ensures, Keeps-refl (g.W.Write.contents c.args.out.now)))

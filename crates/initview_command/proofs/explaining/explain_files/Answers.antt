@@ -1,12 +1,12 @@
 use Rattle.std.proofs.Common.{inl, inr, subst}
-use Rattle.initview_command.specs.Explaining.{explanation}
-use Rattle.initview_command.specs.Showing.{Shows, stop_status}
+use Rattle.initview_command.specs.Explaining.{explained}
+use Rattle.initview_command.specs.Showing.{Shows}
 use Rattle.initview_command.proofs.Shown.{fails_by}
 use Rattle.initview_command.proofs.explaining.explain_files.Goals as goal
 
 pub returns-in-Ok : goal.returns-in-Ok
 returns-in-Ok g c =
-    inl (subst (λ told. Shows (g.T.Texts.text_at c.args.texts.now) c.args.path.now (explanation c.args.path.now c.args.id.now told) (λ stop past. stop_status stop) c.show_file.result (g.W.Write.contents c.args.out.now) (g.W.Write.contents c.show_file.new.out)) c.in-Ok.ensures.told c.show_file.ensures)
+    inl (subst (λ told. Shows (g.T.Texts.text_at c.args.texts.now) (g.G.GrowingTexts.writer_at c.args.growing.now) c.args.path.now (λ writer. explained c.args.path.now c.args.id.now told) c.show_file.result (g.W.Write.contents c.args.out.now) (g.W.Write.contents c.show_file.new.out)) c.in-Ok.ensures.told c.show_file.ensures)
 
 pub returns-in-Err : goal.returns-in-Err
 returns-in-Err g c = fails_by _ _ c.in-Err.fault c.report_fault.result (g.W.Write.contents c.args.out.now) c.in-Err.ensures.fault c.report_fault.ensures (λ is. inr is)

@@ -1,8 +1,8 @@
 use Rattle.std.proofs.Common.{rules, ◌≡◌, ◌∷◌, ◌++◌, [], refl, subst, map, string_bytes}
-use Rattle.std.proofs.lemmas.List.{append-nil}
+use Rattle.std.proofs.lemmas.List.{append-nil, nil_from_length}
 use Rattle.program_io.specs.Known.{IsTextAt}
 use Rattle.initview_command.specs.Tables.{AreFilesAt}
-use Rattle.initview_command.proofs.Files.{file_of, is_none, one_more}
+use Rattle.initview_command.proofs.Files.{file_of, one_more}
 use Rattle.initview_command.proofs.tables.read_files.Goals as goal
 
 pub loop-path-init : goal.loop-path-init
@@ -21,6 +21,6 @@ loop-path-preserved g c =
 
 pub returns : goal.returns
 returns g c =
-    let none = is_none c.loop-path.rest.now c.in_default.ensures.cases in
+    let none = nil_from_length c.loop-path.rest.now c.in_default.ensures.cases in
     subst (λ parts. AreFilesAt (g.T.Texts.text_at c.args.texts.now) (map string_bytes c.args.paths.now) parts) (append-nil c.loop-path.parts.items)
     (c.loop-path.invariant [] (rw none refl))

@@ -1,0 +1,49 @@
+//! How a trace stands by now.
+
+ghost use Rattle.std.specs.Prelude.{◌≡◌, ◌∷◌, ◌+◌, ◌-◌, ◌^◌, min, List, OnOk};
+ghost use Rattle.trace_events.specs.declared.happenings.Happening.TheVariants.{Clock};
+ghost use Rattle.trace_events.specs.Event.{Event};
+ghost use Rattle.trace_events.specs.Past.{time_of};
+ghost use Rattle.trace_view.specs.Viewing.{Viewed};
+ghost use Rattle.initview_command.specs.Writers.{present};
+
+use crate::growing::Writer;
+use init_words::Memory;
+use std::alloc::Global;
+use std::io::Write;
+use trace_events::{Happening, HappeningIn};
+use trace_view::{SeenText, Sees, Stop};
+
+/// Shows the view that the clock has gone on by these seconds.
+fn show_clock<S: Sees<Global> + Drop>(text: &mut SeenText<S>, seconds: u64) -> Result<(), Memory>
+    ensures { OnOk result ((past : List Event) → Viewed text.old.viewing.viewing past
+        → Viewed text.new.viewing.viewing
+        (Clock (min (time_of past + seconds) (2 ^ 64 - 1)) ∷ past)) }
+{
+    let time = text.view().time();
+    let happening: HappeningIn<Global> = Happening::Clock(time.saturating_add(seconds));
+    let _lawful = text.show(&happening)?;
+    Ok(())
+}
+
+/// Shows the view how the trace stands by now.
+pub(crate) fn show_present<S: Sees<Global> + Drop>(
+    text: &mut SeenText<S>,
+    writer: Writer,
+    stop: Option<Stop>,
+) -> Result<(), Memory>
+    ensures { OnOk result ((past : List Event) → Viewed text.old.viewing.viewing past
+        → Viewed text.new.viewing.viewing (present writer stop past)) }
+{
+    match (writer, stop) {
+        (Writer::Init(seconds), None) => show_clock(text, seconds),
+        _ => Ok(()),
+    }
+}
+
+/// Tells that a trace that is shown to its end goes no further.
+pub(crate) fn tell_writer<E: Write>(path: &str, writer: Writer, stop: Option<Stop>, err: &mut E) {
+    if let (Writer::Nobody, None) = (writer, stop) {
+        let _ = writeln!(err, "initview: no init writes {path}: this is how it ended");
+    }
+}
