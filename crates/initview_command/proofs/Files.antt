@@ -1,8 +1,9 @@
 -- The files of paths, one more after the others.
-use Rattle.std.proofs.Common.{◌≡◌, refl, ℕ, List, [], ◌∷◌, ◌++◌, length, append_assoc, arith}
+use Rattle.std.proofs.Common.{◌≡◌, refl, ℕ, ◌<◌, ◌≤◌, List, [], ◌∷◌, ◌++◌, drop, length, append_assoc, arith}
+use Rattle.std.specs.Prelude.{swap}
 use Rattle.program_io.specs.Known.{IsTextAt, KnownTexts}
 use Rattle.init_words.specs.Parts.{NamedText}
-use Rattle.initview_command.specs.Tables.{AreFilesAt}
+use Rattle.initview_command.specs.Tables.{AreFilesAt, old_of}
 
 abbrev pub file_of : List ℕ → List ℕ → NamedText
 file_of path text = record { name = path; bytes = text }
@@ -15,3 +16,14 @@ one_before text_at path text paths others at files = (text, others, refl, at, fi
 pub one_more : (text_at : KnownTexts) (path text : List ℕ) (paths all : List (List ℕ)) (old new : List NamedText) → IsTextAt text_at path text → new ≡ old ++ file_of path text ∷ [] → ((more : List NamedText) → AreFilesAt text_at (path ∷ paths) more → AreFilesAt text_at all (old ++ more)) → (more : List NamedText) → AreFilesAt text_at paths more → AreFilesAt text_at all (new ++ more)
 one_more text_at path text paths all old new at is so more files =
     rw (is, append_assoc old (file_of path text ∷ []) more) (so (file_of path text ∷ more) (one_before text_at path text paths more at files))
+
+-- the old inittab of a diff
+pub old_short : (parts : List NamedText) → length parts < 2 → parts ≡ old_of parts
+old_short [] few = refl
+old_short (part ∷ []) few = refl
+old_short (part ∷ other ∷ parts) few = absurd (omega (arith, few))
+
+pub old_swapped : (parts : List NamedText) → 2 ≤ length parts → drop 1 (swap parts 0 1) ≡ old_of parts
+old_swapped [] many = absurd (omega (arith, many))
+old_swapped (part ∷ []) many = absurd (omega (arith, many))
+old_swapped (part ∷ other ∷ parts) many = refl

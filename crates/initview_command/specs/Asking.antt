@@ -10,6 +10,8 @@ use Rattle.initview_lines.specs.declared.rows.Shape.{Shape}
 use Rattle.initview_lines.specs.declared.rows.Shape.TheVariants as shape
 use Rattle.initview_command.specs.declared.asking.Question.TheVariants.{Status, Row, Left}
 use Rattle.initview_command.specs.declared.asking.TableQuestion.TheVariants as table
+use Rattle.initview_command.specs.declared.asking.Kind.{Kind}
+use Rattle.initview_command.specs.declared.asking.Kind.TheVariants as kind
 use Rattle.initview_command.specs.declared.asking.What.{What}
 use Rattle.initview_command.specs.declared.asking.What.TheVariants.{Show, Draw, Follow, Explain, Reload, Tables}
 use Rattle.initview_command.specs.declared.charting.Form.{Form}
@@ -20,7 +22,8 @@ use Rattle.initview_command.specs.Charting.{lines_of}
 abbrev pub Text : Type 0
 Text = List ℕ
 
--- an option begins with -, which is standard input where it stands alone; some have a value behind them
+-- an option begins with -, which is standard input where it stands alone; some have a value behind them, which is of
+-- their kind
 abbrev pub is_option : Text → Bool
 is_option (first ∷ second ∷ word) = first == 45
 is_option _ = false
@@ -28,21 +31,37 @@ is_option _ = false
 abbrev pub takes_value : Text → Bool
 takes_value word =
     bytes_eq word (codes "--level") || bytes_eq word (codes "--trace") || bytes_eq word (codes "--width")
+    || bytes_eq word (codes "--inittab-dir")
 
--- the options with their values, or the other words; the first word may be the value of an option before it
-abbrev pub is_picked : Bool → Bool → Text → Bool
-is_picked options value word = if options then value || is_option word else not (value || is_option word)
+abbrev pub own_kind : Text → Kind
+own_kind word =
+    if bytes_eq word (codes "--inittab-dir") then kind.Folder else if is_option word then kind.Option else kind.Word
 
-abbrev pub value_next : Bool → Text → Bool
-value_next value word = not value && takes_value word
+abbrev pub kind_of : Option Kind → Text → Kind
+kind_of (Some kind) word = kind
+kind_of None word = own_kind word
+
+abbrev pub same_kind : Kind → Kind → Bool
+same_kind kind.Word kind.Word = true
+same_kind kind.Option kind.Option = true
+same_kind kind.Folder kind.Folder = true
+same_kind _ _ = false
+
+-- the words of a kind; the first may be the value of an option before it
+abbrev pub is_picked : Kind → Option Kind → Text → Bool
+is_picked kind value word = same_kind kind (kind_of value word)
+
+abbrev pub value_next : Option Kind → Text → Option Kind
+value_next (Some kind) word = None
+value_next None word = if takes_value word then Some (own_kind word) else None
 
 abbrev pub given_by : Bool → Text → List Text
 given_by so word = if so then word ∷ [] else []
 
-abbrev pub picked : Bool → Bool → List Text → List Text
-picked options value [] = []
-picked options value (word ∷ words) =
-    given_by (is_picked options value word) word ++ picked options (value_next value word) words
+abbrev pub picked : Kind → Option Kind → List Text → List Text
+picked kind value [] = []
+picked kind value (word ∷ words) =
+    given_by (is_picked kind value word) word ++ picked kind (value_next value word) words
 
 -- a level is a character
 abbrev pub level_in : Text → Option Level
@@ -175,6 +194,28 @@ asked_by verb options words =
 abbrev pub what_of : List Text → List Text → Option What
 what_of options [] = None
 what_of options (verb ∷ words) = asked_by verb options words
+
+-- [--inittab-dir DIR] beside what is asked of files of inittabs
+abbrev pub reads_files : What → Bool
+reads_files (Explain id) = true
+reads_files (Reload level) = true
+reads_files (Tables question) = true
+reads_files _ = false
+
+abbrev pub where_reads : Option What → Option What
+where_reads (Some what) = if reads_files what then Some what else None
+where_reads None = None
+
+abbrev pub where_named : List Text → Option What → Option What
+where_named (option ∷ path ∷ []) what = where_reads what
+where_named _ what = None
+
+abbrev pub with_folder : List Text → Option What → Option What
+with_folder folder what = if is_nil folder then what else where_named folder what
+
+abbrev pub folder_of : List Text → Option Text
+folder_of (option ∷ path ∷ []) = Some path
+folder_of _ = None
 
 -- the path of the trace, and those of the files of inittabs
 abbrev pub second_of : List Text → Text

@@ -1,27 +1,39 @@
 -- What is written of the reason that keeps an entry from its start.
-use Rattle.std.specs.Prelude.{◌≡◌, ◌⊎◌, ℕ, List, [], ◌∷◌, ◌++◌, Option}
+use Rattle.std.specs.Prelude.{◌≡◌, ◌⊎◌, ℕ, List, [], ◌∷◌, ◌++◌, Option, None}
 use Rattle.std.specs.Io.KnownBytes.{Keeps}
 use Rattle.program_io.specs.declared.statuses.TheConstants.{REFUSED, DEVICE_FAULT}
 use Rattle.program_io.specs.Known.{KnownTexts}
 use Rattle.init_words.specs.Parts.{NamedText}
 use Rattle.trace_events.specs.Event.{Event}
 use Rattle.inittab_lint.specs.IdLines.{id_text}
+use Rattle.trace_view.specs.declared.whys.Why.{Why}
+use Rattle.trace_view.specs.declared.whys.Why.TheVariants.{Nothing}
+use Rattle.trace_view.specs.declared.text_views.Stop.{Stop}
 use Rattle.trace_view.specs.Why.{why}
 use Rattle.trace_view.specs.LastLines.{line_at_fault}
 use Rattle.initview_lines.specs.Reasons.{why_text}
+use Rattle.initview_command.specs.declared.growing.Writer.{Writer}
 use Rattle.initview_command.specs.Showing.{Shows, stop_status}
-use Rattle.initview_command.specs.Tables.{AreFilesAt, AreNone}
-use Rattle.initview_command.specs.Writers.{KnownWriters}
-use Rattle.trace_view.specs.declared.text_views.Stop.{Stop}
+use Rattle.initview_command.specs.Tables.{AreFiles, AreNone}
+use Rattle.initview_command.specs.Writers.{KnownWriters, present}
 
 -- of the id's lines in the inittab, where one is named
 abbrev pub files_text : List ℕ → List NamedText → List ℕ
 files_text id [] = []
 files_text id (file ∷ files) = id_text id (file ∷ files)
 
--- what is written: the reason with the line at fault, and what is told of the inittab
-abbrev pub explanation : List ℕ → List ℕ → List ℕ → List Event → List ℕ
-explanation path id told past = why_text id path (line_at_fault id (why id past) past) past ++ told
+-- as time goes on a reason is over, or stays with its line
+abbrev pub line_by : Why → Option ℕ → Option ℕ
+line_by Nothing line = None
+line_by _ line = line
+
+-- what is written of a trace that stands so by now: the reason with the line at fault, and what is told of the inittab
+abbrev pub explanation : List ℕ → List ℕ → List ℕ → Option ℕ → List Event → List ℕ
+explanation path id told line now = why_text id path (line_by (why id now) line) now ++ told
+
+abbrev pub explained : List ℕ → List ℕ → List ℕ → Writer → Option Stop → List Event → List ℕ × ℕ
+explained path id told writer stop past =
+    (explanation path id told (line_at_fault id (why id past) past) (present writer stop past), stop_status stop)
 
 abbrev pub explained : List ℕ → List ℕ → List ℕ → Option Stop → List Event → List ℕ × ℕ
 explained path id told stop past = (explanation path id told past, stop_status stop)
@@ -30,11 +42,12 @@ explained path id told stop past = (explanation path id told past, stop_status s
 -- nothing was written
 abbrev pub ExplainsFiles : KnownTexts → KnownWriters → List ℕ → List NamedText → List ℕ → ℕ → Option (List ℕ) → Option (List ℕ) → Type 0
 ExplainsFiles text_at writers path files id status old new =
-    Shows text_at writers path (λ writer. explained path id (files_text id files)) status old new
+    Shows text_at writers path (explained path id (files_text id files)) status old new
     ⊎ ((status ≡ REFUSED) × AreNone files × Keeps old new)
 
 -- so of the files at the paths; or one was not read, and nothing was written
-abbrev pub Explains : KnownTexts → KnownWriters → List ℕ → List (List ℕ) → List ℕ → ℕ → Option (List ℕ) → Option (List ℕ) → Type 0
-Explains text_at writers path paths id status old new =
-    ((files : List NamedText) × AreFilesAt text_at paths files × ExplainsFiles text_at writers path files id status old new)
+abbrev pub Explains : KnownTexts → KnownWriters → List ℕ → List (List ℕ) → Option (List ℕ) → List ℕ → ℕ → Option (List ℕ) → Option (List ℕ) → Type 0
+Explains text_at writers path paths folder id status old new =
+    ((files : List NamedText) × AreFiles text_at paths folder files
+    × ExplainsFiles text_at writers path files id status old new)
     ⊎ ((status ≡ DEVICE_FAULT) × Keeps old new)

@@ -1,5 +1,5 @@
 -- What is written of an inittab that init reads behind a trace.
-use Rattle.std.specs.Prelude.{◌≡◌, ◌⊎◌, ℕ, List, take, drop, Option}
+use Rattle.std.specs.Prelude.{◌≡◌, ◌⊎◌, ℕ, List, drop, Option}
 use Rattle.std.specs.Io.KnownBytes.{Keeps}
 use Rattle.program_io.specs.declared.statuses.TheConstants.{REFUSED, DEVICE_FAULT}
 use Rattle.program_io.specs.Known.{KnownTexts}
@@ -9,7 +9,7 @@ use Rattle.init_words.specs.declared.levels.Level.{Level}
 use Rattle.trace_events.specs.Event.{Event}
 use Rattle.initview_lines.specs.Reloads.{reload_text, reloaded}
 use Rattle.initview_command.specs.Showing.{Shows, stop_status}
-use Rattle.initview_command.specs.Tables.{AreFilesAt, AreNone, table_in}
+use Rattle.initview_command.specs.Tables.{AreFiles, NoneOf, old_of, table_in}
 use Rattle.initview_command.specs.Writers.{KnownWriters}
 use Rattle.trace_view.specs.declared.text_views.Stop.{Stop}
 
@@ -24,11 +24,13 @@ reload_answer old new level stop past = (reload_said old new level past, stop_st
 -- written
 abbrev pub ReloadsFiles : KnownTexts → KnownWriters → List ℕ → List NamedText → Option Level → ℕ → Option (List ℕ) → Option (List ℕ) → Type 0
 ReloadsFiles text_at writers path parts level status old new =
-    Shows text_at writers path (λ writer. reload_answer (table_in (take 1 parts)) (table_in (drop 1 parts)) level) status old new
-    ⊎ ((status ≡ REFUSED) × (AreNone (take 1 parts) ⊎ AreNone (drop 1 parts)) × Keeps old new)
+    Shows text_at writers path (λ writer. reload_answer (table_in (old_of parts)) (table_in (drop 1 parts)) level)
+    status old new
+    ⊎ ((status ≡ REFUSED) × NoneOf parts × Keeps old new)
 
 -- so of the files at the paths; or one was not read, and nothing was written
-abbrev pub Reloads : KnownTexts → KnownWriters → List ℕ → List (List ℕ) → Option Level → ℕ → Option (List ℕ) → Option (List ℕ) → Type 0
-Reloads text_at writers path paths level status old new =
-    ((parts : List NamedText) × AreFilesAt text_at paths parts × ReloadsFiles text_at writers path parts level status old new)
+abbrev pub Reloads : KnownTexts → KnownWriters → List ℕ → List (List ℕ) → Option (List ℕ) → Option Level → ℕ → Option (List ℕ) → Option (List ℕ) → Type 0
+Reloads text_at writers path paths folder level status old new =
+    ((parts : List NamedText) × AreFiles text_at paths folder parts
+    × ReloadsFiles text_at writers path parts level status old new)
     ⊎ ((status ≡ DEVICE_FAULT) × Keeps old new)

@@ -1,5 +1,5 @@
 -- What is written of inittabs, and the exit status.
-use Rattle.std.specs.Prelude.{◌≡◌, ◌⊎◌, ℕ, List, [], ◌∷◌, take, drop, Option, Some, None, unwrap_or}
+use Rattle.std.specs.Prelude.{◌≡◌, ◌⊎◌, ℕ, List, [], ◌∷◌, ◌++◌, take, drop, Option, Some, None, unwrap_or}
 use Rattle.std.specs.Io.KnownBytes.{Keeps}
 use Rattle.program_io.specs.declared.statuses.TheConstants.{DONE, REFUSED, DEVICE_FAULT}
 use Rattle.program_io.specs.Known.{IsTextAt, KnownTexts}
@@ -27,6 +27,16 @@ AreFilesAt text_at (path ∷ paths) parts =
     (text : List ℕ) × (others : List NamedText) × (parts ≡ record { name = path; bytes = text } ∷ others)
     × IsTextAt text_at path text × AreFilesAt text_at paths others
 
+-- behind files stand those of a folder, where one is named
+abbrev pub IsFolderBehind : Option (List ℕ) → List NamedText → List NamedText → Type 0
+IsFolderBehind None own parts = parts ≡ own
+IsFolderBehind (Some folder) own parts = (more : List NamedText) × (parts ≡ own ++ more)
+
+-- so behind the files of the paths
+abbrev pub AreFiles : KnownTexts → List (List ℕ) → Option (List ℕ) → List NamedText → Type 0
+AreFiles text_at paths folder parts =
+    (own : List NamedText) × AreFilesAt text_at paths own × IsFolderBehind folder own parts
+
 -- 1 with faults, 2 with warnings alone
 abbrev pub found_status : Found → ℕ
 found_status found.Nothing = DONE
@@ -48,10 +58,14 @@ changes_by level old new = changes_text (level_asked level new) old new
 abbrev pub plan_by : Option Level → List Entry → List ℕ
 plan_by level entries = plan_text (level_asked level entries) entries
 
--- what is written of files, and the exit status: of a diff the first is the old inittab, the others the new one
+-- of a diff the first file is the old inittab, and the second the new one; both go on in the others
+abbrev pub old_of : List NamedText → List NamedText
+old_of parts = take 1 parts ++ drop 2 parts
+
+-- what is written of files, and the exit status
 abbrev pub answer_of : TableQuestion → List NamedText → List ℕ × ℕ
 answer_of table.Lint parts = ((lint_in parts).0, found_status (lint_in parts).1)
-answer_of (table.Diff level) parts = (changes_by level (table_in (take 1 parts)) (table_in (drop 1 parts)), DONE)
+answer_of (table.Diff level) parts = (changes_by level (table_in (old_of parts)) (table_in (drop 1 parts)), DONE)
 answer_of (table.Plan level) parts = (plan_by level (table_in parts), DONE)
 
 -- a text and an exit status are the answer
@@ -62,9 +76,12 @@ IsAnswer asked parts text status = (text ≡ (answer_of asked parts).0) × (stat
 abbrev pub AreNone : List NamedText → Type 0
 AreNone parts = AreTooMany (texts_of parts) ⊎ AreTooLong (texts_of parts)
 
+abbrev pub NoneOf : List NamedText → Type 0
+NoneOf parts = AreNone (old_of parts) ⊎ AreNone (drop 1 parts)
+
 abbrev pub IsRefused : TableQuestion → List NamedText → Type 0
 IsRefused table.Lint parts = AreNone parts
-IsRefused (table.Diff level) parts = AreNone (take 1 parts) ⊎ AreNone (drop 1 parts)
+IsRefused (table.Diff level) parts = NoneOf parts
 IsRefused (table.Plan level) parts = AreNone parts
 
 -- why there is no answer: memory ran out, or the files are refused
@@ -86,7 +103,7 @@ AnswersOf asked parts status old new =
     ⊎ ((status ≡ REFUSED) × IsRefused asked parts × Keeps old new)
 
 -- so of the files at the paths; or one was not read, and nothing was written
-abbrev pub Answers : KnownTexts → List (List ℕ) → TableQuestion → ℕ → Option (List ℕ) → Option (List ℕ) → Type 0
-Answers text_at paths asked status old new =
-    ((parts : List NamedText) × AreFilesAt text_at paths parts × AnswersOf asked parts status old new)
+abbrev pub Answers : KnownTexts → List (List ℕ) → Option (List ℕ) → TableQuestion → ℕ → Option (List ℕ) → Option (List ℕ) → Type 0
+Answers text_at paths folder asked status old new =
+    ((parts : List NamedText) × AreFiles text_at paths folder parts × AnswersOf asked parts status old new)
     ⊎ ((status ≡ DEVICE_FAULT) × Keeps old new)

@@ -1,7 +1,7 @@
 //! What the words of a command line ask: the options, which may stand anywhere, and the other words.
 
-ghost use Rattle.std.specs.Prelude.{◌≡◌, ◌++◌, false, map, option_map, string_bytes, IfOk, OnOk};
-ghost use Rattle.initview_command.specs.Asking.{asked_by, behind_one, behind_three, diff_by, diff_of, draw_of, explain_of, files_of, form_of, given_by, is_nil, is_one, is_option, is_picked, is_plain, is_two, level_in, level_of, picked, plain_of, reload_of, second_of, shape_of, show_of, tables_of, takes_value, third_of, trace_given, trace_of, traced, value_next, what_of};
+ghost use Rattle.std.specs.Prelude.{◌≡◌, ◌++◌, None, map, option_map, string_bytes, IfOk, OnOk};
+ghost use Rattle.initview_command.specs.Asking.{asked_by, behind_one, behind_three, diff_by, diff_of, draw_of, explain_of, files_of, folder_of, form_of, given_by, is_nil, is_one, is_option, is_picked, is_plain, is_two, kind_of, level_in, level_of, own_kind, picked, plain_of, reads_files, reload_of, same_kind, second_of, shape_of, show_of, tables_of, takes_value, third_of, trace_given, trace_of, traced, value_next, what_of, where_named, where_reads, with_folder};
 
 use crate::charting::{Form, WIDTH, lines_of};
 use init_words::{Id, Level};
@@ -43,6 +43,15 @@ pub enum What {
     Tables(TableQuestion),
 }
 
+/// What words of a command line are: the command and what it is about, options with their values, or the option that names
+/// the folder of an inittab, with its value.
+#[derive(Clone, Copy)]
+pub enum Kind {
+    Word,
+    Option,
+    Folder,
+}
+
 /// The word is an option: it begins with `-`, and isn't `-` alone, which is standard input.
 pub(crate) fn is_option(word: &str) -> bool
     ensures { result ≡ is_option word.now }
@@ -57,22 +66,58 @@ pub(crate) fn is_option(word: &str) -> bool
 pub(crate) fn takes_value(word: &str) -> bool
     ensures { result ≡ takes_value word.now }
 {
-    word == "--level" || word == "--trace" || word == "--width"
+    word == "--level" || word == "--trace" || word == "--width" || word == "--inittab-dir"
 }
 
-/// The word is an option, or the value of one; or it is neither.
-fn is_picked(options: bool, value: bool, word: &str) -> bool
-    ensures { result ≡ is_picked options value word.now }
+/// The kind of a word by itself.
+fn own_kind(word: &str) -> Kind
+    ensures { result ≡ own_kind word.now }
 {
-    let given = value || is_option(word);
-    if options { given } else { !given }
+    if word == "--inittab-dir" {
+        Kind::Folder
+    } else if is_option(word) {
+        Kind::Option
+    } else {
+        Kind::Word
+    }
 }
 
-/// The word behind this one is the value of an option.
-fn value_next(value: bool, word: &str) -> bool
+/// The kind of a word, which may be the value of an option of some kind.
+fn kind_of(value: Option<Kind>, word: &str) -> Kind
+    ensures { result ≡ kind_of value word.now }
+{
+    match value {
+        Some(kind) => kind,
+        None => own_kind(word),
+    }
+}
+
+fn same_kind(one: Kind, other: Kind) -> bool
+    ensures { result ≡ same_kind one other }
+{
+    match (one, other) {
+        (Kind::Word, Kind::Word) => true,
+        (Kind::Option, Kind::Option) => true,
+        (Kind::Folder, Kind::Folder) => true,
+        _ => false,
+    }
+}
+
+/// The word is of the kind that is picked.
+fn is_picked(kind: Kind, value: Option<Kind>, word: &str) -> bool
+    ensures { result ≡ is_picked kind value word.now }
+{
+    same_kind(kind, kind_of(value, word))
+}
+
+/// The word behind this one is the value of an option of this kind.
+fn value_next(value: Option<Kind>, word: &str) -> Option<Kind>
     ensures { result ≡ value_next value word.now }
 {
-    !value && takes_value(word)
+    match value {
+        None if takes_value(word) => Some(own_kind(word)),
+        _ => None,
+    }
 }
 
 #[tactic(auto, using(crate::proofs::Picked::map_push))]
@@ -86,22 +131,18 @@ fn add_if(words: &mut Vec<String>, alloc: Global, so: bool, word: &str) -> Resul
     Ok(())
 }
 
-/// The options with their values, or the other words, of which the first is the command; each in its order.
+/// The words of a kind, in their order.
 #[tactic(auto, using(crate::proofs::Picked::one_picked))]
-pub(crate) fn picked(
-    alloc: Global,
-    options: bool,
-    words: &[String],
-) -> Result<Vec<String>, AllocError>
+pub(crate) fn picked(alloc: Global, kind: Kind, words: &[String]) -> Result<Vec<String>, AllocError>
     ensures { IfOk result (λ found. map string_bytes found.items
-        ≡ picked options false (map string_bytes words.now)) }
+        ≡ picked kind None (map string_bytes words.now)) }
 {
     let mut found = Vec::new(alloc);
-    let mut value = false;
+    let mut value = None;
     let mut rest = words;
     while let Some((text, others)) = rest.split_first() {
         let word = text.as_str();
-        add_if(&mut found, alloc, is_picked(options, value, word), word)?;
+        add_if(&mut found, alloc, is_picked(kind, value, word), word)?;
         value = value_next(value, word);
         rest = others;
     }
@@ -361,6 +402,59 @@ fn behind_three(words: &[String]) -> &[String]
     match words {
         [_, _, _, rest @ ..] => rest,
         _ => &[],
+    }
+}
+
+/// It is asked of files of inittabs too.
+fn reads_files(what: &What) -> bool
+    ensures { result ≡ reads_files what.now }
+{
+    match what {
+        What::Explain(_) => true,
+        What::Reload(_) => true,
+        What::Tables(_) => true,
+        What::Show(_) => false,
+        What::Draw(_) => false,
+        What::Follow => false,
+    }
+}
+
+/// What is asked, where words may name a folder for it as these do.
+pub(crate) fn with_folder(folder: &[String], what: Option<What>) -> Option<What>
+    ensures { result ≡ with_folder (map string_bytes folder.now) what }
+{
+    if is_nil(folder) {
+        what
+    } else {
+        where_named(folder, what)
+    }
+}
+
+fn where_reads(what: Option<What>) -> Option<What>
+    ensures { result ≡ where_reads what }
+{
+    match what {
+        Some(what) if reads_files(&what) => Some(what),
+        _ => None,
+    }
+}
+
+fn where_named(folder: &[String], what: Option<What>) -> Option<What>
+    ensures { result ≡ where_named (map string_bytes folder.now) what }
+{
+    match folder {
+        [_, _] => where_reads(what),
+        _ => None,
+    }
+}
+
+/// The folder that words name.
+pub(crate) fn folder_of(folder: &[String]) -> Option<&str>
+    ensures { option_map (λ path. path.now) result ≡ folder_of (map string_bytes folder.now) }
+{
+    match folder {
+        [_, path] => Some(path.as_str()),
+        _ => None,
     }
 }
 

@@ -1,10 +1,11 @@
 //! The words of `initview`, and what it does for them.
 
-ghost use Rattle.std.specs.Prelude.{◌≡◌, true, false, map, string_bytes, IfOk};
-ghost use Rattle.initview_command.specs.Asking.{picked, what_of};
+ghost use Rattle.std.specs.Prelude.{◌≡◌, None, map, option_map, string_bytes, IfOk};
+ghost use Rattle.initview_command.specs.Asking.{folder_of, picked, what_of, with_folder};
+ghost use Rattle.initview_command.specs.declared.asking.Kind.TheVariants as kind;
 ghost use Rattle.initview_command.specs.Endings.{Does, EndsBy, EndsOf};
 
-use crate::asking::{What, files_of, picked, trace_of, what_of};
+use crate::asking::{Kind, What, files_of, folder_of, picked, trace_of, what_of, with_folder};
 use crate::explaining::explain_file;
 use crate::following::follow_file;
 use crate::growing::GrowingTexts;
@@ -20,14 +21,14 @@ use std::io::Write;
 
 /// What is told where help is asked for, and of words that are not read. Its lines up to the last that begins with
 /// blanks and `initview` are one for each command.
-pub const USAGE: &str = "usage: initview why ID TRACE [TABLE..]
+pub const USAGE: &str = "usage: initview why [--inittab-dir DIR] ID TRACE [TABLE..]
        initview status [--json] TRACE [ID]
        initview left TRACE
        initview timeline [--svg | --width N] TRACE
        initview follow TRACE
-       initview lint TABLE [FILE..]
-       initview diff [--trace TRACE] [--level LEVEL] OLD NEW
-       initview plan [--level LEVEL] TABLE [FILE..]
+       initview lint [--inittab-dir DIR] TABLE [FILE..]
+       initview diff [--trace TRACE] [--level LEVEL] [--inittab-dir DIR] OLD NEW
+       initview plan [--level LEVEL] [--inittab-dir DIR] TABLE [FILE..]
        initview --version
   why     say why the entry ID isn't started next, the line of TRACE at fault, and what to do; with
           TABLE also where the inittab has a line of ID, and why it is left out
@@ -48,7 +49,7 @@ pub const USAGE: &str = "usage: initview why ID TRACE [TABLE..]
   Options stand anywhere.
   ID      an id of the inittab, 1 to 8 characters
   TRACE   a trace of init, also one that is still being written; - is standard input
-  TABLE   an inittab; FILEs go on where it ends
+  TABLE   an inittab; FILEs go on where it ends, and those of the folder DIR that init takes
   LEVEL   0 to 9 or S; without it the default level of the inittab that is new, with --trace the
           stage in force at its end
 ";
@@ -77,43 +78,55 @@ pub fn run_words<T: Texts, G: GrowingTexts, W: Write, E: Write>(
         return print_version("initview", out, err);
     }
     match cut(alloc, words) {
-        Ok((options, others)) => run_cut(texts, growing, alloc, &options, &others, out, err),
+        Ok((folder, options, others)) => {
+            run_cut(texts, growing, alloc, &folder, &options, &others, out, err)
+        }
         Err(_) => report_memory(err),
     }
 }
 
-/// The options with their values, and the other words.
-fn cut(alloc: Global, words: &[String]) -> Result<(Vec<String>, Vec<String>), AllocError>
-    ensures { IfOk result (λ both.
-        (map string_bytes both.0.items ≡ picked true false (map string_bytes words.now))
-        × (map string_bytes both.1.items ≡ picked false false (map string_bytes words.now))) }
+/// Words by their kinds: the folder, the options, and the others.
+type Cut = (Vec<String>, Vec<String>, Vec<String>);
+
+fn cut(alloc: Global, words: &[String]) -> Result<Cut, AllocError>
+    ensures { IfOk result (λ all.
+        (map string_bytes all.0.items ≡ picked kind.Folder None (map string_bytes words.now))
+        × (map string_bytes all.1.items ≡ picked kind.Option None (map string_bytes words.now))
+        × (map string_bytes all.2.items ≡ picked kind.Word None (map string_bytes words.now))) }
 {
-    Ok((picked(alloc, true, words)?, picked(alloc, false, words)?))
+    Ok((
+        picked(alloc, Kind::Folder, words)?,
+        picked(alloc, Kind::Option, words)?,
+        picked(alloc, Kind::Word, words)?,
+    ))
 }
 
-/// Runs initview on options and other words.
+/// Runs initview on words by their kinds.
 fn run_cut<T: Texts, G: GrowingTexts, W: Write, E: Write>(
     texts: &T,
     growing: &G,
     alloc: Global,
+    folder: &[String],
     options: &[String],
     words: &[String],
     out: &mut W,
     err: &mut E,
 ) -> u8
-    ensures { EndsOf (T.text_at texts.now) (G.text_at growing.now)
-        (G.writer_at growing.now)
+    ensures { EndsOf (T.text_at texts.now) (G.text_at growing.now) (G.writer_at growing.now)
+        (folder_of (map string_bytes folder.now))
         (map string_bytes options.now) (map string_bytes words.now)
-        (what_of (map string_bytes options.now) (map string_bytes words.now))
+        (with_folder (map string_bytes folder.now)
+        (what_of (map string_bytes options.now) (map string_bytes words.now)))
         result (W.contents out.old) (W.contents out.new) }
 {
-    match what_of(options, words) {
+    match with_folder(folder, what_of(options, words)) {
         Some(what) => {
             let path = trace_of(&what, options, words);
             let files = files_of(&what, words);
-            run_asked(texts, growing, alloc, &what, path, files, out, err)
+            let folder = folder_of(folder);
+            run_asked(texts, growing, alloc, &what, path, files, folder, out, err)
         }
-        None => report_refusal(options, words, err),
+        None => report_refusal(folder, options, words, err),
     }
 }
 
@@ -125,19 +138,27 @@ fn run_asked<T: Texts, G: GrowingTexts, W: Write, E: Write>(
     what: &What,
     path: &str,
     files: &[String],
+    folder: Option<&str>,
     out: &mut W,
     err: &mut E,
 ) -> u8
     ensures { Does (T.text_at texts.now) (G.text_at growing.now)
         (G.writer_at growing.now) path.now
-        (map string_bytes files.now) what.now result (W.contents out.old) (W.contents out.new) }
+        (map string_bytes files.now) (option_map (λ path. path.now) folder.entry) what.now
+        result (W.contents out.old) (W.contents out.new) }
 {
     match what {
         What::Show(question) => show_file(texts, growing, alloc, path, question, out, err),
         What::Draw(form) => show_file(texts, growing, alloc, path, form, out, err),
         What::Follow => follow_file(growing, alloc, path, out, err),
-        What::Explain(id) => explain_file(texts, growing, alloc, path, files, id, out, err),
-        What::Reload(level) => show_reload(texts, growing, alloc, path, files, *level, out, err),
-        What::Tables(question) => show_files(texts, alloc, files, *question, out, err),
+        What::Explain(id) => {
+            explain_file(texts, growing, alloc, path, files, folder, id, out, err)
+        }
+        What::Reload(level) => {
+            show_reload(texts, growing, alloc, path, files, folder, *level, out, err)
+        }
+        What::Tables(question) => {
+            show_files(texts, growing, alloc, files, folder, *question, out, err)
+        }
     }
 }

@@ -1,13 +1,15 @@
 //! Why an entry isn't started next, asked for.
 
-ghost use Rattle.std.specs.Prelude.{◌≡◌, List, map, string_bytes, IfOk, IfErr};
+ghost use Rattle.std.specs.Prelude.{◌≡◌, List, map, option_map, string_bytes, IfOk, IfErr};
 ghost use Rattle.trace_events.specs.Event.{Event};
 ghost use Rattle.trace_view.specs.Viewing.{Viewed};
-ghost use Rattle.trace_view.specs.LastLines.{Lined};
-ghost use Rattle.initview_command.specs.Explaining.{Explains, ExplainsFiles, explanation, files_text};
+ghost use Rattle.trace_view.specs.LastLines.{Lined, line_at_fault};
+ghost use Rattle.trace_view.specs.Why.{why};
+ghost use Rattle.initview_command.specs.Explaining.{Explains, ExplainsFiles, explanation, files_text, line_by};
 ghost use Rattle.initview_command.specs.Tables.{AreNone, FailsBy};
 
 use crate::growing::{GrowingTexts, Writer};
+use crate::presence::show_present;
 use crate::showing::{Asks, show_file, stop_status};
 use crate::tables::{read_files, report_fault};
 use init_words::{Id, Memory, Part};
@@ -17,7 +19,7 @@ use initview_lines::why_lines;
 use program_io::{DEVICE_FAULT, Texts};
 use std::alloc::{AllocError, Global};
 use std::io::Write;
-use trace_view::{LastLines, SeenText, Stop, TraceView};
+use trace_view::{LastLines, SeenText, Stop, TraceView, Why};
 
 /// Why the id isn't started is asked, and this is told of it behind the answer.
 #[derive(Drop)]
@@ -26,20 +28,37 @@ struct Reason {
     told: Vec<u8>,
 }
 
-/// The reason with the line at fault, and what is told behind it.
+/// The line at fault.
+fn fault_line(id: &Id, view: &TraceView, lines: &LastLines) -> Option<u64>
+    ensures { (past : List Event) → Viewed view.now past → Lined lines.now past
+        → result ≡ line_at_fault id.now (why id.now past) past }
+{
+    lines.line_at_fault(id, view.why(id))
+}
+
+/// The line, where a reason is left.
+fn line_by(reason: Why, line: Option<u64>) -> Option<u64>
+    ensures { result ≡ line_by reason line }
+{
+    match reason {
+        Why::Nothing => None,
+        _ => line,
+    }
+}
+
+/// The reason by now with the line that was at fault, and what is told behind it.
 fn explanation(
     alloc: Global,
     path: &str,
     asked: &Reason,
     view: &TraceView,
-    lines: &LastLines,
+    line: Option<u64>,
 ) -> Result<Vec<u8>, AllocError>
-    ensures { IfOk result (λ text. (past : List Event) → Viewed view.now past
-        → Lined lines.now past
-        → text.items ≡ explanation path.now asked.now.id asked.now.told.items past) }
+    ensures { IfOk result (λ text. (now : List Event) → Viewed view.now now
+        → text.items ≡ explanation path.now asked.now.id asked.now.told.items line now) }
 {
     let id = &asked.id;
-    let line = lines.line_at_fault(id, view.why(id));
+    let line = line_by(view.why(id), line);
     let mut text = why_lines(alloc, view, id, path.as_bytes(), line)?;
     text.extend_from_slice(asked.told.as_slice())?;
     Ok(text)
@@ -51,7 +70,7 @@ impl Asks for Reason {
     type Seen = LastLines;
 
     ghost gives = { λ asked path writer stop past.
-        explained path asked.id asked.told.items stop past };
+        explained path asked.id asked.told.items writer stop past };
 
     fn asks_writer(&self) -> bool {
         true
@@ -66,10 +85,12 @@ impl Asks for Reason {
         alloc: Global,
         path: &str,
         text: &mut SeenText<LastLines>,
-        _writer: Writer,
+        writer: Writer,
         stop: Option<Stop>,
     ) -> Result<(Vec<u8>, u8), Memory> {
-        let said = explanation(alloc, path, self, text.view(), text.seen())?;
+        let line = fault_line(&self.id, text.view(), text.seen());
+        show_present(text, writer, stop)?;
+        let said = explanation(alloc, path, self, text.view(), line)?;
         Ok((said, stop_status(stop)))
     }
 }
@@ -81,14 +102,16 @@ pub(crate) fn explain_file<T: Texts, G: GrowingTexts, W: Write, E: Write>(
     alloc: Global,
     path: &str,
     paths: &[String],
+    folder: Option<&str>,
     id: &Id,
     out: &mut W,
     err: &mut E,
 ) -> u8
-    ensures { Explains (T.text_at texts.now) (G.writer_at growing.now) path.now (map string_bytes paths.now) id.now result
-        (W.contents out.old) (W.contents out.new) }
+    ensures { Explains (T.text_at texts.now) (G.writer_at growing.now) path.now
+        (map string_bytes paths.now) (option_map (λ path. path.now) folder.entry) id.now
+        result (W.contents out.old) (W.contents out.new) }
 {
-    match read_files(texts, alloc, paths, err) {
+    match read_files(texts, growing, alloc, paths, folder, err) {
         Some(files) => explain_files(texts, growing, alloc, path, &files, id, out, err),
         None => DEVICE_FAULT,
     }
@@ -120,8 +143,8 @@ fn explain_files<T: Texts, G: GrowingTexts, W: Write, E: Write>(
     out: &mut W,
     err: &mut E,
 ) -> u8
-    ensures { ExplainsFiles (T.text_at texts.now) (G.writer_at growing.now) path.now files.now id.now result
-        (W.contents out.old) (W.contents out.new) }
+    ensures { ExplainsFiles (T.text_at texts.now) (G.writer_at growing.now) path.now
+        files.now id.now result (W.contents out.old) (W.contents out.new) }
 {
     match files_text(alloc, files, id) {
         Ok(told) => show_file(

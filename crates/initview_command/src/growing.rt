@@ -1,9 +1,12 @@
 //! Texts that may still grow while they are read, and who writes them.
 
-ghost use Rattle.std.specs.Prelude.{◌≡◌, IfOk};
+ghost use Rattle.std.specs.Prelude.{◌≡◌, ◌++◌, List, IfOk, OnOk};
+ghost use Rattle.init_words.specs.Parts.{NamedText};
 ghost use Rattle.program_io.specs.Known.{KnownTexts};
 ghost use Rattle.initview_command.specs.Writers.{IsWriterAt, KnownWriters};
 
+use host_system::{FolderFault, PassedNames, with_folder};
+use init_words::Part;
 use program_io::{KeptTexts, Texts, open_plain};
 use std::alloc::{Allocator, Global};
 use std::fs::{File, Metadata, TryLockError};
@@ -24,7 +27,7 @@ pub enum Writer {
     Init(u64),
 }
 
-/// What opens a text to follow it while it grows, and knows who writes it.
+/// What opens a text to follow it while it grows, knows who writes it, and reads folders.
 ///
 /// A contract sees of it the text that stands at a path, all of it, which ends, and its writer, where they are known.
 pub trait GrowingTexts {
@@ -44,6 +47,16 @@ pub trait GrowingTexts {
     /// Who writes the text at a path: what its lock answers.
     fn writer(&self, path: &str) -> Writer
         ensures { IsWriterAt (writer_at self.now) path.now result };
+
+    /// Adds the files of an inittab's folder, as init takes them, behind those that are there.
+    fn add_folder(
+        &self,
+        alloc: Global,
+        folder: &str,
+        parts: &mut Vec<Part>,
+    ) -> Result<(), FolderFault>
+        ensures { OnOk result ((more : List NamedText)
+            × (parts.new.items ≡ parts.old.items ++ more)) };
 }
 
 /// A text in memory is whole, and has no lock.
@@ -65,6 +78,17 @@ impl<A: Allocator> GrowingTexts for KeptTexts<A> {
     fn writer(&self, _path: &str) -> Writer {
         Writer::Unknown
     }
+
+    /// No folder is kept.
+    fn add_folder(
+        &self,
+        alloc: Global,
+        folder: &str,
+        _parts: &mut Vec<Part>,
+    ) -> Result<(), FolderFault> {
+        let path = String::from_str(alloc, folder)?;
+        Err(FolderFault::Unread(path, Error::from(ErrorKind::NotFound)))
+    }
 }
 
 /// The files of the operating system, which may be written to while they are followed. Nothing is known of their texts,
@@ -81,7 +105,7 @@ impl<'a, R> GrowingFiles<'a, R> {
     }
 }
 
-impl<'a, R: Files<File = File> + Clock> GrowingTexts for GrowingFiles<'a, R> {
+impl<'a, R: Files<File = File> + Clock + Eprint> GrowingTexts for GrowingFiles<'a, R> {
     ghost use Rattle.std.specs.Prelude.{None};
 
     ghost text_at = { λ _ _. None };
@@ -117,6 +141,21 @@ impl<'a, R: Files<File = File> + Clock> GrowingTexts for GrowingFiles<'a, R> {
             Ok(file) => writer_of(self.rt, &file),
             Err(_) => Writer::Unknown,
         }
+    }
+
+    fn add_folder(
+        &self,
+        alloc: Global,
+        folder: &str,
+        parts: &mut Vec<Part>,
+    ) -> Result<(), FolderFault> {
+        let Some(last) = parts.pop() else {
+            return Ok(());
+        };
+        let mut passed = PassedNames::new(alloc, false);
+        let mut more = with_folder(self.rt, alloc, last, Some(folder), &mut passed)?;
+        parts.append(&mut more)?;
+        Ok(())
     }
 }
 

@@ -11,18 +11,18 @@ use inittab_lint::is_slip;
 use program_io::{REFUSED, report_usage};
 use std::io::Write;
 
-/// A command's options, and how many words stand behind it at least and at most.
+/// A command's options, and how many words stand behind it at least and at most. One with files of inittabs takes a folder.
 type Command = (&'static [&'static str], usize, usize);
 
 const COMMANDS: &[(&str, Command)] = &[
-    ("why", (&[], 2, usize::MAX)),
+    ("why", (&["--inittab-dir"], 2, usize::MAX)),
     ("status", (&["--json"], 1, 2)),
     ("left", (&[], 1, 1)),
     ("timeline", (&["--svg", "--width"], 1, 1)),
     ("follow", (&[], 1, 1)),
-    ("lint", (&[], 1, usize::MAX)),
-    ("diff", (&["--trace", "--level"], 2, 2)),
-    ("plan", (&["--level"], 1, usize::MAX)),
+    ("lint", (&["--inittab-dir"], 1, usize::MAX)),
+    ("diff", (&["--trace", "--level", "--inittab-dir"], 2, 2)),
+    ("plan", (&["--level", "--inittab-dir"], 1, usize::MAX)),
 ];
 
 fn command_of(name: &str) -> Option<Command> {
@@ -148,7 +148,12 @@ fn tell_words<E: Write>(name: &str, least: usize, most: usize, words: &[String],
 }
 
 /// Tells why options and words, of which the first is the command, are no command line, and gives the exit status.
-pub(crate) fn report_refusal<E: Write>(options: &[String], words: &[String], err: &mut E) -> u8
+pub(crate) fn report_refusal<E: Write>(
+    folder: &[String],
+    options: &[String],
+    words: &[String],
+    err: &mut E,
+) -> u8
     ensures { result ≡ REFUSED }
 {
     if let [option, ..] = options {
@@ -158,17 +163,23 @@ pub(crate) fn report_refusal<E: Write>(options: &[String], words: &[String], err
     }
     match words {
         [] => report_commands("no command is given", "", None, err),
-        [name, rest @ ..] => report_words(name.as_str(), options, rest, err),
+        [name, rest @ ..] => report_words(name.as_str(), folder, options, rest, err),
     }
 }
 
-fn report_words<E: Write>(name: &str, options: &[String], words: &[String], err: &mut E) -> u8
+fn report_words<E: Write>(
+    name: &str,
+    folder: &[String],
+    options: &[String],
+    words: &[String],
+    err: &mut E,
+) -> u8
     ensures { result ≡ REFUSED }
 {
     let Some((known, least, most)) = command_of(name) else {
         return report_commands("no such command", name, command_meant(name), err);
     };
-    if !tell_options(known, options, err) {
+    if !tell_options(known, options, err) && !tell_options(known, folder, err) {
         tell_words(name, least, most, words, err);
     }
     let usage = usage_of(name);

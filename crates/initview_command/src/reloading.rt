@@ -1,6 +1,6 @@
 //! What becomes of what runs where init reads another inittab, asked for.
 
-ghost use Rattle.std.specs.Prelude.{◌≡◌, ◌∷◌, List, map, string_bytes, OnOk};
+ghost use Rattle.std.specs.Prelude.{◌≡◌, ◌∷◌, List, map, option_map, string_bytes, OnOk};
 ghost use Rattle.trace_events.specs.declared.happenings.Happening.TheVariants.{NewTable};
 ghost use Rattle.trace_events.specs.Event.{Event};
 ghost use Rattle.trace_view.specs.Viewing.{Viewed};
@@ -117,16 +117,18 @@ pub(crate) fn show_reload<T: Texts, G: GrowingTexts, W: Write, E: Write>(
     alloc: Global,
     path: &str,
     paths: &[String],
+    folder: Option<&str>,
     level: Option<Level>,
     out: &mut W,
     err: &mut E,
 ) -> u8
     ensures { Reloads (T.text_at texts.now) (G.writer_at growing.now) path.now
-        (map string_bytes paths.now) level result
+        (map string_bytes paths.now)
+        (option_map (λ path. path.now) folder.entry) level result
         (W.contents out.old) (W.contents out.new) }
 {
-    match read_files(texts, alloc, paths, err) {
-        Some(parts) => show_files(texts, growing, alloc, path, &parts, level, out, err),
+    match read_files(texts, growing, alloc, paths, folder, err) {
+        Some(mut parts) => { show_files(texts, growing, alloc, path, &mut parts, level, out, err) }
         None => DEVICE_FAULT,
     }
 }
@@ -136,13 +138,13 @@ fn show_files<T: Texts, G: GrowingTexts, W: Write, E: Write>(
     growing: &G,
     alloc: Global,
     path: &str,
-    parts: &[Part],
+    parts: &mut [Part],
     level: Option<Level>,
     out: &mut W,
     err: &mut E,
 ) -> u8
-    ensures { ReloadsFiles (T.text_at texts.now) (G.writer_at growing.now) path.now parts.now level result
-        (W.contents out.old) (W.contents out.new) }
+    ensures { ReloadsFiles (T.text_at texts.now) (G.writer_at growing.now) path.now
+        parts.old level result (W.contents out.old) (W.contents out.new) }
 {
     match old_and_new(alloc, parts, err) {
         Ok((old, new)) => {

@@ -1,12 +1,13 @@
 //! What is asked of inittabs, written.
 
-ghost use Rattle.std.specs.Prelude.{◌≡◌, ◌++◌, ◌∷◌, ◌⊎◌, [], map, take, drop, string_bytes, ℕ, List, IfSome, IfOk, IfErr, OnOk};
+ghost use Rattle.std.specs.Prelude.{◌≡◌, ◌++◌, ◌∷◌, [], map, option_map, drop, string_bytes, ℕ, List, IfSome, IfOk, IfErr, OnOk};
 ghost use Rattle.program_io.specs.Known.{IsTextAt};
 ghost use Rattle.init_words.specs.Parts.{NamedText};
 ghost use Rattle.initview_command.specs.declared.asking.TableQuestion.TheVariants as table_question;
-ghost use Rattle.initview_command.specs.Tables.{Answers, AnswersOf, AreFilesAt, AreNone, FailsBy, IsAnswer, IsRefused, changes_by, fault_status, found_status, level_asked, plan_by, table_in};
+ghost use Rattle.initview_command.specs.Tables.{Answers, AnswersOf, AreFiles, AreFilesAt, AreNone, FailsBy, IsAnswer, IsFolderBehind, IsRefused, NoneOf, changes_by, fault_status, found_status, level_asked, old_of, plan_by, table_in};
 
 use crate::asking::TableQuestion;
+use crate::growing::GrowingTexts;
 use crate::showing::write_answer;
 use crate::telling::report_unread;
 use init_words::{Level, Part};
@@ -31,7 +32,7 @@ fn add_file<T: Texts>(texts: &T, alloc: Global, path: &str, parts: &mut Vec<Part
 }
 
 /// Reads the files of the paths, in their order. One that can't be read is told, and none is given.
-pub(crate) fn read_files<T: Texts, E: Write>(
+fn read_named<T: Texts, E: Write>(
     texts: &T,
     alloc: Global,
     paths: &[String],
@@ -50,6 +51,46 @@ pub(crate) fn read_files<T: Texts, E: Write>(
         rest = others;
     }
     Some(parts)
+}
+
+/// The files, and behind them those of a folder, where one is named. One that can't be read is told, and none is given.
+fn with_those_of<G: GrowingTexts, E: Write>(
+    growing: &G,
+    alloc: Global,
+    mut parts: Vec<Part>,
+    folder: Option<&str>,
+    err: &mut E,
+) -> Option<Vec<Part>>
+    ensures { IfSome result (λ all.
+        IsFolderBehind (option_map (λ path. path.now) folder.entry) parts.items all.items) }
+{
+    match folder {
+        None => Some(parts),
+        Some(folder) => match growing.add_folder(alloc, folder, &mut parts) {
+            Ok(()) => Some(parts),
+            Err(fault) => {
+                let _ = writeln!(err, "initview: {fault}");
+                None
+            }
+        },
+    }
+}
+
+/// Reads the files of the paths, in their order, and behind them those of a folder, where one is named. One that can't be
+/// read is told, and none is given.
+pub(crate) fn read_files<T: Texts, G: GrowingTexts, E: Write>(
+    texts: &T,
+    growing: &G,
+    alloc: Global,
+    paths: &[String],
+    folder: Option<&str>,
+    err: &mut E,
+) -> Option<Vec<Part>>
+    ensures { IfSome result (λ parts. AreFiles (T.text_at texts.now) (map string_bytes paths.now)
+        (option_map (λ path. path.now) folder.entry) parts.items) }
+{
+    let parts = read_named(texts, alloc, paths, err)?;
+    with_those_of(growing, alloc, parts, folder, err)
 }
 
 /// The exit status of what was found: 1 with faults, 2 with warnings alone.
@@ -118,24 +159,27 @@ fn lint_answer(alloc: Global, parts: &[Part]) -> Result<(Vec<u8>, u8), TableFaul
     }
 }
 
-/// The old inittab of a diff: the first file.
-fn old_of(parts: &[Part]) -> &[Part]
-    ensures { result.now ≡ take 1 parts.now }
-{
-    match parts {
-        [] => parts,
-        [_, ..] => &parts[..1],
-    }
-}
-
-/// The new one: the others.
-fn new_of(parts: &[Part]) -> &[Part]
+/// The files behind the first.
+fn behind_first(parts: &[Part]) -> &[Part]
     ensures { result.now ≡ drop 1 parts.now }
 {
     match parts {
         [] => parts,
         [_, others @ ..] => others,
     }
+}
+
+/// The files of the old inittab of a diff, as a slice: the second file is put before the first, since both tables go on in
+/// the files behind them.
+#[tactic(auto, using(crate::proofs::Files::old_short, crate::proofs::Files::old_swapped))]
+fn old_of(parts: &mut [Part]) -> &[Part]
+    ensures { result.now ≡ old_of parts.old }
+{
+    if parts.len() < 2 {
+        return parts;
+    }
+    parts.swap(0, 1);
+    behind_first(parts)
 }
 
 /// What becomes of the entries of one inittab where another is read in its place.
@@ -161,12 +205,12 @@ fn plan_of(alloc: Global, level: Option<Level>, table: &Table) -> Result<Vec<u8>
 fn answer<E: Write>(
     alloc: Global,
     question: TableQuestion,
-    parts: &[Part],
+    parts: &mut [Part],
     err: &mut E,
 ) -> Result<(Vec<u8>, u8), TableFault>
     ensures told { IfOk result (λ given.
-        IsAnswer question parts.now given.0.items given.1) }
-    ensures fault { IfErr result (FailsBy (IsRefused question parts.now)) }
+        IsAnswer question parts.old given.0.items given.1) }
+    ensures fault { IfErr result (FailsBy (IsRefused question parts.old)) }
 {
     match question {
         TableQuestion::Lint => lint_answer(alloc, parts),
@@ -178,20 +222,19 @@ fn answer<E: Write>(
 /// The old and the new table of a diff.
 pub(crate) fn old_and_new<E: Write>(
     alloc: Global,
-    parts: &[Part],
+    parts: &mut [Part],
     err: &mut E,
 ) -> Result<(Table, Table), TableFault>
-    ensures tables { IfOk result (λ both. (both.0 ≡ table_in (take 1 parts.now))
-        × (both.1 ≡ table_in (drop 1 parts.now))) }
-    ensures fault { IfErr result
-        (FailsBy (AreNone (take 1 parts.now) ⊎ AreNone (drop 1 parts.now))) }
+    ensures tables { IfOk result (λ both. (both.0 ≡ table_in (old_of parts.old))
+        × (both.1 ≡ table_in (drop 1 parts.old))) }
+    ensures fault { IfErr result (FailsBy (NoneOf parts.old)) }
 {
-    let old = match table_in(alloc, old_of(parts), err) {
+    let new = match table_in(alloc, behind_first(parts), err) {
         Ok(table) => table,
         Err(fault) => return Err(fault),
     };
-    match table_in(alloc, new_of(parts), err) {
-        Ok(new) => Ok((old, new)),
+    match table_in(alloc, old_of(parts), err) {
+        Ok(old) => Ok((old, new)),
         Err(fault) => Err(fault),
     }
 }
@@ -199,13 +242,12 @@ pub(crate) fn old_and_new<E: Write>(
 fn diff_answer<E: Write>(
     alloc: Global,
     level: Option<Level>,
-    parts: &[Part],
+    parts: &mut [Part],
     err: &mut E,
 ) -> Result<(Vec<u8>, u8), TableFault>
     ensures told { IfOk result (λ given.
-        IsAnswer (table_question.Diff level) parts.now given.0.items given.1) }
-    ensures fault { IfErr result
-        (FailsBy (AreNone (take 1 parts.now) ⊎ AreNone (drop 1 parts.now))) }
+        IsAnswer (table_question.Diff level) parts.old given.0.items given.1) }
+    ensures fault { IfErr result (FailsBy (NoneOf parts.old)) }
 {
     let (old, new) = match old_and_new(alloc, parts, err) {
         Ok(both) => both,
@@ -259,11 +301,11 @@ pub(crate) fn report_fault<E: Write>(fault: TableFault, err: &mut E) -> u8
 fn show_parts<W: Write, E: Write>(
     alloc: Global,
     question: TableQuestion,
-    parts: &[Part],
+    parts: &mut [Part],
     out: &mut W,
     err: &mut E,
 ) -> u8
-    ensures { AnswersOf question parts.now result (W.contents out.old) (W.contents out.new) }
+    ensures { AnswersOf question parts.old result (W.contents out.old) (W.contents out.new) }
 {
     match answer(alloc, question, parts, err) {
         Ok((text, status)) => write_answer(&text, status, out, err),
@@ -272,19 +314,22 @@ fn show_parts<W: Write, E: Write>(
 }
 
 /// Reads the files of inittabs, writes what is answered of them, and gives the exit status.
-pub(crate) fn show_files<T: Texts, W: Write, E: Write>(
+pub(crate) fn show_files<T: Texts, G: GrowingTexts, W: Write, E: Write>(
     texts: &T,
+    growing: &G,
     alloc: Global,
     paths: &[String],
+    folder: Option<&str>,
     question: TableQuestion,
     out: &mut W,
     err: &mut E,
 ) -> u8
-    ensures { Answers (T.text_at texts.now) (map string_bytes paths.now) question result
+    ensures { Answers (T.text_at texts.now) (map string_bytes paths.now)
+        (option_map (λ path. path.now) folder.entry) question result
         (W.contents out.old) (W.contents out.new) }
 {
-    match read_files(texts, alloc, paths, err) {
-        Some(parts) => show_parts(alloc, question, &parts, out, err),
+    match read_files(texts, growing, alloc, paths, folder, err) {
+        Some(mut parts) => show_parts(alloc, question, &mut parts, out, err),
         None => DEVICE_FAULT,
     }
 }

@@ -1,7 +1,7 @@
-use Rattle.std.proofs.Common.{inl, inr, subst, drop, take}
+use Rattle.std.proofs.Common.{inl, inr, subst, drop}
 use Rattle.initview_command.specs.Reloading.{reload_answer}
 use Rattle.initview_command.specs.Showing.{Shows}
-use Rattle.initview_command.specs.Tables.{table_in}
+use Rattle.initview_command.specs.Tables.{old_of, table_in}
 use Rattle.initview_command.proofs.Shown.{fails_by}
 use Rattle.initview_command.proofs.reloading.show_files.Goals as goal
 

@@ -3,7 +3,7 @@ use Rattle.std.proofs.lemmas.List.{append-nil, nil_from_length}
 use Rattle.program_io.specs.Known.{IsTextAt}
 use Rattle.initview_command.specs.Tables.{AreFilesAt}
 use Rattle.initview_command.proofs.Files.{file_of, one_more}
-use Rattle.initview_command.proofs.tables.read_files.Goals as goal
+use Rattle.initview_command.proofs.tables.read_named.Goals as goal
 
 pub loop-path-init : goal.loop-path-init
 loop-path-init g c = λ more files. rw c.new-parts.ensures.items files

@@ -1,7 +1,7 @@
 use Rattle.std.proofs.Common.{◌++◌, List, length, map, string_bytes}
 use Rattle.init_words.specs.Parts.{NamedText}
 use Rattle.initview_command.specs.Tables.{AreFilesAt}
-use Rattle.initview_command.proofs.tables.read_files.Given as goal
+use Rattle.initview_command.proofs.tables.read_named.Given as goal
 
 -- with the files of the later paths, these are the files of all paths
 abbrev pub invariant-loop-path : goal.invariant-loop-path
