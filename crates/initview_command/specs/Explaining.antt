@@ -35,9 +35,6 @@ abbrev pub explained : List ℕ → List ℕ → List ℕ → Writer → Option 
 explained path id told writer stop past =
     (explanation path id told (line_at_fault id (why id past) past) (present writer stop past), stop_status stop)
 
-abbrev pub explained : List ℕ → List ℕ → List ℕ → Option Stop → List Event → List ℕ × ℕ
-explained path id told stop past = (explanation path id told past, stop_status stop)
-
 -- so of the trace at the path, with the inittab of these files; or they are too many or too long, or memory ran out, and
 -- nothing was written
 abbrev pub ExplainsFiles : KnownTexts → KnownWriters → List ℕ → List NamedText → List ℕ → ℕ → Option (List ℕ) → Option (List ℕ) → Type 0
