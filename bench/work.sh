@@ -1,6 +1,6 @@
 #!/bin/bash
 # What `initd run` costs at work, with default pauses: entries that wait for each other, children that sleep, requests
-# that come at once, and requests while children die and are respawned.
+# that come at once, requests while children die and are respawned, and rest over a bell.
 # usage: bench/work.sh INITD TELINIT     (as `rt run` leaves them in crates/initd/out/initd, crates/telinit/out/telinit)
 set -eu
 initd=$(realpath "$1")
@@ -109,3 +109,36 @@ sleep 2
 end
 echo "20000 requests while 200 children die five times: $(grep -c '^got ' trace) heard," \
     "$(grep -c '^birth ' trace) births, $("$initd" check trace)"
+
+# the middle of these numbers, a line each
+middle() { sort -n | awk '{ it[NR] = $1 } END { print it[int((NR + 1) / 2)] }'; }
+
+# at rest over ten children, with a bell and a brief trace
+rm -f initctl trace
+awk 'BEGIN { for (i = 0; i < 10; i++) printf "%03x:3:respawn:sleep 600\n", i }' > inittab
+"$initd" run --level 3 --bell --trace trace --brief > said 2>&1 &
+pid=$!
+until_heard settle 1
+sleep 5
+before=$(used $pid)
+sleep 20
+echo "ten children at rest, with a bell: $(awk -v a="$before" -v b="$(used $pid)" 'BEGIN { print (b - a) / 20 }')" \
+    "milliseconds a second"
+for number in $(seq 1 15); do
+    sleep 1.7
+    begin=$(date +%s.%N)
+    "$telinit" A
+    until_heard 'got ' "$number"
+    since "$begin"
+done > heard
+for number in $(seq 11 25); do
+    sleep 2.3
+    child=$(pgrep -P $pid sleep | head -1)
+    begin=$(date +%s.%N)
+    kill "$child"
+    until_heard 'birth ' "$number"
+    since "$begin"
+done > respawned
+end
+echo "a request that is rung: heard after $(middle < heard) seconds at the middle;" \
+    "a child that dies: respawned after $(middle < respawned)"
