@@ -487,7 +487,8 @@ fn run_line<T: Texts, F: LinkFolders, W: Write, E: Write>(
 
 /// The same line with other files.
 fn over<'w>(line: Line<'w>, files: &'w [String]) -> Line<'w>
-    ensures { line_said result ≡ record (line_said line.entry) { files = map string_bytes files.entry.now } }
+    ensures { line_said result
+        ≡ record (line_said line.entry) { files = map string_bytes files.entry.now } }
 {
     Line { files, ..line }
 }
