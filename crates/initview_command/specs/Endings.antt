@@ -18,7 +18,8 @@ use Rattle.initview_command.specs.Tables.{Answers}
 use Rattle.initview_command.specs.Writers.{KnownWriters}
 
 -- what is asked of the trace at a path, or of files, is done
-abbrev pub Does : KnownTexts → KnownTexts → KnownWriters → List ℕ → List (List ℕ) → Option (List ℕ) → What → ℕ → Option (List ℕ) → Option (List ℕ) → Type 0
+abbrev pub Does : KnownTexts → KnownTexts → KnownWriters → List ℕ → List (List ℕ) → Option (List ℕ) → What → ℕ
+    → Option (List ℕ) → Option (List ℕ) → Type 0
 Does text_at growing_at writers path files folder (Show question) status old new =
     Shows text_at writers path (answer_by question) status old new
 Does text_at growing_at writers path files folder (Draw form) status old new =
@@ -32,24 +33,28 @@ Does text_at growing_at writers path files folder (Tables question) status old n
     Answers text_at files folder question status old new
 
 -- so of options and other words; where they ask nothing they are refused, and nothing was written
-abbrev pub EndsOf : KnownTexts → KnownTexts → KnownWriters → Option (List ℕ) → List (List ℕ) → List (List ℕ) → Option What → ℕ → Option (List ℕ) → Option (List ℕ) → Type 0
+abbrev pub EndsOf : KnownTexts → KnownTexts → KnownWriters → Option (List ℕ) → List (List ℕ) → List (List ℕ)
+    → Option What → ℕ → Option (List ℕ) → Option (List ℕ) → Type 0
 EndsOf text_at growing_at writers folder options words (Some what) status old new =
     Does text_at growing_at writers (trace_of what options words) (files_of what words) folder what status old new
 EndsOf text_at growing_at writers folder options words None status old new = (status ≡ REFUSED) × Keeps old new
 
 -- so of words that don't ask for the version; or memory ran out, and nothing was written
-abbrev pub EndsOn : KnownTexts → KnownTexts → KnownWriters → List (List ℕ) → List (List ℕ) → List (List ℕ) → ℕ → Option (List ℕ) → Option (List ℕ) → Type 0
+abbrev pub EndsOn : KnownTexts → KnownTexts → KnownWriters → List (List ℕ) → List (List ℕ) → List (List ℕ) → ℕ
+    → Option (List ℕ) → Option (List ℕ) → Type 0
 EndsOn text_at growing_at writers folder options words status old new =
     EndsOf text_at growing_at writers (folder_of folder) options words (with_folder folder (what_of options words))
     status old new
     ⊎ ((status ≡ DEVICE_FAULT) × Keeps old new)
 
-abbrev pub EndsAs : Bool → KnownTexts → KnownTexts → KnownWriters → List (List ℕ) → ℕ → Option (List ℕ) → Option (List ℕ) → Type 0
+abbrev pub EndsAs : Bool → KnownTexts → KnownTexts → KnownWriters → List (List ℕ) → ℕ → Option (List ℕ)
+    → Option (List ℕ) → Type 0
 EndsAs true text_at growing_at writers words status old new = PrintsVersion (codes "initview") status old new
 EndsAs false text_at growing_at writers words status old new =
     EndsOn text_at growing_at writers (picked kind.Folder None words) (picked kind.Option None words)
     (picked kind.Word None words) status old new
 
-abbrev pub EndsBy : KnownTexts → KnownTexts → KnownWriters → List (List ℕ) → ℕ → Option (List ℕ) → Option (List ℕ) → Type 0
+abbrev pub EndsBy : KnownTexts → KnownTexts → KnownWriters → List (List ℕ) → ℕ → Option (List ℕ) → Option (List ℕ)
+    → Type 0
 EndsBy text_at growing_at writers words status old new =
     EndsAs (asks_version words) text_at growing_at writers words status old new

@@ -37,13 +37,15 @@ explained path id told writer stop past =
 
 -- so of the trace at the path, with the inittab of these files; or they are too many or too long, or memory ran out, and
 -- nothing was written
-abbrev pub ExplainsFiles : KnownTexts → KnownWriters → List ℕ → List NamedText → List ℕ → ℕ → Option (List ℕ) → Option (List ℕ) → Type 0
+abbrev pub ExplainsFiles : KnownTexts → KnownWriters → List ℕ → List NamedText → List ℕ → ℕ → Option (List ℕ)
+    → Option (List ℕ) → Type 0
 ExplainsFiles text_at writers path files id status old new =
     Shows text_at writers path (explained path id (files_text id files)) status old new
     ⊎ ((status ≡ REFUSED) × AreNone files × Keeps old new)
 
 -- so of the files at the paths; or one was not read, and nothing was written
-abbrev pub Explains : KnownTexts → KnownWriters → List ℕ → List (List ℕ) → Option (List ℕ) → List ℕ → ℕ → Option (List ℕ) → Option (List ℕ) → Type 0
+abbrev pub Explains : KnownTexts → KnownWriters → List ℕ → List (List ℕ) → Option (List ℕ) → List ℕ → ℕ
+    → Option (List ℕ) → Option (List ℕ) → Type 0
 Explains text_at writers path paths folder id status old new =
     ((files : List NamedText) × AreFiles text_at paths folder files
     × ExplainsFiles text_at writers path files id status old new)

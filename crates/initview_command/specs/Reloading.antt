@@ -22,14 +22,16 @@ reload_answer old new level stop past = (reload_said old new level past, stop_st
 
 -- so of the tables of two files, the old inittab and the new one; or one is too long or memory ran out, and nothing was
 -- written
-abbrev pub ReloadsFiles : KnownTexts → KnownWriters → List ℕ → List NamedText → Option Level → ℕ → Option (List ℕ) → Option (List ℕ) → Type 0
+abbrev pub ReloadsFiles : KnownTexts → KnownWriters → List ℕ → List NamedText → Option Level → ℕ → Option (List ℕ)
+    → Option (List ℕ) → Type 0
 ReloadsFiles text_at writers path parts level status old new =
     Shows text_at writers path (λ writer. reload_answer (table_in (old_of parts)) (table_in (drop 1 parts)) level)
     status old new
     ⊎ ((status ≡ REFUSED) × NoneOf parts × Keeps old new)
 
 -- so of the files at the paths; or one was not read, and nothing was written
-abbrev pub Reloads : KnownTexts → KnownWriters → List ℕ → List (List ℕ) → Option (List ℕ) → Option Level → ℕ → Option (List ℕ) → Option (List ℕ) → Type 0
+abbrev pub Reloads : KnownTexts → KnownWriters → List ℕ → List (List ℕ) → Option (List ℕ) → Option Level → ℕ
+    → Option (List ℕ) → Option (List ℕ) → Type 0
 Reloads text_at writers path paths folder level status old new =
     ((parts : List NamedText) × AreFiles text_at paths folder parts
     × ReloadsFiles text_at writers path parts level status old new)

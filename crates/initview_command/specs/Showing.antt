@@ -71,9 +71,10 @@ ShowsBy false answer status old new = Writes answer.0 answer.1 status old new
 abbrev pub ShowsOf : Option Stop → List ℕ × ℕ → ℕ → Option (List ℕ) → Option (List ℕ) → Type 0
 ShowsOf stop answer status old new = ShowsBy (is_within stop) answer status old new
 
--- so of what a view shows of the text at the path, which breaks no law, and is written by whom its lock names; or it was
--- not read, and nothing was written
-abbrev pub Shows : KnownTexts → KnownWriters → List ℕ → (Writer → Option Stop → List Event → List ℕ × ℕ) → ℕ → Option (List ℕ) → Option (List ℕ) → Type 0
+-- so of what a view shows of the text at the path, which breaks no law, and is written by whom its lock names; or it
+-- was not read, and nothing was written
+abbrev pub Shows : KnownTexts → KnownWriters → List ℕ → (Writer → Option Stop → List Event → List ℕ × ℕ) → ℕ
+    → Option (List ℕ) → Option (List ℕ) → Type 0
 Shows text_at writers path gives status old new =
     ((text : List ℕ) × (writer : Writer) × (stop : Option Stop) × (left : Option ℕ) × (trace : List Event)
     × IsTextAt text_at path text × IsWriterAt writers path writer

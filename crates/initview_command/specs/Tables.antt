@@ -103,7 +103,8 @@ AnswersOf asked parts status old new =
     ⊎ ((status ≡ REFUSED) × IsRefused asked parts × Keeps old new)
 
 -- so of the files at the paths; or one was not read, and nothing was written
-abbrev pub Answers : KnownTexts → List (List ℕ) → Option (List ℕ) → TableQuestion → ℕ → Option (List ℕ) → Option (List ℕ) → Type 0
+abbrev pub Answers : KnownTexts → List (List ℕ) → Option (List ℕ) → TableQuestion → ℕ → Option (List ℕ)
+    → Option (List ℕ) → Type 0
 Answers text_at paths folder asked status old new =
     ((parts : List NamedText) × AreFiles text_at paths folder parts × AnswersOf asked parts status old new)
     ⊎ ((status ≡ DEVICE_FAULT) × Keeps old new)

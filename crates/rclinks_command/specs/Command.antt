@@ -129,7 +129,8 @@ abbrev pub writes : Line → Bool
 writes line = is_some line.dir && not line.dry
 
 -- what is done in the folders of a directory: the changes by which they hold a plan's links are printed, or made
-abbrev pub DoesIn : Bool → Bool → KnownScripts → KnownFolders → List ℕ → KnownFolders → Option (List ℕ) → Option (List ℕ)
+abbrev pub DoesIn : Bool → Bool → KnownScripts → KnownFolders → List ℕ → KnownFolders → Option (List ℕ)
+    → Option (List ℕ)
     → List PlannedText → Type 0
 DoesIn true prunes scripts before dir after old new plan =
     (text : List ℕ) × Previews before scripts prunes dir plan text × Appends old new text
@@ -148,7 +149,8 @@ Does text_at line scripts before after old new =
     PlanOf text_at line (DoesBy line.dir line scripts before after old new)
 
 -- as far as it came: a prefix of the text, or the first of the changes
-abbrev pub PartIn : Bool → Bool → KnownScripts → KnownFolders → List ℕ → KnownFolders → Option (List ℕ) → Option (List ℕ)
+abbrev pub PartIn : Bool → Bool → KnownScripts → KnownFolders → List ℕ → KnownFolders → Option (List ℕ)
+    → Option (List ℕ)
     → List PlannedText → Type 0
 PartIn true prunes scripts before dir after old new plan =
     (text : List ℕ) × Previews before scripts prunes dir plan text × AppendsPrefix old new text
@@ -180,7 +182,7 @@ abbrev pub IsRefusedBy : KnownTexts → Line → KnownScripts → KnownFolders �
 IsRefusedBy text_at line scripts before =
     IsRefusedFor text_at line.skips line.files ⊎ PlanOf text_at line (TakenBy line.dir line scripts before)
 
--- why a run on what words ask for, with these facility files, is refused: the usage is wanted, or the run on the files is
+-- why a run on what words ask for, with these facility files, is refused: the usage is wanted, or that on the files is
 abbrev pub IsRefusedRun : KnownTexts → List (List ℕ) → Line → KnownScripts → KnownFolders → Type 0
 IsRefusedRun text_at facilities line scripts before =
     (wants_usage line.files ≡ true) ⊎ IsRefusedBy text_at (line_with facilities line) scripts before

@@ -43,7 +43,8 @@ pub record IsFolder (known : KnownFolders) (dir : List ℕ) (plan : List Planned
   pub held : (es : List EntryText) → known dir f.level ≡ Some es → f.held ≡ es
 
 -- the folders of all runlevels
-pub record AreFolders (known : KnownFolders) (dir : List ℕ) (plan : List PlannedText) (folders : List FolderText) : Type 0 where
+pub record AreFolders (known : KnownFolders) (dir : List ℕ) (plan : List PlannedText)
+    (folders : List FolderText) : Type 0 where
   pub each : AllByRecursion (IsFolder known dir plan) folders
   pub levels : map (λ (f : FolderText). f.level) folders ≡ all_levels
 
@@ -93,7 +94,8 @@ IsTaken known scripts prunes dir plan = (folders : List FolderText) × (targets 
     × (has_taken targets folders ≡ true)
 
 -- no such name is taken, and these are the changes that the folders need
-pub record Wants (known : KnownFolders) (scripts : KnownScripts) (prunes : Bool) (dir : List ℕ) (plan : List PlannedText)
+pub record Wants (known : KnownFolders) (scripts : KnownScripts) (prunes : Bool) (dir : List ℕ)
+    (plan : List PlannedText)
     (changes : List ChangeText) : Type 0 where
   pub folders : List FolderText
   pub targets : List (List ℕ)
