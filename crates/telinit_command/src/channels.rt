@@ -74,7 +74,9 @@ impl<R: Files<File = File> + Alloc + Eprint + Clone + Drop> Channels for OsChann
             was_made: channel.was_made,
             length: channel.length,
             is_read: match channel.is_read() {
-                Ok(false) => Ok(is_read_before(self.rt, self.alloc, path)),
+                Ok(false) if is_read_before(self.rt, self.alloc, path) => Ok(true),
+                // An init may have gone over to this file meanwhile.
+                Ok(false) => channel.is_read(),
                 told => told,
             },
         };
