@@ -14,11 +14,11 @@ use trace_log::{EndedLog, Log, LogFault, StreamLog};
 pub(crate) struct NoLog {}
 
 impl Log for NoLog {
-    ghost use Rattle.std.specs.Prelude.{false, ⊤};
+    ghost use Rattle.std.specs.Prelude.{false, None, ⊤};
     ghost use Rattle.trace_log.specs.Logs.{LogState};
 
     ghost state = { λ _.
-        let nothing : LogState = record { taken = λ _. ⊤; failed = false } in nothing };
+        let nothing : LogState = record { taken = λ _. ⊤; failed = false; noted = None } in nothing };
 
     fn take<B: Allocator>(&mut self, _happening: &HappeningIn<B>) -> Result<(), LogFault> {
         Ok(())
@@ -354,11 +354,11 @@ fn say_occupied(rt: &impl Eprint, path: &str, is_off: bool) -> io::Result<()> {
 }
 
 impl<R: Files<File = File> + Eprint> Log for FileLog<'_, R> {
-    ghost use Rattle.std.specs.Prelude.{false, ⊤};
+    ghost use Rattle.std.specs.Prelude.{false, None, ⊤};
     ghost use Rattle.trace_log.specs.Logs.{LogState};
 
     ghost state = { λ _.
-        let unknown : LogState = record { taken = λ _. ⊤; failed = false } in unknown };
+        let unknown : LogState = record { taken = λ _. ⊤; failed = false; noted = None } in unknown };
 
     fn take<B: Allocator>(&mut self, happening: &HappeningIn<B>) -> Result<(), LogFault> {
         self.write(happening);
