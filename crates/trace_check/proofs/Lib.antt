@@ -1,4 +1,5 @@
 pub mod Bearing
+pub mod Calm
 pub mod Found
 pub mod Judging
 pub mod Keeping

@@ -1,5 +1,5 @@
 -- The law that a happening breaks, by the state and the table.
-use Rattle.std.specs.Prelude.{ℕ, Bool, false, not, ◌&&◌, ◌||◌, ◌-◌, if◌then◌else◌, nat_lt, nat_le, List, slice_get, find, Option, Some, None, is_some}
+use Rattle.std.specs.Prelude.{◌≡◌, IsTrue, ℕ, Bool, true, false, not, ◌&&◌, ◌||◌, ◌-◌, if◌then◌else◌, nat_lt, nat_le, List, slice_get, find, Option, Some, None, is_some}
 use Rattle.std.specs.Map.{keys_of}
 use Rattle.std.specs.Option.{option_map_or}
 use Rattle.std.specs.List.{list_any, list_all}
@@ -12,7 +12,7 @@ use Rattle.init_words.specs.Levels.{names}
 use Rattle.init_words.specs.Actions.{wanted_by, is_limited, served_by}
 use Rattle.init_words.specs.Entries.{waited_of}
 use Rattle.inittab_text.specs.Tables.{entry_of, act_of}
-use Rattle.trace_events.specs.declared.happenings.Happening.TheVariants.{Asked, Hold, Settle, Birth}
+use Rattle.trace_events.specs.declared.happenings.Happening.TheVariants.{NewTable, Enter, Asked, Hold, Settle, Birth}
 use Rattle.trace_events.specs.Event.{Event}
 use Rattle.trace_events.specs.Wanted.{starts_in, is_order, entries_before}
 use Rattle.trace_events.specs.Wishes.{is_level}
@@ -29,6 +29,18 @@ is_excluded_in table s id = excludes table s.stage (λ i. at i s.children) id
 
 abbrev pub none_excluded_in : List Entry → JudgeState → Bool
 none_excluded_in table s = not (list_any (is_excluded_in table s) (keys_of s.children))
+
+-- where it is known to be calm, no child is excluded
+abbrev pub IsCalm : Bool → List Entry → JudgeState → Type 0
+IsCalm calm table s = IsTrue calm → (id : List ℕ) → is_excluded_in table s id ≡ false
+
+-- it is so after a birth or a settled level that breaks no law, until a stage or a table excludes children
+abbrev pub calm_after : Event → Bool → Bool
+calm_after (Birth id number) calm = true
+calm_after (Settle level) calm = true
+calm_after (Enter stage grace) calm = false
+calm_after (NewTable table) calm = false
+calm_after _ calm = calm
 
 abbrev pub is_placed_in : List Entry → JudgeState → List ℕ → Bool
 is_placed_in table s id = option_map_or (λ e. starts_in e s.stage) (entry_of id table) false

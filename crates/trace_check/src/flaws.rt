@@ -2,7 +2,7 @@
 
 ghost use Rattle.std.specs.Prelude.{◌≡◌, not, if◌then◌else◌, option_map, option_copied};
 ghost use Rattle.trace_check.specs.Laws.{law_number};
-ghost use Rattle.trace_check.specs.Flaws.{is_limited_in};
+ghost use Rattle.trace_check.specs.Flaws.{is_limited_in, calm_after};
 
 use crate::judge::Judge;
 use crate::laws::Law;
@@ -29,19 +29,24 @@ impl<A: Allocator> Judge<A> {
     ghost use Rattle.std.specs.Map.{keys_of};
     ghost use Rattle.std.specs.List.{list_any, list_all};
     ghost use Rattle.trace_events.specs.Wishes.{is_level};
-    ghost use Rattle.trace_check.specs.Flaws.{is_alive, is_excluded_in, none_excluded_in, is_placed_in, is_starting, is_wanted_in, is_owed_in, is_in_turn_in, first_owed_in, is_held_in, is_full_in, is_free_in, is_due_hold_in, is_served_in, is_settled_in, is_over_in, may_kill_in, flaw_of_birth, flaw_in};
+    ghost use Rattle.trace_check.specs.Flaws.{is_alive, is_excluded_in, none_excluded_in, IsCalm, is_placed_in, is_starting, is_wanted_in, is_owed_in, is_in_turn_in, first_owed_in, is_held_in, is_full_in, is_free_in, is_due_hold_in, is_served_in, is_settled_in, is_over_in, may_kill_in, flaw_of_birth, flaw_in};
 
     /// The least law that the happening breaks, where `table` is in force before it.
     pub(crate) fn flaw<B: Allocator>(
         &self,
         table: &Table<A>,
+        calm: bool,
         happening: &HappeningIn<B>,
     ) -> Option<Law>
+        requires { IsCalm calm table.now self.now }
         ensures { option_map law_number result ≡ flaw_in table.now self.now happening.now }
     {
         match happening {
-            Happening::Birth(id, _) => self.flaw_of_birth(table, id),
-            Happening::Settle(level) => unless(self.is_settled(*level, table), Law::NotSettled),
+            Happening::Birth(id, _) => self.flaw_of_birth(table, calm, id),
+            Happening::Settle(level) => unless(
+                self.is_settled(*level, table, calm),
+                Law::NotSettled,
+            ),
             Happening::Asked(id, OrderKind::Start) => unless(
                 self.is_free(table, id),
                 Law::RespawnLimit,
@@ -59,7 +64,8 @@ impl<A: Allocator> Judge<A> {
         }
     }
 
-    fn flaw_of_birth(&self, table: &Table<A>, id: &Id) -> Option<Law>
+    fn flaw_of_birth(&self, table: &Table<A>, calm: bool, id: &Id) -> Option<Law>
+        requires { IsCalm calm table.now self.now }
         ensures { option_map law_number result ≡ flaw_of_birth table.now self.now id.now }
     {
         if self.is_alive(id) {
@@ -69,7 +75,7 @@ impl<A: Allocator> Judge<A> {
         } else if !self.is_in_turn(table, id) {
             Some(Law::OutOfTurn)
         } else {
-            unless(self.none_excluded(table), Law::BesideExcluded)
+            unless(self.none_excluded(table, calm), Law::BesideExcluded)
         }
     }
 
@@ -86,10 +92,12 @@ impl<A: Allocator> Judge<A> {
         excludes(table, self.stage, &self.children, id)
     }
 
-    fn none_excluded(&self, table: &Table<A>) -> bool
+    /// No child is excluded. The children are walked only where that isn't known.
+    fn none_excluded(&self, table: &Table<A>, calm: bool) -> bool
+        requires { IsCalm calm table.now self.now }
         ensures { result ≡ none_excluded_in table.now self.now }
     {
-        !self.any_excluded(table)
+        calm || !self.any_excluded(table)
     }
 
     fn any_excluded(&self, table: &Table<A>) -> bool
@@ -229,10 +237,11 @@ impl<A: Allocator> Judge<A> {
         }
     }
 
-    pub(crate) fn is_settled(&self, level: Level, table: &Table<A>) -> bool
+    pub(crate) fn is_settled(&self, level: Level, table: &Table<A>, calm: bool) -> bool
+        requires { IsCalm calm table.now self.now }
         ensures { result ≡ is_settled_in level table.now self.now }
     {
-        self.is_in_level(level) && self.none_excluded(table) && self.all_served(level, table)
+        self.is_in_level(level) && self.none_excluded(table, calm) && self.all_served(level, table)
     }
 
     /// The grace since the first TERM in the child's spell is over.
@@ -249,6 +258,17 @@ impl<A: Allocator> Judge<A> {
         ensures { result ≡ may_kill_in table.now self.now id.now }
     {
         self.is_excluded(table, id) && self.is_over(id)
+    }
+}
+
+/// After a happening that broke no law no child is excluded for sure, where `calm` said so of those before.
+pub(crate) fn calm_after<B: Allocator>(happening: &HappeningIn<B>, calm: bool) -> bool
+    ensures { result ≡ calm_after happening.now calm }
+{
+    match happening {
+        Happening::Birth(..) | Happening::Settle(_) => true,
+        Happening::Enter(..) | Happening::NewTable(_) => false,
+        _ => calm,
     }
 }
 

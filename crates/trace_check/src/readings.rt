@@ -103,7 +103,7 @@ impl<A: Allocator> TraceJudge<A> {
     {
         // It says that no id stands twice.
         let _len = self.table.len();
-        self.judge.is_settled(level, &self.table)
+        self.judge.is_settled(level, &self.table, self.calm)
     }
 
     /// When the first TERM of the spell of the id's unreaped child was told.

@@ -6,6 +6,7 @@ ghost use Rattle.trace_events.specs.Lawful.{broken};
 ghost use Rattle.trace_check.specs.Laws.{law_number};
 ghost use Rattle.trace_check.specs.Judging.{unjudged, Judged, TakesNext};
 
+use crate::flaws::calm_after;
 use crate::judge::Judge;
 use crate::laws::Law;
 use crate::tables::{put_brought, table_brought};
@@ -24,14 +25,19 @@ pub struct TraceJudge<A: Allocator = Global> {
     alloc: A,
     pub(crate) table: Table<A>,
     pub(crate) judge: Judge<A>,
+    // No child is excluded; where it is false, one may be.
+    pub(crate) calm: bool,
 }
 
 impl<A: Allocator> Model for TraceJudge<A> {
     ghost use Rattle.trace_check.specs.Judging.{Judging};
+    ghost use Rattle.trace_check.specs.Flaws.{IsCalm};
 
     ghost Value = { Judging };
 
     ghost view = { λ j. record { table = j.table; state = j.judge } };
+
+    ghost invariant = { λ j. IsCalm j.calm j.table j.judge };
 }
 
 impl<A: Allocator + Copy> TraceJudge<A> {
@@ -46,6 +52,7 @@ impl<A: Allocator + Copy> TraceJudge<A> {
             alloc,
             table: Table::new(alloc),
             judge: Judge::new(alloc),
+            calm: false,
         }
     }
 
@@ -59,12 +66,13 @@ impl<A: Allocator + Copy> TraceJudge<A> {
     {
         // It says that no id stands twice.
         let _len = self.table.len();
-        if let Some(law) = self.judge.flaw(&self.table, happening) {
+        if let Some(law) = self.judge.flaw(&self.table, self.calm, happening) {
             return Ok(Some(law));
         }
         let brought = table_brought(self.alloc, happening)?;
         self.judge.take(&self.table, happening)?;
         put_brought(&mut self.table, brought);
+        self.calm = calm_after(happening, self.calm);
         Ok(None)
     }
 }

@@ -1,6 +1,7 @@
 use Rattle.std.proofs.Common.{sym, ◌∙◌, subst}
 use Rattle.trace_check.specs.Flaws.{flaw_in}
 use Rattle.trace_check.specs.Judging.{Judging, Judged}
+use Rattle.trace_check.proofs.Calm.{calm_next}
 use Rattle.trace_check.proofs.Passing.{flaw_is, judged_more}
 use Rattle.trace_check.proofs.trace_judges.TraceJudge.take.Goals as goal
 
@@ -19,3 +20,6 @@ returns-clause-next g c = λ past judged.
     let old : Judging = record { table = c.self.inside.table; state = c.self.inside.judge } in
     let new : Judging = record { table = c.put_brought.new.table; state = c.take.new.self } in
     judged_more c.args.happening.now old new c.len-len.ensures.distinct (sym c.in_default.ensures) c.in_ok-take.ensures.ok (c.put_brought.ensures ∙ c.in_ok-brought.ensures old.table) past (subst (λ j. Judged j past) (sym c.self.view_is) judged)
+
+pub invariant_of-self-2 : goal.invariant_of-self-2
+invariant_of-self-2 g c = rw c.calm_after-self-inside.ensures (calm_next c.args.happening.now c.self.inside.judge c.take.new.self c.self.inside.table c.put_brought.new.table c.self.inside.calm (sym c.in_default.ensures) c.in_ok-take.ensures.ok (c.put_brought.ensures ∙ c.in_ok-brought.ensures c.self.inside.table) c.self.invariant)
