@@ -16,9 +16,9 @@ pub calls_of-append : {L : Type 0} (ys xs : List (Made L)) → calls_of (ys ++ x
 calls_of-append [] xs = refl
 calls_of-append (made ∷ ys) xs = ap (λ l. made.call ∷ l) (calls_of-append ys xs)
 
-calls_of-untimed : {L : Type 0} (calls : List HostCall) → calls_of (untimed_calls {L = L} calls) ≡ calls
-calls_of-untimed [] = refl
-calls_of-untimed (call ∷ calls) = ap (λ l. call ∷ l) (calls_of-untimed calls)
+calls_of-untimed : (L : Type 0) (calls : List HostCall) → calls_of (untimed_calls {L = L} calls) ≡ calls
+calls_of-untimed L [] = refl
+calls_of-untimed L (call ∷ calls) = ap (λ l. call ∷ l) (calls_of-untimed L calls)
 
 -- a call was made, whether it is told or not
 pub Since-made : {L : Type 0} (old new : Option (List (Made L))) (call : HostCall) (log : L) (P : List (Made L) → Type 0) → AddsMade old new call log → ((at : Option L) → IfSome at (λ then. then ≡ log) → P (record { call = call; at = at } ∷ [])) → Since old new P
@@ -35,15 +35,15 @@ told_at None log P then held = tt
 told_at (Some at) log P then held = subst P (sym then) held
 
 -- what was made of a host alone
-pub Since-untimed : {L : Type 0} (old new : Option (List HostCall)) (P : List HostCall → Type 0) → Since (untimed {L = L} old) (untimed new) (λ mades. P (calls_of mades)) → Since old new P
-Since-untimed {L = L} old new P (mades, told, made) = (calls_of mades, by old new told, made)
+pub Since-untimed : (L : Type 0) (old new : Option (List HostCall)) (P : List HostCall → Type 0) → Since (untimed {L = L} old) (untimed {L = L} new) (λ mades. P (calls_of mades)) → Since old new P
+Since-untimed L old new P (mades, told, made) = (calls_of mades, by old new told, made)
   where
-    by : (old new : Option (List HostCall)) → AreTold (untimed {L = L} old) (untimed new) mades → AreTold old new (calls_of mades)
+    by : (old new : Option (List HostCall)) → AreTold (untimed {L = L} old) (untimed {L = L} new) mades → AreTold old new (calls_of mades)
     by old None told = tt
     by None (Some all) told = absurd (none-some told.0 told.1)
     by (Some before) (Some all) told =
-        let same : untimed_calls before ≡ told.0 = same_Some (untimed_calls before) told.0 told.1 in
-        (before, refl, sym (calls_of-untimed {L = L} all) ∙ ap calls_of told.2 ∙ calls_of-append mades told.0 ∙ ap (λ l. calls_of mades ++ l) (ap calls_of (sym same) ∙ calls_of-untimed {L = L} before))
+        let same : untimed_calls {L = L} before ≡ told.0 = same_Some (untimed_calls {L = L} before) told.0 told.1 in
+        (before, refl, sym (calls_of-untimed L all) ∙ ap calls_of told.2 ∙ calls_of-append mades told.0 ∙ ap (λ l. calls_of mades ++ l) (ap calls_of (sym same) ∙ calls_of-untimed L before))
 
 -- ---- at each call
 

@@ -1,4 +1,4 @@
-use Rattle.init_turns.proofs.Words.{rules, ◌≡◌, refl, sym, ◌∙◌, ap, ◌∷◌, List, subst, is_err, Bool, true, false, OnOk, Result, Ok, Err, false≢true, NewTable, Event, is_quiet, StillFits, OnEachTrace, has_short_seconds, Logs, Grows-none, GrowsBy, GrowsBy-call, GrowsBy-one}
+use Rattle.init_turns.proofs.Words.{rules, ◌≡◌, refl, sym, ◌∙◌, ap, ◌∷◌, List, subst, is_err, Bool, true, false, OnOk, Result, Ok, Err, false≢true, NewTable, Event, is_quiet, StillFits, OnEachTrace, has_short_seconds, Logs, Grows-none, GrowsBy, GrowsBy-call, GrowsBy-none, GrowsBy-one}
 use Rattle.init_words.specs.Parts.{texts_of}
 use Rattle.inittab_text.specs.Parts.{table_of_texts}
 use Rattle.inittab_text.proofs.PartLemmas.{was_readable}
@@ -56,3 +56,8 @@ returns-then-is_err-clause-grows g c =
     let old = g.E.Edge.state (g.E.Edge.log c.args.edge.now) in
     subst (λ l. GrowsBy c.args.core.now c.adopt.new.self old (g.E.Edge.state l)) (sym c.takes.ensures.log)
     (GrowsBy-one c.args.core.now c.adopt.new.self old old (λ short. ap has_short_seconds same ∙ short) (Grows-none old))
+
+pub returns-in_default-copy-clause-grows : goal.returns-in_default-copy-clause-grows
+returns-in_default-copy-clause-grows g c =
+    let old = g.E.Edge.state (g.E.Edge.log c.args.edge.now) in
+    subst (λ l. GrowsBy c.args.core.now c.args.core.now old (g.E.Edge.state l)) (sym c.takes.ensures.log) (GrowsBy-none c.args.core.now old)
