@@ -56,9 +56,13 @@ opened state told log old mid new level table drain n saw now_saw core left fres
       kept_from state level table (Fresh core) l₀ l₁ distinct fresh (took refl) mades made.3,
     )))
   where
-    l₀ l₁ l₂ : LogState
+    l₀ : LogState
     l₀ = state (log old)
+
+    l₁ : LogState
     l₁ = state (log mid)
+
+    l₂ : LogState
     l₂ = state (log new)
 
     Opened : List (Made _) → Type 0

@@ -67,9 +67,9 @@ abbrev pub FrontsFrom : Option Level → List Entry → LogState → LogState �
 FrontsFrom level table old new calls =
     EachFront (λ earlier. GoesSoFar (IsOpening level table) earlier × LogsFrom level table old new earlier) calls
 
--- When each call was made of which the log is told, the log had taken the whole trace from the opening on, with the order
--- that the call carries out, as far as the answers until then were possible, and the texts that were carried came back as
--- they may; or it had failed.
+-- At each call of which the log is told, the log had taken the whole trace from the opening on, with the order that the
+-- call carries out, as far as the answers until then were possible, and the texts that were carried came back as they
+-- may; or it had failed.
 abbrev pub KeptFrom : {L : Type 0} → (L → LogState) → Option Level → List Entry → LogState → List (Made L) → Type 0
 KeptFrom state level table old [] = Unit {0}
 KeptFrom state level table old (made ∷ earlier) = IfSome made.at (λ log.

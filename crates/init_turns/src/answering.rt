@@ -25,7 +25,8 @@ pub(crate) fn write<A: Allocator, E: Edge>(edge: &mut E, happening: &HappeningIn
     ensures logs { (past : List Event)
         → Logs (E.state (E.log edge.old)) (E.state (E.log edge.new)) past (happening.now ∷ past) }
     ensures told { E.told edge.new ≡ E.told edge.old }
-    ensures grows { is_short happening.now ≡ true → Grows (E.state (E.log edge.old)) (E.state (E.log edge.new)) }
+    ensures grows { is_short happening.now ≡ true
+        → Grows (E.state (E.log edge.old)) (E.state (E.log edge.new)) }
 {
     if !edge.failed() {
         law_of_ranges(happening);
@@ -38,7 +39,8 @@ pub(crate) fn note<E: Edge>(edge: &mut E, happening: Happening)
     ensures logs { (past : List Event)
         → Logs (E.state (E.log edge.old)) (E.state (E.log edge.new)) past (happening ∷ past) }
     ensures told { E.told edge.new ≡ E.told edge.old }
-    ensures grows { is_short happening ≡ true → Grows (E.state (E.log edge.old)) (E.state (E.log edge.new)) }
+    ensures grows { is_short happening ≡ true
+        → Grows (E.state (E.log edge.old)) (E.state (E.log edge.new)) }
 {
     write(edge, &happening);
 }
@@ -46,7 +48,8 @@ pub(crate) fn note<E: Edge>(edge: &mut E, happening: Happening)
 /// Writes that a child ended: it died, and was reaped.
 fn write_end<E: Edge>(edge: &mut E, id: Id, number: Option<ChildNumber>, status: Status)
     ensures logs { (past : List Event) → number ≡ Some (last_birth id past)
-        → Logs (E.state (E.log edge.old)) (E.state (E.log edge.new)) past (acted id (Ended status) past) }
+        → Logs (E.state (E.log edge.old)) (E.state (E.log edge.new))
+        past (acted id (Ended status) past) }
     ensures told { E.told edge.new ≡ E.told edge.old }
     ensures grows { Grows (E.state (E.log edge.old)) (E.state (E.log edge.new)) }
 {
@@ -80,7 +83,8 @@ fn write_act<E: Edge>(edge: &mut E, id: Id, answer: Answer, number: Option<Child
 fn write_answer<E: Edge>(edge: &mut E, id: Id, answer: Answer, number: Option<ChildNumber>)
     ensures logs { (past : List Event)
         → (is_end answer ≡ true → number ≡ Some (last_birth id past))
-        → Logs (E.state (E.log edge.old)) (E.state (E.log edge.new)) past (Told id ∷ acted id answer past) }
+        → Logs (E.state (E.log edge.old)) (E.state (E.log edge.new))
+        past (Told id ∷ acted id answer past) }
     ensures told { E.told edge.new ≡ E.told edge.old }
     ensures grows { Grows (E.state (E.log edge.old)) (E.state (E.log edge.new)) }
 {
@@ -114,10 +118,12 @@ pub(crate) fn hear_answer<A: Allocator, E: Edge>(
     id: Id,
     answer: Answer,
 )
-    ensures hears { Hears (Tracks core.old) (Tracks core.new) (E.state (E.log edge.old)) (E.state (E.log edge.new))
+    ensures hears { Hears (Tracks core.old) (Tracks core.new)
+        (E.state (E.log edge.old)) (E.state (E.log edge.new))
         (answered id answer) }
     ensures told { E.told edge.new ≡ E.told edge.old }
-    ensures grows { GrowsBy core.old core.new (E.state (E.log edge.old)) (E.state (E.log edge.new)) }
+    ensures grows { GrowsBy core.old core.new
+        (E.state (E.log edge.old)) (E.state (E.log edge.new)) }
 {
     let number = number_for(core, id, &answer);
     let heard = answer;
@@ -133,10 +139,12 @@ pub(crate) fn hear_reply<A: Allocator, E: Edge>(
     id: Id,
     reply: &Reply,
 )
-    ensures hears { Hears (Tracks core.old) (Tracks core.new) (E.state (E.log edge.old)) (E.state (E.log edge.new))
+    ensures hears { Hears (Tracks core.old) (Tracks core.new)
+        (E.state (E.log edge.old)) (E.state (E.log edge.new))
         (replied id reply.now) }
     ensures told { E.told edge.new ≡ E.told edge.old }
-    ensures grows { GrowsBy core.old core.new (E.state (E.log edge.old)) (E.state (E.log edge.new)) }
+    ensures grows { GrowsBy core.old core.new
+        (E.state (E.log edge.old)) (E.state (E.log edge.new)) }
 {
     match *reply {
         Reply::Now(answer) => hear_answer(core, edge, id, answer),

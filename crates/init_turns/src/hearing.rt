@@ -14,21 +14,18 @@ ghost use Rattle.init_turns.specs.Parts.{IsLate, IsReading, IsTake, Makes};
 use crate::answering::{hear_answer, note};
 use crate::causes::tell_cause;
 use core_steps::Core;
-use host_trace::Edge;
-use host_trace::{BYTE_LIMIT, LATE_LIMIT, PIECE};
+use host_trace::{BYTE_LIMIT, Edge, LATE_LIMIT, PIECE};
 use init_words::{Answer, Id};
 use initctl_frame::{Blocks, HeardRequest};
 use std::alloc::Allocator;
 use trace_events::Happening;
 
 /// Reads the clock. A reading that failed is passed over.
-pub(crate) fn hear_clock<A: Allocator, E: Edge>(
-    core: &mut Core<A>,
-    edge: &mut E,
-)
+pub(crate) fn hear_clock<A: Allocator, E: Edge>(core: &mut Core<A>, edge: &mut E)
     ensures makes { Makes E.state E.told E.log edge.old edge.new IsReading
         (Tracks core.old) (λ goal p. Tracks core.new goal p × Counted 0 goal p) }
-    ensures grows { GrowsBy core.old core.new (E.state (E.log edge.old)) (E.state (E.log edge.new)) }
+    ensures grows { GrowsBy core.old core.new
+        (E.state (E.log edge.old)) (E.state (E.log edge.new)) }
 {
     if let Ok(reading) = edge.clock() {
         core.clock(reading);
@@ -36,14 +33,11 @@ pub(crate) fn hear_clock<A: Allocator, E: Edge>(
     }
 }
 
-fn hear_request<A: Allocator, E: Edge>(
-    core: &mut Core<A>,
-    edge: &mut E,
-    request: HeardRequest,
-)
+fn hear_request<A: Allocator, E: Edge>(core: &mut Core<A>, edge: &mut E, request: HeardRequest)
     ensures told { E.told edge.new ≡ E.told edge.old }
     ensures hears { IsTrue (is_request request)
-        → Hears (Tracks core.old) (Tracks core.new) (E.state (E.log edge.old)) (E.state (E.log edge.new))
+        → Hears (Tracks core.old) (Tracks core.new)
+        (E.state (E.log edge.old)) (E.state (E.log edge.new))
         (λ past. happening.Got request ∷ past) }
     ensures grows { IsTrue (is_request request)
         → GrowsBy core.old core.new (E.state (E.log edge.old)) (E.state (E.log edge.new)) }
@@ -65,7 +59,8 @@ fn hear_front<A: Allocator, E: Edge>(
     ensures within { result ≤ length bytes.now }
     ensures told { E.told edge.new ≡ E.told edge.old }
     ensures leads { (room : ℕ) → Leads (At core.old blocks.old) (At core.new blocks.new)
-        (E.state (E.log edge.old)) (E.state (E.log edge.new)) (TakeBytes room (Ok (take result bytes.now)) ∷ []) }
+        (E.state (E.log edge.old)) (E.state (E.log edge.new))
+        (TakeBytes room (Ok (take result bytes.now)) ∷ []) }
     ensures grows { GrowsReading core.old core.new blocks.old blocks.new
         (E.state (E.log edge.old)) (E.state (E.log edge.new)) }
 {
@@ -168,20 +163,24 @@ pub(crate) fn hear_requests<A: Allocator, E: Edge>(
 }
 
 fn begin_round<A: Allocator, E: Edge>(core: &mut Core<A>, edge: &mut E)
-    ensures hears { Hears (Tracks core.old) (Tracks core.new) (E.state (E.log edge.old)) (E.state (E.log edge.new))
+    ensures hears { Hears (Tracks core.old) (Tracks core.new)
+        (E.state (E.log edge.old)) (E.state (E.log edge.new))
         (λ past. happening.Nudge ∷ past) }
     ensures told { E.told edge.new ≡ E.told edge.old }
-    ensures grows { GrowsBy core.old core.new (E.state (E.log edge.old)) (E.state (E.log edge.new)) }
+    ensures grows { GrowsBy core.old core.new
+        (E.state (E.log edge.old)) (E.state (E.log edge.new)) }
 {
     core.begin_round();
     note(edge, Happening::Nudge);
 }
 
 fn hear_come<A: Allocator, E: Edge>(core: &mut Core<A>, edge: &mut E, late: &Option<(Id, Answer)>)
-    ensures hears { Hears (Tracks core.old) (Tracks core.new) (E.state (E.log edge.old)) (E.state (E.log edge.new))
+    ensures hears { Hears (Tracks core.old) (Tracks core.new)
+        (E.state (E.log edge.old)) (E.state (E.log edge.new))
         (come late.now) }
     ensures told { E.told edge.new ≡ E.told edge.old }
-    ensures grows { GrowsBy core.old core.new (E.state (E.log edge.old)) (E.state (E.log edge.new)) }
+    ensures grows { GrowsBy core.old core.new
+        (E.state (E.log edge.old)) (E.state (E.log edge.new)) }
 {
     if let Some(late) = late {
         hear_answer(core, edge, late.0, late.1);
@@ -197,17 +196,14 @@ fn is_last(late: &Option<(Id, Answer)>, asked: usize) -> bool
 }
 
 /// Asks for a late answer, after so many in this turn. After the last the round begins; gives whether it was that.
-fn hear_late<A: Allocator, E: Edge>(
-    core: &mut Core<A>,
-    edge: &mut E,
-    asked: usize,
-) -> bool
+fn hear_late<A: Allocator, E: Edge>(core: &mut Core<A>, edge: &mut E, asked: usize) -> bool
     requires { asked < LATE_LIMIT }
     ensures more { result ≡ false → asked + 1 < LATE_LIMIT }
     ensures lates { Makes E.state E.told E.log edge.old edge.new
         (IsLate asked result) (λ goal p. Tracks core.old goal p × Counted asked goal p)
         (λ goal p. Tracks core.new goal p × Counted (asked + 1) goal p) }
-    ensures grows { GrowsBy core.old core.new (E.state (E.log edge.old)) (E.state (E.log edge.new)) }
+    ensures grows { GrowsBy core.old core.new
+        (E.state (E.log edge.old)) (E.state (E.log edge.new)) }
 {
     let late = edge.late();
     let last = is_last(&late, asked);
@@ -219,14 +215,12 @@ fn hear_late<A: Allocator, E: Edge>(
 }
 
 /// Takes the late answers, and begins the round.
-pub(crate) fn hear_lates<A: Allocator, E: Edge>(
-    core: &mut Core<A>,
-    edge: &mut E,
-)
+pub(crate) fn hear_lates<A: Allocator, E: Edge>(core: &mut Core<A>, edge: &mut E)
     ensures makes { Makes E.state E.told E.log edge.old edge.new
         (λ calls. are_lates calls ≡ true)
         (λ goal p. Tracks core.old goal p × Counted 0 goal p) (Tracks core.new) }
-    ensures grows { GrowsBy core.old core.new (E.state (E.log edge.old)) (E.state (E.log edge.new)) }
+    ensures grows { GrowsBy core.old core.new
+        (E.state (E.log edge.old)) (E.state (E.log edge.new)) }
 {
     let mut asked = 0;
     while !hear_late(core, edge, asked) {

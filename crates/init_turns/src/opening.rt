@@ -56,10 +56,11 @@ impl<A: Allocator + Copy> Opening<A> {
     ) -> (Served, Core<A>)
         // the calls made are those of so many turns from the opening on; up to each call their trace is sound and lawful, as
         // far as the answers until then were possible; the core that is seen after each turn, and given back, tracks it;
-        // when each call was made, the log had taken the whole trace until then; and a level is settled in as many
+        // the log took it, and had taken all of it until then when each call was made; and a level is settled in as many
         // undisturbed turns as there were rounds to come
         ensures trace { (level : Option Level) (table : List Entry) → IsOpeningOf level table self
-            → Opens E.state E.told E.log edge.old edge.new level table (ServesTurns drain level table result.0.turns (W.seen watch.old)
+            → Opens E.state E.told E.log edge.old edge.new
+            level table (ServesTurns drain level table result.0.turns (W.seen watch.old)
             (W.seen watch.new)) result.1 }
         // it makes the turns that were asked for; fewer only where it was to end drained, and is
         ensures most { result.0.turns ≤ turns }

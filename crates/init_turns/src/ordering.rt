@@ -25,16 +25,12 @@ fn order_for(sent: &SignalKind) -> OrderKind
     }
 }
 
-fn start<A: Allocator + Copy, E: Edge>(
-    alloc: A,
-    core: &mut Core<A>,
-    edge: &mut E,
-    id: Id,
-)
+fn start<A: Allocator + Copy, E: Edge>(alloc: A, core: &mut Core<A>, edge: &mut E, id: Id)
     requires { is_some (entry_of id core.old.table) ≡ true }
     ensures makes { Makes E.state E.told E.log edge.old edge.new
         IsStep (Gave (Tracks core.old) (step.Order id OrderKind.Start)) (Tracks core.new) }
-    ensures grows { GrowsBy core.old core.new (E.state (E.log edge.old)) (E.state (E.log edge.new)) }
+    ensures grows { GrowsBy core.old core.new
+        (E.state (E.log edge.old)) (E.state (E.log edge.new)) }
 {
     let Some(entry) = core.table().get(&id) else {
         unreachable!()
@@ -47,23 +43,20 @@ fn start<A: Allocator + Copy, E: Edge>(
 fn look<A: Allocator, E: Edge>(core: &mut Core<A>, edge: &mut E, id: Id)
     ensures makes { Makes E.state E.told E.log edge.old edge.new
         IsStep (Gave (Tracks core.old) (step.Order id OrderKind.Look)) (Tracks core.new) }
-    ensures grows { GrowsBy core.old core.new (E.state (E.log edge.old)) (E.state (E.log edge.new)) }
+    ensures grows { GrowsBy core.old core.new
+        (E.state (E.log edge.old)) (E.state (E.log edge.new)) }
 {
     note(edge, Happening::Asked(id, OrderKind::Look));
     let reply = edge.look(id);
     hear_reply(core, edge, id, &reply);
 }
 
-fn signal<A: Allocator, E: Edge>(
-    core: &mut Core<A>,
-    edge: &mut E,
-    id: Id,
-    sent: SignalKind,
-)
+fn signal<A: Allocator, E: Edge>(core: &mut Core<A>, edge: &mut E, id: Id, sent: SignalKind)
     ensures makes { Makes E.state E.told E.log edge.old edge.new
         IsStep (Gave (Tracks core.old) (step.Order id (order_for sent)))
         (Tracks core.new) }
-    ensures grows { GrowsBy core.old core.new (E.state (E.log edge.old)) (E.state (E.log edge.new)) }
+    ensures grows { GrowsBy core.old core.new
+        (E.state (E.log edge.old)) (E.state (E.log edge.new)) }
 {
     note(edge, Happening::Asked(id, order_for(&sent)));
     let reply = edge.signal(id, sent);
@@ -81,7 +74,8 @@ pub(crate) fn order<A: Allocator + Copy, E: Edge>(
     requires { is_listed core.old.table (step.Order id ask.now) ≡ true }
     ensures makes { Makes E.state E.told E.log edge.old edge.new
         IsStep (Gave (Tracks core.old) (step.Order id ask.now)) (Tracks core.new) }
-    ensures grows { GrowsBy core.old core.new (E.state (E.log edge.old)) (E.state (E.log edge.new)) }
+    ensures grows { GrowsBy core.old core.new
+        (E.state (E.log edge.old)) (E.state (E.log edge.new)) }
 {
     match *ask {
         OrderKind::Start => start(alloc, core, edge, id),

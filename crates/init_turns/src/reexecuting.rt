@@ -96,7 +96,8 @@ fn carry<A: Allocator + Copy, E: Edge>(
 
 /// Writes what came of a hand-over, and says so where it was refused.
 fn say<E: Edge>(edge: &mut E, how: Handed)
-    ensures log { (past : List Event) → Logs (E.state (E.log edge.old)) (E.state (E.log edge.new)) past
+    ensures log { (past : List Event) →
+        Logs (E.state (E.log edge.old)) (E.state (E.log edge.new)) past
         (happening.Handed how ∷ past) }
     ensures said { Saying how (E.told edge.old) (E.told edge.new) (E.log edge.new) }
     ensures grows { Grows (E.state (E.log edge.old)) (E.state (E.log edge.new)) }
@@ -112,21 +113,19 @@ fn say<E: Edge>(edge: &mut E, how: Handed)
 fn not_handed<A: Allocator, E: Edge>(core: &mut Core<A>, edge: &mut E)
     ensures makes { Makes E.state E.told E.log edge.old edge.new
         IsStep (Gave (Tracks core.old) step.Reexec) (Tracks core.new) }
-    ensures grows { GrowsBy core.old core.new (E.state (E.log edge.old)) (E.state (E.log edge.new)) }
+    ensures grows { GrowsBy core.old core.new
+        (E.state (E.log edge.old)) (E.state (E.log edge.new)) }
 {
     core.not_handed();
     say(edge, Handed::Failed);
 }
 
 /// Executes init anew. Where no text is made, or what comes back is not taken over, init goes on as it is.
-pub(crate) fn reexec<A: Allocator + Copy, E: Edge>(
-    alloc: A,
-    core: &mut Core<A>,
-    edge: &mut E,
-)
+pub(crate) fn reexec<A: Allocator + Copy, E: Edge>(alloc: A, core: &mut Core<A>, edge: &mut E)
     ensures makes { Makes E.state E.told E.log edge.old edge.new
         IsStep (Gave (Tracks core.old) step.Reexec) (Tracks core.new) }
-    ensures grows { GrowsBy core.old core.new (E.state (E.log edge.old)) (E.state (E.log edge.new)) }
+    ensures grows { GrowsBy core.old core.new
+        (E.state (E.log edge.old)) (E.state (E.log edge.new)) }
 {
     let Ok(text) = hand_over(alloc, core) else {
         return not_handed(core, edge);

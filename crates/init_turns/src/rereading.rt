@@ -42,7 +42,8 @@ fn use_parts<A: Allocator + Copy, E: Edge>(
     ensures core { result ≡ false → core.new ≡ core.old }
     ensures log { result ≡ false → E.log edge.new ≡ E.log edge.old }
     ensures told { E.told edge.new ≡ E.told edge.old }
-    ensures grows { GrowsBy core.old core.new (E.state (E.log edge.old)) (E.state (E.log edge.new)) }
+    ensures grows { GrowsBy core.old core.new
+        (E.state (E.log edge.old)) (E.state (E.log edge.new)) }
 {
     let reading = read_parts(alloc, parts);
     if !edge.takes(parts, &reading) {
@@ -63,18 +64,15 @@ fn use_parts<A: Allocator + Copy, E: Edge>(
 }
 
 /// Reads inittab and takes its table for that in force; gives whether it did.
-fn use_table<A: Allocator + Copy, E: Edge>(
-    alloc: A,
-    core: &mut Core<A>,
-    edge: &mut E,
-) -> bool
+fn use_table<A: Allocator + Copy, E: Edge>(alloc: A, core: &mut Core<A>, edge: &mut E) -> bool
     ensures used { result ≡ true → Makes E.state E.told E.log edge.old edge.new
         IsStep (Gave (Tracks core.old) step.Reread) (Tracks core.new) }
     ensures read { result ≡ false → (parts : PartsRead)
         × AddsMade (E.told edge.old) (E.told edge.new) (ReadTables parts) (E.log edge.old) }
     ensures core { result ≡ false → core.new ≡ core.old }
     ensures log { result ≡ false → E.log edge.new ≡ E.log edge.old }
-    ensures grows { GrowsBy core.old core.new (E.state (E.log edge.old)) (E.state (E.log edge.new)) }
+    ensures grows { GrowsBy core.old core.new
+        (E.state (E.log edge.old)) (E.state (E.log edge.new)) }
 {
     let Ok(parts) = edge.read_tables(alloc) else {
         return false;
@@ -83,14 +81,11 @@ fn use_table<A: Allocator + Copy, E: Edge>(
 }
 
 /// Reads inittab again. Where that fails, or the table can't be taken, the one in force stays.
-pub(crate) fn reread<A: Allocator + Copy, E: Edge>(
-    alloc: A,
-    core: &mut Core<A>,
-    edge: &mut E,
-)
+pub(crate) fn reread<A: Allocator + Copy, E: Edge>(alloc: A, core: &mut Core<A>, edge: &mut E)
     ensures makes { Makes E.state E.told E.log edge.old edge.new
         IsStep (Gave (Tracks core.old) step.Reread) (Tracks core.new) }
-    ensures grows { GrowsBy core.old core.new (E.state (E.log edge.old)) (E.state (E.log edge.new)) }
+    ensures grows { GrowsBy core.old core.new
+        (E.state (E.log edge.old)) (E.state (E.log edge.new)) }
 {
     if use_table(alloc, core, edge) {
         return;

@@ -122,7 +122,8 @@ pub fn serve<A: Allocator + Copy, E: Edge, W: Watch<A>>(
     ensures drained { result.drained ≡ is_drained core.new }
     ensures logged { result.logged ≡ not (E.state (E.log edge.new)).failed }
     // whatever is answered, the log only grows, and seconds of at most an hour stay so
-    ensures grows { GrowsBy core.old core.new (E.state (E.log edge.old)) (E.state (E.log edge.new)) }
+    ensures grows { GrowsBy core.old core.new
+        (E.state (E.log edge.old)) (E.state (E.log edge.new)) }
 {
     let mut blocks = Blocks::new();
     for made in 0..turns {

@@ -13,8 +13,7 @@ use crate::ordering::order;
 use crate::reexecuting::reexec;
 use crate::rereading::reread;
 use core_steps::Core;
-use host_trace::Edge;
-use host_trace::STEP_LIMIT;
+use host_trace::{Edge, STEP_LIMIT};
 use std::alloc::Allocator;
 use trace_events::{Happening, Step};
 
@@ -29,19 +28,15 @@ fn say<E: Edge>(edge: &mut E, happening: Happening)
     ensures makes { (core : CoreState) (made : Step) → SaysStep made happening
         → Makes E.state E.told E.log edge.old edge.new
         IsStep (Gave (Tracks core) made) (Tracks core) }
-    ensures grows { is_short happening ≡ true → Grows (E.state (E.log edge.old)) (E.state (E.log edge.new)) }
+    ensures grows { is_short happening ≡ true
+        → Grows (E.state (E.log edge.old)) (E.state (E.log edge.new)) }
 {
     write(edge, &happening);
     edge.announce(&happening);
 }
 
 /// Carries out a step that init gave.
-fn carry_out<A: Allocator + Copy, E: Edge>(
-    alloc: A,
-    core: &mut Core<A>,
-    edge: &mut E,
-    step: &Step,
-)
+fn carry_out<A: Allocator + Copy, E: Edge>(alloc: A, core: &mut Core<A>, edge: &mut E, step: &Step)
     requires { is_listed core.old.table step.now ≡ true }
     ensures makes { Makes E.state E.told E.log edge.old edge.new
         (IsStepUnless (is_idle step.now)) (Gave (Tracks core.old) step.now)
@@ -63,14 +58,11 @@ fn carry_out<A: Allocator + Copy, E: Edge>(
 }
 
 /// Takes a step of init's; gives whether nothing was due.
-fn take_step<A: Allocator + Copy, E: Edge>(
-    alloc: A,
-    core: &mut Core<A>,
-    edge: &mut E,
-) -> bool
+fn take_step<A: Allocator + Copy, E: Edge>(alloc: A, core: &mut Core<A>, edge: &mut E) -> bool
     ensures makes { Makes E.state E.told E.log edge.old edge.new
         (IsStepUnless result) (Tracks core.old) (AndRests result (Tracks core.new)) }
-    ensures grows { GrowsBy core.old core.new (E.state (E.log edge.old)) (E.state (E.log edge.new)) }
+    ensures grows { GrowsBy core.old core.new
+        (E.state (E.log edge.old)) (E.state (E.log edge.new)) }
 {
     let step = core.next();
     carry_out(alloc, core, edge, &step);
@@ -85,7 +77,8 @@ pub(crate) fn take_steps<A: Allocator + Copy, E: Edge>(
 ) -> bool
     ensures makes { Makes E.state E.told E.log edge.old edge.new
         (AreAllSteps result) (Tracks core.old) (AndRests result (Tracks core.new)) }
-    ensures grows { GrowsBy core.old core.new (E.state (E.log edge.old)) (E.state (E.log edge.new)) }
+    ensures grows { GrowsBy core.old core.new
+        (E.state (E.log edge.old)) (E.state (E.log edge.new)) }
 {
     for made in 0..STEP_LIMIT {
         if take_step(alloc, core, edge) {
