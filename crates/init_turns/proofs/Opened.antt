@@ -46,7 +46,7 @@ pub opened : {E L : Type 0} (state : L → LogState) (told : E → Option (List 
     → Fresh core (opening_goal level table) (opening_point table) → is_distinct table ≡ true → told mid ≡ told old
     → Logs (state (log old)) (state (log mid)) [] (NewTable table ∷ []) → Makes state told log mid new (MadeTurns drain (Fresh core) n saw now_saw) (Fresh core) (LeftBy left)
     → Opens state told log old new level table (ServesTurns drain level table n saw now_saw) left
-opened state told log old mid new level table drain n saw now_saw core left fresh distinct same took makes =
+opened {L = L} state told log old mid new level table drain n saw now_saw core left fresh distinct same took makes =
     subst (λ t. Since t (told new) Opened) same
     (Since-map (told mid) (told new) (AreMade state l₁ l₂ (MadeTurns drain (Fresh core) n saw now_saw) (Fresh core) (LeftBy left)) Opened makes
     (λ mades made. (
@@ -65,7 +65,7 @@ opened state told log old mid new level table drain n saw now_saw core left fres
     l₂ : LogState
     l₂ = state (log new)
 
-    Opened : List (Made _) → Type 0
+    Opened : List (Made L) → Type 0
     Opened mades = ServesTurns drain level table n saw now_saw (calls_of mades) × LeadsFrom level table left l₀ l₂ (calls_of mades)
         × FrontsFrom level table l₀ l₂ (calls_of mades) × KeptFrom state level table l₀ mades
 
