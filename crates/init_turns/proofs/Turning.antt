@@ -1,5 +1,5 @@
 -- The parts of a turn, and turns one behind the other.
-use Rattle.init_turns.proofs.Words.{arith, ◌≡◌, refl, sym, ap, ◌∙◌, subst, ℕ, zero, suc, Bool, true, false, not, ◌&&◌, List, [], ◌∷◌, ◌++◌, drop, length, Option, Result, list_all, false≢true, and_from, and_parts, list_all-append, Begun, Stands, Goal, CoreState, is_drained, unreaped_recorded, LogState, Clock, TakeBytes, Pause, HostCall, AddsMade, Made, calls_of, kept_still, Point, point_after, Brings, has_short_seconds, Fronts, Grows, HasRead, Counted, IsOver, Leads, Took, Tracks, Went, is_allowed, AddsTo, AreSteps, AreTurns, IsTurn, MadeTurns, are_full, are_lates, are_takes, bytes_taken, has_come, is_busy, is_room, is_step, takes_none, fronts_one, fronts_then, Grows-none, point_after-append, calls_allowed, carried_parts, Leads-beside, Leads-frame, Leads-still, Leads-then, Leads-weaken, bytes_counted, Since-map, Since-none, Since-then, AndRests, AreAllSteps, Fresh, IsReading, Left, LeftBy, MakesOver}
+use Rattle.init_turns.proofs.Words.{arith, ◌≡◌, refl, sym, ap, ◌∙◌, subst, ℕ, zero, suc, Bool, true, false, not, ◌&&◌, List, [], ◌∷◌, ◌++◌, drop, length, Option, Result, list_all, false≢true, and_from, and_parts, list_all-append, Begun, Stands, Goal, CoreState, is_drained, unreaped_recorded, LogState, Clock, TakeBytes, Pause, HostCall, AddsMade, Made, calls_of, kept_still, Point, point_after, Brings, has_short_seconds, Grows, HasRead, Counted, IsOver, Leads, Took, Tracks, Went, is_allowed, AddsTo, AreSteps, AreTurns, IsTurn, MadeTurns, are_full, are_lates, are_takes, bytes_taken, has_come, is_busy, is_room, is_step, takes_none, Grows-none, point_after-append, calls_allowed, carried_parts, Leads-beside, Leads-frame, Leads-still, Leads-weaken, bytes_counted, Since-map, Since-none, Since-then, AndRests, AreAllSteps, Fresh, IsReading, Left, LeftBy, MakesOver}
 use Rattle.host_calls.specs.declared.calls.HostFault.{HostFault}
 use Rattle.host_calls.specs.Record.{Since}
 use Rattle.host_trace.specs.Leads.{At}
