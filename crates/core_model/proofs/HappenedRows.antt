@@ -1,10 +1,10 @@
 -- What births and announcements need, worked: a run that has it, and traces that lack it.
-use Rattle.core_model.proofs.Words.{◌≡◌, refl, sym, ◌∙◌, ap, ℕ, Bool, true, false, List, [], ◌∷◌, ◌++◌, arith, codes, false≢true, list_any, Entry, At, Start, Look, NewTable, Asked, Birth, Death, Reaped, Told, Nudge, Goal, Event, newborn, is_sound, is_reaping_of, MayLive, AllMayLive, AllThrough, WasEnded, IsReached}
+use Rattle.core_model.proofs.Words.{◌≡◌, refl, sym, ◌∙◌, ap, ℕ, Bool, true, false, List, [], ◌∷◌, ◌++◌, arith, codes, false≢true, list_any, Entry, At, Start, Look, NewTable, Asked, Birth, Death, Reaped, Told, Nudge, length, filter, table_of, known_children, is_without_entry, same_id, ◌≤◌, ◌+◌, ◌⊎◌, inl, inr, HasChild, WasHeld, Goal, Event, newborn, is_sound, is_reaping_of, MayLive, AllMayLive, AllThrough, WasEnded, IsReached}
 use Rattle.init_words.specs.declared.actions.Act.TheVariants as act
 use Rattle.init_words.specs.declared.children.Status.TheVariants.{Exit}
 use Rattle.init_words.specs.declared.levels.Level.TheVariants as level
 use Rattle.init_words.specs.declared.stages.Stage.TheVariants as stage
-use Rattle.trace_events.specs.declared.happenings.Happening.TheVariants.{Enter, Settle}
+use Rattle.trace_events.specs.declared.happenings.Happening.TheVariants.{Enter, Hold, Settle}
 use Rattle.trace_events.specs.Wanted.{is_excluded}
 use Rattle.core_model.proofs.Happened.{birth_lives, birth_through, settle_reached}
 
@@ -89,3 +89,43 @@ waits-is_not_reached all = false≢true
     (was_reaped (codes "w") 10 (Told (codes "w") ∷ [])
     ((all.through [] (service ∷ []) wait refl refl).ended 10 (Told (codes "w") ∷ [])
     (Asked (codes "w") Start ∷ entered) refl))
+
+-- the wait entry was never started, so its level isn't reached
+abbrev is_order : Event → Bool
+is_order (Asked id kind) = true
+is_order _ = false
+
+entered-is_not_reached : IsReached level.L3 entered → ⊥
+entered-is_not_reached all = let start = all.served [] (service ∷ []) wait refl refl in
+    false≢true (ap (list_any is_order) start.ordered ∙ any_behind is_order start.since (Asked (codes "w") Start ∷ start.before) refl)
+
+-- nor is it where the wait entry is through, and the service has no child and was not held
+abbrev is_of_service : Event → Bool
+is_of_service (Birth id n) = same_id (codes "s") id
+is_of_service (Hold id) = same_id (codes "s") id
+is_of_service _ = false
+
+abbrev idle : List Event
+idle = Told (codes "w") ∷ Reaped (codes "w") 10 (Exit 0) ∷ Death 10 ∷ Asked (codes "w") Look ∷ Nudge ∷ waits
+
+is_unserved : HasChild (codes "s") idle ⊎ WasHeld (codes "s") idle → ⊥
+is_unserved (inl child) = false≢true (ap (list_any is_of_service) child.born
+    ∙ any_behind is_of_service child.since (Birth (codes "s") child.number ∷ child.before) refl)
+is_unserved (inr hold) = false≢true (ap (list_any is_of_service) hold.held
+    ∙ any_behind is_of_service hold.since (Hold (codes "s") ∷ hold.before) refl)
+
+idle-is_not_reached : IsReached level.L3 idle → ⊥
+idle-is_not_reached all = is_unserved (all.served (wait ∷ []) [] service refl refl)
+
+-- two entries have two records, and so has one whose table lost an entry that has a child still: a third is one too many
+abbrev records_within : List Event → ℕ
+records_within past = length (table_of past) + length (filter (is_without_entry (table_of past)) (known_children past))
+
+two_entries : records_within runs ≡ 2
+two_entries = refl
+
+one_left : records_within (NewTable (wait ∷ []) ∷ runs) ≡ 2
+one_left = refl
+
+no_third : 3 ≤ records_within runs → ⊥
+no_third more = grind (arith, two_entries)

@@ -9,7 +9,7 @@ use std::fs::{File, Metadata, OpenOptions};
 use std::io::{Error, ErrorKind, Read};
 use std::os::fd::AsRawFd;
 use std::os::unix::fs::{FileTypeExt, MetadataExt};
-use std::process::{Command, ExitStatus, Processes};
+use std::process::{Command, Processes};
 use std::rt::Files;
 use std::{fs, io};
 
@@ -99,9 +99,14 @@ fn found_at<R: Files>(rt: &R, path: &str) -> io::Result<Option<Metadata>> {
     match fs::metadata(rt, path) {
         Ok(found) if found.file_type().is_fifo() => Ok(Some(found)),
         Ok(_) => Err(Error::new(ErrorKind::InvalidInput, "it is no FIFO")),
-        Err(error) if error.kind() == ErrorKind::NotFound => Ok(None),
+        Err(error) if is_nowhere(&error) => Ok(None),
         Err(error) => Err(error),
     }
+}
+
+/// Nothing can stand at the path: the channel, whose fault is told, has no folder.
+fn is_nowhere(error: &Error) -> bool {
+    matches!(error.kind(), ErrorKind::NotFound | ErrorKind::NotADirectory)
 }
 
 /// Makes a FIFO at the path, which init's user alone may open.

@@ -5,7 +5,7 @@ ghost use Rattle.host_calls.specs.declared.calls.Reply.TheVariants.{Now};
 ghost use Rattle.host_calls.specs.Held.{Looks, Signals, holds_child, without_child};
 ghost use Rattle.host_system.specs.Hosts.{is_look_answer, is_signal_answer};
 
-use crate::commands::{command_of, needs_shell, shown};
+use crate::commands::{Escaped, command_of, escape, needs_shell, shown};
 use crate::costs::Line;
 use crate::held::Held;
 use crate::logs::Logs;
@@ -364,12 +364,12 @@ fn status_of(status: &ExitStatus) -> Status {
 }
 
 /// The program that a process text starts.
-fn program_of(text: &[u8]) -> &str {
+fn program_of(text: &[u8]) -> Escaped<'_> {
     if needs_shell(text) {
-        return "sh";
+        return escape(b"sh");
     }
     match next_word(text) {
-        Some((program, _)) => shown(program),
-        None => "",
+        Some((program, _)) => escape(program),
+        None => escape(b""),
     }
 }

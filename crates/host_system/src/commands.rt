@@ -7,7 +7,7 @@ ghost use Rattle.host_system.specs.Commands.{is_shell_byte, logged, needs_shell,
 
 use std::alloc::{AllocError, Allocator};
 use std::process::Command;
-use std::str;
+use std::{fmt, str};
 use text_lines::next_word;
 
 /// The characters for which a process is started by a shell.
@@ -142,4 +142,26 @@ fn text_of(bytes: &[u8]) -> &str
 /// The text, where it is UTF-8.
 pub(crate) fn shown(text: &[u8]) -> &str {
     str::from_utf8(text).unwrap_or("?")
+}
+
+/// A name of a file or a program as it is shown: a control character, which a terminal is not to obey, as `\xNN`.
+#[derive(Clone, Copy)]
+pub(crate) struct Escaped<'a>(&'a str);
+
+/// The name, where it is UTF-8.
+pub(crate) fn escape(name: &[u8]) -> Escaped<'_> {
+    Escaped(shown(name))
+}
+
+impl fmt::Display for Escaped<'_> {
+    fn fmt<W: fmt::Write>(&self, f: &mut fmt::Formatter<W>) -> fmt::Result {
+        for character in self.0.chars() {
+            if character.is_ascii_control() {
+                write!(f, "\\x{:02x}", u32::from(character))?;
+            } else {
+                f.write_char(character)?;
+            }
+        }
+        Ok(())
+    }
 }

@@ -7,6 +7,7 @@ ghost use Rattle.host_system.specs.Folders.{ends_in_tab, is_name_byte, is_part_n
 ghost use Rattle.host_system.specs.Folders.{IsFolderFault};
 ghost use Rattle.host_system.specs.Logs.{is_hidden};
 
+use crate::commands::escape;
 use crate::logs::is_hidden;
 use indexmap::IndexSet;
 use init_words::Part;
@@ -145,7 +146,7 @@ fn tell_passed(rt: &impl Eprint, folder: &str, name: &[u8]) {
     if matches!(name, b"." | b"..") {
         return;
     }
-    let name = str::from_utf8(name).unwrap_or("?");
+    let name = escape(name);
     let _ = eprintln!(rt;
         "initd: {folder}/{name}: passed over: a file of the inittab is named NAME.tab, of bytes of A-Z a-z 0-9 . _ -, \
          and begins with no point"

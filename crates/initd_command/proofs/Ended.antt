@@ -1,22 +1,15 @@
 -- What a run left, where its writer was only flushed since.
-use Rattle.std.proofs.Common.{◌≡◌, refl, sym, ap, subst, Result, Ok, Err, IfErr, OnOk, ◌⊎◌, inl, inr, Bool, List, [], ℕ, true, Option, unwrap_or}
-use Rattle.std.specs.Result.{IsErrAnd}
-use Rattle.std.specs.declared.io.Error.{Error}
-use Rattle.std.specs.Io.KnownBytes.{Appends, Keeps}
+use Rattle.std.proofs.Common.{◌≡◌, refl, sym, ap, subst, ◌∙◌, Result, Ok, Err, IfErr, OnOk, ◌⊎◌, inl, inr, List, [], ℕ, Option, Some, None}
+use Rattle.std.specs.Prelude.{IsSome, unwrap_or}
+use Rattle.std.specs.Io.KnownBytes.{Keeps}
 use Rattle.std.proofs.KnownBytes.{Appends-kept, Keeps-trans}
 use Rattle.simulator.specs.declared.running.SimFault.{SimFault}
 use Rattle.simulator.specs.declared.running.SimFault.TheVariants as fault
 use Rattle.simulator.specs.Simulation.{Done, Ends, Scenario, past_text}
-use Rattle.program_io.specs.Known.{KnownTexts}
 use Rattle.initd_command.specs.declared.run.RunFault.{RunFault}
-use Rattle.initd_command.specs.declared.run.RunFault.TheVariants as why
-use Rattle.init_words.specs.Parts.{NamedText, texts_of}
-use Rattle.inittab_text.specs.Parts.{are_readable, faults_of_parts, table_of_texts}
-use Rattle.initd_command.specs.Endings.{Ending, busy, done, flawed, lawful, no_memory, shared, stopped, too_many, torn, turned, uncreated, unfinished, unflushed, unlawful, unlisted, unlocked, unread, untold, unversioned, unwritten, usage}
-use Rattle.initd_command.specs.Turned.{End}
-use Rattle.host_system.specs.LineFaults.{faults_text}
+use Rattle.initd_command.specs.Endings.{ReportsObstacle, obstacle_status}
+use Rattle.initd_command.specs.Services.{obstacle_of}
 use Rattle.initd_options.specs.Options.{RunSaid}
-use Rattle.initd_command.specs.Services.{AreFiles, EndsRun, EndsServed, EndsTold, HasInittab, IsOfFault, is_taken, is_unled}
 
 pub done_kept : (s : Scenario) (old mid new : Option (List ℕ)) → Done s old mid → Keeps mid new → Done s old new
 done_kept s old mid new (past, rested, written) kept = (past, rested, Appends-kept old mid new (past_text past) written kept)
@@ -42,87 +35,17 @@ pub either_kept : (s : Scenario) (old mid new : Option (List ℕ)) → Done s ol
 either_kept s old mid new (inl whole) kept = inl (done_kept s old mid new whole kept)
 either_kept s old mid new (inr (f, ends)) kept = inr (f, ends_kept s f old mid new ends kept)
 
--- a run whose turns were made ends as they did
-pub told_ends : (service : RunSaid) (unled : Bool) (told : List ℕ) (old new : Option (List ℕ)) (end : End) → EndsServed service end → Appends old new told
-    → EndsTold service unled told (turned unled end) old new
-told_ends service unled told old new end served appends = (end, refl, served, appends)
+some_path : (path : Option (List ℕ)) → IsSome path → path ≡ Some (unwrap_or path [])
+some_path None some = absurd (cc)
+some_path (Some path) some = refl
 
--- a run whose inittab was read ends over its files
-pub told_runs : (text_at : KnownTexts) (service : RunSaid) (parts : List NamedText) (ending : Ending) (old new : Option (List ℕ))
-    → AreFiles text_at service parts → are_readable (texts_of parts) ≡ true
-    → is_taken service (faults_text parts (faults_of_parts (texts_of parts))) (table_of_texts (texts_of parts)) ≡ true
-    → EndsTold service (is_unled service.level (table_of_texts (texts_of parts))) (faults_text parts (faults_of_parts (texts_of parts))) ending old new
-    → EndsRun text_at service ending old new
-told_runs text_at service parts (busy path holder) old new are read taken ends = let wrong = ends.1 in absurd (cc)
-told_runs text_at service parts (shared one other) old new are read taken ends = let wrong = ends.1 in absurd (cc)
-told_runs text_at service parts (unlocked path why) old new are read taken ends = let wrong = ends.1 in absurd (cc)
-told_runs text_at service parts (unread path why) old new are read taken ends = let wrong = ends.1 in absurd (cc)
-told_runs text_at service parts too_many old new are read taken ends = let wrong = ends.1 in absurd (cc)
-told_runs text_at service parts (flawed told) old new are read taken ends = let wrong = ends.1 in absurd (cc)
-told_runs text_at service parts (unlisted id) old new are read taken ends = let wrong = ends.1 in absurd (cc)
-told_runs text_at service parts (stopped script f) old new are read taken ends = let wrong = ends.1 in absurd (cc)
-told_runs text_at service parts no_memory old new are read taken ends = ends
-told_runs text_at service parts done old new are read taken ends = (parts, are, (read, taken, ends))
-told_runs text_at service parts (usage reason) old new are read taken ends = (parts, are, (read, taken, ends))
-told_runs text_at service parts unflushed old new are read taken ends = (parts, are, (read, taken, ends))
-told_runs text_at service parts (lawful left) old new are read taken ends = (parts, are, (read, taken, ends))
-told_runs text_at service parts (unlawful message left) old new are read taken ends = (parts, are, (read, taken, ends))
-told_runs text_at service parts (torn line) old new are read taken ends = (parts, are, (read, taken, ends))
-told_runs text_at service parts (unfinished line verdict) old new are read taken ends = (parts, are, (read, taken, ends))
-told_runs text_at service parts unwritten old new are read taken ends = (parts, are, (read, taken, ends))
-told_runs text_at service parts (turned unled end) old new are read taken ends = (parts, are, (read, taken, ends))
-told_runs text_at service parts (uncreated path why) old new are read taken ends = (parts, are, (read, taken, ends))
-told_runs text_at service parts untold old new are read taken ends = (parts, are, (read, taken, ends))
-told_runs text_at service parts unversioned old new are read taken ends = (parts, are, (read, taken, ends))
+-- a trace that was not created, or that another run writes, is that of the run
+pub traced : (said path : Option (List ℕ)) (named : List ℕ) → IsSome said → path ≡ said → named ≡ unwrap_or path [] → said ≡ Some named
+traced said path named some same is = some_path said some ∙ ap (λ p. Some (unwrap_or p [])) (sym same) ∙ ap Some (sym is)
 
--- a run over an inittab that was read ends as is told of it
-pub opened_runs : (text_at : KnownTexts) (service : RunSaid) (unled : Bool) (faults : List ℕ) (ending : Ending) (old new : Option (List ℕ))
-    → HasInittab text_at service (λ parts. (faults ≡ faults_text parts (faults_of_parts (texts_of parts))) × (unled ≡ is_unled service.level (table_of_texts (texts_of parts))) × (is_taken service faults (table_of_texts (texts_of parts)) ≡ true))
-    → EndsTold service unled faults ending old new → EndsRun text_at service ending old new
-opened_runs text_at service unled faults ending old new (parts, are, read, (told, led, taken)) ends =
-    told_runs text_at service parts ending old new are read (subst (λ lines. is_taken service lines (table_of_texts (texts_of parts)) ≡ true) told taken)
-    (subst (λ lines. EndsTold service (is_unled service.level (table_of_texts (texts_of parts))) lines ending old new) told
-    (subst (λ b. EndsTold service b faults ending old new) led ends))
-
--- the endings that faults are which end a run before its first turn
-pub of_held : (service : RunSaid) (fault : RunFault) (path : List ℕ) (holder : Option ℕ) → fault ≡ why.Held holder → path ≡ unwrap_or service.trace []
-    → IsOfFault service fault (busy path holder)
-of_held service fault path holder is at =
-    subst (λ f. IsOfFault service f (busy path holder)) (sym is) (ap (λ p. busy p holder) at)
-
-pub of_busy : (service : RunSaid) (fault : RunFault) (path : List ℕ) (holder : Option ℕ) → fault ≡ why.Busy holder → path ≡ service.initctl
-    → IsOfFault service fault (busy path holder)
-of_busy service fault path holder is at =
-    subst (λ f. IsOfFault service f (busy path holder)) (sym is) (ap (λ p. busy p holder) at)
-
-pub of_channel : (service : RunSaid) (fault : RunFault) (error : Error) (path reason : List ℕ) → fault ≡ why.Channel error → path ≡ service.initctl
-    → IsOfFault service fault (unlocked path reason)
-of_channel service fault error path reason is at =
-    subst (λ f. IsOfFault service f (unlocked path reason)) (sym is) (reason, ap (λ p. unlocked p reason) at)
-
-pub of_inittab : (service : RunSaid) (fault : RunFault) (error : Error) (path reason : List ℕ) → fault ≡ why.Inittab error → path ≡ service.inittab
-    → IsOfFault service fault (unread path reason)
-of_inittab service fault error path reason is at =
-    subst (λ f. IsOfFault service f (unread path reason)) (sym is) (reason, ap (λ p. unread p reason) at)
-
-pub of_many : (service : RunSaid) (given : RunFault) → given ≡ why.TooMany → IsOfFault service given too_many
-of_many service given is = subst (λ f. IsOfFault service f too_many) (sym is) refl
-
-pub of_long : (service : RunSaid) (given : RunFault) → given ≡ why.TooLong → IsOfFault service given (stopped [] fault.Table)
-of_long service given is = subst (λ f. IsOfFault service f (stopped [] fault.Table)) (sym is) refl
-
-pub of_unlisted : (service : RunSaid) (given : RunFault) (id : List ℕ) → given ≡ why.Unlisted id → IsOfFault service given (unlisted id)
-of_unlisted service given id is = subst (λ f. IsOfFault service f (unlisted id)) (sym is) refl
-
-pub of_trace : (service : RunSaid) (fault : RunFault) (error : Error) (path reason : List ℕ) → fault ≡ why.Trace error → path ≡ unwrap_or service.trace []
-    → IsOfFault service fault (uncreated path reason)
-of_trace service fault error path reason is at =
-    subst (λ f. IsOfFault service f (uncreated path reason)) (sym is) (reason, ap (λ p. uncreated p reason) at)
-
-pub of_memory : (service : RunSaid) (fault : RunFault) → fault ≡ why.Memory → IsOfFault service fault no_memory
-of_memory service fault is = subst (λ f. IsOfFault service f no_memory) (sym is) refl
-
--- what is so of a fault is so of it handed on
-pub handed_on : {T : Type 0} (r : Result T RunFault) (given : RunFault) (So : RunFault → Type 0) → IsErrAnd r (λ fault. fault ≡ given) → So given → IfErr r So
-handed_on (Ok value) given So is so = tt
-handed_on (Err error) given So is so = subst So (sym is) so
+-- a fault of a run as the obstacle that it is
+pub reported_as : (service : RunSaid) (fault given : RunFault) (reason : List ℕ) (status : ℕ) (old new : Option (List ℕ)) → fault ≡ given
+    → status ≡ obstacle_status (obstacle_of service reason given) → ReportsObstacle (obstacle_of service reason given) old new
+    → (why : List ℕ) × (status ≡ obstacle_status (obstacle_of service why fault)) × ReportsObstacle (obstacle_of service why fault) old new
+reported_as service fault given reason status old new is by reports =
+    (reason, by ∙ ap (λ f. obstacle_status (obstacle_of service reason f)) (sym is), subst (λ f. ReportsObstacle (obstacle_of service reason f) old new) (sym is) reports)

@@ -1,5 +1,5 @@
 -- What turns noted over a host that tells its calls, what their judge found, and how their log ended.
-use Rattle.std.proofs.Common.{◌≡◌, refl, sym, ◌∙◌, ap, subst, inr, inl, ◌⊎◌, ℕ, Bool, true, false, not, ◌&&◌, if◌then◌else◌, List, [], ◌++◌, reverse, Option, Some, None, is_some, IfSome}
+use Rattle.std.proofs.Common.{◌≡◌, refl, sym, ◌∙◌, ap, subst, ℕ, Bool, true, false, not, ◌&&◌, if◌then◌else◌, List, [], ◌++◌, reverse, Option, Some, None, is_some, IfSome}
 use Rattle.std.proofs.lemmas.Bool.{and_parts, not-true}
 use Rattle.std.proofs.lemmas.List.{append-nil, reverse-append, reverse-reverse}
 use Rattle.init_words.specs.declared.entries.Entry.{Entry}
@@ -9,10 +9,7 @@ use Rattle.trace_log.specs.Logs.{LogState}
 use Rattle.host_calls.specs.Calls.{HostCall}
 use Rattle.host_trace.specs.Leads.{Takes}
 use Rattle.host_trace.specs.Point.{point_after}
-use Rattle.trace_log_wrappers.specs.declared.run_notes.LastEnd.TheVariants.{Unnoted}
-use Rattle.trace_log_wrappers.specs.Ends.{last_end}
-use Rattle.trace_log_wrappers.specs.Notes.{IsRunning, Notes, NotesOf, is_wanted, last_noted, last_of}
-use Rattle.trace_log_wrappers.proofs.Noted.{last_by_notes}
+use Rattle.trace_log_wrappers.specs.Notes.{IsRunning, Notes, NotesOf, is_wanted}
 use Rattle.init_turns.specs.declared.serving.Served.{Served}
 use Rattle.trace_events.specs.declared.steps.Goal.{Goal}
 use Rattle.core_model.specs.State.{CoreState, opening_goal}
@@ -47,10 +44,10 @@ abbrev IsWaiting : List ℕ → List Event → Type 0
 IsWaiting waiting past = (goal : Goal) × (core : CoreState) × FitsAll core goal past × (waiting ≡ waiting_text core)
 
 -- notes of a trace, and what its judge found
-noted_of_trace : (notes : Notes) (waiting : List ℕ) (judgement : Option Judgement) (past : List Event)
-    → NotesOf notes past → IsWaiting waiting past → IfSome judgement (λ found. Finds found past) → IsNoted (noted_of notes waiting judgement) past
-noted_of_trace notes waiting judgement past of waits finds = record {
-  last = λ id. known id (is_wanted id notes.wanted) refl;
+noted_of_trace : (wanted : Option (List ℕ)) (notes : Notes) (waiting : List ℕ) (judgement : Option Judgement) (past : List Event) → notes.wanted ≡ wanted
+    → NotesOf notes past → IsWaiting waiting past → IfSome judgement (λ found. Finds found past) → IsNoted wanted (noted_of notes waiting judgement) past
+noted_of_trace wanted notes waiting judgement past same of waits finds = record {
+  last = λ id is. of.last id (ap (is_wanted id) same ∙ is);
   running = going notes.complete refl;
   waiting = waits;
   judgement = finds;
@@ -59,10 +56,6 @@ noted_of_trace notes waiting judgement past of waits finds = record {
     going : (complete : Bool) → notes.complete ≡ complete → IfSome (if complete then Some notes.running else None) (λ running. IsRunning running past)
     going true all = of.running all
     going false none = tt
-
-    known : (id : List ℕ) (wanted : Bool) → is_wanted id notes.wanted ≡ wanted → (last_noted id notes ≡ Unnoted) ⊎ (last_noted id notes ≡ last_of (last_end id past))
-    known id true is = inr (last_by_notes notes id past of is)
-    known id false other = inl (ap (λ b. if b then last_of notes.last else Unnoted) other)
 
 -- turns are as many behind the end of their log
 pub served_still : (P : ℕ → Bool → Type 0) (served ended : Served) (logged : Bool) → ended ≡ record served { logged = logged } → P served.turns served.drained → P ended.turns ended.drained
@@ -88,22 +81,22 @@ module _ (has_ended : Bool → List Event → Type 0) (whole : Bool) (past misse
 pub noted_over : (has_ended : Bool → List Event → Type 0) (Found : List Event → Type 0) (taken : List Event → Type 0) (notes : Notes) (found : Judgement) (failed whole : Bool)
     (core : CoreState) (old : LogState) (service : RunSaid) (level : Option Level) (table : List Entry) (served ended : Served) (judgement : Option Judgement) (calls : List HostCall)
     → ended ≡ record served { logged = served.logged && whole } → judgement ≡ judgement_for service found
-    → old.taken [] → served.logged ≡ not failed
+    → old.taken [] → old.noted ≡ service.result → served.logged ≡ not failed
     → ((trace : List Event) → Found (reverse trace) × taken trace → Finds found (reverse trace)) → ((trace : List Event) → taken trace → has_ended whole trace)
-    → LeadsFrom level table core old (record { taken = λ trace. NotesOf notes (reverse trace) × (Found (reverse trace) × taken trace); failed = failed }) calls
-    → TurnsFrom level table calls (λ past. (ended.logged ≡ true → IsNoted (noted_of notes (waiting_text core) judgement) past) × LogEnds has_ended ended.logged (reverse past))
-noted_over has_ended Found taken notes found failed whole core old service level table served ended judgement calls goes asked none logged finds ends leads = λ allowed carried.
+    → LeadsFrom level table core old (record { taken = λ trace. NotesOf notes (reverse trace) × (Found (reverse trace) × taken trace); failed = failed; noted = notes.wanted }) calls
+    → TurnsFrom level table calls (λ past. (ended.logged ≡ true → IsNoted service.result (noted_of notes (waiting_text core) judgement) past) × LogEnds has_ended ended.logged (reverse past))
+noted_over has_ended Found taken notes found failed whole core old service level table served ended judgement calls goes asked none result logged finds ends leads = λ allowed carried.
     let went = (leads allowed).1 carried in
     let past = (point_after calls (opening_point table)).past in
     let took = went.log in
-    let takes : Takes old (record { taken = λ trace. NotesOf notes (reverse trace) × (Found (reverse trace) × taken trace); failed = failed }) [] took.came = took.log [] none in
+    let takes : Takes old (record { taken = λ trace. NotesOf notes (reverse trace) × (Found (reverse trace) × taken trace); failed = failed; noted = notes.wanted }) [] took.came = took.log [] none in
     let parts : past ≡ takes.missed ++ takes.took = took.grown ∙ append-nil took.came ∙ takes.parts in
     let all : served.logged ≡ true → takes.missed ≡ [] = λ h. takes.whole (not-true failed (sym logged ∙ h)) in
     let so : ended.logged ≡ (served.logged && whole) = ap (λ s. s.logged) goes in (
       (λ h.
           let every : takes.took ≡ past = sym (parts ∙ ap (λ m. m ++ takes.took) (all (and_parts served.logged whole (sym so ∙ h)).0)) in
           let same : reverse (reverse takes.took) ≡ past = reverse-reverse takes.took ∙ every in
-          noted_of_trace notes (waiting_text core) judgement past (subst (NotesOf notes) same takes.told.0)
+          noted_of_trace service.result notes (waiting_text core) judgement past (took.same ∙ result) (subst (NotesOf notes) same takes.told.0)
           (opening_goal level table, core, went.fits.0.fits, refl)
           (subst (λ j. IfSome j (λ given. Finds given past)) (sym asked) (found_for service found past (subst (Finds found) same (finds (reverse takes.took) takes.told.1))))),
       subst (λ b. LogEnds has_ended b (reverse past)) (sym so) (log_ends has_ended whole past takes.missed takes.took parts (ends (reverse takes.took) takes.told.1.1) served.logged all),

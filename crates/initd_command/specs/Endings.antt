@@ -1,5 +1,5 @@
 -- How a command line of initd ends: its exit status, what was written, and what is reported of it.
-use Rattle.std.specs.Prelude.{ℕ, Bool, true, false, ◌==◌, if◌then◌else◌, List, [], ◌++◌, length, codes, decimal, Option, Some, None}
+use Rattle.std.specs.Prelude.{◌≡◌, ℕ, Bool, true, false, ◌==◌, if◌then◌else◌, List, [], ◌++◌, length, codes, decimal, Option, Some, None}
 use Rattle.std.specs.Io.KnownBytes.{Keeps}
 use Rattle.program_io.specs.Writing.{AppendsPrefix}
 use Rattle.program_io.specs.declared.statuses.TheConstants.{DONE, REFUSED, UNLAWFUL, DEVICE_FAULT}
@@ -23,22 +23,31 @@ pub record Judged : Type 0 where
   pub left : Option ℕ
   pub count : ℕ
 
--- done; the words are no command line, and why, or memory ran out; the file of a path was not read, and why; the inittab
--- has too many files, or faults that these lines tell, or no entry of this id; the run over this script ended before its
--- end; the writer could not be flushed; a trace is lawful, or unlawful, of which this is told, so far as it was judged; its
--- line of this number is none; its happening at this line isn't finished, and this is the verdict up to it; the verdict
--- could not be written; the channel or the trace of a run over the operating system is in use, by whom where that is known,
--- or two of its files are one, or the channel was not locked, and why; its turns ended so, where nothing names its level or something does;
--- the file of its trace was not created, and why; the faults of its inittab could not be written; the version could not be
--- written
+-- Why a command is refused, or can't go on, before it writes anything: the file of a path was not read, and why; memory
+-- ran out; the inittab has too many files, is too long, has faults that these lines tell, or has no entry of this id; a
+-- file is in use, by whom where that is known; two files are one; the channel was not locked, or the trace not created,
+-- and why
+pub data Obstacle : Type 0 where
+  unread : List ℕ → List ℕ → Obstacle
+  no_memory : Obstacle
+  too_many : Obstacle
+  too_long : Obstacle
+  flawed : List ℕ → Obstacle
+  unlisted : List ℕ → Obstacle
+  busy : List ℕ → Option ℕ → Obstacle
+  shared : List ℕ → List ℕ → Obstacle
+  unlocked : List ℕ → List ℕ → Obstacle
+  uncreated : List ℕ → List ℕ → Obstacle
+
+-- done; the words are no command line, and why; there is an obstacle; the run over this script ended before its end; the
+-- writer could not be flushed; a trace is lawful, or unlawful, of which this is told, so far as it was judged; its line of
+-- this number is none; its happening at this line isn't finished, and this is the verdict up to it; the verdict could not
+-- be written; the turns of a run over the operating system ended so, where nothing names its level or something does; the
+-- faults of its inittab could not be written; the version could not be written
 pub data Ending : Type 0 where
   done : Ending
   usage : List ℕ → Ending
-  no_memory : Ending
-  unread : List ℕ → List ℕ → Ending
-  too_many : Ending
-  flawed : List ℕ → Ending
-  unlisted : List ℕ → Ending
+  refused : Obstacle → Ending
   stopped : List ℕ → SimFault → Ending
   unflushed : Ending
   lawful : Judged → Ending
@@ -46,13 +55,21 @@ pub data Ending : Type 0 where
   torn : ℕ → Ending
   unfinished : ℕ → List ℕ → Ending
   unwritten : Ending
-  busy : List ℕ → Option ℕ → Ending
-  shared : List ℕ → List ℕ → Ending
-  unlocked : List ℕ → List ℕ → Ending
   turned : Bool → End → Ending
-  uncreated : List ℕ → List ℕ → Ending
   untold : Ending
   unversioned : Ending
+
+abbrev pub obstacle_status : Obstacle → ℕ
+obstacle_status (unread path why) = DEVICE_FAULT
+obstacle_status no_memory = DEVICE_FAULT
+obstacle_status too_many = REFUSED
+obstacle_status too_long = REFUSED
+obstacle_status (flawed told) = REFUSED
+obstacle_status (unlisted id) = REFUSED
+obstacle_status (busy path holder) = DEVICE_FAULT
+obstacle_status (shared one other) = REFUSED
+obstacle_status (unlocked path why) = DEVICE_FAULT
+obstacle_status (uncreated path why) = DEVICE_FAULT
 
 abbrev pub fault_status : SimFault → ℕ
 fault_status fault.Table = REFUSED
@@ -64,11 +81,7 @@ fault_status fault.Memory = DEVICE_FAULT
 abbrev pub status_of : Ending → ℕ
 status_of done = DONE
 status_of (usage reason) = REFUSED
-status_of no_memory = DEVICE_FAULT
-status_of (unread path why) = DEVICE_FAULT
-status_of too_many = REFUSED
-status_of (flawed told) = REFUSED
-status_of (unlisted id) = REFUSED
+status_of (refused why) = obstacle_status why
 status_of (stopped script f) = fault_status f
 status_of unflushed = DEVICE_FAULT
 status_of (lawful judged) = DONE
@@ -76,11 +89,7 @@ status_of (unlawful message judged) = UNLAWFUL
 status_of (torn line) = REFUSED
 status_of (unfinished line verdict) = REFUSED
 status_of unwritten = DEVICE_FAULT
-status_of (busy path holder) = DEVICE_FAULT
-status_of (shared one other) = REFUSED
-status_of (unlocked path why) = DEVICE_FAULT
 status_of (turned unled end) = end_status end
-status_of (uncreated path why) = DEVICE_FAULT
 status_of untold = DEVICE_FAULT
 status_of unversioned = DEVICE_FAULT
 
@@ -169,15 +178,23 @@ ReportsJudged judged old new =
 abbrev pub usage_told : List ℕ → List ℕ
 usage_told reason = if length reason == 0 then USAGE.now else SHORT_USAGE.now
 
+abbrev pub ReportsObstacle : Obstacle → Option (List ℕ) → Option (List ℕ) → Type 0
+ReportsObstacle (unread path why) old new = ReportsText (cannot_message (codes "read") path why) old new
+ReportsObstacle no_memory old new = AppendsPrefix old new NO_MEMORY.now
+ReportsObstacle too_many old new = AppendsPrefix old new TOO_MANY.now
+ReportsObstacle too_long old new = ReportsText (fault_message [] fault.Table) old new
+ReportsObstacle (flawed told) old new = ReportsFlawed told old new
+ReportsObstacle (unlisted id) old new = ReportsText (unlisted_message id) old new
+ReportsObstacle (busy path holder) old new = ReportsText (busy_message path holder) old new
+ReportsObstacle (shared one other) old new = ReportsText (shared_message one other) old new
+ReportsObstacle (unlocked path why) old new = ReportsText (cannot_message (codes "lock") path why) old new
+ReportsObstacle (uncreated path why) old new = ReportsText (cannot_message (codes "create") path why) old new
+
 -- what is reported of an ending
 abbrev pub Reports : Ending → Option (List ℕ) → Option (List ℕ) → Type 0
 Reports done old new = Keeps old new
 Reports (usage reason) old new = AppendsPrefix old new (usage_report (codes "initd") reason (usage_told reason))
-Reports no_memory old new = AppendsPrefix old new NO_MEMORY.now
-Reports (unread path why) old new = ReportsText (cannot_message (codes "read") path why) old new
-Reports too_many old new = AppendsPrefix old new TOO_MANY.now
-Reports (flawed told) old new = ReportsFlawed told old new
-Reports (unlisted id) old new = ReportsText (unlisted_message id) old new
+Reports (refused why) old new = ReportsObstacle why old new
 Reports (stopped script f) old new = ReportsText (fault_message script f) old new
 Reports unflushed old new = ReportsText (fault_message [] fault.Write) old new
 Reports (lawful judged) old new = ReportsJudged judged old new
@@ -186,10 +203,10 @@ Reports (unlawful message judged) old new =
 Reports (torn line) old new = ReportsText (torn_message line) old new
 Reports (unfinished line verdict) old new = ReportsText (unfinished_message line verdict) old new
 Reports unwritten old new = AppendsPrefix old new UNWRITTEN.now
-Reports (busy path holder) old new = ReportsText (busy_message path holder) old new
-Reports (shared one other) old new = ReportsText (shared_message one other) old new
-Reports (unlocked path why) old new = ReportsText (cannot_message (codes "lock") path why) old new
 Reports (turned unled end) old new = (mid : Option (List ℕ)) × ReportsUnled unled old mid × ReportsEnd end mid new
-Reports (uncreated path why) old new = ReportsText (cannot_message (codes "create") path why) old new
 Reports untold old new = AppendsPrefix old new UNTOLD.now
 Reports unversioned old new = AppendsPrefix old new UNVERSIONED.now
+
+-- the file of this path was not read, and nothing was written
+abbrev pub EndsUnread : List ℕ → Ending → Option (List ℕ) → Option (List ℕ) → Type 0
+EndsUnread path ending old new = (why : List ℕ) × (ending ≡ refused (unread path why)) × Keeps old new

@@ -1,16 +1,13 @@
 -- Which calls a run of init makes of its host.
 use Rattle.std.specs.Prelude.{◌≡◌, ℕ, Bool, true, List, [], ◌∷◌, reverse, Option, Some, None, IfSome, ⊤}
 use Rattle.std.specs.Io.KnownBytes.{Appends}
-use Rattle.init_words.specs.Parts.{texts_of}
 use Rattle.init_words.specs.declared.entries.Entry.{Entry}
-use Rattle.inittab_text.specs.Parts.{faults_of_parts, table_of_texts}
 use Rattle.program_io.specs.Known.{KnownTexts}
 use Rattle.initd_options.specs.CommandLine.{InitdSaid, initd_read_of, runs}
 use Rattle.initd_options.specs.Options.{RunSaid}
 use Rattle.trace_events.specs.Event.{Event}
 use Rattle.host_calls.specs.Calls.{HostCall}
 use Rattle.host_calls.specs.Record.{Since}
-use Rattle.host_system.specs.LineFaults.{faults_text}
 use Rattle.host_trace.specs.Fronts.{EachFront, GoesSoFar}
 use Rattle.init_words.specs.declared.levels.Level.{Level}
 use Rattle.core_model.specs.State.{CoreState, opening_goal}
@@ -21,7 +18,7 @@ use Rattle.init_turns.specs.Opening.{IsOpening}
 use Rattle.init_turns.specs.declared.serving.Served.{Served}
 use Rattle.initd_command.specs.Turned.{End}
 use Rattle.initd_command.specs.Endings.{Ending, turned}
-use Rattle.initd_command.specs.Services.{HasInittab, IsJudged, IsNoted, IsServed, LogEnds, Noted, TurnsFrom, end_of}
+use Rattle.initd_command.specs.Services.{HasInittab, IsJudged, IsNoted, IsServed, LogEnds, Noted, TurnsFrom, end_of, table_in, told_of}
 
 -- after these calls from the opening on init is drained, as far as the answers were possible: a core that fits there is so
 abbrev pub EndsDrained : Option Level → List Entry → List HostCall → Type 0
@@ -39,7 +36,7 @@ pub record MakesTurns (fresh : Type 0) (service : RunSaid) (table : List Entry) 
   pub turns : ServesTurns service.drain service.level table served.turns None None calls
   pub fronts : EachFront (GoesSoFar (IsOpening service.level table)) calls
   pub drains : served.drained ≡ true → EndsDrained service.level table calls
-  pub notes : fresh → served.logged ≡ true → TurnsFrom service.level table calls (IsNoted noted)
+  pub notes : fresh → served.logged ≡ true → TurnsFrom service.level table calls (IsNoted service.result noted)
   pub most : IsServed service served
   pub asked : IsJudged service noted
   pub ends : end ≡ end_of service noted served
@@ -69,8 +66,8 @@ pub record RunTold : Type 0 where
 -- opened by its arguments; and of all the calls that are told then `own` is so. Any other asks nothing of a host.
 abbrev pub RanTo : KnownTexts → RunSaid → (List HostCall → Type 0) → Option End → RunTold → RunTold → Type 0
 RanTo text_at service own (Some end) old new =
-    HasInittab text_at service (λ parts. Since old.calls new.calls (MakesTurns ⊤ service (table_of_texts (texts_of parts)) end)
-    × Appends old.out new.out (faults_text parts (faults_of_parts (texts_of parts))))
+    HasInittab text_at service (λ parts. Since old.calls new.calls (MakesTurns ⊤ service (table_in parts) end)
+    × Appends old.out new.out (told_of parts))
     × Since old.opened new.opened (λ saids. saids ≡ service ∷ []) × IfSome new.calls own
 RanTo text_at service own None old new = new.calls ≡ old.calls
 

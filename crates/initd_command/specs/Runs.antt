@@ -8,7 +8,7 @@ use Rattle.program_io.specs.Known.{IsTextAt, KnownTexts}
 use Rattle.simulator.specs.declared.running.SimFault.{SimFault}
 use Rattle.simulator.specs.Simulation.{Done, Ends, Scenario, scenario}
 use Rattle.initd_options.specs.CommandLine.{SimulateSaid, InitdSaid, judges, initd_read_of, simulates, runs, version}
-use Rattle.initd_command.specs.Endings.{Ending, done, usage, no_memory, unread, stopped, unflushed, unversioned}
+use Rattle.initd_command.specs.Endings.{Ending, EndsUnread, done, usage, refused, no_memory, stopped, unflushed, unversioned}
 use Rattle.initd_command.specs.Services.{EndsRun}
 use Rattle.initd_command.specs.Verdicts.{EndsCheck}
 
@@ -19,11 +19,12 @@ EndsSimulation s (stopped script f) old new = (script ≡ s.script) × Ends s f 
 EndsSimulation s unflushed old new = Done s old new ⊎ ((f : SimFault) × Ends s f old new)
 EndsSimulation s _ old new = ⊥
 
--- how a run ends of files: one is not read and nothing written, or the run ends over what was read
+-- how a run ends of files: one is not read, or the run ends over what was read
 abbrev pub EndsSimulate : KnownTexts → SimulateSaid → Ending → Option (List ℕ) → Option (List ℕ) → Type 0
-EndsSimulate text_at run (unread path why) old new = ((path ≡ run.table) ⊎ (path ≡ run.script)) × Keeps old new
-EndsSimulate text_at run ending old new = (inittab script : List ℕ) × IsTextAt text_at run.table inittab
-    × IsTextAt text_at run.script script × EndsSimulation (scenario run.level inittab script) ending old new
+EndsSimulate text_at run ending old new =
+    (EndsUnread run.table ending old new ⊎ EndsUnread run.script ending old new)
+    ⊎ ((inittab script : List ℕ) × IsTextAt text_at run.table inittab × IsTextAt text_at run.script script
+    × EndsSimulation (scenario run.level inittab script) ending old new)
 
 -- how the version ends that is asked for: it is written, or a part of it
 abbrev pub EndsVersion : Ending → Option (List ℕ) → Option (List ℕ) → Type 0
@@ -38,9 +39,12 @@ EndsSaid text_at (simulates run) ending old new = EndsSimulate text_at run endin
 EndsSaid text_at (judges check) ending old new = EndsCheck text_at check ending old new
 EndsSaid text_at (runs service) ending old new = EndsRun text_at service ending old new
 
--- how words end: they are no command line or memory ran out, and nothing is written, or they end by what they say
+-- how words end that are no command line, and how they end by what they say
+abbrev pub EndsRead : KnownTexts → Option InitdSaid → Ending → Option (List ℕ) → Option (List ℕ) → Type 0
+EndsRead text_at None ending old new = (reason : List ℕ) × (ending ≡ usage reason) × Keeps old new
+EndsRead text_at (Some said) ending old new = EndsSaid text_at said ending old new
+
+-- how words end: so, or memory ran out to read them
 abbrev pub EndsBy : KnownTexts → List (List ℕ) → Ending → Option (List ℕ) → Option (List ℕ) → Type 0
-EndsBy text_at words (usage reason) old new = (initd_read_of words ≡ None) × Keeps old new
-EndsBy text_at words no_memory old new = Keeps old new
 EndsBy text_at words ending old new =
-    (said : InitdSaid) × (initd_read_of words ≡ Some said) × EndsSaid text_at said ending old new
+    ((ending ≡ refused no_memory) × Keeps old new) ⊎ EndsRead text_at (initd_read_of words) ending old new

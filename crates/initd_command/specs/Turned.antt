@@ -6,16 +6,15 @@ use Rattle.program_io.specs.declared.statuses.TheConstants.{DONE, UNLAWFUL, LIMI
 use Rattle.init_words.specs.declared.children.Status.TheVariants.{Exit, Killed}
 use Rattle.trace_log_wrappers.specs.declared.judgements.Judgement.{Judgement}
 use Rattle.trace_log_wrappers.specs.declared.judgements.Judgement.TheVariants.{Lawful, Breach, Unjudged}
-use Rattle.trace_log_wrappers.specs.declared.run_notes.LastEnd.{LastEnd}
+use Rattle.init_words.specs.declared.children.Status.{Status}
 use Rattle.trace_check.specs.Laws.{law_words}
-use Rattle.trace_log_wrappers.specs.declared.run_notes.LastEnd.TheVariants.{Ended, Never, Unnoted}
-use Rattle.initd_command.specs.declared.ends.TheConstants.{KILLED, LIMITED, UNJUDGED, UNLOGGED, UNNAMED, UNNOTED}
+use Rattle.initd_command.specs.declared.ends.TheConstants.{KILLED, LIMITED, UNJUDGED, UNLOGGED, UNNAMED}
 use Rattle.initd_command.specs.declared.reports.TheConstants.{NO_MEMORY}
 
 -- The entry whose result the run's is, and how its last child that ended did so.
 pub record EntryEnd : Type 0 where
   pub id : List ℕ
-  pub last : LastEnd
+  pub last : Option Status
 
 -- it ended drained, with an entry's result or without one; it made all its turns, and these children with their numbers go on, or there was no memory to note them all, and these lines tell
 -- what init waits for; or its trace was not written whole, and so do these; with what was found of it, where it was to
@@ -26,11 +25,10 @@ pub data End : Type 0 where
   unlogged : List ℕ → Option Judgement → End
 
 -- an entry's result as an exit status
-abbrev pub result_status : LastEnd → ℕ
-result_status (Ended (Exit code)) = code
-result_status (Ended Killed) = KILLED
-result_status Never = DEVICE_FAULT
-result_status Unnoted = DEVICE_FAULT
+abbrev pub result_status : Option Status → ℕ
+result_status (Some (Exit code)) = code
+result_status (Some Killed) = KILLED
+result_status None = DEVICE_FAULT
 
 abbrev pub drained_status : Option EntryEnd → ℕ
 drained_status None = DONE
@@ -60,11 +58,10 @@ end_status (limited running waiting judgement) = judged_status judgement LIMIT_R
 end_status (unlogged waiting judgement) = DEVICE_FAULT
 
 -- how the last child of an entry ended
-abbrev pub last_text : LastEnd → List ℕ
-last_text (Ended (Exit code)) = codes " ended with " ++ (decimal code ++ codes "\n")
-last_text (Ended Killed) = codes " was killed\n"
-last_text Never = codes " never ended\n"
-last_text Unnoted = UNNOTED.now
+abbrev pub last_text : Option Status → List ℕ
+last_text (Some (Exit code)) = codes " ended with " ++ (decimal code ++ codes "\n")
+last_text (Some Killed) = codes " was killed\n"
+last_text None = codes " never ended\n"
 
 abbrev pub result_text : EntryEnd → List ℕ
 result_text entry = codes "initd: " ++ (entry.id ++ last_text entry.last)

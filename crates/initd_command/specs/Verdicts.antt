@@ -1,5 +1,5 @@
 -- How a trace is judged: the verdict that is written, and what is told of a breach.
-use Rattle.std.specs.Prelude.{◌≡◌, ◌==◌, ◌&&◌, if◌then◌else◌, not, nat_lt, ℕ, Bool, true, false, List, [], ◌∷◌, ◌++◌, codes, decimal, Option, Some, None}
+use Rattle.std.specs.Prelude.{◌≡◌, ◌⊎◌, ◌==◌, ◌&&◌, if◌then◌else◌, not, nat_lt, ℕ, Bool, true, false, List, [], ◌∷◌, ◌++◌, codes, decimal, Option, Some, None}
 use Rattle.std.specs.Io.KnownBytes.{Appends, Keeps}
 use Rattle.program_io.specs.Writing.{AppendsPrefix}
 use Rattle.program_io.specs.Known.{IsTextAt, KnownTexts}
@@ -10,7 +10,7 @@ use Rattle.trace_verdict.specs.Answers.{Named, Answers}
 use Rattle.trace_verdict.specs.Judges.{HasTaken, TextState}
 use Rattle.initd_options.specs.CommandLine.{CheckSaid}
 use Rattle.initd_command.specs.Lines.{front_line}
-use Rattle.initd_command.specs.Endings.{Ending, Judged, no_memory, unread, lawful, unlawful, torn, unfinished, unwritten}
+use Rattle.initd_command.specs.Endings.{Ending, EndsUnread, Judged, refused, no_memory, lawful, unlawful, torn, unfinished, unwritten}
 
 -- the verdicts
 abbrev pub lawful_text : List ℕ
@@ -62,7 +62,7 @@ abbrev pub EndsBreach : Named → Judged → Ending → Option (List ℕ) → Op
 EndsBreach breach judged (unlawful message told) old new =
     (message ≡ breach_message breach) × (told ≡ judged) × Appends old new (unlawful_text breach)
 EndsBreach breach judged unwritten old new = AppendsPrefix old new (unlawful_text breach)
-EndsBreach breach judged no_memory old new = Keeps old new
+EndsBreach breach judged (refused no_memory) old new = Keeps old new
 EndsBreach breach judged _ old new = ⊥
 
 -- how a text ends of which a line is none
@@ -103,6 +103,5 @@ EndsTrace said text ending old new = (finding : Finding Named) × (left : Option
 
 -- how the text at a path ends: it is not read, or it ends so
 abbrev pub EndsCheck : KnownTexts → CheckSaid → Ending → Option (List ℕ) → Option (List ℕ) → Type 0
-EndsCheck text_at said (unread told why) old new = (told ≡ said.trace) × Keeps old new
-EndsCheck text_at said ending old new =
-    (text : List ℕ) × IsTextAt text_at said.trace text × EndsTrace said text ending old new
+EndsCheck text_at said ending old new = EndsUnread said.trace ending old new
+    ⊎ ((text : List ℕ) × IsTextAt text_at said.trace text × EndsTrace said text ending old new)

@@ -16,7 +16,7 @@ use itoa::Buffer;
 use program_io::{DEVICE_FAULT, DONE, LIMIT_REACHED, UNLAWFUL};
 use std::alloc::{AllocError, Global};
 use std::io::Write;
-use trace_log_wrappers::{Judgement, LastEnd, Numbers, RunNotes};
+use trace_log_wrappers::{Judgement, Numbers, RunNotes};
 
 /// What is reported where a run made all its turns.
 const LIMITED: &str = "initd: the limit of turns is reached\n";
@@ -26,9 +26,6 @@ const UNLOGGED: &str = "initd: the trace could not be written\n";
 
 /// What is reported in place of the children that go on.
 const UNNAMED: &str = "initd: there was no memory to name all children that go on\n";
-
-/// What is reported behind an id whose ends were not noted.
-const UNNOTED: &str = ": how it ended was not noted\n";
 
 /// What is reported of a run whose judge had no memory to judge it to its end.
 const UNJUDGED: &str = "initd: there was no memory to judge the run to its end\n";
@@ -172,22 +169,22 @@ fn report_result<E: Write>(alloc: Global, entry: Option<Id>, notes: &RunNotes, e
     let Some(id) = entry else {
         return DONE;
     };
-    let last = notes.last(&id);
+    let last = notes.last();
     report_lines(result_text(alloc, &id, last), err);
     result_status(last)
 }
 
-fn result_status(last: LastEnd) -> u8
+fn result_status(last: Option<Status>) -> u8
     ensures { result ≡ result_status last }
 {
     match last {
-        LastEnd::Ended(Status::Exit(code)) => code,
-        LastEnd::Ended(Status::Killed) => KILLED,
-        LastEnd::Never | LastEnd::Unnoted => DEVICE_FAULT,
+        Some(Status::Exit(code)) => code,
+        Some(Status::Killed) => KILLED,
+        None => DEVICE_FAULT,
     }
 }
 
-fn result_text(alloc: Global, id: &Id, last: LastEnd) -> Result<Vec<u8>, AllocError>
+fn result_text(alloc: Global, id: &Id, last: Option<Status>) -> Result<Vec<u8>, AllocError>
     ensures { IfOk result (λ text.
         text.items ≡ result_text (record { id = id.now; last = last })) }
 {
@@ -199,16 +196,15 @@ fn result_text(alloc: Global, id: &Id, last: LastEnd) -> Result<Vec<u8>, AllocEr
     Ok(text)
 }
 
-fn last_text(alloc: Global, last: LastEnd) -> Result<Vec<u8>, AllocError>
+fn last_text(alloc: Global, last: Option<Status>) -> Result<Vec<u8>, AllocError>
     ensures { IfOk result (λ text. text.items ≡ last_text last) }
 {
     match last {
-        LastEnd::Ended(Status::Exit(code)) => {
+        Some(Status::Exit(code)) => {
             numbered(alloc, b" ended with ", u64::from(code), b"\n")
         }
-        LastEnd::Ended(Status::Killed) => Vec::from_slice(alloc, b" was killed\n"),
-        LastEnd::Never => Vec::from_slice(alloc, b" never ended\n"),
-        LastEnd::Unnoted => Vec::from_slice(alloc, UNNOTED.as_bytes()),
+        Some(Status::Killed) => Vec::from_slice(alloc, b" was killed\n"),
+        None => Vec::from_slice(alloc, b" never ended\n"),
     }
 }
 

@@ -14,11 +14,11 @@ use trace_log::{EndedLog, Log, LogFault, StreamLog};
 pub(crate) struct NoLog {}
 
 impl Log for NoLog {
-    ghost use Rattle.std.specs.Prelude.{false, ⊤};
+    ghost use Rattle.std.specs.Prelude.{false, None, ⊤};
     ghost use Rattle.trace_log.specs.Logs.{LogState};
 
     ghost state = { λ _.
-        let nothing : LogState = record { taken = λ _. ⊤; failed = false } in nothing };
+        let nothing : LogState = record { taken = λ _. ⊤; failed = false; noted = None } in nothing };
 
     fn take<B: Allocator>(&mut self, _happening: &HappeningIn<B>) -> Result<(), LogFault> {
         Ok(())
@@ -61,6 +61,9 @@ pub(crate) fn is_held(file: &File) -> bool {
 
 /// How many bytes of a trace are kept while its file can't be written.
 const KEPT_LIMIT: usize = 1_048_576;
+
+/// How many bytes of looks that found nothing are written at once.
+const WRITE_LENGTH: usize = 16_384;
 
 /// A file that is begun anew where the first bytes come: what stood in it is there until then.
 #[derive(Drop)]
@@ -112,8 +115,8 @@ impl<F: Write + Drop> Write for Counted<F> {
     }
 }
 
-/// The file of a trace. Bytes that it doesn't take are kept, and written in front of the next ones. A contract sees none
-/// of them.
+/// The file of a trace. Looks that found nothing are kept, to be written with what comes next in one write, as are bytes
+/// that it doesn't take. A contract sees none of them.
 #[derive(Drop)]
 struct TraceFile<F: Write + Drop> {
     /// The file, and how many of the kept bytes it took.
@@ -136,6 +139,15 @@ impl<F: Write + Drop> TraceFile<F> {
     /// The bytes that the file has not taken.
     fn rest(&self) -> &[u8] {
         rest_of(&self.kept, self.file.count)
+    }
+
+    /// A look that found nothing, whose lines these are, is kept: the next line that is none is the next reading of the
+    /// clock at the latest.
+    fn can_wait(&self, line: &[u8]) -> bool {
+        let is_idle = line.starts_with(b"ask ") && line.ends_with(b" look\n")
+            || line.starts_with(b"still ")
+            || line.starts_with(b"told ") && !self.kept.is_empty();
+        is_idle && self.kept.len() < WRITE_LENGTH
     }
 
     /// Writes what is kept, as far as the file takes it.
@@ -178,8 +190,11 @@ impl<F: Write + Drop> Write for TraceFile<F> {
         if self.fault.is_some() && length > KEPT_LIMIT {
             return Err(io::Error::from(ErrorKind::StorageFull));
         }
+        let can_wait = self.can_wait(buf);
         self.kept.extend_from_slice(buf)?;
-        self.catch_up();
+        if !can_wait {
+            self.catch_up();
+        }
         Ok(buf.len())
     }
 
@@ -241,9 +256,7 @@ impl<'a, R: Files<File = File> + Eprint> FileLog<'a, R> {
         match &self.log.writer().fault {
             Some(error) if !self.is_waiting => {
                 self.is_waiting = true;
-                let _ = eprintln!(self.rt;
-                    "initd: cannot write the trace {path}: {error}: up to 1,048,576 bytes of it are kept until there is room"
-                );
+                say_waiting(self.rt, path, error);
             }
             None if self.is_waiting => {
                 self.is_waiting = false;
@@ -313,6 +326,13 @@ impl<'a, R: Files<File = File> + Eprint> FileLog<'a, R> {
     }
 }
 
+/// Says that bytes are kept since the file can't be written.
+fn say_waiting(rt: &impl Eprint, path: &str, error: &io::Error) {
+    let _ = eprintln!(rt;
+        "initd: cannot write the trace {path}: {error}: up to 1,048,576 bytes of it are kept until there is room"
+    );
+}
+
 /// Says, of a trace that could not be written, that it is written again.
 fn say_resumed(rt: &impl Eprint, path: &str, is_off: bool) -> io::Result<()> {
     if !is_off {
@@ -334,11 +354,11 @@ fn say_occupied(rt: &impl Eprint, path: &str, is_off: bool) -> io::Result<()> {
 }
 
 impl<R: Files<File = File> + Eprint> Log for FileLog<'_, R> {
-    ghost use Rattle.std.specs.Prelude.{false, ⊤};
+    ghost use Rattle.std.specs.Prelude.{false, None, ⊤};
     ghost use Rattle.trace_log.specs.Logs.{LogState};
 
     ghost state = { λ _.
-        let unknown : LogState = record { taken = λ _. ⊤; failed = false } in unknown };
+        let unknown : LogState = record { taken = λ _. ⊤; failed = false; noted = None } in unknown };
 
     fn take<B: Allocator>(&mut self, happening: &HappeningIn<B>) -> Result<(), LogFault> {
         self.write(happening);
@@ -362,7 +382,20 @@ impl<R: Files<File = File> + Eprint> EndedLog for FileLog<'_, R> {
 
     /// Whether the file took all of the trace, in pieces or in one.
     fn end(self) -> ((), bool) {
-        let is_whole = !self.is_torn && self.log.writer().fault.is_none();
-        ((), is_whole)
+        let FileLog {
+            rt,
+            alloc: _,
+            path,
+            log,
+            is_waiting,
+            is_torn,
+        } = self;
+        let (mut file, _) = log.end();
+        file.catch_up();
+        match &file.fault {
+            Some(error) if !is_waiting => say_waiting(rt, path, error),
+            _ => {}
+        }
+        ((), !is_torn && file.fault.is_none())
     }
 }

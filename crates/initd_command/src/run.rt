@@ -1,17 +1,16 @@
 //! `initd run`: what it stands on, and its turns.
 
-ghost use Rattle.std.specs.Prelude.{◌≡◌, ◌∷◌, ◌&&◌, true, List, Option, None, Some, [], option_map, unwrap_or, IfErr, IfOk, IfSome, OnErr, OnOk, ⊤};
-ghost use Rattle.init_words.specs.Parts.{NamedText, texts_of};
-ghost use Rattle.inittab_text.specs.Parts.{faults_of_parts, table_of_texts};
-ghost use Rattle.initd_command.specs.Endings.{Ending, Reports, ReportsUnled, status_of};
-ghost use Rattle.initd_command.specs.Ran.{MakesLogged, MakesTurns, RanBy, RanOver, turned_end};
+ghost use Rattle.std.specs.Prelude.{◌≡◌, ◌∷◌, ◌&&◌, true, ℕ, List, Option, None, Some, [], option_map, unwrap_or, IfErr, IfOk, IfSome, OnErr, OnOk, ⊤};
+ghost use Rattle.program_io.specs.Known.{KnownTexts};
+ghost use Rattle.init_words.specs.Parts.{NamedText};
+ghost use Rattle.initd_command.specs.Endings.{Ending, Reports, ReportsObstacle, ReportsUnled, obstacle_status, status_of};
+ghost use Rattle.initd_command.specs.Ran.{MakesLogged, MakesTurns, RanBy, RanOver};
 ghost use Rattle.initd_command.specs.Turned.{End, ReportsEnd, end_status};
 ghost use Rattle.init_words.specs.declared.entries.Entry.{Entry};
 ghost use Rattle.host_calls.specs.Record.{Since};
 ghost use Rattle.init_turns.specs.Opening.{IsOpeningOf};
-ghost use Rattle.host_system.specs.LineFaults.{faults_text};
-ghost use Rattle.initd_options.specs.Options.{run_of};
-ghost use Rattle.initd_command.specs.Services.{AreFiles, EndsRun, EndsServed, EndsTold, FailsBy, FailsOn, FailsOver, FailsToGet, FailsToLock, FailsToPart, FailsToRead, FailsToTake, HasInittab, IsInittab, IsOfFault, IsReadOf, has_result, is_taken, is_unled, judgement_for};
+ghost use Rattle.initd_options.specs.Options.{RunSaid, run_of};
+ghost use Rattle.initd_command.specs.Services.{AreFiles, EndsRun, EndsServed, EndsTold, HasInittab, Hinders, IsInittab, IsReadOf, TakesParts, has_result, is_taken, is_unled, judgement_for, obstacle_of, table_in, told_ending, told_of};
 
 use crate::ends::report_end;
 use crate::hosts::Hosts;
@@ -166,14 +165,14 @@ fn open_run<R, T: Texts, H: Host + Drop, S: Hosts<H>>(
 where
     R: Files<File = File> + Alloc + Eprint,
     ensures ok { IfOk result (λ run. HasInittab (T.text_at texts.now) (run_of said.now)
-        (λ parts. (run.faults.items ≡ faults_text parts (faults_of_parts (texts_of parts)))
-        × (run.is_unled ≡ is_unled said.now.level (table_of_texts (texts_of parts)))
-        × (is_taken (run_of said.now) run.faults.items (table_of_texts (texts_of parts)) ≡ true)
-        × IsOpeningOf said.now.level (table_of_texts (texts_of parts)) run.opening)) }
+        (λ parts. (run.faults.items ≡ told_of parts)
+        × (run.is_unled ≡ is_unled said.now.level (table_in parts))
+        × TakesParts (run_of said.now) parts
+        × IsOpeningOf said.now.level (table_in parts) run.opening)) }
     ensures host { IfOk result (λ run. H.told run.host ≡ S.told hosts.old) }
     ensures opened { OnOk result (Since (S.opened hosts.old) (S.opened hosts.new)
         (λ saids. saids ≡ run_of said.now ∷ [])) }
-    ensures err { IfErr result (FailsBy (T.text_at texts.now) (run_of said.now)) }
+    ensures err { IfErr result (Hinders (T.text_at texts.now) (run_of said.now)) }
     ensures unasked { OnErr result (S.told hosts.new ≡ S.told hosts.old) }
 {
     refuse_shared(rt, alloc, said)?;
@@ -198,7 +197,8 @@ where
     ensures unasked { OnErr result (S.told hosts.new ≡ S.told hosts.old) }
     ensures faults { IfOk result (λ run. run.faults.items ≡ inittab.faults.items) }
     ensures unled { IfOk result (λ run. run.is_unled ≡ is_unled said.now.level inittab.table) }
-    ensures err { IfErr result (FailsOver (run_of said.now)) }
+    ensures err { (text_at : KnownTexts) → IsInittab text_at (run_of said.now) inittab
+        → IfErr result (Hinders text_at (run_of said.now)) }
 {
     let Inittab { table, faults } = inittab;
     let is_unled = is_unled(said.level, &table);
@@ -235,7 +235,7 @@ fn open_host<R: Files<File = File> + Alloc, H: Host + Drop, S: Hosts<H>>(
     ensures opened { OnOk result (Since (S.opened hosts.old) (S.opened hosts.new)
         (λ saids. saids ≡ run_of said.now ∷ [])) }
     ensures unasked { OnErr result (S.told hosts.new ≡ S.told hosts.old) }
-    ensures err { IfErr result (FailsOver (run_of said.now)) }
+    ensures err { (text_at : KnownTexts) → IfErr result (Hinders text_at (run_of said.now)) }
 {
     let path = said.initctl.as_str();
     let lock = take_lock(rt, alloc, path)?;
@@ -271,7 +271,7 @@ fn is_unled(level: Option<Level>, table: &Table) -> bool
 
 /// Refuses two paths of the run that lead to one file: what is written to one would be lost in the other.
 fn refuse_shared<R: Files>(rt: &R, alloc: Global, said: &RunWords) -> Result<(), RunFault>
-    ensures { IfErr result FailsToPart }
+    ensures { (text_at : KnownTexts) → IfErr result (Hinders text_at (run_of said.now)) }
 {
     let inittab = said.inittab.as_str();
     let initctl = said.initctl.as_str();
@@ -299,7 +299,7 @@ fn take_lock<R: Files<File = File>>(
     alloc: Global,
     path: &str,
 ) -> Result<ChannelLock, RunFault>
-    ensures { IfErr result FailsToLock }
+    ensures { (text_at : KnownTexts) (service : RunSaid) → IfErr result (Hinders text_at service) }
 {
     match lock_channel(rt, path) {
         Ok(Some(lock)) => Ok(lock),
@@ -328,7 +328,7 @@ fn add_folder<R: Files + Eprint>(
     ensures own { IfOk result (λ parts. (more : List NamedText) × (parts.items ≡ own ∷ more)) }
     ensures alone { (run_of said.now).inittab_dir ≡ None
         → IfOk result (λ parts. parts.items ≡ own ∷ []) }
-    ensures err { IfErr result (FailsToGet (run_of said.now)) }
+    ensures err { (text_at : KnownTexts) → IfErr result (Hinders text_at (run_of said.now)) }
 {
     let mut passed = PassedNames::new(alloc, said.verbose);
     match with_folder(rt, alloc, own, folder_of(said), &mut passed) {
@@ -347,7 +347,7 @@ fn files_of<R: Files + Eprint, T: Texts>(
 ) -> Result<Vec<Part>, RunFault>
     ensures ok { IfOk result (λ parts.
         AreFiles (T.text_at texts.now) (run_of said.now) parts.items) }
-    ensures err { IfErr result (FailsToGet (run_of said.now)) }
+    ensures err { IfErr result (Hinders (T.text_at texts.now) (run_of said.now)) }
 {
     let bytes = match texts.read_file(alloc, said.inittab.as_str()) {
         Ok(bytes) => bytes,
@@ -373,7 +373,9 @@ fn hinted(said: &RunWords, error: io::Error) -> io::Error {
 fn taken(said: &RunWords, inittab: Inittab) -> Result<Inittab, RunFault>
     ensures ok { IfOk result (λ given. (given ≡ inittab)
         × (is_taken (run_of said.now) inittab.faults.items inittab.table ≡ true)) }
-    ensures err { IfErr result (FailsToTake (run_of said.now) inittab) }
+    ensures err { (text_at : KnownTexts) (parts : List NamedText)
+        → AreFiles text_at (run_of said.now) parts → IsReadOf parts inittab
+        → IfErr result (Hinders text_at (run_of said.now)) }
 {
     if said.strict && !inittab.faults.is_empty() {
         return Err(RunFault::Flawed(inittab.faults));
@@ -400,7 +402,8 @@ fn has_entry(table: &Table, id: &Id) -> bool
 /// The table of the files of an inittab, and the lines that tell their faults.
 fn inittab_of(alloc: Global, parts: &[Part]) -> Result<Inittab, RunFault>
     ensures ok { IfOk result (IsReadOf parts.now) }
-    ensures err { IfErr result (FailsOn parts.now) }
+    ensures err { (text_at : KnownTexts) (service : RunSaid) → AreFiles text_at service parts.now
+        → IfErr result (Hinders text_at service) }
 {
     match read_parts(alloc, parts) {
         Ok((table, faults)) => Ok(Inittab {
@@ -420,7 +423,7 @@ fn read_inittab<R: Files + Eprint, T: Texts>(
     said: &RunWords,
 ) -> Result<Inittab, RunFault>
     ensures ok { IfOk result (IsInittab (T.text_at texts.now) (run_of said.now)) }
-    ensures err { IfErr result (FailsToRead (T.text_at texts.now) (run_of said.now)) }
+    ensures err { IfErr result (Hinders (T.text_at texts.now) (run_of said.now)) }
 {
     let parts = files_of(rt, texts, alloc, said)?;
     let inittab = inittab_of(alloc, &parts)?;
@@ -433,7 +436,9 @@ fn open_trace<R: Files<File = File>>(
     alloc: Global,
     said: &RunWords,
 ) -> Result<(Option<File>, bool), RunFault>
-    ensures { IfErr result (FailsOver (run_of said.now)) }
+    ensures { (text_at : KnownTexts)
+        → HasInittab text_at (run_of said.now) (TakesParts (run_of said.now))
+        → IfErr result (Hinders text_at (run_of said.now)) }
 {
     let Some(path) = &said.trace else {
         return Ok((None, false));
@@ -461,9 +466,10 @@ fn opened<R: Files<File = File>>(rt: &R, path: &str) -> io::Result<(Option<File>
 
 /// Reports why a run ended before its first turn, and gives the exit status.
 fn report_run_fault<E: Write>(alloc: Global, said: &RunWords, fault: &RunFault, err: &mut E) -> u8
-    ensures { (ending : Ending) × (result ≡ status_of ending)
-        × IsOfFault (run_of said.now) fault.now ending
-        × Reports ending (E.contents err.old) (E.contents err.new) }
+    ensures { (reason : List ℕ)
+        × (result ≡ obstacle_status (obstacle_of (run_of said.now) reason fault.now))
+        × ReportsObstacle (obstacle_of (run_of said.now) reason fault.now)
+        (E.contents err.old) (E.contents err.new) }
 {
     let initctl = said.initctl.as_str();
     match fault {
@@ -508,13 +514,11 @@ fn make_run<R, H: Host + Drop, S: Hosts<H>, W: Write, E: Write>(
 ) -> u8
 where
     R: Files<File = File> + Alloc + Eprint + Clock,
-    ensures ended { (ending : Ending) × (result ≡ status_of ending)
-        × EndsTold (run_of said.now) run.is_unled run.faults.items ending
-        (W.contents out.old) (W.contents out.new)
-        × Reports ending (E.contents err.old) (E.contents err.new)
+    ensures ended { (end : Option End) × (result ≡ status_of (told_ending run.is_unled end))
+        × EndsTold (run_of said.now) run.faults.items end (W.contents out.old) (W.contents out.new)
+        × Reports (told_ending run.is_unled end) (E.contents err.old) (E.contents err.new)
         × ((table : List Entry) → IsOpeningOf (run_of said.now).level table run.opening
-        → RanOver (run_of said.now) table (turned_end ending) (H.told run.host)
-        (S.told hosts.new)) }
+        → RanOver (run_of said.now) table end (H.told run.host) (S.told hosts.new)) }
     ensures own { IfSome (S.told hosts.new) S.own }
     ensures opened { S.opened hosts.new ≡ S.opened hosts.old }
 {

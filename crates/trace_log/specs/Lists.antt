@@ -1,5 +1,5 @@
 -- What a log in memory took: the happenings of its list.
-use Rattle.std.specs.Prelude.{◌≡◌, Bool, List}
+use Rattle.std.specs.Prelude.{◌≡◌, Bool, List, None}
 use Rattle.trace_events.specs.Event.{Event}
 use Rattle.trace_log.specs.Logs.{LogState}
 
@@ -9,4 +9,4 @@ pub record Listed : Type 0 where
   pub failed : Bool
 
 abbrev pub list_state : Listed → LogState
-list_state log = record { taken = λ trace. log.list ≡ trace; failed = log.failed }
+list_state log = record { taken = λ trace. log.list ≡ trace; failed = log.failed; noted = None }

@@ -1,11 +1,13 @@
 -- What a log tells of itself, and what taking a happening makes of it.
-use Rattle.std.specs.Prelude.{Bool, List, [], ◌∷◌, ◌++◌}
+use Rattle.std.specs.Prelude.{ℕ, Bool, List, [], ◌∷◌, ◌++◌, Option}
 use Rattle.trace_events.specs.Event.{Event}
 
--- whether it took these happenings, the oldest first, as far as a contract sees; and whether it has failed
+-- whether it took these happenings, the oldest first, as far as a contract sees; whether it has failed; and the id whose
+-- ends it notes, where there is one
 pub record LogState : Type 1 where
   pub taken : List Event → Type 0
   pub failed : Bool
+  pub noted : Option (List ℕ)
 
 -- what it took it has taken still, and this happening behind it
 abbrev pub Gains : LogState → LogState → Event → Type 0

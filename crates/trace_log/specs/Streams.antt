@@ -35,4 +35,4 @@ KnowsText failed trace (Some bytes) = HasText failed trace bytes
 -- it took the happenings whose text its writer has, where the writer's bytes are known
 abbrev pub stream_state : {W : Type 0} → (W → Option (List ℕ)) → Stream W → LogState
 stream_state contents log =
-    record { taken = λ trace. KnowsText log.failed trace (contents log.writer); failed = log.failed }
+    record { taken = λ trace. KnowsText log.failed trace (contents log.writer); failed = log.failed; noted = None }

@@ -15,7 +15,7 @@ use trace_events::HappeningIn;
 /// A contract sees of a log whether it has failed, and which happenings it took, as long as each happening that it is
 /// handed can stand in a trace: its seconds are at most 3,600. A log may let it see nothing of what it took.
 pub trait Log {
-    /// Whether it took these, the oldest first; and whether it has failed.
+    /// Whether it took these, the oldest first; whether it has failed; and the id whose ends it notes.
     ghost state: { Self → LogState };
 
     /// Takes a happening. A log that could not has failed from then on, and is handed nothing more.
@@ -25,7 +25,8 @@ pub trait Log {
         ensures ok { OnOk result (is_in_range happening.now ≡ true
             → Gains (state self.old) (state self.new) happening.now) }
         ensures err { OnErr result (is_in_range happening.now ≡ true
-            → Stays (state self.old) (state self.new)) };
+            → Stays (state self.old) (state self.new)) }
+        ensures noted { (state self.new).noted ≡ (state self.old).noted };
 
     /// Whether it has failed.
     fn failed(&self) -> bool

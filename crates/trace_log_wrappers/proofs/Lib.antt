@@ -1,4 +1,3 @@
 pub mod AddLemmas
 pub mod KeepLemmas
-pub mod Noted
 pub mod Writing

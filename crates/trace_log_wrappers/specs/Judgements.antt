@@ -31,6 +31,7 @@ abbrev pub judged_state : {L : Type 0} → (L → LogState) → JudgedBy L → L
 judged_state state judged = record {
   taken = λ trace. FindsBy judged.judge judged.judgement (reverse trace) × (state judged.log).taken trace;
   failed = (state judged.log).failed;
+  noted = None;
 }
 
 -- what is found of nothing, where a judge is asked for or not

@@ -1,5 +1,5 @@
 -- What a brief log has written and holds of the trace that it took, and what is left of it behind its end.
-use Rattle.std.specs.Prelude.{◌≡◌, ◌≤◌, Bool, true, false, List, ◌++◌, length, reverse}
+use Rattle.std.specs.Prelude.{◌≡◌, ◌≤◌, Bool, true, false, List, ◌++◌, length, reverse, None}
 use Rattle.trace_events.specs.Event.{Event}
 use Rattle.trace_log.specs.Logs.{LogState}
 use Rattle.trace_brief.specs.declared.held.Held.{Held}
@@ -40,6 +40,7 @@ abbrev pub brief_state : {L : Type 0} → (L → LogState) → Brief L → LogSt
 brief_state state log = record {
   taken = TookBy (state log.log).failed (state log.log) log.held;
   failed = (state log.log).failed;
+  noted = None;
 }
 
 -- the brief form of the trace was handed on, or a part of it

@@ -1,12 +1,10 @@
 -- What a log of notes keeps beside the log that it stands in front of.
-use Rattle.std.specs.Prelude.{◌≡◌, if◌then◌else◌, ℕ, Bool, true, false, List, reverse, Option, Some, None}
+use Rattle.std.specs.Prelude.{◌≡◌, ℕ, Bool, true, false, List, reverse, Option, Some, None}
 use Rattle.std.specs.Map.{lookup}
 use Rattle.init_words.specs.declared.children.Status.{Status}
 use Rattle.init_words.specs.Ids.{same_id}
 use Rattle.trace_events.specs.Event.{Event}
 use Rattle.trace_log.specs.Logs.{LogState}
-use Rattle.trace_log_wrappers.specs.declared.run_notes.LastEnd.{LastEnd}
-use Rattle.trace_log_wrappers.specs.declared.run_notes.LastEnd.TheVariants.{Ended, Never, Unnoted}
 use Rattle.trace_log_wrappers.specs.Ends.{last_end, number_of}
 
 -- the id whose last end is noted, if one is, and that end; the numbers of the unreaped children by id, and whether there
@@ -21,14 +19,6 @@ pub record Notes : Type 0 where
 abbrev pub is_wanted : List ℕ → Option (List ℕ) → Bool
 is_wanted id None = false
 is_wanted id (Some wanted) = same_id id wanted
-
-abbrev pub last_of : Option Status → LastEnd
-last_of (Some status) = Ended status
-last_of None = Never
-
--- how the last child of the id that ended did so, where that is noted
-abbrev pub last_noted : List ℕ → Notes → LastEnd
-last_noted id notes = if is_wanted id notes.wanted then last_of notes.last else Unnoted
 
 -- of an id that is wanted it is the last end in this trace, the newest happening first
 abbrev pub IsLast : Option Status → Option (List ℕ) → List Event → Type 0
@@ -56,4 +46,5 @@ abbrev pub noted_state : {L : Type 0} → (L → LogState) → Noted L → LogSt
 noted_state state noted = record {
   taken = λ trace. NotesOf noted.notes (reverse trace) × (state noted.log).taken trace;
   failed = (state noted.log).failed;
+  noted = noted.notes.wanted;
 }

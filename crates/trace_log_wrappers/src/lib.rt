@@ -10,4 +10,4 @@ mod run_notes;
 pub use brief_logs::BriefLog;
 pub use judged_logs::JudgedLog;
 pub use judgements::Judgement;
-pub use run_notes::{LastEnd, NotedLog, Numbers, RunNotes};
+pub use run_notes::{NotedLog, Numbers, RunNotes};

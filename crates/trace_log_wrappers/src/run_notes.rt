@@ -3,8 +3,7 @@
 
 ghost use Rattle.std.specs.Prelude.{◌≡◌, ◌∷◌, [], true, List, OnOk, Option};
 ghost use Rattle.trace_events.specs.Event.{Event};
-ghost use Rattle.trace_log_wrappers.specs.Ends.{last_end};
-ghost use Rattle.trace_log_wrappers.specs.Notes.{IsLast, IsRunning, NotesOf, is_wanted, last_noted, last_of};
+ghost use Rattle.trace_log_wrappers.specs.Notes.{IsLast, IsRunning, NotesOf, is_wanted};
 
 use indexmap::IndexMap;
 use init_words::{ChildNumber, Id, Memory, Status};
@@ -16,16 +15,6 @@ use trace_log::{Log, LogFault};
 
 /// The numbers of children by id, those that were born first in front.
 pub type Numbers<A = Global> = IndexMap<Id, ChildNumber, BuildHasherDefault<FoldHasher>, A>;
-
-/// How the last child of an id that ended did so.
-#[derive(Clone, Copy, PartialEq, Eq)]
-pub enum LastEnd {
-    Ended(Status),
-    /// None has ended.
-    Never,
-    /// The ends of the id are not noted.
-    Unnoted,
-}
 
 /// What is noted of the happenings of a run.
 #[derive(Drop)]
@@ -66,26 +55,13 @@ impl<A: Allocator + Copy> RunNotes<A> {
         }
     }
 
-    /// How the last child of the id that ended did so.
-    pub fn last(&self, id: &Id) -> LastEnd
-        ensures value { result ≡ last_noted id.now self.now }
+    /// How the last child that ended of the id whose last end is noted did so; None where none has ended.
+    pub fn last(&self) -> Option<Status>
+        ensures value { result ≡ self.now.last }
         ensures trace { (past : List Event) → NotesOf self.now past
-            → is_wanted id.now self.now.wanted ≡ true
-            → result ≡ last_of (last_end id.now past) }
+            → IsLast result self.now.wanted past }
     {
-        self.noted_end(id)
-    }
-
-    fn noted_end(&self, id: &Id) -> LastEnd
-        ensures { result ≡ last_noted id.now self.now }
-    {
-        if !is_wanted(id, &self.wanted) {
-            return LastEnd::Unnoted;
-        }
-        match self.last {
-            Some(status) => LastEnd::Ended(status),
-            None => LastEnd::Never,
-        }
+        self.last
     }
 
     /// The unreaped children; None where there was no memory to note all of them.
@@ -104,8 +80,9 @@ impl<A: Allocator + Copy> RunNotes<A> {
 
     /// Notes a happening.
     fn note<B: Allocator>(&mut self, happening: &HappeningIn<B>)
-        ensures { (past : List Event) → NotesOf self.old past
+        ensures notes { (past : List Event) → NotesOf self.old past
             → NotesOf self.new (happening.now ∷ past) }
+        ensures wanted { self.new.wanted ≡ self.old.wanted }
     {
         self.last = end_behind(self.last, &self.wanted, happening);
         if note_child(&mut self.running, happening).is_err() {
@@ -220,6 +197,7 @@ impl<L: Log, A: Allocator + Copy> Log for NotedLog<L, A> {
         ensures log_err { OnErr result (is_in_range happening.now ≡ true
             → Stays (L.state self.old.log) (L.state self.new.log)) }
         ensures kept { OnErr result (self.new.notes ≡ self.old.notes) }
+        ensures wanted { self.new.notes.wanted ≡ self.old.notes.wanted }
     {
         self.log.take(happening)?;
         self.notes.note(happening);

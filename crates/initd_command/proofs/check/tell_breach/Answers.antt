@@ -2,15 +2,15 @@ use Rattle.std.proofs.Common.{rules, ◌≡◌, refl, subst}
 use Rattle.std.specs.Io.KnownBytes.{Appends}
 use Rattle.program_io.specs.Writing.{AppendsPrefix}
 use Rattle.std.proofs.KnownBytes.{Keeps-refl}
-use Rattle.initd_command.specs.Endings.{no_memory, unlawful, unwritten}
+use Rattle.initd_command.specs.Endings.{no_memory, refused, unlawful, unwritten}
 use Rattle.initd_command.specs.Verdicts.{breach_message, unlawful_text}
 use Rattle.initd_command.proofs.check.tell_breach.Goals as goal
 
 pub returns-in_default : goal.returns-in_default
-returns-in_default g c = (no_memory, c.report_memory.ensures.status, Keeps-refl (g.W.Write.contents c.args.out.now), c.report_memory.ensures.reported)
+returns-in_default g c = (refused no_memory, c.report_memory.ensures.status, Keeps-refl (g.W.Write.contents c.args.out.now), c.report_memory.ensures.reported)
 
 pub returns-in_default-breach_message : goal.returns-in_default-breach_message
-returns-in_default-breach_message g c = (no_memory, c.report_memory-in_default-breach_message.ensures.status, Keeps-refl (g.W.Write.contents c.args.out.now), c.report_memory-in_default-breach_message.ensures.reported)
+returns-in_default-breach_message g c = (refused no_memory, c.report_memory-in_default-breach_message.ensures.status, Keeps-refl (g.W.Write.contents c.args.out.now), c.report_memory-in_default-breach_message.ensures.reported)
 
 pub returns-then-not-tell : goal.returns-then-not-tell
 returns-then-not-tell g c =

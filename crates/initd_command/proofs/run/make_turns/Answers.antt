@@ -31,12 +31,12 @@ returns g c =
       λ table opens. Since-untimed _ _ _ _ (Since-map _ _ _ _ (c.serve-core.ensures.trace service.level table opens) (λ mades made.
           let calls = calls_of mades in
           let leads = subst
-          (λ (parts : JudgedBy _ × Notes). LeadsFrom service.level table c.serve-core.result.1 first (record { taken = λ trace. NotesOf parts.1 (reverse trace) × (judged_state state parts.0).taken trace; failed = (state parts.0.log).failed }) calls)
+          (λ (parts : JudgedBy _ × Notes). LeadsFrom service.level table c.serve-core.result.1 first (record { taken = λ trace. NotesOf parts.1 (reverse trace) × (judged_state state parts.0).taken trace; failed = (state parts.0.log).failed; noted = parts.1.wanted }) calls)
           (sym c.into_parts-judged.ensures) made.1 in
           let over : (state c.args.log).taken [] → TurnsFrom service.level table calls (λ past. (c.ended_with-served.result.logged ≡ true → IsNoted noted past) × LogEnds (g.L.EndedLog.has_ended c.end-left.result.0) c.ended_with-served.result.logged (reverse past)) =
           λ none. noted_over (g.L.EndedLog.has_ended c.end-left.result.0) (FindsBy judged.judge judged.judgement) (state judged.log).taken notes c.judgement-found.result (state judged.log).failed c.end-left.result.1
           c.serve-core.result.1 first service service.level table c.serve-core.result.0 c.ended_with-served.result c.judgement_for-judgement.result calls
-          c.ended_with-served.ensures c.judgement_for-judgement.ensures (c.new-noted.ensures.nothing (c.new-judged.ensures.nothing none)) logged
+          c.ended_with-served.ensures c.judgement_for-judgement.ensures (c.new-noted.ensures.nothing (c.new-judged.ensures.nothing none)) c.new-noted.ensures.wanted logged
           c.judgement-found.ensures.found (λ trace took. c.end-left.ensures.ended trace (subst (λ log. (state log).taken trace) (sym c.into_log.ensures) took)) leads in (
             record {
               served = c.ended_with-served.result;

@@ -1,8 +1,7 @@
 use Rattle.std.proofs.Common.{sym, subst}
-use Rattle.std.proofs.lemmas.Result.{IfErr-weaker, IfOk-weaker}
+use Rattle.std.proofs.lemmas.Result.{IfOk-weaker}
 use Rattle.initd_options.specs.Options.{run_of}
 use Rattle.initd_command.specs.Services.{AreFiles, IsInittab}
-use Rattle.initd_command.proofs.Ran.{fails_to_take}
 use Rattle.initd_command.proofs.run.read_inittab.Goals as goal
 
 pub returns-clause-ok : goal.returns-clause-ok
@@ -15,6 +14,5 @@ returns-clause-ok g c =
 pub returns-clause-err : goal.returns-clause-err
 returns-clause-err g c =
     let text_at = g.T.Texts.text_at c.args.texts.now in
-    let service = run_of c.args.said.now in
-    let are = subst (AreFiles text_at service) (sym c.deref.ensures.value) c.in_ok-parts.ensures.ok in
-    IfErr-weaker c.taken.result _ _ (λ fault fails. fails_to_take text_at service c.deref.result.now c.in_ok-inittab.inittab fault are c.in_ok-inittab.ensures.ok fails) c.taken.ensures.err
+    let are = subst (AreFiles text_at (run_of c.args.said.now)) (sym c.deref.ensures.value) c.in_ok-parts.ensures.ok in
+    c.taken.ensures.err text_at c.deref.result.now are c.in_ok-inittab.ensures.ok
