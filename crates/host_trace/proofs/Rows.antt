@@ -215,12 +215,13 @@ abbrev made_with : HostCall → List Event → Made Listed
 made_with call list = record { call = call; at = Some (listed list) }
 
 abbrev Any : Goal → Point → Type 0
-Any goal p = Unit {0}
+Any _ _ = Unit {0}
 
 -- the reading of the clock was written before the next call was made
 logged-kept : Kept list_state Any (list_state (listed [])) (made_with (Late None) (past.Clock 0 ∷ []) ∷ made_with (Clock (Ok 0)) [] ∷ [])
 logged-kept = (
   λ goal p sound fits allowed carried short. record {
+    same = refl;
     came = past.Clock 0 ∷ [];
     grown = refl;
     log = λ before taken. record {

@@ -20,7 +20,7 @@ pub trait Edge {
     /// What a log is at a moment.
     type Log;
 
-    /// Whether a log took these, the oldest first; and whether it has failed.
+    /// Whether a log took these, the oldest first; whether it has failed; and the id whose ends it notes.
     ghost state: { Self.Log → LogState };
 
     /// The calls so far with their answers, and the log at each, the newest first. None from the first call that isn't
@@ -107,7 +107,8 @@ pub trait Edge {
         ensures ok { OnOk result (is_in_range happening.now ≡ true
             → Gains (state (log self.old)) (state (log self.new)) happening.now) }
         ensures err { OnErr result (is_in_range happening.now ≡ true
-            → Stays (state (log self.old)) (state (log self.new))) };
+            → Stays (state (log self.old)) (state (log self.new))) }
+        ensures noted { (state (log self.new)).noted ≡ (state (log self.old)).noted };
 
     /// Whether the log has failed.
     fn failed(&self) -> bool

@@ -4,7 +4,7 @@ use Rattle.init_turns.proofs.answering.write.Goals as goal
 pub returns-then-not-failed-clause-logs : goal.returns-then-not-failed-clause-logs
 returns-then-not-failed-clause-logs g c past =
     let works : (g.E.Edge.state (g.E.Edge.log c.args.edge.now)).failed ≡ false = search rules in
-    Logs-handed (g.E.Edge.state (g.E.Edge.log c.args.edge.now)) (g.E.Edge.state (g.E.Edge.log c.take.new.self)) past c.args.happening.now c.take.result works c.law_of_ranges.ensures c.take.ensures.flag c.take.ensures.ok c.take.ensures.err
+    Logs-handed (g.E.Edge.state (g.E.Edge.log c.args.edge.now)) (g.E.Edge.state (g.E.Edge.log c.take.new.self)) past c.args.happening.now c.take.result c.take.ensures.noted works c.law_of_ranges.ensures c.take.ensures.flag c.take.ensures.ok c.take.ensures.err
 
 pub returns-else-not-failed-clause-logs : goal.returns-else-not-failed-clause-logs
 returns-else-not-failed-clause-logs g c past =
