@@ -47,6 +47,10 @@ GrowsBy-one c new l₀ l₁ lasts grows short = (lasts short, grows)
 pub GrowsBy-behind : (c new : CoreState) (l₀ l₁ l₂ : LogState) → Grows l₀ l₁ → GrowsBy c new l₁ l₂ → GrowsBy c new l₀ l₂
 GrowsBy-behind c new l₀ l₁ l₂ first second = GrowsBy-then c c new l₀ l₁ l₂ (GrowsBy-one c c l₀ l₁ (λ short. short) first) second
 
+-- a call between, which left the log as it was
+pub GrowsBy-call : {L : Type 0} (state : L → LogState) (c new : CoreState) (l₀ l₂ : LogState) (asked made : L) → made ≡ asked → Grows l₀ (state asked) → GrowsBy c new (state made) l₂ → GrowsBy c new l₀ l₂
+GrowsBy-call state c new l₀ l₂ asked made same first second = GrowsBy-behind c new l₀ (state asked) l₂ first (subst (λ l. GrowsBy c new (state l) l₂) same second)
+
 -- ---- with a reader of requests
 
 pub GrowsReading-none : (c : CoreState) (blocks : Begun) (log : LogState) → GrowsReading c c blocks blocks log log

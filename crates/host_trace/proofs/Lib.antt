@@ -5,6 +5,7 @@ pub mod Ending
 pub mod Fronts
 pub mod Growing
 pub mod Held
+pub mod Keeping
 pub mod Leading
 pub mod Point
 pub mod Requests

@@ -1,5 +1,5 @@
 -- Worked calls, each with the trace that they have: `refl` computes them.
-use Rattle.host_trace.proofs.Words.{◌≡◌, refl, ℕ, suc, true, false, List, [], ◌∷◌, ◌++◌, take, drop, codes, Some, None, Ok, inl, arith, Entry, block_of_ints, Goal, due, first, is_sound, SavedState, state_of, V2, Start, Late, Clock, TakeBytes, ReadTables, Carry, Announce, Pause, Now, Later, HostCall, TextRead, Point, point_after, has_trace, AreTexts, is_allowed, AreSteps, IsTurn, is_step}
+use Rattle.host_trace.proofs.Words.{◌≡◌, refl, ap, ℕ, suc, true, false, false≢true, length, length-append, Event, Took, List, [], ◌∷◌, ◌++◌, take, drop, codes, Some, None, Ok, inl, arith, Entry, block_of_ints, Goal, due, first, is_sound, SavedState, state_of, V2, Start, Late, Clock, TakeBytes, ReadTables, Carry, Announce, Pause, Now, Later, HostCall, TextRead, Point, point_after, has_trace, AreTexts, is_allowed, AreSteps, IsTurn, is_step}
 use Rattle.init_words.specs.declared.actions.Act.{Act}
 use Rattle.init_words.specs.declared.actions.Act.TheVariants as act
 use Rattle.init_words.specs.declared.levels.Level.TheVariants as level
@@ -13,7 +13,11 @@ use Rattle.trace_events.specs.declared.happenings.Handed.TheVariants as handed
 use Rattle.trace_events.specs.declared.happenings.Happening.TheVariants as past
 use Rattle.trace_events.specs.declared.steps.Step.TheVariants as step
 use Rattle.core_text.specs.Lines.{text_in}
+use Rattle.std.proofs.lemmas.List.{length-reverse}
+use Rattle.trace_log.specs.Lists.{Listed, list_state}
 use Rattle.host_calls.specs.declared.calls.Call.TheVariants.{Look}
+use Rattle.host_trace.specs.Edges.{Kept, Made}
+use Rattle.host_trace.proofs.Taking.{Took-none}
 
 abbrev entry : List ℕ → List Mark → Act → List ℕ → Entry
 entry id levels action process = record { id = id; levels = record { items = levels }; act = action; process = record { items = process } }
@@ -201,3 +205,50 @@ no_text state is = cc
 
 no_state-is_not : AreTexts goal (Carry (codes "x") (Ok (codes "x")) ∷ asked_anew) opening → ⊥
 no_state-is_not texts = let said = texts.0 refl in no_text (state_of said.core) said.says.1
+
+-- ---- what a log in memory had taken when each call was made
+
+abbrev listed : List Event → Listed
+listed list = record { list = list; failed = false }
+
+abbrev made_with : HostCall → List Event → Made Listed
+made_with call list = record { call = call; at = Some (listed list) }
+
+abbrev Any : Goal → Point → Type 0
+Any _ _ = Unit {0}
+
+-- the reading of the clock was written before the next call was made
+logged-kept : Kept list_state Any (list_state (listed [])) (made_with (Late None) (past.Clock 0 ∷ []) ∷ made_with (Clock (Ok 0)) [] ∷ [])
+logged-kept = (
+  λ goal p sound fits allowed carried short. record {
+    same = refl;
+    came = past.Clock 0 ∷ [];
+    grown = refl;
+    log = λ before taken. record {
+      took = past.Clock 0 ∷ [];
+      missed = [];
+      parts = refl;
+      told = ap (λ list. list ++ past.Clock 0 ∷ []) taken;
+      whole = λ works. refl;
+      nothing = λ failed. absurd (false≢true failed);
+      stays = λ failed. failed;
+    };
+  },
+  ((λ goal p sound fits allowed carried short. Took-none (list_state (listed [])) p.past), tt),
+)
+
+-- it was not yet
+unlogged-not_kept : Kept list_state Any (list_state (listed [])) (made_with (Late None) [] ∷ made_with (Clock (Ok 0)) [] ∷ []) → ⊥
+unlogged-not_kept kept =
+    let took : Took (list_state (listed [])) (list_state (listed [])) opening.past (past.Clock 0 ∷ opening.past) = kept.0 goal opening refl tt refl refl refl in
+    let takes = took.log [] refl in
+    omega (
+      arith,
+      ap length took.grown,
+      length-append took.came opening.past,
+      ap length takes.parts,
+      length-append takes.missed takes.took,
+      ap length (takes.whole refl),
+      ap length takes.told,
+      length-reverse takes.took,
+    )

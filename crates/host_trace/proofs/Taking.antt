@@ -4,6 +4,7 @@ use Rattle.host_trace.proofs.Words.{◌≡◌, refl, sym, ◌∙◌, ap, subst, 
 -- where nothing came, the log is as it was
 pub Took-none : (log : LogState) (past : List Event) → Took log log past past
 Took-none log past = record {
+  same = refl;
   came = [];
   grown = refl;
   log = λ before taken. record { took = []; missed = []; parts = refl; told = subst log.taken (sym (append-nil before)) taken; whole = λ h. refl; nothing = λ h. refl; stays = λ h. h };
@@ -13,8 +14,9 @@ pub Logs-none : (log : LogState) (past : List Event) → Logs log log past past
 Logs-none log past short = Took-none log past
 
 -- the log took the happening
-Took-one : (old new : LogState) (past : List Event) (happening : Event) → old.failed ≡ false → Gains old new happening → Took old new past (happening ∷ past)
-Took-one old new past happening open_log gains = record {
+Took-one : (old new : LogState) (past : List Event) (happening : Event) → new.noted ≡ old.noted → old.failed ≡ false → Gains old new happening → Took old new past (happening ∷ past)
+Took-one old new past happening same open_log gains = record {
+  same = same;
   came = happening ∷ [];
   grown = refl;
   log = λ before taken. record {
@@ -29,8 +31,9 @@ Took-one old new past happening open_log gains = record {
 }
 
 -- the log did not take it: it has failed, or fails now
-Took-missed : (old new : LogState) (past : List Event) (happening : Event) → new.failed ≡ true → Stays old new → Took old new past (happening ∷ past)
-Took-missed old new past happening failed stays = record {
+Took-missed : (old new : LogState) (past : List Event) (happening : Event) → new.noted ≡ old.noted → new.failed ≡ true → Stays old new → Took old new past (happening ∷ past)
+Took-missed old new past happening same failed stays = record {
+  same = same;
   came = happening ∷ [];
   grown = refl;
   log = λ before taken. record {
@@ -46,12 +49,12 @@ Took-missed old new past happening failed stays = record {
 
 -- a log that has failed before is handed nothing, and is as it was
 pub Logs-same : (log : LogState) (past : List Event) (happening : Event) → log.failed ≡ true → Logs log log past (happening ∷ past)
-Logs-same log past happening failed short = Took-missed log log past happening failed (λ before taken. taken)
+Logs-same log past happening failed short = Took-missed log log past happening refl failed (λ before taken. taken)
 
 -- a log that had not failed was handed the happening
-pub Logs-handed : (old new : LogState) (past : List Event) (happening : Event) (result : Result (Unit {0}) LogFault) → old.failed ≡ false → (is_short happening ≡ true → is_in_range happening ≡ true) → new.failed ≡ is_err result → OnOk result (is_in_range happening ≡ true → Gains old new happening) → OnErr result (is_in_range happening ≡ true → Stays old new) → Logs old new past (happening ∷ past)
-Logs-handed old new past happening (Ok tt) works ranged flag gains stays short = Took-one old new past happening works (gains (ranged (and_parts (is_short happening) (are_short past) short).0))
-Logs-handed old new past happening (Err fault) works ranged flag gains stays short = Took-missed old new past happening flag (stays (ranged (and_parts (is_short happening) (are_short past) short).0))
+pub Logs-handed : (old new : LogState) (past : List Event) (happening : Event) (result : Result (Unit {0}) LogFault) → new.noted ≡ old.noted → old.failed ≡ false → (is_short happening ≡ true → is_in_range happening ≡ true) → new.failed ≡ is_err result → OnOk result (is_in_range happening ≡ true → Gains old new happening) → OnErr result (is_in_range happening ≡ true → Stays old new) → Logs old new past (happening ∷ past)
+Logs-handed old new past happening (Ok tt) same works ranged flag gains stays short = Took-one old new past happening same works (gains (ranged (and_parts (is_short happening) (are_short past) short).0))
+Logs-handed old new past happening (Err fault) same works ranged flag gains stays short = Took-missed old new past happening same flag (stays (ranged (and_parts (is_short happening) (are_short past) short).0))
 
 -- two parts: ys came behind xs
 takes-then : (old mid new : LogState) (before xs ys : List Event) (first : Takes old mid before xs) → Takes mid new (before ++ reverse first.took) ys → Takes old new before (ys ++ xs)
@@ -84,6 +87,7 @@ takes-then old mid new before xs ys first second = by mid.failed refl
 
 pub Took-then : (old mid new : LogState) (past between now : List Event) → Took old mid past between → Took mid new between now → Took old new past now
 Took-then old mid new past between now first second = record {
+  same = second.same ∙ first.same;
   came = second.came ++ first.came;
   grown = second.grown ∙ ap (λ l. second.came ++ l) first.grown ∙ sym (append_assoc second.came first.came past);
   log = λ before taken.

@@ -79,8 +79,9 @@ pub record Takes (old new : LogState) (before came : List Event) : Type 0 where
   pub nothing : old.failed ≡ true → took ≡ []
   pub stays : old.failed ≡ true → new.failed ≡ true
 
--- the trace has grown, and the log has taken of what came behind what it took before
+-- the trace has grown, and the log has taken of what came behind what it took before; it notes the ends of the same id
 pub record Took (old new : LogState) (past now : List Event) : Type 0 where
+  pub same : new.noted ≡ old.noted
   pub came : List Event
   pub grown : now ≡ came ++ past
   pub log : (before : List Event) → old.taken before → Takes old new before came

@@ -1,3 +1,4 @@
+pub mod Edges
 pub mod Fronts
 pub mod Grows
 pub mod Held

@@ -5,8 +5,10 @@
 //! trace is read off: nothing else that init did stands in it.
 #![tactic(auto)]
 
+mod edges;
 mod laws;
 
+pub use edges::{Edge, Joined};
 pub use laws::{law_of_children, law_of_parts, law_of_requests, law_of_texts};
 
 /// How many bytes of requests a turn takes at most.

@@ -1,15 +1,18 @@
 -- What a step leads to that is only said, and what comes of steps that were due.
-use Rattle.init_turns.proofs.Words.{arith, ◌≡◌, refl, sym, ◌∙◌, ap, subst, ℕ, Bool, true, false, List, [], ◌∷◌, Option, Some, Result, Ok, Err, OnOk, OnErr, is_ok, option_and_then, Answer, Ended, false≢true, Begun, Goal, Step, Event, is_sound, child_number, order_in, refusal_of, record_by_id, CoreState, after_told, Fits, FitsAll, StillFits, OnEachTrace, with_step, unreaped_recorded, LogState, Announce, HostCall, Point, point_after, last_birth, acted, answered, announced, is_announcement, Gave, gone_on, Hears, Lasts, Leads, Logs, Tracks, Went, is_allowed, Leads-heard, Leads-weaken, Logs-none, Hears-answer, Hears-step, Hears-tracks, tracks, AndRests, IsStep, IsStepUnless, Left, Makes, SaysStep, is_end}
+use Rattle.init_turns.proofs.Words.{arith, ◌≡◌, refl, sym, ◌∙◌, ap, subst, ℕ, Bool, true, false, List, [], ◌∷◌, Option, Some, Result, Ok, Err, OnOk, OnErr, is_ok, option_and_then, Answer, Ended, false≢true, Begun, Goal, Step, Event, is_sound, child_number, order_in, refusal_of, record_by_id, CoreState, after_told, Fits, FitsAll, StillFits, OnEachTrace, with_step, unreaped_recorded, LogState, AddsMade, AddsMade-same, Made, trace_at, kept_asked, Hears-order, ordered, Announce, HostCall, Point, point_after, last_birth, acted, answered, announced, is_announcement, Gave, gone_on, Hears, Lasts, Leads, Logs, Tracks, Went, is_allowed, Leads-heard, Leads-weaken, Logs-none, Hears-answer, Hears-step, Hears-tracks, tracks, AndRests, IsStep, IsStepUnless, Left, Makes, MakesOver, SaysStep, is_end}
+use Rattle.init_words.specs.declared.orders.OrderKind.{OrderKind}
 use Rattle.init_words.specs.declared.refusals.Refusal.{Refusal}
 use Rattle.trace_events.specs.declared.happenings.Happening.TheVariants as past
 use Rattle.trace_events.specs.declared.steps.Step.TheVariants as step
 use Rattle.trace_events.specs.Due.{due, first}
 use Rattle.core_text.specs.Range as range
 use Rattle.core_model.proofs.Fitted.{all_on}
+use Rattle.host_calls.specs.declared.calls.Reply.{Reply}
 use Rattle.host_trace.specs.Leads.{At}
+use Rattle.host_trace.specs.Point.{replied}
 use Rattle.host_trace.proofs.Ending.{HasNumber, end_number}
 use Rattle.init_turns.specs.Parts.{is_idle}
-use Rattle.init_turns.proofs.Parts.{Makes-map, Makes-none}
+use Rattle.init_turns.proofs.Parts.{Makes-map, Makes-none, Makes-one}
 
 announced_said : (happening : Event) (so_far : List Event) → is_announcement happening ≡ true → announced happening so_far ≡ happening ∷ so_far
 announced_said happening so_far said = grind arith
@@ -40,37 +43,54 @@ end_known goal so_far c id (Ended status) sound fits allowed ends =
     ap (option_and_then child_number) own.found ∙ own.number_is
 end_known goal so_far c id _ sound fits allowed ends = absurd (false≢true ends)
 
+-- ---- orders
+
+-- init noted the order, gave it, and heard the reply
+pub Makes-ordered : {E L : Type 0} (state : L → LogState) (told : E → Option (List (Made L))) (log : E → L) (old asked made new : E) (c behind : CoreState) (call : HostCall) (id : List ℕ) (order : OrderKind) (reply : Reply)
+    → told asked ≡ told old → AddsMade (told asked) (told made) call (log asked) → log made ≡ log asked → told new ≡ told made → IsStep (call ∷ [])
+    → ((so_far : List Event) → trace_at call so_far ≡ past.Asked id order ∷ so_far) → ((so_far : List Event) → Logs (state (log old)) (state (log asked)) so_far (past.Asked id order ∷ so_far))
+    → Hears (Tracks c) (Tracks behind) (state (log made)) (state (log new)) (replied id reply)
+    → (Hears (Gave (Tracks c) (step.Order id order)) (Tracks behind) (state (log old)) (state (log new)) (ordered id order reply) → Leads (Gave (Tracks c) (step.Order id order)) (Tracks behind) (state (log old)) (state (log new)) (call ∷ []))
+    → Makes state told log old new IsStep (Gave (Tracks c) (step.Order id order)) (Tracks behind)
+Makes-ordered state told log old asked made new c behind call id order reply same adds kept heard_told shape asks notes hears leads =
+    let before : Goal → Point → Type 0 = Gave (Tracks c) (step.Order id order) in
+    Makes-one state (told old) (told new) (state (log old)) (state (log new)) (log asked) call IsStep before (Tracks behind)
+    (AddsMade-same (told old) (told asked) (told made) (told new) call (log asked) same heard_told adds) shape
+    (leads (Hears-order c behind (state (log old)) (state (log asked)) (state (log new)) id order reply notes
+    (subst (λ l. Hears (Tracks c) (Tracks behind) (state l) (state (log new)) (replied id reply)) kept hears)))
+    (kept_asked before (state (log old)) (state (log asked)) call id order asks notes)
+
 -- ---- steps
 
 -- a step that is only said was said
-pub Makes-said : (old new : Option (List HostCall)) (l₀ l₁ : LogState) (c : CoreState) (given made : Step) (happening : Event) → given ≡ made → is_idle made ≡ false → SaysStep made happening → ((core : CoreState) (s : Step) → SaysStep s happening → Makes old new l₀ l₁ IsStep (Gave (Tracks core) s) (Tracks core)) → Makes old new l₀ l₁ (IsStepUnless (is_idle given)) (Gave (Tracks c) given) (Tracks c)
-Makes-said old new l₀ l₁ c given made happening is other says said =
-    subst (λ s. Makes old new l₀ l₁ (IsStepUnless (is_idle s)) (Gave (Tracks c) s) (Tracks c)) (sym is)
-    (subst (λ b. Makes old new l₀ l₁ (IsStepUnless b) (Gave (Tracks c) made) (Tracks c)) (sym other) (said c made says))
+pub Makes-said : {L : Type 0} (state : L → LogState) (old new : Option (List (Made L))) (l₀ l₁ : LogState) (c : CoreState) (given made : Step) (happening : Event) → given ≡ made → is_idle made ≡ false → SaysStep made happening → ((core : CoreState) (s : Step) → SaysStep s happening → MakesOver state old new l₀ l₁ IsStep (Gave (Tracks core) s) (Tracks core)) → MakesOver state old new l₀ l₁ (IsStepUnless (is_idle given)) (Gave (Tracks c) given) (Tracks c)
+Makes-said state old new l₀ l₁ c given made happening is other says said =
+    subst (λ s. MakesOver state old new l₀ l₁ (IsStepUnless (is_idle s)) (Gave (Tracks c) s) (Tracks c)) (sym is)
+    (subst (λ b. MakesOver state old new l₀ l₁ (IsStepUnless b) (Gave (Tracks c) made) (Tracks c)) (sym other) (said c made says))
 
 -- a step that was given is another one by name
-pub Makes-given : (old new : Option (List HostCall)) (l₀ l₁ : LogState) (c behind : CoreState) (given made : Step) → given ≡ made → Makes old new l₀ l₁ IsStep (Gave (Tracks c) made) (Tracks behind) → Makes old new l₀ l₁ IsStep (Gave (Tracks c) given) (Tracks behind)
-Makes-given old new l₀ l₁ c behind given made is makes = subst (λ s. Makes old new l₀ l₁ IsStep (Gave (Tracks c) s) (Tracks behind)) (sym is) makes
+pub Makes-given : {L : Type 0} (state : L → LogState) (old new : Option (List (Made L))) (l₀ l₁ : LogState) (c behind : CoreState) (given made : Step) → given ≡ made → MakesOver state old new l₀ l₁ IsStep (Gave (Tracks c) made) (Tracks behind) → MakesOver state old new l₀ l₁ IsStep (Gave (Tracks c) given) (Tracks behind)
+Makes-given state old new l₀ l₁ c behind given made is makes = subst (λ s. MakesOver state old new l₀ l₁ IsStep (Gave (Tracks c) s) (Tracks behind)) (sym is) makes
 
-pub Makes-unless : (old new : Option (List HostCall)) (l₀ l₁ : LogState) (c behind : CoreState) (given made : Step) → given ≡ made → is_idle made ≡ false → Makes old new l₀ l₁ IsStep (Gave (Tracks c) made) (Tracks behind) → Makes old new l₀ l₁ (IsStepUnless (is_idle given)) (Gave (Tracks c) given) (Tracks behind)
-Makes-unless old new l₀ l₁ c behind given made is busy makes =
-    subst (λ s. Makes old new l₀ l₁ (IsStepUnless (is_idle s)) (Gave (Tracks c) s) (Tracks behind)) (sym is)
-    (subst (λ b. Makes old new l₀ l₁ (IsStepUnless b) (Gave (Tracks c) made) (Tracks behind)) (sym busy) makes)
+pub Makes-unless : {L : Type 0} (state : L → LogState) (old new : Option (List (Made L))) (l₀ l₁ : LogState) (c behind : CoreState) (given made : Step) → given ≡ made → is_idle made ≡ false → MakesOver state old new l₀ l₁ IsStep (Gave (Tracks c) made) (Tracks behind) → MakesOver state old new l₀ l₁ (IsStepUnless (is_idle given)) (Gave (Tracks c) given) (Tracks behind)
+Makes-unless state old new l₀ l₁ c behind given made is busy makes =
+    subst (λ s. MakesOver state old new l₀ l₁ (IsStepUnless (is_idle s)) (Gave (Tracks c) s) (Tracks behind)) (sym is)
+    (subst (λ b. MakesOver state old new l₀ l₁ (IsStepUnless b) (Gave (Tracks c) made) (Tracks behind)) (sym busy) makes)
 
 -- nothing was due
-pub Makes-idle : (now : Option (List HostCall)) (log : LogState) (c : CoreState) (given : Step) → given ≡ step.Idle → Makes now now log log (IsStepUnless (is_idle given)) (Gave (Tracks c) given) (Tracks c)
-Makes-idle now log c given is =
-    subst (λ s. Makes now now log log (IsStepUnless (is_idle s)) (Gave (Tracks c) s) (Tracks c)) (sym is)
-    (Makes-map now now log log (IsStepUnless true) (IsStepUnless true) (Tracks c) (Tracks c) (Gave (Tracks c) step.Idle) (Tracks c) (λ goal p sound gave. gave.1)
-    (Makes-none now log (IsStepUnless true) (Tracks c) refl)
+pub Makes-idle : {L : Type 0} (state : L → LogState) (now : Option (List (Made L))) (log : LogState) (c : CoreState) (given : Step) → given ≡ step.Idle → MakesOver state now now log log (IsStepUnless (is_idle given)) (Gave (Tracks c) given) (Tracks c)
+Makes-idle state now log c given is =
+    subst (λ s. MakesOver state now now log log (IsStepUnless (is_idle s)) (Gave (Tracks c) s) (Tracks c)) (sym is)
+    (Makes-map state now now log log (IsStepUnless true) (IsStepUnless true) (Tracks c) (Tracks c) (Gave (Tracks c) step.Idle) (Tracks c) (λ goal p sound gave. gave.1)
+    (Makes-none state now log (IsStepUnless true) (Tracks c) refl)
     (λ calls none leads. (none, Leads-weaken (Tracks c) (Gave (Tracks c) step.Idle) (Tracks c) (Tracks c) log log calls (λ goal p gave. gave.1) (λ goal p fits. fits) leads)))
 
 idle_is : (made : Step) → is_idle made ≡ true → made ≡ step.Idle
 idle_is made h = grind arith
 
 -- the step was the first due, and was carried out; where it was none, nothing is due still
-pub Makes-stepped : (old new : Option (List HostCall)) (l₀ l₁ : LogState) (c between behind : CoreState) (made : Step) → OnEachTrace c (λ goal so_far. made ≡ first (due goal so_far)) → OnEachTrace c (λ goal so_far. StillFits c between goal so_far (with_step made so_far)) → Lasts c between → Makes old new l₀ l₁ (IsStepUnless (is_idle made)) (Gave (Tracks between) made) (Tracks behind) → Makes old new l₀ l₁ (IsStepUnless (is_idle made)) (Tracks c) (AndRests (is_idle made) (Tracks behind))
-Makes-stepped old new l₀ l₁ c between behind made due_now fits lasts makes = Makes-map old new l₀ l₁ (IsStepUnless (is_idle made)) (IsStepUnless (is_idle made)) (Gave (Tracks between) made) (Tracks behind) (Tracks c) (AndRests (is_idle made) (Tracks behind)) gave makes
+pub Makes-stepped : {L : Type 0} (state : L → LogState) (old new : Option (List (Made L))) (l₀ l₁ : LogState) (c between behind : CoreState) (made : Step) → OnEachTrace c (λ goal so_far. made ≡ first (due goal so_far)) → OnEachTrace c (λ goal so_far. StillFits c between goal so_far (with_step made so_far)) → Lasts c between → MakesOver state old new l₀ l₁ (IsStepUnless (is_idle made)) (Gave (Tracks between) made) (Tracks behind) → MakesOver state old new l₀ l₁ (IsStepUnless (is_idle made)) (Tracks c) (AndRests (is_idle made) (Tracks behind))
+Makes-stepped state old new l₀ l₁ c between behind made due_now fits lasts makes = Makes-map state old new l₀ l₁ (IsStepUnless (is_idle made)) (IsStepUnless (is_idle made)) (Gave (Tracks between) made) (Tracks behind) (Tracks c) (AndRests (is_idle made) (Tracks behind)) gave makes
     (λ calls shape leads. (shape, goes calls shape leads))
   where
     gave : (goal : Goal) (p : Point) → is_sound goal p.past ≡ true → Tracks c goal p → Gave (Tracks between) made goal p

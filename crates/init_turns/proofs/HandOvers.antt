@@ -1,5 +1,5 @@
 -- What comes of a state text that is carried.
-use Rattle.init_turns.proofs.Words.{◌≡◌, refl, sym, ap, ◌∙◌, subst, ℕ, Bool, true, false, ◌==◌, ◌||◌, not, nat_lt, List, [], ◌∷◌, ◌++◌, length, drop, append-nil, Option, Some, Ok, arith, length-append, starts_with, option_map_or, false≢true, and_from, and_parts, eq-eqb, eqb-true, ltb-true, same_Some, same_id-self, Event, StillFits, OnEachTrace, SavedState, state_of, IsFit, CoreState, after_handed_on, V2, IsCut, IsOther, IsTextIn, IsTextOf, generation_said, LogState, Announce, Carry, AddsCall, HostCall, TextRead, came_cut, carrying, is_of_generation, is_outcome, same_text, Gave, Leads, Logs, Tracks, comes_back, HandedOn, Leads-carried, ComesTo, IsStep, Makes, Saying}
+use Rattle.init_turns.proofs.Words.{◌≡◌, refl, sym, ap, ◌∙◌, subst, ℕ, Bool, true, false, ◌==◌, ◌||◌, not, nat_lt, List, [], ◌∷◌, ◌++◌, length, drop, append-nil, Option, Some, Ok, arith, length-append, starts_with, option_map_or, false≢true, and_from, and_parts, eq-eqb, eqb-true, ltb-true, same_Some, same_id-self, Event, StillFits, OnEachTrace, SavedState, state_of, IsFit, CoreState, after_handed_on, V2, IsCut, IsOther, IsTextIn, IsTextOf, generation_said, LogState, AddsMade, KeptAt, Made, kept_led, kept_still, Goal, Point, Announce, Carry, TextRead, came_cut, carrying, is_of_generation, is_outcome, same_text, Gave, Leads, Logs, Tracks, comes_back, HandedOn, Leads-carried, ComesTo, IsStep, MakesOver, Saying}
 use Rattle.std.proofs.lemmas.Bool.Decides.{Decides-eqb}
 use Rattle.std.proofs.lemmas.Slice.Eq.{starts_is}
 use Rattle.trace_events.specs.declared.happenings.Handed.{Handed as HandOver}
@@ -65,22 +65,33 @@ older_said text back own g says names other = and_from (is_of_generation g back)
 -- ---- the calls of a hand-over
 
 -- the state was handed over as a text, which was carried, and what came of it was said
-pub Makes-carried : (old mid new : Option (List HostCall)) (l₀ l₁ : LogState) (c next behind : CoreState) (how : HandOver) (text : List ℕ) (back : TextRead) → AddsCall old mid (Carry text back) → Saying how mid new
+pub Makes-carried : {L : Type 0} (state : L → LogState) (old mid new : Option (List (Made L))) (l₀ l₁ : L) (c next behind : CoreState) (how : HandOver) (text : List ℕ) (back : TextRead) → AddsMade old mid (Carry text back) l₀ → Saying how mid new l₁
     → next ≡ after_handed_on c → OnEachTrace c (λ goal so_far. (h : HandOver) → StillFits c next goal so_far (past.Handed h ∷ so_far))
     → (range.has_short_seconds c ≡ true → IsTextIn V2 text (state_of next) × IsFit next) → ComesTo how text back next behind
-    → ((so_far : List Event) → Logs l₀ l₁ so_far (past.Handed how ∷ so_far))
-    → Makes old new l₀ l₁ IsStep (Gave (Tracks c) step.Reexec) (Tracks behind)
-Makes-carried old mid new l₀ l₁ c next behind how text back adds says is fits said comes took = by how adds says leads
+    → ((so_far : List Event) → Logs (state l₀) (state l₁) so_far (past.Handed how ∷ so_far))
+    → MakesOver state old new (state l₀) (state l₁) IsStep (Gave (Tracks c) step.Reexec) (Tracks behind)
+Makes-carried {L = L} state old mid new l₀ l₁ c next behind how text back adds says is fits said comes took = by how adds says leads
   where
+    before : Goal → Point → Type 0
+    before = Gave (Tracks c) step.Reexec
+
     handed_on : HandedOn c next text
     handed_on = record { fits = fits; own = ap (λ (s : CoreState). s.heads.generation) is; short = ap range.has_short_seconds is; says = said }
 
-    leads : Leads (Gave (Tracks c) step.Reexec) (Tracks behind) l₀ l₁ (carrying how text back)
-    leads = Leads-carried c next behind l₀ l₁ how text back handed_on comes took
+    leads : Leads before (Tracks behind) (state l₀) (state l₁) (carrying how text back)
+    leads = Leads-carried c next behind (state l₀) (state l₁) how text back handed_on comes took
 
-    by : (h : HandOver) → AddsCall old mid (Carry text back) → Saying h mid new → Leads (Gave (Tracks c) step.Reexec) (Tracks behind) l₀ l₁ (carrying h text back)
-        → Makes old new l₀ l₁ IsStep (Gave (Tracks c) step.Reexec) (Tracks behind)
-    by handed.Whole first none goes = Makes-one old new l₀ l₁ (Carry text back) IsStep (Gave (Tracks c) step.Reexec) (Tracks behind) (subst (λ t. AddsCall old t (Carry text back)) (sym none) first) refl goes
-    by (handed.Cut bytes) first second goes = Makes-two old mid new l₀ l₁ (Carry text back) (Announce (past.Handed (handed.Cut bytes))) IsStep (Gave (Tracks c) step.Reexec) (Tracks behind) refl first second refl goes
-    by (handed.Older generation) first second goes = Makes-two old mid new l₀ l₁ (Carry text back) (Announce (past.Handed (handed.Older generation))) IsStep (Gave (Tracks c) step.Reexec) (Tracks behind) refl first second refl goes
-    by handed.Failed first second goes = Makes-two old mid new l₀ l₁ (Carry text back) (Announce (past.Handed handed.Failed)) IsStep (Gave (Tracks c) step.Reexec) (Tracks behind) refl first second refl goes
+    carried : KeptAt before (state l₀) (state l₀) (Carry text back) []
+    carried = kept_still before (state l₀) (Carry text back) (λ so_far. refl)
+
+    refused : (h : HandOver) → IsStep (Announce (past.Handed h) ∷ Carry text back ∷ []) → AddsMade old mid (Carry text back) l₀ → AddsMade mid new (Announce (past.Handed h)) l₁ → Leads before (Tracks behind) (state l₀) (state l₁) (Announce (past.Handed h) ∷ Carry text back ∷ [])
+        → MakesOver state old new (state l₀) (state l₁) IsStep before (Tracks behind)
+    refused h shape first second goes = Makes-two state old mid new (state l₀) (state l₁) l₀ l₁ (Carry text back) (Announce (past.Handed h)) IsStep before (Tracks behind) refl first second shape goes carried
+        (kept_led before (Tracks behind) (state l₀) (state l₁) (past.Handed h) (Carry text back ∷ []) goes)
+
+    by : (h : HandOver) → AddsMade old mid (Carry text back) l₀ → Saying h mid new l₁ → Leads before (Tracks behind) (state l₀) (state l₁) (carrying h text back)
+        → MakesOver state old new (state l₀) (state l₁) IsStep before (Tracks behind)
+    by handed.Whole first none goes = Makes-one state old new (state l₀) (state l₁) l₀ (Carry text back) IsStep before (Tracks behind) (subst (λ t. AddsMade old t (Carry text back) l₀) (sym none) first) refl goes carried
+    by (handed.Cut bytes) first second goes = refused (handed.Cut bytes) refl first second goes
+    by (handed.Older generation) first second goes = refused (handed.Older generation) refl first second goes
+    by handed.Failed first second goes = refused handed.Failed refl first second goes

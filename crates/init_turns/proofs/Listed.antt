@@ -1,5 +1,5 @@
 -- The step of a start is of an id that the table has.
-use Rattle.init_turns.proofs.Words.{arith, ◌≡◌, refl, subst, ℕ, ◌+◌, Bool, true, false, cond, List, [], ◌∷◌, ◌++◌, append_assoc, Option, Some, None, is_some, zip, Entry, same_id-self, entry_of, Goal, Step, RecordState, is_quiet, CoreState, after_step, or_else, or_idle, level_step, news_step, wished_step, wish_step, stands, stop_among, has_excluded, limited_step, can_start_record, start_step, is_owed_record, start_along, is_over_among, next_stage, enter_step, stage_step, settle_step, can_look_record, look_among, calm_step, work_step, first_step, decide_in, decide, is_listed}
+use Rattle.init_turns.proofs.Words.{arith, ◌≡◌, refl, subst, ℕ, Bool, true, false, cond, List, [], ◌∷◌, ◌++◌, append_assoc, Option, Some, None, is_some, zip, Entry, same_id-self, entry_of, Goal, Step, RecordState, is_quiet, CoreState, after_step, or_else, or_idle, level_step, news_step, wished_step, wish_step, stands, stop_among, has_excluded, limited_step, can_start_record, start_step, is_owed_record, start_along, is_over_among, next_stage, enter_step, stage_step, settle_step, can_look_record, look_among, calm_step, work_step, first_step, decide_in, decide, is_listed}
 use Rattle.init_words.specs.declared.orders.OrderKind.TheVariants as ask
 use Rattle.init_words.specs.declared.stages.Stage.{Stage}
 use Rattle.init_words.specs.declared.stages.Stage.TheVariants as stage

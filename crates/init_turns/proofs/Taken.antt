@@ -1,5 +1,5 @@
 -- Calls for bytes and for late answers, one behind the other.
-use Rattle.init_turns.proofs.Words.{◌≡◌, ◌≢◌, sym, ◌∙◌, ap, subst, ℕ, ◌+◌, ◌-◌, ◌<◌, min, true, false, ◌&&◌, List, ◌∷◌, ◌++◌, length, Option, Some, None, nat_le, arith, list_all, false≢true, and_from, le-leb, Answer, Late, HostCall, BYTE_LIMIT, PIECE, LATE_LIMIT, is_last, are_full, are_lates, are_takes, bytes_in, bytes_taken, has_come, is_room, IsLate, IsTake}
+use Rattle.init_turns.proofs.Words.{◌≡◌, sym, ◌∙◌, ap, subst, ℕ, ◌+◌, ◌-◌, ◌<◌, min, true, false, ◌&&◌, List, ◌∷◌, ◌++◌, length, Option, Some, None, nat_le, arith, list_all, false≢true, and_from, le-leb, Answer, Late, HostCall, BYTE_LIMIT, PIECE, LATE_LIMIT, is_last, are_full, are_lates, are_takes, bytes_in, bytes_taken, has_come, is_room, IsLate, IsTake}
 
 -- calls that gave so many bytes, each some
 pub record HaveTaken (count : ℕ) (calls : List HostCall) : Type 0 where

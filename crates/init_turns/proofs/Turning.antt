@@ -1,12 +1,12 @@
 -- The parts of a turn, and turns one behind the other.
-use Rattle.init_turns.proofs.Words.{arith, ◌≡◌, refl, sym, ap, ◌∙◌, subst, ℕ, zero, suc, Bool, true, false, not, ◌&&◌, List, [], ◌∷◌, ◌++◌, drop, length, Option, Result, list_all, false≢true, and_from, and_parts, list_all-append, Begun, Stands, Goal, CoreState, is_drained, unreaped_recorded, LogState, Clock, TakeBytes, Pause, HostCall, AddsCall, Point, point_after, Brings, has_short_seconds, Fronts, Grows, HasRead, Counted, IsOver, Leads, Took, Tracks, Went, is_allowed, AddsTo, AreSteps, AreTurns, IsTurn, MadeTurns, are_full, are_lates, are_takes, bytes_taken, has_come, is_busy, is_room, is_step, takes_none, fronts_one, fronts_then, Grows-none, point_after-append, calls_allowed, carried_parts, Leads-beside, Leads-frame, Leads-still, Leads-then, Leads-weaken, bytes_counted, Since-map, Since-none, Since-one, Since-then, AndRests, AreAllSteps, Fresh, IsReading, Left, LeftBy, Makes}
+use Rattle.init_turns.proofs.Words.{arith, ◌≡◌, refl, sym, ap, ◌∙◌, subst, ℕ, zero, suc, Bool, true, false, not, ◌&&◌, List, [], ◌∷◌, ◌++◌, drop, length, Option, Result, list_all, false≢true, and_from, and_parts, list_all-append, Begun, Stands, Goal, CoreState, is_drained, unreaped_recorded, LogState, Clock, TakeBytes, Pause, HostCall, AddsMade, Made, calls_of, kept_still, Point, point_after, Brings, has_short_seconds, Grows, HasRead, Counted, IsOver, Leads, Took, Tracks, Went, is_allowed, AddsTo, AreSteps, AreTurns, IsTurn, MadeTurns, are_full, are_lates, are_takes, bytes_taken, has_come, is_busy, is_room, is_step, takes_none, Grows-none, point_after-append, calls_allowed, carried_parts, Leads-beside, Leads-frame, Leads-still, Leads-weaken, bytes_counted, Since-map, Since-none, Since-then, AndRests, AreAllSteps, Fresh, IsReading, Left, LeftBy, MakesOver}
 use Rattle.host_calls.specs.declared.calls.HostFault.{HostFault}
 use Rattle.host_calls.specs.Record.{Since}
 use Rattle.host_trace.specs.Leads.{At}
 use Rattle.host_trace.proofs.Seconds.{short_then}
 use Rattle.host_trace.proofs.Requests.{calls_bring}
 use Rattle.init_turns.proofs.Carried.{Leads-left}
-use Rattle.init_turns.proofs.Parts.{Makes-map, Makes-none, Makes-then}
+use Rattle.init_turns.proofs.Parts.{AreMade, Makes-map, Makes-none, Makes-one, Makes-then}
 
 -- ---- what calls leave as it is
 
@@ -55,38 +55,38 @@ turned done xs ys h steps = grind arith
 abbrev Counting : (Goal → Point → Type 0) → Goal → Point → Type 0
 Counting fit goal p = fit goal p × Counted 0 goal p
 
-pub turn_made : (done : Bool) (t₀ t₁ t₂ t₃ t₄ : Option (List HostCall)) (l₀ l₁ l₂ l₃ l₄ : LogState) (c₀ c₁ c₂ c₃ c₄ : CoreState) (b₀ b₁ : Begun) → Makes t₀ t₁ l₀ l₁ IsReading (Tracks c₀) (λ goal p. Tracks c₁ goal p × Counted 0 goal p) → Makes t₁ t₂ l₁ l₂ (λ calls. are_takes calls ≡ true) (At c₁ b₀) (At c₂ b₁) → Makes t₂ t₃ l₂ l₃ (λ calls. are_lates calls ≡ true) (λ goal p. Tracks c₂ goal p × Counted 0 goal p) (Tracks c₃) → Makes t₃ t₄ l₃ l₄ (AreAllSteps done) (Tracks c₃) (AndRests done (Tracks c₄)) → (HasRead b₀ → has_short_seconds c₀ ≡ true → Grows l₁ l₂ × Grows l₂ l₃ × Grows l₃ l₄) → Makes t₀ t₄ l₀ l₄ (IsTurn done) (At c₀ b₀) (Left done c₄ b₁)
-turn_made done t₀ t₁ t₂ t₃ t₄ l₀ l₁ l₂ l₃ l₄ c₀ c₁ c₂ c₃ c₄ b₀ b₁ clock takes lates steps grows =
-    Makes-map t₀ t₄ l₀ l₄ (IsTurn done) (IsTurn done) (At c₀ b₀) (AndRests done (At c₄ b₁)) (At c₀ b₀) (Left done c₄ b₁) (λ goal p sound fits. fits)
-    (Makes-then t₀ t₃ t₄ l₀ l₃ l₄ HasHeard (AreAllSteps done) (IsTurn done) (At c₀ b₀) (At c₃ b₁) (AndRests done (At c₄ b₁)) (λ goal p fits. (grows (p.over, fits.1) fits.0.short).2)
-    (Makes-then t₀ t₂ t₃ l₀ l₂ l₃ HasTaken (λ calls. are_lates calls ≡ true) HasHeard (At c₀ b₀) (Counting (At c₂ b₁)) (At c₃ b₁) (λ goal p fits. (grows (p.over, fits.1) fits.0.short).1)
-    (Makes-then t₀ t₁ t₂ l₀ l₁ l₂ IsReading (λ calls. are_takes calls ≡ true) HasTaken (At c₀ b₀) (Counting (At c₁ b₀)) (Counting (At c₂ b₁)) (λ goal p fits. (grows (p.over, fits.1) fits.0.short).0) clocked taken (λ xs ys read take. (read.0, ys, ap (λ calls. ys ++ calls) read.1, take)))
+pub turn_made : {L : Type 0} (state : L → LogState) (done : Bool) (t₀ t₁ t₂ t₃ t₄ : Option (List (Made L))) (l₀ l₁ l₂ l₃ l₄ : LogState) (c₀ c₁ c₂ c₃ c₄ : CoreState) (b₀ b₁ : Begun) → MakesOver state t₀ t₁ l₀ l₁ IsReading (Tracks c₀) (λ goal p. Tracks c₁ goal p × Counted 0 goal p) → MakesOver state t₁ t₂ l₁ l₂ (λ calls. are_takes calls ≡ true) (At c₁ b₀) (At c₂ b₁) → MakesOver state t₂ t₃ l₂ l₃ (λ calls. are_lates calls ≡ true) (λ goal p. Tracks c₂ goal p × Counted 0 goal p) (Tracks c₃) → MakesOver state t₃ t₄ l₃ l₄ (AreAllSteps done) (Tracks c₃) (AndRests done (Tracks c₄)) → (HasRead b₀ → has_short_seconds c₀ ≡ true → Grows l₁ l₂ × Grows l₂ l₃ × Grows l₃ l₄) → MakesOver state t₀ t₄ l₀ l₄ (IsTurn done) (At c₀ b₀) (Left done c₄ b₁)
+turn_made state done t₀ t₁ t₂ t₃ t₄ l₀ l₁ l₂ l₃ l₄ c₀ c₁ c₂ c₃ c₄ b₀ b₁ clock takes lates steps grows =
+    Makes-map state t₀ t₄ l₀ l₄ (IsTurn done) (IsTurn done) (At c₀ b₀) (AndRests done (At c₄ b₁)) (At c₀ b₀) (Left done c₄ b₁) (λ goal p sound fits. fits)
+    (Makes-then state t₀ t₃ t₄ l₀ l₃ l₄ HasHeard (AreAllSteps done) (IsTurn done) (At c₀ b₀) (At c₃ b₁) (AndRests done (At c₄ b₁)) (λ goal p fits. (grows (p.over, fits.1) fits.0.short).2)
+    (Makes-then state t₀ t₂ t₃ l₀ l₂ l₃ HasTaken (λ calls. are_lates calls ≡ true) HasHeard (At c₀ b₀) (Counting (At c₂ b₁)) (At c₃ b₁) (λ goal p fits. (grows (p.over, fits.1) fits.0.short).1)
+    (Makes-then state t₀ t₁ t₂ l₀ l₁ l₂ IsReading (λ calls. are_takes calls ≡ true) HasTaken (At c₀ b₀) (Counting (At c₁ b₀)) (Counting (At c₂ b₁)) (λ goal p fits. (grows (p.over, fits.1) fits.0.short).0) clocked taken (λ xs ys read take. (read.0, ys, ap (λ calls. ys ++ calls) read.1, take)))
     late (λ xs ys have come. (have.0, have.1, ys, ap (λ calls. ys ++ calls) have.2, have.3, come)))
     stepped (λ xs ys heard all. turned done xs ys heard all))
     (λ calls turn leads. (turn, Leads-left (At c₀ b₀) done c₄ b₁ l₀ l₄ calls leads))
   where
-    clocked : Makes t₀ t₁ l₀ l₁ IsReading (At c₀ b₀) (Counting (At c₁ b₀))
-    clocked = Makes-map t₀ t₁ l₀ l₁ IsReading IsReading (Tracks c₀) (Counting (Tracks c₁)) (At c₀ b₀) (Counting (At c₁ b₀)) (λ goal p sound fits. fits.0) clock
+    clocked : MakesOver state t₀ t₁ l₀ l₁ IsReading (At c₀ b₀) (Counting (At c₁ b₀))
+    clocked = Makes-map state t₀ t₁ l₀ l₁ IsReading IsReading (Tracks c₀) (Counting (Tracks c₁)) (At c₀ b₀) (Counting (At c₁ b₀)) (λ goal p sound fits. fits.0) clock
         (λ calls read leads. (
           read,
           Leads-weaken (At c₀ b₀) (At c₀ b₀) (λ goal p. Counting (Tracks c₁) goal p × IsOver b₀ p.over) (Counting (At c₁ b₀)) l₀ l₁ calls (λ goal p fits. fits) (λ goal p fits. ((fits.0.0, fits.1), fits.0.1))
               (Leads-frame (Tracks c₀) (Counting (Tracks c₁)) (IsOver b₀) l₀ l₁ calls (ap (list_all takes_none) read.1) leads),
         ))
 
-    taken : Makes t₁ t₂ l₁ l₂ (λ calls. are_takes calls ≡ true) (Counting (At c₁ b₀)) (Counting (At c₂ b₁))
-    taken = Makes-map t₁ t₂ l₁ l₂ (λ calls. are_takes calls ≡ true) (λ calls. are_takes calls ≡ true) (At c₁ b₀) (At c₂ b₁) (Counting (At c₁ b₀)) (Counting (At c₂ b₁)) (λ goal p sound fits. fits.0) takes
+    taken : MakesOver state t₁ t₂ l₁ l₂ (λ calls. are_takes calls ≡ true) (Counting (At c₁ b₀)) (Counting (At c₂ b₁))
+    taken = Makes-map state t₁ t₂ l₁ l₂ (λ calls. are_takes calls ≡ true) (λ calls. are_takes calls ≡ true) (At c₁ b₀) (At c₂ b₁) (Counting (At c₁ b₀)) (Counting (At c₂ b₁)) (λ goal p sound fits. fits.0) takes
         (λ calls take leads. (take, Leads-beside (At c₁ b₀) (At c₂ b₁) (Counted 0) l₁ l₂ calls (takes_counted 0 calls take) leads))
 
-    late : Makes t₂ t₃ l₂ l₃ (λ calls. are_lates calls ≡ true) (Counting (At c₂ b₁)) (At c₃ b₁)
-    late = Makes-map t₂ t₃ l₂ l₃ (λ calls. are_lates calls ≡ true) (λ calls. are_lates calls ≡ true) (Counting (Tracks c₂)) (Tracks c₃) (Counting (At c₂ b₁)) (At c₃ b₁) (λ goal p sound fits. (fits.0.0, fits.1)) lates
+    late : MakesOver state t₂ t₃ l₂ l₃ (λ calls. are_lates calls ≡ true) (Counting (At c₂ b₁)) (At c₃ b₁)
+    late = Makes-map state t₂ t₃ l₂ l₃ (λ calls. are_lates calls ≡ true) (λ calls. are_lates calls ≡ true) (Counting (Tracks c₂)) (Tracks c₃) (Counting (At c₂ b₁)) (At c₃ b₁) (λ goal p sound fits. (fits.0.0, fits.1)) lates
         (λ calls come leads. (
           come,
           Leads-weaken (λ goal p. Counting (Tracks c₂) goal p × IsOver b₁ p.over) (Counting (At c₂ b₁)) (At c₃ b₁) (At c₃ b₁) l₂ l₃ calls (λ goal p fits. ((fits.0.0, fits.1), fits.0.1)) (λ goal p fits. fits)
               (Leads-frame (Counting (Tracks c₂)) (Tracks c₃) (IsOver b₁) l₂ l₃ calls (lates_none calls come) leads),
         ))
 
-    stepped : Makes t₃ t₄ l₃ l₄ (AreAllSteps done) (At c₃ b₁) (AndRests done (At c₄ b₁))
-    stepped = Makes-map t₃ t₄ l₃ l₄ (AreAllSteps done) (AreAllSteps done) (Tracks c₃) (AndRests done (Tracks c₄)) (At c₃ b₁) (AndRests done (At c₄ b₁)) (λ goal p sound fits. fits.0) steps
+    stepped : MakesOver state t₃ t₄ l₃ l₄ (AreAllSteps done) (At c₃ b₁) (AndRests done (At c₄ b₁))
+    stepped = Makes-map state t₃ t₄ l₃ l₄ (AreAllSteps done) (AreAllSteps done) (Tracks c₃) (AndRests done (Tracks c₄)) (At c₃ b₁) (AndRests done (At c₄ b₁)) (λ goal p sound fits. fits.0) steps
         (λ calls all leads. (
           all,
           Leads-weaken (At c₃ b₁) (At c₃ b₁) (λ goal p. AndRests done (Tracks c₄) goal p × IsOver b₁ p.over) (AndRests done (At c₄ b₁)) l₃ l₄ calls (λ goal p fits. fits) (λ goal p fits. ((fits.0.0, fits.1), fits.0.1))
@@ -106,9 +106,9 @@ Gone drain fitted n core saw now_saw calls = Since saw now_saw (λ all. (cores :
     × (length cores ≡ n) × AreTurns fitted (core ∷ cores) calls × (drain ≡ true → list_all is_busy cores ≡ true))
 
 -- before the first turn
-pub turns_none : (drain : Bool) (now : Option (List HostCall)) (log : LogState) (saw : Option (List CoreState)) (c : CoreState) (b : Begun) → Stands b [] → Makes now now log log (Going drain (Fresh c) 0 saw saw) (Fresh c) (At c b)
-turns_none drain now log saw c b stands = Makes-map now now log log (Going drain (Fresh c) 0 saw saw) (Going drain (Fresh c) 0 saw saw) (Fresh c) (Fresh c) (Fresh c) (At c b) (λ goal p sound fits. fits)
-    (Makes-none now log (Going drain (Fresh c) 0 saw saw) (Fresh c)
+pub turns_none : {L : Type 0} (state : L → LogState) (drain : Bool) (now : Option (List (Made L))) (log : LogState) (saw : Option (List CoreState)) (c : CoreState) (b : Begun) → Stands b [] → MakesOver state now now log log (Going drain (Fresh c) 0 saw saw) (Fresh c) (At c b)
+turns_none state drain now log saw c b stands = Makes-map state now now log log (Going drain (Fresh c) 0 saw saw) (Going drain (Fresh c) 0 saw saw) (Fresh c) (Fresh c) (Fresh c) (At c b) (λ goal p sound fits. fits)
+    (Makes-none state now log (Going drain (Fresh c) 0 saw saw) (Fresh c)
     (Since-none saw (λ cores. (length cores ≡ 0) × AreTurns (Fresh c) cores [] × (drain ≡ true → list_all is_busy cores ≡ true)) (refl, refl, λ drains. refl)))
     (λ calls none leads. (
       none,
@@ -122,15 +122,38 @@ IsLast drain done c₀ n saw now_saw calls = (last earlier : List HostCall) × (
     × AddsTo (Fresh c₀) earlier (last ++ earlier) × Going drain (Fresh c₀) n saw now_saw earlier
 
 -- a turn more, a look, and the pause behind it
-pub turns_more : (drain done : Bool) (n : ℕ) (t₀ t₁ t₂ t₃ : Option (List HostCall)) (l₀ l₁ l₂ : LogState) (s₀ s₁ s₂ : Option (List CoreState)) (c₀ c c' : CoreState) (b b' : Begun) → Makes t₀ t₁ l₀ l₁ (Going drain (Fresh c₀) n s₀ s₁) (Fresh c₀) (At c b) → Makes t₁ t₂ l₁ l₂ (IsTurn done) (At c b) (Left done c' b') → (has_short_seconds c₀ ≡ true → Grows l₁ l₂) → Since s₁ s₂ (λ cores. cores ≡ c' ∷ []) → AddsCall t₂ t₃ Pause → Makes t₀ t₃ l₀ l₂ (Gone drain (Fresh c₀) n c' s₀ s₂) (Fresh c₀) (At c' b')
-turns_more drain done n t₀ t₁ t₂ t₃ l₀ l₁ l₂ s₀ s₁ s₂ c₀ c c' b b' before turn grows look pause =
-    Since-then t₀ t₂ t₃ (λ calls. IsLast drain done c₀ n s₀ s₁ calls × Leads (Fresh c₀) (Left done c' b') l₀ l₂ calls × Fronts (Fresh c₀) l₀ l₂ calls) (λ calls. calls ≡ Pause ∷ []) (λ calls. Gone drain (Fresh c₀) n c' s₀ s₂ calls × Leads (Fresh c₀) (At c' b') l₀ l₂ calls × Fronts (Fresh c₀) l₀ l₂ calls)
-    (Since-then t₀ t₁ t₂ (λ calls. Going drain (Fresh c₀) n s₀ s₁ calls × Leads (Fresh c₀) (At c b) l₀ l₁ calls × Fronts (Fresh c₀) l₀ l₁ calls) (λ calls. IsTurn done calls × Leads (At c b) (Left done c' b') l₁ l₂ calls × Fronts (At c b) l₁ l₂ calls)
-    (λ calls. IsLast drain done c₀ n s₀ s₁ calls × Leads (Fresh c₀) (Left done c' b') l₀ l₂ calls × Fronts (Fresh c₀) l₀ l₂ calls) before turn
-    (λ xs ys was is. ((ys, xs, refl, is.0, adds xs ys was.1 is.1, was.0), Leads-then (Fresh c₀) (At c b) (Left done c' b') l₀ l₁ l₂ xs ys was.1 is.1, fronts_then (Fresh c₀) (At c b) l₀ l₁ l₂ xs ys was.1 was.2 is.2 (λ goal p fits. grows fits.0.short))))
-    (Since-one t₂ t₃ Pause (λ calls. calls ≡ Pause ∷ []) pause refl)
-    paused
+pub turns_more : {L : Type 0} (state : L → LogState) (drain done : Bool) (n : ℕ) (t₀ t₁ t₂ t₃ : Option (List (Made L))) (l₀ l₁ : LogState) (log now : L) (s₀ s₁ s₂ : Option (List CoreState)) (c₀ c c' : CoreState) (b b' : Begun) → MakesOver state t₀ t₁ l₀ l₁ (Going drain (Fresh c₀) n s₀ s₁) (Fresh c₀) (At c b) → MakesOver state t₁ t₂ l₁ (state log) (IsTurn done) (At c b) (Left done c' b') → (has_short_seconds c₀ ≡ true → Grows l₁ (state log)) → Since s₁ s₂ (λ cores. cores ≡ c' ∷ []) → AddsMade t₂ t₃ Pause log → now ≡ log → MakesOver state t₀ t₃ l₀ (state now) (Gone drain (Fresh c₀) n c' s₀ s₂) (Fresh c₀) (At c' b')
+turns_more {L = L} state drain done n t₀ t₁ t₂ t₃ l₀ l₁ log now s₀ s₁ s₂ c₀ c c' b b' before turn grows look pause same =
+    subst (λ (l : L). MakesOver state t₀ t₃ l₀ (state l) (Gone drain (Fresh c₀) n c' s₀ s₂) (Fresh c₀) (At c' b')) (sym same)
+    (Makes-then state t₀ t₂ t₃ l₀ l₂ l₂ Last IsPause (Gone drain (Fresh c₀) n c' s₀ s₂) (Fresh c₀) (Left done c' b') (At c' b') (λ goal p fits. Grows-none l₂)
+    (Makes-map state t₀ t₂ l₀ l₂ (IsLast drain done c₀ n s₀ s₁) Last (Fresh c₀) (Left done c' b') (Fresh c₀) (Left done c' b') (λ goal p sound fits. fits)
+    (Makes-then state t₀ t₁ t₂ l₀ l₁ l₂ Before Turned (IsLast drain done c₀ n s₀ s₁) (Fresh c₀) (At c b) (Left done c' b') (λ goal p fits. grows fits.0.short)
+    (Makes-map state t₀ t₁ l₀ l₁ (Going drain (Fresh c₀) n s₀ s₁) Before (Fresh c₀) (At c b) (Fresh c₀) (At c b) (λ goal p sound fits. fits) before (λ calls going leads. ((going, leads), leads)))
+    (Makes-map state t₁ t₂ l₁ l₂ (IsTurn done) Turned (At c b) (Left done c' b') (At c b) (Left done c' b') (λ goal p sound fits. fits) turn (λ calls made leads. ((made, leads), leads)))
+    (λ xs ys was is. (ys, xs, refl, is.0, adds xs ys was.1 is.1, was.0)))
+    (λ calls last leads. ((last, leads), leads)))
+    (Makes-one state t₂ t₃ l₂ l₂ log Pause IsPause (Left done c' b') (At c' b') pause refl
+    (Leads-weaken (Left done c' b') (Left done c' b') (Left done c' b') (At c' b') l₂ l₂ (Pause ∷ []) (λ goal p fits. fits) (λ goal p fits. fits.at)
+    (Leads-still (Left done c' b') l₂ Pause (λ p. refl) (λ goal so_far. refl) (λ goal p. tt)))
+    (kept_still (Left done c' b') l₂ Pause (λ so_far. refl)))
+    (λ xs ys ((last, earlier, is, made, more, going), leads) one.
+    seen last earlier (ys ++ xs) (λ i. one i ++ is i) made more (subst (Leads (Fresh c₀) (Left done c' b') l₀ l₂) is leads) going))
   where
+    l₂ : LogState
+    l₂ = state log
+
+    Before : List HostCall → Type 0
+    Before calls = Going drain (Fresh c₀) n s₀ s₁ calls × Leads (Fresh c₀) (At c b) l₀ l₁ calls
+
+    Turned : List HostCall → Type 0
+    Turned calls = IsTurn done calls × Leads (At c b) (Left done c' b') l₁ l₂ calls
+
+    Last : List HostCall → Type 0
+    Last calls = IsLast drain done c₀ n s₀ s₁ calls × Leads (Fresh c₀) (Left done c' b') l₀ l₂ calls
+
+    IsPause : List HostCall → Type 0
+    IsPause calls = calls ≡ Pause ∷ []
+
     adds : (xs ys : List HostCall) → Leads (Fresh c₀) (At c b) l₀ l₁ xs → Leads (At c b) (Left done c' b') l₁ l₂ ys → AddsTo (Fresh c₀) xs (ys ++ xs)
     adds xs ys one two goal p sound fits allowed carried short =
         let joined : point_after (ys ++ xs) p ≡ point_after ys (point_after xs p) = point_after-append ys xs p in
@@ -152,24 +175,13 @@ turns_more drain done n t₀ t₁ t₂ t₃ l₀ l₁ l₂ s₀ s₁ s₂ c₀ c
           was.2,
         ))
 
-    paused : (xs ys : List HostCall) → IsLast drain done c₀ n s₀ s₁ xs × Leads (Fresh c₀) (Left done c' b') l₀ l₂ xs × Fronts (Fresh c₀) l₀ l₂ xs → ys ≡ Pause ∷ [] → Gone drain (Fresh c₀) n c' s₀ s₂ (ys ++ xs) × Leads (Fresh c₀) (At c' b') l₀ l₂ (ys ++ xs) × Fronts (Fresh c₀) l₀ l₂ (ys ++ xs)
-    paused xs ys ((last, earlier, is, made, more, going), leads, fronts) one = (
-      seen last earlier (ys ++ xs) (λ i. one i ++ is i) made more (subst (Leads (Fresh c₀) (Left done c' b') l₀ l₂) is leads) going,
-      subst (λ zs. Leads (Fresh c₀) (At c' b') l₀ l₂ (zs ++ xs)) (sym one)
-          (Leads-then (Fresh c₀) (Left done c' b') (At c' b') l₀ l₂ l₂ xs (Pause ∷ []) leads
-          (Leads-weaken (Left done c' b') (Left done c' b') (Left done c' b') (At c' b') l₂ l₂ (Pause ∷ []) (λ goal p fits. fits) (λ goal p fits. fits.at)
-          (Leads-still (Left done c' b') l₂ Pause (λ p. refl) (λ goal so_far. refl) (λ goal p. tt)))),
-      subst (λ zs. Fronts (Fresh c₀) l₀ l₂ (zs ++ xs)) (sym one)
-          (fronts_then (Fresh c₀) (Left done c' b') l₀ l₂ l₂ xs (Pause ∷ []) leads fronts (fronts_one (Left done c' b') l₂ l₂ Pause) (λ goal p fits. Grows-none l₂)),
-    )
-
 -- turns of another shape
-shaped : (t₀ t₁ : Option (List HostCall)) (l₀ l₁ : LogState) (P Q : List HostCall → Type 0) (f₀ f₁ : Goal → Point → Type 0) → ((calls : List HostCall) → P calls → Q calls) → Makes t₀ t₁ l₀ l₁ P f₀ f₁ → Makes t₀ t₁ l₀ l₁ Q f₀ f₁
-shaped t₀ t₁ l₀ l₁ P Q f₀ f₁ more makes = Makes-map t₀ t₁ l₀ l₁ P Q f₀ f₁ f₀ f₁ (λ goal p sound fits. fits) makes (λ calls shape leads. (more calls shape, leads))
+shaped : {L : Type 0} (state : L → LogState) (t₀ t₁ : Option (List (Made L))) (l₀ l₁ : LogState) (P Q : List HostCall → Type 0) (f₀ f₁ : Goal → Point → Type 0) → ((calls : List HostCall) → P calls → Q calls) → MakesOver state t₀ t₁ l₀ l₁ P f₀ f₁ → MakesOver state t₀ t₁ l₀ l₁ Q f₀ f₁
+shaped state t₀ t₁ l₀ l₁ P Q f₀ f₁ more makes = Makes-map state t₀ t₁ l₀ l₁ P Q f₀ f₁ f₀ f₁ (λ goal p sound fits. fits) makes (λ calls shape leads. (more calls shape, leads))
 
 -- the run goes on, or ends there
-pub turns_on : (drain : Bool) (n m : ℕ) (t₀ t₁ : Option (List HostCall)) (l₀ l₁ : LogState) (s₀ s₁ : Option (List CoreState)) (f₀ f₁ : Goal → Point → Type 0) (c : CoreState) → suc n ≡ m → (drain ≡ true → is_drained c ≡ false) → Makes t₀ t₁ l₀ l₁ (Gone drain f₀ n c s₀ s₁) f₀ f₁ → Makes t₀ t₁ l₀ l₁ (Going drain f₀ m s₀ s₁) f₀ f₁
-turns_on drain n m t₀ t₁ l₀ l₁ s₀ s₁ f₀ f₁ c next busy = shaped t₀ t₁ l₀ l₁ (Gone drain f₀ n c s₀ s₁) (Going drain f₀ m s₀ s₁) f₀ f₁
+pub turns_on : {L : Type 0} (state : L → LogState) (drain : Bool) (n m : ℕ) (t₀ t₁ : Option (List (Made L))) (l₀ l₁ : LogState) (s₀ s₁ : Option (List CoreState)) (f₀ f₁ : Goal → Point → Type 0) (c : CoreState) → suc n ≡ m → (drain ≡ true → is_drained c ≡ false) → MakesOver state t₀ t₁ l₀ l₁ (Gone drain f₀ n c s₀ s₁) f₀ f₁ → MakesOver state t₀ t₁ l₀ l₁ (Going drain f₀ m s₀ s₁) f₀ f₁
+turns_on state drain n m t₀ t₁ l₀ l₁ s₀ s₁ f₀ f₁ c next busy = shaped state t₀ t₁ l₀ l₁ (Gone drain f₀ n c s₀ s₁) (Going drain f₀ m s₀ s₁) f₀ f₁
     (λ calls (all, told, (cores, is, count, turns, earlier)). (
       all,
       told,
@@ -180,8 +192,8 @@ turns_on drain n m t₀ t₁ l₀ l₁ s₀ s₁ f₀ f₁ c next busy = shaped 
       ),
     ))
 
-pub turns_end : (drain : Bool) (n m : ℕ) (t₀ t₁ : Option (List HostCall)) (l₀ l₁ : LogState) (s₀ s₁ : Option (List CoreState)) (f₀ f₁ : Goal → Point → Type 0) (c : CoreState) → suc n ≡ m → Makes t₀ t₁ l₀ l₁ (Gone drain f₀ n c s₀ s₁) f₀ f₁ → Makes t₀ t₁ l₀ l₁ (MadeTurns drain f₀ m s₀ s₁) f₀ f₁
-turns_end drain n m t₀ t₁ l₀ l₁ s₀ s₁ f₀ f₁ c next = shaped t₀ t₁ l₀ l₁ (Gone drain f₀ n c s₀ s₁) (MadeTurns drain f₀ m s₀ s₁) f₀ f₁
+pub turns_end : {L : Type 0} (state : L → LogState) (drain : Bool) (n m : ℕ) (t₀ t₁ : Option (List (Made L))) (l₀ l₁ : LogState) (s₀ s₁ : Option (List CoreState)) (f₀ f₁ : Goal → Point → Type 0) (c : CoreState) → suc n ≡ m → MakesOver state t₀ t₁ l₀ l₁ (Gone drain f₀ n c s₀ s₁) f₀ f₁ → MakesOver state t₀ t₁ l₀ l₁ (MadeTurns drain f₀ m s₀ s₁) f₀ f₁
+turns_end state drain n m t₀ t₁ l₀ l₁ s₀ s₁ f₀ f₁ c next = shaped state t₀ t₁ l₀ l₁ (Gone drain f₀ n c s₀ s₁) (MadeTurns drain f₀ m s₀ s₁) f₀ f₁
     (λ calls (all, told, (cores, is, count, turns, earlier)). (
       all,
       told,
@@ -192,8 +204,8 @@ turns_end drain n m t₀ t₁ l₀ l₁ s₀ s₁ f₀ f₁ c next = shaped t₀
       ),
     ))
 
-pub turns_limit : (drain : Bool) (n m : ℕ) (t₀ t₁ : Option (List HostCall)) (l₀ l₁ : LogState) (s₀ s₁ : Option (List CoreState)) (f₀ f₁ : Goal → Point → Type 0) → n ≡ m → Makes t₀ t₁ l₀ l₁ (Going drain f₀ n s₀ s₁) f₀ f₁ → Makes t₀ t₁ l₀ l₁ (MadeTurns drain f₀ m s₀ s₁) f₀ f₁
-turns_limit drain n m t₀ t₁ l₀ l₁ s₀ s₁ f₀ f₁ same = shaped t₀ t₁ l₀ l₁ (Going drain f₀ n s₀ s₁) (MadeTurns drain f₀ m s₀ s₁) f₀ f₁
+pub turns_limit : {L : Type 0} (state : L → LogState) (drain : Bool) (n m : ℕ) (t₀ t₁ : Option (List (Made L))) (l₀ l₁ : LogState) (s₀ s₁ : Option (List CoreState)) (f₀ f₁ : Goal → Point → Type 0) → n ≡ m → MakesOver state t₀ t₁ l₀ l₁ (Going drain f₀ n s₀ s₁) f₀ f₁ → MakesOver state t₀ t₁ l₀ l₁ (MadeTurns drain f₀ m s₀ s₁) f₀ f₁
+turns_limit state drain n m t₀ t₁ l₀ l₁ s₀ s₁ f₀ f₁ same = shaped state t₀ t₁ l₀ l₁ (Going drain f₀ n s₀ s₁) (MadeTurns drain f₀ m s₀ s₁) f₀ f₁
     (λ calls (cores, told, (count, turns, busy)). (cores, told, (count ∙ same, turns, λ drains. others cores (busy drains))))
   where
     others : (cores : List CoreState) → list_all is_busy cores ≡ true → list_all is_busy (drop 1 cores) ≡ true
@@ -201,8 +213,8 @@ turns_limit drain n m t₀ t₁ l₀ l₁ s₀ s₁ f₀ f₁ same = shaped t₀
     others (core ∷ cores) all = (and_parts (is_busy core) (list_all is_busy cores) all).1
 
 -- what fits a sound trace counts the children that are not reaped
-pub turns_left : (t₀ t₁ : Option (List HostCall)) (l₀ l₁ : LogState) (Shape : List HostCall → Type 0) (c₀ c : CoreState) (b : Begun) → Makes t₀ t₁ l₀ l₁ Shape (Fresh c₀) (At c b) → Makes t₀ t₁ l₀ l₁ Shape (Fresh c₀) (LeftBy c)
-turns_left t₀ t₁ l₀ l₁ Shape c₀ c b makes = Makes-map t₀ t₁ l₀ l₁ Shape Shape (Fresh c₀) (At c b) (Fresh c₀) (LeftBy c) (λ goal p sound fits. fits) makes (λ calls shape leads. (shape, counts calls leads))
+pub turns_left : {L : Type 0} (state : L → LogState) (t₀ t₁ : Option (List (Made L))) (l₀ l₁ : LogState) (Shape : List HostCall → Type 0) (c₀ c : CoreState) (b : Begun) → MakesOver state t₀ t₁ l₀ l₁ Shape (Fresh c₀) (At c b) → MakesOver state t₀ t₁ l₀ l₁ Shape (Fresh c₀) (LeftBy c)
+turns_left state t₀ t₁ l₀ l₁ Shape c₀ c b makes = Makes-map state t₀ t₁ l₀ l₁ Shape Shape (Fresh c₀) (At c b) (Fresh c₀) (LeftBy c) (λ goal p sound fits. fits) makes (λ calls shape leads. (shape, counts calls leads))
   where
     counts : (calls : List HostCall) → Leads (Fresh c₀) (At c b) l₀ l₁ calls → Leads (Fresh c₀) (LeftBy c) l₀ l₁ calls
     counts calls leads goal p sound fits allowed =
@@ -219,5 +231,5 @@ turns_left t₀ t₁ l₀ l₁ Shape c₀ c b makes = Makes-map t₀ t₁ l₀ l
         )
 
 -- the requests of all bytes
-pub turns_bring : (t₀ t₁ : Option (List HostCall)) (l₀ l₁ : LogState) (Shape : List HostCall → Type 0) (f₀ f₁ : Goal → Point → Type 0) → Makes t₀ t₁ l₀ l₁ Shape f₀ f₁ → Since t₀ t₁ (λ calls. (p : Point) → p.over ≡ [] → Brings [] calls p)
-turns_bring t₀ t₁ l₀ l₁ Shape f₀ f₁ makes = Since-map t₀ t₁ (λ calls. Shape calls × Leads f₀ f₁ l₀ l₁ calls × Fronts f₀ l₀ l₁ calls) (λ calls. (p : Point) → p.over ≡ [] → Brings [] calls p) makes (λ calls held p none. calls_bring calls [] p none)
+pub turns_bring : {L : Type 0} (state : L → LogState) (t₀ t₁ : Option (List (Made L))) (l₀ l₁ : LogState) (Shape : List HostCall → Type 0) (f₀ f₁ : Goal → Point → Type 0) → MakesOver state t₀ t₁ l₀ l₁ Shape f₀ f₁ → Since t₀ t₁ (λ mades. (p : Point) → p.over ≡ [] → Brings [] (calls_of mades) p)
+turns_bring state t₀ t₁ l₀ l₁ Shape f₀ f₁ makes = Since-map t₀ t₁ (AreMade state l₀ l₁ Shape f₀ f₁) (λ mades. (p : Point) → p.over ≡ [] → Brings [] (calls_of mades) p) makes (λ mades held p none. calls_bring (calls_of mades) [] p none)

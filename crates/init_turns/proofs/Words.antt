@@ -10,7 +10,7 @@ pub use Rattle.core_model.specs.State.{CoreState, opening_goal, opening_state}
 pub use Rattle.core_waiting.specs.Arrival.{AreUndisturbed, is_undisturbed, rounds_to_come}
 pub use Rattle.core_waiting.specs.Rest.{AtRest, after_rounds, is_level_announced}
 pub use Rattle.host_calls.specs.declared.calls.Call.TheVariants.{Clock, Pause, Start, Look, Late, TakeBytes, Announce, Carry, Signal, ReadTables}
-pub use Rattle.host_calls.specs.Calls.{HostCall, AddsCall, TextRead, front_read, parts_read}
+pub use Rattle.host_calls.specs.Calls.{HostCall, TextRead, front_read, parts_read}
 pub use Rattle.host_trace.specs.declared.TheConstants.{STEP_LIMIT, BYTE_LIMIT, PIECE, LATE_LIMIT}
 pub use Rattle.host_trace.specs.Leads.{are_carried, are_seconds_short, is_allowed, Gave, gone_on, Hears, Lasts, Leads, Logs, Tracks, Went, comes_back, Counted, IsOver, Took}
 pub use Rattle.host_trace.specs.Point.{Point, point_after, has_trace, last_birth, acted, answered, announced, is_announcement, bytes_after, came_cut, carrying, is_of_generation, is_outcome, same_text, is_last, clocked, come, ordered, order_for}
@@ -21,7 +21,7 @@ pub use Rattle.init_turns.specs.Arriving.{ArrivesIn, IsSettled, are_undisturbed_
 pub use Rattle.init_words.specs.declared.entries.Entry.{Entry}
 pub use Rattle.init_words.specs.declared.orders.Answer.TheVariants.{Alive, Born, Ended}
 pub use Rattle.trace_events.specs.declared.happenings.Happening.TheVariants.{Enter, Settle, NewTable, Told, Death, Reaped, Asked}
-pub use Rattle.init_turns.specs.Opening.{opening_point, FrontsFrom, IsOpening, IsOpeningOf, LeadsFrom, OpeningState, Opens}
+pub use Rattle.init_turns.specs.Opening.{opening_point, FrontsFrom, IsOpening, KeptFrom, IsOpeningOf, LeadsFrom, OpeningState, Opens}
 pub use Rattle.std.specs.Option.{option_and_then, option_to_list, option_map_or}
 pub use Rattle.init_words.specs.declared.orders.Answer.{Answer}
 pub use Rattle.initctl_frame.specs.Blocks.{Begun, Stands, gots_of}
@@ -34,7 +34,7 @@ pub use Rattle.core_model.proofs.Recorded.{unreaped_recorded}
 pub use Rattle.trace_log.specs.Logs.{LogState}
 pub use Rattle.host_trace.proofs.Taking.{Logs-none, Took-then, Logs-handed, Logs-same, Logs-then}
 pub use Rattle.host_trace.proofs.Acting.{Hears-answer, Hears-step, Hears-tracks, tracks, Hears-told}
-pub use Rattle.init_turns.specs.Parts.{AndRests, IsStep, IsStepUnless, Left, Makes, SaysStep, is_end, is_short_step, ComesTo, Saying, is_listed, Fresh, LeftBy, AreAllSteps, IsLate, IsTake, IsReading}
+pub use Rattle.init_turns.specs.Parts.{AndRests, IsStep, IsStepUnless, Left, Makes, MakesOver, SaysStep, is_end, is_short_step, ComesTo, Saying, is_listed, Fresh, LeftBy, AreAllSteps, IsLate, IsTake, IsReading}
 pub use Rattle.initctl_frame.specs.declared.requests.HeardRequest.{HeardRequest}
 pub use Rattle.trace_events.specs.Range.{is_request}
 pub use Rattle.core_model.specs.Decide.{decide, or_else, or_idle, level_step, news_step, wished_step, wish_step, stands, stop_among, has_excluded, limited_step, can_start_record, start_step, is_owed_record, start_along, is_over_among, next_stage, enter_step, stage_step, settle_step, can_look_record, look_among, calm_step, work_step, first_step, decide_in, is_drained}
@@ -42,7 +42,7 @@ pub use Rattle.core_model.specs.Parts.{state_of, SavedState}
 pub use Rattle.core_text.specs.Range.{are_heads, has_short_seconds, is_goal, is_stage, passes}
 pub use Rattle.core_text.specs.Refused.{IsTextOf, IsCut, IsOther, IsTextIn}
 pub use Rattle.host_trace.specs.Grows.{GrowsBy, GrowsReading, HasRead, Grows}
-pub use Rattle.host_trace.proofs.Growing.{GrowsBy-then, Grows-none, GrowsBy-one, GrowsBy-none, Grows-handed, Grows-then, GrowsReading-none, GrowsReading-then, GrowsBy-behind}
+pub use Rattle.host_trace.proofs.Growing.{GrowsBy-then, Grows-none, GrowsBy-one, GrowsBy-none, Grows-handed, Grows-then, GrowsReading-none, GrowsReading-then, GrowsBy-call}
 pub use Rattle.host_trace.proofs.Bytes.{piece_fed, Leads-no_bytes, Leads-pieces, Leads-fed}
 pub use Rattle.std.proofs.lemmas.Option.{same_Some}
 pub use Rattle.init_words.proofs.Same.{same_id-self}
@@ -51,8 +51,10 @@ pub use Rattle.core_text.specs.declared.versions.Version.TheVariants.{V2}
 pub use Rattle.core_text.proofs.Prefixes.{generation_said}
 pub use Rattle.host_trace.proofs.Calling.{HandedOn, Leads-carried, Leads-clock, Hears-last, Hears-more, Leads-late, Hears-order, first_is, Leads-start, Leads-not_handed, Leads-not_read, Leads-used}
 pub use Rattle.inittab_text.specs.Tables.{entry_of, is_distinct}
+pub use Rattle.host_trace.specs.Edges.{AddsMade, Kept, KeptAt, Made, calls_of, trace_at}
 pub use Rattle.host_trace.specs.Fronts.{Fronts, says_of}
-pub use Rattle.host_calls.proofs.Record.{Since-map, Since-one, Since-none, Since-then}
+pub use Rattle.host_calls.proofs.Record.{Since-map, Since-none, Since-then}
 pub use Rattle.host_trace.proofs.Fronts.{Began-then, fronts_narrower, fronts_none, fronts_one, fronts_then, fronts_two}
+pub use Rattle.host_trace.proofs.Keeping.{AddsMade-same, Kept-narrower, Kept-one, Kept-then, Since-made, calls_of-append, kept_asked, kept_led, kept_still, told_at}
 pub use Rattle.host_trace.specs.Requests.{Brings, requested}
 pub use Rattle.core_handover.specs.Taken.{NotTaken}

@@ -1,5 +1,5 @@
 -- A run from its opening: the table that is in force then, and nothing before it (init(8)).
-use Rattle.std.specs.Prelude.{◌≡◌, true, IsTrue, List, [], ◌∷◌, Option, None}
+use Rattle.std.specs.Prelude.{◌≡◌, true, IsTrue, List, [], ◌∷◌, Option, None, IfSome}
 use Rattle.init_words.specs.declared.entries.Entry.{Entry}
 use Rattle.init_words.specs.declared.levels.Level.{Level}
 use Rattle.inittab_text.specs.Tables.{is_distinct}
@@ -11,6 +11,7 @@ use Rattle.trace_events.specs.Sound.{is_sound}
 use Rattle.core_model.specs.State.{CoreState, opening_goal, opening_state}
 use Rattle.trace_log.specs.Logs.{LogState}
 use Rattle.host_calls.specs.Calls.{HostCall}
+use Rattle.host_trace.specs.Edges.{Made, calls_of, trace_at}
 use Rattle.host_trace.specs.Fronts.{Began, EachFront, GoesSoFar}
 use Rattle.host_trace.specs.Leads.{AreTexts, Took, are_carried, is_allowed}
 use Rattle.host_trace.specs.Point.{Point, has_trace, point_after}
@@ -66,9 +67,22 @@ abbrev pub FrontsFrom : Option Level → List Entry → LogState → LogState �
 FrontsFrom level table old new calls =
     EachFront (λ earlier. GoesSoFar (IsOpening level table) earlier × LogsFrom level table old new earlier) calls
 
--- the calls made, which are those told where the host tells them, are such turns; so it went, and so it did up to each of
--- them, whatever was answered later
-abbrev pub Opens : Option (List HostCall) → Option (List HostCall) → LogState → LogState → Option Level → List Entry
-    → (List HostCall → Type 0) → CoreState → Type 0
-Opens told now_told old new level table Turns core = Since told now_told (λ calls.
-    Turns calls × LeadsFrom level table core old new calls × FrontsFrom level table old new calls)
+-- At each call of which the log is told, the log had taken the whole trace from the opening on, with the order that the
+-- call carries out, as far as the answers until then were possible, and the texts that were carried came back as they
+-- may; or it had failed.
+abbrev pub KeptFrom : {L : Type 0} → (L → LogState) → Option Level → List Entry → LogState → List (Made L) → Type 0
+KeptFrom state level table old [] = Unit {0}
+KeptFrom state level table old (made ∷ earlier) = IfSome made.at (λ log.
+    IsTrue (is_allowed (opening_goal level table) (point_after (calls_of earlier) (opening_point table)).past)
+    → IsTrue (are_carried (calls_of earlier) (opening_point table))
+    → Took old (state log) [] (trace_at made.call (point_after (calls_of earlier) (opening_point table)).past))
+    × KeptFrom state level table old earlier
+
+-- The calls made, which are those told where the edge tells them, are such turns; so it went, and so it did up to each
+-- of them, whatever was answered later; and when each was made, the log had taken the whole trace until then.
+abbrev pub Opens : {E L : Type 0} → (L → LogState) → (E → Option (List (Made L))) → (E → L) → E → E → Option Level
+    → List Entry → (List HostCall → Type 0) → CoreState → Type 0
+Opens state told log old new level table Turns core = Since (told old) (told new) (λ mades.
+    Turns (calls_of mades) × LeadsFrom level table core (state (log old)) (state (log new)) (calls_of mades)
+    × FrontsFrom level table (state (log old)) (state (log new)) (calls_of mades)
+    × KeptFrom state level table (state (log old)) mades)

@@ -25,20 +25,29 @@ use Rattle.core_text.specs.Refused.{IsTextOf}
 use Rattle.trace_log.specs.Logs.{LogState}
 use Rattle.host_calls.specs.declared.calls.Call.TheVariants.{Late, Clock, TakeBytes, Announce}
 use Rattle.host_calls.specs.declared.calls.HostFault.{HostFault}
-use Rattle.host_calls.specs.Calls.{AddsCall, HostCall, TextRead}
+use Rattle.host_calls.specs.Calls.{HostCall, TextRead}
 use Rattle.host_trace.specs.declared.TheConstants.{STEP_LIMIT}
 use Rattle.host_trace.specs.Point.{Point, is_last, is_outcome, is_announcement, may_announce}
 use Rattle.host_calls.specs.Record.{Since}
+use Rattle.host_trace.specs.Edges.{AddsMade, Kept, Made, calls_of}
 use Rattle.host_trace.specs.Fronts.{Fronts}
 use Rattle.host_trace.specs.Leads.{At, Leads, Tracks, comes_back}
 use Rattle.host_trace.specs.Turns.{AreSteps, bytes_in, is_room, is_step}
 
--- the calls made are of this shape, and what fits before them fits after them; up to each of them all went well as far
--- as the answers until then were possible; where the host tells its calls, they are those
-abbrev pub Makes : Option (List HostCall) → Option (List HostCall) → LogState → LogState → (List HostCall → Type 0)
-    → (Goal → Point → Type 0) → (Goal → Point → Type 0) → Type 0
-Makes told now_told log now_log Shape fitted fit =
-    Since told now_told (λ calls. Shape calls × Leads fitted fit log now_log calls × Fronts fitted log now_log calls)
+-- The calls made are of this shape, and what fits before them fits after them; up to each of them all went well as far
+-- as the answers until then were possible, and when it was made, the log had taken the whole trace until then. Where
+-- the edge tells its calls, they are those.
+abbrev pub MakesOver : {L : Type 0} → (L → LogState) → Option (List (Made L)) → Option (List (Made L)) → LogState
+    → LogState → (List HostCall → Type 0) → (Goal → Point → Type 0) → (Goal → Point → Type 0) → Type 0
+MakesOver state told now_told log now_log Shape fitted fit =
+    Since told now_told (λ mades. Shape (calls_of mades) × Leads fitted fit log now_log (calls_of mades)
+    × Fronts fitted log now_log (calls_of mades) × Kept state fitted log mades)
+
+-- so it is of an edge before and behind them
+abbrev pub Makes : {E L : Type 0} → (L → LogState) → (E → Option (List (Made L))) → (E → L) → E → E
+    → (List HostCall → Type 0) → (Goal → Point → Type 0) → (Goal → Point → Type 0) → Type 0
+Makes state told log old new Shape fitted fit =
+    MakesOver state (told old) (told new) (state (log old)) (state (log new)) Shape fitted fit
 
 -- the answer is that the child ended
 abbrev pub is_end : Answer → Bool
@@ -80,10 +89,10 @@ abbrev pub ComesTo : HandOver → List ℕ → TextRead → CoreState → CoreSt
 ComesTo how text back old new = IsFit old → IsTextOf text (state_of old)
     → IsTrue (comes_back old.heads.generation text back) → (new ≡ old) × IsTrue (is_outcome how text back)
 
--- a refusal is announced
-abbrev pub Saying : HandOver → Option (List HostCall) → Option (List HostCall) → Type 0
-Saying handed.Whole told now_told = now_told ≡ told
-Saying how told now_told = AddsCall told now_told (Announce (Handed how))
+-- a refusal is announced, with this log
+abbrev pub Saying : {L : Type 0} → HandOver → Option (List (Made L)) → Option (List (Made L)) → L → Type 0
+Saying handed.Whole told now_told log = now_told ≡ told
+Saying how told now_told log = AddsMade told now_told (Announce (Handed how)) log
 
 -- nothing is due
 abbrev pub is_idle : Step → Bool

@@ -15,72 +15,81 @@ ghost use Rattle.init_turns.specs.Parts.{is_end};
 
 use core_steps::Core;
 use host_calls::Reply;
+use host_trace::Edge;
 use init_words::{Answer, ChildNumber, Id, Status};
 use std::alloc::Allocator;
 use trace_events::{Happening, HappeningIn, law_of_ranges};
-use trace_log::Log;
 
-/// Hands a happening to the log, unless the log has failed.
-pub(crate) fn write<A: Allocator, L: Log>(log: &mut L, happening: &HappeningIn<A>)
+/// Hands a happening to the edge, unless the log has failed.
+pub(crate) fn write<A: Allocator, E: Edge>(edge: &mut E, happening: &HappeningIn<A>)
     ensures logs { (past : List Event)
-        → Logs (L.state log.old) (L.state log.new) past (happening.now ∷ past) }
-    ensures grows { is_short happening.now ≡ true → Grows (L.state log.old) (L.state log.new) }
+        → Logs (E.state (E.log edge.old)) (E.state (E.log edge.new)) past (happening.now ∷ past) }
+    ensures told { E.told edge.new ≡ E.told edge.old }
+    ensures grows { is_short happening.now ≡ true
+        → Grows (E.state (E.log edge.old)) (E.state (E.log edge.new)) }
 {
-    if !log.failed() {
+    if !edge.failed() {
         law_of_ranges(happening);
-        let _ = log.take(happening);
+        let _ = edge.take(happening);
     }
 }
 
 /// Writes a happening that is no table.
-pub(crate) fn note<L: Log>(log: &mut L, happening: Happening)
+pub(crate) fn note<E: Edge>(edge: &mut E, happening: Happening)
     ensures logs { (past : List Event)
-        → Logs (L.state log.old) (L.state log.new) past (happening ∷ past) }
-    ensures grows { is_short happening ≡ true → Grows (L.state log.old) (L.state log.new) }
+        → Logs (E.state (E.log edge.old)) (E.state (E.log edge.new)) past (happening ∷ past) }
+    ensures told { E.told edge.new ≡ E.told edge.old }
+    ensures grows { is_short happening ≡ true
+        → Grows (E.state (E.log edge.old)) (E.state (E.log edge.new)) }
 {
-    write(log, &happening);
+    write(edge, &happening);
 }
 
 /// Writes that a child ended: it died, and was reaped.
-fn write_end<L: Log>(log: &mut L, id: Id, number: Option<ChildNumber>, status: Status)
+fn write_end<E: Edge>(edge: &mut E, id: Id, number: Option<ChildNumber>, status: Status)
     ensures logs { (past : List Event) → number ≡ Some (last_birth id past)
-        → Logs (L.state log.old) (L.state log.new) past (acted id (Ended status) past) }
-    ensures grows { Grows (L.state log.old) (L.state log.new) }
+        → Logs (E.state (E.log edge.old)) (E.state (E.log edge.new))
+        past (acted id (Ended status) past) }
+    ensures told { E.told edge.new ≡ E.told edge.old }
+    ensures grows { Grows (E.state (E.log edge.old)) (E.state (E.log edge.new)) }
 {
     let Some(number) = number else {
         return;
     };
-    note(log, Happening::Death(number));
-    note(log, Happening::Reaped(id, number, status));
+    note(edge, Happening::Death(number));
+    note(edge, Happening::Reaped(id, number, status));
 }
 
 /// Writes what an answer about the id says, whose child has the number.
-fn write_act<L: Log>(log: &mut L, id: Id, answer: Answer, number: Option<ChildNumber>)
+fn write_act<E: Edge>(edge: &mut E, id: Id, answer: Answer, number: Option<ChildNumber>)
     ensures logs { (past : List Event)
         → (is_end answer ≡ true → number ≡ Some (last_birth id past))
-        → Logs (L.state log.old) (L.state log.new) past (acted id answer past) }
-    ensures grows { Grows (L.state log.old) (L.state log.new) }
+        → Logs (E.state (E.log edge.old)) (E.state (E.log edge.new)) past (acted id answer past) }
+    ensures told { E.told edge.new ≡ E.told edge.old }
+    ensures grows { Grows (E.state (E.log edge.old)) (E.state (E.log edge.new)) }
 {
     match answer {
-        Answer::Born(born) => note(log, Happening::Birth(id, born)),
-        Answer::NotBorn => note(log, Happening::NoBirth(id)),
-        Answer::Ended(status) => write_end(log, id, number, status),
-        Answer::Alive => note(log, Happening::Still(id)),
-        Answer::NoLook => note(log, Happening::NoLook(id)),
-        Answer::Hit => note(log, Happening::Hit(id)),
-        Answer::Miss => note(log, Happening::Miss(id)),
+        Answer::Born(born) => note(edge, Happening::Birth(id, born)),
+        Answer::NotBorn => note(edge, Happening::NoBirth(id)),
+        Answer::Ended(status) => write_end(edge, id, number, status),
+        Answer::Alive => note(edge, Happening::Still(id)),
+        Answer::NoLook => note(edge, Happening::NoLook(id)),
+        Answer::Hit => note(edge, Happening::Hit(id)),
+        Answer::Miss => note(edge, Happening::Miss(id)),
     }
 }
 
 /// Writes an answer: what it says, and that it was told.
-fn write_answer<L: Log>(log: &mut L, id: Id, answer: Answer, number: Option<ChildNumber>)
+fn write_answer<E: Edge>(edge: &mut E, id: Id, answer: Answer, number: Option<ChildNumber>)
     ensures logs { (past : List Event)
         → (is_end answer ≡ true → number ≡ Some (last_birth id past))
-        → Logs (L.state log.old) (L.state log.new) past (Told id ∷ acted id answer past) }
-    ensures grows { Grows (L.state log.old) (L.state log.new) }
+        → Logs (E.state (E.log edge.old)) (E.state (E.log edge.new))
+        past (Told id ∷ acted id answer past) }
+    ensures told { E.told edge.new ≡ E.told edge.old }
+    ensures grows { Grows (E.state (E.log edge.old)) (E.state (E.log edge.new)) }
 {
-    write_act(log, id, answer, number);
-    note(log, Happening::Told(id));
+    write_act(edge, id, answer, number);
+    note(edge, Happening::Told(id));
 }
 
 /// The number of the id's child.
@@ -103,36 +112,42 @@ fn number_for<A: Allocator>(core: &Core<A>, id: Id, answer: &Answer) -> Option<C
 }
 
 /// Hears an answer about the id. One that was not asked for is nothing.
-pub(crate) fn hear_answer<A: Allocator, L: Log>(
+pub(crate) fn hear_answer<A: Allocator, E: Edge>(
     core: &mut Core<A>,
-    log: &mut L,
+    edge: &mut E,
     id: Id,
     answer: Answer,
 )
-    ensures hears { Hears (Tracks core.old) (Tracks core.new) (L.state log.old) (L.state log.new)
+    ensures hears { Hears (Tracks core.old) (Tracks core.new)
+        (E.state (E.log edge.old)) (E.state (E.log edge.new))
         (answered id answer) }
-    ensures grows { GrowsBy core.old core.new (L.state log.old) (L.state log.new) }
+    ensures told { E.told edge.new ≡ E.told edge.old }
+    ensures grows { GrowsBy core.old core.new
+        (E.state (E.log edge.old)) (E.state (E.log edge.new)) }
 {
     let number = number_for(core, id, &answer);
     let heard = answer;
     if core.answer(id, answer).is_ok() {
-        write_answer(log, id, heard, number);
+        write_answer(edge, id, heard, number);
     }
 }
 
 /// Hears what the host replied to an order about the id.
-pub(crate) fn hear_reply<A: Allocator, L: Log>(
+pub(crate) fn hear_reply<A: Allocator, E: Edge>(
     core: &mut Core<A>,
-    log: &mut L,
+    edge: &mut E,
     id: Id,
     reply: &Reply,
 )
-    ensures hears { Hears (Tracks core.old) (Tracks core.new) (L.state log.old) (L.state log.new)
+    ensures hears { Hears (Tracks core.old) (Tracks core.new)
+        (E.state (E.log edge.old)) (E.state (E.log edge.new))
         (replied id reply.now) }
-    ensures grows { GrowsBy core.old core.new (L.state log.old) (L.state log.new) }
+    ensures told { E.told edge.new ≡ E.told edge.old }
+    ensures grows { GrowsBy core.old core.new
+        (E.state (E.log edge.old)) (E.state (E.log edge.new)) }
 {
     match *reply {
-        Reply::Now(answer) => hear_answer(core, log, id, answer),
+        Reply::Now(answer) => hear_answer(core, edge, id, answer),
         Reply::Later => {}
     }
 }

@@ -3,15 +3,16 @@
 ghost use Rattle.std.specs.Prelude.{◌≡◌};
 ghost use Rattle.init_turns.specs.Causes.{cause_text};
 
-use host_calls::Host;
+use host_trace::Edge;
 use initctl_frame::{Cause, HeardRequest};
 
 /// Hands the host the cause of a request that counts for nothing.
-pub(crate) fn tell_cause<H: Host>(host: &mut H, request: &HeardRequest)
-    ensures { H.told host.new ≡ H.told host.old }
+pub(crate) fn tell_cause<E: Edge>(edge: &mut E, request: &HeardRequest)
+    ensures told { E.told edge.new ≡ E.told edge.old }
+    ensures log { E.log edge.new ≡ E.log edge.old }
 {
     if let HeardRequest::Nothing(cause) = request {
-        host.pass_over(cause_text(*cause));
+        edge.pass_over(cause_text(*cause));
     }
 }
 

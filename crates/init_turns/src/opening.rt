@@ -10,13 +10,12 @@ ghost use Rattle.init_turns.specs.Opening.{IsOpeningOf, Opens};
 use crate::answering::write;
 use crate::serving::{Served, Watch, serve};
 use core_steps::Core;
-use host_calls::Host;
+use host_trace::Edge;
 use init_words::{Level, Memory};
 use inittab_text::Table;
 use std::alloc::{Allocator, Global};
 use std::marker::Model;
 use trace_events::{Happening, HappeningIn};
-use trace_log::Log;
 
 /// Init at its opening: its core, and the table in force as the log is told of it.
 #[derive(Drop)]
@@ -47,32 +46,32 @@ impl<A: Allocator + Copy> Opening<A> {
 
     /// Makes the given number of turns from the opening on, and gives back what init keeps after them. The log is handed
     /// the table in force first.
-    pub fn serve<H: Host, L: Log, W: Watch<A>>(
+    pub fn serve<E: Edge, W: Watch<A>>(
         self,
         alloc: A,
-        host: &mut H,
-        log: &mut L,
+        edge: &mut E,
         turns: u64,
         drain: bool,
         watch: &mut W,
     ) -> (Served, Core<A>)
         // the calls made are those of so many turns from the opening on; up to each call their trace is sound and lawful, as
         // far as the answers until then were possible; the core that is seen after each turn, and given back, tracks it;
-        // the log took it; and a level is settled in as many undisturbed turns as there were rounds to come
+        // the log took it, and had taken all of it until then when each call was made; and a level is settled in as many
+        // undisturbed turns as there were rounds to come
         ensures trace { (level : Option Level) (table : List Entry) → IsOpeningOf level table self
-            → Opens (H.told host.old) (H.told host.new) (L.state log.old) (L.state log.new)
+            → Opens E.state E.told E.log edge.old edge.new
             level table (ServesTurns drain level table result.0.turns (W.seen watch.old)
             (W.seen watch.new)) result.1 }
         // it makes the turns that were asked for; fewer only where it was to end drained, and is
         ensures most { result.0.turns ≤ turns }
         ensures fewer { result.0.turns < turns → (drain ≡ true) × (result.0.drained ≡ true) }
         ensures drained { result.0.drained ≡ is_drained result.1 }
-        ensures logged { result.0.logged ≡ not (L.state log.new).failed }
+        ensures logged { result.0.logged ≡ not (E.state (E.log edge.new)).failed }
     {
         let Opening { mut core, told } = self;
-        write(log, &told);
+        write(edge, &told);
         drop(told);
-        let served = serve(alloc, &mut core, host, log, turns, drain, watch);
+        let served = serve(alloc, &mut core, edge, turns, drain, watch);
         (served, core)
     }
 }

@@ -10,11 +10,10 @@ ghost use Rattle.init_turns.specs.Parts.{IsStep, Makes, is_listed};
 
 use crate::answering::{hear_reply, note};
 use core_steps::Core;
-use host_calls::Host;
+use host_trace::Edge;
 use init_words::{Id, OrderKind, SignalKind};
 use std::alloc::Allocator;
 use trace_events::Happening;
-use trace_log::Log;
 
 /// The order by which a signal is sent.
 fn order_for(sent: &SignalKind) -> OrderKind
@@ -26,71 +25,62 @@ fn order_for(sent: &SignalKind) -> OrderKind
     }
 }
 
-fn start<A: Allocator + Copy, H: Host, L: Log>(
-    alloc: A,
-    core: &mut Core<A>,
-    host: &mut H,
-    log: &mut L,
-    id: Id,
-)
+fn start<A: Allocator + Copy, E: Edge>(alloc: A, core: &mut Core<A>, edge: &mut E, id: Id)
     requires { is_some (entry_of id core.old.table) ≡ true }
-    ensures makes { Makes (H.told host.old) (H.told host.new) (L.state log.old) (L.state log.new)
+    ensures makes { Makes E.state E.told E.log edge.old edge.new
         IsStep (Gave (Tracks core.old) (step.Order id OrderKind.Start)) (Tracks core.new) }
-    ensures grows { GrowsBy core.old core.new (L.state log.old) (L.state log.new) }
+    ensures grows { GrowsBy core.old core.new
+        (E.state (E.log edge.old)) (E.state (E.log edge.new)) }
 {
     let Some(entry) = core.table().get(&id) else {
         unreachable!()
     };
-    note(log, Happening::Asked(id, OrderKind::Start));
-    let reply = host.start(alloc, id, entry.command());
-    hear_reply(core, log, id, &reply);
+    note(edge, Happening::Asked(id, OrderKind::Start));
+    let reply = edge.start(alloc, id, entry.command());
+    hear_reply(core, edge, id, &reply);
 }
 
-fn look<A: Allocator, H: Host, L: Log>(core: &mut Core<A>, host: &mut H, log: &mut L, id: Id)
-    ensures makes { Makes (H.told host.old) (H.told host.new) (L.state log.old) (L.state log.new)
+fn look<A: Allocator, E: Edge>(core: &mut Core<A>, edge: &mut E, id: Id)
+    ensures makes { Makes E.state E.told E.log edge.old edge.new
         IsStep (Gave (Tracks core.old) (step.Order id OrderKind.Look)) (Tracks core.new) }
-    ensures grows { GrowsBy core.old core.new (L.state log.old) (L.state log.new) }
+    ensures grows { GrowsBy core.old core.new
+        (E.state (E.log edge.old)) (E.state (E.log edge.new)) }
 {
-    note(log, Happening::Asked(id, OrderKind::Look));
-    let reply = host.look(id);
-    hear_reply(core, log, id, &reply);
+    note(edge, Happening::Asked(id, OrderKind::Look));
+    let reply = edge.look(id);
+    hear_reply(core, edge, id, &reply);
 }
 
-fn signal<A: Allocator, H: Host, L: Log>(
-    core: &mut Core<A>,
-    host: &mut H,
-    log: &mut L,
-    id: Id,
-    sent: SignalKind,
-)
-    ensures makes { Makes (H.told host.old) (H.told host.new) (L.state log.old) (L.state log.new)
+fn signal<A: Allocator, E: Edge>(core: &mut Core<A>, edge: &mut E, id: Id, sent: SignalKind)
+    ensures makes { Makes E.state E.told E.log edge.old edge.new
         IsStep (Gave (Tracks core.old) (step.Order id (order_for sent)))
         (Tracks core.new) }
-    ensures grows { GrowsBy core.old core.new (L.state log.old) (L.state log.new) }
+    ensures grows { GrowsBy core.old core.new
+        (E.state (E.log edge.old)) (E.state (E.log edge.new)) }
 {
-    note(log, Happening::Asked(id, order_for(&sent)));
-    let reply = host.signal(id, sent);
-    hear_reply(core, log, id, &reply);
+    note(edge, Happening::Asked(id, order_for(&sent)));
+    let reply = edge.signal(id, sent);
+    hear_reply(core, edge, id, &reply);
 }
 
 /// Gives the host an order about the id, and hears what it replies.
-pub(crate) fn order<A: Allocator + Copy, H: Host, L: Log>(
+pub(crate) fn order<A: Allocator + Copy, E: Edge>(
     alloc: A,
     core: &mut Core<A>,
-    host: &mut H,
-    log: &mut L,
+    edge: &mut E,
     id: Id,
     ask: &OrderKind,
 )
     requires { is_listed core.old.table (step.Order id ask.now) ≡ true }
-    ensures makes { Makes (H.told host.old) (H.told host.new) (L.state log.old) (L.state log.new)
+    ensures makes { Makes E.state E.told E.log edge.old edge.new
         IsStep (Gave (Tracks core.old) (step.Order id ask.now)) (Tracks core.new) }
-    ensures grows { GrowsBy core.old core.new (L.state log.old) (L.state log.new) }
+    ensures grows { GrowsBy core.old core.new
+        (E.state (E.log edge.old)) (E.state (E.log edge.new)) }
 {
     match *ask {
-        OrderKind::Start => start(alloc, core, host, log, id),
-        OrderKind::Look => look(core, host, log, id),
-        OrderKind::Term => signal(core, host, log, id, SignalKind::Term),
-        OrderKind::Kill => signal(core, host, log, id, SignalKind::Kill),
+        OrderKind::Start => start(alloc, core, edge, id),
+        OrderKind::Look => look(core, edge, id),
+        OrderKind::Term => signal(core, edge, id, SignalKind::Term),
+        OrderKind::Kill => signal(core, edge, id, SignalKind::Kill),
     }
 }

@@ -10,8 +10,9 @@ ghost use Rattle.core_text.specs.Reading.{generation_of};
 ghost use Rattle.core_text.specs.declared.state_fault.StateFault.TheVariants as fault;
 ghost use Rattle.core_text.specs.Refused.{IsCut, IsOther, IsTextOf};
 ghost use Rattle.core_handover.specs.Taken.{NotTaken};
-ghost use Rattle.host_calls.specs.Calls.{AddsCall, TextRead};
+ghost use Rattle.host_calls.specs.Calls.{TextRead};
 ghost use Rattle.host_calls.specs.declared.calls.Call.TheVariants.{Carry};
+ghost use Rattle.host_trace.specs.Edges.{AddsMade};
 ghost use Rattle.host_trace.specs.Grows.{Grows, GrowsBy};
 ghost use Rattle.host_trace.specs.Leads.{Gave, Logs, Tracks};
 ghost use Rattle.host_trace.specs.Point.{is_outcome};
@@ -20,10 +21,9 @@ ghost use Rattle.init_turns.specs.Parts.{ComesTo, IsStep, Makes, Saying};
 use crate::answering::write;
 use core_handover::{StateFault, generation_of, hand_over, take_over};
 use core_steps::Core;
-use host_calls::Host;
+use host_trace::Edge;
 use std::alloc::Allocator;
 use trace_events::{Handed, Happening};
-use trace_log::Log;
 
 /// What came back of the text and was distinguished from a whole one: it is said to be cut where it is a prefix of the
 /// text.
@@ -76,61 +76,60 @@ fn take_back<A: Allocator + Copy>(alloc: A, core: &mut Core<A>, text: &[u8], bac
 }
 
 /// Carries the text of the core's state; gives what came of it.
-fn carry<A: Allocator + Copy, H: Host>(
+fn carry<A: Allocator + Copy, E: Edge>(
     alloc: A,
     core: &mut Core<A>,
-    host: &mut H,
+    edge: &mut E,
     text: &[u8],
 ) -> Handed
     ensures comes { (back : TextRead)
-        × AddsCall (H.told host.old) (H.told host.new) (Carry text.now back)
+        × AddsMade (E.told edge.old) (E.told edge.new) (Carry text.now back) (E.log edge.old)
         × ComesTo result text.now back core.old core.new }
     ensures short { has_short_seconds core.old ≡ true → has_short_seconds core.new ≡ true }
+    ensures log { E.log edge.new ≡ E.log edge.old }
 {
-    match host.carry(alloc, text) {
+    match edge.carry(alloc, text) {
         Ok(back) => take_back(alloc, core, text, &back),
         Err(_) => Handed::Failed,
     }
 }
 
 /// Writes what came of a hand-over, and says so where it was refused.
-fn say<H: Host, L: Log>(host: &mut H, log: &mut L, how: Handed)
-    ensures log { (past : List Event) → Logs (L.state log.old) (L.state log.new) past
+fn say<E: Edge>(edge: &mut E, how: Handed)
+    ensures log { (past : List Event) →
+        Logs (E.state (E.log edge.old)) (E.state (E.log edge.new)) past
         (happening.Handed how ∷ past) }
-    ensures said { Saying how (H.told host.old) (H.told host.new) }
-    ensures grows { Grows (L.state log.old) (L.state log.new) }
+    ensures said { Saying how (E.told edge.old) (E.told edge.new) (E.log edge.new) }
+    ensures grows { Grows (E.state (E.log edge.old)) (E.state (E.log edge.new)) }
 {
     let handed: Happening = Happening::Handed(how);
-    write(log, &handed);
+    write(edge, &handed);
     if how != Handed::Whole {
-        host.announce(&handed);
+        edge.announce(&handed);
     }
 }
 
 /// No text was made: init goes on as it is.
-fn not_handed<A: Allocator, H: Host, L: Log>(core: &mut Core<A>, host: &mut H, log: &mut L)
-    ensures makes { Makes (H.told host.old) (H.told host.new) (L.state log.old) (L.state log.new)
+fn not_handed<A: Allocator, E: Edge>(core: &mut Core<A>, edge: &mut E)
+    ensures makes { Makes E.state E.told E.log edge.old edge.new
         IsStep (Gave (Tracks core.old) step.Reexec) (Tracks core.new) }
-    ensures grows { GrowsBy core.old core.new (L.state log.old) (L.state log.new) }
+    ensures grows { GrowsBy core.old core.new
+        (E.state (E.log edge.old)) (E.state (E.log edge.new)) }
 {
     core.not_handed();
-    say(host, log, Handed::Failed);
+    say(edge, Handed::Failed);
 }
 
 /// Executes init anew. Where no text is made, or what comes back is not taken over, init goes on as it is.
-pub(crate) fn reexec<A: Allocator + Copy, H: Host, L: Log>(
-    alloc: A,
-    core: &mut Core<A>,
-    host: &mut H,
-    log: &mut L,
-)
-    ensures makes { Makes (H.told host.old) (H.told host.new) (L.state log.old) (L.state log.new)
+pub(crate) fn reexec<A: Allocator + Copy, E: Edge>(alloc: A, core: &mut Core<A>, edge: &mut E)
+    ensures makes { Makes E.state E.told E.log edge.old edge.new
         IsStep (Gave (Tracks core.old) step.Reexec) (Tracks core.new) }
-    ensures grows { GrowsBy core.old core.new (L.state log.old) (L.state log.new) }
+    ensures grows { GrowsBy core.old core.new
+        (E.state (E.log edge.old)) (E.state (E.log edge.new)) }
 {
     let Ok(text) = hand_over(alloc, core) else {
-        return not_handed(core, host, log);
+        return not_handed(core, edge);
     };
-    let how = carry(alloc, core, host, &text);
-    say(host, log, how);
+    let how = carry(alloc, core, edge, &text);
+    say(edge, how);
 }

@@ -8,27 +8,26 @@ ghost use Rattle.trace_events.specs.declared.steps.Step.TheVariants as step;
 ghost use Rattle.trace_events.specs.Event.{Event};
 ghost use Rattle.core_records.specs.Lists.{is_quiet};
 ghost use Rattle.host_calls.specs.declared.calls.Call.TheVariants.{ReadTables};
-ghost use Rattle.host_calls.specs.Calls.{AddsCall, PartsRead};
+ghost use Rattle.host_calls.specs.Calls.{PartsRead};
 ghost use Rattle.core_model.specs.Fit.{StillFits, OnEachTrace};
+ghost use Rattle.host_trace.specs.Edges.{AddsMade};
 ghost use Rattle.host_trace.specs.Grows.{GrowsBy};
 ghost use Rattle.host_trace.specs.Leads.{Gave, Lasts, Logs, Tracks};
 ghost use Rattle.init_turns.specs.Parts.{IsStep, Makes};
 
 use crate::answering::write;
 use core_steps::Core;
-use host_calls::Host;
+use host_trace::Edge;
 use init_words::Part;
 use inittab_text::read_parts;
 use std::alloc::Allocator;
 use trace_events::{Happening, HappeningIn};
-use trace_log::Log;
 
 /// Takes the table of files for that in force, where the host takes it; gives whether it did.
-fn use_parts<A: Allocator + Copy, H: Host, L: Log>(
+fn use_parts<A: Allocator + Copy, E: Edge>(
     alloc: A,
     core: &mut Core<A>,
-    host: &mut H,
-    log: &mut L,
+    edge: &mut E,
     parts: &[Part<A>],
 ) -> bool
     ensures readable { result ≡ true → are_readable (texts_of parts.now) ≡ true }
@@ -38,15 +37,16 @@ fn use_parts<A: Allocator + Copy, H: Host, L: Log>(
         (NewTable (table_of_texts (texts_of parts.now)) ∷ past)) }
     ensures lasts { result ≡ true → Lasts core.old core.new }
     ensures took { result ≡ true → (past : List Event)
-        → Logs (L.state log.old) (L.state log.new) past
+        → Logs (E.state (E.log edge.old)) (E.state (E.log edge.new)) past
         (NewTable (table_of_texts (texts_of parts.now)) ∷ past) }
     ensures core { result ≡ false → core.new ≡ core.old }
-    ensures log { result ≡ false → log.new ≡ log.old }
-    ensures told { H.told host.new ≡ H.told host.old }
-    ensures grows { GrowsBy core.old core.new (L.state log.old) (L.state log.new) }
+    ensures log { result ≡ false → E.log edge.new ≡ E.log edge.old }
+    ensures told { E.told edge.new ≡ E.told edge.old }
+    ensures grows { GrowsBy core.old core.new
+        (E.state (E.log edge.old)) (E.state (E.log edge.new)) }
 {
     let reading = read_parts(alloc, parts);
-    if !host.takes(parts, &reading) {
+    if !edge.takes(parts, &reading) {
         return false;
     }
     let Ok((table, _faults)) = reading else {
@@ -59,48 +59,39 @@ fn use_parts<A: Allocator + Copy, H: Host, L: Log>(
         return false;
     }
     let used: HappeningIn<A> = Happening::NewTable(copy);
-    write(log, &used);
+    write(edge, &used);
     true
 }
 
 /// Reads inittab and takes its table for that in force; gives whether it did.
-fn use_table<A: Allocator + Copy, H: Host, L: Log>(
-    alloc: A,
-    core: &mut Core<A>,
-    host: &mut H,
-    log: &mut L,
-) -> bool
-    ensures used { result ≡ true → Makes (H.told host.old) (H.told host.new)
-        (L.state log.old) (L.state log.new)
+fn use_table<A: Allocator + Copy, E: Edge>(alloc: A, core: &mut Core<A>, edge: &mut E) -> bool
+    ensures used { result ≡ true → Makes E.state E.told E.log edge.old edge.new
         IsStep (Gave (Tracks core.old) step.Reread) (Tracks core.new) }
     ensures read { result ≡ false → (parts : PartsRead)
-        × AddsCall (H.told host.old) (H.told host.new) (ReadTables parts) }
+        × AddsMade (E.told edge.old) (E.told edge.new) (ReadTables parts) (E.log edge.old) }
     ensures core { result ≡ false → core.new ≡ core.old }
-    ensures log { result ≡ false → log.new ≡ log.old }
-    ensures grows { GrowsBy core.old core.new (L.state log.old) (L.state log.new) }
+    ensures log { result ≡ false → E.log edge.new ≡ E.log edge.old }
+    ensures grows { GrowsBy core.old core.new
+        (E.state (E.log edge.old)) (E.state (E.log edge.new)) }
 {
-    let Ok(parts) = host.read_tables(alloc) else {
+    let Ok(parts) = edge.read_tables(alloc) else {
         return false;
     };
-    use_parts(alloc, core, host, log, &parts)
+    use_parts(alloc, core, edge, &parts)
 }
 
 /// Reads inittab again. Where that fails, or the table can't be taken, the one in force stays.
-pub(crate) fn reread<A: Allocator + Copy, H: Host, L: Log>(
-    alloc: A,
-    core: &mut Core<A>,
-    host: &mut H,
-    log: &mut L,
-)
-    ensures makes { Makes (H.told host.old) (H.told host.new) (L.state log.old) (L.state log.new)
+pub(crate) fn reread<A: Allocator + Copy, E: Edge>(alloc: A, core: &mut Core<A>, edge: &mut E)
+    ensures makes { Makes E.state E.told E.log edge.old edge.new
         IsStep (Gave (Tracks core.old) step.Reread) (Tracks core.new) }
-    ensures grows { GrowsBy core.old core.new (L.state log.old) (L.state log.new) }
+    ensures grows { GrowsBy core.old core.new
+        (E.state (E.log edge.old)) (E.state (E.log edge.new)) }
 {
-    if use_table(alloc, core, host, log) {
+    if use_table(alloc, core, edge) {
         return;
     }
     let unread: Happening = Happening::NotRead;
     core.not_read();
-    write(log, &unread);
-    host.announce(&unread);
+    write(edge, &unread);
+    edge.announce(&unread);
 }

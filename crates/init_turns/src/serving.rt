@@ -3,6 +3,7 @@
 ghost use Rattle.std.specs.Prelude.{◌≡◌, ◌∷◌, ◌&&◌, ◌≤◌, ◌<◌, List, Option, [], not, true, false};
 ghost use Rattle.core_model.specs.Decide.{is_drained};
 ghost use Rattle.core_model.specs.State.{CoreState};
+ghost use Rattle.host_trace.specs.Edges.{calls_of};
 ghost use Rattle.host_trace.specs.Grows.{GrowsBy, GrowsReading};
 ghost use Rattle.host_trace.specs.Leads.{At};
 ghost use Rattle.host_trace.specs.Point.{Point};
@@ -14,10 +15,9 @@ ghost use Rattle.init_turns.specs.Parts.{Fresh, Left, LeftBy, Makes};
 use crate::hearing::{hear_clock, hear_lates, hear_requests};
 use crate::stepping::take_steps;
 use core_steps::Core;
-use host_calls::Host;
+use host_trace::Edge;
 use initctl_frame::Blocks;
 use std::alloc::Allocator;
-use trace_log::Log;
 
 /// Somebody who looks at what init keeps after each turn, before the pause.
 pub trait Watch<A: Allocator> {
@@ -57,25 +57,25 @@ pub struct Served {
 ///
 /// What the clock, the bytes, an announcement or the log fails to do is passed over; a start, a look or a signal that
 /// failed is answered so, and inittab that can't be read or taken leaves the table in force.
-pub fn turn<A: Allocator + Copy, H: Host, L: Log>(
+pub fn turn<A: Allocator + Copy, E: Edge>(
     alloc: A,
     core: &mut Core<A>,
-    host: &mut H,
+    edge: &mut E,
     blocks: &mut Blocks,
-    log: &mut L,
 ) -> bool
     // the calls made are those of a turn; as far as their answers were possible each was in its place, init's core tracks
-    // their trace, nothing is due after it where the turn was done, and the log took it
-    ensures makes { Makes (H.told host.old) (H.told host.new) (L.state log.old) (L.state log.new)
+    // their trace, nothing is due after it where the turn was done, and the log took it; and when each call was made, the
+    // log had taken the whole trace until then
+    ensures makes { Makes E.state E.told E.log edge.old edge.new
         (IsTurn result) (At core.old blocks.old) (Left result core.new blocks.new) }
     // whatever is answered, the log only grows, and seconds of at most an hour stay so
     ensures grows { GrowsReading core.old core.new blocks.old blocks.new
-        (L.state log.old) (L.state log.new) }
+        (E.state (E.log edge.old)) (E.state (E.log edge.new)) }
 {
-    hear_clock(core, host, log);
-    hear_requests(core, host, log, blocks);
-    hear_lates(core, host, log);
-    take_steps(alloc, core, host, log)
+    hear_clock(core, edge);
+    hear_requests(core, edge, blocks);
+    hear_lates(core, edge);
+    take_steps(alloc, core, edge)
 }
 
 /// The run ends when init is drained, and it is.
@@ -85,53 +85,54 @@ fn is_over<A: Allocator>(core: &Core<A>, drain: bool) -> bool
     drain && core.drained()
 }
 
-fn how_it_ended<A: Allocator, L: Log>(core: &Core<A>, log: &L, turns: u64) -> Served
+fn how_it_ended<A: Allocator, E: Edge>(core: &Core<A>, edge: &E, turns: u64) -> Served
     ensures turns { result.turns ≡ turns }
     ensures drained { result.drained ≡ is_drained core.now }
-    ensures logged { result.logged ≡ not (L.state log.now).failed }
+    ensures logged { result.logged ≡ not (E.state (E.log edge.now)).failed }
 {
     Served {
         turns,
         drained: core.drained(),
-        logged: !log.failed(),
+        logged: !edge.failed(),
     }
 }
 
 /// Makes the given number of turns, with a look and a pause after each. With `drain` it ends after the first turn that
 /// leaves nothing to do and nothing running.
-pub fn serve<A: Allocator + Copy, H: Host, L: Log, W: Watch<A>>(
+pub fn serve<A: Allocator + Copy, E: Edge, W: Watch<A>>(
     alloc: A,
     core: &mut Core<A>,
-    host: &mut H,
-    log: &mut L,
+    edge: &mut E,
     turns: u64,
     drain: bool,
     watch: &mut W,
 ) -> Served
     // the calls made are those of so many turns; as far as their answers were possible each was in its place, the core that
-    // is seen after each tracks their trace up to there, and the log took it
-    ensures trace { Makes (H.told host.old) (H.told host.new) (L.state log.old) (L.state log.new)
+    // is seen after each tracks their trace up to there, and the log took it; and when each call was made, the log had
+    // taken the whole trace until then
+    ensures trace { Makes E.state E.told E.log edge.old edge.new
         (MadeTurns drain (Fresh core.old) result.turns (W.seen watch.old) (W.seen watch.new))
         (Fresh core.old) (LeftBy core.new) }
     // the requests in it are those of all bytes that were taken
-    ensures requests { Since (H.told host.old) (H.told host.new) (λ calls. (p : Point)
-        → p.over ≡ [] → Brings [] calls p) }
+    ensures requests { Since (E.told edge.old) (E.told edge.new) (λ mades. (p : Point)
+        → p.over ≡ [] → Brings [] (calls_of mades) p) }
     // it makes the turns that were asked for; fewer only where it was to end drained, and is
     ensures most { result.turns ≤ turns }
     ensures fewer { result.turns < turns → (drain ≡ true) × (result.drained ≡ true) }
     ensures drained { result.drained ≡ is_drained core.new }
-    ensures logged { result.logged ≡ not (L.state log.new).failed }
+    ensures logged { result.logged ≡ not (E.state (E.log edge.new)).failed }
     // whatever is answered, the log only grows, and seconds of at most an hour stay so
-    ensures grows { GrowsBy core.old core.new (L.state log.old) (L.state log.new) }
+    ensures grows { GrowsBy core.old core.new
+        (E.state (E.log edge.old)) (E.state (E.log edge.new)) }
 {
     let mut blocks = Blocks::new();
     for made in 0..turns {
-        let _ = turn(alloc, core, host, &mut blocks, log);
+        let _ = turn(alloc, core, edge, &mut blocks);
         watch.look(core);
-        host.pause();
+        edge.pause();
         if is_over(core, drain) {
-            return how_it_ended(core, log, made + 1);
+            return how_it_ended(core, edge, made + 1);
         }
     }
-    how_it_ended(core, log, turns)
+    how_it_ended(core, edge, turns)
 }

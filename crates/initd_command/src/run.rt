@@ -23,6 +23,7 @@ use crate::reports::{
 use crate::watchers::Watcher;
 use host_calls::Host;
 use host_system::{FolderFault, PassedNames, StampedRuntime, faults_text, with_folder};
+use host_trace::Joined;
 use init_turns::{Opening, Served};
 use init_words::{Id, Level, Memory, Part};
 use initd_options::RunWords;
@@ -523,7 +524,7 @@ where
 {
     let Run {
         opening,
-        mut host,
+        host,
         trace,
         made,
         faults,
@@ -538,7 +539,7 @@ where
     }
     report_unled(is_unled, err);
     let stamped = StampedRuntime::new(rt, alloc, said.stamp);
-    let status = make_traced(&stamped, alloc, said, opening, &mut host, trace, err);
+    let (status, host) = make_traced(&stamped, alloc, said, opening, host, trace, err);
     hosts.close(host);
     status
 }
@@ -549,27 +550,31 @@ fn make_traced<R, H: Host, E: Write>(
     alloc: Global,
     said: &RunWords,
     opening: Opening,
-    host: &mut H,
+    host: H,
     trace: Option<File>,
     err: &mut E,
-) -> u8
+) -> (u8, H)
 where
     R: Files<File = File> + Eprint,
-    ensures { (end : End) × (result ≡ end_status end) × EndsServed (run_of said.now) end
+    ensures { (end : End) × (result.0 ≡ end_status end) × EndsServed (run_of said.now) end
         × ReportsEnd end (E.contents err.old) (E.contents err.new)
         × ((table : List Entry) → IsOpeningOf (run_of said.now).level table opening
-        → Since (H.told host.old) (H.told host.new) (MakesTurns ⊤ (run_of said.now) table end)) }
+        → Since (H.told host) (H.told result.1) (MakesTurns ⊤ (run_of said.now) table end)) }
 {
     let Some(file) = trace else {
         let log = AskedLog::new(rt, NoLog {});
-        return make_turns(rt, alloc, said, opening, host, log, err).0;
+        let (status, host, _) = make_turns(rt, alloc, said, opening, host, log, err);
+        return (status, host);
     };
     let log = FileLog::new(rt, alloc, trace_of(said), file);
     if said.brief {
         let log = AskedLog::new(rt, BriefLog::new(log));
-        return make_turns(rt, alloc, said, opening, host, log, err).0;
+        let (status, host, _) = make_turns(rt, alloc, said, opening, host, log, err);
+        return (status, host);
     }
-    make_turns(rt, alloc, said, opening, host, AskedLog::new(rt, log), err).0
+    let log = AskedLog::new(rt, log);
+    let (status, host, _) = make_turns(rt, alloc, said, opening, host, log, err);
+    (status, host)
 }
 
 /// Reports that nothing names a level, where that is so.
@@ -583,17 +588,17 @@ fn report_unled<E: Write>(is_unled: bool, err: &mut E)
 
 /// Makes the turns of a run, from its opening on, ends its log, and reports how they ended: the exit status is 0, or that
 /// of the entry whose result the run's is, where it ended drained, 3 at the limit of turns, and 4 where the log failed. A
-/// run that is judged and breaks a law has 2 in place of 0 and 3, and 4 where memory ran out for the judge. Gives what is
-/// left of the log, too.
+/// run that is judged and breaks a law has 2 in place of 0 and 3, and 4 where memory ran out for the judge. Gives the host
+/// back, and what is left of the log.
 pub fn make_turns<R: Files + Eprint, H: Host, L: EndedLog, E: Write>(
     rt: &R,
     alloc: Global,
     said: &RunWords,
     opening: Opening,
-    host: &mut H,
+    host: H,
     log: L,
     err: &mut E,
-) -> (u8, L::Left)
+) -> (u8, H, L::Left)
 where
     L: Drop,
     // the exit status and what is reported are those of an end of turns; over the table of the opening the calls made are
@@ -601,20 +606,22 @@ where
     ensures { (end : End) × (result.0 ≡ end_status end) × EndsServed (run_of said.now) end
         × ReportsEnd end (E.contents err.old) (E.contents err.new)
         × ((table : List Entry) → IsOpeningOf (run_of said.now).level table opening
-        → Since (H.told host.old) (H.told host.new) (MakesLogged ((L.state log).taken [])
-        (L.has_ended result.1) (run_of said.now) table end)) }
+        → Since (H.told host) (H.told result.1) (MakesLogged ((L.state log).taken [])
+        (L.has_ended result.2) (run_of said.now) table end)) }
 {
     let judged = JudgedLog::new(rt, alloc, log, said.judge);
-    let mut noted = NotedLog::new(alloc, judged, said.result);
+    let log = NotedLog::new(alloc, judged, said.result);
+    let mut edge = Joined { host, log };
     let mut watch = Watcher::new(rt, alloc, said.verbose, said.initctl.as_str());
-    let (served, core) = opening.serve(alloc, host, &mut noted, said.turns, said.drain, &mut watch);
+    let (served, core) = opening.serve(alloc, &mut edge, said.turns, said.drain, &mut watch);
+    let Joined { host, log: noted } = edge;
     let (judged, notes) = noted.into_parts();
     let found = judged.judgement();
     let (left, whole) = judged.into_log().end();
     let served = ended_with(served, whole);
     let judgement = judgement_for(said, found);
     let status = report_end(alloc, said, &served, &notes, &core, judgement, err);
-    (status, left)
+    (status, host, left)
 }
 
 /// Turns whose log was ended, with all that it took or not.

@@ -35,7 +35,7 @@ fn run(rt: &HostRuntime, line: &str) -> Result<(u8, Vec<u8>), Fail> {
     let alloc = rt.alloc();
     let mut host = MemoryHost::new(alloc);
     give(alloc, &mut host)?;
-    let (status, err, _) = turns_of(rt, INITTAB, line, &mut host, ListLog::new(alloc))?;
+    let (status, err, _) = turns_of(rt, INITTAB, line, host, ListLog::new(alloc))?;
     Ok((status, err))
 }
 

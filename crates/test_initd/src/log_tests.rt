@@ -32,8 +32,8 @@ fn host_of(alloc: Global) -> Result<MemoryHost, Fail> {
 
 /// What is left of the log behind the turns.
 fn left_of<L: EndedLog + Drop>(rt: &HostRuntime, log: L) -> Result<L::Left, Fail> {
-    let mut host = host_of(rt.alloc())?;
-    let (_, _, left) = turns_of(rt, INITTAB, "run --level 3 --turns 3", &mut host, log)?;
+    let host = host_of(rt.alloc())?;
+    let (_, _, left) = turns_of(rt, INITTAB, "run --level 3 --turns 3", host, log)?;
     Ok(left)
 }
 

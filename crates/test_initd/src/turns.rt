@@ -23,7 +23,7 @@ pub(crate) fn turns_of<L: EndedLog + Drop>(
     rt: &HostRuntime,
     inittab: &[u8],
     line: &str,
-    host: &mut MemoryHost,
+    host: MemoryHost,
     log: L,
 ) -> Result<(u8, Vec<u8>, L::Left), Fail> {
     let alloc = rt.alloc();
@@ -31,6 +31,6 @@ pub(crate) fn turns_of<L: EndedLog + Drop>(
     let (table, _) = inittab_text::read(alloc, inittab)?;
     let opening = Opening::new(alloc, table, said.level)?;
     let mut err = Vec::new(alloc);
-    let (status, left) = make_turns(rt, alloc, &said, opening, host, log, &mut err);
+    let (status, _, left) = make_turns(rt, alloc, &said, opening, host, log, &mut err);
     Ok((status, err, left))
 }

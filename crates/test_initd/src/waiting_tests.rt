@@ -44,7 +44,7 @@ fn report_of(rt: &HostRuntime, inittab: &[u8], numbers: &[Option<u32>]) -> Resul
         host.give_start(reply_of(*number))?;
     }
     let line = "run --level 3 --turns 2";
-    let (_, err, _) = turns_of(rt, inittab, line, &mut host, ListLog::new(alloc))?;
+    let (_, err, _) = turns_of(rt, inittab, line, host, ListLog::new(alloc))?;
     Ok(err)
 }
 

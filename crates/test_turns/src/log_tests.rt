@@ -5,6 +5,7 @@ use crate::runs::core_of;
 use core_steps::Core;
 use host_calls::Host;
 use host_scripted::MemoryHost;
+use host_trace::Joined;
 use init_turns::{Served, Unwatched};
 use init_words::{Id, Status};
 use linked_list_allocator::LocalHeap;
@@ -38,32 +39,34 @@ fn made(host: &MemoryHost) -> usize {
 fn served_by<L: Log>(
     alloc: Global,
     core: &mut Core,
-    host: &mut MemoryHost,
-    log: &mut L,
+    edge: &mut Joined<MemoryHost, L>,
 ) -> Option<Served> {
     let mut watch = Unwatched {};
-    let served = init_turns::serve(alloc, core, host, log, 9, true, &mut watch);
+    let served = init_turns::serve(alloc, core, edge, 9, true, &mut watch);
     let Unwatched {} = watch;
-    if host.faults() != 1 || made(host) != 31 {
+    if edge.host.faults() != 1 || made(&edge.host) != 31 {
         return None;
     }
     Some(served)
 }
 
-fn served_over<L: Log>(alloc: Global, host: &mut MemoryHost, log: &mut L) -> Option<Served> {
+fn served_over<L: Log>(alloc: Global, edge: &mut Joined<MemoryHost, L>) -> Option<Served> {
     let Some(mut core) = core_of(alloc, alloc, INITTAB) else {
         return None;
     };
-    served_by(alloc, &mut core, host, log)
+    served_by(alloc, &mut core, edge)
 }
 
-/// Makes the run, of four turns, with the log.
-fn served<L: Log>(alloc: Global, log: &mut L) -> Option<Served> {
-    let mut host = MemoryHost::new(alloc);
-    if !give_all(alloc, alloc, &mut host, GIFTS) {
+/// Makes the run, of four turns, with the log; gives how it ended, and the log.
+fn served<L: Log + Drop>(alloc: Global, log: L) -> Option<(Served, L)> {
+    let host = MemoryHost::new(alloc);
+    let mut edge = Joined { host, log };
+    if !give_all(alloc, alloc, &mut edge.host, GIFTS) {
         return None;
     }
-    served_over(alloc, &mut host, log)
+    let served = served_over(alloc, &mut edge)?;
+    let Joined { host: _, log } = edge;
+    Some((served, log))
 }
 
 /// How a run ends that the log took or not.
@@ -76,8 +79,8 @@ fn ended(logged: bool) -> Served {
 }
 
 /// The writer took what it has room for.
-fn is_taken(alloc: Global, log: &mut StreamLog<Slow>, room: usize) -> bool {
-    let Some(served) = served(alloc, log) else {
+fn is_taken(alloc: Global, log: StreamLog<Slow>, room: usize) -> bool {
+    let Some((served, log)) = served(alloc, log) else {
         return false;
     };
     served == ended(room >= TRACE.len())
@@ -85,8 +88,8 @@ fn is_taken(alloc: Global, log: &mut StreamLog<Slow>, room: usize) -> bool {
 }
 
 fn is_streamed(alloc: Global, room: usize, fails: bool) -> bool {
-    let mut log = StreamLog::new(alloc, Slow::new(alloc, room, fails, false));
-    is_taken(alloc, &mut log, room)
+    let log = StreamLog::new(alloc, Slow::new(alloc, room, fails, false));
+    is_taken(alloc, log, room)
 }
 
 #[test]
@@ -106,19 +109,12 @@ fn is_prefix<'a>(alloc: Global, list: &[HappeningIn<&'a LocalHeap>], served: Ser
     }
 }
 
-fn is_listed_in<'a>(alloc: Global, log: &mut ListLog<&'a LocalHeap>) -> Option<bool> {
-    let Some(served) = served(alloc, log) else {
-        return None;
-    };
+fn is_listed_over(alloc: Global, heap: &LocalHeap) -> Option<bool> {
+    let (served, log) = served(alloc, ListLog::new(heap))?;
     if !is_prefix(alloc, log.list(), served) {
         return None;
     }
     Some(served.logged)
-}
-
-fn is_listed_over(alloc: Global, heap: &LocalHeap) -> Option<bool> {
-    let mut log = ListLog::new(heap);
-    is_listed_in(alloc, &mut log)
 }
 
 /// Whether the list of a log on a heap of the given number of bytes is all of the trace; `None` where it is no prefix
@@ -180,11 +176,12 @@ fn are_notes(
 }
 
 fn is_noted_over(alloc: Global, heap: &LocalHeap) -> Option<bool> {
-    let mut noted = noted_over(alloc, heap).ok()?;
-    if served(alloc, &mut *noted)? != ended(true) {
+    let noted = noted_over(alloc, heap).ok()?;
+    let (served, noted) = served(alloc, Box::into_inner(noted))?;
+    if served != ended(true) {
         return None;
     }
-    let (log, notes) = Box::into_inner(noted).into_parts();
+    let (log, notes) = noted.into_parts();
     are_notes(alloc, log.list(), &notes)
 }
 
@@ -208,8 +205,8 @@ fn notes_that_cannot_grow_say_so(rt: HostRuntime) {
 /// of the trace, and the run ended so.
 fn is_streamed_over(alloc: Global, room: usize) -> Result<bool, Fail> {
     let heap = LocalHeap::new(alloc, room)?;
-    let mut log = StreamLog::new(&heap, Slow::new(alloc, TRACE.len(), true, false));
-    let Some(served) = served(alloc, &mut log) else {
+    let log = StreamLog::new(&heap, Slow::new(alloc, TRACE.len(), true, false));
+    let Some((served, log)) = served(alloc, log) else {
         return Err(Fail::from("no run"));
     };
     let taken = log.writer().taken.as_slice();

@@ -35,8 +35,8 @@ fn hears_whole_blocks<A: Allocator + Copy>(
     blocks: &mut Blocks,
     heard: usize,
 ) -> bool {
-    init_turns::turn(bench.own, bench.core, bench.host, blocks, bench.log);
-    blocks.rest() == heard % 384 && has_requests(bench.log.list(), heard / 384)
+    init_turns::turn(bench.own, bench.core, bench.edge, blocks);
+    blocks.rest() == heard % 384 && has_requests(bench.edge.log.list(), heard / 384)
 }
 
 /// A turn over the bytes up to a place, and one over the others, hear the blocks that came whole.
@@ -79,7 +79,7 @@ fn add_pieces(replies: &mut String, length: usize) -> bool {
 /// All requests are heard in the given number of turns.
 pub(crate) fn hears_all<A: Allocator + Copy>(bench: &mut Bench<A>, turns: u64) -> bool {
     serve_on(bench, turns, false);
-    has_requests(bench.log.list(), 3)
+    has_requests(bench.edge.log.list(), 3)
 }
 
 fn are_served(own: Global, length: usize, turns: u64) -> bool {

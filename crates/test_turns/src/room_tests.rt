@@ -2,10 +2,11 @@
 
 use crate::replies::give_all;
 use crate::runs::{Row, core_of};
-use crate::trials::{Trial, passes_over};
+use crate::trials::{Trial, edge_of, passes_over};
 use core_steps::Core;
 use host_calls::{Call, Host};
 use host_scripted::MemoryHost;
+use host_trace::Joined;
 use init_turns::{Opening, Unwatched};
 use init_words::Memory;
 use inittab_text::Table;
@@ -71,23 +72,23 @@ const UNTOLD: &Row = &Row {
 fn is_run_untold<'a>(
     own: Global,
     heap: &'a LocalHeap,
-    host: &mut MemoryHost<&'a LocalHeap>,
+    edge: &mut Joined<MemoryHost<&'a LocalHeap>, ListLog>,
 ) -> bool {
     let Some(_fillers) = fill(own, heap, 0) else {
         return false;
     };
-    passes_over(own, host, UNTOLD.inittab, &Trial::Run(UNTOLD))
+    passes_over(own, edge, UNTOLD.inittab, &Trial::Run(UNTOLD))
 }
 
-fn is_untold<'a>(own: Global, heap: &'a LocalHeap, host: &mut MemoryHost<&'a LocalHeap>) -> bool {
-    give_all(own, heap, host, UNTOLD.replies)
-        && is_run_untold(own, heap, host)
-        && host.calls().is_none()
+fn is_untold<'a>(own: Global, heap: &'a LocalHeap, edge: &mut Joined<MemoryHost<&'a LocalHeap>, ListLog>) -> bool {
+    give_all(own, heap, &mut edge.host, UNTOLD.replies)
+        && is_run_untold(own, heap, edge)
+        && edge.host.calls().is_none()
 }
 
 fn tells_nothing(own: Global, heap: &LocalHeap) -> bool {
-    let mut host = MemoryHost::new(heap);
-    is_untold(own, heap, &mut host)
+    let mut edge = edge_of(own, heap);
+    is_untold(own, heap, &mut edge)
 }
 
 #[test]
@@ -127,13 +128,13 @@ fn turn_text<A: Allocator + Copy>(
     own: Global,
     alloc: A,
     core: &mut Core<A>,
-    host: &mut MemoryHost,
+    edge: &mut Joined<MemoryHost, ListLog>,
 ) -> Option<Vec<u8>> {
-    let mut log = ListLog::new(own);
+    edge.log = ListLog::new(own);
     let mut watch = Unwatched {};
-    init_turns::serve(alloc, core, host, &mut log, 1, false, &mut watch);
+    init_turns::serve(alloc, core, edge, 1, false, &mut watch);
     let Unwatched {} = watch;
-    trace_text::print(own, log.list()).ok()
+    trace_text::print(own, edge.log.list()).ok()
 }
 
 /// What became of a table that is read where there is little room.
@@ -164,24 +165,24 @@ fn text_in<'a>(
     own: Global,
     heap: &'a LocalHeap,
     core: &mut Core<&'a LocalHeap>,
-    host: &mut MemoryHost,
+    edge: &mut Joined<MemoryHost, ListLog>,
     room: usize,
 ) -> Option<Vec<u8>> {
     let Some(_fillers) = fill(own, heap, room) else {
         return None;
     };
-    turn_text(own, heap, core, host)
+    turn_text(own, heap, core, edge)
 }
 
 fn reading_in<'a>(
     own: Global,
     heap: &'a LocalHeap,
     core: &mut Core<&'a LocalHeap>,
-    host: &mut MemoryHost,
+    edge: &mut Joined<MemoryHost, ListLog>,
     room: usize,
 ) -> Option<Reading> {
-    match &text_in(own, heap, core, host, room) {
-        Some(text) => reading_of(host, text.as_slice(), core.table().len()),
+    match &text_in(own, heap, core, edge, room) {
+        Some(text) => reading_of(&edge.host, text.as_slice(), core.table().len()),
         None => None,
     }
 }
@@ -191,12 +192,12 @@ fn begins<A: Allocator + Copy>(
     own: Global,
     alloc: A,
     core: &mut Core<A>,
-    host: &mut MemoryHost,
+    edge: &mut Joined<MemoryHost, ListLog>,
     replies: &str,
 ) -> bool {
-    give_all(own, own, host, "start birth 10 / bytes")
-        && turn_text(own, alloc, core, host).is_some()
-        && give_all(own, own, host, replies)
+    give_all(own, own, &mut edge.host, "start birth 10 / bytes")
+        && turn_text(own, alloc, core, edge).is_some()
+        && give_all(own, own, &mut edge.host, replies)
 }
 
 /// Reads inittab again with so much room left.
@@ -206,11 +207,11 @@ fn read_again<'a>(
     core: &mut Core<&'a LocalHeap>,
     room: usize,
 ) -> Option<Reading> {
-    let mut host = MemoryHost::new(own);
-    if !begins(own, heap, core, &mut host, GIFTS) {
+    let mut edge = edge_of(own, own);
+    if !begins(own, heap, core, &mut edge, GIFTS) {
         return None;
     }
-    reading_in(own, heap, core, &mut host, room)
+    reading_in(own, heap, core, &mut edge, room)
 }
 
 fn read_over(own: Global, heap: &LocalHeap, room: usize) -> Option<Reading> {
@@ -241,9 +242,9 @@ enum First {
 fn first_of<'a>(
     heap: &'a LocalHeap,
     core: &mut Core<&'a LocalHeap>,
-    host: &mut MemoryHost,
+    edge: &mut Joined<MemoryHost, ListLog>,
 ) -> First {
-    let Ok(parts) = host.read_tables(heap) else {
+    let Ok(parts) = edge.host.read_tables(heap) else {
         return First::Text;
     };
     let Ok((table, _)) = inittab_text::read_parts(heap, &parts) else {
@@ -260,12 +261,12 @@ fn first_of<'a>(
 
 fn first_over(own: Global, heap: &LocalHeap, room: usize) -> Option<First> {
     let mut core = core_of(own, heap, INITTAB)?;
-    let mut host = MemoryHost::new(own);
-    if !begins(own, heap, &mut core, &mut host, GIFTS) {
+    let mut edge = edge_of(own, own);
+    if !begins(own, heap, &mut core, &mut edge, GIFTS) {
         return None;
     }
     let _fillers = fill(own, heap, room)?;
-    Some(first_of(heap, &mut core, &mut host))
+    Some(first_of(heap, &mut core, &mut edge))
 }
 
 fn first_in(own: Global, room: usize) -> Option<First> {
@@ -358,11 +359,11 @@ fn hand_over_in<'a>(
     own: Global,
     heap: &'a LocalHeap,
     core: &mut Core<&'a LocalHeap>,
-    host: &mut MemoryHost,
+    edge: &mut Joined<MemoryHost, ListLog>,
     room: usize,
 ) -> Option<HandOver> {
-    match &text_in(own, heap, core, host, room) {
-        Some(text) => hand_over_of(host, text.as_slice()),
+    match &text_in(own, heap, core, edge, room) {
+        Some(text) => hand_over_of(&edge.host, text.as_slice()),
         None => None,
     }
 }
@@ -372,9 +373,9 @@ fn goes_on<A: Allocator + Copy>(
     own: Global,
     alloc: A,
     core: &mut Core<A>,
-    host: &mut MemoryHost,
+    edge: &mut Joined<MemoryHost, ListLog>,
 ) -> bool {
-    match &turn_text(own, alloc, core, host) {
+    match &turn_text(own, alloc, core, edge) {
         Some(text) => {
             text.as_slice() == HANDED && core.table().len() == 2 && core.slots().len() == 2
         }
@@ -389,12 +390,12 @@ fn hand_over_twice<'a>(
     core: &mut Core<&'a LocalHeap>,
     room: usize,
 ) -> Option<HandOver> {
-    let mut host = MemoryHost::new(own);
-    if !begins(own, heap, core, &mut host, "bytes u / bytes / bytes u") {
+    let mut edge = edge_of(own, own);
+    if !begins(own, heap, core, &mut edge, "bytes u / bytes / bytes u") {
         return None;
     }
-    let outcome = hand_over_in(own, heap, core, &mut host, room);
-    if !goes_on(own, heap, core, &mut host) {
+    let outcome = hand_over_in(own, heap, core, &mut edge, room);
+    if !goes_on(own, heap, core, &mut edge) {
         return None;
     }
     outcome

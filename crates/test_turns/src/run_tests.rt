@@ -390,14 +390,9 @@ fn calls_come_in_their_order(rt: HostRuntime) {
 
 /// A turn ends where no step is due.
 pub(crate) fn is_idle<A: Allocator + Copy>(bench: &mut Bench<A>) -> bool {
-    init_turns::turn(
-        bench.own,
-        bench.core,
-        bench.host,
-        &mut Blocks::new(),
-        bench.log,
-    ) && bench.core.drained()
-        && bench.log.list().len() == 5
+    init_turns::turn(bench.own, bench.core, bench.edge, &mut Blocks::new())
+        && bench.core.drained()
+        && bench.edge.log.list().len() == 5
 }
 
 #[test]

@@ -3,6 +3,7 @@
 use core_steps::Core;
 use host_calls::{Call, CallIn, Host};
 use host_scripted::MemoryHost;
+use host_trace::Joined;
 use init_turns::{Served, Unwatched};
 use init_words::Memory;
 use inittab_text::Table;
@@ -67,8 +68,7 @@ pub(crate) fn core_of<A: Allocator + Copy>(
 pub(crate) struct Bench<'a, A: Allocator + Copy> {
     pub(crate) own: Global,
     pub(crate) core: &'a mut Core,
-    pub(crate) host: &'a mut MemoryHost<A>,
-    pub(crate) log: &'a mut ListLog,
+    pub(crate) edge: &'a mut Joined<MemoryHost<A>, ListLog>,
 }
 
 /// Hands the log the table in force.
@@ -118,7 +118,7 @@ pub(crate) fn serve_on<A: Allocator + Copy>(
 ) -> Served {
     let mut watch = Unwatched {};
     let served = init_turns::serve(
-        bench.own, bench.core, bench.host, bench.log, turns, drain, &mut watch,
+        bench.own, bench.core, bench.edge, turns, drain, &mut watch,
     );
     let Unwatched {} = watch;
     served
@@ -126,14 +126,14 @@ pub(crate) fn serve_on<A: Allocator + Copy>(
 
 fn is_served<A: Allocator + Copy>(bench: &mut Bench<A>, row: &Row) -> bool {
     let (turns, drain) = row.limit;
-    serve_on(bench, turns, drain) == ended(row) && bench.host.faults() == row.faults
+    serve_on(bench, turns, drain) == ended(row) && bench.edge.host.faults() == row.faults
 }
 
 /// The run of a row is as it says.
 pub(crate) fn is_run<A: Allocator + Copy>(bench: &mut Bench<A>, row: &Row) -> bool {
-    log_table(bench.own, bench.core, bench.log)
+    log_table(bench.own, bench.core, &mut bench.edge.log)
         && is_served(bench, row)
-        && is_logged(bench.own, bench.log.list(), row.trace)
+        && is_logged(bench.own, bench.edge.log.list(), row.trace)
 }
 
 /// A call's letter: `C`lock, `B`ytes, `L`ate answer, `T`able, `S`tart, l`O`ok, si`G`nal, carry `H`, a`N`nouncement,
@@ -191,7 +191,7 @@ pub(crate) struct Calls {
 /// The host tells these calls.
 pub(crate) fn are_made<A: Allocator + Copy>(bench: &mut Bench<A>, calls: &Calls) -> bool {
     serve_on(bench, calls.turns, false);
-    match bench.host.calls() {
+    match bench.edge.host.calls() {
         Some(made) => are_calls(bench.own, made, calls.want),
         None => false,
     }

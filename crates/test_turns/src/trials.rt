@@ -4,8 +4,8 @@ use crate::replies::give_all;
 use crate::request_tests::{hears_all, hears_parts};
 use crate::run_tests::is_idle;
 use crate::runs::{Bench, Calls, Row, are_made, core_of, is_run};
-use core_steps::Core;
 use host_scripted::MemoryHost;
+use host_trace::Joined;
 use std::alloc::{Allocator, Global};
 use std::test::Fail;
 use trace_log::ListLog;
@@ -34,41 +34,35 @@ fn holds<A: Allocator + Copy>(bench: &mut Bench<A>, trial: &Trial) -> bool {
     }
 }
 
-fn passes_with<A: Allocator + Copy>(
-    own: Global,
-    core: &mut Core,
-    host: &mut MemoryHost<A>,
-    trial: &Trial,
-) -> bool {
-    let mut log = ListLog::new(own);
-    holds(
-        &mut Bench {
-            own,
-            core,
-            host,
-            log: &mut log,
-        },
-        trial,
-    )
-}
-
-/// The trial passes with a core over an inittab and with a host.
+/// The trial passes with a core over an inittab and with an edge.
 pub(crate) fn passes_over<A: Allocator + Copy>(
     own: Global,
-    host: &mut MemoryHost<A>,
+    edge: &mut Joined<MemoryHost<A>, ListLog>,
     inittab: &str,
     trial: &Trial,
 ) -> bool {
     let Some(mut core) = core_of(own, own, inittab) else {
         return false;
     };
-    passes_with(own, &mut core, host, trial)
+    let core = &mut core;
+    holds(&mut Bench { own, core, edge }, trial)
+}
+
+/// An edge of a host that is given nothing, and a log.
+pub(crate) fn edge_of<A: Allocator + Copy>(
+    own: Global,
+    alloc: A,
+) -> Joined<MemoryHost<A>, ListLog> {
+    Joined {
+        host: MemoryHost::new(alloc),
+        log: ListLog::new(own),
+    }
 }
 
 /// The trial passes with a core over an inittab and with a host that is given so much.
 pub(crate) fn passes(own: Global, inittab: &str, replies: &str, trial: &Trial) -> bool {
-    let mut host = MemoryHost::new(own);
-    give_all(own, own, &mut host, replies) && passes_over(own, &mut host, inittab, trial)
+    let mut edge = edge_of(own, own);
+    give_all(own, own, &mut edge.host, replies) && passes_over(own, &mut edge, inittab, trial)
 }
 
 /// The runs of the rows are as they say.

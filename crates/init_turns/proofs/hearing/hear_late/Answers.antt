@@ -1,4 +1,4 @@
-use Rattle.init_turns.proofs.Words.{rules, ◌≡◌, ◌∙◌, ◌+◌, refl, sym, true, false, Late, Counted, Tracks, Hears-last, Hears-more, Leads-late, IsLate, GrowsBy-then}
+use Rattle.init_turns.proofs.Words.{rules, ◌≡◌, ◌∙◌, ◌+◌, refl, sym, subst, true, false, Late, Counted, Hears, Tracks, come, Hears-last, Hears-more, Leads-late, AddsMade-same, IsLate, kept_still, Grows-none, GrowsBy-call, GrowsBy-then}
 use Rattle.init_turns.proofs.Parts.{Makes-one}
 use Rattle.init_turns.proofs.Taken.{room_left}
 use Rattle.init_turns.proofs.hearing.hear_late.Goals as goal
@@ -6,14 +6,20 @@ use Rattle.init_turns.proofs.hearing.hear_late.Goals as goal
 pub returns-then-last-clause-lates : goal.returns-then-last-clause-lates
 returns-then-last-clause-lates g c =
     let late = c.late-late.result in
-    let old = g.L.Log.state c.args.log.now in
-    let mid = g.L.Log.state c.hear_come.new.log in
-    let new = g.L.Log.state c.begin_round.new.log in
+    let core = c.args.core.now in
+    let log = g.E.Edge.log c.args.edge.now in
+    let old = g.E.Edge.state log in
+    let mid = g.E.Edge.state (g.E.Edge.log c.hear_come.new.edge) in
+    let new = g.E.Edge.state (g.E.Edge.log c.begin_round.new.edge) in
+    let told = g.E.Edge.told c.args.edge.now in
+    let now_told = g.E.Edge.told c.begin_round.new.edge in
     let now : c.is_last-last.result ≡ true = search rules in
-    Makes-one _ _ old new (Late late) (IsLate c.args.asked c.is_last-last.result) (λ goal p. Tracks c.args.core.now goal p × Counted c.args.asked goal p) (λ goal p. Tracks c.begin_round.new.core goal p × Counted (c.args.asked + 1) goal p)
-    c.late-late.ensures.adds (late, refl, c.is_last-last.ensures)
-    (Leads-late c.args.core.now c.begin_round.new.core old new late c.args.asked
-    (Hears-last (Tracks c.args.core.now) (Tracks c.hear_come.new.core) (Tracks c.begin_round.new.core) old mid new late c.args.asked (sym c.is_last-last.ensures ∙ now) c.hear_come.ensures.hears c.begin_round.ensures.hears))
+    Makes-one g.E.Edge.state told now_told old new log (Late late) (IsLate c.args.asked c.is_last-last.result) (λ goal p. Tracks core goal p × Counted c.args.asked goal p) (λ goal p. Tracks c.begin_round.new.core goal p × Counted (c.args.asked + 1) goal p)
+    (AddsMade-same told told (g.E.Edge.told c.late-late.new.self) now_told (Late late) log refl (c.begin_round.ensures.told ∙ c.hear_come.ensures.told) c.late-late.ensures.adds) (late, refl, c.is_last-last.ensures)
+    (Leads-late core c.begin_round.new.core old new late c.args.asked
+    (Hears-last (Tracks core) (Tracks c.hear_come.new.core) (Tracks c.begin_round.new.core) old mid new late c.args.asked (sym c.is_last-last.ensures ∙ now)
+    (subst (λ l. Hears (Tracks core) (Tracks c.hear_come.new.core) (g.E.Edge.state l) mid (come late)) c.late-late.ensures.log c.hear_come.ensures.hears) c.begin_round.ensures.hears))
+    (kept_still (λ goal p. Tracks core goal p × Counted c.args.asked goal p) old (Late late) (λ so_far. refl))
 
 pub returns-else-last-clause-more : goal.returns-else-last-clause-more
 returns-else-last-clause-more g c no_more =
@@ -22,14 +28,28 @@ returns-else-last-clause-more g c no_more =
 pub returns-else-last-clause-lates : goal.returns-else-last-clause-lates
 returns-else-last-clause-lates g c =
     let late = c.late-late.result in
-    let old = g.L.Log.state c.args.log.now in
-    let new = g.L.Log.state c.hear_come.new.log in
+    let core = c.args.core.now in
+    let log = g.E.Edge.log c.args.edge.now in
+    let old = g.E.Edge.state log in
+    let new = g.E.Edge.state (g.E.Edge.log c.hear_come.new.edge) in
+    let told = g.E.Edge.told c.args.edge.now in
+    let now_told = g.E.Edge.told c.hear_come.new.edge in
     let more : c.is_last-last.result ≡ false = search rules in
-    Makes-one _ _ old new (Late late) (IsLate c.args.asked c.is_last-last.result) (λ goal p. Tracks c.args.core.now goal p × Counted c.args.asked goal p) (λ goal p. Tracks c.hear_come.new.core goal p × Counted (c.args.asked + 1) goal p)
-    c.late-late.ensures.adds (late, refl, c.is_last-last.ensures)
-    (Leads-late c.args.core.now c.hear_come.new.core old new late c.args.asked
-    (Hears-more (Tracks c.args.core.now) (Tracks c.hear_come.new.core) old new late c.args.asked (sym c.is_last-last.ensures ∙ more) c.hear_come.ensures.hears))
+    Makes-one g.E.Edge.state told now_told old new log (Late late) (IsLate c.args.asked c.is_last-last.result) (λ goal p. Tracks core goal p × Counted c.args.asked goal p) (λ goal p. Tracks c.hear_come.new.core goal p × Counted (c.args.asked + 1) goal p)
+    (AddsMade-same told told (g.E.Edge.told c.late-late.new.self) now_told (Late late) log refl c.hear_come.ensures.told c.late-late.ensures.adds) (late, refl, c.is_last-last.ensures)
+    (Leads-late core c.hear_come.new.core old new late c.args.asked
+    (Hears-more (Tracks core) (Tracks c.hear_come.new.core) old new late c.args.asked (sym c.is_last-last.ensures ∙ more)
+    (subst (λ l. Hears (Tracks core) (Tracks c.hear_come.new.core) (g.E.Edge.state l) new (come late)) c.late-late.ensures.log c.hear_come.ensures.hears)))
+    (kept_still (λ goal p. Tracks core goal p × Counted c.args.asked goal p) old (Late late) (λ so_far. refl))
 
 pub returns-then-last-clause-grows : goal.returns-then-last-clause-grows
 returns-then-last-clause-grows g c =
-    GrowsBy-then c.args.core.now c.hear_come.new.core c.begin_round.new.core (g.L.Log.state c.args.log.now) (g.L.Log.state c.hear_come.new.log) (g.L.Log.state c.begin_round.new.log) c.hear_come.ensures.grows c.begin_round.ensures.grows
+    let old = g.E.Edge.state (g.E.Edge.log c.args.edge.now) in
+    let come = g.E.Edge.state (g.E.Edge.log c.hear_come.new.edge) in
+    GrowsBy-then c.args.core.now c.hear_come.new.core c.begin_round.new.core old come (g.E.Edge.state (g.E.Edge.log c.begin_round.new.edge))
+    (GrowsBy-call g.E.Edge.state c.args.core.now c.hear_come.new.core old come (g.E.Edge.log c.args.edge.now) (g.E.Edge.log c.late-late.new.self) c.late-late.ensures.log (Grows-none old) c.hear_come.ensures.grows) c.begin_round.ensures.grows
+
+pub returns-else-last-clause-grows : goal.returns-else-last-clause-grows
+returns-else-last-clause-grows g c =
+    let old = g.E.Edge.state (g.E.Edge.log c.args.edge.now) in
+    GrowsBy-call g.E.Edge.state c.args.core.now c.hear_come.new.core old (g.E.Edge.state (g.E.Edge.log c.hear_come.new.edge)) (g.E.Edge.log c.args.edge.now) (g.E.Edge.log c.late-late.new.self) c.late-late.ensures.log (Grows-none old) c.hear_come.ensures.grows

@@ -1,13 +1,13 @@
-use Rattle.init_turns.proofs.Words.{◌≤◌, ◌-◌, BYTE_LIMIT, Makes, GrowsReading}
+use Rattle.init_turns.proofs.Words.{◌≤◌, ◌-◌, BYTE_LIMIT, MakesOver, GrowsReading}
 use Rattle.host_trace.specs.Leads.{At}
 use Rattle.init_turns.proofs.Taken.{HaveTaken}
 use Rattle.init_turns.proofs.hearing.hear_requests.Given as goal
 
 -- so many bytes were taken, by calls that each gave some
 abbrev pub invariant-loop-taken : goal.invariant-loop-taken
-invariant-loop-taken g l = (l.taken ≤ BYTE_LIMIT) × Makes (g.H.Host.told l.fn.host) (g.H.Host.told l.host) (g.L.Log.state l.fn.log) (g.L.Log.state l.log)
+invariant-loop-taken g l = (l.taken ≤ BYTE_LIMIT) × MakesOver g.E.Edge.state (g.E.Edge.told l.fn.edge) (g.E.Edge.told l.edge) (g.E.Edge.state (g.E.Edge.log l.fn.edge)) (g.E.Edge.state (g.E.Edge.log l.edge))
     (HaveTaken l.taken) (At l.fn.core l.fn.blocks) (At l.core l.blocks)
-    × GrowsReading l.fn.core l.core l.fn.blocks l.blocks (g.L.Log.state l.fn.log) (g.L.Log.state l.log)
+    × GrowsReading l.fn.core l.core l.fn.blocks l.blocks (g.E.Edge.state (g.E.Edge.log l.fn.edge)) (g.E.Edge.state (g.E.Edge.log l.edge))
 
 abbrev pub decreases-loop-taken : goal.decreases-loop-taken
 decreases-loop-taken g l = BYTE_LIMIT - l.taken

@@ -1,7 +1,6 @@
-use Rattle.init_turns.proofs.Words.{rules, ◌≡◌, refl, Some, entry_of, Start, Gave, Tracks, Hears-order, Leads-start, IsStep, GrowsBy-behind}
+use Rattle.init_turns.proofs.Words.{rules, ◌≡◌, refl, Some, entry_of, Start, Leads-start, GrowsBy-call}
 use Rattle.init_words.specs.declared.orders.OrderKind.TheVariants as ask
-use Rattle.trace_events.specs.declared.steps.Step.TheVariants as step
-use Rattle.init_turns.proofs.Parts.{Makes-one}
+use Rattle.init_turns.proofs.Carried.{Makes-ordered}
 use Rattle.init_turns.proofs.ordering.start.Goals as goal
 
 pub returns-clause-makes : goal.returns-clause-makes
@@ -10,14 +9,14 @@ returns-clause-makes g c =
     let core = c.args.core.now in
     let entry = c.in-Some.entry.now in
     let reply = c.start-reply.result in
-    let old = g.L.Log.state c.args.log.now in
-    let new = g.L.Log.state c.hear_reply.new.log in
+    let old = g.E.Edge.state (g.E.Edge.log c.args.edge.now) in
+    let new = g.E.Edge.state (g.E.Edge.log c.hear_reply.new.edge) in
     let own : entry_of id core.table ≡ Some entry = search rules in
-    Makes-one (g.H.Host.told c.args.host.now) (g.H.Host.told c.start-reply.new.self) old new (Start id c.command.result.now reply) IsStep (Gave (Tracks core) (step.Order id ask.Start)) (Tracks c.hear_reply.new.core)
-    c.start-reply.ensures.adds refl
-    (Leads-start core c.hear_reply.new.core old new id c.command.result.now reply entry own c.command.ensures
-    (Hears-order core c.hear_reply.new.core old (g.L.Log.state c.note.new.log) new id ask.Start reply c.note.ensures.logs c.hear_reply.ensures.hears))
+    Makes-ordered g.E.Edge.state g.E.Edge.told g.E.Edge.log c.args.edge.now c.note.new.edge c.start-reply.new.self c.hear_reply.new.edge core c.hear_reply.new.core (Start id c.command.result.now reply) id ask.Start reply
+    c.note.ensures.told c.start-reply.ensures.adds c.start-reply.ensures.log c.hear_reply.ensures.told refl (λ so_far. refl) c.note.ensures.logs c.hear_reply.ensures.hears
+    (λ hears. Leads-start core c.hear_reply.new.core old new id c.command.result.now reply entry own c.command.ensures hears)
 
 pub returns-clause-grows : goal.returns-clause-grows
 returns-clause-grows g c =
-    GrowsBy-behind c.args.core.now c.hear_reply.new.core (g.L.Log.state c.args.log.now) (g.L.Log.state c.note.new.log) (g.L.Log.state c.hear_reply.new.log) (c.note.ensures.grows refl) c.hear_reply.ensures.grows
+    GrowsBy-call g.E.Edge.state c.args.core.now c.hear_reply.new.core (g.E.Edge.state (g.E.Edge.log c.args.edge.now)) (g.E.Edge.state (g.E.Edge.log c.hear_reply.new.edge)) (g.E.Edge.log c.note.new.edge) (g.E.Edge.log c.start-reply.new.self)
+    c.start-reply.ensures.log (c.note.ensures.grows refl) c.hear_reply.ensures.grows

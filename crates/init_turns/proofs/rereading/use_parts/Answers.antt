@@ -1,4 +1,4 @@
-use Rattle.init_turns.proofs.Words.{rules, ◌≡◌, refl, sym, ◌∙◌, ap, ◌∷◌, List, subst, is_err, Bool, true, false, OnOk, Result, Ok, Err, false≢true, NewTable, Event, is_quiet, StillFits, OnEachTrace, has_short_seconds, Logs, Grows-none, GrowsBy-one}
+use Rattle.init_turns.proofs.Words.{rules, ◌≡◌, refl, sym, ◌∙◌, ap, ◌∷◌, List, subst, is_err, Bool, true, false, OnOk, Result, Ok, Err, false≢true, NewTable, Event, is_quiet, StillFits, OnEachTrace, has_short_seconds, Logs, Grows-none, GrowsBy, GrowsBy-call, GrowsBy-none, GrowsBy-one}
 use Rattle.init_words.specs.Parts.{texts_of}
 use Rattle.inittab_text.specs.Parts.{table_of_texts}
 use Rattle.inittab_text.proofs.PartLemmas.{was_readable}
@@ -37,15 +37,27 @@ returns-clause-quiet g c taken =
 pub returns-clause-took : goal.returns-clause-took
 returns-clause-took g c taken =
     let read : c.in-Ok-copy.copy ≡ table_of_texts (texts_of c.args.parts.now) = search rules in
-    subst (λ table. (past : List Event) → Logs (g.L.Log.state c.args.log.now) (g.L.Log.state c.write.new.log) past (NewTable table ∷ past)) read c.write.ensures.logs
+    let new = g.E.Edge.state (g.E.Edge.log c.write.new.edge) in
+    subst (λ l. (past : List Event) → Logs (g.E.Edge.state l) new past (NewTable (table_of_texts (texts_of c.args.parts.now)) ∷ past)) c.takes.ensures.log
+    (subst (λ table. (past : List Event) → Logs (g.E.Edge.state (g.E.Edge.log c.takes.new.self)) new past (NewTable table ∷ past)) read c.write.ensures.logs)
 
 pub returns-clause-grows : goal.returns-clause-grows
 returns-clause-grows g c =
     let works : is_err c.adopt.result ≡ false = search rules in
     let lasts = adopt_lasts c.args.core.now c.adopt.new.self c.in-Ok.table (was_ok c.adopt.result _ works c.adopt.ensures.adopted) in
-    GrowsBy-one c.args.core.now c.adopt.new.self (g.L.Log.state c.args.log.now) (g.L.Log.state c.write.new.log) lasts.short (c.write.ensures.grows refl)
+    let old = g.E.Edge.state (g.E.Edge.log c.args.edge.now) in
+    let new = g.E.Edge.state (g.E.Edge.log c.write.new.edge) in
+    GrowsBy-call g.E.Edge.state c.args.core.now c.adopt.new.self old new (g.E.Edge.log c.args.edge.now) (g.E.Edge.log c.takes.new.self) c.takes.ensures.log (Grows-none old)
+    (GrowsBy-one c.args.core.now c.adopt.new.self (g.E.Edge.state (g.E.Edge.log c.takes.new.self)) new lasts.short (c.write.ensures.grows refl))
 
 pub returns-then-is_err-clause-grows : goal.returns-then-is_err-clause-grows
 returns-then-is_err-clause-grows g c =
     let same : c.adopt.new.self ≡ c.args.core.now = search rules in
-    GrowsBy-one c.args.core.now c.adopt.new.self (g.L.Log.state c.args.log.now) (g.L.Log.state c.args.log.now) (λ short. ap has_short_seconds same ∙ short) (Grows-none (g.L.Log.state c.args.log.now))
+    let old = g.E.Edge.state (g.E.Edge.log c.args.edge.now) in
+    subst (λ l. GrowsBy c.args.core.now c.adopt.new.self old (g.E.Edge.state l)) (sym c.takes.ensures.log)
+    (GrowsBy-one c.args.core.now c.adopt.new.self old old (λ short. ap has_short_seconds same ∙ short) (Grows-none old))
+
+pub returns-in_default-copy-clause-grows : goal.returns-in_default-copy-clause-grows
+returns-in_default-copy-clause-grows g c =
+    let old = g.E.Edge.state (g.E.Edge.log c.args.edge.now) in
+    subst (λ l. GrowsBy c.args.core.now c.args.core.now old (g.E.Edge.state l)) (sym c.takes.ensures.log) (GrowsBy-none c.args.core.now old)

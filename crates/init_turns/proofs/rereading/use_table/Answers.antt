@@ -1,4 +1,6 @@
-use Rattle.init_turns.proofs.Words.{rules, ◌≡◌, refl, sym, subst, ◌∷◌, [], Ok, ReadTables, AddsCall, parts_read, Gave, Leads, Tracks, Leads-used, IsStep}
+use Rattle.init_turns.proofs.Words.{rules, ◌≡◌, refl, sym, subst, List, ◌∷◌, [], Ok, NewTable, ReadTables, parts_read, Event, Gave, Leads, Logs, Tracks, Leads-used, AddsMade-same, IsStep, kept_still, Grows-none, GrowsBy-call}
+use Rattle.init_words.specs.Parts.{texts_of}
+use Rattle.inittab_text.specs.Parts.{table_of_texts}
 use Rattle.trace_events.specs.declared.steps.Step.TheVariants as step
 use Rattle.init_turns.proofs.Parts.{Makes-one}
 use Rattle.init_turns.proofs.rereading.use_table.Goals as goal
@@ -7,12 +9,22 @@ pub returns-clause-used : goal.returns-clause-used
 returns-clause-used g c took =
     let core = c.args.core.now in
     let new = c.use_parts.new.core in
-    let log = g.L.Log.state c.args.log.now in
-    let now_log = g.L.Log.state c.use_parts.new.log in
+    let log = g.E.Edge.log c.args.edge.now in
+    let old = g.E.Edge.state log in
+    let now = g.E.Edge.state (g.E.Edge.log c.use_parts.new.edge) in
+    let told = g.E.Edge.told c.args.edge.now in
+    let now_told = g.E.Edge.told c.use_parts.new.edge in
     let parts = parts_read (λ held. held.items) c.read_tables.result in
     let is : parts ≡ Ok c.deref.result.now = search rules in
     let before = Gave (Tracks core) step.Reread in
-    Makes-one (g.H.Host.told c.args.host.now) (g.H.Host.told c.use_parts.new.host) log now_log (ReadTables parts) IsStep before (Tracks new)
-    (subst (λ told. AddsCall (g.H.Host.told c.args.host.now) told (ReadTables parts)) (sym c.use_parts.ensures.told) c.read_tables.ensures.adds) refl
-    (subst (λ t. Leads before (Tracks new) log now_log (ReadTables t ∷ [])) (sym is)
-    (Leads-used core new log now_log c.deref.result.now (c.use_parts.ensures.readable took) (c.use_parts.ensures.quiet took) (c.use_parts.ensures.fits took) (c.use_parts.ensures.lasts took) (c.use_parts.ensures.took took)))
+    Makes-one g.E.Edge.state told now_told old now log (ReadTables parts) IsStep before (Tracks new)
+    (AddsMade-same told told (g.E.Edge.told c.read_tables.new.self) now_told (ReadTables parts) log refl c.use_parts.ensures.told c.read_tables.ensures.adds) refl
+    (subst (λ t. Leads before (Tracks new) old now (ReadTables t ∷ [])) (sym is)
+    (Leads-used core new old now c.deref.result.now (c.use_parts.ensures.readable took) (c.use_parts.ensures.quiet took) (c.use_parts.ensures.fits took) (c.use_parts.ensures.lasts took)
+    (subst (λ l. (so_far : List Event) → Logs (g.E.Edge.state l) now so_far (NewTable (table_of_texts (texts_of c.deref.result.now)) ∷ so_far)) c.read_tables.ensures.log (c.use_parts.ensures.took took))))
+    (kept_still before old (ReadTables parts) (λ so_far. refl))
+
+pub returns-clause-grows : goal.returns-clause-grows
+returns-clause-grows g c =
+    let old = g.E.Edge.state (g.E.Edge.log c.args.edge.now) in
+    GrowsBy-call g.E.Edge.state c.args.core.now c.use_parts.new.core old (g.E.Edge.state (g.E.Edge.log c.use_parts.new.edge)) (g.E.Edge.log c.args.edge.now) (g.E.Edge.log c.read_tables.new.self) c.read_tables.ensures.log (Grows-none old) c.use_parts.ensures.grows

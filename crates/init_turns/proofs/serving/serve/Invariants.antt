@@ -1,9 +1,9 @@
-use Rattle.init_turns.proofs.Words.{Fresh, Makes, GrowsBy, HasRead}
+use Rattle.init_turns.proofs.Words.{Fresh, MakesOver, GrowsBy, HasRead}
 use Rattle.host_trace.specs.Leads.{At}
 use Rattle.init_turns.proofs.Turning.{Going}
 use Rattle.init_turns.proofs.serving.serve.Given as goal
 
 abbrev pub invariant-loop-made : goal.invariant-loop-made
-invariant-loop-made g l = Makes (g.H.Host.told l.fn.host) (g.H.Host.told l.host) (g.L.Log.state l.fn.log) (g.L.Log.state l.log)
+invariant-loop-made g l = MakesOver g.E.Edge.state (g.E.Edge.told l.fn.edge) (g.E.Edge.told l.edge) (g.E.Edge.state (g.E.Edge.log l.fn.edge)) (g.E.Edge.state (g.E.Edge.log l.edge))
     (Going l.drain (Fresh l.fn.core) l.made (g.W.Watch.seen l.fn.watch) (g.W.Watch.seen l.watch)) (Fresh l.fn.core) (At l.core l.blocks)
-    × HasRead l.blocks × GrowsBy l.fn.core l.core (g.L.Log.state l.fn.log) (g.L.Log.state l.log)
+    × HasRead l.blocks × GrowsBy l.fn.core l.core (g.E.Edge.state (g.E.Edge.log l.fn.edge)) (g.E.Edge.state (g.E.Edge.log l.edge))

@@ -1,10 +1,21 @@
-use Rattle.init_turns.proofs.Words.{refl, Announce, Gave, Tracks, IsStep}
+use Rattle.init_turns.proofs.Words.{refl, sym, subst, ◌∷◌, [], Announce, Gave, Grows, Leads, Tracks, AddsMade-same, IsStep, MakesOver, kept_led}
 use Rattle.init_turns.proofs.Carried.{Leads-said}
 use Rattle.init_turns.proofs.Parts.{Makes-one}
 use Rattle.init_turns.proofs.stepping.say.Goals as goal
 
 pub returns-clause-makes : goal.returns-clause-makes
 returns-clause-makes g c core made says =
-    Makes-one (g.H.Host.told c.args.host.now) (g.H.Host.told c.announce.new.self) (g.L.Log.state c.args.log.now) (g.L.Log.state c.write.new.log) (Announce c.args.happening) IsStep (Gave (Tracks core) made) (Tracks core)
-    c.announce.ensures.adds refl
-    (Leads-said core (g.L.Log.state c.args.log.now) (g.L.Log.state c.write.new.log) made c.args.happening says c.write.ensures.logs)
+    let happening = c.args.happening in
+    let log = g.E.Edge.log c.write.new.edge in
+    let old = g.E.Edge.state (g.E.Edge.log c.args.edge.now) in
+    let new = g.E.Edge.state log in
+    let before = g.E.Edge.told c.args.edge.now in
+    let behind = g.E.Edge.told c.announce.new.self in
+    let leads : Leads (Gave (Tracks core) made) (Tracks core) old new (Announce happening ∷ []) = Leads-said core old new made happening says c.write.ensures.logs in
+    subst (λ l. MakesOver g.E.Edge.state before behind old (g.E.Edge.state l) IsStep (Gave (Tracks core) made) (Tracks core)) (sym c.announce.ensures.log)
+    (Makes-one g.E.Edge.state before behind old new log (Announce happening) IsStep (Gave (Tracks core) made) (Tracks core)
+    (AddsMade-same before (g.E.Edge.told c.write.new.edge) behind behind (Announce happening) log c.write.ensures.told refl c.announce.ensures.adds) refl leads
+    (kept_led (Gave (Tracks core) made) (Tracks core) old new happening [] leads))
+
+pub returns-clause-grows : goal.returns-clause-grows
+returns-clause-grows g c short = subst (λ l. Grows (g.E.Edge.state (g.E.Edge.log c.args.edge.now)) (g.E.Edge.state l)) (sym c.announce.ensures.log) (c.write.ensures.grows short)

@@ -1,4 +1,4 @@
-use Rattle.init_turns.proofs.Words.{◌∙◌, sym, ap, subst, Tracks, AndRests, IsStepUnless, Makes, is_listed, is_short_step}
+use Rattle.init_turns.proofs.Words.{◌∙◌, sym, ap, subst, Tracks, AndRests, IsStepUnless, MakesOver, is_listed, is_short_step}
 use Rattle.init_turns.proofs.Carried.{Makes-stepped}
 use Rattle.init_turns.proofs.Listed.{decide_listed, table_kept}
 use Rattle.init_turns.proofs.Lasting.{step_lasts}
@@ -14,12 +14,12 @@ carry_out-requires g c =
 
 pub returns-clause-makes : goal.returns-clause-makes
 returns-clause-makes g c =
-    let told = g.H.Host.told c.args.host.now in
-    let now_told = g.H.Host.told c.carry_out.new.host in
-    let log = g.L.Log.state c.args.log.now in
-    let now_log = g.L.Log.state c.carry_out.new.log in
-    subst (λ idle. Makes told now_told log now_log (IsStepUnless idle) (Tracks c.args.core.now) (AndRests idle (Tracks c.carry_out.new.core))) (sym c.is_idle.ensures)
-    (Makes-stepped told now_told log now_log c.args.core.now c.next-step.new.self c.carry_out.new.core c.next-step.result c.next-step.ensures.due c.next-step.ensures.fits (step_lasts c.args.core.now c.next-step.new.self c.next-step.result c.next-step.ensures.step c.next-step.ensures.state) c.carry_out.ensures.makes)
+    let told = g.E.Edge.told c.args.edge.now in
+    let now_told = g.E.Edge.told c.carry_out.new.edge in
+    let log = g.E.Edge.state (g.E.Edge.log c.args.edge.now) in
+    let now_log = g.E.Edge.state (g.E.Edge.log c.carry_out.new.edge) in
+    subst (λ idle. MakesOver g.E.Edge.state told now_told log now_log (IsStepUnless idle) (Tracks c.args.core.now) (AndRests idle (Tracks c.carry_out.new.core))) (sym c.is_idle.ensures)
+    (Makes-stepped g.E.Edge.state told now_told log now_log c.args.core.now c.next-step.new.self c.carry_out.new.core c.next-step.result c.next-step.ensures.due c.next-step.ensures.fits (step_lasts c.args.core.now c.next-step.new.self c.next-step.result c.next-step.ensures.step c.next-step.ensures.state) c.carry_out.ensures.makes)
 
 pub returns-clause-grows : goal.returns-clause-grows
 returns-clause-grows g c short =

@@ -1,57 +1,57 @@
-use Rattle.init_turns.proofs.Words.{rules, ◌≡◌, ◌≤◌, ◌+◌, refl, subst, true, false, false≢true, STEP_LIMIT, Tracks, Leads-weaken, AreSteps, AndRests, AreAllSteps, IsStep, IsStepUnless, Makes, GrowsBy-none, GrowsBy-then}
+use Rattle.init_turns.proofs.Words.{rules, ◌≡◌, ◌≤◌, ◌+◌, refl, subst, true, false, false≢true, STEP_LIMIT, Tracks, Leads-weaken, AreSteps, AndRests, AreAllSteps, IsStep, IsStepUnless, MakesOver, GrowsBy-none, GrowsBy-then}
 use Rattle.init_turns.proofs.Parts.{Makes-map, Makes-none, Makes-then, steps_all, steps_end, steps_more}
 use Rattle.init_turns.proofs.stepping.take_steps.Goals as goal
 
 pub loop-made-init : goal.loop-made-init
-loop-made-init g c = (Makes-none (g.H.Host.told c.args.host.now) (g.L.Log.state c.args.log.now) (AreSteps 0) (Tracks c.args.core.now) refl, GrowsBy-none c.args.core.now (g.L.Log.state c.args.log.now))
+loop-made-init g c = (Makes-none g.E.Edge.state (g.E.Edge.told c.args.edge.now) (g.E.Edge.state (g.E.Edge.log c.args.edge.now)) (AreSteps 0) (Tracks c.args.core.now) refl, GrowsBy-none c.args.core.now (g.E.Edge.state (g.E.Edge.log c.args.edge.now)))
 
 pub returns-then-take_step-clause-makes : goal.returns-then-take_step-clause-makes
 returns-then-take_step-clause-makes g c =
-    let told = g.H.Host.told c.loop-made.host in
-    let log = g.L.Log.state c.loop-made.log in
-    let now_told = g.H.Host.told c.take_step.new.host in
-    let now_log = g.L.Log.state c.take_step.new.log in
+    let told = g.E.Edge.told c.loop-made.edge in
+    let log = g.E.Edge.state (g.E.Edge.log c.loop-made.edge) in
+    let now_told = g.E.Edge.told c.take_step.new.edge in
+    let now_log = g.E.Edge.state (g.E.Edge.log c.take_step.new.edge) in
     let before = Tracks c.args.core.now in
     let at = Tracks c.loop-made.core in
     let within : c.loop-made.made ≤ STEP_LIMIT = search rules in
     let last : c.take_step.result ≡ true = search rules in
-    let one : Makes told now_told log now_log (IsStepUnless true) at (AndRests true (Tracks c.take_step.new.core)) =
-    subst (λ b. Makes told now_told log now_log (IsStepUnless b) at (AndRests b (Tracks c.take_step.new.core))) last c.take_step.ensures.makes in
-    Makes-then (g.H.Host.told c.args.host.now) told now_told (g.L.Log.state c.args.log.now) log now_log (AreSteps c.loop-made.made) (IsStepUnless true) (AreAllSteps true) before at (AndRests true (Tracks c.take_step.new.core))
+    let one : MakesOver g.E.Edge.state told now_told log now_log (IsStepUnless true) at (AndRests true (Tracks c.take_step.new.core)) =
+    subst (λ b. MakesOver g.E.Edge.state told now_told log now_log (IsStepUnless b) at (AndRests b (Tracks c.take_step.new.core))) last c.take_step.ensures.makes in
+    Makes-then g.E.Edge.state (g.E.Edge.told c.args.edge.now) told now_told (g.E.Edge.state (g.E.Edge.log c.args.edge.now)) log now_log (AreSteps c.loop-made.made) (IsStepUnless true) (AreAllSteps true) before at (AndRests true (Tracks c.take_step.new.core))
     (λ goal p fits. (c.take_step.ensures.grows (c.loop-made.invariant.1 fits.short).0).1)
     c.loop-made.invariant.0 one (λ xs ys steps none. steps_end c.loop-made.made xs ys within steps none)
 
 pub loop-made-preserved : goal.loop-made-preserved
 loop-made-preserved g c =
-    let told = g.H.Host.told c.loop-made.host in
-    let log = g.L.Log.state c.loop-made.log in
-    let now_told = g.H.Host.told c.take_step.new.host in
-    let now_log = g.L.Log.state c.take_step.new.log in
+    let told = g.E.Edge.told c.loop-made.edge in
+    let log = g.E.Edge.state (g.E.Edge.log c.loop-made.edge) in
+    let now_told = g.E.Edge.told c.take_step.new.edge in
+    let now_log = g.E.Edge.state (g.E.Edge.log c.take_step.new.edge) in
     let before = Tracks c.args.core.now in
     let at = Tracks c.loop-made.core in
     let new = Tracks c.take_step.new.core in
     let more : c.take_step.result ≡ false = search rules in
-    let one : Makes told now_told log now_log (IsStepUnless false) at (AndRests false new) =
-    subst (λ b. Makes told now_told log now_log (IsStepUnless b) at (AndRests b new)) more c.take_step.ensures.makes in
-    let step : Makes told now_told log now_log IsStep at new =
-    Makes-map told now_told log now_log (IsStepUnless false) IsStep at (AndRests false new) at new (λ goal p sound fits. fits) one
+    let one : MakesOver g.E.Edge.state told now_told log now_log (IsStepUnless false) at (AndRests false new) =
+    subst (λ b. MakesOver g.E.Edge.state told now_told log now_log (IsStepUnless b) at (AndRests b new)) more c.take_step.ensures.makes in
+    let step : MakesOver g.E.Edge.state told now_told log now_log IsStep at new =
+    Makes-map g.E.Edge.state told now_told log now_log (IsStepUnless false) IsStep at (AndRests false new) at new (λ goal p sound fits. fits) one
     (λ calls steps leads. (steps, Leads-weaken at at (AndRests false new) new log now_log calls (λ goal p fits. fits) (λ goal p fits. fits.0) leads)) in (
-      Makes-then (g.H.Host.told c.args.host.now) told now_told (g.L.Log.state c.args.log.now) log now_log (AreSteps c.loop-made.made) IsStep (AreSteps (c.loop-made.made + 1)) before at new
+      Makes-then g.E.Edge.state (g.E.Edge.told c.args.edge.now) told now_told (g.E.Edge.state (g.E.Edge.log c.args.edge.now)) log now_log (AreSteps c.loop-made.made) IsStep (AreSteps (c.loop-made.made + 1)) before at new
           (λ goal p fits. (c.take_step.ensures.grows (c.loop-made.invariant.1 fits.short).0).1)
           c.loop-made.invariant.0 step (λ xs ys steps once. steps_more c.loop-made.made xs ys steps once),
-      GrowsBy-then c.args.core.now c.loop-made.core c.take_step.new.core (g.L.Log.state c.args.log.now) (g.L.Log.state c.loop-made.log) (g.L.Log.state c.take_step.new.log) c.loop-made.invariant.1 c.take_step.ensures.grows,
+      GrowsBy-then c.args.core.now c.loop-made.core c.take_step.new.core (g.E.Edge.state (g.E.Edge.log c.args.edge.now)) (g.E.Edge.state (g.E.Edge.log c.loop-made.edge)) (g.E.Edge.state (g.E.Edge.log c.take_step.new.edge)) c.loop-made.invariant.1 c.take_step.ensures.grows,
     )
 
 pub returns-clause-makes : goal.returns-clause-makes
 returns-clause-makes g c =
-    let told = g.H.Host.told c.args.host.now in
-    let log = g.L.Log.state c.args.log.now in
-    let now_told = g.H.Host.told c.loop-made.host in
-    let now_log = g.L.Log.state c.loop-made.log in
+    let told = g.E.Edge.told c.args.edge.now in
+    let log = g.E.Edge.state (g.E.Edge.log c.args.edge.now) in
+    let now_told = g.E.Edge.told c.loop-made.edge in
+    let now_log = g.E.Edge.state (g.E.Edge.log c.loop-made.edge) in
     let before = Tracks c.args.core.now in
     let new = Tracks c.loop-made.core in
     let all : c.loop-made.made ≡ STEP_LIMIT = search rules in
-    Makes-map told now_told log now_log (AreSteps c.loop-made.made) (AreAllSteps false) before new before (AndRests false new) (λ goal p sound fits. fits) c.loop-made.invariant.0
+    Makes-map g.E.Edge.state told now_told log now_log (AreSteps c.loop-made.made) (AreAllSteps false) before new before (AndRests false new) (λ goal p sound fits. fits) c.loop-made.invariant.0
     (λ calls steps leads. (
       steps_all calls (subst (λ n. AreSteps n calls) all steps),
       Leads-weaken before before new (AndRests false new) log now_log calls (λ goal p fits. fits) (λ goal p fits. (fits, λ h. absurd (false≢true h))) leads,
@@ -59,7 +59,7 @@ returns-clause-makes g c =
 
 pub returns-then-take_step-clause-grows : goal.returns-then-take_step-clause-grows
 returns-then-take_step-clause-grows g c =
-    GrowsBy-then c.args.core.now c.loop-made.core c.take_step.new.core (g.L.Log.state c.args.log.now) (g.L.Log.state c.loop-made.log) (g.L.Log.state c.take_step.new.log) c.loop-made.invariant.1 c.take_step.ensures.grows
+    GrowsBy-then c.args.core.now c.loop-made.core c.take_step.new.core (g.E.Edge.state (g.E.Edge.log c.args.edge.now)) (g.E.Edge.state (g.E.Edge.log c.loop-made.edge)) (g.E.Edge.state (g.E.Edge.log c.take_step.new.edge)) c.loop-made.invariant.1 c.take_step.ensures.grows
 
 pub returns-clause-grows : goal.returns-clause-grows
 returns-clause-grows g c = c.loop-made.invariant.1

@@ -1,8 +1,8 @@
-use Rattle.init_turns.proofs.Words.{Tracks, AreSteps, Makes, GrowsBy}
+use Rattle.init_turns.proofs.Words.{Tracks, AreSteps, MakesOver, GrowsBy}
 use Rattle.init_turns.proofs.stepping.take_steps.Given as goal
 
 -- so many steps were carried out
 abbrev pub invariant-loop-made : goal.invariant-loop-made
-invariant-loop-made g l = Makes (g.H.Host.told l.fn.host) (g.H.Host.told l.host) (g.L.Log.state l.fn.log) (g.L.Log.state l.log)
+invariant-loop-made g l = MakesOver g.E.Edge.state (g.E.Edge.told l.fn.edge) (g.E.Edge.told l.edge) (g.E.Edge.state (g.E.Edge.log l.fn.edge)) (g.E.Edge.state (g.E.Edge.log l.edge))
     (AreSteps l.made) (Tracks l.fn.core) (Tracks l.core)
-    × GrowsBy l.fn.core l.core (g.L.Log.state l.fn.log) (g.L.Log.state l.log)
+    × GrowsBy l.fn.core l.core (g.E.Edge.state (g.E.Edge.log l.fn.edge)) (g.E.Edge.state (g.E.Edge.log l.edge))

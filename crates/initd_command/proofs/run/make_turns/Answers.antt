@@ -6,6 +6,8 @@ use Rattle.initd_options.specs.Options.{run_of}
 use Rattle.core_waiting.specs.Lines.{waiting_text}
 use Rattle.initd_command.specs.Services.{IsNoted, LogEnds, TurnsFrom, end_of, noted_of}
 use Rattle.host_calls.proofs.Record.{Since-map}
+use Rattle.host_trace.specs.Edges.{calls_of}
+use Rattle.host_trace.proofs.Keeping.{Since-untimed}
 use Rattle.init_turns.specs.Arriving.{ServesTurns}
 use Rattle.init_turns.specs.Opening.{LeadsFrom}
 use Rattle.initd_command.proofs.Noted.{is_served, judged_still, noted_over, served_still}
@@ -26,7 +28,8 @@ returns g c =
       c.report_end-status.ensures.status,
       (c.ended_with-served.result, noted, refl, most, asked),
       c.report_end-status.ensures.reported,
-      λ table opens. Since-map _ _ _ _ (c.serve-core.ensures.trace service.level table opens) (λ calls made.
+      λ table opens. Since-untimed _ _ _ _ (Since-map _ _ _ _ (c.serve-core.ensures.trace service.level table opens) (λ mades made.
+          let calls = calls_of mades in
           let leads = subst
           (λ (parts : JudgedBy _ × Notes). LeadsFrom service.level table c.serve-core.result.1 first (record { taken = λ trace. NotesOf parts.1 (reverse trace) × (judged_state state parts.0).taken trace; failed = (state parts.0.log).failed; noted = parts.1.wanted }) calls)
           (sym c.into_parts-judged.ensures) made.1 in
@@ -47,5 +50,5 @@ returns g c =
               ends = refl;
             },
             λ none allowed carried. (over none allowed carried).1,
-          )),
+          ))),
     )

@@ -1,0 +1,57 @@
+-- What an edge tells: each call of its host, and what its log was at that moment. The newest calls stand first.
+use Rattle.std.specs.Prelude.{◌≡◌, IsTrue, List, [], ◌∷◌, Option, Some, None, IfSome}
+use Rattle.init_words.specs.declared.orders.OrderKind.TheVariants as ask
+use Rattle.trace_events.specs.declared.happenings.Happening.TheVariants.{Asked}
+use Rattle.trace_events.specs.declared.steps.Goal.{Goal}
+use Rattle.trace_events.specs.Event.{Event}
+use Rattle.trace_events.specs.Sound.{is_sound}
+use Rattle.trace_log.specs.Logs.{LogState}
+use Rattle.host_calls.specs.declared.calls.Call.TheVariants.{Start, Look, Signal, Announce}
+use Rattle.host_calls.specs.Calls.{HostCall}
+use Rattle.host_trace.specs.Point.{Point, announced, order_for, point_after}
+use Rattle.host_trace.specs.Leads.{Took, are_carried, are_seconds_short, is_allowed}
+
+-- a call with its answer, and the log as it was when the call was made, where that is told
+pub record Made (L : Type 0) : Type 0 where
+  pub call : HostCall
+  pub at : Option L
+
+-- the calls alone
+abbrev pub calls_of : {L : Type 0} → List (Made L) → List HostCall
+calls_of [] = []
+calls_of (made ∷ mades) = made.call ∷ calls_of mades
+
+-- where an edge tells its record now, it told it before, and the record has gained this call, made with this log
+abbrev pub AddsMade : {L : Type 0} → Option (List (Made L)) → Option (List (Made L)) → HostCall → L → Type 0
+AddsMade old new call log = IfSome new (λ all. (before : List (Made _)) × (at : Option _) × (old ≡ Some before)
+    × (all ≡ record { call = call; at = at } ∷ before) × IfSome at (λ then. then ≡ log))
+
+-- what a host tells alone: the calls, and of none how the log was
+abbrev pub untimed_calls : {L : Type 0} → List HostCall → List (Made L)
+untimed_calls [] = []
+untimed_calls (call ∷ calls) = record { call = call; at = None } ∷ untimed_calls calls
+
+abbrev pub untimed : {L : Type 0} → Option (List HostCall) → Option (List (Made L))
+untimed None = None
+untimed (Some calls) = Some (untimed_calls calls)
+
+-- The trace when a call is made, of the one before it: the order that it carries out is in it, and what it announces.
+abbrev pub trace_at : HostCall → List Event → List Event
+trace_at (Start id command reply) past = Asked id ask.Start ∷ past
+trace_at (Look id reply) past = Asked id ask.Look ∷ past
+trace_at (Signal id sent reply) past = Asked id (order_for sent) ∷ past
+trace_at (Announce happening) past = announced happening past
+trace_at _ past = past
+
+-- when the call was made, the log had taken the whole trace, as far as the answers until then were possible, and the
+-- texts that were carried came back as they may; or it had failed
+abbrev pub KeptAt : (Goal → Point → Type 0) → LogState → LogState → HostCall → List HostCall → Type 0
+KeptAt fitted old now call earlier = (goal : Goal) (p : Point) → IsTrue (is_sound goal p.past) → fitted goal p
+    → IsTrue (is_allowed goal (point_after earlier p).past) → IsTrue (are_carried earlier p)
+    → IsTrue (are_seconds_short goal p.past) → Took old now p.past (trace_at call (point_after earlier p).past)
+
+-- so it was at each call of which the log is told
+abbrev pub Kept : {L : Type 0} → (L → LogState) → (Goal → Point → Type 0) → LogState → List (Made L) → Type 0
+Kept state fitted old [] = Unit {0}
+Kept state fitted old (made ∷ earlier) =
+    IfSome made.at (λ log. KeptAt fitted old (state log) made.call (calls_of earlier)) × Kept state fitted old earlier
