@@ -200,9 +200,7 @@ fn last_text(alloc: Global, last: Option<Status>) -> Result<Vec<u8>, AllocError>
     ensures { IfOk result (λ text. text.items ≡ last_text last) }
 {
     match last {
-        Some(Status::Exit(code)) => {
-            numbered(alloc, b" ended with ", u64::from(code), b"\n")
-        }
+        Some(Status::Exit(code)) => { numbered(alloc, b" ended with ", u64::from(code), b"\n") }
         Some(Status::Killed) => Vec::from_slice(alloc, b" was killed\n"),
         None => Vec::from_slice(alloc, b" never ended\n"),
     }

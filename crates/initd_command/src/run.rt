@@ -610,8 +610,8 @@ where
         (L.has_ended result.2) (run_of said.now) table end)) }
 {
     let judged = JudgedLog::new(rt, alloc, log, said.judge);
-    let log = NotedLog::new(alloc, judged, said.result);
-    let mut edge = Joined { host, log };
+    let noted = NotedLog::new(alloc, judged, said.result);
+    let mut edge = Joined { host, log: noted };
     let mut watch = Watcher::new(rt, alloc, said.verbose, said.initctl.as_str());
     let (served, core) = opening.serve(alloc, &mut edge, said.turns, said.drain, &mut watch);
     let Joined { host, log: noted } = edge;

@@ -80,7 +80,11 @@ fn is_run_untold<'a>(
     passes_over(own, edge, UNTOLD.inittab, &Trial::Run(UNTOLD))
 }
 
-fn is_untold<'a>(own: Global, heap: &'a LocalHeap, edge: &mut Joined<MemoryHost<&'a LocalHeap>, ListLog>) -> bool {
+fn is_untold<'a>(
+    own: Global,
+    heap: &'a LocalHeap,
+    edge: &mut Joined<MemoryHost<&'a LocalHeap>, ListLog>,
+) -> bool {
     give_all(own, heap, &mut edge.host, UNTOLD.replies)
         && is_run_untold(own, heap, edge)
         && edge.host.calls().is_none()

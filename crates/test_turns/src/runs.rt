@@ -117,9 +117,7 @@ pub(crate) fn serve_on<A: Allocator + Copy>(
     drain: bool,
 ) -> Served {
     let mut watch = Unwatched {};
-    let served = init_turns::serve(
-        bench.own, bench.core, bench.edge, turns, drain, &mut watch,
-    );
+    let served = init_turns::serve(bench.own, bench.core, bench.edge, turns, drain, &mut watch);
     let Unwatched {} = watch;
     served
 }

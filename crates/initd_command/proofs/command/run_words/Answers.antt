@@ -46,11 +46,19 @@ returns-in-Ok-Version g c =
 pub returns-in-Err-Usage : goal.returns-in-Err-Usage
 returns-in-Err-Usage g c =
     let none : initd_read_of (map string_bytes c.args.words.items) ≡ None = search rules in
-    let reason = c.as_str-reason.result.now in
-    (usage reason, c.report_refused_words.ensures.status, read_ends _ _ _ (usage reason) _ _ none (reason, refl, Keeps-refl (g.W.Write.contents c.args.out.now)),
-      (rw c.usage_for.ensures at c.report_refused_words.ensures.report), asked_by _ _ _ _ (usage reason) _ _ none refl)
+    let reason = c.as_str-reason.result.now in (
+      usage reason,
+      c.report_refused_words.ensures.status,
+      read_ends _ _ _ (usage reason) _ _ none (reason, refl, Keeps-refl (g.W.Write.contents c.args.out.now)),
+      (rw c.usage_for.ensures at c.report_refused_words.ensures.report),
+      asked_by _ _ _ _ (usage reason) _ _ none refl,
+    )
 
 pub returns : goal.returns
-returns g c =
-    (refused no_memory, c.report_memory.ensures.status, inl (refl, Keeps-refl (g.W.Write.contents c.args.out.now)), c.report_memory.ensures.reported,
-      none_asked _ (initd_read_of (map string_bytes c.args.words.items)) _ _)
+returns g c = (
+  refused no_memory,
+  c.report_memory.ensures.status,
+  inl (refl, Keeps-refl (g.W.Write.contents c.args.out.now)),
+  c.report_memory.ensures.reported,
+  none_asked _ (initd_read_of (map string_bytes c.args.words.items)) _ _,
+)

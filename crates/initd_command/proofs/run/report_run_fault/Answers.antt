@@ -17,19 +17,19 @@ pub returns-in-Channel : goal.returns-in-Channel
 returns-in-Channel g c =
     let (reason, reported) = c.report_cannot.ensures.reported in
     reported_as (run_of c.args.said.now) c.args.fault.now (why.Channel c.in-Channel.error) reason _ _ _ c.in-Channel.is c.report_cannot.ensures.status
-        (rw c.as_str-initctl.ensures.value at reported)
+    (rw c.as_str-initctl.ensures.value at reported)
 
 pub returns-in-Inittab : goal.returns-in-Inittab
 returns-in-Inittab g c =
     let (reason, reported) = c.report_cannot-in-Inittab.ensures.reported in
     reported_as (run_of c.args.said.now) c.args.fault.now (why.Inittab c.in-Inittab.error) reason _ _ _ c.in-Inittab.is c.report_cannot-in-Inittab.ensures.status
-        (rw c.as_str.ensures.value at reported)
+    (rw c.as_str.ensures.value at reported)
 
 pub returns-in-Folder : goal.returns-in-Folder
 returns-in-Folder g c =
     let (reason, reported) = c.report_cannot-in-Folder.ensures.reported in
     reported_as (run_of c.args.said.now) c.args.fault.now (why.Folder c.in-Folder.path c.in-Folder.error) reason _ _ _ c.in-Folder.is c.report_cannot-in-Folder.ensures.status
-        (rw c.as_str-in-Folder.ensures.value at reported)
+    (rw c.as_str-in-Folder.ensures.value at reported)
 
 pub returns-in-TooMany : goal.returns-in-TooMany
 returns-in-TooMany g c = reported_as (run_of c.args.said.now) c.args.fault.now why.TooMany [] _ _ _ c.in-TooMany.is c.report_too_many.ensures.status c.report_too_many.ensures.reported
@@ -48,7 +48,7 @@ pub returns-in-Trace : goal.returns-in-Trace
 returns-in-Trace g c =
     let (reason, reported) = c.report_cannot-in-Trace.ensures.reported in
     reported_as (run_of c.args.said.now) c.args.fault.now (why.Trace c.in-Trace.error) reason _ _ _ c.in-Trace.is c.report_cannot-in-Trace.ensures.status
-        (rw c.trace_of.ensures at reported)
+    (rw c.trace_of.ensures at reported)
 
 pub returns-in-Held : goal.returns-in-Held
 returns-in-Held g c = reported_as (run_of c.args.said.now) c.args.fault.now (why.Held c.in-Held.holder) [] _ _ _ c.in-Held.is c.report_busy-in-Held.ensures.status
