@@ -9,7 +9,6 @@ mod shell;
 mod slips;
 mod traps;
 
-pub use command_words::is_slip;
 pub use linting::{Found, Lint, lint_parts, warnings};
 pub use own_lines::id_lines;
 pub use shell::{Operator, operator_of};

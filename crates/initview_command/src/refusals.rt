@@ -6,8 +6,8 @@ ghost use Rattle.program_io.specs.declared.statuses.TheConstants.{REFUSED};
 use crate::asking::takes_value;
 use crate::charting::lines_of;
 use crate::command::USAGE;
+use command_words::is_slip;
 use init_words::{Id, Level};
-use inittab_lint::is_slip;
 use program_io::{REFUSED, report_usage};
 use std::io::Write;
 
