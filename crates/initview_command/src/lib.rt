@@ -8,6 +8,7 @@ mod explaining;
 mod following;
 mod growing;
 mod presence;
+mod programs;
 mod refusals;
 mod reloading;
 mod showing;

@@ -6,8 +6,8 @@ ghost use Rattle.program_io.specs.declared.statuses.TheConstants.{REFUSED};
 use crate::asking::takes_value;
 use crate::charting::lines_of;
 use crate::command::USAGE;
+use command_words::is_slip;
 use init_words::{Id, Level};
-use inittab_lint::is_slip;
 use program_io::{REFUSED, report_usage};
 use std::io::Write;
 
@@ -20,7 +20,7 @@ const COMMANDS: &[(&str, Command)] = &[
     ("left", (&[], 1, 1)),
     ("timeline", (&["--svg", "--width"], 1, 1)),
     ("follow", (&[], 1, 1)),
-    ("lint", (&["--inittab-dir"], 1, usize::MAX)),
+    ("lint", (&["--programs", "--inittab-dir"], 1, usize::MAX)),
     ("diff", (&["--trace", "--level", "--inittab-dir"], 2, 2)),
     ("plan", (&["--level", "--inittab-dir"], 1, usize::MAX)),
 ];

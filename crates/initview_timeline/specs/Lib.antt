@@ -1,9 +1,5 @@
-pub mod Axis
-pub mod Bars
 pub mod Chart
 pub mod Frames
-pub mod Legend
 pub mod Lives
 pub mod Marks
-pub mod Signs
-pub mod Svg
+pub mod Pictures
