@@ -116,7 +116,7 @@ fn has_idle(act: Act, levels: &[u8]) -> bool
 }
 
 /// The process of an entry that starts it.
-pub(crate) fn run_by(act: Act, process: &[u8]) -> &[u8]
+fn run_by(act: Act, process: &[u8]) -> &[u8]
     ensures { result.now ≡ run_by act process.now }
 {
     if act.needs_process() {
@@ -222,7 +222,7 @@ fn add_kinds<A: Allocator>(
 }
 
 /// Nothing, or a comment.
-pub(crate) fn is_ignored(line: &[u8]) -> bool
+fn is_ignored(line: &[u8]) -> bool
     ensures { result ≡ is_ignored line.now }
 {
     match line {

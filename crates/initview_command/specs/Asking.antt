@@ -31,7 +31,7 @@ is_option _ = false
 abbrev pub takes_value : Text → Bool
 takes_value word =
     bytes_eq word (codes "--level") || bytes_eq word (codes "--trace") || bytes_eq word (codes "--width")
-    || bytes_eq word (codes "--inittab-dir") || bytes_eq word (codes "--programs")
+    || bytes_eq word (codes "--inittab-dir")
 
 abbrev pub own_kind : Text → Kind
 own_kind word =
@@ -156,20 +156,13 @@ is_two _ = false
 abbrev pub diff_of : List Text → List Text → Option What
 diff_of options words = if is_two words then diff_by options else None
 
--- [--programs FOLDERS]
-abbrev pub lint_of : List Text → Option What
-lint_of [] = Some (Tables table.Lint)
-lint_of (option ∷ folders ∷ []) =
-    if bytes_eq option (codes "--programs") then Some (Tables table.Programs) else None
-lint_of _ = None
-
--- plan [--level LEVEL] TABLE [FILE..], lint [--programs FOLDERS] TABLE [FILE..]
+-- plan [--level LEVEL] TABLE [FILE..], lint TABLE [FILE..]
 abbrev pub tables_of : Text → List Text → List Text → Option What
 tables_of verb options words =
     if bytes_eq verb (codes "diff") then diff_of options words
     else if is_nil words then None
     else if bytes_eq verb (codes "plan") then option_map (λ level. Tables (table.Plan level)) (level_of options)
-    else if bytes_eq verb (codes "lint") then lint_of options
+    else if bytes_eq verb (codes "lint") && is_nil options then Some (Tables table.Lint)
     else None
 
 -- left TRACE, follow TRACE
@@ -224,7 +217,7 @@ abbrev pub folder_of : List Text → Option Text
 folder_of (option ∷ path ∷ []) = Some path
 folder_of _ = None
 
--- the path of the trace, or the folders of programs; and the paths of the files of inittabs
+-- the path of the trace, and those of the files of inittabs
 abbrev pub second_of : List Text → Text
 second_of (first ∷ second ∷ words) = second
 second_of _ = []
@@ -244,7 +237,6 @@ behind_one [] = []
 abbrev pub trace_of : What → List Text → List Text → Text
 trace_of (Reload level) options words = trace_given options
 trace_of (Explain id) options words = third_of words
-trace_of (Tables question) options words = second_of options
 trace_of _ options words = second_of words
 
 abbrev pub files_of : What → List Text → List Text

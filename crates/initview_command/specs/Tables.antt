@@ -43,11 +43,6 @@ found_status found.Nothing = DONE
 found_status found.Faults = REFUSED
 found_status found.Warnings = 2
 
--- the same, with more warnings behind it
-abbrev pub found_with : List ℕ → Found → ℕ
-found_with (byte ∷ more) found.Nothing = 2
-found_with _ found = found_status found
-
 -- the table of files
 abbrev pub table_in : List NamedText → List Entry
 table_in parts = table_of_texts (texts_of parts)
@@ -67,15 +62,15 @@ plan_by level entries = plan_text (level_asked level entries) entries
 abbrev pub old_of : List NamedText → List NamedText
 old_of parts = take 1 parts ++ drop 2 parts
 
--- a text and an exit status are the answer: of lint with programs, what lint tells and more behind it, by what the file
--- system has
+-- what is written of files, and the exit status
+abbrev pub answer_of : TableQuestion → List NamedText → List ℕ × ℕ
+answer_of table.Lint parts = ((lint_in parts).0, found_status (lint_in parts).1)
+answer_of (table.Diff level) parts = (changes_by level (table_in (old_of parts)) (table_in (drop 1 parts)), DONE)
+answer_of (table.Plan level) parts = (plan_by level (table_in parts), DONE)
+
+-- a text and an exit status are the answer
 abbrev pub IsAnswer : TableQuestion → List NamedText → List ℕ → ℕ → Type 0
-IsAnswer table.Lint parts text status = (text ≡ (lint_in parts).0) × (status ≡ found_status (lint_in parts).1)
-IsAnswer table.Programs parts text status =
-    (more : List ℕ) × (text ≡ (lint_in parts).0 ++ more) × (status ≡ found_with more (lint_in parts).1)
-IsAnswer (table.Diff level) parts text status =
-    (text ≡ changes_by level (table_in (old_of parts)) (table_in (drop 1 parts))) × (status ≡ DONE)
-IsAnswer (table.Plan level) parts text status = (text ≡ plan_by level (table_in parts)) × (status ≡ DONE)
+IsAnswer asked parts text status = (text ≡ (answer_of asked parts).0) × (status ≡ (answer_of asked parts).1)
 
 -- files that are no table: too many, or too long
 abbrev pub AreNone : List NamedText → Type 0
@@ -86,7 +81,6 @@ NoneOf parts = AreNone (old_of parts) ⊎ AreNone (drop 1 parts)
 
 abbrev pub IsRefused : TableQuestion → List NamedText → Type 0
 IsRefused table.Lint parts = AreNone parts
-IsRefused table.Programs parts = AreNone parts
 IsRefused (table.Diff level) parts = NoneOf parts
 IsRefused (table.Plan level) parts = AreNone parts
 
@@ -102,12 +96,11 @@ fault_status fault.Memory = DEVICE_FAULT
 fault_status fault.TooLong = REFUSED
 fault_status fault.Parts = REFUSED
 
--- the answer was written; or memory ran out, or there are too many files, or too long ones, and nothing was written
+-- the answer was written; or there are too many files, or too long ones, and nothing was written
 abbrev pub AnswersOf : TableQuestion → List NamedText → ℕ → Option (List ℕ) → Option (List ℕ) → Type 0
 AnswersOf asked parts status old new =
-    ((text : List ℕ) × (ends : ℕ) × IsAnswer asked parts text ends × Writes text ends status old new)
-    ⊎ (((status ≡ DEVICE_FAULT) × Keeps old new)
-    ⊎ ((status ≡ REFUSED) × IsRefused asked parts × Keeps old new))
+    Writes (answer_of asked parts).0 (answer_of asked parts).1 status old new
+    ⊎ ((status ≡ REFUSED) × IsRefused asked parts × Keeps old new)
 
 -- so of the files at the paths; or one was not read, and nothing was written
 abbrev pub Answers : KnownTexts → List (List ℕ) → Option (List ℕ) → TableQuestion → ℕ → Option (List ℕ)

@@ -26,7 +26,7 @@ pub const USAGE: &str = "usage: initview why [--inittab-dir DIR] ID TRACE [TABLE
        initview left TRACE
        initview timeline [--svg | --width N] TRACE
        initview follow TRACE
-       initview lint [--programs FOLDERS] [--inittab-dir DIR] TABLE [FILE..]
+       initview lint [--inittab-dir DIR] TABLE [FILE..]
        initview diff [--trace TRACE] [--level LEVEL] [--inittab-dir DIR] OLD NEW
        initview plan [--level LEVEL] [--inittab-dir DIR] TABLE [FILE..]
        initview --version
@@ -41,8 +41,7 @@ pub const USAGE: &str = "usage: initview why [--inittab-dir DIR] ID TRACE [TABLE
   follow  print a line for each happening that an operator is told of, also while the trace is
           written, until it is interrupted
   lint    list the faults of an inittab's lines, with what was probably meant, and warnings; the
-          exit status is 1 with faults, 2 with warnings alone; with --programs also warnings of
-          programs that aren't in FOLDERS, as \"$PATH\" of init has them
+          exit status is 1 with faults, 2 with warnings alone
   diff    list what becomes of each entry in a level where the inittab NEW is read in OLD's place;
           with --trace of what runs now, and the exit status is as for status TRACE
   plan    list what init starts on the way to a level, in its order, what it waits for, and the
@@ -131,7 +130,7 @@ fn run_cut<T: Texts, G: GrowingTexts, W: Write, E: Write>(
     }
 }
 
-/// Does what is asked of the trace at a path, or of files and the programs of folders.
+/// Does what is asked of the trace at a path, or of files.
 fn run_asked<T: Texts, G: GrowingTexts, W: Write, E: Write>(
     texts: &T,
     growing: &G,
@@ -159,9 +158,7 @@ fn run_asked<T: Texts, G: GrowingTexts, W: Write, E: Write>(
             show_reload(texts, growing, alloc, path, files, folder, *level, out, err)
         }
         What::Tables(question) => {
-            show_files(
-                texts, growing, alloc, path, files, folder, *question, out, err,
-            )
+            show_files(texts, growing, alloc, files, folder, *question, out, err)
         }
     }
 }

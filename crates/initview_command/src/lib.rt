@@ -8,7 +8,6 @@ mod explaining;
 mod following;
 mod growing;
 mod presence;
-mod programs;
 mod refusals;
 mod reloading;
 mod showing;

@@ -20,7 +20,7 @@ const COMMANDS: &[(&str, Command)] = &[
     ("left", (&[], 1, 1)),
     ("timeline", (&["--svg", "--width"], 1, 1)),
     ("follow", (&[], 1, 1)),
-    ("lint", (&["--programs", "--inittab-dir"], 1, usize::MAX)),
+    ("lint", (&["--inittab-dir"], 1, usize::MAX)),
     ("diff", (&["--trace", "--level", "--inittab-dir"], 2, 2)),
     ("plan", (&["--level", "--inittab-dir"], 1, usize::MAX)),
 ];

@@ -4,15 +4,14 @@ ghost use Rattle.std.specs.Prelude.{◌≡◌, ◌++◌, ◌∷◌, [], map, opt
 ghost use Rattle.program_io.specs.Known.{IsTextAt};
 ghost use Rattle.init_words.specs.Parts.{NamedText};
 ghost use Rattle.initview_command.specs.declared.asking.TableQuestion.TheVariants as table_question;
-ghost use Rattle.initview_command.specs.Tables.{Answers, AnswersOf, AreFiles, AreFilesAt, AreNone, FailsBy, IsAnswer, IsFolderBehind, IsRefused, NoneOf, changes_by, fault_status, found_status, found_with, level_asked, old_of, plan_by, table_in};
+ghost use Rattle.initview_command.specs.Tables.{Answers, AnswersOf, AreFiles, AreFilesAt, AreNone, FailsBy, IsAnswer, IsFolderBehind, IsRefused, NoneOf, changes_by, fault_status, found_status, level_asked, old_of, plan_by, table_in};
 
 use crate::asking::TableQuestion;
 use crate::growing::GrowingTexts;
-use crate::programs::missing;
 use crate::showing::write_answer;
 use crate::telling::report_unread;
 use init_words::{Level, Part};
-use inittab_lint::{Found, Lint, lint_parts};
+use inittab_lint::{Found, lint_parts};
 use inittab_text::{PartFault, Table, TableFault, read_parts};
 use initview_lines::{change_lines, plan_lines};
 use program_io::{DEVICE_FAULT, DONE, REFUSED, Texts};
@@ -160,64 +159,6 @@ fn lint_answer(alloc: Global, parts: &[Part]) -> Result<(Vec<u8>, u8), TableFaul
     }
 }
 
-/// The exit status of what was found, and of warnings behind that.
-fn found_with(more: &[u8], found: Found) -> u8
-    ensures { result ≡ found_with more.now found }
-{
-    match (more, found) {
-        ([_, ..], Found::Nothing) => 2,
-        _ => found_status(found),
-    }
-}
-
-/// What is told and the exit status, with warnings behind it.
-fn with_more(lint: Lint, more: &[u8]) -> Result<(Vec<u8>, u8), AllocError>
-    ensures { IfOk result (λ given. (given.0.items ≡ lint.0 ++ more.now)
-        × (given.1 ≡ found_with more.now lint.1)) }
-{
-    let status = found_with(more, lint.found);
-    let mut text = lint.text;
-    text.extend_from_slice(more)?;
-    Ok((text, status))
-}
-
-/// The same, and behind it warnings of programs that aren't found in folders.
-fn programs_of<G: GrowingTexts>(
-    growing: &G,
-    alloc: Global,
-    folders: &str,
-    parts: &[Part],
-    lint: Lint,
-) -> Result<(Vec<u8>, u8), AllocError>
-    ensures { IfOk result (λ given. (more : List ℕ) × (given.0.items ≡ lint.0 ++ more)
-        × (given.1 ≡ found_with more lint.1)) }
-{
-    let more = missing(growing, alloc, folders, parts)?;
-    let given = with_more(lint, &more)?;
-    Ok(given)
-}
-
-fn programs_answer<G: GrowingTexts>(
-    growing: &G,
-    alloc: Global,
-    folders: &str,
-    parts: &[Part],
-) -> Result<(Vec<u8>, u8), TableFault>
-    ensures told { IfOk result (λ given.
-        IsAnswer table_question.Programs parts.now given.0.items given.1) }
-    ensures fault { IfErr result (FailsBy (AreNone parts.now)) }
-{
-    match lint_parts(alloc, parts) {
-        Ok(lint) => match programs_of(growing, alloc, folders, parts, lint) {
-            Ok(answer) => Ok(answer),
-            Err(_) => Err(TableFault::Memory),
-        },
-        Err(TableFault::Memory) => Err(TableFault::Memory),
-        Err(TableFault::TooLong) => Err(TableFault::TooLong),
-        Err(TableFault::Parts) => Err(TableFault::Parts),
-    }
-}
-
 /// The files behind the first.
 fn behind_first(parts: &[Part]) -> &[Part]
     ensures { result.now ≡ drop 1 parts.now }
@@ -261,10 +202,8 @@ fn plan_of(alloc: Global, level: Option<Level>, table: &Table) -> Result<Vec<u8>
 }
 
 /// What is answered of inittabs, and the exit status.
-fn answer<G: GrowingTexts, E: Write>(
-    growing: &G,
+fn answer<E: Write>(
     alloc: Global,
-    folders: &str,
     question: TableQuestion,
     parts: &mut [Part],
     err: &mut E,
@@ -275,7 +214,6 @@ fn answer<G: GrowingTexts, E: Write>(
 {
     match question {
         TableQuestion::Lint => lint_answer(alloc, parts),
-        TableQuestion::Programs => programs_answer(growing, alloc, folders, parts),
         TableQuestion::Diff(level) => diff_answer(alloc, level, parts, err),
         TableQuestion::Plan(level) => plan_answer(alloc, level, parts, err),
     }
@@ -360,10 +298,8 @@ pub(crate) fn report_fault<E: Write>(fault: TableFault, err: &mut E) -> u8
 }
 
 /// Writes what is answered of inittabs, and gives the exit status.
-fn show_parts<G: GrowingTexts, W: Write, E: Write>(
-    growing: &G,
+fn show_parts<W: Write, E: Write>(
     alloc: Global,
-    folders: &str,
     question: TableQuestion,
     parts: &mut [Part],
     out: &mut W,
@@ -371,7 +307,7 @@ fn show_parts<G: GrowingTexts, W: Write, E: Write>(
 ) -> u8
     ensures { AnswersOf question parts.old result (W.contents out.old) (W.contents out.new) }
 {
-    match answer(growing, alloc, folders, question, parts, err) {
+    match answer(alloc, question, parts, err) {
         Ok((text, status)) => write_answer(&text, status, out, err),
         Err(fault) => report_fault(fault, err),
     }
@@ -382,7 +318,6 @@ pub(crate) fn show_files<T: Texts, G: GrowingTexts, W: Write, E: Write>(
     texts: &T,
     growing: &G,
     alloc: Global,
-    folders: &str,
     paths: &[String],
     folder: Option<&str>,
     question: TableQuestion,
@@ -394,7 +329,7 @@ pub(crate) fn show_files<T: Texts, G: GrowingTexts, W: Write, E: Write>(
         (W.contents out.old) (W.contents out.new) }
 {
     match read_files(texts, growing, alloc, paths, folder, err) {
-        Some(mut parts) => show_parts(growing, alloc, folders, question, &mut parts, out, err),
+        Some(mut parts) => show_parts(alloc, question, &mut parts, out, err),
         None => DEVICE_FAULT,
     }
 }
