@@ -14,7 +14,7 @@ use std::test::Fail;
 use test_support::{Slow, boxed};
 use trace_events::HappeningIn;
 use trace_log::{ListLog, Log, StreamLog};
-use trace_log_wrappers::{LastEnd, NotedLog, RunNotes};
+use trace_log_wrappers::{NotedLog, RunNotes};
 
 const INITTAB: &str = "id:3:initdefault:|r:3:respawn:serv";
 
@@ -164,8 +164,7 @@ fn are_notes(
     notes: &RunNotes<&LocalHeap>,
 ) -> Option<bool> {
     let text = trace_text::print(alloc, list).ok()?;
-    let is_known = notes.last(&Id::read(b"r")?) == LastEnd::Ended(Status::Killed);
-    if text.as_slice() != TRACE || !is_known || notes.last(&Id::read(b"s")?) != LastEnd::Unnoted {
+    if text.as_slice() != TRACE || notes.last() != Some(Status::Killed) {
         return None;
     }
     match notes.running() {
