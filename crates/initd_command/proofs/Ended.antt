@@ -1,14 +1,17 @@
 -- What a run left, where its writer was only flushed since.
-use Rattle.std.proofs.Common.{◌≡◌, refl, sym, ap, subst, ◌∙◌, Result, Ok, Err, IfErr, OnOk, ◌⊎◌, inl, inr, List, [], ℕ, Option, Some, None}
+use Rattle.std.proofs.Common.{◌≡◌, refl, sym, ap, subst, ◌∙◌, Result, Ok, Err, IfErr, OnOk, ◌⊎◌, inl, inr, List, [], ℕ, true, Option, Some, None}
 use Rattle.std.specs.Prelude.{IsSome, unwrap_or}
+use Rattle.std.specs.Result.{IsErrAnd}
 use Rattle.std.specs.Io.KnownBytes.{Keeps}
+use Rattle.program_io.specs.Known.{KnownTexts}
 use Rattle.std.proofs.KnownBytes.{Appends-kept, Keeps-trans}
 use Rattle.simulator.specs.declared.running.SimFault.{SimFault}
 use Rattle.simulator.specs.declared.running.SimFault.TheVariants as fault
 use Rattle.simulator.specs.Simulation.{Done, Ends, Scenario, past_text}
 use Rattle.initd_command.specs.declared.run.RunFault.{RunFault}
 use Rattle.initd_command.specs.Endings.{ReportsObstacle, obstacle_status}
-use Rattle.initd_command.specs.Services.{obstacle_of}
+use Rattle.initd_command.specs.declared.run.Inittab.{Inittab}
+use Rattle.initd_command.specs.Services.{HasInittab, IsInittab, TakesParts, is_taken, obstacle_of, told_of}
 use Rattle.initd_options.specs.Options.{RunSaid}
 
 pub done_kept : (s : Scenario) (old mid new : Option (List ℕ)) → Done s old mid → Keeps mid new → Done s old new
@@ -49,3 +52,13 @@ pub reported_as : (service : RunSaid) (fault given : RunFault) (reason : List �
     → (why : List ℕ) × (status ≡ obstacle_status (obstacle_of service why fault)) × ReportsObstacle (obstacle_of service why fault) old new
 reported_as service fault given reason status old new is by reports =
     (reason, by ∙ ap (λ f. obstacle_status (obstacle_of service reason f)) (sym is), subst (λ f. ReportsObstacle (obstacle_of service reason f) old new) (sym is) reports)
+
+-- an inittab that was read, and that the run takes
+pub read_taken : (text_at : KnownTexts) (service : RunSaid) (read : Inittab) → IsInittab text_at service read → HasInittab text_at service (TakesParts service)
+read_taken text_at service read (parts, are, (readable, told, table), taken) =
+    (parts, are, readable, subst (λ t. is_taken service (told_of parts) t ≡ true) table (subst (λ lines. is_taken service lines read.table ≡ true) told taken))
+
+-- what holds of a fault is so of it handed on
+pub handed_on : {T : Type 0} (r : Result T RunFault) (given : RunFault) (So : RunFault → Type 0) → IsErrAnd r (λ fault. fault ≡ given) → So given → IfErr r So
+handed_on (Ok value) given So is so = tt
+handed_on (Err error) given So is so = subst So (sym is) so

@@ -35,7 +35,7 @@ pub ran_to : (text_at : KnownTexts) (service : RunSaid) (own : List HostCall →
     → Since old.opened new.opened (λ saids. saids ≡ service ∷ [])
     → ((table : List Entry) → IsOpeningOf service.level table opening → RanOver service table end old.calls new.calls)
     → IfSome new.calls own → RanBy text_at service own (told_ending unled end) old new
-ran_to text_at service own opening unled (Some end) old new (parts, are, read, (opens, served, told)) by made is =
+ran_to text_at service own opening unled (Some end) old new (parts, are, read, (opens, (served, told))) by made is =
     ((parts, are, read, (made (table_in parts) opens, told)), by, is)
 ran_to text_at service own opening unled None old new (parts, are, read, (opens, told)) by made is = made (table_in parts) opens
 

@@ -20,7 +20,7 @@ pub returns-clause-ended : goal.returns-clause-ended
 returns-clause-ended g c =
     let service = run_of c.args.said.now in
     let told : Appends (g.W.Write.contents c.args.out.now) (g.W.Write.contents c.tell.new.out) c.deref.result.now = search rules in
-    let (end, now, served, reported, made) = c.make_traced-host.ensures in (
+    let (end, now, served, reported, made) = c.make_traced-status.ensures in (
       Some end,
       now,
       (served, subst (Appends (g.W.Write.contents c.args.out.now) (g.W.Write.contents c.tell.new.out)) c.deref.ensures.value told),

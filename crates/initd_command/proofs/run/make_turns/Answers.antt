@@ -33,7 +33,7 @@ returns g c =
           let leads = subst
           (λ (parts : JudgedBy _ × Notes). LeadsFrom service.level table c.serve-core.result.1 first (record { taken = λ trace. NotesOf parts.1 (reverse trace) × (judged_state state parts.0).taken trace; failed = (state parts.0.log).failed; noted = parts.1.wanted }) calls)
           (sym c.into_parts-judged.ensures) made.1 in
-          let over : (state c.args.log).taken [] → TurnsFrom service.level table calls (λ past. (c.ended_with-served.result.logged ≡ true → IsNoted noted past) × LogEnds (g.L.EndedLog.has_ended c.end-left.result.0) c.ended_with-served.result.logged (reverse past)) =
+          let over : (state c.args.log).taken [] → TurnsFrom service.level table calls (λ past. (c.ended_with-served.result.logged ≡ true → IsNoted service.result noted past) × LogEnds (g.L.EndedLog.has_ended c.end-left.result.0) c.ended_with-served.result.logged (reverse past)) =
           λ none. noted_over (g.L.EndedLog.has_ended c.end-left.result.0) (FindsBy judged.judge judged.judgement) (state judged.log).taken notes c.judgement-found.result (state judged.log).failed c.end-left.result.1
           c.serve-core.result.1 first service service.level table c.serve-core.result.0 c.ended_with-served.result c.judgement_for-judgement.result calls
           c.ended_with-served.ensures c.judgement_for-judgement.ensures (c.new-noted.ensures.nothing (c.new-judged.ensures.nothing none)) c.new-noted.ensures.wanted logged

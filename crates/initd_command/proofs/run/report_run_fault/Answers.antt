@@ -38,7 +38,7 @@ pub returns-in-TooLong : goal.returns-in-TooLong
 returns-in-TooLong g c = reported_as (run_of c.args.said.now) c.args.fault.now why.TooLong [] _ _ _ c.in-TooLong.is c.report_fault.ensures.status c.report_fault.ensures.reported
 
 pub returns-in-Flawed : goal.returns-in-Flawed
-returns-in-Flawed g c = reported_as (run_of c.args.said.now) c.args.fault.now (why.Flawed c.in-Flawed.lines) [] _ _ _ c.in-Flawed.is c.report_flawed.ensures.status
+returns-in-Flawed g c = reported_as (run_of c.args.said.now) c.args.fault.now (why.Flawed c.in-Flawed.faults) [] _ _ _ c.in-Flawed.is c.report_flawed.ensures.status
     (rw c.deref.ensures.value at c.report_flawed.ensures.reported)
 
 pub returns-in-Unlisted : goal.returns-in-Unlisted
