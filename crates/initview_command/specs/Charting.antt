@@ -3,6 +3,7 @@ use Rattle.std.specs.Prelude.{ℕ, ◌+◌, nat_le, if◌then◌else◌, List, O
 use Rattle.text_lines.specs.Numbers.{number_read}
 use Rattle.trace_events.specs.Event.{Event}
 use Rattle.initview_timeline.specs.Chart.{chart_text}
+use Rattle.initview_timeline.specs.Svg.{svg_text}
 use Rattle.initview_command.specs.declared.charting.Form.{Form}
 use Rattle.initview_command.specs.declared.charting.Form.TheVariants.{Lines, Svg}
 use Rattle.initview_command.specs.declared.charting.TheConstants.{WIDTH_LEAST, WIDTH_LIMIT}
@@ -18,7 +19,7 @@ lines_by None = None
 abbrev pub lines_of : List ℕ → Option Form
 lines_of word = lines_by (number_read (WIDTH_LIMIT + 1) word)
 
--- what is drawn of a trace; how a picture is written isn't said
-abbrev pub drawing : Form → List Event → Option (List ℕ)
-drawing (Lines width) past = Some (chart_text width past)
-drawing Svg past = None
+-- what is drawn of a trace
+abbrev pub drawing : Form → List Event → List ℕ
+drawing (Lines width) past = chart_text width past
+drawing Svg past = svg_text past

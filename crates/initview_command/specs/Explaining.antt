@@ -1,5 +1,5 @@
 -- What is written of the reason that keeps an entry from its start.
-use Rattle.std.specs.Prelude.{◌≡◌, ◌⊎◌, ℕ, List, [], ◌∷◌, ◌++◌, Option, Some, None}
+use Rattle.std.specs.Prelude.{◌≡◌, ◌⊎◌, ℕ, List, [], ◌∷◌, ◌++◌, Option, None}
 use Rattle.std.specs.Io.KnownBytes.{Keeps}
 use Rattle.program_io.specs.declared.statuses.TheConstants.{REFUSED, DEVICE_FAULT}
 use Rattle.program_io.specs.Known.{KnownTexts}
@@ -31,9 +31,9 @@ line_by _ line = line
 abbrev pub explanation : List ℕ → List ℕ → List ℕ → Option ℕ → List Event → List ℕ
 explanation path id told line now = why_text id path (line_by (why id now) line) now ++ told
 
-abbrev pub explained : List ℕ → List ℕ → List ℕ → Writer → Option Stop → List Event → Option (List ℕ) × ℕ
+abbrev pub explained : List ℕ → List ℕ → List ℕ → Writer → Option Stop → List Event → List ℕ × ℕ
 explained path id told writer stop past =
-    (Some (explanation path id told (line_at_fault id (why id past) past) (present writer stop past)), stop_status stop)
+    (explanation path id told (line_at_fault id (why id past) past) (present writer stop past), stop_status stop)
 
 -- so of the trace at the path, with the inittab of these files; or they are too many or too long, or memory ran out, and
 -- nothing was written

@@ -1,5 +1,5 @@
 -- What is written of an inittab that init reads behind a trace.
-use Rattle.std.specs.Prelude.{◌≡◌, ◌⊎◌, ℕ, List, drop, Option, Some}
+use Rattle.std.specs.Prelude.{◌≡◌, ◌⊎◌, ℕ, List, drop, Option}
 use Rattle.std.specs.Io.KnownBytes.{Keeps}
 use Rattle.program_io.specs.declared.statuses.TheConstants.{REFUSED, DEVICE_FAULT}
 use Rattle.program_io.specs.Known.{KnownTexts}
@@ -17,8 +17,8 @@ use Rattle.trace_view.specs.declared.text_views.Stop.{Stop}
 abbrev pub reload_said : List Entry → List Entry → Option Level → List Event → List ℕ
 reload_said old new level past = reload_text old (reloaded new level past)
 
-abbrev pub reload_answer : List Entry → List Entry → Option Level → Option Stop → List Event → Option (List ℕ) × ℕ
-reload_answer old new level stop past = (Some (reload_said old new level past), stop_status stop)
+abbrev pub reload_answer : List Entry → List Entry → Option Level → Option Stop → List Event → List ℕ × ℕ
+reload_answer old new level stop past = (reload_said old new level past, stop_status stop)
 
 -- so of the tables of two files, the old inittab and the new one; or one is too long or memory ran out, and nothing was
 -- written

@@ -1,5 +1,5 @@
 -- What is written of a trace, and the exit status.
-use Rattle.std.specs.Prelude.{◌≡◌, ◌⊎◌, ℕ, Bool, true, false, if◌then◌else◌, List, reverse, Option, Some, None, is_some, IfSome}
+use Rattle.std.specs.Prelude.{◌≡◌, ◌⊎◌, ℕ, Bool, true, false, if◌then◌else◌, List, reverse, Option, Some, None, is_some}
 use Rattle.std.specs.Io.KnownBytes.{Appends, Keeps}
 use Rattle.program_io.specs.Writing.{AppendsPrefix}
 use Rattle.program_io.specs.declared.statuses.TheConstants.{DONE, REFUSED, UNLAWFUL, DEVICE_FAULT}
@@ -50,36 +50,31 @@ status_by (question.Row id shape) writer stop past = row_status id writer stop p
 status_by _ writer stop past = stop_status stop
 
 -- the answer and the exit status, of a trace as it stands by now
-abbrev pub answer_by : Question → Writer → Option Stop → List Event → Option (List ℕ) × ℕ
+abbrev pub answer_by : Question → Writer → Option Stop → List Event → List ℕ × ℕ
 answer_by question writer stop past =
-    (Some (said question (present writer stop past)), status_by question writer stop (present writer stop past))
+    (said question (present writer stop past), status_by question writer stop (present writer stop past))
 
 -- the text was written, and the exit status is this; or the output failed or memory ran out, and a part of it was written
 abbrev pub Writes : List ℕ → ℕ → ℕ → Option (List ℕ) → Option (List ℕ) → Type 0
 Writes text ends status old new =
     ((status ≡ ends) × Appends old new text) ⊎ ((status ≡ DEVICE_FAULT) × AppendsPrefix old new text)
 
--- so of a text that is known, or of any other where none is
-abbrev pub WritesKnown : Option (List ℕ) → ℕ → ℕ → Option (List ℕ) → Option (List ℕ) → Type 0
-WritesKnown known ends status old new =
-    (text : List ℕ) × IfSome known (λ said. text ≡ said) × Writes text ends status old new
-
 -- so of an answer and its exit status; a text that begins within a run is refused, and nothing was written
 abbrev pub is_within : Option Stop → Bool
 is_within (Some Within) = true
 is_within _ = false
 
-abbrev pub ShowsBy : Bool → Option (List ℕ) × ℕ → ℕ → Option (List ℕ) → Option (List ℕ) → Type 0
+abbrev pub ShowsBy : Bool → List ℕ × ℕ → ℕ → Option (List ℕ) → Option (List ℕ) → Type 0
 ShowsBy true answer status old new = (status ≡ REFUSED) × Keeps old new
-ShowsBy false answer status old new = WritesKnown answer.0 answer.1 status old new
+ShowsBy false answer status old new = Writes answer.0 answer.1 status old new
 
-abbrev pub ShowsOf : Option Stop → Option (List ℕ) × ℕ → ℕ → Option (List ℕ) → Option (List ℕ) → Type 0
+abbrev pub ShowsOf : Option Stop → List ℕ × ℕ → ℕ → Option (List ℕ) → Option (List ℕ) → Type 0
 ShowsOf stop answer status old new = ShowsBy (is_within stop) answer status old new
 
 -- so of what a view shows of the text at the path, which breaks no law, and is written by whom its lock names; or it
 -- was not read, and nothing was written
-abbrev pub Shows : KnownTexts → KnownWriters → List ℕ → (Writer → Option Stop → List Event → Option (List ℕ) × ℕ)
-    → ℕ → Option (List ℕ) → Option (List ℕ) → Type 0
+abbrev pub Shows : KnownTexts → KnownWriters → List ℕ → (Writer → Option Stop → List Event → List ℕ × ℕ) → ℕ
+    → Option (List ℕ) → Option (List ℕ) → Type 0
 Shows text_at writers path gives status old new =
     ((text : List ℕ) × (writer : Writer) × (stop : Option Stop) × (left : Option ℕ) × (trace : List Event)
     × IsTextAt text_at path text × IsWriterAt writers path writer

@@ -1,10 +1,11 @@
 //! The timeline of a trace, asked for.
 
-ghost use Rattle.std.specs.Prelude.{◌≡◌, List, IfOk, IfSome};
+ghost use Rattle.std.specs.Prelude.{◌≡◌, List, IfOk};
 ghost use Rattle.trace_events.specs.Event.{Event};
 ghost use Rattle.trace_view.specs.Viewing.{Viewed};
 ghost use Rattle.initview_timeline.specs.Chart.{chart_text};
 ghost use Rattle.initview_timeline.specs.Marks.{marks_of};
+ghost use Rattle.initview_timeline.specs.Svg.{svg_text};
 ghost use Rattle.initview_command.specs.Charting.{drawing, lines_of};
 
 use crate::growing::Writer;
@@ -56,15 +57,22 @@ fn draw_lines(
     Ok(text)
 }
 
+fn draw_picture(alloc: Global, marks: &[Mark], view: &TraceView) -> Result<Vec<u8>, AllocError>
+    ensures { IfOk result (λ text. (past : List Event) → Viewed view.now past
+        → marks.now ≡ marks_of past → text.items ≡ svg_text past) }
+{
+    let text = svg_text(alloc, marks, view.time())?;
+    Ok(text)
+}
+
 /// A timeline, drawn.
 fn draw(alloc: Global, form: Form, marks: &[Mark], view: &TraceView) -> Result<Vec<u8>, AllocError>
     ensures { IfOk result (λ text. (past : List Event) → Viewed view.now past
-        → marks.now ≡ marks_of past
-        → IfSome (drawing form past) (λ drawn. text.items ≡ drawn)) }
+        → marks.now ≡ marks_of past → text.items ≡ drawing form past) }
 {
     match form {
         Form::Lines(width) => draw_lines(alloc, width, marks, view),
-        Form::Svg => svg_text(alloc, marks, view.time()),
+        Form::Svg => draw_picture(alloc, marks, view),
     }
 }
 

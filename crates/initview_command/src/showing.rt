@@ -1,6 +1,6 @@
 //! What is asked of a trace, answered and written.
 
-ghost use Rattle.std.specs.Prelude.{◌≡◌, List, ℕ, [], Option, IfOk, IfSome};
+ghost use Rattle.std.specs.Prelude.{◌≡◌, List, ℕ, [], Option, IfOk};
 ghost use Rattle.trace_events.specs.Event.{Event};
 ghost use Rattle.trace_view.specs.SeenTexts.{HasSeenText};
 ghost use Rattle.trace_view.specs.Viewing.{Viewed};
@@ -24,9 +24,9 @@ pub(crate) trait Asks {
     /// What sees the happenings for it.
     type Seen: Sees<Global> + Drop;
 
-    /// What is written, where that is known, and the exit status, by the path of the trace, who writes it, why it is shown no further, and its
+    /// What is written and the exit status, by the path of the trace, who writes it, why it is shown no further, and its
     /// past.
-    ghost gives: { Self → List ℕ → Writer → Option Stop → List Event → Option (List ℕ) × ℕ };
+    ghost gives: { Self → List ℕ → Writer → Option Stop → List Event → List ℕ × ℕ };
 
     /// Whether it is told that nobody writes the trace.
     fn asks_writer(&self) -> bool;
@@ -46,7 +46,7 @@ pub(crate) trait Asks {
     ) -> Result<(Vec<u8>, u8), Memory>
         ensures { IfOk result (λ given. (past : List Event) → Viewed text.old.viewing.viewing past
             → Self.Seen.has_seen text.old.seen past
-            → IfSome (gives self.now path.now writer stop past).0 (λ said. given.0.items ≡ said)
+            → (given.0.items ≡ (gives self.now path.now writer stop past).0)
             × (given.1 ≡ (gives self.now path.now writer stop past).1)) };
 }
 

@@ -1,5 +1,9 @@
+pub mod Axis
+pub mod Bars
 pub mod Chart
 pub mod Frames
+pub mod Legend
 pub mod Lives
 pub mod Marks
-pub mod Pictures
+pub mod Signs
+pub mod Svg

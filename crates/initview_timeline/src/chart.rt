@@ -98,14 +98,28 @@ fn lives_in(frame: Frame, column: u64, life: &Life) -> bool
 fn any_lives_in(frame: Frame, column: u64, lives: &[Life]) -> bool
     ensures { result ≡ list_any (lives_in frame column) lives.now }
 {
-    lives.iter().any(|life| lives_in(frame, column, life))
+    let mut rest = lives;
+    while let Some((life, others)) = rest.split_first() {
+        if lives_in(frame, column, life) {
+            return true;
+        }
+        rest = others;
+    }
+    false
 }
 
 /// One of the marks is a birth in a column.
 fn any_born_in(frame: Frame, column: u64, marks: &[Mark]) -> bool
     ensures { result ≡ list_any (is_born_in frame column) marks.now }
 {
-    marks.iter().any(|mark| is_born_in(frame, column, mark))
+    let mut rest = marks;
+    while let Some((mark, others)) = rest.split_first() {
+        if is_born_in(frame, column, mark) {
+            return true;
+        }
+        rest = others;
+    }
+    false
 }
 
 /// A birth in a column, a child that lives in it, or none.

@@ -2,17 +2,17 @@
 //! over the trace's time, as lines of text or as a picture.
 #![tactic(auto)]
 
+mod axis;
+mod bars;
 mod chart;
 mod frames;
+mod legend;
 mod lives;
 mod looks;
 mod marks;
-mod pictures;
+mod signs;
 mod svg;
 
 pub use chart::chart_lines;
-pub use frames::Frame;
-pub use lives::{Life, StageSpan};
 pub use marks::{Mark, Marks, Shown};
-pub use pictures::{Extent, Shape, picture};
 pub use svg::svg_text;
