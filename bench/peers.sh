@@ -60,7 +60,7 @@ rooted() {
 }
 for init in $inits; do rooted "$init"; done
 
-# entry INIT NUMBER ACTION PROCESS: a line of its inittab, in level 3.
+# entry INIT NUMBER ACTION PROCESS: a line of its inittab, in level 3. busybox takes two lines of one process for one.
 entry() {
     case $1 in
     busybox) echo "::$3:$4" ;;
@@ -102,7 +102,7 @@ head_of() { [ "$1" = busybox ] || echo id:3:initdefault:; }
 
 # Each measure prints its number for one init.
 chain() {
-    { head_of "$1"; for n in $(seq 100); do entry "$1" "$n" wait /bin/true; done; entry "$1" 999 wait "/bin/touch /tmp/done"; entry "$1" 1000 respawn "/bin/sleep 600"; } >"$own/$1/etc/inittab"
+    { head_of "$1"; for n in $(seq 100); do entry "$1" "$n" wait "/bin/true $n"; done; entry "$1" 999 wait "/bin/touch /tmp/done"; entry "$1" 1000 respawn "/bin/sleep 600"; } >"$own/$1/etc/inittab"
     local begin; begin=$(now)
     begun "$1"
     until_so test -e "$own/$1/tmp/done"
@@ -110,7 +110,7 @@ chain() {
     over
 }
 starts() {
-    { head_of "$1"; for n in $(seq 500); do entry "$1" "$n" once "/bin/sleep 600"; done; } >"$own/$1/etc/inittab"
+    { head_of "$1"; for n in $(seq 500); do entry "$1" "$n" once "/bin/sleep $((600 + n))"; done; } >"$own/$1/etc/inittab"
     local begin; begin=$(now)
     begun "$1"
     until_so has_children 500
@@ -121,7 +121,7 @@ starts() {
 }
 starts_cpu() { starts "$1" >/dev/null; cat "$own/cpu"; }
 rests() {
-    { head_of "$1"; for n in $(seq 10); do entry "$1" "$n" respawn "/bin/sleep 600"; done; } >"$own/$1/etc/inittab"
+    { head_of "$1"; for n in $(seq 10); do entry "$1" "$n" respawn "/bin/sleep $((600 + n))"; done; } >"$own/$1/etc/inittab"
     begun "$1"
     until_so has_children 10
     sleep 3
