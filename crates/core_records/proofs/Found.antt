@@ -58,6 +58,13 @@ ids-changed id change keeps (slot ∷ slots) = grind (arith, ids-changed id chan
 pub looked_up : (id : List ℕ) (kept : Kept) (slots : List RecordState) → IsOwn kept → values_of kept ≡ slots → lookup (same_id id) kept ≡ record_by_id id slots
 looked_up id kept slots own is = lookup-find (λ (s : RecordState). s.id) (same_id id) kept own ∙ ap (record_by_id id) is
 
+-- so is the place that the map has
+pub placed : (id : List ℕ) (kept : Kept) (slots : List RecordState) → IsOwn kept → values_of kept ≡ slots
+    → (found : Option ℕ) → IfSome found (λ i. slice_get (values_of kept) i ≡ lookup (same_id id) kept)
+    → IfSome found (λ i. slice_get slots i ≡ record_by_id id slots)
+placed id kept slots own is None h = tt
+placed id kept slots own is (Some i) h = ap (λ s. slice_get s i) (sym is) ∙ h ∙ looked_up id kept slots own is
+
 -- the record at a place
 pub at_place : (kept : Kept) (place : ℕ) (id : List ℕ) (slot : RecordState) → Some (id, slot) ≡ slice_get kept place → Some slot ≡ slice_get (values_of kept) place
 at_place [] place id slot is = absurd (cc)

@@ -1,6 +1,7 @@
 pub mod Adopted
 pub mod Changed
 pub mod Counted
+pub mod Forgotten
 pub mod Found
 pub mod Indexes
 pub mod Keys

@@ -54,6 +54,14 @@ passes test (Some c) = if test c then 1 else 0
 abbrev pub without_id : List ℕ → List Keyed → List Keyed
 without_id id cs = filter (λ (c : Keyed). not (same_id id c.id)) cs
 
+-- how many are of an id, and that there is one and it is
+abbrev pub count_for : List ℕ → List Keyed → ℕ
+count_for id cs = count_by (λ (c : Keyed). same_id id c.id) cs
+
+abbrev pub is_for : List ℕ → Option Keyed → Bool
+is_for id None = false
+is_for id (Some c) = same_id id c.id
+
 -- an answer after which the id may have another child, or none, and one after which its stop may be another
 abbrev pub moves_child : Answer → Bool
 moves_child (Born number) = true

@@ -5,7 +5,7 @@ ghost use Rattle.std.specs.List.{count_by};
 ghost use Rattle.std.specs.List.Sorted.{IsPartitionPoint};
 ghost use Rattle.std.specs.Vec.{vec_capacity};
 ghost use Rattle.core_records.specs.declared.index.Keyed.{Keyed};
-ghost use Rattle.core_records.specs.Indexing.{are_sorted, child_of, termed_of, passes, without_id, moves_child, moves_stop, is_at, first_key, IsFound, IsIndex};
+ghost use Rattle.core_records.specs.Indexing.{are_sorted, child_of, termed_of, passes, without_id, moves_child, moves_stop, is_at, is_for, count_for, first_key, IsFound, IsIndex};
 
 use crate::children::Stop;
 use crate::record::Record;
@@ -120,14 +120,33 @@ pub(crate) fn make_room<A: Allocator>(
     Ok(())
 }
 
-/// Takes out the item of an id.
-pub(crate) fn forget<A: Allocator>(items: &mut Vec<Keyed, A>, id: Id)
-    requires { are_sorted items.old.items ≡ true }
-    ensures items { items.new.items ≡ without_id id items.old.items }
+/// The item at the place is that of the id.
+fn is_for(items: &[Keyed], place: usize, id: &Id) -> bool
+    ensures { result ≡ is_for id.now (slice_get items.now place) }
+{
+    match items.get(place) {
+        Some(item) => *id == item.id,
+        None => false,
+    }
+}
+
+/// Takes out the item of an id, which is this one, if it has one.
+pub(crate) fn forget<A: Allocator>(items: &mut Vec<Keyed, A>, id: &Id, item: Option<Keyed>)
+    requires sorted { are_sorted items.old.items ≡ true }
+    requires one { count_for id.now items.old.items ≡ passes (λ _. true) item }
+    ensures items { items.new.items ≡ without_id id.now items.old.items }
     ensures sorted { are_sorted items.new.items ≡ true }
     ensures room { vec_capacity items.new ≡ vec_capacity items.old }
 {
-    items.retain(|item: &Keyed| item.id != id);
+    let Some(item) = item else {
+        return;
+    };
+    let place = first_from(items.as_slice(), item.key);
+    if place >= items.len() || !is_for(items.as_slice(), place, id) {
+        items.retain(|item: &Keyed| item.id != *id);
+        return;
+    }
+    let _ = items.remove(place);
 }
 
 /// Puts in an item, if it is one, where there is room. It takes no memory.
@@ -153,9 +172,11 @@ pub(crate) fn note<A: Allocator>(
     items: &mut Vec<Keyed, A>,
     id: &Id,
     moves: bool,
+    before: Option<Keyed>,
     item: Option<Keyed>,
 )
     requires sorted { are_sorted items.old.items ≡ true }
+    requires one { count_for id.now items.old.items ≡ passes (λ _. true) before }
     requires room { length (without_id id.now items.old.items) + passes (λ _. true) item
         ≤ vec_capacity items.old }
     ensures counts { (test : Keyed → Bool) → count_by test items.new.items
@@ -166,7 +187,7 @@ pub(crate) fn note<A: Allocator>(
     ensures room { vec_capacity items.old ≤ vec_capacity items.new }
 {
     if moves {
-        forget(items, *id);
+        forget(items, id, before);
         put(items, item);
     }
 }

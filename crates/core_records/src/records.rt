@@ -128,6 +128,15 @@ impl<A: Allocator> Records<A> {
         self.records.get(id)
     }
 
+    /// The place of the record of an id, counted from 0 in record order.
+    pub fn place_of(&self, id: &Id) -> Option<usize>
+        ensures found { is_some result ≡ has_record_of id.now self.now }
+        ensures place { IfSome result (λ place.
+            slice_get self.now place ≡ record_by_id id.now self.now) }
+    {
+        self.records.get_index_of(id)
+    }
+
     /// The id of the first record whose child has the number.
     pub fn by_child(&self, number: ChildNumber) -> Option<Id>
         ensures { result ≡ id_of_child number self.now }
@@ -278,21 +287,37 @@ impl<A: Allocator> Records<A> {
             unreachable!()
         };
         self.counts.subtract(Counts::of(slot));
+        let old_child = child_of(slot);
+        let old_termed = termed_of(slot);
         slot.note_answer(answer, now);
         self.counts.add(Counts::of(slot));
         let child = child_of(slot);
         let termed = termed_of(slot);
-        note(&mut self.children, &id, moves_child(&answer), child);
-        note(&mut self.termed, &id, moves_stop(&answer), termed);
+        note(
+            &mut self.children,
+            &id,
+            moves_child(&answer),
+            old_child,
+            child,
+        );
+        note(
+            &mut self.termed,
+            &id,
+            moves_stop(&answer),
+            old_termed,
+            termed,
+        );
     }
 
     fn remove(&mut self, id: Id)
         ensures { self.new ≡ without id self.old }
     {
+        // `len` says that no id has two records, as `shift_remove` doesn't.
+        let _ = self.records.len();
         if let Some(slot) = self.records.shift_remove(&id) {
             self.counts.subtract(Counts::of(&slot));
-            forget(&mut self.children, id);
-            forget(&mut self.termed, id);
+            forget(&mut self.children, &id, child_of(&slot));
+            forget(&mut self.termed, &id, termed_of(&slot));
         }
     }
 

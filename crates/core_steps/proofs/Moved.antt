@@ -1,22 +1,24 @@
 -- Orders, answers, calls and rounds leave seen what was seen, and passed what was passed.
-use Rattle.core_steps.proofs.Words.{◌≡◌, refl, sym, ap, ◌∙◌, subst, Bool, true, false, not, ◌&&◌, ◌||◌, cond, ℕ, zero, suc, List, [], ◌∷◌, map, Option, Some, None, is_some, is_none, Result, Ok, Err, list_any, and_parts, and_from, or_left, or_right, true≢false, false≢true, Entry, Stage, Start, Look, Term, Kill, Answer, Refusal, WrongAnswer, has_id, RecordState, after_order, after_hold, after_begin_round, after_answer, can_be_asked, is_record_of, are_distinct, record_by_id, can_ask_of, can_ask, order_of, order_in, refusal_of, is_over_of, with_changed, after_told, is_wanted_record, is_owed_record, called_if, with_called, Each, each_always, each_less, each_own, is_seen_record, are_seen, is_passed_record, is_passed_in, are_passed, is_place, brings_nothing}
+use Rattle.core_steps.proofs.Words.{◌≡◌, ◌≢◌, refl, sym, ap, ◌∙◌, subst, Bool, true, false, not, ◌&&◌, ◌||◌, ◌==◌, ◌-◌, arith, cond, ℕ, zero, suc, List, [], ◌∷◌, map, zip, take-nil, slice_get, Option, Some, None, is_some, is_none, list_any, and_parts, and_from, or_parts, or_left, or_right, true≢false, false≢true, Entry, Stage, Start, Look, Term, Kill, Answer, has_id, RecordState, IsInOrder, after_order, after_hold, after_begin_round, after_answer, is_record_of, are_distinct, record_by_id, has_record_of, can_ask_of, can_ask, is_over_of, changed, with_changed, after_told, called_if, with_called, each_always, is_seen_record, are_seen, is_passed_in, is_passed_at, ArePassed, AllBut, Places}
+use Rattle.std.specs.Option.{option_map_or}
 use Rattle.init_words.specs.declared.orders.OrderKind.{OrderKind}
 use Rattle.init_words.specs.declared.orders.Answer.TheVariants.{Born, NotBorn, Ended, Alive, NoLook, Hit, Miss}
-use Rattle.init_words.specs.Orders.{same_ask, answers}
-use Rattle.init_words.specs.Entries.{waited_of}
-use Rattle.trace_events.specs.Wanted.{is_order}
-use Rattle.core_records.proofs.Found.{is_listed, others, rest_distinct}
-use Rattle.core_model.proofs.RuledAnswer.{is_answered}
-use Rattle.core_model.proofs.RuledTold.{found_with}
-use Rattle.core_steps.proofs.Places.{KeepsSeen, KeepsPassed, seen_map, passed_map, seen_changed, passed_changed}
+use Rattle.core_records.specs.Changes.{is_over}
+use Rattle.core_records.specs.Lists.{is_over_in, without}
+use Rattle.core_records.proofs.Found.{is_listed, others, rest_distinct, unchanged}
+use Rattle.core_steps.proofs.Places.{KeepsSeen, KeepsPassed, seen_map, seen_changed, all_passed_map, all_but}
+
+-- the record at the place is that of the id
+abbrev pub is_place : List ℕ → ℕ → List RecordState → Bool
+is_place id place slots = option_map_or (is_record_of id) (slice_get slots place) false
 
 -- rounds, holds and calls
 nudge_passes : (stage : Option Stage) (slot : RecordState) → KeepsPassed stage after_begin_round slot
 nudge_passes None slot e h = refl
 nudge_passes (Some stage) slot e h = h
 
-pub passed_nudged : (stage : Option Stage) (table : List Entry) (slots : List RecordState) (i : ℕ) → are_passed stage i table slots ≡ true → are_passed stage i table (map after_begin_round slots) ≡ true
-passed_nudged stage table slots i passed = passed_map stage after_begin_round table slots i (each_always (KeepsPassed stage after_begin_round) (nudge_passes stage) slots) passed
+pub passed_nudged : (stage : Option Stage) (table : List Entry) (slots : List RecordState) (places : Places) → ArePassed stage places table slots → ArePassed stage places table (map after_begin_round slots)
+passed_nudged stage table slots places passed = all_passed_map stage after_begin_round table slots places (nudge_passes stage) passed
 
 hold_passes : (stage : Option Stage) (now : ℕ) (slot : RecordState) → KeepsPassed stage (after_hold now) slot
 hold_passes None now slot e h = refl
@@ -25,8 +27,12 @@ hold_passes (Some stage) now slot e h = h
 pub seen_held : (id : List ℕ) (now : ℕ) (slots : List RecordState) (i : ℕ) → are_seen i slots ≡ true → are_seen i (with_changed id (after_hold now) slots) ≡ true
 seen_held id now slots i seen = seen_changed id (after_hold now) slots i (λ slot h. h) seen
 
-pub passed_held : (stage : Option Stage) (id : List ℕ) (now : ℕ) (table : List Entry) (slots : List RecordState) (i : ℕ) → are_passed stage i table slots ≡ true → are_passed stage i table (with_changed id (after_hold now) slots) ≡ true
-passed_held stage id now table slots i passed = passed_changed stage id (after_hold now) table slots i (each_always (λ slot. is_record_of id slot ≡ true → KeepsPassed stage (after_hold now) slot) (λ slot own. hold_passes stage now slot) slots) passed
+pub passed_held : (stage : Option Stage) (id : List ℕ) (now : ℕ) (table : List Entry) (slots : List RecordState) (places : Places) → ArePassed stage places table slots → ArePassed stage places table (with_changed id (after_hold now) slots)
+passed_held stage id now table slots places passed = all_passed_map stage (changed id (after_hold now)) table slots places (λ slot e h. at slot e (is_record_of id slot) h) passed
+  where
+    at : (slot : RecordState) (e : Entry) (b : Bool) → is_passed_in stage e slot ≡ true → is_passed_in stage e (cond b (after_hold now slot) slot) ≡ true
+    at slot e true h = hold_passes stage now slot e h
+    at slot e false h = h
 
 call_seen : (b : Bool) (slot : RecordState) → is_seen_record slot ≡ true → is_seen_record (called_if b slot) ≡ true
 call_seen true slot h = h
@@ -52,35 +58,7 @@ order_seen Kill now slot h = h
 pub seen_ordered : (id : List ℕ) (ask : OrderKind) (now : ℕ) (slots : List RecordState) (i : ℕ) → are_seen i slots ≡ true → are_seen i (with_changed id (after_order ask now) slots) ≡ true
 seen_ordered id ask now slots i seen = seen_changed id (after_order ask now) slots i (order_seen ask now) seen
 
--- of an order that is open it only counts whether it is a start
-order_same : (stage : Stage) (e : Entry) (slot : RecordState) (order : Option OrderKind) → is_order Start order ≡ is_order Start slot.order → is_passed_record stage e (record slot { order = order }) ≡ is_passed_record stage e slot
-order_same stage e slot order is = rw is refl
-
-no_order : (order : Option OrderKind) → is_none order ≡ true → is_order Start order ≡ false
-no_order None h = refl
-no_order (Some ask) h = absurd (false≢true h)
-
-order_passes : (stage : Option Stage) (ask : OrderKind) (now : ℕ) (slot : RecordState) → same_ask Start ask ≡ false → is_none slot.order ≡ true → KeepsPassed stage (after_order ask now) slot
-order_passes None ask now slot other free e h = refl
-order_passes (Some stage) Start now slot other free e h = absurd (true≢false other)
-order_passes (Some stage) Look now slot other free e h = order_same stage e slot (Some Look) (sym (no_order slot.order free)) ∙ h
-order_passes (Some stage) Term now slot other free e h = order_same stage e slot (Some Term) (sym (no_order slot.order free)) ∙ h
-order_passes (Some stage) Kill now slot other free e h = order_same stage e slot (Some Kill) (sym (no_order slot.order free)) ∙ h
-
-free_for : (ask : OrderKind) (now : ℕ) (slot : RecordState) → same_ask Start ask ≡ false → can_be_asked ask now slot ≡ true → is_none slot.order ≡ true
-free_for Start now slot other can = absurd (true≢false other)
-free_for Look now slot other can = (and_parts (is_none slot.order) (is_some slot.child) can).0
-free_for Term now slot other can = (and_parts (is_none slot.order) (is_some slot.child) can).0
-free_for Kill now slot other can = (and_parts (is_none slot.order) (is_some slot.child) can).0
-
-all_free : (id : List ℕ) (ask : OrderKind) (now : ℕ) (slots : List RecordState) → are_distinct slots ≡ true → same_ask Start ask ≡ false → can_ask id ask now slots ≡ true → Each (λ slot. is_record_of id slot ≡ true → is_none slot.order ≡ true) slots
-all_free id ask now slots distinct other can = at (record_by_id id slots) refl
-  where
-    at : (found : Option RecordState) → record_by_id id slots ≡ found → Each (λ slot. is_record_of id slot ≡ true → is_none slot.order ≡ true) slots
-    at None is = absurd (false≢true (ap (can_ask_of ask now) (sym is) ∙ can))
-    at (Some slot) is = each_own id (λ s. is_none s.order) slots distinct (found_with id (λ s. is_none s.order) slots slot is (free_for ask now slot other (ap (can_ask_of ask now) (sym is) ∙ can)))
-
--- a change of the record at the place leaves those before it
+-- a change of the record at a place leaves all others
 listed_at : (id : List ℕ) (slots : List RecordState) (i : ℕ) → is_place id i slots ≡ true → is_listed id slots ≡ true
 listed_at id [] i at = absurd (false≢true at)
 listed_at id (slot ∷ slots) zero at = or_left (is_record_of id slot) (is_listed id slots) at
@@ -93,109 +71,106 @@ other_before id slot slots i distinct at = by (is_record_of id slot) refl
     by true is = absurd (false≢true (sym (others id slot slots distinct is) ∙ listed_at id slots i at))
     by false is = refl
 
-passed_at : (stage : Option Stage) (id : List ℕ) (change : RecordState → RecordState) (table : List Entry) (slots : List RecordState) (i : ℕ) → are_distinct slots ≡ true → is_place id i slots ≡ true → are_passed stage i table slots ≡ true → are_passed stage i table (with_changed id change slots) ≡ true
-passed_at stage id change [] slots i distinct at passed = passed
-passed_at stage id change (e ∷ table) [] i distinct at passed = passed
-passed_at stage id change (e ∷ table) (slot ∷ slots) zero distinct at passed = refl
-passed_at stage id change (e ∷ table) (slot ∷ slots) (suc i) distinct at passed =
-    let parts = and_parts (is_passed_in stage e slot) (are_passed stage i table slots) passed in
-    rw (other_before id slot slots i distinct at) (and_from (is_passed_in stage e slot) (are_passed stage i table (with_changed id change slots)) parts.0 (passed_at stage id change table slots i (rest_distinct slot slots distinct) at parts.1))
+module _ (stage : Option Stage) (id : List ℕ) where
+  elsewhere : (change : RecordState → RecordState) (table : List Entry) (slots : List RecordState) (i place : ℕ) → are_distinct slots ≡ true → is_place id place slots ≡ true → i ≢ place → is_passed_at stage (zip table (with_changed id change slots)) i ≡ is_passed_at stage (zip table slots) i
+  elsewhere change [] slots i place distinct at other = refl
+  elsewhere change (e ∷ table) [] i place distinct at other = refl
+  elsewhere change (e ∷ table) (slot ∷ slots) zero zero distinct at other = absurd (other refl)
+  elsewhere change (e ∷ table) (slot ∷ slots) zero (suc place) distinct at other = rw (other_before id slot slots place distinct at) refl
+  elsewhere change (e ∷ table) (slot ∷ slots) (suc i) zero distinct at other = rw (unchanged id change slots (others id slot slots distinct at)) refl
+  elsewhere change (e ∷ table) (slot ∷ slots) (suc i) (suc place) distinct at other = elsewhere change table slots i place (rest_distinct slot slots distinct) at (λ is. other (ap suc is))
 
-pub passed_ordered : (stage : Option Stage) (id : List ℕ) (ask : OrderKind) (now : ℕ) (table : List Entry) (slots : List RecordState) (i : ℕ) (kept : Bool) → kept ≡ (not (same_ask Start ask) || is_place id i slots) → are_distinct slots ≡ true → can_ask id ask now slots ≡ true → are_passed stage i table slots ≡ true
-    → are_passed stage (cond kept i 0) table (with_changed id (after_order ask now) slots) ≡ true
-passed_ordered stage id ask now table slots i false is distinct can passed = refl
-passed_ordered stage id ask now table slots i true is distinct can passed = by (same_ask Start ask) refl
+  pub passed_ordered : (ask : OrderKind) (now : ℕ) (table : List Entry) (slots : List RecordState) (places : Places) (place : ℕ) → are_distinct slots ≡ true → is_place id place slots ≡ true → ArePassed stage places table slots
+      → AllBut (λ i. i == place || is_passed_at stage (zip table (with_changed id (after_order ask now) slots)) i) places
+  passed_ordered ask now table slots places place distinct at passed = all_but (is_passed_at stage (zip table slots)) (is_passed_at stage (zip table (with_changed id (after_order ask now) slots))) places place (λ i other. elsewhere (after_order ask now) table slots i place distinct at other) passed
+
+  -- an end takes the record of no entry out
+  over_gone : (answer : Answer) (slot : RecordState) → is_over answer slot ≡ true → is_none slot.table_act ≡ true
+  over_gone (Born n) slot over = absurd (false≢true over)
+  over_gone NotBorn slot over = absurd (false≢true over)
+  over_gone (Ended status) slot over = over
+  over_gone Alive slot over = absurd (false≢true over)
+  over_gone NoLook slot over = absurd (false≢true over)
+  over_gone Hit slot over = absurd (false≢true over)
+  over_gone Miss slot over = absurd (false≢true over)
+
+  pairs_left : (answer : Answer) (table : List Entry) (slots : List RecordState) → IsInOrder table slots → is_over_in id answer slots ≡ true → zip table (without id slots) ≡ zip table slots
+  pairs_left answer [] slots order over = refl
+  pairs_left answer (e ∷ table) [] order over = absurd order
+  pairs_left answer (e ∷ table) (slot ∷ slots) order over = by (is_record_of id slot) over (pairs_left answer table slots order.2)
+    where
+      by : (b : Bool) → is_over_of answer (cond b (Some slot) (record_by_id id slots)) ≡ true → (is_over_in id answer slots ≡ true → zip table (without id slots) ≡ zip table slots) → zip (e ∷ table) (cond (not b) (slot ∷ without id slots) (without id slots)) ≡ (e, slot) ∷ zip table slots
+      by true gone rest = absurd (false≢true (ap is_none (sym order.1) ∙ over_gone answer slot gone))
+      by false later rest = ap (λ ps. (e, slot) ∷ ps) (rest later)
+
+  pub passed_told : (answer : Answer) (now : ℕ) (table : List Entry) (slots : List RecordState) (places : Places) (place : ℕ) → IsInOrder table slots → are_distinct slots ≡ true → is_place id place slots ≡ true → ArePassed stage places table slots
+      → AllBut (λ i. i == place || is_passed_at stage (zip table (after_told id answer now slots)) i) places
+  passed_told answer now table slots places place order distinct at passed = all_but (is_passed_at stage (zip table slots)) (is_passed_at stage (zip table (after_told id answer now slots))) places place (λ i other. by i other (is_over_in id answer slots) refl) passed
+    where
+      by : (i : ℕ) → i ≢ place → (over : Bool) → is_over_in id answer slots ≡ over → is_passed_at stage (zip table (cond over (without id slots) (with_changed id (after_answer answer now) slots))) i ≡ is_passed_at stage (zip table slots) i
+      by i other true over = rw (pairs_left answer table slots order over) refl
+      by i other false over = elsewhere (after_answer answer now) table slots i place distinct at other
+
+-- an answer takes at most one record out
+answer_seen : (answer : Answer) (now : ℕ) (slot : RecordState) → KeepsSeen (after_answer answer now) slot
+answer_seen (Born n) now slot h = refl
+answer_seen NotBorn now slot h = h
+answer_seen (Ended status) now slot h = refl
+answer_seen Alive now slot h = h
+answer_seen NoLook now slot h = h
+answer_seen Hit now slot h = h
+answer_seen Miss now slot h = h
+
+seen_less : (slots : List RecordState) (i : ℕ) → are_seen (suc i) slots ≡ true → are_seen i slots ≡ true
+seen_less [] i seen = rw (take-nil i) refl
+seen_less (slot ∷ slots) zero seen = refl
+seen_less (slot ∷ slots) (suc i) seen =
+    let parts = and_parts (is_seen_record slot) (are_seen (suc i) slots) seen in
+    and_from (is_seen_record slot) (are_seen i slots) parts.0 (seen_less slots i parts.1)
+
+none_out : (id : List ℕ) (slots : List RecordState) → is_listed id slots ≡ false → without id slots ≡ slots
+none_out id [] none = refl
+none_out id (slot ∷ slots) none = let parts = or_parts (is_record_of id slot) (is_listed id slots) none in rw (parts.0) (ap (λ rest. slot ∷ rest) (none_out id slots parts.1))
+
+seen_without : (id : List ℕ) (slots : List RecordState) (i : ℕ) → are_distinct slots ≡ true → are_seen (suc i) slots ≡ true → are_seen i (without id slots) ≡ true
+seen_without id [] i distinct seen = rw (take-nil i) refl
+seen_without id (slot ∷ slots) i distinct seen =
+    let parts = and_parts (is_seen_record slot) (are_seen i slots) seen in
+    by (is_record_of id slot) refl i parts.0 parts.1 (λ j. seen_without id slots j (rest_distinct slot slots distinct))
   where
-    by : (b : Bool) → same_ask Start ask ≡ b → are_passed stage i table (with_changed id (after_order ask now) slots) ≡ true
-    by true start = passed_at stage id (after_order ask now) table slots i distinct (sym (is ∙ ap (λ b. not b || is_place id i slots) start)) passed
-    by false other = passed_changed stage id (after_order ask now) table slots i
-        (each_less (λ slot. is_record_of id slot ≡ true → is_none slot.order ≡ true) (λ slot. is_record_of id slot ≡ true → KeepsPassed stage (after_order ask now) slot) (λ slot free own. order_passes stage ask now slot other (free own)) slots (all_free id ask now slots distinct other can)) passed
+    by : (b : Bool) → is_record_of id slot ≡ b → (i : ℕ) → is_seen_record slot ≡ true → are_seen i slots ≡ true → ((j : ℕ) → are_seen (suc j) slots ≡ true → are_seen j (without id slots) ≡ true) → are_seen i (cond (not b) (slot ∷ without id slots) (without id slots)) ≡ true
+    by true is i own rest less = rw (none_out id slots (others id slot slots distinct is)) rest
+    by false is zero own rest less = refl
+    by false is (suc i) own rest less = and_from (is_seen_record slot) (are_seen i (without id slots)) own (less i rest)
 
--- an answer after which there is a child
-answer_seen : (answer : Answer) (now : ℕ) → brings_nothing answer ≡ true → (slot : RecordState) → KeepsSeen (after_answer answer now) slot
-answer_seen (Born n) now calm slot h = refl
-answer_seen NotBorn now calm slot h = absurd (false≢true calm)
-answer_seen (Ended status) now calm slot h = absurd (false≢true calm)
-answer_seen Alive now calm slot h = h
-answer_seen NoLook now calm slot h = h
-answer_seen Hit now calm slot h = absurd (false≢true calm)
-answer_seen Miss now calm slot h = absurd (false≢true calm)
-
-looked : (order : Option OrderKind) → is_answered Alive order ≡ true → is_order Start order ≡ false
-looked None h = refl
-looked (Some Start) h = absurd (false≢true h)
-looked (Some Look) h = refl
-looked (Some Term) h = refl
-looked (Some Kill) h = refl
-
-started : (n : ℕ) (order : Option OrderKind) → is_answered (Born n) order ≡ true → is_order Start order ≡ true
-started n None h = absurd (false≢true h)
-started n (Some Start) h = refl
-started n (Some Look) h = absurd (false≢true h)
-started n (Some Term) h = absurd (false≢true h)
-started n (Some Kill) h = absurd (false≢true h)
-
-not_waited : (waited child start wanted : Bool) → start ≡ true → not (waited && (child || start || wanted)) ≡ true → waited ≡ false
-not_waited false child start wanted is h = refl
-not_waited true true start wanted is h = absurd (false≢true h)
-not_waited true false true wanted is h = absurd (false≢true h)
-not_waited true false false wanted is h = absurd (false≢true is)
-
-born_passes : (waited wanted : Bool) → waited ≡ false → (not (wanted && false) && not (waited && true)) ≡ true
-born_passes true wanted h = absurd (true≢false h)
-born_passes false true h = refl
-born_passes false false h = refl
-
-answer_passes : (stage : Option Stage) (answer : Answer) (now : ℕ) → brings_nothing answer ≡ true → (slot : RecordState) → is_answered answer slot.order ≡ true → KeepsPassed stage (after_answer answer now) slot
-answer_passes None answer now calm slot told e h = refl
-answer_passes (Some stage) (Born n) now calm slot told e h =
-    let parts = and_parts (not (is_wanted_record stage e slot && is_none slot.child)) (not (is_owed_record stage e slot)) h in
-    born_passes (waited_of e) (is_wanted_record stage e (after_answer (Born n) now slot)) (not_waited (waited_of e) (is_some slot.child) (is_order Start slot.order) (is_wanted_record stage e slot) (started n slot.order told) parts.1)
-answer_passes (Some stage) Alive now calm slot told e h = order_same stage e slot None (sym (looked slot.order told)) ∙ h
-answer_passes (Some stage) NoLook now calm slot told e h = order_same stage e slot None (sym (looked slot.order told)) ∙ h
-answer_passes (Some stage) NotBorn now calm slot told e h = absurd (false≢true calm)
-answer_passes (Some stage) (Ended status) now calm slot told e h = absurd (false≢true calm)
-answer_passes (Some stage) Hit now calm slot told e h = absurd (false≢true calm)
-answer_passes (Some stage) Miss now calm slot told e h = absurd (false≢true calm)
-
-not_over : (answer : Answer) (found : Option RecordState) → brings_nothing answer ≡ true
-    → is_over_of answer found ≡ false
-not_over answer None calm = refl
-not_over (Born n) (Some slot) calm = refl
-not_over NotBorn (Some slot) calm = refl
-not_over (Ended status) (Some slot) calm = absurd (false≢true calm)
-not_over Alive (Some slot) calm = refl
-not_over NoLook (Some slot) calm = refl
-not_over Hit (Some slot) calm = refl
-not_over Miss (Some slot) calm = refl
-
-verdict_yes : (b : Bool) → ◌≡◌ {A = Result (Unit {0}) Refusal} (cond b (Ok tt) (Err WrongAnswer)) (Ok tt) → b ≡ true
-verdict_yes true is = refl
-verdict_yes false is = absurd (cc)
-
-accepted : (answer : Answer) (order : Option OrderKind) → refusal_of order answer ≡ Ok tt
-    → is_answered answer order ≡ true
-accepted answer None is = absurd (cc)
-accepted answer (Some ask) is = verdict_yes (answers answer ask) is
-
-all_answered : (id : List ℕ) (answer : Answer) (slots : List RecordState) → are_distinct slots ≡ true → is_answered answer (order_in id slots) ≡ true → Each (λ slot. is_record_of id slot ≡ true → is_answered answer slot.order ≡ true) slots
-all_answered id answer slots distinct told = at (record_by_id id slots) refl
+pub seen_told : (id : List ℕ) (answer : Answer) (now : ℕ) (slots : List RecordState) (i : ℕ) → are_distinct slots ≡ true → are_seen i slots ≡ true → are_seen (i - 1) (after_told id answer now slots) ≡ true
+seen_told id answer now slots zero distinct seen = refl
+seen_told id answer now slots (suc i) distinct seen = let less : suc i - 1 ≡ i = omega arith in rw less (by (is_over_in id answer slots))
   where
-    at : (found : Option RecordState) → record_by_id id slots ≡ found → Each (λ slot. is_record_of id slot ≡ true → is_answered answer slot.order ≡ true) slots
-    at None is = absurd (false≢true (ap (λ o. is_answered answer (order_of o)) (sym is) ∙ told))
-    at (Some slot) is = each_own id (λ s. is_answered answer s.order) slots distinct (found_with id (λ s. is_answered answer s.order) slots slot is (ap (λ o. is_answered answer (order_of o)) (sym is) ∙ told))
+    by : (over : Bool) → are_seen i (cond over (without id slots) (with_changed id (after_answer answer now) slots)) ≡ true
+    by true = seen_without id slots i distinct seen
+    by false = seen_changed id (after_answer answer now) slots i (answer_seen answer now) (seen_less slots i seen)
 
-module _ (id : List ℕ) (answer : Answer) (now : ℕ) (slots : List RecordState) where
-  stays : brings_nothing answer ≡ true → with_changed id (after_answer answer now) slots ≡ after_told id answer now slots
-  stays calm = rw (not_over answer (record_by_id id slots) calm) refl
+-- the place that was found is that of the id
+found_own : (id : List ℕ) (slots : List RecordState) (slot : RecordState) → record_by_id id slots ≡ Some slot → is_record_of id slot ≡ true
+found_own id [] slot is = absurd (cc)
+found_own id (first ∷ slots) slot is = by (is_record_of id first) refl is (found_own id slots slot)
+  where
+    by : (b : Bool) → is_record_of id first ≡ b → cond b (Some first) (record_by_id id slots) ≡ Some slot → (record_by_id id slots ≡ Some slot → is_record_of id slot ≡ true) → is_record_of id slot ≡ true
+    by true own is later = let same : first ≡ slot = cc in subst (λ s. is_record_of id s ≡ true) same own
+    by false own is later = later is
 
-  pub seen_told : (kept : Bool) (i : ℕ) → kept ≡ brings_nothing answer → are_seen i slots ≡ true → are_seen (cond kept i 0) (after_told id answer now slots) ≡ true
-  seen_told true i is seen = subst (λ s. are_seen i s ≡ true) (stays (sym is)) (seen_changed id (after_answer answer now) slots i (answer_seen answer now (sym is)) seen)
-  seen_told false i is seen = refl
+pub at_place : (id : List ℕ) (slots : List RecordState) (place : ℕ) → slice_get slots place ≡ record_by_id id slots → true ≡ has_record_of id slots → is_place id place slots ≡ true
+at_place id slots place is has = by (record_by_id id slots) refl has
+  where
+    by : (found : Option RecordState) → record_by_id id slots ≡ found → true ≡ is_some found → is_place id place slots ≡ true
+    by None found has = absurd (true≢false has)
+    by (Some slot) found has = ap (λ o. option_map_or (is_record_of id) o false) (is ∙ found) ∙ found_own id slots slot found
 
-  pub passed_told : (kept : Bool) (stage : Option Stage) (table : List Entry) (i : ℕ) → kept ≡ brings_nothing answer → are_distinct slots ≡ true → refusal_of (order_in id slots) answer ≡ Ok tt → are_passed stage i table slots ≡ true → are_passed stage (cond kept i 0) table (after_told id answer now slots) ≡ true
-  passed_told true stage table i is distinct taken passed = subst (λ s. are_passed stage i table s ≡ true) (stays (sym is))
-      (passed_changed stage id (after_answer answer now) table slots i
-      (each_less (λ slot. is_record_of id slot ≡ true → is_answered answer slot.order ≡ true) (λ slot. is_record_of id slot ≡ true → KeepsPassed stage (after_answer answer now) slot) (λ slot told own. answer_passes stage answer now (sym is) slot (told own)) slots (all_answered id answer slots distinct (accepted answer (order_in id slots) taken)))
-      passed)
-  passed_told false stage table i is distinct taken passed = refl
+-- a start that may be ordered is of an id that has a record
+pub can_found : (id : List ℕ) (ask : OrderKind) (now : ℕ) (slots : List RecordState) → can_ask id ask now slots ≡ true → false ≡ has_record_of id slots → ⊥
+can_found id ask now slots can none = by (record_by_id id slots) can none
+  where
+    by : (found : Option RecordState) → can_ask_of ask now found ≡ true → false ≡ is_some found → ⊥
+    by None can none = false≢true can
+    by (Some slot) can none = false≢true none

@@ -19,3 +19,21 @@ module _ {A B : Type 0} where
   no_pair_past (a ∷ xs) [] i past = drop-nil i
   no_pair_past (a ∷ xs) (b ∷ ys) zero past = absurd (omega arith)
   no_pair_past (a ∷ xs) (b ∷ ys) (suc i) past = no_pair_past xs ys i (omega arith)
+
+  pub no_pair_got : (xs : List A) (ys : List B) (i : ℕ) → slice_get xs i ≡ None → slice_get (zip xs ys) i ≡ None
+  no_pair_got [] ys i none = refl
+  no_pair_got (a ∷ xs) [] i none = refl
+  no_pair_got (a ∷ xs) (b ∷ ys) zero none = cc
+  no_pair_got (a ∷ xs) (b ∷ ys) (suc i) none = no_pair_got xs ys i none
+
+  pub no_pair_got_past : (xs : List A) (ys : List B) (i : ℕ) → length ys ≤ i → slice_get (zip xs ys) i ≡ None
+  no_pair_got_past [] ys i past = refl
+  no_pair_got_past (a ∷ xs) [] i past = refl
+  no_pair_got_past (a ∷ xs) (b ∷ ys) zero past = absurd (omega arith)
+  no_pair_got_past (a ∷ xs) (b ∷ ys) (suc i) past = no_pair_got_past xs ys i (omega arith)
+
+  pub pair_got : (xs : List A) (ys : List B) (i : ℕ) (x : A) (y : B) → slice_get xs i ≡ Some x → i < length ys → y ≡ get_or ys i y → slice_get (zip xs ys) i ≡ Some (x, y)
+  pair_got [] ys i x y at h is = cc
+  pair_got (a ∷ xs) [] i x y at h is = absurd (omega arith)
+  pair_got (a ∷ xs) (b ∷ ys) zero x y at h is = let first : a ≡ x = cc in rw (first, is) refl
+  pair_got (a ∷ xs) (b ∷ ys) (suc i) x y at h is = pair_got xs ys i x y at (omega arith) is

@@ -1,18 +1,65 @@
 -- Places up to which records are seen and entries passed: a walk begins there, and changes keep them.
-use Rattle.core_steps.proofs.Words.{◌≡◌, refl, Bool, true, false, not, ◌&&◌, cond, ℕ, zero, suc, ◌+◌, ◌<◌, arith, List, [], ◌∷◌, length, take, drop, zip, map, get_or, slice_get, Option, Some, is_some, is_none, list_all, drop-nil, take-nil, and_parts, and_from, false≢true, Entry, Stage, RecordState, is_record_of, changed, with_changed, is_wanted_record, is_owed_record, start_along, look_among, Each, each_always, each_less, is_seen_record, are_seen, is_passed_record, is_passed_in, are_passed}
-use Rattle.core_steps.proofs.Pairs.{pair_at}
+use Rattle.core_steps.proofs.Words.{◌≡◌, ◌≢◌, refl, Bool, true, false, not, ◌&&◌, ◌||◌, ◌==◌, cond, ℕ, zero, suc, ◌+◌, ◌<◌, ◌≤◌, arith, List, [], ◌∷◌, drop, zip, map, Option, Some, is_some, is_none, drop-nil, and_parts, and_from, false≢true, eqb-true, eq-eqb, nat_lt, ltb-true, ltb-false, subst, sym, ◌∙◌, Entry, Stage, RecordState, is_record_of, changed, with_changed, is_wanted_record, is_owed_record, start_along, look_among, Each, each_always, is_seen_record, are_seen, is_passed_in, is_passed_at, ArePassedFrom, ArePassed, AllBut, Places}
 
--- one more passes a test
-one_more : {X : Type 0} (p : X → Bool) (xs : List X) (i : ℕ) (x : X) → drop i xs ≡ x ∷ drop (i + 1) xs → p x ≡ true → list_all p (take i xs) ≡ true → list_all p (take (i + 1) xs) ≡ true
-one_more p [] i x next passes so_far = rw (take-nil (i + 1)) refl
-one_more p (y ∷ ys) zero x next passes so_far = let first : y ≡ x = cc in rw (first, passes) refl
-one_more p (y ∷ ys) (suc i) x next passes so_far =
-    let more : suc i + 1 ≡ suc (i + 1) = omega arith in
-    let parts = and_parts (p y) (list_all p (take i ys)) so_far in
-    rw more (and_from (p y) (list_all p (take (i + 1) ys)) parts.0 (one_more p ys i x (rw more at next) passes parts.1))
+-- all before the next place, but for that at the first and that at a place
+but : (i place : ℕ) (b : Bool) → i ≢ place → (i == place || b) ≡ true → b ≡ true
+but i place b other h = by (i == place) refl h
+  where
+    by : (same : Bool) → (i == place) ≡ same → (same || b) ≡ true → b ≡ true
+    by true is h = absurd (other (eqb-true i place is))
+    by false is h = h
 
-pub passed_more : (stage : Option Stage) (table : List Entry) (slots : List RecordState) (i : ℕ) (e : Entry) (slot : RecordState) → slice_get table i ≡ Some e → i < length slots → slot ≡ get_or slots i slot → is_passed_in stage e slot ≡ true → are_passed stage i table slots ≡ true → are_passed stage (i + 1) table slots ≡ true
-passed_more stage table slots i e slot at h is passed so_far = one_more (λ (p : Entry × RecordState). is_passed_in stage p.0 p.1) (zip table slots) i (e, slot) (pair_at table slots i e slot at h is) passed so_far
+pub narrower : (passed : ℕ → Bool) (old new : Places) (place : ℕ) → new.first ≤ new.next
+    → ((i : ℕ) → i < new.next → i ≢ new.first → (i < old.next) × (i ≢ old.first) × (i ≢ place))
+    → AllBut (λ i. i == place || passed i) old → AllBut passed new
+narrower passed old new place h each all = (h, λ i lt other. let to = each i lt other in but i place (passed i) to.2 (all.1 i to.0 to.1))
+
+-- what holds at each other place holds of all but that at a place
+pub all_but : (test later : ℕ → Bool) (places : Places) (place : ℕ) → ((i : ℕ) → i ≢ place → later i ≡ test i)
+    → AllBut test places → AllBut (λ i. i == place || later i) places
+all_but test later places place same all = (all.0, λ i lt other. by i (i == place) refl (all.1 i lt other))
+  where
+    by : (i : ℕ) (b : Bool) → (i == place) ≡ b → test i ≡ true → (b || later i) ≡ true
+    by i true is h = refl
+    by i false is h = rw (same i (λ e. false≢true (sym is ∙ eq-eqb i place e))) h
+
+pub none_behind : {test : ℕ → Bool} → AllBut test (record { first = 0; next = 0 })
+none_behind = (omega arith, λ i lt other. absurd (omega arith))
+
+-- a test that holds from a place on, of one more, and of all before it
+pub one_further : (test : ℕ → Bool) (from to : ℕ) → ((i : ℕ) → from ≤ i → i < to → test i ≡ true) → true ≡ test to
+    → (i : ℕ) → from ≤ i → i < to + 1 → test i ≡ true
+one_further test from to so_far one i least most = by (i == to) refl
+  where
+    below : (i to : ℕ) → (i == to) ≡ false → i < to + 1 → i < to
+    below i to other most = let apart : i ≢ to = λ e. false≢true (sym other ∙ eq-eqb i to e) in omega arith
+
+    by : (b : Bool) → (i == to) ≡ b → test i ≡ true
+    by true is = subst (λ n. test n ≡ true) (sym (eqb-true i to is)) (sym one)
+    by false is = so_far i least (below i to is most)
+
+pub further : (test : ℕ → Bool) (places : Places) (to : ℕ) → places.next ≤ to
+    → ((i : ℕ) → places.next ≤ i → i < to → test i ≡ true) → AllBut test places
+    → AllBut test (record { first = places.first; next = to })
+further test places to h more all = (let first = all.0 in omega arith, λ i lt other. by i lt other (nat_lt i places.next) refl)
+  where
+    by : (i : ℕ) → i < to → i ≢ places.first → (b : Bool) → nat_lt i places.next ≡ b → test i ≡ true
+    by i lt other true is = all.1 i (ltb-true i places.next is) other
+    by i lt other false is = more i (ltb-false i places.next is) lt
+
+pub over : (test : ℕ → Bool) (places : Places) (to : ℕ) → places.next ≤ to
+    → ((i : ℕ) → places.next ≤ i → i < to → test i ≡ true)
+    → (places.first < places.next → test places.first ≡ true) → AllBut test places
+    → AllBut test (record { first = to; next = to })
+over test places to h more own all = (omega arith, λ i lt other. by i lt (i == places.first) refl)
+  where
+    by : (i : ℕ) → i < to → (b : Bool) → (i == places.first) ≡ b → test i ≡ true
+    by i lt false is = (further test places to h more all).1 i lt (λ e. false≢true (sym is ∙ eq-eqb i places.first e))
+    by i lt true is = at (nat_lt i places.next) refl
+      where
+        at : (b : Bool) → nat_lt i places.next ≡ b → test i ≡ true
+        at true below = let same = eqb-true i places.first is in subst (λ n. test n ≡ true) (sym same) (own (subst (λ n. n < places.next) same (ltb-true i places.next below)))
+        at false behind = more i (ltb-false i places.next behind) lt
 
 -- a walk begins at the place
 no_look : (child order look : Bool) → not (child && look) ≡ true → (child && order && look) ≡ false
@@ -37,16 +84,25 @@ not_so : (b : Bool) → not b ≡ true → b ≡ false
 not_so true h = absurd (false≢true h)
 not_so false h = refl
 
-along_from : (stage : Stage) (now : ℕ) (ps : List (Entry × RecordState)) (i : ℕ) → list_all (λ (p : Entry × RecordState). is_passed_record stage p.0 p.1) (take i ps) ≡ true → start_along stage now ps ≡ start_along stage now (drop i ps)
-along_from stage now [] i passed = rw (drop-nil i) refl
-along_from stage now (p ∷ ps) zero passed = refl
-along_from stage now (p ∷ ps) (suc i) passed =
-    let parts = and_parts (is_passed_record stage p.0 p.1) (list_all (λ (q : Entry × RecordState). is_passed_record stage q.0 q.1) (take i ps)) passed in
-    let own = and_parts (not (is_wanted_record stage p.0 p.1 && is_none p.1.child)) (not (is_owed_record stage p.0 p.1)) parts.0 in
-    rw (no_start (is_wanted_record stage p.0 p.1) (is_none p.1.child) (is_none p.1.order) own.0, not_so (is_owed_record stage p.0 p.1) own.1) (along_from stage now ps i parts.1)
+-- a walk for a start goes on behind entries that are passed
+pub passed_on : (stage : Stage) (now : ℕ) (ps : List (Entry × RecordState)) (from to : ℕ) → from ≤ to → ArePassedFrom (Some stage) ps from to → start_along stage now (drop from ps) ≡ start_along stage now (drop to ps)
+passed_on stage now [] from to h passed = rw (drop-nil from, drop-nil to) refl
+passed_on stage now (p ∷ ps) zero zero h passed = refl
+passed_on stage now (p ∷ ps) zero (suc to) h passed =
+    let own = and_parts (not (is_wanted_record stage p.0 p.1 && is_none p.1.child)) (not (is_owed_record stage p.0 p.1)) (passed 0 (omega arith) (omega arith)) in
+    rw (no_start (is_wanted_record stage p.0 p.1) (is_none p.1.child) (is_none p.1.order) own.0, not_so (is_owed_record stage p.0 p.1) own.1) (passed_on stage now ps zero to (omega arith) (λ i least most. passed (suc i) (omega arith) (omega arith)))
+passed_on stage now (p ∷ ps) (suc from) zero h passed = absurd (omega arith)
+passed_on stage now (p ∷ ps) (suc from) (suc to) h passed = passed_on stage now ps from to (omega arith) (λ i least most. passed (suc i) (omega arith) (omega arith))
 
-pub start_from : (stage : Stage) (now : ℕ) (table : List Entry) (slots : List RecordState) (i : ℕ) → are_passed (Some stage) i table slots ≡ true → start_along stage now (zip table slots) ≡ start_along stage now (drop i (zip table slots))
-start_from stage now table slots i passed = along_from stage now (zip table slots) i passed
+module _ (stage : Stage) (now : ℕ) (table : List Entry) (slots : List RecordState) (places : Places) (passed : ArePassed (Some stage) places table slots) where
+  pub first_on : start_along stage now (zip table slots) ≡ start_along stage now (drop places.first (zip table slots))
+  first_on = let h = passed.0 in passed_on stage now (zip table slots) 0 places.first (omega arith) (λ i least most. passed.1 i (omega arith) (λ is. omega arith))
+
+  pub next_on : places.first < places.next → start_along stage now (drop (places.first + 1) (zip table slots)) ≡ start_along stage now (drop places.next (zip table slots))
+  next_on h = passed_on stage now (zip table slots) (places.first + 1) places.next (omega arith) (λ i least most. passed.1 i most (λ is. omega arith))
+
+  pub all_on : places.next ≤ places.first → start_along stage now (zip table slots) ≡ start_along stage now (drop places.next (zip table slots))
+  all_on h = passed_on stage now (zip table slots) 0 places.next (omega arith) (λ i least most. passed.1 i most (λ is. omega arith))
 
 -- what a change does to no record that was seen, nor to an entry that was passed
 abbrev pub KeepsSeen : (RecordState → RecordState) → RecordState → Type 0
@@ -62,13 +118,14 @@ seen_map change (slot ∷ slots) (suc i) each seen =
     let parts = and_parts (is_seen_record slot) (are_seen i slots) seen in
     and_from (is_seen_record (change slot)) (are_seen i (map change slots)) (each.0 parts.0) (seen_map change slots i each.1 parts.1)
 
-pub passed_map : (stage : Option Stage) (change : RecordState → RecordState) (table : List Entry) (slots : List RecordState) (i : ℕ) → Each (KeepsPassed stage change) slots → are_passed stage i table slots ≡ true → are_passed stage i table (map change slots) ≡ true
+pub passed_map : (stage : Option Stage) (change : RecordState → RecordState) (table : List Entry) (slots : List RecordState) (i : ℕ) → Each (KeepsPassed stage change) slots → is_passed_at stage (zip table slots) i ≡ true → is_passed_at stage (zip table (map change slots)) i ≡ true
 passed_map stage change [] slots i each passed = passed
 passed_map stage change (e ∷ table) [] i each passed = passed
-passed_map stage change (e ∷ table) (slot ∷ slots) zero each passed = refl
-passed_map stage change (e ∷ table) (slot ∷ slots) (suc i) each passed =
-    let parts = and_parts (is_passed_in stage e slot) (are_passed stage i table slots) passed in
-    and_from (is_passed_in stage e (change slot)) (are_passed stage i table (map change slots)) (each.0 e parts.0) (passed_map stage change table slots i each.1 parts.1)
+passed_map stage change (e ∷ table) (slot ∷ slots) zero each passed = each.0 e passed
+passed_map stage change (e ∷ table) (slot ∷ slots) (suc i) each passed = passed_map stage change table slots i each.1 passed
+
+pub all_passed_map : (stage : Option Stage) (change : RecordState → RecordState) (table : List Entry) (slots : List RecordState) (places : Places) → ((slot : RecordState) → KeepsPassed stage change slot) → ArePassed stage places table slots → ArePassed stage places table (map change slots)
+all_passed_map stage change table slots places keeps passed = (passed.0, λ i lt other. passed_map stage change table slots i (each_always (KeepsPassed stage change) keeps slots) (passed.1 i lt other))
 
 -- a change of one id's records alone
 pub seen_changed : (id : List ℕ) (change : RecordState → RecordState) (slots : List RecordState) (i : ℕ) → ((slot : RecordState) → KeepsSeen change slot) → are_seen i slots ≡ true → are_seen i (with_changed id change slots) ≡ true
@@ -78,10 +135,3 @@ seen_changed id change slots i keeps seen = seen_map (changed id change) slots i
         → is_seen_record (cond b (change slot) slot) ≡ true
     at slot true h = keeps slot h
     at slot false h = h
-
-pub passed_changed : (stage : Option Stage) (id : List ℕ) (change : RecordState → RecordState) (table : List Entry) (slots : List RecordState) (i : ℕ) → Each (λ slot. is_record_of id slot ≡ true → KeepsPassed stage change slot) slots → are_passed stage i table slots ≡ true → are_passed stage i table (with_changed id change slots) ≡ true
-passed_changed stage id change table slots i each passed = passed_map stage (changed id change) table slots i (each_less (λ slot. is_record_of id slot ≡ true → KeepsPassed stage change slot) (KeepsPassed stage (changed id change)) (λ slot own e h. at slot e (is_record_of id slot) refl own h) slots each) passed
-  where
-    at : (slot : RecordState) (e : Entry) (b : Bool) → is_record_of id slot ≡ b → (is_record_of id slot ≡ true → KeepsPassed stage change slot) → is_passed_in stage e slot ≡ true → is_passed_in stage e (cond b (change slot) slot) ≡ true
-    at slot e true is own h = own is e h
-    at slot e false is own h = h

@@ -1,5 +1,5 @@
 -- The words of the proofs of this crate.
-pub use Rattle.std.proofs.Common.{◌≡◌, suc, zero, refl, sym, ◌∙◌, ap, ℕ, ◌+◌, ◌<◌, arith, Bool, true, false, ◌&&◌, ◌||◌, cond, List, [], ◌∷◌, ◌++◌, length, take, slice_get, Some, None, is_some, ◌≤◌, nat_le, Option, is_none, not, subst, map, Result, Ok, Err, OnOk, OnErr, drop, get_or, zip, add-one, append_assoc, rules}
+pub use Rattle.std.proofs.Common.{◌≡◌, ◌≢◌, ◌==◌, ◌-◌, nat_lt, suc, zero, refl, sym, ◌∙◌, ap, ℕ, ◌+◌, ◌<◌, arith, Bool, true, false, ◌&&◌, ◌||◌, cond, List, [], ◌∷◌, ◌++◌, length, take, slice_get, Some, None, is_some, ◌≤◌, nat_le, Option, is_none, not, subst, map, Result, Ok, Err, OnOk, OnErr, drop, get_or, zip, add-one, append_assoc, rules}
 pub use Rattle.std.specs.List.{list_any, list_all}
 pub use Rattle.init_words.specs.declared.entries.Entry.{Entry}
 pub use Rattle.inittab_text.specs.Tables.{has_id, is_distinct, default_level_of}
@@ -9,7 +9,7 @@ pub use Rattle.core_records.specs.Lists.{record_by_id, has_record_of, changed, w
 pub use Rattle.core_records.specs.Order.{IsInOrder}
 pub use Rattle.core_model.specs.Steps.{called_if, with_called, judged_in, is_named}
 pub use Rattle.core_model.proofs.RuledMade.{called_id, called_act}
-pub use Rattle.std.proofs.lemmas.Bool.{or_parts, ltb-false, leb-true, le-leb, both_ways, and_parts, and_from, or_left, or_right, true≢false, false≢true}
+pub use Rattle.std.proofs.lemmas.Bool.{or_parts, eqb-true, eq-eqb, ltb-true, ltb-false, leb-true, le-leb, both_ways, and_parts, and_from, or_left, or_right, true≢false, false≢true}
 pub use Rattle.init_words.specs.declared.stages.Stage.{Stage}
 pub use Rattle.core_records.specs.Stopping.{is_stop_due, is_termed, is_termed_before, IsFirstTermed}
 pub use Rattle.trace_events.specs.declared.steps.Step.TheVariants.{Order, Hold}
@@ -28,7 +28,9 @@ pub use Rattle.init_words.specs.declared.refusals.Refusal.TheVariants.{NotQuiet,
 pub use Rattle.core_model.specs.Rules.{IsFit, is_started, is_start_allowed, are_starts_along, is_hold_of, is_limit_kept, is_kept, never_fall}
 pub use Rattle.core_model.proofs.RulesKept.{adopt_keeps, told_keeps, opening_keeps, step_keeps}
 pub use Rattle.core_model.proofs.Each.{Each, each_always, each_less, each_own}
-pub use Rattle.core_steps.specs.Places.{is_seen_record, are_seen, is_passed_record, is_passed_in, are_passed, is_place, brings_nothing}
+pub use Rattle.core_steps.specs.Places.{is_seen_record, are_seen, is_passed_record, is_passed_in, is_passed_at, ArePassedFrom, ArePassed}
+pub use Rattle.core_steps.specs.Between.{AllBut}
+pub use Rattle.core_steps.specs.declared.walk_places.Places.{Places}
 pub use Rattle.std.proofs.Math.Seq.{drop-nil, take-nil, drop-cons}
 pub use Rattle.std.specs.Option.{option_map, option_or, unwrap_or}
 pub use Rattle.core_model.specs.declared.parts.PlainRecord.{PlainRecord}

@@ -1,2 +1,3 @@
+pub mod Between
 pub mod Places
 pub mod Signals

@@ -1,14 +1,13 @@
 -- The places from which on a record may be looked at, and an entry started or waited for.
-use Rattle.std.specs.Prelude.{ℕ, Bool, true, false, not, ◌&&◌, List, zip, take, slice_get, Option, Some, None, is_some, is_none}
+use Rattle.std.specs.Prelude.{◌≡◌, ◌≤◌, ◌<◌, ℕ, Bool, true, not, ◌&&◌, List, zip, take, slice_get, Option, Some, None, is_some, is_none}
 use Rattle.std.specs.List.{list_all}
 use Rattle.std.specs.Option.{option_map_or}
 use Rattle.init_words.specs.declared.entries.Entry.{Entry}
 use Rattle.init_words.specs.declared.stages.Stage.{Stage}
-use Rattle.init_words.specs.declared.orders.Answer.{Answer}
-use Rattle.init_words.specs.declared.orders.Answer.TheVariants.{Born, Alive, NoLook}
 use Rattle.core_records.specs.State.{RecordState}
-use Rattle.core_records.specs.Lists.{is_record_of}
 use Rattle.core_model.specs.Decide.{is_wanted_record, is_owed_record}
+use Rattle.core_steps.specs.declared.walk_places.Places.{Places}
+use Rattle.core_steps.specs.Between.{AllBut}
 
 -- the record has no child that is to be looked at, whatever order is open
 abbrev pub is_seen_record : RecordState → Bool
@@ -28,18 +27,14 @@ abbrev pub is_passed_in : Option Stage → Entry → RecordState → Bool
 is_passed_in None e slot = true
 is_passed_in (Some stage) e slot = is_passed_record stage e slot
 
--- so it is with each entry before the place
-abbrev pub are_passed : Option Stage → ℕ → List Entry → List RecordState → Bool
-are_passed stage place table slots =
-    list_all (λ (p : Entry × RecordState). is_passed_in stage p.0 p.1) (take place (zip table slots))
+-- so it is with the entry and the record at the place, if there are both
+abbrev pub is_passed_at : Option Stage → List (Entry × RecordState) → ℕ → Bool
+is_passed_at stage pairs place =
+    option_map_or (λ (p : Entry × RecordState). is_passed_in stage p.0 p.1) (slice_get pairs place) true
 
--- the record at the place is that of the id
-abbrev pub is_place : List ℕ → ℕ → List RecordState → Bool
-is_place id place slots = option_map_or (is_record_of id) (slice_get slots place) false
+abbrev pub ArePassedFrom : Option Stage → List (Entry × RecordState) → ℕ → ℕ → Type 0
+ArePassedFrom stage pairs from to = (place : ℕ) → from ≤ place → place < to → is_passed_at stage pairs place ≡ true
 
--- after the answer the id has a child: it brings neither a start nor a look
-abbrev pub brings_nothing : Answer → Bool
-brings_nothing (Born number) = true
-brings_nothing Alive = true
-brings_nothing NoLook = true
-brings_nothing _ = false
+-- it is so of each entry before the next place, but for that at the first
+abbrev pub ArePassed : Option Stage → Places → List Entry → List RecordState → Type 0
+ArePassed stage places table slots = AllBut (is_passed_at stage (zip table slots)) places

@@ -3,10 +3,10 @@
 ghost use Rattle.std.specs.Prelude.{◌≡◌, IfOk, OnOk, OnErr};
 
 use crate::calling::{call_named, judge_in};
-use crate::deciding::{brings_nothing, is_past, level_step, next_stage};
+use crate::deciding::{is_past, level_step, next_stage};
+use crate::walk_places::Places;
 use crate::walking::{
-    all_done, all_served, any_busy, leaves_passed, look_among, passed_to, place_if, seen_to,
-    start_among, stop_among,
+    all_done, all_served, any_busy, look_among, moved, seen_to, start_among, stop_among,
 };
 use core_model::CoreFields;
 use core_records::Records;
@@ -25,10 +25,9 @@ pub(crate) struct BareCore<A: Allocator> {
     table: Table<A>,
     slots: Records<A>,
     heads: CoreFields,
-    // `next` walks the records from two places on. No record before this one has a child that is to be looked at.
+    // `next` walks from here on. No record before this one has a child that is to be looked at.
     looks_from: usize,
-    // No entry before this one is to be started or waited for.
-    starts_from: usize,
+    starts: Places,
 }
 
 impl<A: Allocator> Model for BareCore<A> {
@@ -37,7 +36,7 @@ impl<A: Allocator> Model for BareCore<A> {
     ghost use Rattle.core_records.specs.Times.{are_timely};
     ghost use Rattle.core_records.specs.Order.{IsInOrder};
     ghost use Rattle.core_model.specs.State.{CoreState};
-    ghost use Rattle.core_steps.specs.Places.{are_seen, are_passed};
+    ghost use Rattle.core_steps.specs.Places.{are_seen, ArePassed};
 
     ghost Value = { CoreState };
 
@@ -45,7 +44,7 @@ impl<A: Allocator> Model for BareCore<A> {
 
     ghost invariant = { λ c. (c.heads.time ≤ CLOCK_LIMIT) × (are_timely c.heads.time c.slots ≡ true)
         × IsInOrder c.table c.slots × (are_seen c.looks_from c.slots ≡ true)
-        × (are_passed c.heads.stage c.starts_from c.table c.slots ≡ true) };
+        × ArePassed c.heads.stage c.starts c.table c.slots };
 }
 
 impl<A: Allocator + Copy> BareCore<A> {
@@ -77,7 +76,7 @@ impl<A: Allocator + Copy> BareCore<A> {
                 grace: GRACE,
             }),
             looks_from: 0,
-            starts_from: 0,
+            starts: Places::all(),
         })
     }
 
@@ -98,7 +97,7 @@ impl<A: Allocator + Copy> BareCore<A> {
         self.heads.announced = false;
         self.heads.reread = false;
         self.looks_from = 0;
-        self.starts_from = 0;
+        self.starts = Places::all();
         Ok(())
     }
 }
@@ -134,7 +133,7 @@ impl<A: Allocator> BareCore<A> {
             slots,
             heads,
             looks_from: 0,
-            starts_from: 0,
+            starts: Places::all(),
         }
     }
 
@@ -292,13 +291,7 @@ impl<A: Allocator> BareCore<A> {
         ensures { result ≡ calm_step stage self.now }
     {
         let slots = self.slots.as_slice();
-        if let Some(step) = start_among(
-            stage,
-            self.heads.time,
-            &self.table,
-            slots,
-            self.starts_from,
-        ) {
+        if let Some(step) = start_among(stage, self.heads.time, &self.table, slots, self.starts) {
             return Some(step);
         }
         if let Some(step) = self.stage_step(stage) {
@@ -361,14 +354,14 @@ impl<A: Allocator> BareCore<A> {
         look_among(slots, self.looks_from).unwrap_or(Step::Idle)
     }
 
-    /// Both places go on after all records that are seen, and all entries that are passed.
+    /// The places go on after all records that are seen, and all entries that are passed.
     fn pass(&mut self)
         ensures { self.new ≡ self.old }
     {
         let slots = self.slots.as_slice();
         self.looks_from = seen_to(slots, self.looks_from);
         if let Some(stage) = self.heads.stage {
-            self.starts_from = passed_to(stage, &self.table, slots, self.starts_from);
+            self.starts = moved(self.starts, stage, &self.table, slots);
         }
     }
 
@@ -384,7 +377,7 @@ impl<A: Allocator> BareCore<A> {
         self.heads.booted = stage == Stage::Boot || self.heads.booted;
         self.heads.announced = false;
         self.looks_from = 0;
-        self.starts_from = 0;
+        self.starts = Places::all();
     }
 
     /// An order is given about an id.
@@ -393,9 +386,11 @@ impl<A: Allocator> BareCore<A> {
         requires distinct { are_distinct self.old.slots ≡ true }
         ensures { self.new ≡ after_step (Step.Order id ask) self.old }
     {
-        let kept = leaves_passed(&self.slots, self.starts_from, &id, ask);
+        let Some(place) = self.slots.place_of(&id) else {
+            unreachable!()
+        };
         self.slots.ask(id, ask, self.heads.time);
-        self.starts_from = place_if(kept, self.starts_from);
+        self.starts = self.starts.with(place);
     }
 
     /// The step is taken, as it was decided on.
@@ -410,12 +405,12 @@ impl<A: Allocator> BareCore<A> {
             Step::Power(kind) => {
                 call_named(&mut self.slots, &self.table, step, self.heads.stage);
                 self.heads.news.set_power(kind, false);
-                self.starts_from = 0;
+                self.starts = Places::all();
             }
             Step::Call(letter) => {
                 call_named(&mut self.slots, &self.table, step, self.heads.stage);
                 self.heads.news.set_letter(letter, false);
-                self.starts_from = 0;
+                self.starts = Places::all();
             }
             Step::Order(id, ask) => self.order(id, ask),
             Step::Hold(id) => self.slots.hold(id, self.heads.time),
@@ -440,12 +435,15 @@ impl<A: Allocator> BareCore<A> {
         ensures refused { result ≡ refusal_of (order_in id self.old.slots) answer }
         ensures unchanged { OnErr result (self.new ≡ self.old) }
     {
+        let Some(place) = self.slots.place_of(&id) else {
+            return Err(Refusal::NotAsked);
+        };
         // `len` says that no id has two records, as `told` doesn't.
         let _ = self.slots.len();
-        let kept = brings_nothing(&answer);
         self.slots.told(id, answer, self.heads.time)?;
-        self.looks_from = place_if(kept, self.looks_from);
-        self.starts_from = place_if(kept, self.starts_from);
+        // An end may take a record out.
+        self.looks_from = self.looks_from.saturating_sub(1);
+        self.starts = self.starts.with(place);
         Ok(())
     }
 

@@ -3,13 +3,12 @@
 ghost use Rattle.std.specs.Prelude.{◌≡◌, ◌≤◌, ◌+◌, nat_le};
 ghost use Rattle.core_model.specs.Decide.{level_step, signal_step, stop_step, is_wanted_record, is_owed_record, limited_step, can_start_record, start_step, is_done_record, next_stage, is_served_record, can_look_record};
 ghost use Rattle.trace_events.specs.Wanted.{is_order};
-ghost use Rattle.init_words.specs.Orders.{same_ask};
 ghost use Rattle.respawn_limit.specs.declared.TheConstants.{CLOCK_LIMIT};
-ghost use Rattle.core_steps.specs.Places.{is_seen_record, is_passed_record, brings_nothing};
+ghost use Rattle.core_steps.specs.Places.{is_seen_record, is_passed_record};
 ghost use Rattle.core_steps.specs.Signals.{is_past};
 
 use core_records::{Record, Stop};
-use init_words::{Answer, Entry, Id, Level, OrderKind, Stage, starts, waited};
+use init_words::{Entry, Id, Level, OrderKind, Stage, starts, waited};
 use respawn_limit::May;
 use trace_events::{Goal, Step};
 
@@ -174,18 +173,4 @@ pub(crate) fn is_seen(slot: &Record) -> bool
     ensures { result ≡ is_seen_record slot.now }
 {
     !(slot.has_child() && slot.look())
-}
-
-/// The order is a start.
-pub(crate) fn is_start(ask: OrderKind) -> bool
-    ensures { result ≡ same_ask OrderKind.Start ask }
-{
-    matches!(ask, OrderKind::Start)
-}
-
-/// After the answer the id has a child: it brings neither a start nor a look.
-pub(crate) fn brings_nothing(answer: &Answer) -> bool
-    ensures { result ≡ brings_nothing answer.now }
-{
-    matches!(answer, Answer::Born(_) | Answer::Alive | Answer::NoLook)
 }

@@ -10,6 +10,7 @@ mod cores;
 mod deciding;
 mod rebuilding;
 mod rules;
+mod walk_places;
 mod walking;
 
 pub use core_model::{News, law_agreement, law_of_acts};

@@ -1,17 +1,17 @@
 //! What is due first among all records, in record order.
 
-ghost use Rattle.std.specs.Prelude.{◌≡◌, ◌≤◌, true, Some, if◌then◌else◌, not, ◌||◌};
+ghost use Rattle.std.specs.Prelude.{◌≡◌, ◌≤◌, ◌+◌, true, None, Some, IfSome, drop, zip};
 ghost use Rattle.std.specs.List.{list_any};
-ghost use Rattle.core_model.specs.Decide.{stop_among, start_among, all_done, all_served, look_among, is_busy_record};
+ghost use Rattle.core_model.specs.Decide.{stop_among, start_along, start_among, all_done, all_served, look_among, is_busy_record};
 ghost use Rattle.respawn_limit.specs.declared.TheConstants.{CLOCK_LIMIT};
-ghost use Rattle.init_words.specs.Orders.{same_ask};
-ghost use Rattle.core_steps.specs.Places.{are_seen, are_passed, is_place};
+ghost use Rattle.core_steps.specs.Places.{are_seen, is_passed_at, ArePassed, ArePassedFrom};
 
 use crate::deciding::{
-    can_look, is_done, is_owed, is_passed, is_seen, is_served, is_start, start_step, stop_step,
+    can_look, is_done, is_owed, is_passed, is_seen, is_served, start_step, stop_step,
 };
-use core_records::{Record, Records};
-use init_words::{Id, Level, OrderKind, Stage};
+use crate::walk_places::Places;
+use core_records::Record;
+use init_words::{Level, OrderKind, Stage};
 use inittab_text::Table;
 use std::alloc::Allocator;
 use trace_events::Step;
@@ -28,84 +28,126 @@ pub(crate) fn stop_among(grace: u16, now: u64, slots: &[Record]) -> Option<Step>
     None
 }
 
-/// The record at the place is that of the id.
-fn is_place<A: Allocator>(slots: &Records<A>, place: usize, id: &Id) -> bool
-    ensures { result ≡ is_place id.now place slots.now }
-{
-    match slots.at(place) {
-        Some(slot) => *id == slot.id(),
-        None => false,
-    }
-}
-
-/// An order about the id leaves the entries before the place passed: it is no start, or the id's record stands there.
-pub(crate) fn leaves_passed<A: Allocator>(
-    slots: &Records<A>,
-    place: usize,
-    id: &Id,
-    ask: OrderKind,
-) -> bool
-    ensures { result ≡ (not (same_ask OrderKind.Start ask) || is_place id.now place slots.now) }
-{
-    !is_start(ask) || is_place(slots, place, id)
-}
-
-/// The place, if it is kept, else the first.
-pub(crate) fn place_if(kept: bool, place: usize) -> usize
-    ensures { result ≡ (if kept then place else 0) }
-{
-    if kept { place } else { 0 }
-}
-
-/// From a place on that entries were passed up to, how far they are passed now.
-pub(crate) fn passed_to<A: Allocator>(
+/// The entry at the place is passed, or there is none.
+fn is_passed_at<A: Allocator>(
     stage: Stage,
     table: &Table<A>,
     slots: &[Record],
-    from: usize,
-) -> usize
-    requires { are_passed (Some stage) from table.now slots.now ≡ true }
-    ensures { are_passed (Some stage) result table.now slots.now ≡ true }
+    place: usize,
+) -> bool
+    ensures { result ≡ is_passed_at (Some stage) (zip table.now slots.now) place }
 {
-    let mut passed = from;
-    for place in from..slots.len() {
-        let Some(entry) = table.at(place) else {
-            return passed;
-        };
-        if !is_passed(stage, entry, &slots[place]) {
-            return passed;
-        }
-        passed = place + 1;
+    let Some(entry) = table.at(place) else {
+        return true;
+    };
+    if place >= slots.len() {
+        return true;
     }
-    passed
+    is_passed(stage, entry, &slots[place])
 }
 
-/// The first start or hold in the order of the table, up to the first entry that init waits for. The entries before
-/// the place are passed.
-pub(crate) fn start_among<A: Allocator>(
+/// How far the entries are passed from a place on.
+fn passed_to<A: Allocator>(stage: Stage, table: &Table<A>, slots: &[Record], from: usize) -> usize
+    ensures behind { from ≤ result }
+    ensures passed { ArePassedFrom (Some stage) (zip table.now slots.now) from result }
+{
+    for place in from..slots.len() {
+        if !is_passed_at(stage, table, slots, place) {
+            return place;
+        }
+    }
+    slots.len().max(from)
+}
+
+/// The places go on after all entries that are passed now.
+pub(crate) fn moved<A: Allocator>(
+    places: Places,
+    stage: Stage,
+    table: &Table<A>,
+    slots: &[Record],
+) -> Places
+    requires { ArePassed (Some stage) places table.now slots.now }
+    ensures { ArePassed (Some stage) result table.now slots.now }
+{
+    let next = passed_to(stage, table, slots, places.next);
+    if places.first < places.next && !is_passed_at(stage, table, slots, places.first) {
+        Places {
+            first: places.first,
+            next,
+        }
+    } else {
+        Places { first: next, next }
+    }
+}
+
+/// What a walk for a start or a hold comes to at a place; none where it goes on.
+fn start_at<A: Allocator>(
+    stage: Stage,
+    now: u64,
+    table: &Table<A>,
+    slots: &[Record],
+    place: usize,
+) -> Option<Option<Step>>
+    requires { now ≤ CLOCK_LIMIT }
+    ensures ends { IfSome result (λ found.
+        found ≡ start_along stage now (drop place (zip table.now slots.now))) }
+    ensures goes_on { result ≡ None → start_along stage now (drop place (zip table.now slots.now))
+        ≡ start_along stage now (drop (place + 1) (zip table.now slots.now)) }
+{
+    let Some(entry) = table.at(place) else {
+        return Some(None);
+    };
+    if place >= slots.len() {
+        return Some(None);
+    }
+    let slot = &slots[place];
+    if let Some(step) = start_step(stage, now, entry, slot) {
+        return Some(Some(step));
+    }
+    if is_owed(stage, entry, slot) {
+        return Some(None);
+    }
+    None
+}
+
+/// The first start or hold from a place on, up to the first entry that init waits for.
+fn start_from<A: Allocator>(
     stage: Stage,
     now: u64,
     table: &Table<A>,
     slots: &[Record],
     from: usize,
 ) -> Option<Step>
-    requires limit { now ≤ CLOCK_LIMIT }
-    requires passed { are_passed (Some stage) from table.now slots.now ≡ true }
-    ensures { result ≡ start_among stage now table.now slots.now }
+    requires { now ≤ CLOCK_LIMIT }
+    ensures { result ≡ start_along stage now (drop from (zip table.now slots.now)) }
 {
     for place in from..slots.len() {
-        let slot = &slots[place];
-        let Some(entry) = table.at(place) else {
-            return None;
-        };
-        if let Some(step) = start_step(stage, now, entry, slot) {
-            return Some(step);
-        }
-        if is_owed(stage, entry, slot) {
-            return None;
+        if let Some(found) = start_at(stage, now, table, slots, place) {
+            return found;
         }
     }
     None
+}
+
+/// The first start or hold in the order of the table, up to the first entry that init waits for.
+pub(crate) fn start_among<A: Allocator>(
+    stage: Stage,
+    now: u64,
+    table: &Table<A>,
+    slots: &[Record],
+    places: Places,
+) -> Option<Step>
+    requires limit { now ≤ CLOCK_LIMIT }
+    requires passed { ArePassed (Some stage) places table.now slots.now }
+    ensures { result ≡ start_among stage now table.now slots.now }
+{
+    if places.first >= places.next {
+        return start_from(stage, now, table, slots, places.next);
+    }
+    match start_at(stage, now, table, slots, places.first) {
+        Some(found) => found,
+        None => start_from(stage, now, table, slots, places.next),
+    }
 }
 
 /// Nothing is left to do in the stage.

@@ -1,6 +1,6 @@
-use Rattle.core_steps.proofs.Words.{refl, sym, ◌∙◌, Some}
-use Rattle.core_steps.proofs.Places.{passed_more}
+use Rattle.core_steps.proofs.Words.{arith, zip, Some, is_passed_at}
+use Rattle.core_steps.proofs.Places.{one_further}
 use Rattle.core_steps.proofs.walking.passed_to.Goals as goal
 
 pub loop-place-preserved : goal.loop-place-preserved
-loop-place-preserved g c = (refl, passed_more (Some c.args.stage) c.args.table.now c.args.slots.now c.loop-place.place c.in-Some.entry.now c.index-slots-place.result (sym c.in-Some.ensures) c.loop-place-test.true c.index-slots-place.is (sym c.is_passed.ensures ∙ c.if-not-is_passed.false) c.loop-place.invariant.1)
+loop-place-preserved g c = (omega (arith, c.loop-place.invariant.0), one_further (is_passed_at (Some c.args.stage) (zip c.args.table.now c.args.slots.now)) c.args.from c.loop-place.place c.loop-place.invariant.1 c.if-not-is_passed_at.ensures)

@@ -1,5 +1,5 @@
-use Rattle.core_steps.proofs.Words.{◌≡◌, true, Some, are_passed}
+use Rattle.core_steps.proofs.Words.{◌≤◌, Some, zip, ArePassedFrom}
 use Rattle.core_steps.proofs.walking.passed_to.Given as goal
 
 abbrev pub invariant-loop-place : goal.invariant-loop-place
-invariant-loop-place g l = (l.passed ≡ l.place) × (are_passed (Some l.stage) l.place l.table l.slots ≡ true)
+invariant-loop-place g l = (l.from ≤ l.place) × ArePassedFrom (Some l.stage) (zip l.table l.slots) l.from l.place

@@ -4,6 +4,7 @@ use Rattle.core_records.proofs.Changed.{child-after_answer, id-after_answer, ter
 use Rattle.core_records.proofs.Counted.{found_within, recount}
 use Rattle.core_records.proofs.Found.{absent_in, distinct_in, found_in, written}
 use Rattle.core_records.proofs.Timely.{timely_answer}
+use Rattle.core_records.proofs.Forgotten.{item_before}
 use Rattle.core_records.proofs.Keys.{own_child, own_termed}
 use Rattle.core_records.proofs.Indexes.{note_room, noted_index}
 use Rattle.core_records.proofs.records.Records.note_answer.Goals as goal
@@ -24,6 +25,12 @@ note-requires-clause-room g c = note_room child_of own_child c.args.id (after_an
 
 pub note-requires-2-clause-room : goal.note-requires-2-clause-room
 note-requires-2-clause-room g c = note_room termed_of own_termed c.args.id (after_answer c.args.answer c.args.now) c.in-Some.slot.now c.note_answer.new.self c.self.inside.termed c.termed_of-termed.result c.self.view_is (distinct_in c.self.inside.records c.args.self.now c.self.invariant.0 c.len.ensures.unique c.self.view_is) (found_in c.args.id c.in-Some.slot.now c.self.inside.records.entries c.args.self.now c.self.invariant.0 c.self.view_is c.in-Some.ensures.value) c.note_answer.ensures c.termed_of-termed.ensures c.self.invariant.4
+
+pub note-requires-clause-one : goal.note-requires-clause-one
+note-requires-clause-one g c = item_before child_of own_child c.args.id c.in-Some.slot.now c.self.inside.children c.child_of-old_child.result c.self.view_is (distinct_in c.self.inside.records c.args.self.now c.self.invariant.0 c.len.ensures.unique c.self.view_is) (found_in c.args.id c.in-Some.slot.now c.self.inside.records.entries c.args.self.now c.self.invariant.0 c.self.view_is c.in-Some.ensures.value) c.child_of-old_child.ensures c.self.invariant.3
+
+pub note-requires-2-clause-one : goal.note-requires-2-clause-one
+note-requires-2-clause-one g c = item_before termed_of own_termed c.args.id c.in-Some.slot.now c.self.inside.termed c.termed_of-old_termed.result c.self.view_is (distinct_in c.self.inside.records c.args.self.now c.self.invariant.0 c.len.ensures.unique c.self.view_is) (found_in c.args.id c.in-Some.slot.now c.self.inside.records.entries c.args.self.now c.self.invariant.0 c.self.view_is c.in-Some.ensures.value) c.termed_of-old_termed.ensures c.self.invariant.4
 
 pub invariant_of-self : goal.invariant_of-self
 invariant_of-self g c =

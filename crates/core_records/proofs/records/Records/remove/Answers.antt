@@ -1,12 +1,19 @@
 use Rattle.core_records.proofs.Words.{sym, same_id, CLOCK_LIMIT, child_of, termed_of}
 use Rattle.core_records.proofs.Counted.{found_within, removed_counts}
-use Rattle.core_records.proofs.Found.{found_in, removed}
+use Rattle.core_records.proofs.Found.{distinct_in, found_in, removed}
+use Rattle.core_records.proofs.Forgotten.{item_before}
 use Rattle.core_records.proofs.Keys.{own_child, own_termed}
 use Rattle.core_records.proofs.Indexes.{removed_index}
 use Rattle.core_records.proofs.records.Records.remove.Goals as goal
 
 pub subtract-requires : goal.subtract-requires
 subtract-requires g c = rw (c.of.ensures, c.self.invariant.2, c.self.view_is) (found_within c.args.id c.in-Some.slot c.args.self.now (found_in c.args.id c.in-Some.slot c.self.inside.records.entries c.args.self.now c.self.invariant.0 c.self.view_is c.in-Some.ensures.value))
+
+pub forget-requires-clause-one : goal.forget-requires-clause-one
+forget-requires-clause-one g c = item_before child_of own_child c.args.id c.in-Some.slot c.self.inside.children c.child_of.result c.self.view_is (distinct_in c.self.inside.records c.args.self.now c.self.invariant.0 c.len.ensures.unique c.self.view_is) (found_in c.args.id c.in-Some.slot c.self.inside.records.entries c.args.self.now c.self.invariant.0 c.self.view_is c.in-Some.ensures.value) c.child_of.ensures c.self.invariant.3
+
+pub forget-requires-in-Some-clause-one : goal.forget-requires-in-Some-clause-one
+forget-requires-in-Some-clause-one g c = item_before termed_of own_termed c.args.id c.in-Some.slot c.self.inside.termed c.termed_of.result c.self.view_is (distinct_in c.self.inside.records c.args.self.now c.self.invariant.0 c.len.ensures.unique c.self.view_is) (found_in c.args.id c.in-Some.slot c.self.inside.records.entries c.args.self.now c.self.invariant.0 c.self.view_is c.in-Some.ensures.value) c.termed_of.ensures c.self.invariant.4
 
 pub invariant_of-self : goal.invariant_of-self
 invariant_of-self g c =

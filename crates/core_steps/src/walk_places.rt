@@ -1,0 +1,41 @@
+//! Where a walk of the table begins.
+
+ghost use Rattle.std.specs.Prelude.{◌≡◌, ◌||◌, ◌==◌, ℕ, Bool};
+ghost use Rattle.core_steps.specs.declared.walk_places.Places.{Places};
+ghost use Rattle.core_steps.specs.Between.{AllBut};
+
+/// The entries that may be to be started or waited for: that at the first place, and those from the next on.
+#[derive(Clone, Copy)]
+pub(crate) struct Places {
+    pub(crate) first: usize,
+    pub(crate) next: usize,
+}
+
+impl Places {
+    /// All entries.
+    pub(crate) fn all() -> Places
+        ensures { result ≡ record { first = 0; next = 0 } }
+    {
+        Places { first: 0, next: 0 }
+    }
+
+    /// The entry at the place too.
+    pub(crate) fn with(self, place: usize) -> Places
+        ensures { (passed : ℕ → Bool) → AllBut (λ i. i == place || passed i) self
+            → AllBut passed result }
+    {
+        if place >= self.next || place == self.first {
+            return self;
+        }
+        if place < self.first {
+            return Places {
+                first: place,
+                next: self.first,
+            };
+        }
+        Places {
+            first: self.first,
+            next: place,
+        }
+    }
+}
