@@ -1,11 +1,11 @@
 -- Bytes taken one by one fill the blocks of the whole list; and what the reader of requests makes of a piece.
-use Rattle.host_trace.proofs.Words.{◌≡◌, refl, sym, ◌∙◌, ap, subst, ℕ, ◌+◌, ◌*◌, ◌/◌, ◌<◌, ◌==◌, Bool, true, false, cond, List, [], ◌∷◌, ◌++◌, length, take, drop, append-nil, append_assoc, length-append, length-drop, Option, Ok, arith, list_all, is_request, option_to_list, eqb-true, eqb-false, append_cancel_left, HeardRequest, heard_of, Begun, Stands, gots_of, over_of, Goal, Event, is_sound, TakeBytes, CoreState, LogState, Point, byte_after, bytes_after, requested, Continues, is_allowed, gone_on, Logs, Took, IsOver, Went, Leads, Heard, Hears, Tracks}
+use Rattle.host_trace.proofs.Words.{◌≡◌, refl, sym, ◌∙◌, ap, subst, ℕ, ◌+◌, ◌*◌, ◌/◌, ◌<◌, ◌==◌, Bool, true, false, cond, List, [], ◌∷◌, ◌++◌, length, take, drop, append-nil, append_assoc, length-append, length-drop, Option, Ok, arith, list_all, is_request, option_to_list, eqb-true, eqb-false, append_cancel_left, HeardRequest, heard_of, Begun, Stands, gots_of, over_of, Goal, Event, is_sound, TakeBytes, CoreState, LogState, Point, byte_after, bytes_after, requested, Continues, is_allowed, gone_on, past_of, Logs, Took, IsOver, Went, Leads, Heard, Hears, Tracks}
 use Rattle.initctl_frame.proofs.BlockLemmas.{gots_stay, gots_grow, over_feeds, blocks-partial}
 use Rattle.trace_events.specs.declared.happenings.Happening.TheVariants as past
 use Rattle.host_trace.specs.Leads.{At}
 use Rattle.host_trace.proofs.Point.{bytes_after-append}
 use Rattle.host_trace.proofs.Acting.{tracks_at}
-use Rattle.host_trace.proofs.Leading.{bytes_allowed, bytes_generation}
+use Rattle.host_trace.proofs.Leading.{bytes_allowed, bytes_generation, went_well}
 use Rattle.host_trace.proofs.Seconds.{given_short, logged, short_then}
 use Rattle.host_trace.proofs.Taking.{Took-none, Took-then}
 
@@ -86,8 +86,7 @@ Leads-fed c now old new l₀ l₁ room part given short fed gots hears goal p so
       let heard : Heard (Tracks now) l₀ l₁ goal p (gone_on (requested (option_to_list given)) p) = hears read.2 goal p sound fits.0 (ap (is_allowed goal) (sym read.1) ∙ allowed) in
       let more : is_sound goal (bytes_after part p).past ≡ true = ap (is_sound goal) read.1 ∙ heard.sound in
       record {
-        in_place = refl;
-        sound = more;
+        well = went_well goal p (TakeBytes room (Ok part) ∷ []) refl more;
         fits = (tracks_at now goal (gone_on (requested (option_to_list given)) p) (bytes_after part p) (sym read.1) (sym (bytes_generation part p)) heard.fits, read.0);
         log = logged goal (TakeBytes room (Ok part) ∷ []) p l₀ l₁ more (subst (Logs l₀ l₁ p.past) (sym read.1) heard.log);
       },
@@ -100,16 +99,15 @@ Leads-pieces f₀ f₁ f₂ l₀ l₁ l₂ room xs ys one two goal p sound fits 
   λ carried.
       let joined : bytes_after (xs ++ ys) p ≡ bytes_after ys (bytes_after xs p) = bytes_after-append xs ys p in
       let later : is_allowed goal (bytes_after ys (bytes_after xs p)).past ≡ true = ap (λ (q : Point). is_allowed goal q.past) (sym joined) ∙ allowed in
-      let first : Went f₁ l₀ l₁ goal p (TakeBytes room (Ok xs) ∷ []) = (one goal p sound fits (bytes_allowed goal ys (bytes_after xs p) later)).1 refl in
-      let second : Went f₂ l₁ l₂ goal (bytes_after xs p) (TakeBytes room (Ok ys) ∷ []) = (two goal (bytes_after xs p) first.sound first.fits later).1 refl in
+      let first : Went past_of f₁ l₀ l₁ goal p (TakeBytes room (Ok xs) ∷ []) = (one goal p sound fits (bytes_allowed goal ys (bytes_after xs p) later)).1 refl in
+      let second : Went past_of f₂ l₁ l₂ goal (bytes_after xs p) (TakeBytes room (Ok ys) ∷ []) = (two goal (bytes_after xs p) first.well.sound first.fits later).1 refl in
       record {
-        in_place = refl;
-        sound = ap (λ (q : Point). is_sound goal q.past) joined ∙ second.sound;
+        well = went_well goal p (TakeBytes room (Ok (xs ++ ys)) ∷ []) refl (ap (λ (q : Point). is_sound goal q.past) joined ∙ second.well.sound);
         fits = subst (f₂ goal) (sym joined) second.fits;
-        log = λ short. subst (λ (q : Point). Took l₀ l₂ p.past q.past) (sym joined) (Took-then l₀ l₁ l₂ p.past (bytes_after xs p).past (bytes_after ys (bytes_after xs p)).past (first.log short) (second.log (short_then goal (TakeBytes room (Ok xs) ∷ []) p first.sound short)));
+        log = λ short. subst (λ (q : Point). Took l₀ l₂ p.past q.past) (sym joined) (Took-then l₀ l₁ l₂ p.past (bytes_after xs p).past (bytes_after ys (bytes_after xs p)).past (first.log short) (second.log (short_then goal (TakeBytes room (Ok xs) ∷ []) p first.well.sound short)));
       },
 )
 
 -- a call that took no bytes
 pub Leads-no_bytes : (fit : Goal → Point → Type 0) (log : LogState) (room : ℕ) → Leads fit fit log log (TakeBytes room (Ok []) ∷ [])
-Leads-no_bytes fit log room goal p sound fits allowed = (tt, λ carried. record { in_place = refl; sound = sound; fits = fits; log = λ short. Took-none log p.past })
+Leads-no_bytes fit log room goal p sound fits allowed = (tt, λ carried. record { well = went_well goal p (TakeBytes room (Ok []) ∷ []) refl sound; fits = fits; log = λ short. Took-none log p.past })

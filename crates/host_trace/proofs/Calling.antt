@@ -15,7 +15,7 @@ use Rattle.core_model.proofs.Deciding.{decide_due}
 use Rattle.core_text.specs.Range as range
 use Rattle.core_text.specs.Refused.{IsTextIn, IsTextOf}
 use Rattle.host_calls.specs.declared.calls.HostFault.{HostFault}
-use Rattle.host_trace.proofs.Leading.{nudged_allowed, Leads-heard, Hears-then}
+use Rattle.host_trace.proofs.Leading.{nudged_allowed, went_well, Leads-heard, Hears-then}
 use Rattle.host_trace.proofs.Seconds.{logged}
 use Rattle.host_trace.proofs.Acting.{sound_met, Hears-step, table_sound, tracks, tracks_at}
 
@@ -47,7 +47,7 @@ Leads-clock c new l₀ l₁ time hears goal p sound fits allowed = (
   tt,
   λ carried.
       let heard : Heard (Tracks new) l₀ l₁ goal p (gone_on (clocked time) p) = hears goal p sound fits allowed in
-      record { in_place = refl; sound = heard.sound; fits = (tracks_at new goal (gone_on (clocked time) p) (record p { lates = 0; past = clocked time p.past }) refl refl heard.fits, refl); log = logged goal (Clock time ∷ []) p l₀ l₁ heard.sound heard.log },
+      record { well = went_well goal p (Clock time ∷ []) refl heard.sound; fits = (tracks_at new goal (gone_on (clocked time) p) (record p { lates = 0; past = clocked time p.past }) refl refl heard.fits, refl); log = logged goal (Clock time ∷ []) p l₀ l₁ heard.sound heard.log },
 )
 
 -- a late answer was asked for: behind the last the round begins
@@ -59,8 +59,7 @@ Leads-late c new l₀ l₁ late count hears goal p sound fits allowed = (
       let heard : Heard (Tracks new) l₀ l₁ goal p (gone_on (λ so_far. nudged_if (is_last late count) (come late so_far)) p) = hears goal p sound fits.0 (ap (is_allowed goal) (sym comes) ∙ allowed) in
       let more : is_sound goal (nudged_if (is_last late p.lates) (come late p.past)) ≡ true = ap (is_sound goal) comes ∙ heard.sound in
       record {
-        in_place = refl;
-        sound = more;
+        well = went_well goal p (Late late ∷ []) refl more;
         fits = (tracks_at new goal (gone_on (λ so_far. nudged_if (is_last late count) (come late so_far)) p) (point_after (Late late ∷ []) p) (sym comes) refl heard.fits, ap (λ n. n + 1) fits.1);
         log = logged goal (Late late ∷ []) p l₀ l₁ more (subst (Logs l₀ l₁ p.past) (sym comes) heard.log);
       },
@@ -96,8 +95,7 @@ Leads-not_read c new l₀ l₁ parts fits lasts took goal p sound gave allowed =
       let goes : past.NotRead ∷ before_reading (reading parts ∷ p.past) ≡ past.NotRead ∷ p.past = ap (λ (so_far : List Event). past.NotRead ∷ so_far) (reading_goes parts p.past) in
       let more : is_sound goal (past.NotRead ∷ p.past) ≡ true = sound_met goal past.NotRead p.past refl (ap (is_allowed goal) (sym goes) ∙ allowed) sound in
       record {
-        in_place = and_from (is_first goal step.Reread p.past) true (first_is goal p.past step.Reread gave.0) refl;
-        sound = ap (is_sound goal) goes ∙ more;
+        well = went_well goal p (Announce past.NotRead ∷ ReadTables parts ∷ []) (and_from (is_first goal step.Reread p.past) true (first_is goal p.past step.Reread gave.0) refl) (ap (is_sound goal) goes ∙ more);
         fits = tracks c new goal p (point_after (Announce past.NotRead ∷ ReadTables parts ∷ []) p) lasts refl gave.1 (subst (FitsAll new goal) (sym goes) (all_on c new goal p.past (past.NotRead ∷ p.past) (fits goal p.past sound gave.1.fits.0) gave.1.fits));
         log = logged goal (Announce past.NotRead ∷ ReadTables parts ∷ []) p l₀ l₁ (ap (is_sound goal) goes ∙ more) (subst (Logs l₀ l₁ p.past) (sym goes) (took p.past));
       },
@@ -120,8 +118,7 @@ Leads-not_handed c new l₀ l₁ fits lasts took goal p sound gave allowed = (
       let goes : past.Handed handed.Failed ∷ before_handing p.past ≡ past.Handed handed.Failed ∷ p.past = ap (λ (so_far : List Event). past.Handed handed.Failed ∷ so_far) (none_handed goal p.past c sound gave.0 gave.1.fits.0) in
       let more : is_sound goal (past.Handed handed.Failed ∷ p.past) ≡ true = sound_met goal (past.Handed handed.Failed) p.past refl (ap (is_allowed goal) (sym goes) ∙ allowed) sound in
       record {
-        in_place = and_from (is_first goal step.Reexec p.past) true (first_is goal p.past step.Reexec gave.0) refl;
-        sound = ap (is_sound goal) goes ∙ more;
+        well = went_well goal p (Announce (past.Handed handed.Failed) ∷ []) (and_from (is_first goal step.Reexec p.past) true (first_is goal p.past step.Reexec gave.0) refl) (ap (is_sound goal) goes ∙ more);
         fits = tracks c new goal p (point_after (Announce (past.Handed handed.Failed) ∷ []) p) lasts refl gave.1 (subst (FitsAll new goal) (sym goes) (all_on c new goal p.past (past.Handed handed.Failed ∷ p.past) (fits goal p.past sound gave.1.fits.0) gave.1.fits));
         log = logged goal (Announce (past.Handed handed.Failed) ∷ []) p l₀ l₁ (ap (is_sound goal) goes ∙ more) (subst (Logs l₀ l₁ p.past) (sym goes) (took p.past));
       },
@@ -164,8 +161,7 @@ Leads-carried c next new l₀ l₁ how text back handed comes took goal p sound 
           let goes : (point_after (carrying how text back) p).past ≡ past.Handed how ∷ p.past = carrying_goes how text back p (none_handed goal p.past c sound gave.0 gave.1.fits.0) outcome in
           let more : is_sound goal (past.Handed how ∷ p.past) ≡ true = sound_met goal (past.Handed how) p.past refl (ap (is_allowed goal) (sym goes) ∙ allowed) sound in
           record {
-            in_place = carrying_placed how text back goal p (first_is goal p.past step.Reexec gave.0) outcome;
-            sound = ap (is_sound goal) goes ∙ more;
+            well = went_well goal p (carrying how text back) (carrying_placed how text back goal p (first_is goal p.past step.Reexec gave.0) outcome) (ap (is_sound goal) goes ∙ more);
             fits = subst (λ s. Tracks s goal (point_after (carrying how text back) p)) (sym same) (record { fits = subst (FitsAll next goal) (sym goes) (fits how); short = handed.short ∙ gave.1.short; own = own ∙ sym (carrying_generation how text back p) });
             log = logged goal (carrying how text back) p l₀ l₁ (ap (is_sound goal) goes ∙ more) (subst (Logs l₀ l₁ p.past) (sym goes) (took p.past));
           },

@@ -1,12 +1,13 @@
 -- What a log had taken when each call was made: of one call, of none, and of two parts.
-use Rattle.host_trace.proofs.Words.{arith, ◌≡◌, refl, sym, ◌∙◌, ap, subst, ◌⊎◌, true, List, [], ◌∷◌, ◌++◌, Option, Some, None, and_from, and_parts, OrderKind, Goal, Event, is_sound, LogState, Announce, HostCall, Point, announced, point_after, Leads, Logs, Took, Went, are_carried, are_seconds_short, is_allowed, is_short, are_short, is_seconds}
+use Rattle.host_trace.proofs.Words.{arith, ◌≡◌, refl, sym, ◌∙◌, ap, subst, true, List, [], ◌∷◌, ◌++◌, Option, Some, None, and_parts, OrderKind, Goal, Event, is_sound, LogState, Announce, HostCall, Point, announced, point_after, Leads, Logs, Took, UpTo, Went, WentWell, are_seconds_short, is_allowed, are_short, is_seconds, past_of}
 use Rattle.std.specs.Prelude.{IfSome}
 use Rattle.trace_events.specs.declared.happenings.Happening.TheVariants.{Asked, NotRead, Handed}
 use Rattle.std.proofs.lemmas.Option.{none-some, same_Some}
 use Rattle.host_calls.specs.Record.{AreTold, Since}
 use Rattle.host_trace.specs.Edges.{AddsMade, Kept, KeptAt, Made, calls_of, trace_at, untimed, untimed_calls}
-use Rattle.host_trace.proofs.Leading.{allowed_rest, calls_allowed, carried_parts}
-use Rattle.host_trace.proofs.Point.{point_after-append}
+use Rattle.host_trace.specs.Fronts.{Began, Fronts}
+use Rattle.host_trace.proofs.Fronts.{Began-then}
+use Rattle.host_trace.proofs.Leading.{UpTo-map, UpTo-then, allowed_rest}
 use Rattle.host_trace.proofs.Seconds.{short_then}
 use Rattle.host_trace.proofs.Taking.{Took-none, Took-then}
 
@@ -48,52 +49,74 @@ Since-untimed L old new P (mades, told, made) = (calls_of mades, by old new told
 -- ---- at each call
 
 -- the log is as it was, and so is the trace
-pub kept_still : (fitted : Goal → Point → Type 0) (old : LogState) (call : HostCall) → ((so_far : List Event) → trace_at call so_far ≡ so_far) → KeptAt fitted old old call []
-kept_still fitted old call same goal p sound fits allowed carried short = subst (Took old old p.past) (sym (same p.past)) (Took-none old p.past)
+pub kept_still : (fitted : Goal → Point → Type 0) (old : LogState) (call : HostCall) → ((so_far : List Event) → trace_at call so_far ≡ so_far) → KeptAt past_of fitted old old call []
+kept_still fitted old call same goal p sound fits allowed = (tt, λ carried short. subst (Took old old p.past) (sym (same p.past)) (Took-none old p.past))
 
 -- the order was written
-pub kept_asked : (fitted : Goal → Point → Type 0) (old now : LogState) (call : HostCall) (id : List _) (order : OrderKind) → ((so_far : List Event) → trace_at call so_far ≡ Asked id order ∷ so_far) → ((so_far : List Event) → Logs old now so_far (Asked id order ∷ so_far)) → KeptAt fitted old now call []
-kept_asked fitted old now call id order asks took goal p sound fits allowed carried short = subst (Took old now p.past) (sym (asks p.past)) (took p.past (and_parts (is_seconds goal.grace) (are_short p.past) short).1)
+pub kept_asked : (fitted : Goal → Point → Type 0) (old now : LogState) (call : HostCall) (id : List _) (order : OrderKind) → ((so_far : List Event) → trace_at call so_far ≡ Asked id order ∷ so_far) → ((so_far : List Event) → Logs old now so_far (Asked id order ∷ so_far)) → KeptAt past_of fitted old now call []
+kept_asked fitted old now call id order asks took goal p sound fits allowed = (tt, λ carried short. subst (Took old now p.past) (sym (asks p.past)) (took p.past (and_parts (is_seconds goal.grace) (are_short p.past) short).1))
 
 announced_allows : (goal : Goal) (happening : Event) (so_far : List Event) → is_allowed goal so_far ≡ true → is_allowed goal (announced happening so_far) ≡ true
 announced_allows goal happening so_far allowed = grind (arith, allowed_rest)
 
 -- what is announced was written, and the calls led to that
-pub kept_led : (f₀ f₁ : Goal → Point → Type 0) (old now : LogState) (happening : Event) (earlier : List HostCall) → Leads f₀ f₁ old now (Announce happening ∷ earlier) → KeptAt f₀ old now (Announce happening) earlier
-kept_led f₀ f₁ old now happening earlier leads goal p sound fits allowed carried short =
-    let went : Went f₁ old now goal p (Announce happening ∷ earlier) = (leads goal p sound fits (announced_allows goal happening (point_after earlier p).past allowed)).1 carried in
-    went.log short
+pub kept_led : (f₀ f₁ : Goal → Point → Type 0) (old now : LogState) (happening : Event) (earlier : List HostCall) → Leads f₀ f₁ old now (Announce happening ∷ earlier) → KeptAt past_of f₀ old now (Announce happening) earlier
+kept_led f₀ f₁ old now happening earlier leads goal p sound fits allowed =
+    let led = leads goal p sound fits (announced_allows goal happening (point_after earlier p).past allowed) in
+    (led.0, λ carried. (led.1 carried).log)
 
 -- behind earlier calls
-kept_then : (f₀ f₁ : Goal → Point → Type 0) (old mid now : LogState) (call : HostCall) (xs ys : List HostCall) → Leads f₀ f₁ old mid xs → KeptAt f₁ mid now call ys → KeptAt f₀ old now call (ys ++ xs)
-kept_then f₀ f₁ old mid now call xs ys leads kept goal p sound fits allowed carried short =
-    let joined : point_after (ys ++ xs) p ≡ point_after ys (point_after xs p) = point_after-append ys xs p in
-    let later : is_allowed goal (point_after ys (point_after xs p)).past ≡ true = ap (λ (q : Point). is_allowed goal q.past) (sym joined) ∙ allowed in
-    let parts = carried_parts ys xs p carried in
-    let first : Went f₁ old mid goal p xs = (leads goal p sound fits (calls_allowed goal ys (point_after xs p) later)).1 parts.1 in
-    subst (λ (q : Point). Took old now p.past (trace_at call q.past)) (sym joined)
-    (Took-then old mid now p.past (point_after xs p).past (trace_at call (point_after ys (point_after xs p)).past) (first.log short)
-    (kept goal (point_after xs p) first.sound first.fits later parts.0 (short_then goal xs p first.sound short)))
+kept_then : (f₀ f₁ : Goal → Point → Type 0) (old mid now : LogState) (call : HostCall) (xs ys : List HostCall) → Leads f₀ f₁ old mid xs → KeptAt past_of f₁ mid now call ys → KeptAt past_of f₀ old now call (ys ++ xs)
+kept_then f₀ f₁ old mid now call xs ys leads kept = UpTo-then f₀ f₁ old mid
+    (λ goal p calls. are_seconds_short goal p.past ≡ true → Took mid now p.past (trace_at call (point_after calls p).past))
+    (λ goal p calls. are_seconds_short goal p.past ≡ true → Took old now p.past (trace_at call (point_after calls p).past)) xs ys leads kept
+    (λ goal p joined went took short. subst (λ (q : Point). Took old now p.past (trace_at call q.past)) (sym joined)
+    (Took-then old mid now p.past (point_after xs p).past (trace_at call (point_after ys (point_after xs p)).past) (went.log short) (took (short_then goal xs p went.well.sound short))))
 
 -- ---- at each of some calls
 
 module _ {L : Type 0} (state : L → LogState) where
-  pub Kept-one : (fitted : Goal → Point → Type 0) (old : LogState) (call : HostCall) (at : Option L) (log : L) → IfSome at (λ then. then ≡ log) → KeptAt fitted old (state log) call [] → Kept state fitted old (record { call = call; at = at } ∷ [])
-  Kept-one fitted old call at log then kept = (told_at at log (λ l. KeptAt fitted old (state l) call []) then kept, tt)
+  pub Kept-one : (fitted : Goal → Point → Type 0) (old : LogState) (call : HostCall) (at : Option L) (log : L) → IfSome at (λ then. then ≡ log) → KeptAt past_of fitted old (state log) call [] → Kept state past_of fitted old (record { call = call; at = at } ∷ [])
+  Kept-one fitted old call at log then kept = (told_at at log (λ l. KeptAt past_of fitted old (state l) call []) then kept, tt)
 
-  pub Kept-then : (f₀ f₁ : Goal → Point → Type 0) (old mid : LogState) (xs ys : List (Made L)) → Leads f₀ f₁ old mid (calls_of xs) → Kept state f₀ old xs → Kept state f₁ mid ys → Kept state f₀ old (ys ++ xs)
+  pub Kept-then : (f₀ f₁ : Goal → Point → Type 0) (old mid : LogState) (xs ys : List (Made L)) → Leads f₀ f₁ old mid (calls_of xs) → Kept state past_of f₀ old xs → Kept state past_of f₁ mid ys → Kept state past_of f₀ old (ys ++ xs)
   Kept-then f₀ f₁ old mid xs [] leads first second = first
   Kept-then f₀ f₁ old mid xs (made ∷ ys) leads first second = (by made.at second.0, Kept-then f₀ f₁ old mid xs ys leads first second.1)
     where
-      by : (at : Option L) → IfSome at (λ log. KeptAt f₁ mid (state log) made.call (calls_of ys)) → IfSome at (λ log. KeptAt f₀ old (state log) made.call (calls_of (ys ++ xs)))
+      by : (at : Option L) → IfSome at (λ log. KeptAt past_of f₁ mid (state log) made.call (calls_of ys)) → IfSome at (λ log. KeptAt past_of f₀ old (state log) made.call (calls_of (ys ++ xs)))
       by None kept = tt
-      by (Some log) kept = subst (KeptAt f₀ old (state log) made.call) (sym (calls_of-append ys xs)) (kept_then f₀ f₁ old mid (state log) made.call (calls_of xs) (calls_of ys) leads kept)
+      by (Some log) kept = subst (KeptAt past_of f₀ old (state log) made.call) (sym (calls_of-append ys xs)) (kept_then f₀ f₁ old mid (state log) made.call (calls_of xs) (calls_of ys) leads kept)
 
-  -- what is said of what fitted is said of what is narrower
-  pub Kept-narrower : (f g : Goal → Point → Type 0) (old : LogState) (mades : List (Made L)) → ((goal : Goal) (p : Point) → is_sound goal p.past ≡ true → g goal p → f goal p) → Kept state f old mades → Kept state g old mades
-  Kept-narrower f g old [] narrower kept = tt
-  Kept-narrower f g old (made ∷ mades) narrower kept = (by made.at kept.0, Kept-narrower f g old mades narrower kept.1)
+-- ---- what is said of what fitted is said of what is narrower, and of a log that had taken what came before
+
+module _ (from : Point → List Event) (f g : Goal → Point → Type 0) (l₀ l₁ : LogState) (took : (goal : Goal) (p : Point) → is_sound goal p.past ≡ true → g goal p → f goal p × (are_seconds_short goal p.past ≡ true → Took l₀ l₁ (from p) p.past)) where
+  pub leads_from : (fit : Goal → Point → Type 0) (l₂ : LogState) (calls : List HostCall) → Leads f fit l₁ l₂ calls → UpTo g (Went from fit l₀ l₂) calls
+  leads_from fit l₂ calls = UpTo-map f g (Went past_of fit l₁ l₂) (Went from fit l₀ l₂) calls
+      (λ goal p sound fits.
+      let (before, had) = took goal p sound fits in
+      (before, λ went. record { well = went.well; fits = went.fits; log = λ short. Took-then l₀ l₁ l₂ (from p) p.past (point_after calls p).past (had short) (went.log short) }))
+
+  pub fronts_from : (l₂ : LogState) (calls : List HostCall) → Fronts past_of f l₁ l₂ calls → Fronts from g l₀ l₂ calls
+  fronts_from l₂ calls fronts later earlier next call is apart = UpTo-map f g (So past_of l₁) (So from l₀) (call ∷ earlier)
+      (λ goal p sound fits.
+      let (before, had) = took goal p sound fits in
+      (before, λ so_far. (so_far.0, λ short. Began-then l₀ l₁ l₂ (from p) p.past (point_after (call ∷ earlier) p).past (had short) (so_far.1 short))))
+      (fronts later earlier next call is apart)
     where
-      by : (at : Option L) → IfSome at (λ log. KeptAt f old (state log) made.call (calls_of mades)) → IfSome at (λ log. KeptAt g old (state log) made.call (calls_of mades))
-      by None kept = tt
-      by (Some log) kept = λ goal p sound fits. kept goal p sound (narrower goal p sound fits)
+      So : (Point → List Event) → LogState → Goal → Point → List HostCall → Type 0
+      So at log goal p so_far = WentWell goal p so_far × (are_seconds_short goal p.past ≡ true → Began log l₂ (at p) (point_after so_far p).past)
+
+  pub kept_from : {L : Type 0} (state : L → LogState) (mades : List (Made L)) → Kept state past_of f l₁ mades → Kept state from g l₀ mades
+  kept_from state [] kept = tt
+  kept_from {L = L} state (made ∷ mades) kept = (by made.at kept.0, kept_from state mades kept.1)
+    where
+      At : (Point → List Event) → LogState → L → Goal → Point → List HostCall → Type 0
+      At at old log goal p earlier = are_seconds_short goal p.past ≡ true → Took old (state log) (at p) (trace_at made.call (point_after earlier p).past)
+
+      by : (at : Option L) → IfSome at (λ log. KeptAt past_of f l₁ (state log) made.call (calls_of mades)) → IfSome at (λ log. KeptAt from g l₀ (state log) made.call (calls_of mades))
+      by None so_far = tt
+      by (Some log) so_far = UpTo-map f g (At past_of l₁ log) (At from l₀ log) (calls_of mades)
+          (λ goal p sound fits.
+          let (before, had) = took goal p sound fits in
+          (before, λ taken short. Took-then l₀ l₁ (state log) (from p) p.past (trace_at made.call (point_after (calls_of mades) p).past) (had short) (taken short)))
+          so_far

@@ -1,7 +1,8 @@
 -- A part of init's work: of one call, of none, and of two parts; and that of what was possible the earlier part was.
-use Rattle.host_trace.proofs.Words.{arith, ◌≡◌, refl, sym, ◌∙◌, ap, subst, ℕ, Bool, true, false, ◌+◌, List, [], ◌∷◌, ◌++◌, Option, Ok, Err, list_all, and_parts, Answer, OrderKind, Goal, Event, is_sound, Start, Signal, Late, Clock, TakeBytes, ReadTables, Carry, Announce, Pause, Reply, HostCall, TextRead, LogState, Point, answered, ordered, come, nudged_if, byte_after, bytes_after, handed_if, announced, after, point_after, is_in_place, AreTexts, Counted, IsStateText, meets, is_allowed, are_carried, gone_on, Took, Went, Leads, Heard, Hears, takes_none}
+use Rattle.host_trace.proofs.Words.{arith, ◌≡◌, refl, sym, ◌∙◌, ap, subst, ℕ, Bool, true, false, ◌+◌, List, [], ◌∷◌, ◌++◌, Option, Ok, Err, list_all, and_parts, Answer, OrderKind, Goal, Event, is_sound, Start, Signal, Late, Clock, TakeBytes, ReadTables, Carry, Announce, Pause, Reply, HostCall, TextRead, LogState, Point, answered, ordered, come, nudged_if, byte_after, bytes_after, handed_if, announced, after, point_after, is_in_place, AreTexts, Counted, IsStateText, meets, is_allowed, are_carried, gone_on, past_of, Took, UpTo, Went, WentWell, has_trace, Leads, Heard, Hears, takes_none}
 use Rattle.trace_events.specs.declared.happenings.Handed.TheVariants as handed
 use Rattle.trace_events.specs.declared.happenings.Happening.TheVariants as past
+use Rattle.trace_laws.proofs.Laws.{lawful_unbroken, sound_lawful}
 use Rattle.host_calls.specs.declared.calls.Call.TheVariants.{Look}
 use Rattle.host_trace.proofs.Point.{point_after-append, has_trace-append, has_trace-one}
 use Rattle.host_trace.proofs.Seconds.{logged, short_then}
@@ -59,6 +60,10 @@ module _ (goal : Goal) where
   calls_allowed [] p h = h
   calls_allowed (call ∷ calls) p h = calls_allowed calls p (after_allowed call (point_after calls p) h)
 
+-- of a sound trace no happening breaks a law
+pub went_well : (goal : Goal) (p : Point) (calls : List HostCall) → has_trace goal calls p ≡ true → is_sound goal (point_after calls p).past ≡ true → WentWell goal p calls
+went_well goal p calls in_place sound = record { in_place = in_place; sound = sound; unbroken = lawful_unbroken (point_after calls p).past (sound_lawful goal (point_after calls p).past sound) }
+
 -- a call that comes to what was heard, in its place
 pub Leads-heard : (fitted fit : Goal → Point → Type 0) (old new : LogState) (call : HostCall) (more : List Event → List Event) → Hears fitted fit old new more → ((p : Point) → after call p ≡ gone_on more p) → ((goal : Goal) (p : Point) → is_sound goal p.past ≡ true → fitted goal p → is_in_place goal call [] p.past ≡ true) → ((goal : Goal) (p : Point) → AreTexts goal (call ∷ []) p) → Leads fitted fit old new (call ∷ [])
 Leads-heard fitted fit old new call more hears comes place texts goal p sound fits allowed = (
@@ -67,8 +72,7 @@ Leads-heard fitted fit old new call more hears comes place texts goal p sound fi
       let heard : Heard fit old new goal p (gone_on more p) = hears goal p sound fits (ap (λ (q : Point). is_allowed goal q.past) (sym (comes p)) ∙ allowed) in
       let behind : Heard fit old new goal p (after call p) = subst (Heard fit old new goal p) (sym (comes p)) heard in
       record {
-        in_place = has_trace-one goal call p (ap (λ (q : Point). q.generation) (comes p)) (place goal p sound fits);
-        sound = behind.sound;
+        well = went_well goal p (call ∷ []) (has_trace-one goal call p (ap (λ (q : Point). q.generation) (comes p)) (place goal p sound fits)) behind.sound;
         fits = behind.fits;
         log = logged goal (call ∷ []) p old new behind.sound behind.log;
       },
@@ -99,36 +103,49 @@ texts_then goal (Announce happening ∷ ys) xs p later earlier = texts_then goal
 texts_then goal (Pause ∷ ys) xs p later earlier = texts_then goal ys xs p later earlier
 
 pub Leads-none : (fit : Goal → Point → Type 0) (log : LogState) → Leads fit fit log log []
-Leads-none fit log goal p sound fits allowed = (tt, λ carried. record { in_place = refl; sound = sound; fits = fits; log = λ short. Took-none log p.past })
+Leads-none fit log goal p sound fits allowed = (tt, λ carried. record { well = went_well goal p [] refl sound; fits = fits; log = λ short. Took-none log p.past })
 
--- ys behind xs
-pub Leads-then : (f₀ f₁ f₂ : Goal → Point → Type 0) (l₀ l₁ l₂ : LogState) (xs ys : List HostCall) → Leads f₀ f₁ l₀ l₁ xs → Leads f₁ f₂ l₁ l₂ ys → Leads f₀ f₂ l₀ l₂ (ys ++ xs)
-Leads-then f₀ f₁ f₂ l₀ l₁ l₂ xs ys one two goal p sound fits allowed =
+-- what is so up to some calls, where less is fitted, or of what follows
+pub UpTo-map : (f g : Goal → Point → Type 0) (P Q : Goal → Point → List HostCall → Type 0) (calls : List HostCall) → ((goal : Goal) (p : Point) → is_sound goal p.past ≡ true → g goal p → f goal p × (P goal p calls → Q goal p calls)) → UpTo f P calls → UpTo g Q calls
+UpTo-map f g P Q calls more up goal p sound fits allowed =
+    let (before, behind) = more goal p sound fits in
+    let led = up goal p sound before allowed in
+    (led.0, λ carried. behind (led.1 carried))
+
+-- or behind others
+pub UpTo-then : (f₀ f₁ : Goal → Point → Type 0) (old mid : LogState) (Q R : Goal → Point → List HostCall → Type 0) (xs ys : List HostCall) → Leads f₀ f₁ old mid xs → UpTo f₁ Q ys
+    → ((goal : Goal) (p : Point) → point_after (ys ++ xs) p ≡ point_after ys (point_after xs p) → Went past_of f₁ old mid goal p xs → Q goal (point_after xs p) ys → R goal p (ys ++ xs)) → UpTo f₀ R (ys ++ xs)
+UpTo-then f₀ f₁ old mid Q R xs ys one two both goal p sound fits allowed =
     let joined : point_after (ys ++ xs) p ≡ point_after ys (point_after xs p) = point_after-append ys xs p in
     let later : is_allowed goal (point_after ys (point_after xs p)).past ≡ true = ap (λ (q : Point). is_allowed goal q.past) (sym joined) ∙ allowed in
     let earlier = one goal p sound fits (calls_allowed goal ys (point_after xs p) later) in
-    let behind : are_carried xs p ≡ true → AreTexts goal ys (point_after xs p) × (are_carried ys (point_after xs p) ≡ true → Went f₂ l₁ l₂ goal (point_after xs p) ys) = λ carried. two goal (point_after xs p) (earlier.1 carried).sound (earlier.1 carried).fits later in (
+    let behind : are_carried xs p ≡ true → AreTexts goal ys (point_after xs p) × (are_carried ys (point_after xs p) ≡ true → Q goal (point_after xs p) ys) = λ carried. two goal (point_after xs p) (earlier.1 carried).well.sound (earlier.1 carried).fits later in (
       texts_then goal ys xs p (λ carried. (behind carried).0) earlier.0,
       λ carried.
           let parts = carried_parts ys xs p carried in
-          let first : Went f₁ l₀ l₁ goal p xs = earlier.1 parts.1 in
-          let second : Went f₂ l₁ l₂ goal (point_after xs p) ys = (behind parts.1).1 parts.0 in
-          record {
-            in_place = has_trace-append goal ys xs p second.in_place first.in_place;
-            sound = ap (λ (q : Point). is_sound goal q.past) joined ∙ second.sound;
-            fits = subst (f₂ goal) (sym joined) second.fits;
-            log = λ short. subst (λ (q : Point). Took l₀ l₂ p.past q.past) (sym joined) (Took-then l₀ l₁ l₂ p.past (point_after xs p).past (point_after ys (point_after xs p)).past (first.log short) (second.log (short_then goal xs p first.sound short)));
-          },
+          both goal p joined (earlier.1 parts.1) ((behind parts.1).1 parts.0),
     )
 
+pub well_then : (goal : Goal) (p : Point) (xs ys : List HostCall) → WentWell goal p xs → WentWell goal (point_after xs p) ys → WentWell goal p (ys ++ xs)
+well_then goal p xs ys first second = went_well goal p (ys ++ xs) (has_trace-append goal ys xs p second.in_place first.in_place) (ap (λ (q : Point). is_sound goal q.past) (point_after-append ys xs p) ∙ second.sound)
+
+-- ys behind xs
+pub Leads-then : (f₀ f₁ f₂ : Goal → Point → Type 0) (l₀ l₁ l₂ : LogState) (xs ys : List HostCall) → Leads f₀ f₁ l₀ l₁ xs → Leads f₁ f₂ l₁ l₂ ys → Leads f₀ f₂ l₀ l₂ (ys ++ xs)
+Leads-then f₀ f₁ f₂ l₀ l₁ l₂ xs ys one two = UpTo-then f₀ f₁ l₀ l₁ (Went past_of f₂ l₁ l₂) (Went past_of f₂ l₀ l₂) xs ys one two (λ goal p joined first second. record {
+  well = well_then goal p xs ys first.well second.well;
+  fits = subst (f₂ goal) (sym joined) second.fits;
+  log = λ short. subst (λ (q : Point). Took l₀ l₂ p.past q.past) (sym joined) (Took-then l₀ l₁ l₂ p.past (point_after xs p).past (point_after ys (point_after xs p)).past (first.log short) (second.log (short_then goal xs p first.well.sound short)));
+})
+
+-- from what is narrower, to what follows there of a sound trace
+pub Leads-map : (f g fit fit' : Goal → Point → Type 0) (old new : LogState) (calls : List HostCall) → ((goal : Goal) (p : Point) → is_sound goal p.past ≡ true → g goal p → f goal p × (is_sound goal (point_after calls p).past ≡ true → fit goal (point_after calls p) → fit' goal (point_after calls p))) → Leads f fit old new calls → Leads g fit' old new calls
+Leads-map f g fit fit' old new calls more = UpTo-map f g (Went past_of fit old new) (Went past_of fit' old new) calls
+    (λ goal p sound fits.
+    let (before, behind) = more goal p sound fits in
+    (before, λ went. record { well = went.well; fits = behind went.well.sound went.fits; log = went.log }))
+
 pub Leads-weaken : (fitted fitted' fit fit' : Goal → Point → Type 0) (old new : LogState) (calls : List HostCall) → ((goal : Goal) (p : Point) → fitted' goal p → fitted goal p) → ((goal : Goal) (p : Point) → fit goal p → fit' goal p) → Leads fitted fit old new calls → Leads fitted' fit' old new calls
-Leads-weaken fitted fitted' fit fit' old new calls before behind leads goal p sound fits allowed =
-    let led = leads goal p sound (before goal p fits) allowed in (
-      led.0,
-      λ carried.
-          let went : Went fit old new goal p calls = led.1 carried in
-          record { in_place = went.in_place; sound = went.sound; fits = behind goal (point_after calls p) went.fits; log = went.log },
-    )
+Leads-weaken fitted fitted' fit fit' old new calls before behind = Leads-map fitted fitted' fit fit' old new calls (λ goal p sound fits. (before goal p fits, λ now. behind goal (point_after calls p)))
 
 pub over_left : (calls : List HostCall) (p : Point) → list_all takes_none calls ≡ true → (point_after calls p).over ≡ p.over
 over_left [] p h = grind arith
@@ -149,13 +166,7 @@ bytes_counted room (Err fault) count goal p is = is
 
 -- what the calls leave as it is stays beside what they make fit
 pub Leads-beside : (f₀ f₁ K : Goal → Point → Type 0) (old new : LogState) (calls : List HostCall) → ((goal : Goal) (p : Point) → K goal p → K goal (point_after calls p)) → Leads f₀ f₁ old new calls → Leads (λ goal p. f₀ goal p × K goal p) (λ goal p. f₁ goal p × K goal p) old new calls
-Leads-beside f₀ f₁ K old new calls kept leads goal p sound fits allowed =
-    let led = leads goal p sound fits.0 allowed in (
-      led.0,
-      λ carried.
-          let went : Went f₁ old new goal p calls = led.1 carried in
-          record { in_place = went.in_place; sound = went.sound; fits = (went.fits, kept goal p fits.1); log = went.log },
-    )
+Leads-beside f₀ f₁ K old new calls kept = Leads-map f₀ (λ goal p. f₀ goal p × K goal p) f₁ (λ goal p. f₁ goal p × K goal p) old new calls (λ goal p sound fits. (fits.0, λ now behind. (behind, kept goal p fits.1)))
 
 pub Leads-frame : (f₀ f₁ : Goal → Point → Type 0) (K : List ℕ → Type 0) (old new : LogState) (calls : List HostCall) → list_all takes_none calls ≡ true → Leads f₀ f₁ old new calls → Leads (λ goal p. f₀ goal p × K p.over) (λ goal p. f₁ goal p × K p.over) old new calls
 Leads-frame f₀ f₁ K old new calls none leads = Leads-beside f₀ f₁ (λ goal p. K p.over) old new calls (λ goal p kept. subst K (sym (over_left calls p none)) kept) leads
@@ -165,8 +176,7 @@ pub Leads-still : (fit : Goal → Point → Type 0) (log : LogState) (call : Hos
 Leads-still fit log call still place texts goal p sound fits allowed = (
   texts goal p,
   λ carried. record {
-    in_place = has_trace-one goal call p (ap (λ (q : Point). q.generation) (still p)) (place goal p.past);
-    sound = ap (λ (q : Point). is_sound goal q.past) (still p) ∙ sound;
+    well = went_well goal p (call ∷ []) (has_trace-one goal call p (ap (λ (q : Point). q.generation) (still p)) (place goal p.past)) (ap (λ (q : Point). is_sound goal q.past) (still p) ∙ sound);
     fits = subst (fit goal) (sym (still p)) fits;
     log = λ short. subst (λ (q : Point). Took log log p.past q.past) (sym (still p)) (Took-none log p.past);
   },

@@ -1,5 +1,5 @@
 -- Worked calls, each with the trace that they have: `refl` computes them.
-use Rattle.host_trace.proofs.Words.{◌≡◌, refl, ap, ℕ, suc, true, false, false≢true, length, length-append, Event, Took, List, [], ◌∷◌, ◌++◌, take, drop, codes, Some, None, Ok, inl, arith, Entry, block_of_ints, Goal, due, first, is_sound, SavedState, state_of, V2, Start, Late, Clock, TakeBytes, ReadTables, Carry, Announce, Pause, Now, Later, HostCall, TextRead, Point, point_after, has_trace, AreTexts, is_allowed, AreSteps, IsTurn, is_step}
+use Rattle.host_trace.proofs.Words.{◌≡◌, refl, ap, ℕ, suc, true, false, false≢true, length, length-append, Event, Took, List, [], ◌∷◌, ◌++◌, take, drop, codes, Some, None, Ok, inl, arith, Entry, block_of_ints, Goal, due, first, is_sound, SavedState, state_of, V2, Start, Late, Clock, TakeBytes, ReadTables, Carry, Announce, Pause, Now, Later, HostCall, TextRead, Point, point_after, has_trace, AreTexts, is_allowed, past_of, AreSteps, IsTurn, is_step}
 use Rattle.init_words.specs.declared.actions.Act.{Act}
 use Rattle.init_words.specs.declared.actions.Act.TheVariants as act
 use Rattle.init_words.specs.declared.levels.Level.TheVariants as level
@@ -218,29 +218,33 @@ abbrev Any : Goal → Point → Type 0
 Any _ _ = Unit {0}
 
 -- the reading of the clock was written before the next call was made
-logged-kept : Kept list_state Any (list_state (listed [])) (made_with (Late None) (past.Clock 0 ∷ []) ∷ made_with (Clock (Ok 0)) [] ∷ [])
+logged-kept : Kept list_state past_of Any (list_state (listed [])) (made_with (Late None) (past.Clock 0 ∷ []) ∷ made_with (Clock (Ok 0)) [] ∷ [])
 logged-kept = (
-  λ goal p sound fits allowed carried short. record {
-    same = refl;
-    came = past.Clock 0 ∷ [];
-    grown = refl;
-    log = λ before taken. record {
-      took = past.Clock 0 ∷ [];
-      missed = [];
-      parts = refl;
-      told = ap (λ list. list ++ past.Clock 0 ∷ []) taken;
-      whole = λ works. refl;
-      nothing = λ failed. absurd (false≢true failed);
-      stays = λ failed. failed;
-    };
-  },
-  ((λ goal p sound fits allowed carried short. Took-none (list_state (listed [])) p.past), tt),
+  λ goal p sound fits allowed. (
+    tt,
+    λ carried short. record {
+      same = refl;
+      came = past.Clock 0 ∷ [];
+      grown = refl;
+      log = λ before taken. record {
+        took = past.Clock 0 ∷ [];
+        missed = [];
+        parts = refl;
+        told = ap (λ list. list ++ past.Clock 0 ∷ []) taken;
+        whole = λ works. refl;
+        ended = inl refl;
+        nothing = λ failed. absurd (false≢true failed);
+        stays = λ failed. failed;
+      };
+    },
+  ),
+  ((λ goal p sound fits allowed. (tt, λ carried short. Took-none (list_state (listed [])) p.past)), tt),
 )
 
 -- it was not yet
-unlogged-not_kept : Kept list_state Any (list_state (listed [])) (made_with (Late None) [] ∷ made_with (Clock (Ok 0)) [] ∷ []) → ⊥
+unlogged-not_kept : Kept list_state past_of Any (list_state (listed [])) (made_with (Late None) [] ∷ made_with (Clock (Ok 0)) [] ∷ []) → ⊥
 unlogged-not_kept kept =
-    let took : Took (list_state (listed [])) (list_state (listed [])) opening.past (past.Clock 0 ∷ opening.past) = kept.0 goal opening refl tt refl refl refl in
+    let took : Took (list_state (listed [])) (list_state (listed [])) opening.past (past.Clock 0 ∷ opening.past) = (kept.0 goal opening refl tt refl).1 refl refl in
     let takes = took.log [] refl in
     omega (
       arith,

@@ -1,5 +1,5 @@
 -- What a log took: of one happening, of none, and of two parts of the trace.
-use Rattle.host_trace.proofs.Words.{◌≡◌, refl, sym, ◌∙◌, ap, subst, Bool, true, false, List, [], ◌∷◌, ◌++◌, reverse, append-nil, append_assoc, Result, Ok, Err, OnOk, OnErr, is_err, false≢true, and_parts, reverse-append, list_all-append, Event, is_in_range, is_short, are_short, LogFault, LogState, Gains, Stays, Logs, Takes, Took}
+use Rattle.host_trace.proofs.Words.{◌≡◌, refl, sym, ◌∙◌, ap, subst, Bool, true, false, List, [], ◌∷◌, ◌++◌, reverse, append-nil, append_assoc, inl, inr, Result, Ok, Err, OnOk, OnErr, is_err, false≢true, and_parts, reverse-append, list_all-append, Event, is_in_range, is_short, are_short, LogFault, LogState, Gains, Stays, Logs, Takes, Took}
 
 -- where nothing came, the log is as it was
 pub Took-none : (log : LogState) (past : List Event) → Took log log past past
@@ -7,7 +7,7 @@ Took-none log past = record {
   same = refl;
   came = [];
   grown = refl;
-  log = λ before taken. record { took = []; missed = []; parts = refl; told = subst log.taken (sym (append-nil before)) taken; whole = λ h. refl; nothing = λ h. refl; stays = λ h. h };
+  log = λ before taken. record { took = []; missed = []; parts = refl; told = subst log.taken (sym (append-nil before)) taken; whole = λ h. refl; ended = inl refl; nothing = λ h. refl; stays = λ h. h };
 }
 
 pub Logs-none : (log : LogState) (past : List Event) → Logs log log past past
@@ -25,6 +25,7 @@ Took-one old new past happening same open_log gains = record {
     parts = refl;
     told = gains before taken;
     whole = λ h. refl;
+    ended = inl refl;
     nothing = λ h. absurd (false≢true (sym open_log ∙ h));
     stays = λ h. absurd (false≢true (sym open_log ∙ h));
   };
@@ -42,6 +43,7 @@ Took-missed old new past happening same failed stays = record {
     parts = refl;
     told = subst new.taken (sym (append-nil before)) (stays before taken);
     whole = λ h. absurd (false≢true (sym h ∙ failed));
+    ended = inr refl;
     nothing = λ h. refl;
     stays = λ h. failed;
   };
@@ -56,31 +58,39 @@ pub Logs-handed : (old new : LogState) (past : List Event) (happening : Event) (
 Logs-handed old new past happening (Ok tt) same works ranged flag gains stays short = Took-one old new past happening same works (gains (ranged (and_parts (is_short happening) (are_short past) short).0))
 Logs-handed old new past happening (Err fault) same works ranged flag gains stays short = Took-missed old new past happening same flag (stays (ranged (and_parts (is_short happening) (are_short past) short).0))
 
--- two parts: ys came behind xs
-takes-then : (old mid new : LogState) (before xs ys : List Event) (first : Takes old mid before xs) → Takes mid new (before ++ reverse first.took) ys → Takes old new before (ys ++ xs)
-takes-then old mid new before xs ys first second = by mid.failed refl
+none_before : (xs ys : List Event) → xs ++ ys ≡ [] → xs ≡ []
+none_before [] ys none = refl
+none_before (x ∷ xs) ys none = cc
+
+-- two parts: ys came behind xs, and more behind them
+pub takes-then : (old mid new : LogState) (before xs ys more : List Event) (first : Takes old mid before xs []) → Takes mid new (before ++ reverse first.took) ys more → Takes old new before (ys ++ xs) more
+takes-then old mid new before xs ys more first second = by mid.failed refl
   where
-    by : (b : Bool) → mid.failed ≡ b → Takes old new before (ys ++ xs)
+    by : (b : Bool) → mid.failed ≡ b → Takes old new before (ys ++ xs) more
     by true failed =
-        let none : second.took ≡ [] = second.nothing failed in
+        let none : more ++ second.took ≡ [] = second.nothing failed in
+        let no_more : more ≡ [] = none_before more second.took none in
         record {
           took = first.took;
           missed = ys ++ first.missed;
           parts = ap (λ l. ys ++ l) first.parts ∙ sym (append_assoc ys first.missed first.took);
-          told = subst new.taken (ap (λ l. (before ++ reverse first.took) ++ reverse l) none ∙ append-nil (before ++ reverse first.took)) second.told;
+          told = subst new.taken (ap (λ l. (before ++ reverse first.took) ++ reverse l) none ∙ append-nil (before ++ reverse first.took) ∙ ap (λ l. before ++ reverse (l ++ first.took)) (sym no_more)) second.told;
           whole = λ h. absurd (false≢true (sym h ∙ second.stays failed));
-          nothing = first.nothing;
+          ended = inr no_more;
+          nothing = λ h. λ i. no_more i ++ first.nothing h i;
           stays = λ h. second.stays (first.stays h);
         }
     by false works =
         let none : first.missed ≡ [] = first.whole works in
         let all : xs ≡ first.took = first.parts ∙ ap (λ l. l ++ first.took) none in
+        let joined : reverse first.took ++ reverse (more ++ second.took) ≡ reverse (more ++ (second.took ++ first.took)) = sym (reverse-append (more ++ second.took) first.took) ∙ ap reverse (append_assoc more second.took first.took) in
         record {
           took = second.took ++ first.took;
           missed = second.missed;
           parts = (λ i. second.parts i ++ all i) ∙ append_assoc second.missed second.took first.took;
-          told = subst new.taken (append_assoc before (reverse first.took) (reverse second.took) ∙ ap (λ l. before ++ l) (sym (reverse-append second.took first.took))) second.told;
+          told = subst new.taken (append_assoc before (reverse first.took) (reverse (more ++ second.took)) ∙ ap (λ l. before ++ l) joined) second.told;
           whole = second.whole;
+          ended = second.ended;
           nothing = λ h. absurd (false≢true (sym works ∙ first.stays h));
           stays = λ h. absurd (false≢true (sym works ∙ first.stays h));
         }
@@ -92,7 +102,7 @@ Took-then old mid new past between now first second = record {
   grown = second.grown ∙ ap (λ l. second.came ++ l) first.grown ∙ sym (append_assoc second.came first.came past);
   log = λ before taken.
       let one = first.log before taken in
-      takes-then old mid new before first.came second.came one (second.log (before ++ reverse one.took) one.told);
+      takes-then old mid new before first.came second.came [] one (second.log (before ++ reverse one.took) one.told);
 }
 
 -- what came before names no other seconds

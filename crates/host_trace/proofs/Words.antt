@@ -24,7 +24,7 @@ pub use Rattle.core_model.proofs.Fitted.{fit_records, all_on, fit_table}
 pub use Rattle.core_model.proofs.Reading.{quiet_same, any_found}
 pub use Rattle.trace_log.specs.Logs.{LogState, Gains, Stays}
 pub use Rattle.host_trace.specs.Point.{Point, last_birth, acted, is_asked_for, answered, byte_after, bytes_after, replied, ordered, come, is_last, nudged_if, clocked, reading, before_reading, before_handing, is_command, is_first, is_outcome, carrying, point_after, has_trace, order_for, came_whole, handed_if, announced, after, is_in_place, was_reading, came_cut, may_announce, are_in_place, tells_outcomes, is_announcement, is_of_generation, same_text}
-pub use Rattle.host_trace.specs.Leads.{is_own, is_allowed, gone_on, Logs, Gave, Hears, Lasts, Tracks, Took, IsOver, Went, Leads, Heard, AreTexts, IsStateText, comes_back, are_carried, Counted, Takes, meets, are_seconds_short}
+pub use Rattle.host_trace.specs.Leads.{is_own, is_allowed, gone_on, Logs, Gave, Hears, Lasts, Tracks, Took, IsOver, UpTo, Went, WentWell, Leads, past_of, Heard, AreTexts, IsStateText, comes_back, are_carried, Counted, Takes, meets, are_seconds_short}
 pub use Rattle.std.specs.List.{list_all, list_any, AllByRecursion, starts_with}
 pub use Rattle.trace_events.specs.Range.{is_request, is_in_range, is_short, are_short, is_seconds}
 pub use Rattle.std.proofs.lemmas.List.{append_cancel_left, reverse-append}

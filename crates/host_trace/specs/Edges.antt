@@ -4,12 +4,11 @@ use Rattle.init_words.specs.declared.orders.OrderKind.TheVariants as ask
 use Rattle.trace_events.specs.declared.happenings.Happening.TheVariants.{Asked}
 use Rattle.trace_events.specs.declared.steps.Goal.{Goal}
 use Rattle.trace_events.specs.Event.{Event}
-use Rattle.trace_events.specs.Sound.{is_sound}
 use Rattle.trace_log.specs.Logs.{LogState}
 use Rattle.host_calls.specs.declared.calls.Call.TheVariants.{Start, Look, Signal, Announce}
 use Rattle.host_calls.specs.Calls.{HostCall}
 use Rattle.host_trace.specs.Point.{Point, announced, order_for, point_after}
-use Rattle.host_trace.specs.Leads.{Took, are_carried, are_seconds_short, is_allowed}
+use Rattle.host_trace.specs.Leads.{Took, UpTo, are_seconds_short}
 
 -- a call with its answer, and the log as it was when the call was made, where that is told
 pub record Made (L : Type 0) : Type 0 where
@@ -43,15 +42,17 @@ trace_at (Signal id sent reply) past = Asked id (order_for sent) ∷ past
 trace_at (Announce happening) past = announced happening past
 trace_at _ past = past
 
--- when the call was made, the log had taken the whole trace, as far as the answers until then were possible, and the
--- texts that were carried came back as they may; or it had failed
-abbrev pub KeptAt : (Goal → Point → Type 0) → LogState → LogState → HostCall → List HostCall → Type 0
-KeptAt fitted old now call earlier = (goal : Goal) (p : Point) → IsTrue (is_sound goal p.past) → fitted goal p
-    → IsTrue (is_allowed goal (point_after earlier p).past) → IsTrue (are_carried earlier p)
-    → IsTrue (are_seconds_short goal p.past) → Took old now p.past (trace_at call (point_after earlier p).past)
+-- when the call was made, behind the earlier ones, the log had taken all that came since `from`, with the order that
+-- the call carries out; or it had failed
+abbrev pub KeptAt : (Point → List Event) → (Goal → Point → Type 0) → LogState → LogState → HostCall → List HostCall
+    → Type 0
+KeptAt from fitted old now call = UpTo fitted (λ goal p earlier. IsTrue (are_seconds_short goal p.past)
+    → Took old now (from p) (trace_at call (point_after earlier p).past))
 
 -- so it was at each call of which the log is told
-abbrev pub Kept : {L : Type 0} → (L → LogState) → (Goal → Point → Type 0) → LogState → List (Made L) → Type 0
-Kept state fitted old [] = Unit {0}
-Kept state fitted old (made ∷ earlier) =
-    IfSome made.at (λ log. KeptAt fitted old (state log) made.call (calls_of earlier)) × Kept state fitted old earlier
+abbrev pub Kept : {L : Type 0} → (L → LogState) → (Point → List Event) → (Goal → Point → Type 0) → LogState
+    → List (Made L) → Type 0
+Kept state from fitted old [] = Unit {0}
+Kept state from fitted old (made ∷ earlier) =
+    IfSome made.at (λ log. KeptAt from fitted old (state log) made.call (calls_of earlier))
+    × Kept state from fitted old earlier

@@ -1,5 +1,5 @@
 -- What a part of init's work makes of its core and its log, as far as its host's answers were possible (init(8)).
-use Rattle.std.specs.Prelude.{◌≡◌, ℕ, Bool, true, false, ◌&&◌, ◌||◌, ◌+◌, IsTrue, ◌==◌, not, List, [], ◌∷◌, ◌++◌, length, take, reverse, is_some, Ok, Err}
+use Rattle.std.specs.Prelude.{◌≡◌, ◌⊎◌, ℕ, Bool, true, false, ◌&&◌, ◌||◌, ◌+◌, IsTrue, ◌==◌, not, List, [], ◌∷◌, ◌++◌, length, take, reverse, None, is_some, Ok, Err}
 use Rattle.std.specs.List.{starts_with}
 use Rattle.initctl_frame.specs.Blocks.{Begun}
 use Rattle.trace_events.specs.declared.happenings.Handed.{Handed as HandOver}
@@ -8,6 +8,7 @@ use Rattle.trace_events.specs.declared.steps.Goal.{Goal}
 use Rattle.trace_events.specs.declared.steps.Step.{Step}
 use Rattle.trace_events.specs.Event.{Event}
 use Rattle.trace_events.specs.Due.{due, first}
+use Rattle.trace_events.specs.Lawful.{first_breach}
 use Rattle.trace_events.specs.Range.{are_short, is_seconds}
 use Rattle.trace_events.specs.Run.{step_in}
 use Rattle.trace_events.specs.Sound.{is_sound, may_come}
@@ -69,14 +70,15 @@ AreTexts goal (Carry text back ∷ calls) p =
 AreTexts goal (_ ∷ calls) p = AreTexts goal calls p
 
 -- What a log took of the happenings that came, the newest first: those that came before it failed, and all as long as
--- it has not. After it failed it takes nothing.
-pub record Takes (old new : LogState) (before came : List Event) : Type 0 where
+-- it has not; and behind them these more, none where it missed one. After it failed it takes nothing.
+pub record Takes (old new : LogState) (before came more : List Event) : Type 0 where
   pub took : List Event
   pub missed : List Event
   pub parts : came ≡ missed ++ took
-  pub told : new.taken (before ++ reverse took)
+  pub told : new.taken (before ++ reverse (more ++ took))
   pub whole : new.failed ≡ false → missed ≡ []
-  pub nothing : old.failed ≡ true → took ≡ []
+  pub ended : (missed ≡ []) ⊎ (more ≡ [])
+  pub nothing : old.failed ≡ true → more ++ took ≡ []
   pub stays : old.failed ≡ true → new.failed ≡ true
 
 -- the trace has grown, and the log has taken of what came behind what it took before; it notes the ends of the same id
@@ -84,7 +86,7 @@ pub record Took (old new : LogState) (past now : List Event) : Type 0 where
   pub same : new.noted ≡ old.noted
   pub came : List Event
   pub grown : now ≡ came ++ past
-  pub log : (before : List Event) → old.taken before → Takes old new before came
+  pub log : (before : List Event) → old.taken before → Takes old new before came []
 
 -- so it is where the seconds that the trace names are at most an hour: a log tells no others
 abbrev pub Logs : LogState → LogState → List Event → List Event → Type 0
@@ -127,22 +129,34 @@ At core blocks goal p = Tracks core goal p × IsOver blocks p.over
 abbrev pub Counted : ℕ → Goal → Point → Type 0
 Counted lates goal p = p.lates ≡ lates
 
--- from a point on these calls were made: each in its place, and with them the trace is sound, fits, and went to the
--- log, where the seconds named before are at most an hour, as are those of each request
-pub record Went (fit : Goal → Point → Type 0) (old new : LogState) (goal : Goal) (p : Point) (calls : List HostCall)
-    : Type 0 where
+-- From each point whose trace is sound and fitted, where the answers to these calls were possible: each text that was
+-- carried is that of init's state, and where these came back as they may, P holds.
+abbrev pub UpTo : (Goal → Point → Type 0) → (Goal → Point → List HostCall → Type 0) → List HostCall → Type 0
+UpTo fitted P calls = (goal : Goal) (p : Point) → IsTrue (is_sound goal p.past) → fitted goal p
+    → IsTrue (is_allowed goal (point_after calls p).past)
+    → AreTexts goal calls p × (IsTrue (are_carried calls p) → P goal p calls)
+
+-- each call was in its place, and the trace with the calls is sound, and breaks no law
+pub record WentWell (goal : Goal) (p : Point) (calls : List HostCall) : Type 0 where
   pub in_place : IsTrue (has_trace goal calls p)
   pub sound : IsTrue (is_sound goal (point_after calls p).past)
-  pub fits : fit goal (point_after calls p)
-  pub log : IsTrue (are_seconds_short goal p.past) → Took old new p.past (point_after calls p).past
+  pub unbroken : first_breach (point_after calls p).past ≡ None
 
--- so it went from each point whose trace is sound and fitted, where the answers to the calls were possible, and the
--- texts that were carried came back as they may; and those were state texts
-abbrev pub Leads : (Goal → Point → Type 0) → (Goal → Point → Type 0) → LogState → LogState → List HostCall
-    → Type 0
-Leads fitted fit old new calls = (goal : Goal) (p : Point) → IsTrue (is_sound goal p.past) → fitted goal p
-    → IsTrue (is_allowed goal (point_after calls p).past)
-    → AreTexts goal calls p × (IsTrue (are_carried calls p) → Went fit old new goal p calls)
+-- the calls went well, what fits is so behind them, and a log that was handed `from` of the point's trace took what
+-- came since; where the seconds named before are at most an hour, as are those of each request
+pub record Went (from : Point → List Event) (fit : Goal → Point → Type 0) (old new : LogState) (goal : Goal) (p : Point)
+    (calls : List HostCall) : Type 0 where
+  pub well : WentWell goal p calls
+  pub fits : fit goal (point_after calls p)
+  pub log : IsTrue (are_seconds_short goal p.past) → Took old new (from p) (point_after calls p).past
+
+-- all of the point's trace
+abbrev pub past_of : Point → List Event
+past_of p = p.past
+
+-- so calls lead from what is fitted to what fits, with a log that was handed all of the point's trace
+abbrev pub Leads : (Goal → Point → Type 0) → (Goal → Point → Type 0) → LogState → LogState → List HostCall → Type 0
+Leads fitted fit old new = UpTo fitted (Went past_of fit old new)
 
 -- the same of what needs no call: an answer, a round, a request
 pub record Heard (fit : Goal → Point → Type 0) (old new : LogState) (goal : Goal) (p now : Point) : Type 0 where

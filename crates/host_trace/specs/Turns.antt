@@ -15,7 +15,7 @@ use Rattle.host_calls.specs.Calls.{HostCall, TextRead}
 use Rattle.host_calls.specs.Record.{Since}
 use Rattle.host_trace.specs.declared.TheConstants.{BYTE_LIMIT, PIECE, LATE_LIMIT, STEP_LIMIT}
 use Rattle.host_trace.specs.Point.{Point, point_after}
-use Rattle.host_trace.specs.Leads.{Tracks, are_carried, are_seconds_short, is_allowed}
+use Rattle.host_trace.specs.Leads.{Tracks, UpTo, are_seconds_short}
 
 -- a call that takes no bytes
 abbrev pub takes_none : HostCall → Bool
@@ -93,28 +93,21 @@ pub record IsTurn (done : Bool) (calls : List HostCall) : Type 0 where
   pub most : count ≤ STEP_LIMIT
   pub ended : IsTrue done ⊎ (count ≡ STEP_LIMIT)
 
--- the core is init's after these calls: from each point whose trace is sound and fitted, where the answers to them were
--- possible, and the texts that were carried came back as they may, the trace with them is sound, and the core tracks it;
--- and where they were done, nothing is due
-abbrev pub TracksTo : (Goal → Point → Type 0) → Bool → CoreState → List HostCall → Type 0
-TracksTo fitted done core calls = (goal : Goal) (p : Point) → IsTrue (is_sound goal p.past) → fitted goal p
-    → IsTrue (is_allowed goal (point_after calls p).past) → IsTrue (are_carried calls p)
-    → IsTrue (is_sound goal (point_after calls p).past) × Tracks core goal (point_after calls p)
-    × (IsTrue done → first (due goal (point_after calls p).past) ≡ Idle)
-
--- the same calls only add to the trace of those before them
-abbrev pub AddsTo : (Goal → Point → Type 0) → List HostCall → List HostCall → Type 0
-AddsTo fitted before calls = (goal : Goal) (p : Point) → IsTrue (is_sound goal p.past) → fitted goal p
-    → IsTrue (is_allowed goal (point_after calls p).past) → IsTrue (are_carried calls p)
-    → IsTrue (are_seconds_short goal p.past)
-    → (came : List Event) × ((point_after calls p).past ≡ came ++ (point_after before p).past)
+-- The core is init's after a turn behind the calls before: the trace is sound, and the core tracks it; where the turn
+-- was done, nothing is due; and it only added to the trace, where the seconds named at first are at most an hour.
+pub record Turned (done : Bool) (core : CoreState) (before : List HostCall) (goal : Goal) (p : Point)
+    (calls : List HostCall) : Type 0 where
+  pub sound : IsTrue (is_sound goal (point_after calls p).past)
+  pub tracks : Tracks core goal (point_after calls p)
+  pub rests : IsTrue done → first (due goal (point_after calls p).past) ≡ Idle
+  pub adds : IsTrue (are_seconds_short goal p.past)
+      → (came : List Event) × ((point_after calls p).past ≡ came ++ (point_after before p).past)
 
 -- turns, with a pause after each, and the core that init had after each, the newest first
 abbrev pub AreTurns : (Goal → Point → Type 0) → List CoreState → List HostCall → Type 0
 AreTurns fitted [] calls = calls ≡ []
 AreTurns fitted (core ∷ cores) calls = (done : Bool) × (last before : List HostCall) × (calls ≡ Pause ∷ (last ++ before))
-    × IsTurn done last × TracksTo fitted done core (last ++ before) × AddsTo fitted before (last ++ before)
-    × AreTurns fitted cores before
+    × IsTurn done last × UpTo fitted (Turned done core before) (last ++ before) × AreTurns fitted cores before
 
 -- there is something left to do, or something runs
 abbrev pub is_busy : CoreState → Bool

@@ -53,7 +53,7 @@ up_to-append (happening ∷ front) calls all = grind (arith, up_to-append front 
 -- turns end with a pause
 up_to_turns : (fitted : Goal → Point → Type 0) (cores : List CoreState) (calls : List HostCall) → AreTurns fitted cores calls → up_to_pause calls ≡ calls
 up_to_turns fitted [] calls none = ap up_to_pause none ∙ sym none
-up_to_turns fitted (core ∷ cores) calls (done, last, before, is, turn, tracks, more, earlier) = ap up_to_pause is ∙ sym is
+up_to_turns fitted (core ∷ cores) calls (done, last, before, is, turn, tracks, earlier) = ap up_to_pause is ∙ sym is
 
 -- what stands before the newest turn
 before_it : (fitted : Goal → Point → Type 0) (cores : List CoreState) (done : Bool) (last before calls : List HostCall) → calls ≡ Pause ∷ (last ++ before) → IsTurn done last → AreTurns fitted cores before → without_turn calls ≡ before
@@ -81,15 +81,15 @@ module _ (fitted : Goal → Point → Type 0) (goal : Goal) (p : Point) (sound :
   -- after an answered turn init rests
   rests : (core : CoreState) (cores : List CoreState) (calls : List HostCall) → AreTurns fitted (core ∷ cores) calls → May calls → is_answered_turn calls p ≡ true
       → AtRest goal (past_after calls p) × (is_idle (past_after calls p) ≡ true) × (is_sound goal (past_after calls p) ≡ true)
-  rests core cores calls (done, last, before, is, turn, tracks, more, earlier) may answered =
+  rests core cores calls (done, last, before, is, turn, tracks, earlier) may answered =
       let parts = and_parts (nat_lt (length calls) (length (without_turn calls) + STEP_LIMIT)) (is_idle (past_after calls p)) answered in
       let few : length calls < length (without_turn calls) + STEP_LIMIT = ltb-true _ _ parts.0 in
       let now = subst May is may in
-      let tracked = tracks goal p sound fits now.0 now.1 in
+      let tracked = (tracks goal p sound fits now.0).1 now.1 in
       let ended : done ≡ true = short_done done last turn (omega (arith, few, ap length (before_it fitted cores done last before calls is turn earlier), ap length is, length-append last before)) in (
-        subst (λ cs. AtRest goal (past_after cs p)) (sym is) (idle_none_due goal (past_after (last ++ before) p) (tracked.2 ended)),
+        subst (λ cs. AtRest goal (past_after cs p)) (sym is) (idle_none_due goal (past_after (last ++ before) p) (tracked.rests ended)),
         parts.1,
-        ap (λ cs. is_sound goal (past_after cs p)) is ∙ tracked.0,
+        ap (λ cs. is_sound goal (past_after cs p)) is ∙ tracked.sound,
       )
 
   -- the turns as rounds
@@ -105,13 +105,13 @@ module _ (fitted : Goal → Point → Type 0) (goal : Goal) (p : Point) (sound :
       let rest = rests core cores calls turns may undisturbed in
       record { rounds = []; count = refl; whole = refl; are = (rest.0, rest.1) }
   rounds_of (suc n) (core ∷ cores) calls turns room may undisturbed =
-      let (done, last, before, is, turn, tracks, more, earlier) = turns in
+      let (done, last, before, is, turn, tracks, earlier) = turns in
       let others = and_parts (is_answered_turn calls p && is_undisturbed (round_of calls p) (past_after (without_turn calls) p)) (are_undisturbed_turns n (without_turn calls) p) undisturbed in
       let parts = and_parts (is_answered_turn calls p) (is_undisturbed (round_of calls p) (past_after (without_turn calls) p)) others.0 in
       let rest = rests core cores calls turns may parts.0 in
       let at : without_turn calls ≡ before = before_it fitted cores done last before calls is turn earlier in
       let now = subst May is may in
-      let grown = more goal p sound fits now.0 now.1 short in
+      let grown = ((tracks goal p sound fits now.0).1 now.1).adds short in
       let further : Rounds n (without_turn calls) = subst (Rounds n) (sym at) (rounds_of n cores before earlier (omega (arith, room)) (may_before last before now) (subst (λ cs. are_undisturbed_turns n cs p ≡ true) at others.1)) in
       let added : past_after calls p ≡ grown.0 ++ past_after (without_turn calls) p =
       ap (λ cs. past_after cs p) is ∙ grown.1 ∙ ap (λ cs. grown.0 ++ past_after cs p) (sym at) in
@@ -151,5 +151,5 @@ module _ (fitted : Goal → Point → Type 0) (goal : Goal) (p : Point) (sound :
   pub arrives_up : (later n : ℕ) (cores : List CoreState) (calls : List HostCall) → AreTurns fitted cores calls → later + n < length cores → ArrivesIn goal p n (without_turns later calls)
   arrives_up later n [] calls turns room = absurd (omega (arith, room))
   arrives_up zero n (core ∷ cores) calls turns room = arrives_in n (core ∷ cores) calls turns (omega (arith, room))
-  arrives_up (suc later) n (core ∷ cores) calls (done, last, before, is, turn, tracks, more, earlier) room =
+  arrives_up (suc later) n (core ∷ cores) calls (done, last, before, is, turn, tracks, earlier) room =
       subst (λ cs. ArrivesIn goal p n (without_turns later cs)) (sym (before_it fitted cores done last before calls is turn earlier)) (arrives_up later n cores before earlier (omega (arith, room)))

@@ -1,5 +1,5 @@
 -- What a step leads to that is only said, and what comes of steps that were due.
-use Rattle.init_turns.proofs.Words.{arith, ◌≡◌, refl, sym, ◌∙◌, ap, subst, ℕ, Bool, true, false, List, [], ◌∷◌, Option, Some, Result, Ok, Err, OnOk, OnErr, is_ok, option_and_then, Answer, Ended, false≢true, Begun, Goal, Step, Event, is_sound, child_number, order_in, refusal_of, record_by_id, CoreState, after_told, Fits, FitsAll, StillFits, OnEachTrace, with_step, unreaped_recorded, LogState, AddsMade, AddsMade-same, Made, trace_at, kept_asked, Hears-order, ordered, Announce, HostCall, Point, point_after, last_birth, acted, answered, announced, is_announcement, Gave, gone_on, Hears, Lasts, Leads, Logs, Tracks, Went, is_allowed, Leads-heard, Leads-weaken, Logs-none, Hears-answer, Hears-step, Hears-tracks, tracks, AndRests, IsStep, IsStepUnless, Left, Makes, MakesOver, SaysStep, is_end}
+use Rattle.init_turns.proofs.Words.{arith, ◌≡◌, refl, sym, ◌∙◌, ap, subst, ℕ, Bool, true, false, List, [], ◌∷◌, Option, Some, Result, Ok, Err, OnOk, OnErr, is_ok, option_and_then, Answer, Ended, false≢true, Begun, Goal, Step, Event, is_sound, child_number, order_in, refusal_of, record_by_id, CoreState, after_told, Fits, FitsAll, StillFits, OnEachTrace, with_step, unreaped_recorded, LogState, AddsMade, AddsMade-same, Made, trace_at, kept_asked, Hears-order, ordered, Announce, HostCall, Point, point_after, last_birth, acted, answered, announced, is_announcement, Gave, gone_on, Hears, Lasts, Leads, Logs, Tracks, is_allowed, Leads-heard, Leads-map, Leads-weaken, Logs-none, Hears-answer, Hears-step, Hears-tracks, tracks, AndRests, IsStep, IsStepUnless, Left, Makes, MakesOver, SaysStep, is_end}
 use Rattle.init_words.specs.declared.orders.OrderKind.{OrderKind}
 use Rattle.init_words.specs.declared.refusals.Refusal.{Refusal}
 use Rattle.trace_events.specs.declared.happenings.Happening.TheVariants as past
@@ -97,36 +97,18 @@ Makes-stepped state old new l₀ l₁ c between behind made due_now fits lasts m
     gave goal p sound fitted = (sym (due_now goal p.past sound fitted.fits.0), tracks c between goal p (gone_on (with_step made) p) lasts refl fitted (all_on c between goal p.past (with_step made p.past) (fits goal p.past sound fitted.fits.0) fitted.fits))
 
     goes : (calls : List HostCall) → IsStepUnless (is_idle made) calls → Leads (Gave (Tracks between) made) (Tracks behind) l₀ l₁ calls → Leads (Tracks c) (AndRests (is_idle made) (Tracks behind)) l₀ l₁ calls
-    goes calls shape leads goal p sound fitted allowed =
-        let is_first : made ≡ first (due goal p.past) = due_now goal p.past sound fitted.fits.0 in
-        let led = leads goal p sound (gave goal p sound fitted) allowed in (
-          led.0,
-          λ carried.
-              let went : Went (Tracks behind) l₀ l₁ goal p calls = led.1 carried in
-              record {
-                in_place = went.in_place;
-                sound = went.sound;
-                fits = (
-                  went.fits,
-                  λ idle.
-                      let none : calls ≡ [] = subst (λ b. IsStepUnless b calls) idle shape in
-                      ap (λ (l : List HostCall). first (due goal (point_after l p).past)) none ∙ sym is_first ∙ idle_is made idle,
-                );
-                log = went.log;
-              },
-        )
+    goes calls shape = Leads-map (Gave (Tracks between) made) (Tracks c) (Tracks behind) (AndRests (is_idle made) (Tracks behind)) l₀ l₁ calls
+        (λ goal p sound fitted. (
+          gave goal p sound fitted,
+          λ now behind. (
+            behind,
+            λ idle.
+                let none : calls ≡ [] = subst (λ b. IsStepUnless b calls) idle shape in
+                ap (λ (l : List HostCall). first (due goal (point_after l p).past)) none ∙ sym (due_now goal p.past sound fitted.fits.0) ∙ idle_is made idle,
+          ),
+        ))
 
 -- what fits a sound trace counts the children that are not reaped
 pub Leads-left : (fitted : Goal → Point → Type 0) (done : Bool) (c : CoreState) (b : Begun) (l₀ l₁ : LogState) (calls : List HostCall) → Leads fitted (AndRests done (At c b)) l₀ l₁ calls → Leads fitted (Left done c b) l₀ l₁ calls
-Leads-left fitted done c b l₀ l₁ calls leads goal p sound fits allowed =
-    let led = leads goal p sound fits allowed in (
-      led.0,
-      λ carried.
-          let went : Went (AndRests done (At c b)) l₀ l₁ goal p calls = led.1 carried in
-          record {
-            in_place = went.in_place;
-            sound = went.sound;
-            fits = record { at = went.fits.0; children = unreaped_recorded goal (point_after calls p).past c went.sound went.fits.0.0.fits.0; rests = went.fits.1 };
-            log = went.log;
-          },
-    )
+Leads-left fitted done c b l₀ l₁ calls = Leads-map fitted fitted (AndRests done (At c b)) (Left done c b) l₀ l₁ calls
+    (λ goal p sound fits. (fits, λ now behind. record { at = behind.0; children = unreaped_recorded goal (point_after calls p).past c now behind.0.0.fits.0; rests = behind.1 }))

@@ -1,5 +1,5 @@
 -- What comes of a state text that is carried.
-use Rattle.init_turns.proofs.Words.{◌≡◌, refl, sym, ap, ◌∙◌, subst, ℕ, Bool, true, false, ◌==◌, ◌||◌, not, nat_lt, List, [], ◌∷◌, ◌++◌, length, drop, append-nil, Option, Some, Ok, arith, length-append, starts_with, option_map_or, false≢true, and_from, and_parts, eq-eqb, eqb-true, ltb-true, same_Some, same_id-self, Event, StillFits, OnEachTrace, SavedState, state_of, IsFit, CoreState, after_handed_on, V2, IsCut, IsOther, IsTextIn, IsTextOf, generation_said, LogState, AddsMade, KeptAt, Made, kept_led, kept_still, Goal, Point, Announce, Carry, TextRead, came_cut, carrying, is_of_generation, is_outcome, same_text, Gave, Leads, Logs, Tracks, comes_back, HandedOn, Leads-carried, ComesTo, IsStep, MakesOver, Saying}
+use Rattle.init_turns.proofs.Words.{◌≡◌, refl, sym, ap, ◌∙◌, subst, ℕ, Bool, true, false, ◌==◌, ◌||◌, not, nat_lt, List, [], ◌∷◌, ◌++◌, length, drop, append-nil, Option, Some, Ok, arith, length-append, starts_with, option_map_or, false≢true, and_from, and_parts, eq-eqb, eqb-true, ltb-true, same_Some, same_id-self, Event, StillFits, OnEachTrace, SavedState, state_of, IsFit, CoreState, after_handed_on, V2, IsCut, IsOther, IsTextIn, IsTextOf, generation_said, LogState, AddsMade, KeptAt, Made, kept_led, kept_still, Goal, Point, Announce, Carry, TextRead, past_of, came_cut, carrying, is_of_generation, is_outcome, same_text, Gave, Leads, Logs, Tracks, comes_back, HandedOn, Leads-carried, ComesTo, IsStep, MakesOver, Saying}
 use Rattle.std.proofs.lemmas.Bool.Decides.{Decides-eqb}
 use Rattle.std.proofs.lemmas.Slice.Eq.{starts_is}
 use Rattle.trace_events.specs.declared.happenings.Handed.{Handed as HandOver}
@@ -81,7 +81,7 @@ Makes-carried {L = L} state old mid new l₀ l₁ c next behind how text back ad
     leads : Leads before (Tracks behind) (state l₀) (state l₁) (carrying how text back)
     leads = Leads-carried c next behind (state l₀) (state l₁) how text back handed_on comes took
 
-    carried : KeptAt before (state l₀) (state l₀) (Carry text back) []
+    carried : KeptAt past_of before (state l₀) (state l₀) (Carry text back) []
     carried = kept_still before (state l₀) (Carry text back) (λ so_far. refl)
 
     refused : (h : HandOver) → IsStep (Announce (past.Handed h) ∷ Carry text back ∷ []) → AddsMade old mid (Carry text back) l₀ → AddsMade mid new (Announce (past.Handed h)) l₁ → Leads before (Tracks behind) (state l₀) (state l₁) (Announce (past.Handed h) ∷ Carry text back ∷ [])

@@ -1,22 +1,22 @@
 -- Parts of a turn, one behind the other.
-use Rattle.init_turns.proofs.Words.{◌≡◌, refl, sym, subst, ℕ, suc, ◌+◌, ◌≤◌, true, false, inl, inr, List, [], ◌∷◌, ◌++◌, Option, arith, Goal, is_sound, LogState, HostCall, AddsMade, Kept, KeptAt, Made, calls_of, Point, Fronts, says_of, Grows, Leads, STEP_LIMIT, AreSteps, Since-none, Since-map, Since-then, fronts_narrower, fronts_none, fronts_one, fronts_then, fronts_two, Leads-none, Leads-then, Kept-narrower, Kept-one, Kept-then, Since-made, calls_of-append, told_at, AreAllSteps, IsStep, IsStepUnless, MakesOver}
+use Rattle.init_turns.proofs.Words.{◌≡◌, refl, sym, subst, ℕ, suc, ◌+◌, ◌≤◌, true, false, inl, inr, List, [], ◌∷◌, ◌++◌, Option, arith, Goal, is_sound, LogState, HostCall, AddsMade, Kept, KeptAt, Made, calls_of, Point, Fronts, says_of, Grows, Leads, Took, are_seconds_short, past_of, STEP_LIMIT, AreSteps, Since-none, Since-map, Since-then, Took-none, fronts_from, fronts_none, fronts_one, fronts_then, fronts_two, Leads-none, Leads-then, Kept-one, Kept-then, Since-made, calls_of-append, kept_from, told_at, AreAllSteps, IsStep, IsStepUnless, MakesOver}
 use Rattle.std.specs.Prelude.{IfSome}
 
 module _ {L : Type 0} (state : L → LogState) where
   -- what is so of calls that were made
   abbrev pub AreMade : LogState → LogState → (List HostCall → Type 0) → (Goal → Point → Type 0) → (Goal → Point → Type 0) → List (Made L) → Type 0
-  AreMade l₀ l₁ Shape f₀ f₁ mades = Shape (calls_of mades) × Leads f₀ f₁ l₀ l₁ (calls_of mades) × Fronts f₀ l₀ l₁ (calls_of mades) × Kept state f₀ l₀ mades
+  AreMade l₀ l₁ Shape f₀ f₁ mades = Shape (calls_of mades) × Leads f₀ f₁ l₀ l₁ (calls_of mades) × Fronts past_of f₀ l₀ l₁ (calls_of mades) × Kept state past_of f₀ l₀ mades
 
-  pub Makes-one : (old new : Option (List (Made L))) (l₀ l₁ : LogState) (log : L) (call : HostCall) (Shape : List HostCall → Type 0) (f₀ f₁ : Goal → Point → Type 0) → AddsMade old new call log → Shape (call ∷ []) → Leads f₀ f₁ l₀ l₁ (call ∷ []) → KeptAt f₀ l₀ (state log) call [] → MakesOver state old new l₀ l₁ Shape f₀ f₁
+  pub Makes-one : (old new : Option (List (Made L))) (l₀ l₁ : LogState) (log : L) (call : HostCall) (Shape : List HostCall → Type 0) (f₀ f₁ : Goal → Point → Type 0) → AddsMade old new call log → Shape (call ∷ []) → Leads f₀ f₁ l₀ l₁ (call ∷ []) → KeptAt past_of f₀ l₀ (state log) call [] → MakesOver state old new l₀ l₁ Shape f₀ f₁
   Makes-one old new l₀ l₁ log call Shape f₀ f₁ adds shape leads kept = Since-made old new call log (AreMade l₀ l₁ Shape f₀ f₁) adds (λ at then. (shape, leads, fronts_one f₀ l₀ l₁ call, Kept-one state f₀ l₀ call at log then kept))
 
   -- two calls, of which the second says what came of the first
-  pub Makes-two : (old mid new : Option (List (Made L))) (l₀ l₁ : LogState) (log₁ log₂ : L) (one two : HostCall) (Shape : List HostCall → Type 0) (f₀ f₁ : Goal → Point → Type 0) → says_of two one ≡ true → AddsMade old mid one log₁ → AddsMade mid new two log₂ → Shape (two ∷ one ∷ []) → Leads f₀ f₁ l₀ l₁ (two ∷ one ∷ []) → KeptAt f₀ l₀ (state log₁) one [] → KeptAt f₀ l₀ (state log₂) two (one ∷ []) → MakesOver state old new l₀ l₁ Shape f₀ f₁
+  pub Makes-two : (old mid new : Option (List (Made L))) (l₀ l₁ : LogState) (log₁ log₂ : L) (one two : HostCall) (Shape : List HostCall → Type 0) (f₀ f₁ : Goal → Point → Type 0) → says_of two one ≡ true → AddsMade old mid one log₁ → AddsMade mid new two log₂ → Shape (two ∷ one ∷ []) → Leads f₀ f₁ l₀ l₁ (two ∷ one ∷ []) → KeptAt past_of f₀ l₀ (state log₁) one [] → KeptAt past_of f₀ l₀ (state log₂) two (one ∷ []) → MakesOver state old new l₀ l₁ Shape f₀ f₁
   Makes-two old mid new l₀ l₁ log₁ log₂ one two Shape f₀ f₁ says first second shape leads kept_one kept_two =
       Since-then old mid new (IsMade one log₁) (IsMade two log₂) (AreMade l₀ l₁ Shape f₀ f₁)
       (Since-made old mid one log₁ (IsMade one log₁) first (λ at then. (at, then, refl))) (Since-made mid new two log₂ (IsMade two log₂) second (λ at then. (at, then, refl)))
       (λ xs ys (at₁, then₁, is_one) (at₂, then₂, is_two). subst (AreMade l₀ l₁ Shape f₀ f₁) (sym (λ i. is_two i ++ is_one i))
-      (shape, leads, fronts_two f₀ l₀ l₁ one two says, (told_at at₂ log₂ (λ log. KeptAt f₀ l₀ (state log) two (one ∷ [])) then₂ kept_two, Kept-one state f₀ l₀ one at₁ log₁ then₁ kept_one)))
+      (shape, leads, fronts_two f₀ l₀ l₁ one two says, (told_at at₂ log₂ (λ log. KeptAt past_of f₀ l₀ (state log) two (one ∷ [])) then₂ kept_two, Kept-one state f₀ l₀ one at₁ log₁ then₁ kept_one)))
     where
       IsMade : HostCall → L → List (Made L) → Type 0
       IsMade call log mades = (at : Option L) × IfSome at (λ then. then ≡ log) × (mades ≡ record { call = call; at = at } ∷ [])
@@ -33,13 +33,18 @@ module _ {L : Type 0} (state : L → LogState) where
       let joined = sym (calls_of-append ys xs) in (
         subst R joined (both earlier later a.0 b.0),
         subst (Leads f₀ f₂ l₀ l₂) joined (Leads-then f₀ f₁ f₂ l₀ l₁ l₂ earlier later a.1 b.1),
-        subst (Fronts f₀ l₀ l₂) joined (fronts_then f₀ f₁ l₀ l₁ l₂ earlier later a.1 a.2 b.2 grows),
+        subst (Fronts past_of f₀ l₀ l₂) joined (fronts_then f₀ f₁ l₀ l₁ l₂ earlier later a.1 a.2 b.2 grows),
         Kept-then state f₀ f₁ l₀ l₁ xs ys a.1 a.3 b.3,
       ))
 
   pub Makes-map : (old new : Option (List (Made L))) (l₀ l₁ : LogState) (P Q : List HostCall → Type 0) (f₀ f₁ g₀ g₁ : Goal → Point → Type 0) → ((goal : Goal) (p : Point) → is_sound goal p.past ≡ true → g₀ goal p → f₀ goal p) → MakesOver state old new l₀ l₁ P f₀ f₁ → ((calls : List HostCall) → P calls → Leads f₀ f₁ l₀ l₁ calls → Q calls × Leads g₀ g₁ l₀ l₁ calls) → MakesOver state old new l₀ l₁ Q g₀ g₁
   Makes-map old new l₀ l₁ P Q f₀ f₁ g₀ g₁ narrower makes more = Since-map old new (AreMade l₀ l₁ P f₀ f₁) (AreMade l₀ l₁ Q g₀ g₁) makes
-      (λ mades a. let mapped = more (calls_of mades) a.0 a.1 in (mapped.0, mapped.1, fronts_narrower f₀ g₀ l₀ l₁ (calls_of mades) narrower a.2, Kept-narrower state f₀ g₀ l₀ mades narrower a.3))
+      (λ mades a.
+      let mapped = more (calls_of mades) a.0 a.1 in
+      (mapped.0, mapped.1, fronts_from past_of f₀ g₀ l₀ l₀ before l₁ (calls_of mades) a.2, kept_from past_of f₀ g₀ l₀ l₀ before state mades a.3))
+    where
+      before : (goal : Goal) (p : Point) → is_sound goal p.past ≡ true → g₀ goal p → f₀ goal p × (are_seconds_short goal p.past ≡ true → Took l₀ l₀ p.past p.past)
+      before goal p sound fits = (narrower goal p sound fits, λ short. Took-none l₀ p.past)
 
 -- ---- steps, one behind the others
 

@@ -1,5 +1,6 @@
 -- The parts of a turn, and turns one behind the other.
-use Rattle.init_turns.proofs.Words.{arith, ◌≡◌, refl, sym, ap, ◌∙◌, subst, ℕ, zero, suc, Bool, true, false, not, ◌&&◌, List, [], ◌∷◌, ◌++◌, drop, length, Option, Result, list_all, false≢true, and_from, and_parts, list_all-append, Begun, Stands, Goal, CoreState, is_drained, unreaped_recorded, LogState, Clock, TakeBytes, Pause, HostCall, AddsMade, Made, calls_of, kept_still, Point, point_after, Brings, has_short_seconds, Grows, HasRead, Counted, IsOver, Leads, Took, Tracks, Went, is_allowed, AddsTo, AreSteps, AreTurns, IsTurn, MadeTurns, are_full, are_lates, are_takes, bytes_taken, has_come, is_busy, is_room, is_step, takes_none, Grows-none, point_after-append, calls_allowed, carried_parts, Leads-beside, Leads-frame, Leads-still, Leads-weaken, bytes_counted, Since-map, Since-none, Since-then, AndRests, AreAllSteps, Fresh, IsReading, Left, LeftBy, MakesOver}
+use Rattle.init_turns.proofs.Words.{arith, ◌≡◌, refl, sym, ap, ◌∙◌, subst, ℕ, zero, suc, Bool, true, false, not, ◌&&◌, List, [], ◌∷◌, ◌++◌, drop, length, Option, Result, list_all, false≢true, and_from, and_parts, list_all-append, Begun, Stands, Goal, is_sound, CoreState, is_drained, unreaped_recorded, LogState, Clock, TakeBytes, Pause, HostCall, AddsMade, Made, calls_of, kept_still, Point, point_after, Brings, has_short_seconds, Grows, HasRead, Counted, IsOver, Leads, Took, Tracks, UpTo, Went, past_of, AreSteps, AreTurns, IsTurn, MadeTurns, Turned, are_full, are_lates, are_takes, bytes_taken, has_come, is_busy, is_room, is_step, takes_none, Grows-none, UpTo-then, Leads-map, Leads-beside, Leads-frame, Leads-still, Leads-weaken, bytes_counted, Since-map, Since-none, Since-then, AndRests, AreAllSteps, Fresh, IsReading, Left, LeftBy, MakesOver}
+use Rattle.trace_events.specs.Due.{due, first}
 use Rattle.host_calls.specs.declared.calls.HostFault.{HostFault}
 use Rattle.host_calls.specs.Record.{Since}
 use Rattle.host_trace.specs.Leads.{At}
@@ -117,27 +118,24 @@ turns_none state drain now log saw c b stands = Makes-map state now now log log 
     ))
 
 -- the last turn behind the others
-abbrev IsLast : Bool → Bool → CoreState → ℕ → Option (List CoreState) → Option (List CoreState) → List HostCall → Type 0
-IsLast drain done c₀ n saw now_saw calls = (last earlier : List HostCall) × (calls ≡ last ++ earlier) × IsTurn done last
-    × AddsTo (Fresh c₀) earlier (last ++ earlier) × Going drain (Fresh c₀) n saw now_saw earlier
+abbrev IsLast : Bool → Bool → CoreState → CoreState → ℕ → Option (List CoreState) → Option (List CoreState) → List HostCall → Type 0
+IsLast drain done c₀ c n saw now_saw calls = (last earlier : List HostCall) × (calls ≡ last ++ earlier) × IsTurn done last
+    × UpTo (Fresh c₀) (Turned done c earlier) (last ++ earlier) × Going drain (Fresh c₀) n saw now_saw earlier
 
 -- a turn more, a look, and the pause behind it
 pub turns_more : {L : Type 0} (state : L → LogState) (drain done : Bool) (n : ℕ) (t₀ t₁ t₂ t₃ : Option (List (Made L))) (l₀ l₁ : LogState) (log now : L) (s₀ s₁ s₂ : Option (List CoreState)) (c₀ c c' : CoreState) (b b' : Begun) → MakesOver state t₀ t₁ l₀ l₁ (Going drain (Fresh c₀) n s₀ s₁) (Fresh c₀) (At c b) → MakesOver state t₁ t₂ l₁ (state log) (IsTurn done) (At c b) (Left done c' b') → (has_short_seconds c₀ ≡ true → Grows l₁ (state log)) → Since s₁ s₂ (λ cores. cores ≡ c' ∷ []) → AddsMade t₂ t₃ Pause log → now ≡ log → MakesOver state t₀ t₃ l₀ (state now) (Gone drain (Fresh c₀) n c' s₀ s₂) (Fresh c₀) (At c' b')
 turns_more {L = L} state drain done n t₀ t₁ t₂ t₃ l₀ l₁ log now s₀ s₁ s₂ c₀ c c' b b' before turn grows look pause same =
     subst (λ (l : L). MakesOver state t₀ t₃ l₀ (state l) (Gone drain (Fresh c₀) n c' s₀ s₂) (Fresh c₀) (At c' b')) (sym same)
     (Makes-then state t₀ t₂ t₃ l₀ l₂ l₂ Last IsPause (Gone drain (Fresh c₀) n c' s₀ s₂) (Fresh c₀) (Left done c' b') (At c' b') (λ goal p fits. Grows-none l₂)
-    (Makes-map state t₀ t₂ l₀ l₂ (IsLast drain done c₀ n s₀ s₁) Last (Fresh c₀) (Left done c' b') (Fresh c₀) (Left done c' b') (λ goal p sound fits. fits)
-    (Makes-then state t₀ t₁ t₂ l₀ l₁ l₂ Before Turned (IsLast drain done c₀ n s₀ s₁) (Fresh c₀) (At c b) (Left done c' b') (λ goal p fits. grows fits.0.short)
+    (Makes-then state t₀ t₁ t₂ l₀ l₁ l₂ Before Turning Last (Fresh c₀) (At c b) (Left done c' b') (λ goal p fits. grows fits.0.short)
     (Makes-map state t₀ t₁ l₀ l₁ (Going drain (Fresh c₀) n s₀ s₁) Before (Fresh c₀) (At c b) (Fresh c₀) (At c b) (λ goal p sound fits. fits) before (λ calls going leads. ((going, leads), leads)))
-    (Makes-map state t₁ t₂ l₁ l₂ (IsTurn done) Turned (At c b) (Left done c' b') (At c b) (Left done c' b') (λ goal p sound fits. fits) turn (λ calls made leads. ((made, leads), leads)))
-    (λ xs ys was is. (ys, xs, refl, is.0, adds xs ys was.1 is.1, was.0)))
-    (λ calls last leads. ((last, leads), leads)))
+    (Makes-map state t₁ t₂ l₁ l₂ (IsTurn done) Turning (At c b) (Left done c' b') (At c b) (Left done c' b') (λ goal p sound fits. fits) turn (λ calls made leads. ((made, leads), leads)))
+    (λ xs ys was is. (ys, xs, refl, is.0, turned_to xs ys was.1 is.1, was.0)))
     (Makes-one state t₂ t₃ l₂ l₂ log Pause IsPause (Left done c' b') (At c' b') pause refl
     (Leads-weaken (Left done c' b') (Left done c' b') (Left done c' b') (At c' b') l₂ l₂ (Pause ∷ []) (λ goal p fits. fits) (λ goal p fits. fits.at)
     (Leads-still (Left done c' b') l₂ Pause (λ p. refl) (λ goal so_far. refl) (λ goal p. tt)))
     (kept_still (Left done c' b') l₂ Pause (λ so_far. refl)))
-    (λ xs ys ((last, earlier, is, made, more, going), leads) one.
-    seen last earlier (ys ++ xs) (λ i. one i ++ is i) made more (subst (Leads (Fresh c₀) (Left done c' b') l₀ l₂) is leads) going))
+    (λ xs ys (last, earlier, is, made, more, going) one. seen last earlier (ys ++ xs) (λ i. one i ++ is i) made more going))
   where
     l₂ : LogState
     l₂ = state log
@@ -145,35 +143,30 @@ turns_more {L = L} state drain done n t₀ t₁ t₂ t₃ l₀ l₁ log now s₀
     Before : List HostCall → Type 0
     Before calls = Going drain (Fresh c₀) n s₀ s₁ calls × Leads (Fresh c₀) (At c b) l₀ l₁ calls
 
-    Turned : List HostCall → Type 0
-    Turned calls = IsTurn done calls × Leads (At c b) (Left done c' b') l₁ l₂ calls
+    Turning : List HostCall → Type 0
+    Turning calls = IsTurn done calls × Leads (At c b) (Left done c' b') l₁ l₂ calls
 
     Last : List HostCall → Type 0
-    Last calls = IsLast drain done c₀ n s₀ s₁ calls × Leads (Fresh c₀) (Left done c' b') l₀ l₂ calls
+    Last = IsLast drain done c₀ c' n s₀ s₁
 
     IsPause : List HostCall → Type 0
     IsPause calls = calls ≡ Pause ∷ []
 
-    adds : (xs ys : List HostCall) → Leads (Fresh c₀) (At c b) l₀ l₁ xs → Leads (At c b) (Left done c' b') l₁ l₂ ys → AddsTo (Fresh c₀) xs (ys ++ xs)
-    adds xs ys one two goal p sound fits allowed carried short =
-        let joined : point_after (ys ++ xs) p ≡ point_after ys (point_after xs p) = point_after-append ys xs p in
-        let later : is_allowed goal (point_after ys (point_after xs p)).past ≡ true = ap (λ (q : Point). is_allowed goal q.past) (sym joined) ∙ allowed in
-        let parts = carried_parts ys xs p carried in
-        let first : Went (At c b) l₀ l₁ goal p xs = (one goal p sound fits (calls_allowed goal ys (point_after xs p) later)).1 parts.1 in
-        let second : Went (Left done c' b') l₁ l₂ goal (point_after xs p) ys = (two goal (point_after xs p) first.sound first.fits later).1 parts.0 in
-        let took : Took l₁ l₂ (point_after xs p).past (point_after ys (point_after xs p)).past = second.log (short_then goal xs p first.sound short) in
-        (took.came, ap (λ (q : Point). q.past) joined ∙ took.grown)
+    turned_to : (xs ys : List HostCall) → Leads (Fresh c₀) (At c b) l₀ l₁ xs → Leads (At c b) (Left done c' b') l₁ l₂ ys → UpTo (Fresh c₀) (Turned done c' xs) (ys ++ xs)
+    turned_to xs ys one two = UpTo-then (Fresh c₀) (At c b) l₀ l₁ (Went past_of (Left done c' b') l₁ l₂) (Turned done c' xs) xs ys one two
+        (λ goal p joined went more. record {
+          sound = ap (λ (q : Point). is_sound goal q.past) joined ∙ more.well.sound;
+          tracks = subst (Tracks c' goal) (sym joined) more.fits.at.0;
+          rests = λ is. ap (λ (q : Point). first (due goal q.past)) joined ∙ more.fits.rests is;
+          adds = λ short.
+              let took : Took l₁ l₂ (point_after xs p).past (point_after ys (point_after xs p)).past = more.log (short_then goal xs p went.well.sound short) in
+              (took.came, ap (λ (q : Point). q.past) joined ∙ took.grown);
+        })
 
-    seen : (last earlier calls : List HostCall) → calls ≡ Pause ∷ (last ++ earlier) → IsTurn done last → AddsTo (Fresh c₀) earlier (last ++ earlier) → Leads (Fresh c₀) (Left done c' b') l₀ l₂ (last ++ earlier) → Going drain (Fresh c₀) n s₀ s₁ earlier → Gone drain (Fresh c₀) n c' s₀ s₂ calls
-    seen last earlier calls is made more leads going = Since-then s₀ s₁ s₂ (λ cores. (length cores ≡ n) × AreTurns (Fresh c₀) cores earlier × (drain ≡ true → list_all is_busy cores ≡ true)) (λ cores. cores ≡ c' ∷ [])
+    seen : (last earlier calls : List HostCall) → calls ≡ Pause ∷ (last ++ earlier) → IsTurn done last → UpTo (Fresh c₀) (Turned done c' earlier) (last ++ earlier) → Going drain (Fresh c₀) n s₀ s₁ earlier → Gone drain (Fresh c₀) n c' s₀ s₂ calls
+    seen last earlier calls is made more going = Since-then s₀ s₁ s₂ (λ cores. (length cores ≡ n) × AreTurns (Fresh c₀) cores earlier × (drain ≡ true → list_all is_busy cores ≡ true)) (λ cores. cores ≡ c' ∷ [])
         (λ all. (cores : List CoreState) × (all ≡ c' ∷ cores) × (length cores ≡ n) × AreTurns (Fresh c₀) (c' ∷ cores) calls × (drain ≡ true → list_all is_busy cores ≡ true)) going look
-        (λ cores newest was one. (
-          cores,
-          ap (λ front. front ++ cores) one,
-          was.0,
-          (done, last, earlier, is, made, (λ goal p sound fits allowed carried. let went : Went (Left done c' b') l₀ l₂ goal p (last ++ earlier) = (leads goal p sound fits allowed).1 carried in (went.sound, went.fits.at.0, went.fits.rests)), more, was.1),
-          was.2,
-        ))
+        (λ cores newest was one. (cores, ap (λ front. front ++ cores) one, was.0, (done, last, earlier, is, made, more, was.1), was.2))
 
 -- turns of another shape
 shaped : {L : Type 0} (state : L → LogState) (t₀ t₁ : Option (List (Made L))) (l₀ l₁ : LogState) (P Q : List HostCall → Type 0) (f₀ f₁ : Goal → Point → Type 0) → ((calls : List HostCall) → P calls → Q calls) → MakesOver state t₀ t₁ l₀ l₁ P f₀ f₁ → MakesOver state t₀ t₁ l₀ l₁ Q f₀ f₁
@@ -217,18 +210,7 @@ pub turns_left : {L : Type 0} (state : L → LogState) (t₀ t₁ : Option (List
 turns_left state t₀ t₁ l₀ l₁ Shape c₀ c b makes = Makes-map state t₀ t₁ l₀ l₁ Shape Shape (Fresh c₀) (At c b) (Fresh c₀) (LeftBy c) (λ goal p sound fits. fits) makes (λ calls shape leads. (shape, counts calls leads))
   where
     counts : (calls : List HostCall) → Leads (Fresh c₀) (At c b) l₀ l₁ calls → Leads (Fresh c₀) (LeftBy c) l₀ l₁ calls
-    counts calls leads goal p sound fits allowed =
-        let led = leads goal p sound fits allowed in (
-          led.0,
-          λ carried.
-              let went : Went (At c b) l₀ l₁ goal p calls = led.1 carried in
-              record {
-                in_place = went.in_place;
-                sound = went.sound;
-                fits = (went.fits.0, unreaped_recorded goal (point_after calls p).past c went.sound went.fits.0.fits.0);
-                log = went.log;
-              },
-        )
+    counts calls = Leads-map (Fresh c₀) (Fresh c₀) (At c b) (LeftBy c) l₀ l₁ calls (λ goal p sound fits. (fits, λ now at. (at.0, unreaped_recorded goal (point_after calls p).past c now at.0.fits.0)))
 
 -- the requests of all bytes
 pub turns_bring : {L : Type 0} (state : L → LogState) (t₀ t₁ : Option (List (Made L))) (l₀ l₁ : LogState) (Shape : List HostCall → Type 0) (f₀ f₁ : Goal → Point → Type 0) → MakesOver state t₀ t₁ l₀ l₁ Shape f₀ f₁ → Since t₀ t₁ (λ mades. (p : Point) → p.over ≡ [] → Brings [] (calls_of mades) p)

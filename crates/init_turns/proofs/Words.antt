@@ -12,16 +12,16 @@ pub use Rattle.core_waiting.specs.Rest.{AtRest, after_rounds, is_level_announced
 pub use Rattle.host_calls.specs.declared.calls.Call.TheVariants.{Clock, Pause, Start, Look, Late, TakeBytes, Announce, Carry, Signal, ReadTables}
 pub use Rattle.host_calls.specs.Calls.{HostCall, TextRead, front_read, parts_read}
 pub use Rattle.host_trace.specs.declared.TheConstants.{STEP_LIMIT, BYTE_LIMIT, PIECE, LATE_LIMIT}
-pub use Rattle.host_trace.specs.Leads.{are_carried, are_seconds_short, is_allowed, Gave, gone_on, Hears, Lasts, Leads, Logs, Tracks, Went, comes_back, Counted, IsOver, Took}
+pub use Rattle.host_trace.specs.Leads.{are_carried, are_seconds_short, is_allowed, Gave, gone_on, Hears, Lasts, Leads, Logs, Tracks, UpTo, Went, comes_back, Counted, IsOver, Took, past_of}
 pub use Rattle.host_trace.specs.Point.{Point, point_after, has_trace, last_birth, acted, answered, announced, is_announcement, bytes_after, came_cut, carrying, is_of_generation, is_outcome, same_text, is_last, clocked, come, ordered, order_for}
-pub use Rattle.host_trace.specs.Turns.{AreSteps, AreTurns, IsTurn, are_full, are_lates, are_takes, has_come, is_step, MadeTurns, bytes_in, bytes_taken, is_room, AddsTo, is_busy, takes_none}
-pub use Rattle.host_trace.proofs.Leading.{calls_allowed, carried_parts, Leads-heard, Leads-weaken, Leads-none, Leads-then, Leads-beside, Leads-frame, Leads-still, bytes_counted, Hears-none}
+pub use Rattle.host_trace.specs.Turns.{AreSteps, AreTurns, IsTurn, are_full, are_lates, are_takes, has_come, is_step, MadeTurns, Turned, bytes_in, bytes_taken, is_room, is_busy, takes_none}
+pub use Rattle.host_trace.proofs.Leading.{calls_allowed, carried_parts, UpTo-then, Leads-heard, Leads-map, Leads-weaken, Leads-none, Leads-then, Leads-beside, Leads-frame, Leads-still, bytes_counted, Hears-none}
 pub use Rattle.host_trace.proofs.Point.{point_after-append}
 pub use Rattle.init_turns.specs.Arriving.{ArrivesIn, IsSettled, are_undisturbed_turns, is_answered_turn, past_after, round_of, up_to_pause, without_turn, without_turns, Arrives, ServesTurns}
 pub use Rattle.init_words.specs.declared.entries.Entry.{Entry}
 pub use Rattle.init_words.specs.declared.orders.Answer.TheVariants.{Alive, Born, Ended}
 pub use Rattle.trace_events.specs.declared.happenings.Happening.TheVariants.{Enter, Settle, NewTable, Told, Death, Reaped, Asked}
-pub use Rattle.init_turns.specs.Opening.{opening_point, FrontsFrom, IsOpening, KeptFrom, IsOpeningOf, LeadsFrom, OpeningState, Opens}
+pub use Rattle.init_turns.specs.Opening.{opening_point, IsOpening, IsOpeningOf, OpeningState, Opens}
 pub use Rattle.std.specs.Option.{option_and_then, option_to_list, option_map_or}
 pub use Rattle.init_words.specs.declared.orders.Answer.{Answer}
 pub use Rattle.initctl_frame.specs.Blocks.{Begun, Stands, gots_of}
@@ -32,9 +32,9 @@ pub use Rattle.core_model.specs.Steps.{after_told, after_step, after_handed_on, 
 pub use Rattle.core_model.specs.Fit.{Fits, FitsAll, StillFits, OnEachTrace, with_step}
 pub use Rattle.core_model.proofs.Recorded.{unreaped_recorded}
 pub use Rattle.trace_log.specs.Logs.{LogState}
-pub use Rattle.host_trace.proofs.Taking.{Logs-none, Took-then, Logs-handed, Logs-same, Logs-then}
+pub use Rattle.host_trace.proofs.Taking.{Logs-none, Took-none, Logs-handed, Logs-same, Logs-then}
 pub use Rattle.host_trace.proofs.Acting.{Hears-answer, Hears-step, Hears-tracks, tracks, Hears-told}
-pub use Rattle.init_turns.specs.Parts.{AndRests, IsStep, IsStepUnless, Left, Makes, MakesOver, SaysStep, is_end, is_short_step, ComesTo, Saying, is_listed, Fresh, LeftBy, AreAllSteps, IsLate, IsTake, IsReading}
+pub use Rattle.init_turns.specs.Parts.{AndRests, IsStep, IsStepUnless, Left, Makes, MakesFrom, SaysStep, is_end, is_short_step, ComesTo, Saying, is_listed, Fresh, LeftBy, AreAllSteps, IsLate, IsTake, IsReading}
 pub use Rattle.initctl_frame.specs.declared.requests.HeardRequest.{HeardRequest}
 pub use Rattle.trace_events.specs.Range.{is_request}
 pub use Rattle.core_model.specs.Decide.{decide, or_else, or_idle, level_step, news_step, wished_step, wish_step, stands, stop_among, has_excluded, limited_step, can_start_record, start_step, is_owed_record, start_along, is_over_among, next_stage, enter_step, stage_step, settle_step, can_look_record, look_among, calm_step, work_step, first_step, decide_in, is_drained}
@@ -54,7 +54,11 @@ pub use Rattle.inittab_text.specs.Tables.{entry_of, is_distinct}
 pub use Rattle.host_trace.specs.Edges.{AddsMade, Kept, KeptAt, Made, calls_of, trace_at}
 pub use Rattle.host_trace.specs.Fronts.{Fronts, says_of}
 pub use Rattle.host_calls.proofs.Record.{Since-map, Since-none, Since-then}
-pub use Rattle.host_trace.proofs.Fronts.{Began-then, fronts_narrower, fronts_none, fronts_one, fronts_then, fronts_two}
-pub use Rattle.host_trace.proofs.Keeping.{AddsMade-same, Kept-narrower, Kept-one, Kept-then, Since-made, calls_of-append, kept_asked, kept_led, kept_still, told_at}
+pub use Rattle.host_trace.proofs.Fronts.{fronts_none, fronts_one, fronts_then, fronts_two}
+pub use Rattle.host_trace.proofs.Keeping.{AddsMade-same, Kept-one, Kept-then, Since-made, calls_of-append, fronts_from, kept_asked, kept_from, kept_led, kept_still, leads_from, told_at}
 pub use Rattle.host_trace.specs.Requests.{Brings, requested}
 pub use Rattle.core_handover.specs.Taken.{NotTaken}
+
+-- what parts of a turn make, between two records of calls and two logs
+abbrev pub MakesOver : {L : Type 0} → (L → LogState) → Option (List (Made L)) → Option (List (Made L)) → LogState → LogState → (List HostCall → Type 0) → (Goal → Point → Type 0) → (Goal → Point → Type 0) → Type 0
+MakesOver = MakesFrom past_of

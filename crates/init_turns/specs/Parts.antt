@@ -31,23 +31,23 @@ use Rattle.host_trace.specs.Point.{Point, is_last, is_outcome, is_announcement, 
 use Rattle.host_calls.specs.Record.{Since}
 use Rattle.host_trace.specs.Edges.{AddsMade, Kept, Made, calls_of}
 use Rattle.host_trace.specs.Fronts.{Fronts}
-use Rattle.host_trace.specs.Leads.{At, Leads, Tracks, comes_back}
+use Rattle.host_trace.specs.Leads.{At, Tracks, UpTo, Went, comes_back, past_of}
 use Rattle.host_trace.specs.Turns.{AreSteps, bytes_in, is_room, is_step}
 
--- The calls made are of this shape, and what fits before them fits after them; up to each of them all went well as far
--- as the answers until then were possible, and when it was made, the log had taken the whole trace until then. Where
--- the edge tells its calls, they are those.
-abbrev pub MakesOver : {L : Type 0} → (L → LogState) → Option (List (Made L)) → Option (List (Made L)) → LogState
-    → LogState → (List HostCall → Type 0) → (Goal → Point → Type 0) → (Goal → Point → Type 0) → Type 0
-MakesOver state told now_told log now_log Shape fitted fit =
-    Since told now_told (λ mades. Shape (calls_of mades) × Leads fitted fit log now_log (calls_of mades)
-    × Fronts fitted log now_log (calls_of mades) × Kept state fitted log mades)
+-- The calls made are of this shape, and lead from what is fitted to what fits; up to each of them all went well as far
+-- as the answers until then were possible, and when it was made, the log had taken all that had come since `from`.
+-- Where the edge tells its calls, they are those.
+abbrev pub MakesFrom : {L : Type 0} → (Point → List Event) → (L → LogState) → Option (List (Made L))
+    → Option (List (Made L)) → LogState → LogState → (List HostCall → Type 0) → (Goal → Point → Type 0)
+    → (Goal → Point → Type 0) → Type 0
+MakesFrom from state told now_told log now_log Shape fitted fit =
+    Since told now_told (λ mades. Shape (calls_of mades) × UpTo fitted (Went from fit log now_log) (calls_of mades)
+    × Fronts from fitted log now_log (calls_of mades) × Kept state from fitted log mades)
 
--- so it is of an edge before and behind them
+-- so it is of an edge before and behind them, whose log was handed all before
 abbrev pub Makes : {E L : Type 0} → (L → LogState) → (E → Option (List (Made L))) → (E → L) → E → E
     → (List HostCall → Type 0) → (Goal → Point → Type 0) → (Goal → Point → Type 0) → Type 0
-Makes state told log old new Shape fitted fit =
-    MakesOver state (told old) (told new) (state (log old)) (state (log new)) Shape fitted fit
+Makes state told log old new = MakesFrom past_of state (told old) (told new) (state (log old)) (state (log new))
 
 -- the answer is that the child ended
 abbrev pub is_end : Answer → Bool

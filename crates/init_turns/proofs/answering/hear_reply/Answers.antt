@@ -1,5 +1,14 @@
-use Rattle.init_turns.proofs.Words.{rules, GrowsBy-none}
+use Rattle.init_turns.proofs.Words.{rules, ◌≡◌, sym, subst, Hears, Tracks, Hears-none, GrowsBy-none}
+use Rattle.host_calls.specs.declared.calls.Reply.TheVariants.{Later}
+use Rattle.host_trace.specs.Point.{replied}
 use Rattle.init_turns.proofs.answering.hear_reply.Goals as goal
+
+pub returns-in-Later-clause-hears : goal.returns-in-Later-clause-hears
+returns-in-Later-clause-hears g c =
+    let is : c.args.reply.now ≡ Later = search rules in
+    let core = c.args.core.now in
+    let log = g.E.Edge.state (g.E.Edge.log c.args.edge.now) in
+    subst (λ reply. Hears (Tracks core) (Tracks core) log log (replied c.args.id reply)) (sym is) (Hears-none (Tracks core) log)
 
 pub returns-in-Later-clause-grows : goal.returns-in-Later-clause-grows
 returns-in-Later-clause-grows g c = search (rules, GrowsBy-none)
