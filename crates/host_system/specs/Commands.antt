@@ -1,5 +1,5 @@
 -- How the process of an inittab entry is started (inittab(5)).
-use Rattle.std.specs.Prelude.{ℕ, Bool, if◌then◌else◌, ◌==◌, List, [], ◌∷◌, ◌++◌, codes, Option, Some, None}
+use Rattle.std.specs.Prelude.{ℕ, Bool, if◌then◌else◌, ◌==◌, List, [], ◌∷◌, ◌++◌, codes, Option, Some, None, Box}
 use Rattle.std.specs.List.{list_any}
 use Rattle.std.specs.Process.{command_program, command_args}
 use Rattle.std.specs.declared.process.command.Command.{Command}
@@ -19,9 +19,12 @@ words_run text =
     if needs_shell text then codes "sh" ∷ codes "-c" ∷ (codes "exec " ++ text) ∷ [] else words_of text
 
 -- the program and the arguments of a command; none where there is no command
-abbrev pub words_in : {A : Type 0} → Option (Command A) → List (List ℕ)
-words_in (Some command) = command_program command ∷ command_args command
-words_in None = []
+abbrev pub words_in : {A : Type 0} → Command A → List (List ℕ)
+words_in command = command_program command ∷ command_args command
+
+abbrev pub words_at : {A : Type 0} → Option (Box (Command A) A) → List (List ℕ)
+words_at (Some command) = words_in command.value
+words_at None = []
 
 -- words that are started by a shell, which appends their output to the log and becomes the process
 abbrev pub logged : List ℕ → List (List ℕ) → List (List ℕ)

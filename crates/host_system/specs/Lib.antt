@@ -1,9 +1,3 @@
-pub mod Announced
 pub mod Commands
-pub mod Costs
-pub mod Folders
 pub mod Hosts
-pub mod LineFaults
 pub mod Logs
-pub mod News
-pub mod OldRequests

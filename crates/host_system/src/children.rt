@@ -5,17 +5,16 @@ ghost use Rattle.host_calls.specs.declared.calls.Reply.TheVariants.{Now};
 ghost use Rattle.host_calls.specs.Held.{Looks, Signals, holds_child, without_child};
 ghost use Rattle.host_system.specs.Hosts.{is_look_answer, is_signal_answer};
 
-use crate::commands::{Escaped, command_of, escape, needs_shell, shown};
-use crate::costs::Line;
+use crate::commands::{BoxedCommand, command_of, needs_shell};
 use crate::held::Held;
 use crate::logs::Logs;
-use crate::news::{News, end_news, last_end_of};
-use crate::starts::Starts;
 use crate::terms::TermSender;
+use host_files::boxed;
+use host_messages::{ChildNews, Escaped, Line, escape};
 use indexmap::IndexMap;
 use init_words::{Answer, ChildNumber, Id, Memory, SignalKind, Stage, Status};
 use inittab_text::Table;
-use std::alloc::Allocator;
+use std::alloc::{AllocError, Allocator};
 use std::hash::{BuildHasherDefault, FoldHasher};
 use std::io::ErrorKind;
 use std::marker::Model;
@@ -31,14 +30,12 @@ pub(crate) struct Children<R: Processes, A: Allocator> {
     /// The name of the program that says what is said of them.
     program: &'static str,
     handles: IndexMap<Id, Held<R::Started>, BuildHasherDefault<FoldHasher>, A>,
-    /// How the last child of each id ended, as far as there was memory to keep it.
-    ends: IndexMap<Id, News, BuildHasherDefault<FoldHasher>, A>,
     terms: TermSender<R::Started>,
     /// The stage, and that in which an inittab was read again last.
     stage: Option<Stage>,
     read_in: Option<Stage>,
-    /// The births, where it is told what children do.
-    starts: Option<Starts<A>>,
+    /// What is told of them.
+    news: ChildNews<A>,
     /// Where their output goes, where it goes to logs.
     logs: Option<Logs<A>>,
 }
@@ -52,19 +49,24 @@ impl<R: Processes, A: Allocator> Model for Children<R, A> {
 }
 
 impl<R: Processes, A: Allocator + Copy> Children<R, A> {
-    /// No children. It takes no memory.
-    pub(crate) fn new(alloc: A, program: &'static str) -> Children<R, A>
+    /// No children.
+    pub(crate) fn new(alloc: A, program: &'static str) -> Result<Box<Children<R, A>, A>, AllocError>
+        ensures { IfOk result (λ children. children.value ≡ []) }
+    {
+        boxed(alloc, Children::none(alloc, program))
+    }
+
+    fn none(alloc: A, program: &'static str) -> Children<R, A>
         ensures { result ≡ [] }
     {
         Children {
             alloc,
             program,
             handles: IndexMap::new(alloc),
-            ends: IndexMap::new(alloc),
             terms: TermSender::new(),
             stage: None,
             read_in: None,
-            starts: None,
+            news: ChildNews::new(alloc, program),
             logs: None,
         }
     }
@@ -73,7 +75,7 @@ impl<R: Processes, A: Allocator + Copy> Children<R, A> {
     pub(crate) fn tell_all(&mut self)
         ensures { self.new ≡ self.old }
     {
-        self.starts = Some(Starts::new(self.alloc, self.program));
+        self.news.tell_all();
     }
 
     /// From now on the output of the children that are started goes to logs in this folder.
@@ -101,11 +103,9 @@ impl<R: Processes, A: Allocator + Copy> Children<R, A> {
         if self.holds(&id) {
             return Err(io::Error::from(ErrorKind::AlreadyExists));
         }
-        let Some(mut command) = self.command(rt, alloc, &id, text)? else {
-            return Err(io::Error::from(ErrorKind::InvalidInput));
-        };
+        let mut command = self.command(rt, alloc, &id, text)?;
         let number = self.spawn(rt, id, &mut command)?;
-        self.tell_start(rt, id, number);
+        self.news.tell_start(rt, &id, number);
         Ok(number)
     }
 
@@ -141,50 +141,28 @@ impl<R: Processes, A: Allocator + Copy> Children<R, A> {
         Ok(number)
     }
 
-    /// The command that starts a process text. None where it has no word, and where it isn't UTF-8.
+    /// The command that starts a process text. There is none where it has no word, and where it isn't UTF-8.
     fn command<B: Allocator + Copy>(
         &mut self,
         rt: &R,
         alloc: B,
         id: &Id,
         text: &[u8],
-    ) -> io::Result<Option<Command<B>>>
+    ) -> io::Result<BoxedCommand<B>>
     where
         R: Files + Eprint,
         ensures { self.new ≡ self.old }
     {
         let Ok(text) = str::from_utf8(text) else {
-            return Ok(None);
+            return Err(io::Error::from(ErrorKind::InvalidInput));
         };
-        match &mut self.logs {
-            Some(logs) => logs.command(rt, alloc, id, text),
-            None => Ok(command_of(alloc, text)?),
-        }
-    }
-
-    fn tell_start(&mut self, rt: &R, id: Id, number: ChildNumber)
-    where
-        R: Eprint,
-        ensures { self.new ≡ self.old }
-    {
-        let Some(starts) = &mut self.starts else {
-            return;
+        let command = match &mut self.logs {
+            Some(logs) => logs.command(rt, alloc, id, text)?,
+            None => command_of(alloc, text)?,
         };
-        let news = match starts.count(rt, id) {
-            Some(count) if count > 1 => News::StartedAgain(number.0, count),
-            _ => News::Started(number.0),
-        };
-        self.tell(rt, &id, &news);
-    }
-
-    /// Tells what a child did, where it is told what children do.
-    fn tell(&self, rt: &R, id: &Id, news: &News)
-    where
-        R: Eprint,
-    {
-        if self.starts.is_some() {
-            let id = shown(id.as_bytes());
-            let _ = eprintln!(rt; "{}: {id}: {news}", self.program);
+        match command {
+            Some(command) => Ok(command),
+            None => Err(io::Error::from(ErrorKind::InvalidInput)),
         }
     }
 
@@ -193,12 +171,7 @@ impl<R: Processes, A: Allocator + Copy> Children<R, A> {
     where
         R: Eprint,
     {
-        let id = shown(id.as_bytes());
-        let program = program_of(text);
-        let _ = match error.kind() {
-            ErrorKind::NotFound => eprintln!(rt; "{}: {id}: {program}: not found", self.program),
-            _ => eprintln!(rt; "{}: {id}: {program}: {error}", self.program),
-        };
+        self.news.say_not_born(rt, id, program_of(text), error);
     }
 
     /// Reaps the id's child if it has ended.
@@ -211,7 +184,7 @@ impl<R: Processes, A: Allocator + Copy> Children<R, A> {
         match self.try_wait(id) {
             Ok(Some(status)) => {
                 self.release(id);
-                self.note_end(rt, *id, end_news(&status));
+                self.news.note_end(rt, id, &status);
                 Answer::Ended(status_of(&status))
             }
             Ok(None) => Answer::Alive,
@@ -237,31 +210,12 @@ impl<R: Processes, A: Allocator + Copy> Children<R, A> {
         self.handles.shift_remove(id);
     }
 
-    /// Keeps how the id's child ended, and tells it, where it is told what children do.
-    fn note_end(&mut self, rt: &R, id: Id, end: News)
-    where
-        R: Eprint,
-        ensures { self.new ≡ self.old }
-    {
-        if self.ends.insert(id, end).is_err() {
-            self.ends.shift_remove(&id);
-        }
-        self.tell(rt, &id, &end);
-    }
-
     /// Says on standard error how the id's last child ended, and what that mostly means.
     pub(crate) fn say_last_end(&self, rt: &R, id: &Id)
     where
         R: Eprint,
     {
-        if let Some(end) = self.ends.get(id) {
-            let id = shown(id.as_bytes());
-            let _ = eprintln!(rt;
-                "{}: {id}: its last end: {}",
-                self.program,
-                last_end_of(*end)
-            );
-        }
+        self.news.say_last_end(rt, id);
     }
 
     /// The stage was entered.
@@ -312,7 +266,7 @@ impl<R: Processes, A: Allocator + Copy> Children<R, A> {
             return Answer::Miss;
         }
         self.say_cost(rt, id);
-        self.tell(rt, id, &News::Sent(signal));
+        self.news.tell_sent(rt, id, signal);
         Answer::Hit
     }
 
@@ -327,7 +281,7 @@ impl<R: Processes, A: Allocator + Copy> Children<R, A> {
         let Some(held) = self.handles.get_mut(id) else {
             return;
         };
-        held.say_cost(rt, self.program, id, is_same_stage);
+        held.say_cost(rt, &self.news, id, is_same_stage);
     }
 
     fn term(&mut self, rt: &R, id: &Id) -> bool

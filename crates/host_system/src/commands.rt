@@ -1,14 +1,18 @@
 //! How a process text is executed: by `sh`, or word by word.
 
-ghost use Rattle.std.specs.Prelude.{◌≡◌, ◌++◌, ◌∷◌, [], Some, codes, IfOk, OnOk};
+ghost use Rattle.std.specs.Prelude.{◌≡◌, ◌++◌, ◌∷◌, [], codes, IfOk, OnOk};
 ghost use Rattle.std.specs.Str.{IsUtf8};
 ghost use Rattle.text_lines.specs.Lines.{words_of};
-ghost use Rattle.host_system.specs.Commands.{is_shell_byte, logged, needs_shell, words_logged, words_run, words_in};
+ghost use Rattle.host_system.specs.Commands.{is_shell_byte, logged, needs_shell, words_at, words_in, words_logged, words_run};
 
+use host_files::boxed;
 use std::alloc::{AllocError, Allocator};
 use std::process::Command;
-use std::{fmt, str};
+use std::str;
 use text_lines::next_word;
+
+/// A command on the heap: it has many fields.
+pub(crate) type BoxedCommand<A> = Box<Command<A>, A>;
 
 /// The characters for which a process is started by a shell.
 const SHELL_BYTES: &[u8] = b"~`!$^&*()=|\\{}[];\"'<>?";
@@ -31,8 +35,8 @@ pub(crate) fn needs_shell(text: &[u8]) -> bool
 pub(crate) fn command_of<A: Allocator + Copy>(
     alloc: A,
     text: &str,
-) -> Result<Option<Command<A>>, AllocError>
-    ensures { IfOk result (λ command. words_in command ≡ words_run text.now) }
+) -> Result<Option<BoxedCommand<A>>, AllocError>
+    ensures { IfOk result (λ command. words_at command ≡ words_run text.now) }
 {
     if needs_shell(text.as_bytes()) {
         let line = format!(in alloc; "exec {text}")?;
@@ -47,8 +51,8 @@ pub(crate) fn logged_command<A: Allocator + Copy>(
     alloc: A,
     log: &str,
     text: &str,
-) -> Result<Option<Command<A>>, AllocError>
-    ensures { IfOk result (λ command. words_in command ≡ words_logged log.now text.now) }
+) -> Result<Option<BoxedCommand<A>>, AllocError>
+    ensures { IfOk result (λ command. words_at command ≡ words_logged log.now text.now) }
 {
     if !needs_shell(text.as_bytes()) {
         return logged_words(alloc, log, text);
@@ -64,8 +68,8 @@ fn logged_words<A: Allocator + Copy>(
     alloc: A,
     log: &str,
     text: &str,
-) -> Result<Option<Command<A>>, AllocError>
-    ensures { IfOk result (λ command. words_in command ≡ logged log.now (words_of text.now)) }
+) -> Result<Option<BoxedCommand<A>>, AllocError>
+    ensures { IfOk result (λ command. words_at command ≡ logged log.now (words_of text.now)) }
 {
     let Some((program, rest)) = next_word(text.as_bytes()) else {
         return Ok(None);
@@ -81,11 +85,11 @@ fn logged_words<A: Allocator + Copy>(
 pub(crate) fn shell_command<A: Allocator + Copy>(
     alloc: A,
     line: &str,
-) -> Result<Command<A>, AllocError>
+) -> Result<BoxedCommand<A>, AllocError>
     ensures { IfOk result (λ command.
-        words_in (Some command) ≡ codes "sh" ∷ codes "-c" ∷ line.now ∷ []) }
+        words_in command.value ≡ codes "sh" ∷ codes "-c" ∷ line.now ∷ []) }
 {
-    let mut command = Command::new(alloc, "sh")?;
+    let mut command = bare_command(alloc, "sh")?;
     add_word(&mut command, "-c")?;
     add_word(&mut command, line)?;
     Ok(command)
@@ -95,22 +99,31 @@ pub(crate) fn shell_command<A: Allocator + Copy>(
 fn plain_command<A: Allocator + Copy>(
     alloc: A,
     text: &str,
-) -> Result<Option<Command<A>>, AllocError>
-    ensures { IfOk result (λ command. words_in command ≡ words_of text.now) }
+) -> Result<Option<BoxedCommand<A>>, AllocError>
+    ensures { IfOk result (λ command. words_at command ≡ words_of text.now) }
 {
     let Some((program, rest)) = next_word(text.as_bytes()) else {
         return Ok(None);
     };
-    let mut command = Command::new(alloc, text_of(program))?;
+    let mut command = bare_command(alloc, text_of(program))?;
     add_words(&mut command, rest)?;
     Ok(Some(command))
+}
+
+/// The command of a program without arguments.
+pub(crate) fn bare_command<A: Allocator + Copy>(
+    alloc: A,
+    program: &str,
+) -> Result<BoxedCommand<A>, AllocError>
+    ensures { IfOk result (λ command. words_in command.value ≡ program.now ∷ []) }
+{
+    boxed(alloc, Command::new(alloc, program)?)
 }
 
 /// Adds the words of a text to a command's arguments. Where memory runs out, some of them may be added.
 fn add_words<A: Allocator + Copy>(command: &mut Command<A>, text: &[u8]) -> Result<(), AllocError>
     requires { IsUtf8 text.now }
-    ensures { OnOk result (words_in (Some command.new)
-        ≡ words_in (Some command.old) ++ words_of text.now) }
+    ensures { OnOk result (words_in command.new ≡ words_in command.old ++ words_of text.now) }
 {
     let mut rest = text;
     while let Some((word, more)) = next_word(rest) {
@@ -120,9 +133,11 @@ fn add_words<A: Allocator + Copy>(command: &mut Command<A>, text: &[u8]) -> Resu
     Ok(())
 }
 
-fn add_word<A: Allocator + Copy>(command: &mut Command<A>, word: &str) -> Result<(), AllocError>
-    ensures { OnOk result (words_in (Some command.new)
-        ≡ words_in (Some command.old) ++ word.now ∷ []) }
+pub(crate) fn add_word<A: Allocator + Copy>(
+    command: &mut Command<A>,
+    word: &str,
+) -> Result<(), AllocError>
+    ensures { OnOk result (words_in command.new ≡ words_in command.old ++ word.now ∷ []) }
 {
     command.arg(word)?;
     Ok(())
@@ -136,32 +151,5 @@ fn text_of(bytes: &[u8]) -> &str
     match str::from_utf8(bytes) {
         Ok(text) => text,
         Err(_) => unreachable!(),
-    }
-}
-
-/// The text, where it is UTF-8.
-pub(crate) fn shown(text: &[u8]) -> &str {
-    str::from_utf8(text).unwrap_or("?")
-}
-
-/// A name of a file or a program as it is shown: a control character, which a terminal is not to obey, as `\xNN`.
-#[derive(Clone, Copy)]
-pub(crate) struct Escaped<'a>(&'a str);
-
-/// The name, where it is UTF-8.
-pub(crate) fn escape(name: &[u8]) -> Escaped<'_> {
-    Escaped(shown(name))
-}
-
-impl fmt::Display for Escaped<'_> {
-    fn fmt<W: fmt::Write>(&self, f: &mut fmt::Formatter<W>) -> fmt::Result {
-        for character in self.0.chars() {
-            if character.is_ascii_control() {
-                write!(f, "\\x{:02x}", u32::from(character))?;
-            } else {
-                f.write_char(character)?;
-            }
-        }
-        Ok(())
     }
 }

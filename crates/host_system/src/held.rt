@@ -2,10 +2,9 @@
 
 ghost use Rattle.std.specs.Prelude.{◌≡◌};
 
-use crate::commands::shown;
-use crate::costs::Line;
-use crate::troubles::Trouble;
+use host_messages::{ChildNews, Line, Trouble, shown};
 use init_words::{ChildNumber, Id};
+use std::alloc::Allocator;
 use std::io;
 use std::marker::Model;
 use std::process::{Child, ExitStatus, OpenProcess};
@@ -76,21 +75,17 @@ impl<P: OpenProcess + Drop> Held<P> {
 
     /// Says on standard error, once, that the child, which is sent a signal, is the cost of an inittab that was read
     /// again, where it is.
-    pub(crate) fn say_cost(
+    pub(crate) fn say_cost<A: Allocator + Copy>(
         &mut self,
         rt: &impl Eprint,
-        program: &'static str,
+        news: &ChildNews<A>,
         id: &Id,
         is_same_stage: bool,
     )
         ensures { self.new ≡ self.old }
     {
         match self.line.take() {
-            Some(line) if line.is_cost(is_same_stage) => {
-                let id = shown(id.as_bytes());
-                let number = self.number.0;
-                let _ = eprintln!(rt; "{program}: {id}: {line}: its child {number} is stopped");
-            }
+            Some(line) if line.is_cost(is_same_stage) => news.say_cost(rt, id, self.number, line),
             _ => {}
         }
     }

@@ -2,9 +2,11 @@
 
 ghost use Rattle.std.specs.List.{list_all};
 ghost use Rattle.std.specs.Prelude.{◌≡◌};
-ghost use Rattle.host_system.specs.Logs.{is_hidden, is_log_byte, is_log_name};
+ghost use Rattle.host_system.specs.Logs.{is_log_byte, is_log_name};
 
-use crate::commands::{command_of, logged_command, shown};
+use crate::commands::{BoxedCommand, command_of, logged_command};
+use host_files::is_hidden;
+use host_messages::{say_log, say_no_log, shown};
 use indexmap::IndexSet;
 use init_words::{Id, Memory};
 use program_io::refuse_special;
@@ -12,7 +14,7 @@ use std::alloc::Allocator;
 use std::fs::OpenOptions;
 use std::hash::{BuildHasherDefault, FoldHasher};
 use std::io;
-use std::process::{Command, Stdio};
+use std::process::Stdio;
 use std::rt::Files;
 
 /// The folder of the files that have the output of the children.
@@ -40,11 +42,10 @@ impl<A: Allocator + Copy> Logs<A> {
         alloc: B,
         id: &Id,
         text: &str,
-    ) -> io::Result<Option<Command<B>>> {
+    ) -> io::Result<Option<BoxedCommand<B>>> {
         let log = self.path(rt, alloc, id)?;
         if let Err(error) = made_ready(rt, log.as_str()) {
-            let id = shown(id.as_bytes());
-            let _ = eprintln!(rt; "initd: {id}: cannot open {log}: {error}: started without");
+            say_no_log(rt, id, log.as_str(), &error);
             return Ok(command_of(alloc, text)?);
         }
         let Some(mut command) = logged_command(alloc, log.as_str(), text)? else {
@@ -67,7 +68,7 @@ impl<A: Allocator + Copy> Logs<A> {
         }
         let path = format!(in alloc; "{}/_.log", self.folder)?;
         if !matches!(self.told.insert(*id), Ok(false)) {
-            let _ = eprintln!(rt; "initd: {}: its log is {path}", shown(id.as_bytes()));
+            say_log(rt, id, path.as_str());
         }
         Ok(path)
     }
@@ -91,15 +92,6 @@ fn are_log_bytes(bytes: &[u8]) -> bool
     ensures { result ≡ list_all is_log_byte bytes.now }
 {
     bytes.iter().all(|byte| is_log_byte(*byte))
-}
-
-pub(crate) fn is_hidden(id: &[u8]) -> bool
-    ensures { result ≡ is_hidden id.now }
-{
-    match id {
-        [first, ..] => *first == b'.',
-        [] => false,
-    }
 }
 
 fn is_log_byte(byte: u8) -> bool

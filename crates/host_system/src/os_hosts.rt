@@ -5,27 +5,23 @@ ghost use Rattle.inittab_text.specs.declared.faults.PartFault.{PartFault};
 ghost use Rattle.host_calls.specs.Calls.{HasCause};
 ghost use Rattle.host_system.specs.Hosts.{is_taken};
 
-use crate::announcements::announcement_text;
-use crate::bells::Bell;
-use crate::channels::Channel;
+use crate::bell_making::make_bell;
 use crate::children::Children;
-use crate::line_faults::{LineFaults, say_refused, say_too_long, say_too_many};
-use crate::paths::Paths;
-use crate::pauses::{LOOK, Pauses, has_stirred};
-use crate::steady_clocks::{SteadyClock, Watch};
-use crate::troubles::Trouble;
+use crate::pauses::{Pauses, has_stirred};
+use crate::steady_clocks::SteadyClock;
 use host_calls::{Host, HostFault, Reading, Reply, counted, is_failed_reply};
+use host_files::{Channel, InittabFiles, StateFile, boxed};
+use host_messages::{Output, say_refused};
 use init_words::{Answer, Id, Memory, Part, SignalKind};
-use inittab_text::{PartFault, Table, TableFault};
+use inittab_text::{PartFault, Table};
 use program_io::ChannelLock;
 use std::alloc::{Allocator, Global};
 use std::fs::File;
+use std::io;
 use std::io::ErrorKind;
 use std::marker::Model;
 use std::process::Processes;
 use std::rt::{Clock, Files};
-use std::time::Duration;
-use std::{io, thread};
 use trace_events::{Happening, HappeningIn};
 
 /// A host that asks the operating system. It tells nothing of its calls, and answers each order at once.
@@ -56,18 +52,16 @@ pub struct OsHost<
 struct SystemHost<R: Processes + Files<File = File> + Clock + Print + Eprint + Drop, A: Allocator> {
     rt: R,
     alloc: A,
-    children: Children<R, A>,
-    channel: Channel<A>,
-    paths: Paths<A>,
-    line_faults: LineFaults<A>,
+    children: Box<Children<R, A>, A>,
+    channel: Box<Channel<A>, A>,
+    inittab: Box<InittabFiles<A>, A>,
+    state: Box<StateFile<A>, A>,
+    output: Box<Output<A>, A>,
+    pauses: Box<Pauses, A>,
+    clock: Box<SteadyClock, A>,
     strict: bool,
     verbose: bool,
     fresh: bool,
-    bell: Bell<A>,
-    pauses: Pauses,
-    watch: Watch,
-    clock: SteadyClock,
-    saying: Trouble,
     faults: u64,
 }
 
@@ -91,7 +85,7 @@ impl<R: Processes + Files<File = File> + Clock + Print + Eprint + Drop, A: Alloc
       strict = host.strict;
       verbose = host.verbose;
       fresh = host.fresh;
-      held = host.children;
+      held = host.children.value;
     } };
 }
 
@@ -120,9 +114,31 @@ impl<R: Processes + Files<File = File> + Clock + Print + Eprint + Drop, A: Alloc
           held = [];
         }) }
     {
-        let host = SystemHost::new(rt, alloc, program, inittab, channel, state, folder)?;
-        let host = boxed(alloc, host)?;
-        Ok(OsHost { host })
+        let children = Children::new(alloc, program)?;
+        let channel = Channel::new(alloc, program, channel)?;
+        let inittab = InittabFiles::new(alloc, program, inittab, folder)?;
+        let state = StateFile::new(alloc, program, state)?;
+        let output = boxed(alloc, Output::new(alloc, program))?;
+        let pauses = boxed(alloc, Pauses::of_a_second())?;
+        let clock = boxed(alloc, SteadyClock::new(program))?;
+        let host = SystemHost {
+            rt,
+            alloc,
+            children,
+            channel,
+            inittab,
+            state,
+            output,
+            pauses,
+            clock,
+            strict: false,
+            verbose: false,
+            fresh: false,
+            faults: 0,
+        };
+        Ok(OsHost {
+            host: boxed(alloc, host)?,
+        })
     }
 
     /// The host with pauses of at most this length in seconds, a decimal of 0.01 to 60 with at most two digits after
@@ -156,7 +172,7 @@ impl<R: Processes + Files<File = File> + Clock + Print + Eprint + Drop, A: Alloc
         ensures { result ≡ self }
     {
         let host = &mut *self.host;
-        host.pauses = Pauses::of_a_tenth();
+        *host.pauses = Pauses::of_a_tenth();
         self
     }
 
@@ -227,48 +243,15 @@ impl<
     R: Processes + Files<File = File> + Clock + Print + Eprint + Drop,
     A: Allocator + Copy,
 > SystemHost<R, A> {
-    fn new(
-        rt: R,
-        alloc: A,
-        program: &'static str,
-        inittab: &str,
-        channel: &str,
-        state: &str,
-        folder: Option<&str>,
-    ) -> Result<SystemHost<R, A>, Memory>
-        ensures { IfOk result (λ host. host ≡ record {
-          faults = 0;
-          strict = false;
-          verbose = false;
-          fresh = false;
-          held = [];
-        }) }
-    {
-        Ok(SystemHost {
-            rt,
-            alloc,
-            children: Children::new(alloc, program),
-            channel: Channel::new(alloc, program, channel)?,
-            paths: Paths::new(alloc, program, inittab, folder, state)?,
-            line_faults: LineFaults::new(alloc),
-            strict: false,
-            verbose: false,
-            fresh: false,
-            bell: Bell::new(alloc, program, channel)?,
-            pauses: Pauses::of_a_second(),
-            watch: Watch::new(),
-            clock: SteadyClock::new(program),
-            saying: Trouble::new(program, "write", "written"),
-            faults: 0,
-        })
-    }
-
     fn spare(&mut self, path: &str) -> Result<(), Memory>
         ensures { self.new ≡ self.old }
     {
         let alloc = self.alloc;
-        self.paths.spare(alloc, path)?;
-        let _ = self.paths.tell_blocked(&self.rt, self.channel.path());
+        self.state.spare(alloc, path)?;
+        let inittab = self.inittab.path();
+        let _ = self
+            .state
+            .tell_blocked(&self.rt, inittab, self.channel.path());
         Ok(())
     }
 
@@ -276,14 +259,14 @@ impl<
         ensures { self.new ≡ self.old }
     {
         let alloc = self.alloc;
-        self.bell.make(&self.rt, alloc);
+        make_bell(&self.rt, alloc, &self.channel);
     }
 
     fn tell_all(&mut self)
         ensures { self.new ≡ self.old }
     {
         self.children.tell_all();
-        self.paths.tell_all(&self.rt);
+        self.inittab.tell_all(&self.rt);
     }
 
     /// Prints the faults of the lines of an inittab's parts that were read as this table, and notes which children it
@@ -299,70 +282,16 @@ impl<
         ensures cause { HasCause self.old.faults self.new.faults false }
         ensures kept { self.new ≡ record self.old { faults = self.new.faults } }
     {
-        let told = self.line_faults.print(&self.rt, parts, faults);
-        if !matches!(told, Ok(0)) {
-            self.saying.tell(&self.rt, "standard output", &told);
-        }
-        self.faults = counted(self.faults, told.is_err());
+        let is_printed = self.output.print_faults(&self.rt, parts, faults);
+        self.faults = counted(self.faults, !is_printed);
         if self.strict && !faults.is_empty() {
-            self.line_faults.forget();
-            say_refused(&self.rt, self.paths.inittab());
+            self.output.forget_faults();
+            say_refused(&self.rt, self.inittab.path());
             return false;
         }
         self.children.note_lines(table);
         true
     }
-
-    /// Says why the parts of an inittab have no table.
-    fn say_no_table(&mut self, fault: TableFault)
-        ensures { self.new ≡ self.old }
-    {
-        match fault {
-            TableFault::TooLong => say_too_long(&self.rt, self.paths.inittab()),
-            TableFault::Parts => say_too_many(&self.rt, self.paths.inittab()),
-            TableFault::Memory => self.paths.say_no_room(&self.rt),
-        }
-    }
-}
-
-/// The value on the heap.
-fn boxed<T: Drop, A: Allocator>(alloc: A, value: T) -> Result<Box<T, A>, Memory>
-    ensures { IfOk result (λ made. made.value ≡ value) }
-{
-    Ok(Box::new(alloc, value)?)
-}
-
-/// Prints what init says of the happening, at once, and gives how many bytes that are.
-fn say<A: Allocator, B: Allocator>(
-    rt: &impl Print,
-    alloc: A,
-    happening: &HappeningIn<B>,
-) -> io::Result<usize> {
-    let Ok(text) = announcement_text(alloc, happening) else {
-        return Err(io::Error::from(ErrorKind::OutOfMemory));
-    };
-    rt.write_all(text.as_slice())?;
-    Ok(text.len())
-}
-
-/// Sleeps for so many microseconds, or until the bell is rung; where there is none, until the channel has news, which is
-/// looked at meanwhile.
-fn rest<R: Files<File = File> + Clock + Eprint, A: Allocator + Copy>(
-    rt: &R,
-    bell: &mut Bell<A>,
-    channel: &Channel<A>,
-    length: u64,
-) {
-    if bell.wait(rt, length) {
-        return;
-    }
-    for _ in 0..length / LOOK {
-        thread::sleep(rt, Duration::from_micros(LOOK));
-        if channel.has_news(rt) {
-            return;
-        }
-    }
-    thread::sleep(rt, Duration::from_micros(length % LOOK));
 }
 
 /// The host's fault for an error of the system.
@@ -481,7 +410,7 @@ impl<R: Processes + Files<File = File> + Clock + Print + Eprint + Drop, A: Alloc
         ensures kept { self.new ≡ record self.old { faults = self.new.faults } }
     {
         let host = &mut *self.host;
-        let parts = host_result(host.paths.read_tables(&host.rt, alloc));
+        let parts = host_result(host.inittab.read(&host.rt, alloc));
         host.faults = counted(host.faults, parts.is_err());
         parts
     }
@@ -496,7 +425,7 @@ impl<R: Processes + Files<File = File> + Clock + Print + Eprint + Drop, A: Alloc
         match reading {
             Ok((table, faults)) => host.takes_table(parts, table, faults),
             Err(fault) => {
-                host.say_no_table(*fault);
+                host.inittab.say_no_table(&host.rt, *fault);
                 true
             }
         }
@@ -514,7 +443,9 @@ impl<R: Processes + Files<File = File> + Clock + Print + Eprint + Drop, A: Alloc
         ensures kept { self.new ≡ record self.old { faults = self.new.faults } }
     {
         let host = &mut *self.host;
-        let back = host.paths.carry(&host.rt, alloc, host.channel.path(), text);
+        let inittab = host.inittab.path();
+        let channel = host.channel.path();
+        let back = host.state.carry(&host.rt, alloc, inittab, channel, text);
         let back = host_result(back);
         host.faults = counted(host.faults, back.is_err());
         back
@@ -525,11 +456,8 @@ impl<R: Processes + Files<File = File> + Clock + Print + Eprint + Drop, A: Alloc
         ensures kept { self.new ≡ record self.old { faults = self.new.faults } }
     {
         let host = &mut *self.host;
-        let said = say(&host.rt, host.alloc, happening);
-        if !matches!(said, Ok(0)) {
-            host.saying.tell(&host.rt, "standard output", &said);
-        }
-        host.faults = counted(host.faults, said.is_err());
+        let is_printed = host.output.announce(&host.rt, happening);
+        host.faults = counted(host.faults, !is_printed);
         match happening {
             Happening::Enter(stage, _) => host.children.enter(*stage),
             Happening::Hold(id) => host.children.say_last_end(&host.rt, id),
@@ -542,10 +470,9 @@ impl<R: Processes + Files<File = File> + Clock + Print + Eprint + Drop, A: Alloc
     {
         let host = &mut *self.host;
         host.children.end_turn();
-        let turn = host.watch.passed(&host.rt);
-        let length = host.pauses.next(host.children.count(), turn);
-        rest(&host.rt, &mut host.bell, &host.channel, length);
-        host.watch.start(&host.rt);
+        let length = host.pauses.next(&host.rt, host.children.count());
+        host.channel.rest(&host.rt, length);
+        host.pauses.begin_turn(&host.rt);
     }
 
     fn faults(&self) -> u64 {

@@ -1,7 +1,9 @@
 //! How long a pause is.
 
+use crate::steady_clocks::Watch;
 use host_calls::Reply;
 use init_words::Answer;
+use std::rt::Clock;
 use text_lines::{cut, read_below};
 
 /// The longest pause that may be asked for, in hundredths of a second.
@@ -9,9 +11,6 @@ const PAUSE_LIMIT: u64 = 6_000;
 
 /// The microseconds of a hundredth of a second.
 const HUNDREDTH: u64 = 10_000;
-
-/// After how many microseconds of a pause the channel is looked at.
-pub(crate) const LOOK: u64 = 40_000;
 
 /// The shortest pause behind a turn in which something happened, in microseconds, and how much of it a child costs that
 /// is looked at in each turn: so looks take no more than half of the time.
@@ -40,6 +39,8 @@ pub(crate) struct Pauses {
     stirred: bool,
     /// The length of all pauses since something happened, where each is a tenth of those before it.
     passed: Option<u64>,
+    /// What takes the time of a turn.
+    watch: Watch,
 }
 
 impl Pauses {
@@ -52,6 +53,7 @@ impl Pauses {
             by_cost: false,
             stirred: false,
             passed: None,
+            watch: Watch::new(),
         }
     }
 
@@ -64,6 +66,7 @@ impl Pauses {
             by_cost: false,
             stirred: false,
             passed: Some(0),
+            watch: Watch::new(),
         }
     }
 
@@ -87,14 +90,20 @@ impl Pauses {
         self.stirred = self.stirred || stirred;
     }
 
-    /// The length of the pause that is due over so many children behind a turn that took so long, in microseconds: where
-    /// something happened in it the shortest, or less where the children are few, and else twice the one before, or a
-    /// tenth of those before, up to the longest.
-    pub(crate) fn next(&mut self, children: usize, turn: u64) -> u64 {
+    /// A turn begins.
+    pub(crate) fn begin_turn(&mut self, rt: &impl Clock) {
+        self.watch.start(rt);
+    }
+
+    /// The length of the pause that is due over so many children behind the turn, in microseconds: where something
+    /// happened in it the shortest, or less where the children are few, and else twice the one before, or a tenth of
+    /// those before, up to the longest.
+    pub(crate) fn next(&mut self, rt: &impl Clock, children: usize) -> u64 {
         let length = if self.stirred {
             self.shortest_over(children)
         } else {
-            self.next.min(self.longest_over(children, turn))
+            self.next
+                .min(self.longest_over(children, self.watch.passed(rt)))
         };
         if let Some(passed) = self.passed {
             let passed = if self.stirred { 0 } else { passed };

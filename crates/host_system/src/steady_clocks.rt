@@ -1,6 +1,6 @@
 //! A clock that no one can set, and the time of a turn.
 
-use crate::troubles::Trouble;
+use host_messages::Trouble;
 use std::io;
 use std::io::ErrorKind;
 use std::rt::Clock;

@@ -1,11 +1,11 @@
 //! The helper that sends TERM to children: one shell for all of a turn.
 
-use crate::commands::shell_command;
+use crate::commands::{BoxedCommand, shell_command};
 use program_io::write_text;
-use std::alloc::Allocator;
+use std::alloc::{AllocError, Allocator};
 use std::io;
 use std::io::{Error, ErrorKind, Read};
-use std::process::{Child, Command, OpenProcess, Processes, Stdio};
+use std::process::{Child, OpenProcess, Processes, Stdio};
 
 /// What the shell does: for each number that it reads, it sends TERM to the process, and answers with kill(1)'s status.
 const HELPER: &str = "while read -r number; do kill -TERM \"$number\"; echo \"$?\"; done";
@@ -29,24 +29,30 @@ impl<P: OpenProcess + Drop> TermSender<P> {
         alloc: A,
         number: u32,
     ) -> io::Result<()> {
-        let mut shell = match self.shell.take() {
-            Some(shell) => shell,
-            None => helper_command(alloc)?.spawn(rt)?,
+        self.begin(rt, alloc)?;
+        let Some(shell) = &mut self.shell else {
+            return Err(Error::from(ErrorKind::BrokenPipe));
         };
-        match is_sent(alloc, &mut shell, number) {
-            Ok(is_sent) => {
-                self.shell = Some(shell);
-                if is_sent {
-                    Ok(())
-                } else {
-                    Err(Error::other("kill failed"))
-                }
-            }
+        match is_sent(alloc, shell, number) {
+            Ok(true) => Ok(()),
+            Ok(false) => Err(Error::other("kill failed")),
             Err(error) => {
-                let _ = shell.wait();
+                self.end();
                 Err(error)
             }
         }
+    }
+
+    /// Starts the shell, where there is none.
+    fn begin<R: Processes<Started = P>, A: Allocator + Copy>(
+        &mut self,
+        rt: &R,
+        alloc: A,
+    ) -> io::Result<()> {
+        if self.shell.is_none() {
+            self.shell = Some(helper_command(alloc)?.spawn(rt)?);
+        }
+        Ok(())
     }
 
     /// Lets the shell end, and waits for it.
@@ -57,7 +63,7 @@ impl<P: OpenProcess + Drop> TermSender<P> {
     }
 }
 
-fn helper_command<A: Allocator + Copy>(alloc: A) -> io::Result<Command<A>> {
+fn helper_command<A: Allocator + Copy>(alloc: A) -> Result<BoxedCommand<A>, AllocError> {
     let mut command = shell_command(alloc, HELPER)?;
     command.stdin(Stdio::piped());
     command.stdout(Stdio::piped());

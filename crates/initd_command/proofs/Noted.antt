@@ -7,7 +7,7 @@ use Rattle.init_words.specs.declared.levels.Level.{Level}
 use Rattle.trace_events.specs.Event.{Event}
 use Rattle.trace_log.specs.Logs.{LogState}
 use Rattle.host_calls.specs.Calls.{HostCall}
-use Rattle.host_trace.specs.Leads.{Takes}
+use Rattle.host_trace.specs.Leads.{Takes, UpTo, Went}
 use Rattle.host_trace.specs.Point.{point_after}
 use Rattle.trace_log_wrappers.specs.Notes.{IsRunning, Notes, NotesOf, is_wanted}
 use Rattle.init_turns.specs.declared.serving.Served.{Served}
@@ -15,7 +15,10 @@ use Rattle.trace_events.specs.declared.steps.Goal.{Goal}
 use Rattle.core_model.specs.State.{CoreState, opening_goal}
 use Rattle.core_model.specs.Fit.{FitsAll}
 use Rattle.core_waiting.specs.Lines.{waiting_text}
-use Rattle.init_turns.specs.Opening.{LeadsFrom, opening_point}
+use Rattle.init_turns.specs.Opening.{IsOpening, opening_point}
+use Rattle.init_turns.specs.Parts.{LeftBy}
+use Rattle.init_turns.proofs.Opened.{from_opening, opening_short}
+use Rattle.inittab_text.specs.Tables.{is_distinct}
 use Rattle.initd_options.specs.Options.{RunSaid}
 use Rattle.trace_log_wrappers.specs.declared.judgements.Judgement.{Judgement}
 use Rattle.trace_log_wrappers.specs.Judgements.{Finds}
@@ -77,19 +80,28 @@ module _ (has_ended : Bool → List Event → Type 0) (whole : Bool) (past misse
       by true false is none = (reverse took, reverse missed, front, whole, ends)
       by false kept is none = (reverse took, reverse missed, front, whole, ends)
 
+-- calls led from the opening on, over a log that had taken nothing of it
+abbrev pub LedFrom : Option Level → List Entry → CoreState → LogState → LogState → List HostCall → Type 0
+LedFrom level table core old new = UpTo (IsOpening level table) (Went (λ p. []) (LeftBy core) old new)
+
+-- what init keeps behind them fits their trace
+pub led_fits : (level : Option Level) (table : List Entry) (core : CoreState) (old new : LogState) (calls : List HostCall) → is_distinct table ≡ true → LedFrom level table core old new calls → TurnsFrom level table calls (FitsAll core (opening_goal level table))
+led_fits level table core old new calls distinct leads allowed carried = (from_opening level table (Went (λ p. []) (LeftBy core) old new) calls distinct leads allowed carried).fits.0.fits
+
 -- turns over a log that had taken nothing, which was ended behind them
 pub noted_over : (has_ended : Bool → List Event → Type 0) (Found : List Event → Type 0) (taken : List Event → Type 0) (notes : Notes) (found : Judgement) (failed whole : Bool)
     (core : CoreState) (old : LogState) (service : RunSaid) (level : Option Level) (table : List Entry) (served ended : Served) (judgement : Option Judgement) (calls : List HostCall)
     → ended ≡ record served { logged = served.logged && whole } → judgement ≡ judgement_for service found
     → old.taken [] → old.noted ≡ service.result → served.logged ≡ not failed
     → ((trace : List Event) → Found (reverse trace) × taken trace → Finds found (reverse trace)) → ((trace : List Event) → taken trace → has_ended whole trace)
-    → LeadsFrom level table core old (record { taken = λ trace. NotesOf notes (reverse trace) × (Found (reverse trace) × taken trace); failed = failed; noted = notes.wanted }) calls
+    → is_distinct table ≡ true → LedFrom level table core old (record { taken = λ trace. NotesOf notes (reverse trace) × (Found (reverse trace) × taken trace); failed = failed; noted = notes.wanted }) calls
     → TurnsFrom level table calls (λ past. (ended.logged ≡ true → IsNoted service.result (noted_of notes (waiting_text core) judgement) past) × LogEnds has_ended ended.logged (reverse past))
-noted_over has_ended Found taken notes found failed whole core old service level table served ended judgement calls goes asked none result logged finds ends leads = λ allowed carried.
-    let went = (leads allowed).1 carried in
+noted_over has_ended Found taken notes found failed whole core old service level table served ended judgement calls goes asked none result logged finds ends distinct leads = λ allowed carried.
+    let now : LogState = record { taken = λ trace. NotesOf notes (reverse trace) × (Found (reverse trace) × taken trace); failed = failed; noted = notes.wanted } in
+    let went = from_opening level table (Went (λ p. []) (LeftBy core) old now) calls distinct leads allowed carried in
     let past = (point_after calls (opening_point table)).past in
-    let took = went.log in
-    let takes : Takes old (record { taken = λ trace. NotesOf notes (reverse trace) × (Found (reverse trace) × taken trace); failed = failed; noted = notes.wanted }) [] took.came = took.log [] none in
+    let took = went.log (opening_short level table) in
+    let takes : Takes old now [] took.came [] = took.log [] none in
     let parts : past ≡ takes.missed ++ takes.took = took.grown ∙ append-nil took.came ∙ takes.parts in
     let all : served.logged ≡ true → takes.missed ≡ [] = λ h. takes.whole (not-true failed (sym logged ∙ h)) in
     let so : ended.logged ≡ (served.logged && whole) = ap (λ s. s.logged) goes in (

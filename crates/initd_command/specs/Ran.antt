@@ -8,7 +8,8 @@ use Rattle.initd_options.specs.Options.{RunSaid}
 use Rattle.trace_events.specs.Event.{Event}
 use Rattle.host_calls.specs.Calls.{HostCall}
 use Rattle.host_calls.specs.Record.{Since}
-use Rattle.host_trace.specs.Fronts.{EachFront, GoesSoFar}
+use Rattle.host_trace.specs.Fronts.{EachFront}
+use Rattle.host_trace.specs.Leads.{UpTo, WentWell}
 use Rattle.init_words.specs.declared.levels.Level.{Level}
 use Rattle.core_model.specs.State.{CoreState, opening_goal}
 use Rattle.core_model.specs.Decide.{is_drained}
@@ -34,7 +35,7 @@ pub record MakesTurns (fresh : Type 0) (service : RunSaid) (table : List Entry) 
   pub served : Served
   pub noted : Noted
   pub turns : ServesTurns service.drain service.level table served.turns None None calls
-  pub fronts : EachFront (GoesSoFar (IsOpening service.level table)) calls
+  pub fronts : EachFront (UpTo (IsOpening service.level table) WentWell) calls
   pub drains : served.drained ≡ true → EndsDrained service.level table calls
   pub notes : fresh → served.logged ≡ true → TurnsFrom service.level table calls (IsNoted service.result noted)
   pub most : IsServed service served

@@ -29,7 +29,7 @@ use Rattle.initd_command.specs.declared.run.RunFault.{RunFault}
 use Rattle.initd_command.specs.declared.run.RunFault.TheVariants as why
 use Rattle.initd_command.specs.Endings.{Ending, Obstacle, refused, no_memory, unread, too_many, too_long, flawed, unlisted, busy, shared, turned, uncreated, unlocked, untold}
 use Rattle.initd_command.specs.Turned.{End, EntryEnd, ReportsEnd, drained, end_status, limited, unlogged}
-use Rattle.host_system.specs.LineFaults.{faults_text}
+use Rattle.host_messages.specs.LineFaults.{faults_text}
 use Rattle.initd_options.specs.Options.{RunSaid}
 
 -- nothing names the level that init goes to: neither the words nor the table

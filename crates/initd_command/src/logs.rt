@@ -44,19 +44,19 @@ impl EndedLog for NoLog {
 /// How often the lock of a trace is asked for, since one that asks whether an init lives holds it too, for a moment.
 const LOCK_TRIES: u32 = 100;
 
-/// Another run holds the lock of a trace, a plain file. Else it is taken, where the file system has locks: it is released
-/// where the file is dropped, and tells until then that init lives.
-pub(crate) fn is_held(file: &File) -> bool {
+/// Takes the lock of a trace, a plain file, where the file system has locks: it is released where the file is dropped,
+/// and tells until then that init lives. False where another run holds it.
+pub(crate) fn takes_lock(file: &File) -> bool {
     if !file.metadata().is_ok_and(|found| found.is_file()) {
-        return false;
+        return true;
     }
     for _ in 0..LOCK_TRIES {
         match file.try_lock() {
             Err(TryLockError::WouldBlock) => {}
-            Ok(()) | Err(TryLockError::Error(_)) => return false,
+            Ok(()) | Err(TryLockError::Error(_)) => return true,
         }
     }
-    true
+    false
 }
 
 /// How many bytes of a trace are kept while its file can't be written.
@@ -292,7 +292,7 @@ impl<'a, R: Files<File = File> + Eprint> FileLog<'a, R> {
             .open(self.rt, path);
         let _ = match created {
             Ok(file) => {
-                let _ = is_held(&file);
+                let _ = takes_lock(&file);
                 self.go_on_in(file, is_torn);
                 say_resumed(self.rt, path, is_torn)
             }

@@ -6,7 +6,8 @@ ghost use Rattle.initd_command.specs.Hosts.{host_said};
 
 use crate::hosts::Hosts;
 use crate::run::{folder_of, trace_of};
-use host_system::{OsHost, StampedRuntime};
+use host_messages::StampedRuntime;
+use host_system::OsHost;
 use host_telling::{CallList, Noted, Telling, no_calls};
 use init_words::Memory;
 use initd_options::RunWords;

@@ -14,7 +14,7 @@ ghost use Rattle.initd_command.specs.Services.{AreFiles, EndsRun, EndsServed, En
 
 use crate::ends::report_end;
 use crate::hosts::Hosts;
-use crate::logs::{FileLog, NoLog, is_held};
+use crate::logs::{FileLog, NoLog, takes_lock};
 use crate::passed_over::AskedLog;
 use crate::reports::{
     report, report_busy, report_cannot, report_fault, report_flawed, report_memory, report_shared,
@@ -22,7 +22,8 @@ use crate::reports::{
 };
 use crate::watchers::Watcher;
 use host_calls::Host;
-use host_system::{FolderFault, PassedNames, StampedRuntime, faults_text, with_folder};
+use host_files::{FolderFault, PassedNames, with_folder};
+use host_messages::{StampedRuntime, faults_text};
 use host_trace::Joined;
 use init_turns::{Opening, Served};
 use init_words::{Id, Level, Memory, Part};
@@ -458,7 +459,7 @@ fn opened<R: Files<File = File>>(rt: &R, path: &str) -> io::Result<(Option<File>
     }
     let was_missing = metadata(rt, path).is_err();
     let file = OpenOptions::new().write(true).create(true).open(rt, path)?;
-    if is_held(&file) {
+    if !takes_lock(&file) {
         return Ok((None, false));
     }
     Ok((Some(file), was_missing))

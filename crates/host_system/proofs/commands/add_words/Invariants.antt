@@ -1,4 +1,4 @@
-use Rattle.std.proofs.Common.{◌≡◌, ◌++◌, length, Some}
+use Rattle.std.proofs.Common.{◌≡◌, ◌++◌, length}
 use Rattle.std.specs.Str.{IsUtf8}
 use Rattle.text_lines.specs.Lines.{words_of}
 use Rattle.host_system.specs.Commands.{words_in}
@@ -6,7 +6,7 @@ use Rattle.host_system.proofs.commands.add_words.Given as goal
 
 abbrev pub invariant-loop-word : goal.invariant-loop-word
 invariant-loop-word g l = record {
-  added : words_in (Some l.command) ++ words_of l.rest ≡ words_in (Some l.fn.command) ++ words_of l.text;
+  added : words_in l.command ++ words_of l.rest ≡ words_in l.fn.command ++ words_of l.text;
   utf8 : IsUtf8 l.rest;
 }
 

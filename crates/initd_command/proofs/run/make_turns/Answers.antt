@@ -9,8 +9,7 @@ use Rattle.host_calls.proofs.Record.{Since-map}
 use Rattle.host_trace.specs.Edges.{calls_of}
 use Rattle.host_trace.proofs.Keeping.{Since-untimed}
 use Rattle.init_turns.specs.Arriving.{ServesTurns}
-use Rattle.init_turns.specs.Opening.{LeadsFrom}
-use Rattle.initd_command.proofs.Noted.{is_served, judged_still, noted_over, served_still}
+use Rattle.initd_command.proofs.Noted.{LedFrom, is_served, judged_still, led_fits, noted_over, served_still}
 use Rattle.initd_command.proofs.run.make_turns.Goals as goal
 
 pub returns : goal.returns
@@ -31,19 +30,21 @@ returns g c =
       λ table opens. Since-untimed _ _ _ _ (Since-map _ _ _ _ (c.serve-core.ensures.trace service.level table opens) (λ mades made.
           let calls = calls_of mades in
           let leads = subst
-          (λ (parts : JudgedBy _ × Notes). LeadsFrom service.level table c.serve-core.result.1 first (record { taken = λ trace. NotesOf parts.1 (reverse trace) × (judged_state state parts.0).taken trace; failed = (state parts.0.log).failed; noted = parts.1.wanted }) calls)
+          (λ (parts : JudgedBy _ × Notes). LedFrom service.level table c.serve-core.result.1 first (record { taken = λ trace. NotesOf parts.1 (reverse trace) × (judged_state state parts.0).taken trace; failed = (state parts.0.log).failed; noted = parts.1.wanted }) calls)
           (sym c.into_parts-judged.ensures) made.1 in
           let over : (state c.args.log).taken [] → TurnsFrom service.level table calls (λ past. (c.ended_with-served.result.logged ≡ true → IsNoted service.result noted past) × LogEnds (g.L.EndedLog.has_ended c.end-left.result.0) c.ended_with-served.result.logged (reverse past)) =
           λ none. noted_over (g.L.EndedLog.has_ended c.end-left.result.0) (FindsBy judged.judge judged.judgement) (state judged.log).taken notes c.judgement-found.result (state judged.log).failed c.end-left.result.1
           c.serve-core.result.1 first service service.level table c.serve-core.result.0 c.ended_with-served.result c.judgement_for-judgement.result calls
           c.ended_with-served.ensures c.judgement_for-judgement.ensures (c.new-noted.ensures.nothing (c.new-judged.ensures.nothing none)) c.new-noted.ensures.wanted logged
-          c.judgement-found.ensures.found (λ trace took. c.end-left.ensures.ended trace (subst (λ log. (state log).taken trace) (sym c.into_log.ensures) took)) leads in (
+          c.judgement-found.ensures.found (λ trace took. c.end-left.ensures.ended trace (subst (λ log. (state log).taken trace) (sym c.into_log.ensures) took)) opens.distinct leads in (
             record {
               served = c.ended_with-served.result;
               noted = noted;
               turns = served_still (λ (turns : ℕ) (drained : Bool). ServesTurns service.drain service.level table turns None None calls) c.serve-core.result.0 c.ended_with-served.result _ c.ended_with-served.ensures made.0;
-              fronts = λ later earlier next call is apart. (made.2 later earlier next call is apart).0;
-              drains = λ is allowed carried. (c.serve-core.result.1, ((made.1 allowed).1 carried).fits.0.fits, sym c.serve-core.ensures.drained ∙ (sym (ap (λ (s : Served). s.drained) c.ended_with-served.ensures) ∙ is));
+              fronts = λ later earlier next call is apart goal p sound opening allowed.
+                  let led = made.2 later earlier next call is apart goal p sound opening allowed in
+                  (led.0, λ carried. (led.1 carried).0);
+              drains = λ is allowed carried. (c.serve-core.result.1, led_fits service.level table c.serve-core.result.1 first _ calls opens.distinct leads allowed carried, sym c.serve-core.ensures.drained ∙ (sym (ap (λ (s : Served). s.drained) c.ended_with-served.ensures) ∙ is));
               notes = λ none whole allowed carried. (over none allowed carried).0 whole;
               most = most;
               asked = asked;

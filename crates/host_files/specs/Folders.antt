@@ -1,0 +1,27 @@
+-- The files of a folder that are parts of an inittab.
+use Rattle.std.specs.Prelude.{ℕ, Bool, ◌&&◌, ◌||◌, ◌==◌, not, List, [], ◌∷◌, false, codes, Option, IsSome, ⊤}
+use Rattle.std.specs.Char.{is_ascii_alphanumeric}
+use Rattle.std.specs.List.{ends_with, list_all}
+use Rattle.host_files.specs.declared.folders.FolderFault.{FolderFault}
+use Rattle.host_files.specs.declared.folders.FolderFault.TheVariants as fault
+
+-- a point first
+abbrev pub is_hidden : List ℕ → Bool
+is_hidden (first ∷ rest) = first == 46
+is_hidden [] = false
+
+-- a letter, a digit, or one of . _ -
+abbrev pub is_name_byte : ℕ → Bool
+is_name_byte byte = is_ascii_alphanumeric byte || byte == 46 || byte == 95 || byte == 45
+
+abbrev pub ends_in_tab : List ℕ → Bool
+ends_in_tab name = ends_with (λ a b. a == b) name (codes ".tab")
+
+-- the name of a part: no point first, no other byte, and .tab last
+abbrev pub is_part_name : List ℕ → Bool
+is_part_name name = not (is_hidden name) && list_all is_name_byte name && ends_in_tab name
+
+-- where there is a folder, it or a file of it may not be read
+abbrev pub IsFolderFault : {A S : Type 0} → Option S → FolderFault A → Type 0
+IsFolderFault folder (fault.Unread path error) = IsSome folder
+IsFolderFault folder fault.Memory = ⊤

@@ -1,0 +1,136 @@
+//! The bell of a channel: a FIFO beside it, which whoever appends a request may ring, so that a pause ends at once.
+
+use crate::boxes::boxed;
+use host_messages::Trouble;
+use libc::net::{POLLIN, poll};
+use libc::types::pollfd;
+use std::alloc::{AllocError, Allocator};
+use std::fs::{File, Metadata, OpenOptions};
+use std::io::{Error, ErrorKind, Read};
+use std::os::fd::AsRawFd;
+use std::os::unix::fs::{FileTypeExt, MetadataExt};
+use std::rt::Files;
+use std::{fs, io};
+
+/// The microseconds of a millisecond, in which poll(2) counts.
+const MILLISECOND: u64 = 1_000;
+
+/// How many rings are taken at once.
+const RINGS: usize = 512;
+
+/// The bell of a channel.
+#[derive(Drop)]
+pub(crate) struct Bell<A: Allocator> {
+    path: String<A>,
+    open: Option<File>,
+    /// The device and the number of the FIFO that is open.
+    file: Option<(u64, u64)>,
+    hearing: Trouble,
+}
+
+impl<A: Allocator + Copy> Bell<A> {
+    /// The bell of the channel at this path: the file whose path has `.bell` after it.
+    pub(crate) fn new(
+        alloc: A,
+        program: &'static str,
+        channel: &str,
+    ) -> Result<Box<Bell<A>, A>, AllocError> {
+        let path = format!(in alloc; "{channel}.bell")?;
+        boxed(alloc, Bell::unheard(program, path))
+    }
+
+    fn unheard(program: &'static str, path: String<A>) -> Bell<A> {
+        Bell {
+            path,
+            open: None,
+            file: None,
+            hearing: Trouble::new(program, "hear", "heard"),
+        }
+    }
+
+    /// Its path.
+    pub(crate) fn path(&self) -> &str {
+        self.path.as_str()
+    }
+
+    /// Nothing stands at its path.
+    pub(crate) fn is_missing<R: Files>(&self, rt: &R) -> bool {
+        matches!(found_at(rt, self.path.as_str()), Ok(None))
+    }
+
+    /// Waits for so many microseconds, or until the bell is rung. Gives whether it did: it doesn't where there is no bell,
+    /// or the time is shorter than a millisecond. What can't be heard is told once.
+    pub(crate) fn wait<R: Files<File = File> + Eprint>(&mut self, rt: &R, length: u64) -> bool {
+        let Ok(limit) = i32::try_from(length / MILLISECOND) else {
+            return false;
+        };
+        if limit == 0 {
+            return false;
+        }
+        let listening = self.listen(rt);
+        self.hearing.tell(rt, self.path.as_str(), &listening);
+        let Some(file) = &self.open else {
+            return false;
+        };
+        match heard(file, limit) {
+            Ok(()) => true,
+            Err(error) => {
+                self.hearing.tell_begun(rt, self.path.as_str(), &error);
+                self.open = None;
+                false
+            }
+        }
+    }
+
+    /// Opens the FIFO that stands at the path, where it isn't open.
+    fn listen<R: Files<File = File>>(&mut self, rt: &R) -> io::Result<()> {
+        let found = found_at(rt, self.path.as_str());
+        let Ok(Some(found)) = found else {
+            self.open = None;
+            self.file = None;
+            found?;
+            return Ok(());
+        };
+        let file = Some((found.dev(), found.ino()));
+        if self.file != file {
+            self.file = file;
+            self.open = None;
+            let path = self.path.as_str();
+            self.open = Some(OpenOptions::new().read(true).write(true).open(rt, path)?);
+        }
+        Ok(())
+    }
+}
+
+/// The FIFO at the path; none where nothing is there.
+fn found_at<R: Files>(rt: &R, path: &str) -> io::Result<Option<Metadata>> {
+    match fs::metadata(rt, path) {
+        Ok(found) if found.file_type().is_fifo() => Ok(Some(found)),
+        Ok(_) => Err(Error::new(ErrorKind::InvalidInput, "it is no FIFO")),
+        Err(error) if is_nowhere(&error) => Ok(None),
+        Err(error) => Err(error),
+    }
+}
+
+/// Nothing can stand at the path: the channel, whose fault is told, has no folder.
+fn is_nowhere(error: &Error) -> bool {
+    matches!(error.kind(), ErrorKind::NotFound | ErrorKind::NotADirectory)
+}
+
+/// Waits for so many milliseconds, or until the FIFO has a byte, and takes what is there.
+fn heard(mut file: &File, limit: i32) -> io::Result<()> {
+    let mut waited = [pollfd {
+        fd: file.as_raw_fd(),
+        events: POLLIN,
+        revents: 0,
+    }];
+    let ready = poll(&mut waited, limit);
+    if ready < 0 {
+        return Err(Error::other("poll failed"));
+    }
+    if ready > 0 {
+        let mut rings = [0; RINGS];
+        file.read(&mut rings)?;
+    }
+    Ok(())
+}

@@ -1,0 +1,312 @@
+//! The channel of requests, as a file.
+
+ghost use Rattle.std.specs.Prelude.{◌≡◌, ◌≤◌, ◌-◌, ◌%◌, length, IfOk};
+ghost use Rattle.program_io.specs.declared.channel_files.TheConstants.{REQUEST};
+
+use crate::bells::Bell;
+use crate::boxes::boxed;
+use host_messages::{PassedOver, Trouble, say_made_anew, say_old, say_torn};
+use program_io::{ChannelLock, REQUEST, lock_channel};
+use std::alloc::{AllocError, Allocator};
+use std::fs::{File, Metadata};
+use std::io::{Error, ErrorKind, Read, Seek, SeekFrom};
+use std::os::unix::fs::MetadataExt;
+use std::rt::{Clock, Files};
+use std::time::Duration;
+use std::{fs, io, thread};
+
+/// After how many microseconds of a pause the channel is looked at.
+const LOOK: u64 = 40_000;
+
+/// The channel of requests.
+#[derive(Drop)]
+pub struct Channel<A: Allocator> {
+    path: String<A>,
+    /// What stands in it before its first reading is passed over.
+    fresh: bool,
+    /// It was looked at.
+    begun: bool,
+    /// The lock of the file that is read, where the host holds one.
+    lock: Option<ChannelLock>,
+    /// The device and the number of the file that stood at the path when there was one last.
+    file: Option<(u64, u64)>,
+    /// That file, open.
+    open: Option<File>,
+    /// No file stood at the path at the last look.
+    missing: bool,
+    /// How many of its bytes were read: those of whole requests.
+    heard: u64,
+    /// The request that was read last, and how many of its bytes were handed on.
+    request: [u8; REQUEST],
+    handed: usize,
+    hearing: Trouble,
+    passed_over: PassedOver,
+    /// How many bytes it had when it was last read to an end that is not a request's.
+    torn: u64,
+    told_torn: bool,
+    bell: Box<Bell<A>, A>,
+}
+
+impl<A: Allocator + Copy> Channel<A> {
+    /// The channel at this path, with nothing taken.
+    pub fn new(
+        alloc: A,
+        program: &'static str,
+        path: &str,
+    ) -> Result<Box<Channel<A>, A>, AllocError> {
+        let bell = Bell::new(alloc, program, path)?;
+        let path = String::from_str(alloc, path)?;
+        boxed(alloc, Channel::unread(program, path, bell))
+    }
+
+    fn unread(program: &'static str, path: String<A>, bell: Box<Bell<A>, A>) -> Channel<A> {
+        Channel {
+            path,
+            fresh: false,
+            begun: false,
+            lock: None,
+            file: None,
+            open: None,
+            missing: false,
+            heard: 0,
+            request: [0; REQUEST],
+            handed: REQUEST,
+            hearing: Trouble::new(program, "read", "read"),
+            passed_over: PassedOver::new(),
+            torn: 0,
+            told_torn: false,
+            bell,
+        }
+    }
+
+    /// The path of its bell.
+    pub fn bell_path(&self) -> &str {
+        self.bell.path()
+    }
+
+    /// Nothing stands at the path of its bell.
+    pub fn lacks_bell<R: Files>(&self, rt: &R) -> bool {
+        self.bell.is_missing(rt)
+    }
+
+    /// Sleeps for so many microseconds, or until the bell is rung; where there is none, until the channel has news,
+    /// which is looked at meanwhile.
+    pub fn rest<R: Files<File = File> + Clock + Eprint>(&mut self, rt: &R, length: u64) {
+        if self.bell.wait(rt, length) {
+            return;
+        }
+        for _ in 0..length / LOOK {
+            thread::sleep(rt, Duration::from_micros(LOOK));
+            if self.has_news(rt) {
+                return;
+            }
+        }
+        thread::sleep(rt, Duration::from_micros(length % LOOK));
+    }
+
+    /// Its first reading will begin behind the whole requests that stand there then.
+    pub fn pass_over_old(&mut self) {
+        self.fresh = true;
+    }
+
+    /// It holds the lock of the file at its path, and takes that of each other file that comes to stand there.
+    pub fn hold(&mut self, lock: ChannelLock) {
+        self.lock = Some(lock);
+    }
+
+    /// The path of the channel.
+    pub fn path(&self) -> &str {
+        self.path.as_str()
+    }
+
+    /// It has a request that was not read, or is shorter than what was read. Of a file that stood at its path when it was
+    /// read last the length alone is asked for: that another file stands there now is seen when it is read again.
+    pub fn has_news<R: Files>(&self, rt: &R) -> bool {
+        if let Some(mut file) = self.open.as_ref() {
+            if let Ok(length) = file.seek(SeekFrom::End(0)) {
+                return length < self.heard || self.is_request_behind(length);
+            }
+        }
+        match found_at(rt, self.path.as_str()) {
+            Ok(Some(found)) => self.is_anew(&found) || self.is_whole(&found),
+            _ => false,
+        }
+    }
+
+    /// Takes the channel's next bytes: those of whole requests alone, so that nothing of a torn one is left where the
+    /// channel is made anew. A channel that isn't there has none. Where another file stands at the path, or the file is
+    /// shorter than what was read, it was made anew, and is read from its first byte on; where a lock is held, that file's
+    /// is taken first, and where another init has it, that is an error. What is no plain file is not opened, since a
+    /// FIFO would wait for its writer.
+    pub fn take_bytes<R: Files<File = File> + Eprint>(
+        &mut self,
+        rt: &R,
+        buffer: &mut [u8],
+    ) -> io::Result<usize>
+        ensures { IfOk result (λ count. count ≤ length buffer.old) }
+    {
+        let taken = self.next_bytes(rt, buffer);
+        self.hearing.tell(rt, self.path.as_str(), &taken);
+        taken
+    }
+
+    fn next_bytes<R: Files<File = File> + Eprint>(
+        &mut self,
+        rt: &R,
+        buffer: &mut [u8],
+    ) -> io::Result<usize>
+        ensures { IfOk result (λ count. count ≤ length buffer.old) }
+    {
+        if self.handed >= REQUEST {
+            if !self.has_request(rt)? {
+                return Ok(0);
+            }
+            self.read_request(rt)?;
+        }
+        let mut rest = self.request.get(self.handed..).unwrap_or(&[]);
+        let taken = rest.read(buffer)?;
+        self.handed = self.handed.saturating_add(taken);
+        Ok(taken)
+    }
+
+    /// Reads the next request, of which all bytes are there.
+    fn read_request<R: Files + Eprint>(&mut self, rt: &R) -> io::Result<()> {
+        let mut channel = File::open(rt, self.path.as_str())?;
+        channel.seek(SeekFrom::Start(self.heard))?;
+        channel.read_exact(&mut self.request)?;
+        self.heard = self.heard.saturating_add(REQUEST as u64);
+        self.handed = 0;
+        Ok(())
+    }
+
+    /// Tells why init passes over the request that was read last.
+    pub fn pass_over(&mut self, rt: &impl Eprint, why: &str) {
+        let number = self.heard / REQUEST as u64;
+        self.passed_over.tell(rt, self.path.as_str(), number, why);
+    }
+
+    /// The channel has a whole request that was not read.
+    fn has_request<R: Files<File = File> + Eprint>(&mut self, rt: &R) -> io::Result<bool> {
+        let found = found_at(rt, self.path.as_str())?;
+        if !self.begun {
+            self.begin(rt, found.as_ref().map_or(0, Metadata::len));
+        }
+        let Some(found) = found else {
+            self.missing = true;
+            self.open = None;
+            self.go_to(0);
+            return Ok(false);
+        };
+        self.lock_found(rt, &found)?;
+        if self.is_anew(&found) {
+            self.go_to(0);
+            say_made_anew(rt, self.path.as_str());
+        }
+        self.keep_open(rt, &found);
+        self.missing = false;
+        let is_whole = self.is_whole(&found);
+        if !is_whole {
+            self.tell_torn(rt, found.len());
+        }
+        Ok(is_whole)
+    }
+
+    /// Takes the lock of the file that was found, where the lock that is held is another file's.
+    fn lock_found<R: Files<File = File>>(&mut self, rt: &R, found: &Metadata) -> io::Result<()> {
+        match &self.lock {
+            Some(lock) if !lock.is_of(found) => {}
+            _ => return Ok(()),
+        }
+        let Some(lock) = lock_channel(rt, self.path.as_str())? else {
+            return Err(Error::other("another initd run reads it"));
+        };
+        self.lock = Some(lock);
+        Ok(())
+    }
+
+    /// A file that was found has a whole request that was not read.
+    fn is_whole(&self, found: &Metadata) -> bool {
+        self.is_request_behind(found.len())
+    }
+
+    /// A channel of this length has a whole request that was not read.
+    fn is_request_behind(&self, length: u64) -> bool {
+        length.saturating_sub(self.heard) >= REQUEST as u64
+    }
+
+    /// Opens the file that was found, where it is another than the one that is open.
+    fn keep_open<R: Files<File = File>>(&mut self, rt: &R, found: &Metadata) {
+        let file = Some(file_of(found));
+        if self.open.is_none() || self.file != file {
+            self.open = File::open(rt, self.path.as_str()).ok();
+        }
+        self.file = file;
+    }
+
+    /// Another file stands at the path than before, or one that is shorter than what was read.
+    fn is_anew(&self, found: &Metadata) -> bool {
+        let is_another = match self.file {
+            Some(file) => self.missing || file != file_of(found),
+            None => false,
+        };
+        is_another || found.len() < self.heard
+    }
+
+    /// Tells of the bytes that stand in the channel at its first reading, and passes over them where it is to.
+    fn begin(&mut self, rt: &impl Eprint, length: u64) {
+        self.begun = true;
+        if length > 0 {
+            say_old(rt, self.path.as_str(), length, self.fresh);
+        }
+        if self.fresh {
+            self.go_to(whole_requests(length));
+        }
+    }
+
+    /// Goes on at this byte, where a request begins.
+    fn go_to(&mut self, place: u64) {
+        if self.heard != place {
+            self.heard = place;
+            self.torn = 0;
+            self.told_torn = false;
+        }
+    }
+
+    /// Tells, of a channel that was read to its end, that the end is none of a request: where it was so the last time
+    /// too, since a writer may be in the middle, and once until it is over.
+    fn tell_torn(&mut self, rt: &impl Eprint, length: u64) {
+        let over = length % REQUEST as u64;
+        if over == 0 {
+            self.told_torn = false;
+            self.torn = 0;
+            return;
+        }
+        if self.torn == length && !self.told_torn {
+            say_torn(rt, self.path.as_str(), over);
+            self.told_torn = true;
+        }
+        self.torn = length;
+    }
+}
+
+/// How many of so many bytes are those of whole requests.
+fn whole_requests(length: u64) -> u64
+    ensures { result ≡ length - length % REQUEST }
+{
+    length - length % REQUEST as u64
+}
+
+/// The device and the number of a file.
+fn file_of(found: &Metadata) -> (u64, u64) {
+    (found.dev(), found.ino())
+}
+
+/// The plain file at the path; None where nothing is there.
+fn found_at<R: Files>(rt: &R, path: &str) -> io::Result<Option<Metadata>> {
+    match fs::metadata(rt, path) {
+        Ok(found) if found.is_file() => Ok(Some(found)),
+        Ok(_) => Err(Error::new(ErrorKind::InvalidInput, "it is no plain file")),
+        Err(error) if error.kind() == ErrorKind::NotFound => Ok(None),
+        Err(error) => Err(error),
+    }
+}

@@ -1,0 +1,257 @@
+//! The files of an inittab's folder.
+
+ghost use Rattle.std.specs.Prelude.{◌≡◌, ◌<◌, ◌++◌, ◌∷◌, [], List, length, None, IfOk, IfErr, IfSome, OnOk};
+ghost use Rattle.std.specs.List.{list_all};
+ghost use Rattle.init_words.specs.Parts.{NamedText};
+ghost use Rattle.host_files.specs.Folders.{IsFolderFault, ends_in_tab, is_hidden, is_name_byte, is_part_name};
+
+use host_messages::say_passed;
+use indexmap::IndexSet;
+use init_words::Part;
+use program_io::{read_all, read_file};
+use std::alloc::{AllocError, AllocFailed, Allocator, Global};
+use std::hash::{BuildHasherDefault, FoldHasher};
+use std::rt::Files;
+use std::{io, str};
+use text_lines::cut;
+use thiserror::Error;
+
+/// Why the files of a folder were not read.
+#[derive(Drop, Error)]
+#[derive_where(Debug)]
+pub enum FolderFault<A: Allocator = Global> {
+    /// The folder of this path could not be listed, or the file of this path not be read.
+    #[error("cannot read {0}: {1}")]
+    Unread(String<A>, io::Error),
+    /// Out of memory.
+    #[error("out of memory")]
+    Memory,
+}
+
+impl<A: Allocator> From<AllocError> for FolderFault<A> {
+    ghost use Rattle.std.specs.Prelude.{◌≡◌};
+    ghost use Rattle.host_files.specs.declared.folders.FolderFault.TheVariants.{Memory};
+
+    ghost from_gives = { λ _ fault. fault ≡ Memory };
+
+    fn from(_error: AllocError) -> FolderFault<A> {
+        FolderFault::Memory
+    }
+}
+
+impl<T: Drop, A: Allocator> From<AllocFailed<T>> for FolderFault<A> {
+    ghost use Rattle.std.specs.Prelude.{◌≡◌};
+    ghost use Rattle.host_files.specs.declared.folders.FolderFault.TheVariants.{Memory};
+
+    ghost from_gives = { λ _ fault. fault ≡ Memory };
+
+    fn from(_error: AllocFailed<T>) -> FolderFault<A> {
+        FolderFault::Memory
+    }
+}
+
+/// The file's name is that of a part of an inittab: bytes of A-Z a-z 0-9 . _ - that end in `.tab` and don't begin with
+/// a point.
+fn is_part_name(name: &[u8]) -> bool
+    ensures { result ≡ is_part_name name.now }
+{
+    !is_hidden(name) && are_name_bytes(name) && ends_in_tab(name)
+}
+
+/// The name begins with a point.
+pub fn is_hidden(name: &[u8]) -> bool
+    ensures { result ≡ is_hidden name.now }
+{
+    match name {
+        [first, ..] => *first == b'.',
+        [] => false,
+    }
+}
+
+fn ends_in_tab(name: &[u8]) -> bool
+    ensures { result ≡ ends_in_tab name.now }
+{
+    name.ends_with(b".tab")
+}
+
+fn are_name_bytes(name: &[u8]) -> bool
+    ensures { result ≡ list_all is_name_byte name.now }
+{
+    name.iter().all(|byte| is_name_byte(*byte))
+}
+
+fn is_name_byte(byte: u8) -> bool
+    ensures { result ≡ is_name_byte byte }
+{
+    byte.is_ascii_alphanumeric() || matches!(byte, b'.' | b'_' | b'-')
+}
+
+/// The path of what has the name in a folder.
+fn path_in<A: Allocator>(alloc: A, folder: &str, name: &str) -> Result<String<A>, AllocError> {
+    format!(in alloc; "{folder}/{name}")
+}
+
+/// The names in a folder, each with a NUL behind it. A folder without a path can't be listed.
+fn listed<R: Files, A: Allocator + Copy>(rt: &R, alloc: A, folder: &str) -> io::Result<Vec<u8, A>> {
+    if folder.is_empty() {
+        return Err(io::Error::from(io::ErrorKind::NotFound));
+    }
+    let path = path_in(alloc, folder, "")?;
+    let mut dir = rt.open_dir(path.as_str())?;
+    read_all(alloc, &mut dir)
+}
+
+/// The names of the files of an inittab's folder that don't count. They are told on standard error, each once, where that
+/// is asked for.
+#[derive(Drop)]
+pub struct PassedNames<A: Allocator = Global> {
+    alloc: A,
+    is_asked: bool,
+    told: IndexSet<Vec<u8, A>, BuildHasherDefault<FoldHasher>, A>,
+}
+
+impl<A: Allocator + Copy> PassedNames<A> {
+    /// None was told; whether they are to be told. It takes no memory.
+    pub fn new(alloc: A, is_asked: bool) -> PassedNames<A> {
+        PassedNames {
+            alloc,
+            is_asked,
+            told: IndexSet::new(alloc),
+        }
+    }
+
+    /// From now on the names are told, but for those that stand in the folder now.
+    pub(crate) fn tell_further<R: Files>(&mut self, rt: &R, folder: &str) {
+        self.is_asked = true;
+        let Ok(list) = listed(rt, self.alloc, folder) else {
+            return;
+        };
+        let mut rest: &[u8] = &list;
+        while let Some((name, more)) = next_name(rest) {
+            self.note(name);
+            rest = more;
+        }
+    }
+
+    /// The name is taken for told, and was not told before; so is one that there is no memory to keep.
+    fn note(&mut self, name: &[u8]) -> bool {
+        let Ok(name) = Vec::from_slice(self.alloc, name) else {
+            return true;
+        };
+        !matches!(self.told.insert(name), Ok(false))
+    }
+
+    /// Tells of a name that is passed over, where it is asked for and was not told.
+    fn tell(&mut self, rt: &impl Eprint, folder: &str, name: &[u8]) {
+        if self.is_asked && self.note(name) {
+            say_passed(rt, folder, name);
+        }
+    }
+}
+
+/// The first of a list of names, each with a NUL behind it, and the list after it; None where there is none.
+fn next_name(list: &[u8]) -> Option<(&[u8], &[u8])>
+    ensures shorter { IfSome result (λ parts. length parts.1.now < length list.now) }
+{
+    cut(0, list)
+}
+
+/// Adds the name, where it is that of a part; any other is passed over.
+fn add_name<R: Eprint, A: Allocator + Copy, B: Allocator + Copy>(
+    rt: &R,
+    alloc: A,
+    folder: &str,
+    name: &[u8],
+    passed: &mut PassedNames<B>,
+    names: &mut Vec<String<A>, A>,
+) -> Result<(), AllocError> {
+    match str::from_utf8(name) {
+        Ok(text) if is_part_name(name) => names.push(String::from_str(alloc, text)?)?,
+        _ => passed.tell(rt, folder, name),
+    }
+    Ok(())
+}
+
+/// The names in a list of names that are those of parts, in byte order. The others are passed over.
+fn part_names<R: Eprint, A: Allocator + Copy, B: Allocator + Copy>(
+    rt: &R,
+    alloc: A,
+    folder: &str,
+    list: &[u8],
+    passed: &mut PassedNames<B>,
+) -> Result<Vec<String<A>, A>, AllocError> {
+    let mut names = Vec::new(alloc);
+    let mut rest = list;
+    while let Some((name, more)) = next_name(rest) {
+        add_name(rt, alloc, folder, name, passed, &mut names)?;
+        rest = more;
+    }
+    names.sort_unstable();
+    Ok(names)
+}
+
+/// The part of a name in a folder.
+fn part_in<R: Files, A: Allocator + Copy>(
+    rt: &R,
+    alloc: A,
+    folder: &str,
+    name: String<A>,
+) -> Result<Part<A>, FolderFault<A>> {
+    let path = path_in(alloc, folder, name.as_str())?;
+    match read_file(rt, alloc, path.as_str()) {
+        Ok(bytes) => Ok(Part { name, bytes }),
+        Err(error) => Err(FolderFault::Unread(path, error)),
+    }
+}
+
+/// The names of the parts in a folder.
+fn names_in<R: Files + Eprint, A: Allocator + Copy, B: Allocator + Copy>(
+    rt: &R,
+    alloc: A,
+    folder: &str,
+    passed: &mut PassedNames<B>,
+) -> Result<Vec<String<A>, A>, FolderFault<A>> {
+    match listed(rt, alloc, folder) {
+        Ok(list) => Ok(part_names(rt, alloc, folder, &list, passed)?),
+        Err(error) => Err(FolderFault::Unread(String::from_str(alloc, folder)?, error)),
+    }
+}
+
+/// Adds the parts in a folder, by the order of their names.
+fn add_parts<R: Files + Eprint, A: Allocator + Copy, B: Allocator + Copy>(
+    rt: &R,
+    alloc: A,
+    folder: &str,
+    passed: &mut PassedNames<B>,
+    parts: &mut Vec<Part<A>, A>,
+) -> Result<(), FolderFault<A>>
+    ensures { OnOk result ((more : List NamedText)
+        × (parts.new.items ≡ parts.old.items ++ more)) }
+{
+    for name in names_in(rt, alloc, folder, passed)? {
+        parts.push(part_in(rt, alloc, folder, name)?)?;
+    }
+    Ok(())
+}
+
+/// The parts of an inittab: its own file, and after it the files of a folder, where there is one, by the order of
+/// their names. Those files count whose names end in `.tab`, don't begin with a point, and have only bytes of A-Z a-z
+/// 0-9 . _ -. The others are passed over.
+pub fn with_folder<R: Files + Eprint, A: Allocator + Copy, B: Allocator + Copy>(
+    rt: &R,
+    alloc: A,
+    own: Part<A>,
+    folder: Option<&str>,
+    passed: &mut PassedNames<B>,
+) -> Result<Vec<Part<A>, A>, FolderFault<A>>
+    ensures own { IfOk result (λ parts. (more : List NamedText) × (parts.items ≡ own ∷ more)) }
+    ensures alone { folder.entry ≡ None → IfOk result (λ parts. parts.items ≡ own ∷ []) }
+    ensures err { IfErr result (IsFolderFault folder.entry) }
+{
+    let mut parts = Vec::new(alloc);
+    parts.push(own)?;
+    if let Some(folder) = folder {
+        add_parts(rt, alloc, folder, passed, &mut parts)?;
+    }
+    Ok(parts)
+}

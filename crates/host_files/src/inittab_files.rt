@@ -1,0 +1,127 @@
+//! The files of the inittab, as a host reads them.
+
+use crate::boxes::boxed;
+use crate::folders::{FolderFault, PassedNames, with_folder};
+use host_messages::{Trouble, say_too_long, say_too_many};
+use init_words::Part;
+use inittab_text::TableFault;
+use program_io::read_file;
+use std::alloc::{AllocError, Allocator};
+use std::io;
+use std::io::{Error, ErrorKind};
+use std::rt::Files;
+
+/// The files of the inittab.
+#[derive(Drop)]
+pub struct InittabFiles<A: Allocator> {
+    path: String<A>,
+    reading: Trouble,
+    /// The folder of its further files, where it has one.
+    folder: Option<String<A>>,
+    listing: Trouble,
+    passed: PassedNames<A>,
+}
+
+impl<A: Allocator + Copy> InittabFiles<A> {
+    /// The file at this path, and those of this folder.
+    pub fn new(
+        alloc: A,
+        program: &'static str,
+        path: &str,
+        folder: Option<&str>,
+    ) -> Result<Box<InittabFiles<A>, A>, AllocError> {
+        let path = String::from_str(alloc, path)?;
+        let folder = path_copy(alloc, folder)?;
+        boxed(alloc, InittabFiles::unread(alloc, program, path, folder))
+    }
+
+    fn unread(
+        alloc: A,
+        program: &'static str,
+        path: String<A>,
+        folder: Option<String<A>>,
+    ) -> InittabFiles<A> {
+        InittabFiles {
+            path,
+            reading: Trouble::new(program, "read", "read"),
+            folder,
+            listing: Trouble::new(program, "read", "read"),
+            passed: PassedNames::new(alloc, false),
+        }
+    }
+
+    /// The path of the inittab's own file.
+    pub fn path(&self) -> &str {
+        self.path.as_str()
+    }
+
+    /// From now on files that come to stand in the folder and are passed over are told.
+    pub fn tell_all<R: Files>(&mut self, rt: &R) {
+        if let Some(folder) = path_in(&self.folder) {
+            self.passed.tell_further(rt, folder);
+        }
+    }
+
+    /// The parts of the inittab: its file, and those of its folder, where it has one.
+    pub fn read<R: Files + Eprint, B: Allocator + Copy>(
+        &mut self,
+        rt: &R,
+        alloc: B,
+    ) -> io::Result<Vec<Part<B>, B>> {
+        let text = read_file(rt, alloc, self.path.as_str());
+        self.reading.tell(rt, self.path.as_str(), &text);
+        let name = String::from_str(alloc, self.path.as_str())?;
+        self.with_folder(rt, alloc, Part { name, bytes: text? })
+    }
+
+    /// Says why the parts have no table.
+    pub fn say_no_table(&mut self, rt: &impl Eprint, fault: TableFault) {
+        let path = self.path.as_str();
+        match fault {
+            TableFault::TooLong => say_too_long(rt, path),
+            TableFault::Parts => say_too_many(rt, path),
+            TableFault::Memory => {
+                self.reading
+                    .tell_begun(rt, path, &Error::from(ErrorKind::OutOfMemory));
+            }
+        }
+    }
+
+    /// The part, and those of the folder.
+    fn with_folder<R: Files + Eprint, B: Allocator + Copy>(
+        &mut self,
+        rt: &R,
+        alloc: B,
+        own: Part<B>,
+    ) -> io::Result<Vec<Part<B>, B>> {
+        let folder = path_in(&self.folder);
+        let outcome = with_folder(rt, alloc, own, folder, &mut self.passed);
+        match outcome {
+            Ok(parts) => {
+                self.listing.tell_over(rt, folder.unwrap_or(""));
+                Ok(parts)
+            }
+            Err(FolderFault::Unread(path, error)) => {
+                self.listing.tell_begun(rt, path.as_str(), &error);
+                Err(error)
+            }
+            Err(FolderFault::Memory) => Err(Error::from(ErrorKind::OutOfMemory)),
+        }
+    }
+}
+
+/// The path, where there is one.
+fn path_in<A: Allocator>(path: &Option<String<A>>) -> Option<&str> {
+    match path {
+        Some(path) => Some(path.as_str()),
+        None => None,
+    }
+}
+
+/// A copy of a path, where there is one.
+fn path_copy<A: Allocator>(alloc: A, path: Option<&str>) -> Result<Option<String<A>>, AllocError> {
+    match path {
+        Some(path) => Ok(Some(String::from_str(alloc, path)?)),
+        None => Ok(None),
+    }
+}

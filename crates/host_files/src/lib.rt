@@ -1,0 +1,16 @@
+//! The files that init reads and writes while it runs: the channel of requests with its bell, the inittab with its
+//! folder, the text of init's state. No process is started here; whom a host asks besides is in `host_system`.
+#![tactic(auto)]
+
+mod bells;
+mod boxes;
+mod channels;
+mod folders;
+mod inittab_files;
+mod state_files;
+
+pub use boxes::boxed;
+pub use channels::Channel;
+pub use folders::{FolderFault, PassedNames, is_hidden, with_folder};
+pub use inittab_files::InittabFiles;
+pub use state_files::StateFile;

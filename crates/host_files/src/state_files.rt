@@ -1,0 +1,141 @@
+//! The file of the text of init's state, as a host writes it and reads it back.
+
+use crate::boxes::boxed;
+use host_messages::Trouble;
+use program_io::{are_one_file, read_file, write_text};
+use std::alloc::{AllocError, Allocator};
+use std::fs::{OpenFile, OpenOptions};
+use std::io::{Error, ErrorKind};
+use std::rt::Files;
+use std::{fs, io};
+
+/// The file of the text of init's state.
+#[derive(Drop)]
+pub struct StateFile<A: Allocator> {
+    path: String<A>,
+    /// Where a text is written first.
+    beside: String<A>,
+    /// A further file that no text replaces.
+    spared: String<A>,
+    carrying: Trouble,
+}
+
+impl<A: Allocator + Copy> StateFile<A> {
+    /// The file at this path.
+    pub fn new(
+        alloc: A,
+        program: &'static str,
+        path: &str,
+    ) -> Result<Box<StateFile<A>, A>, AllocError> {
+        let beside = format!(in alloc; "{path}.new")?;
+        let path = String::from_str(alloc, path)?;
+        boxed(alloc, StateFile::unwritten(alloc, program, path, beside))
+    }
+
+    fn unwritten(
+        alloc: A,
+        program: &'static str,
+        path: String<A>,
+        beside: String<A>,
+    ) -> StateFile<A> {
+        StateFile {
+            path,
+            beside,
+            spared: String::new(alloc),
+            carrying: Trouble::new(program, "write and read back", "written and read back"),
+        }
+    }
+
+    /// From now on no text replaces the file at this path.
+    pub fn spare(&mut self, alloc: A, path: &str) -> Result<(), AllocError> {
+        self.spared = String::from_str(alloc, path)?;
+        Ok(())
+    }
+
+    /// Why no text can be put in its place as things stand, which is told: something else than a plain file stands
+    /// there or beside it, or the file there is another of the run's, as the inittab and the channel.
+    pub fn tell_blocked<R: Files + Eprint>(
+        &mut self,
+        rt: &R,
+        inittab: &str,
+        channel: &str,
+    ) -> io::Result<()> {
+        if let Err(error) = self.refuse(rt, self.path.as_str(), inittab, channel) {
+            self.carrying.tell_begun(rt, self.path.as_str(), &error);
+            return Err(error);
+        }
+        if let Err(error) = self.refuse(rt, self.beside.as_str(), inittab, channel) {
+            self.carrying.tell_begun(rt, self.beside.as_str(), &error);
+            return Err(error);
+        }
+        Ok(())
+    }
+
+    /// Refuses a link, what is no plain file, and another file of the run.
+    fn refuse<R: Files>(&self, rt: &R, path: &str, inittab: &str, channel: &str) -> io::Result<()> {
+        refuse_other(rt, path)?;
+        if are_one_file(rt, path, inittab)
+            || are_one_file(rt, path, channel)
+            || are_one_file(rt, path, self.spared.as_str())
+        {
+            return Err(refusal("it is another file of this run"));
+        }
+        Ok(())
+    }
+
+    /// Writes the text beside the path and puts it there whole; then reads what is there.
+    pub fn carry<R: Files + Eprint, B: Allocator>(
+        &mut self,
+        rt: &R,
+        alloc: B,
+        inittab: &str,
+        channel: &str,
+        text: &[u8],
+    ) -> io::Result<Vec<u8, B>> {
+        self.tell_blocked(rt, inittab, channel)?;
+        let back = self.written_and_read(rt, alloc, text);
+        self.carrying.tell(rt, self.path.as_str(), &back);
+        back
+    }
+
+    fn written_and_read<R: Files, B: Allocator>(
+        &self,
+        rt: &R,
+        alloc: B,
+        text: &[u8],
+    ) -> io::Result<Vec<u8, B>> {
+        write_whole(rt, self.beside.as_str(), text)?;
+        fs::rename(rt, self.beside.as_str(), self.path.as_str())?;
+        read_file(rt, alloc, self.path.as_str())
+    }
+}
+
+/// Refuses a link, and what is no plain file.
+fn refuse_other<R: Files>(rt: &R, path: &str) -> io::Result<()> {
+    match fs::symlink_metadata(rt, path) {
+        Ok(found) if found.is_symlink() => {
+            Err(refusal("it is a link: name the file that it leads to"))
+        }
+        Ok(found) if !found.is_file() => Err(refusal("it is no plain file")),
+        _ => Ok(()),
+    }
+}
+
+fn refusal(reason: &'static str) -> Error {
+    Error::new(ErrorKind::InvalidInput, reason)
+}
+
+/// Writes a file anew that has the text, and waits until it is on the disk. What stood at the path is taken away first,
+/// so that nothing is written through it.
+fn write_whole<R: Files>(rt: &R, path: &str, text: &[u8]) -> io::Result<()> {
+    match fs::remove_file(rt, path) {
+        Err(error) if error.kind() != ErrorKind::NotFound => return Err(error),
+        _ => {}
+    }
+    let mut file = OpenOptions::new()
+        .write(true)
+        .create_new(true)
+        .open(rt, path)?;
+    write_text(&mut file, text)?;
+    file.sync_all()
+}

@@ -1,0 +1,66 @@
+//! What init says of what it did.
+
+ghost use Rattle.std.specs.Prelude.{◌≡◌, ◌++◌, IfOk};
+ghost use Rattle.host_messages.specs.Announced.{announcement, entered, handed_over};
+
+use init_words::{Memory, Stage};
+use std::alloc::Allocator;
+use trace_events::{Handed, Happening, HappeningIn};
+
+/// The line that init says of a happening, with its newline. It is empty where init says nothing of it.
+pub fn announcement_text<A: Allocator, B: Allocator>(
+    alloc: A,
+    happening: &HappeningIn<B>,
+) -> Result<Vec<u8, A>, Memory>
+    ensures { IfOk result (λ text. text.items ≡ announcement happening.now) }
+{
+    match happening {
+        Happening::Enter(stage, _) => entered(alloc, *stage),
+        Happening::Settle(level) => {
+            joined(alloc, b"INIT: Runlevel ", &[level.code()], b" settled\n")
+        }
+        Happening::Hold(id) => joined(
+            alloc,
+            b"INIT: Id \"",
+            id.as_bytes(),
+            b"\" respawning too fast: disabled for 5 minutes\n",
+        ),
+        Happening::NotRead => joined(alloc, b"initd: inittab not read\n", b"", b""),
+        Happening::Handed(how) => handed_over(alloc, *how),
+        _ => Ok(Vec::new(alloc)),
+    }
+}
+
+fn entered<A: Allocator>(alloc: A, stage: Stage) -> Result<Vec<u8, A>, Memory>
+    ensures { IfOk result (λ text. text.items ≡ entered stage) }
+{
+    match stage {
+        Stage::Sysinit => joined(alloc, b"INIT: Entering stage sysinit\n", b"", b""),
+        Stage::Boot => joined(alloc, b"INIT: Entering stage boot\n", b"", b""),
+        Stage::Run(level) => joined(alloc, b"INIT: Entering runlevel: ", &[level.code()], b"\n"),
+    }
+}
+
+fn handed_over<A: Allocator>(alloc: A, how: Handed) -> Result<Vec<u8, A>, Memory>
+    ensures { IfOk result (λ text. text.items ≡ handed_over how) }
+{
+    match how {
+        Handed::Whole => Ok(Vec::new(alloc)),
+        _ => joined(alloc, b"initd: re-execution refused\n", b"", b""),
+    }
+}
+
+/// Three texts as one.
+fn joined<A: Allocator>(
+    alloc: A,
+    front: &[u8],
+    middle: &[u8],
+    back: &[u8],
+) -> Result<Vec<u8, A>, Memory>
+    ensures { IfOk result (λ text. text.items ≡ front.now ++ (middle.now ++ back.now)) }
+{
+    let mut text = Vec::from_slice(alloc, front)?;
+    text.extend_from_slice(middle)?;
+    text.extend_from_slice(back)?;
+    Ok(text)
+}

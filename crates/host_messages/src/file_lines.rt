@@ -1,0 +1,34 @@
+//! What is said of files: of the bell, of a child's log, and of those of the inittab's folder.
+
+use crate::names::{escape, shown};
+use init_words::Id;
+use std::io::Error;
+
+/// Says why there is no bell.
+pub fn say_no_bell(rt: &impl Eprint, path: &str, error: &Error) {
+    let _ = eprintln!(rt; "initd: cannot make {path}: {error}");
+}
+
+/// Says why an id's child is started without its log.
+pub fn say_no_log(rt: &impl Eprint, id: &Id, log: &str, error: &Error) {
+    let id = shown(id.as_bytes());
+    let _ = eprintln!(rt; "initd: {id}: cannot open {log}: {error}: started without");
+}
+
+/// Says which file the log of an id is that is no name of a file.
+pub fn say_log(rt: &impl Eprint, id: &Id, log: &str) {
+    let id = shown(id.as_bytes());
+    let _ = eprintln!(rt; "initd: {id}: its log is {log}");
+}
+
+/// Says that a file of the inittab's folder is passed over; nothing of the folder itself and of that above it.
+pub fn say_passed(rt: &impl Eprint, folder: &str, name: &[u8]) {
+    if matches!(name, b"." | b"..") {
+        return;
+    }
+    let name = escape(name);
+    let _ = eprintln!(rt;
+        "initd: {folder}/{name}: passed over: a file of the inittab is named NAME.tab, of bytes of A-Z a-z 0-9 . _ -, \
+         and begins with no point"
+    );
+}

@@ -1,0 +1,36 @@
+//! What is said of children and files, and by which words: the announcements, what a child did and what a reading of
+//! the inittab costs it, faults of lines, old requests, troubles until they are over, and the time in front of a line.
+//!
+//! Nothing here asks the system for anything but to print: whom a host asks is in `host_system`. Texts that a clause
+//! pins have their definition in `specs/`; the others are compared with initd(8) by `tools/pages`, and run by its
+//! scenes `messages`, `channel`, `edges` and `logs`. A line may be changed here with its definition and that page alone.
+#![tactic(auto)]
+
+mod announcements;
+mod channel_lines;
+mod child_news;
+mod costs;
+mod file_lines;
+mod line_faults;
+mod names;
+mod news;
+mod old_requests;
+mod outputs;
+mod passed_over;
+mod stamped_files;
+mod stamped_lines;
+mod stamped_runtimes;
+mod starts;
+mod troubles;
+
+pub use announcements::announcement_text;
+pub use channel_lines::{say_made_anew, say_old, say_torn};
+pub use child_news::ChildNews;
+pub use costs::Line;
+pub use file_lines::{say_log, say_no_bell, say_no_log, say_passed};
+pub use line_faults::{faults_text, say_refused, say_too_long, say_too_many};
+pub use names::{Escaped, escape, shown};
+pub use outputs::Output;
+pub use passed_over::PassedOver;
+pub use stamped_runtimes::StampedRuntime;
+pub use troubles::Trouble;

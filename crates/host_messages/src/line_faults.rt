@@ -1,0 +1,128 @@
+//! What is said of lines of the inittab that are left out.
+
+ghost use Rattle.std.specs.Prelude.{◌≡◌, ◌++◌, string_bytes, IfOk, OnOk};
+ghost use Rattle.host_messages.specs.LineFaults.{fault_line, faults_text, line_text, place_text};
+
+use init_words::Part;
+use inittab_text::{LineKind, PartFault};
+use std::alloc::{AllocError, Allocator};
+use std::io;
+use std::io::Write;
+
+/// What was printed last of an inittab's lines that were left out.
+#[derive(Drop)]
+pub(crate) struct LineFaults<A: Allocator> {
+    alloc: A,
+    printed: Vec<u8, A>,
+}
+
+impl<A: Allocator + Copy> LineFaults<A> {
+    /// Nothing was printed. It takes no memory.
+    pub(crate) fn new(alloc: A) -> LineFaults<A> {
+        LineFaults {
+            alloc,
+            printed: Vec::new(alloc),
+        }
+    }
+
+    /// From now on nothing counts as printed.
+    pub(crate) fn forget(&mut self) {
+        self.printed.clear();
+    }
+
+    /// Prints the faults of the lines of an inittab's parts, where they are not those that were printed last, and gives
+    /// how many bytes that are.
+    pub(crate) fn print<R: Print, B: Allocator>(
+        &mut self,
+        rt: &R,
+        parts: &[Part<B>],
+        faults: &[PartFault],
+    ) -> io::Result<usize> {
+        let text = faults_text(self.alloc, parts, faults)?;
+        if text.as_slice() == self.printed.as_slice() {
+            return Ok(0);
+        }
+        rt.write_all(text.as_slice())?;
+        let count = text.len();
+        self.printed = text;
+        Ok(count)
+    }
+}
+
+/// The lines that tell of the lines of an inittab's parts that were left out: a fault each, with the name of its part,
+/// but for the first part.
+pub fn faults_text<A: Allocator + Copy, B: Allocator>(
+    alloc: A,
+    parts: &[Part<B>],
+    faults: &[PartFault],
+) -> Result<Vec<u8, A>, AllocError>
+    ensures { IfOk result (λ text. text.items ≡ faults_text parts.now faults.now) }
+{
+    let mut text = Vec::new(alloc);
+    for fault in faults {
+        add_fault(alloc, &mut text, parts, fault)?;
+    }
+    Ok(text)
+}
+
+fn add_fault<A: Allocator + Copy, B: Allocator>(
+    alloc: A,
+    text: &mut Vec<u8, A>,
+    parts: &[Part<B>],
+    fault: &PartFault,
+) -> Result<(), AllocError>
+    ensures { OnOk result (text.new.items ≡ text.old.items ++ fault_line parts.now fault.now) }
+{
+    let line = line_text(alloc, fault.line, fault.kind)?;
+    text.extend_from_slice(b"initd: inittab ")?;
+    add_place(text, parts, fault.part)?;
+    text.extend_from_slice(line.as_bytes())?;
+    Ok(())
+}
+
+/// A line's number, and the check that it fails.
+fn line_text<A: Allocator + Copy>(
+    alloc: A,
+    line: u32,
+    kind: LineKind,
+) -> Result<String<A>, AllocError>
+    ensures { IfOk result (λ text. string_bytes text ≡ line_text line kind) }
+{
+    format!(in alloc; "line {line}: {kind}\n")
+}
+
+/// Adds the name of the part of a number, and a blank; nothing for the first part.
+fn add_place<A: Allocator, B: Allocator>(
+    text: &mut Vec<u8, A>,
+    parts: &[Part<B>],
+    number: u32,
+) -> Result<(), AllocError>
+    ensures { OnOk result (text.new.items ≡ text.old.items ++ place_text parts.now number) }
+{
+    if number == 0 {
+        return Ok(());
+    }
+    if let Some(part) = parts.get(number as usize) {
+        text.extend_from_slice(part.name.as_bytes())?;
+        text.push(b' ')?;
+    }
+    Ok(())
+}
+
+pub fn say_too_long(rt: &impl Eprint, path: &str) {
+    let _ = eprintln!(rt;
+        "initd: {path} is longer than 1048576 bytes: shorten it, and give telinit q"
+    );
+}
+
+pub fn say_too_many(rt: &impl Eprint, path: &str) {
+    let _ = eprintln!(rt;
+        "initd: {path} and its folder are more than 256 files: put some together, and give telinit q"
+    );
+}
+
+pub fn say_refused(rt: &impl Eprint, path: &str) {
+    let _ = eprintln!(rt;
+        "initd: {path} has faulty lines: the one before stays, as --strict says: mend them, and give telinit q"
+    );
+}

@@ -1,0 +1,30 @@
+//! Names of children and files, as they are shown.
+
+use std::{fmt, str};
+
+/// The text, where it is UTF-8.
+pub fn shown(text: &[u8]) -> &str {
+    str::from_utf8(text).unwrap_or("?")
+}
+
+/// A name of a file or a program as it is shown: a control character, which a terminal is not to obey, as `\xNN`.
+#[derive(Clone, Copy)]
+pub struct Escaped<'a>(&'a str);
+
+/// The name, where it is UTF-8.
+pub fn escape(name: &[u8]) -> Escaped<'_> {
+    Escaped(shown(name))
+}
+
+impl fmt::Display for Escaped<'_> {
+    fn fmt<W: fmt::Write>(&self, f: &mut fmt::Formatter<W>) -> fmt::Result {
+        for character in self.0.chars() {
+            if character.is_ascii_control() {
+                write!(f, "\\x{:02x}", u32::from(character))?;
+            } else {
+                f.write_char(character)?;
+            }
+        }
+        Ok(())
+    }
+}
