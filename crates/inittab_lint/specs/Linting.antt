@@ -160,8 +160,8 @@ found_by [] [] _ = found.Warnings
 abbrev pub lint_by : List NamedText → List PartFault → List LineWarning → DefaultLevel → List ℕ × Found
 lint_by parts faults warnings level = (lint_text parts faults warnings level, found_by faults warnings level)
 
--- of files: the faults of the reader, the warnings that hold, and the default level of their table
-abbrev pub lint_in : List NamedText → List ℕ × Found
-lint_in parts =
-    lint_by parts (faults_of_parts (texts_of parts)) (warnings_of (texts_of parts))
+-- of files: the faults of the reader, the warnings that hold, further ones, and the default level of their table
+abbrev pub lint_in : List NamedText → List LineWarning → List ℕ × Found
+lint_in parts more =
+    lint_by parts (faults_of_parts (texts_of parts)) (warnings_of (texts_of parts) ++ more)
     (default_in (table_of_texts (texts_of parts)))

@@ -72,7 +72,7 @@ holds action levels process warning.NoLetter = is_ondemand action && counts_none
 holds action levels process warning.Boot = same_act action act.Boot
 holds action levels process kind = holds_of kind (run_by action process)
 
--- all warnings, in the order in which they are told
+-- all warnings of which the line itself says whether they hold, in the order in which they are told
 abbrev pub all_warnings : List Warning
 all_warnings =
     warning.Runlevel ∷ warning.NoLevel ∷ warning.NoLetter ∷ warning.Boot ∷ warning.Return ∷ warning.At
@@ -131,3 +131,4 @@ warning_words warning.Pipe = codes "no signal reaches the programs of a pipe: wr
 warning_words warning.Background = codes "& ends the shell at once, and init takes its child for ended: take it out"
 warning_words warning.Unclosed = codes "a quote or a parenthesis isn't closed: the shell refuses it"
 warning_words warning.Comment = codes "# begins no comment here: the program gets it as an argument: take it out"
+warning_words warning.Missing = codes "its program is in none of the folders: mend the line, or the folders"

@@ -5,12 +5,14 @@
 mod linting;
 mod own_lines;
 mod printing;
+mod programs;
 mod shell;
 mod slips;
 mod traps;
 
 pub use linting::{Found, Lint, lint_parts, warnings};
 pub use own_lines::id_lines;
+pub use programs::program_of;
 pub use shell::{Operator, operator_of};
 pub use slips::meant;
 pub use traps::{LineWarning, Warning};

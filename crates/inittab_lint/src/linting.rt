@@ -144,12 +144,14 @@ fn lint_table<A: Allocator + Copy>(
     alloc: A,
     parts: &[Part],
     faults: &[PartFault],
+    more: &[LineWarning],
     level: DefaultLevel,
 ) -> Result<Lint<A>, AllocError>
     ensures { IfOk result (λ lint. lint
-        ≡ lint_by parts.now faults.now (warnings_of (texts_of parts.now)) level) }
+        ≡ lint_by parts.now faults.now (warnings_of (texts_of parts.now) ++ more.now) level) }
 {
-    let warnings = warnings(alloc, parts)?;
+    let mut warnings = warnings(alloc, parts)?;
+    warnings.extend_from_slice(more)?;
     Ok(Lint {
         text: lint_lines(alloc, parts, faults, &warnings, level)?,
         found: found_by(faults, &warnings, level),
@@ -157,15 +159,19 @@ fn lint_table<A: Allocator + Copy>(
 }
 
 /// Reads an inittab(5) of several files, as `read_parts` does, and tells of it: a line for each of the reader's faults,
-/// `NAME:LINE: REASON`, then one for each warning, `NAME:LINE: warning: REASON`, and one where no initdefault names a
-/// level, or no entry starts there. Over 256 files are refused, and files of over 1,048,576 bytes together.
-pub fn lint_parts<A: Allocator + Copy>(alloc: A, parts: &[Part]) -> Result<Lint<A>, TableFault>
-    ensures told { IfOk result (λ lint. lint ≡ lint_in parts.now) }
+/// `NAME:LINE: REASON`, then one for each warning, `NAME:LINE: warning: REASON`, behind its own those of the caller, and
+/// one where no initdefault names a level, or no entry starts there. Over 256 files are refused, and files of over 1,048,576 bytes together.
+pub fn lint_parts<A: Allocator + Copy>(
+    alloc: A,
+    parts: &[Part],
+    more: &[LineWarning],
+) -> Result<Lint<A>, TableFault>
+    ensures told { IfOk result (λ lint. lint ≡ lint_in parts.now more.now) }
     ensures parts { IsErrOf result TableFault.Parts ↔ AreTooMany (texts_of parts.now) }
     ensures too_long { IsErrOf result TableFault.TooLong ↔ AreTooLong (texts_of parts.now) }
 {
     let (table, faults) = read_parts(alloc, parts)?;
-    match lint_table(alloc, parts, &faults, default_in(&table)) {
+    match lint_table(alloc, parts, &faults, more, default_in(&table)) {
         Ok(lint) => Ok(lint),
         Err(_) => Err(TableFault::Memory),
     }

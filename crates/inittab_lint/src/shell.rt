@@ -115,7 +115,7 @@ fn is_special(byte: u8) -> bool
     b"~`!$^&*()=|\\{}[];\"'<>?".contains(&byte)
 }
 
-fn has_special(process: &[u8]) -> bool
+pub(crate) fn has_special(process: &[u8]) -> bool
     ensures { result ≡ list_any is_special process.now }
 {
     process.iter().any(|byte| is_special(*byte))

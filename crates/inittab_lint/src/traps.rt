@@ -43,6 +43,8 @@ pub enum Warning {
     Unclosed,
     /// A word of the process begins with `#`, and no shell reads it.
     Comment,
+    /// The program of the process isn't found, where somebody looked for it.
+    Missing,
 }
 
 /// A warning about a line of one of several files.
@@ -55,7 +57,7 @@ pub struct LineWarning {
     pub kind: Warning,
 }
 
-/// All warnings, in the order in which they are told.
+/// All warnings of which the line itself says whether they hold, in the order in which they are told.
 const WARNINGS: [Warning; 13] = [
     Warning::Runlevel,
     Warning::NoLevel,
@@ -116,7 +118,7 @@ fn has_idle(act: Act, levels: &[u8]) -> bool
 }
 
 /// The process of an entry that starts it.
-fn run_by(act: Act, process: &[u8]) -> &[u8]
+pub(crate) fn run_by(act: Act, process: &[u8]) -> &[u8]
     ensures { result.now ≡ run_by act process.now }
 {
     if act.needs_process() {
@@ -222,7 +224,7 @@ fn add_kinds<A: Allocator>(
 }
 
 /// Nothing, or a comment.
-fn is_ignored(line: &[u8]) -> bool
+pub(crate) fn is_ignored(line: &[u8]) -> bool
     ensures { result ≡ is_ignored line.now }
 {
     match line {
@@ -261,6 +263,9 @@ impl Warning {
             Warning::Unclosed => b"a quote or a parenthesis isn't closed: the shell refuses it",
             Warning::Comment => {
                 b"# begins no comment here: the program gets it as an argument: take it out"
+            }
+            Warning::Missing => {
+                b"its program is in none of the folders: mend the line, or the folders"
             }
         }
     }

@@ -1,0 +1,41 @@
+-- The program that a line of an inittab starts (inittab(5)).
+use Rattle.std.specs.Prelude.{ℕ, Bool, true, false, ◌||◌, if◌then◌else◌, List, [], Option, Some, None}
+use Rattle.std.specs.List.{list_any}
+use Rattle.text_lines.specs.Lines.{skip_blanks}
+use Rattle.init_words.specs.declared.actions.Act.{Act}
+use Rattle.init_words.specs.Actions.{act_read}
+use Rattle.inittab_text.specs.Lines.{FieldBytes, fields_of, is_ignored}
+use Rattle.inittab_lint.specs.declared.traps.LineWarning.{LineWarning}
+use Rattle.inittab_lint.specs.declared.traps.Warning.{Warning}
+use Rattle.inittab_lint.specs.declared.traps.Warning.TheVariants as warning
+use Rattle.inittab_lint.specs.Shell.{begins_with, first_word, is_assigned, is_shell_word, is_special}
+use Rattle.inittab_lint.specs.Warnings.{run_by}
+
+-- the first word of the process names a program, unless a shell reads more out of it
+abbrev pub is_read : List ℕ → Bool
+is_read word = list_any is_special word || is_shell_word word || is_assigned word || begins_with 64 word
+
+abbrev pub named_by : List ℕ → List ℕ
+named_by word = if is_read word then [] else word
+
+-- of a line that has the fields of an entry and an action that needs a process; else none
+abbrev pub program_with : Option Act → FieldBytes → List ℕ
+program_with None f = []
+program_with (Some action) f = named_by (first_word (run_by action f.process))
+
+abbrev pub program_at : Option FieldBytes → List ℕ
+program_at None = []
+program_at (Some f) = program_with (act_read f.action) f
+
+abbrev pub program_of : List ℕ → List ℕ
+program_of line =
+    let text = skip_blanks line in
+    if is_ignored text then [] else program_at (fields_of text)
+
+-- a warning is that the program isn't found, which is the file system's to say
+abbrev pub is_missing_program : Warning → Bool
+is_missing_program warning.Missing = true
+is_missing_program _ = false
+
+abbrev pub is_missing : LineWarning → Bool
+is_missing found = is_missing_program found.kind
