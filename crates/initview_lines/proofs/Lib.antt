@@ -1,3 +1,5 @@
+pub mod Dates
+pub mod Entering
 pub mod Lines
 pub mod Paths
 pub mod ReloadLemmas

@@ -9,7 +9,6 @@ use Rattle.trace_view.specs.declared.rows.Row.{Row}
 use Rattle.trace_view.specs.declared.wishes.Wish.{Wish}
 use Rattle.trace_view.specs.Rows.{row_of, is_settled_now}
 use Rattle.trace_view.specs.Wishes.{asked_level, first_wish}
-use Rattle.initview_lines.specs.declared.rows.Head.{Head}
 use Rattle.initview_lines.specs.declared.rows.Shape.{Shape}
 use Rattle.initview_lines.specs.Rows.{head_of, row_in, row_of_in}
 use Rattle.initview_lines.specs.Reasons.{reason_text, why_text}

@@ -22,6 +22,7 @@ use Rattle.trace_events.specs.Event.{Event}
 use Rattle.trace_events.specs.Past.{open_of, time_of}
 use Rattle.trace_check.specs.Reading.{child_of}
 use Rattle.trace_view.specs.Why.{number_of}
+use Rattle.initview_lines.specs.Days.{clocked}
 use Rattle.initview_lines.specs.Words.{level_words, numbered, stage_words, status_words}
 
 -- a table is in force, of so many entries
@@ -148,7 +149,7 @@ is_news _ = true
 
 -- the line of a happening in its past: the time, and the words
 abbrev pub timed : ℕ → List ℕ → List ℕ
-timed time words = numbered [] time (codes " ") ++ (words ++ codes "\n")
+timed time words = clocked [] time (codes " ") ++ (words ++ codes "\n")
 
 abbrev pub happening_line : Event → List Event → List ℕ
 happening_line happening past =

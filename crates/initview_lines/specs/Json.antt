@@ -12,6 +12,7 @@ use Rattle.trace_view.specs.declared.whys.Why.TheVariants as why
 use Rattle.trace_view.specs.declared.wishes.Wish.{Wish}
 use Rattle.initview_lines.specs.Status.{child_state, state_word}
 use Rattle.initview_lines.specs.declared.rows.Head.{Head}
+use Rattle.initview_lines.specs.Days.{time_of_day}
 use Rattle.initview_lines.specs.Words.{held_left, level_words, stage_words, status_words, wish_words}
 
 -- a text in quotes: a backslash stands before a quote and before a backslash
@@ -95,7 +96,7 @@ last_json row =
 abbrev pub row_json : ℕ → List ℕ → Row → List ℕ
 row_json now id row = id_json id row ++ (child_json row ++ (waits_json now row ++ last_json row))
 
--- {"stage":STAGE,"settled":BOOL,"clock":TIME,"grace":SECONDS,"wish":WISH,"goal":LEVEL}
+-- {"stage":STAGE,"settled":BOOL,"clock":TIME,"time":TIME OF DAY,"grace":SECONDS,"wish":WISH,"goal":LEVEL}
 abbrev pub settled_json : Bool → List ℕ
 settled_json settled = if settled then codes "\",\"settled\":true" else codes "\",\"settled\":false"
 
@@ -104,7 +105,8 @@ stage_json stage settled = codes "{\"stage\":\"" ++ (stage_words stage ++ settle
 
 abbrev pub times_json : ℕ → ℕ → List ℕ
 times_json time grace =
-    number_member (codes ",\"clock\":") (Some time) ++ number_member (codes ",\"grace\":") (Some grace)
+    number_member (codes ",\"clock\":") (Some time)
+    ++ (codes ",\"time\":\"" ++ (time_of_day time ++ number_member (codes "\",\"grace\":") (Some grace)))
 
 abbrev pub wish_json : Option Wish → List ℕ
 wish_json None = codes ",\"wish\":null"

@@ -34,10 +34,13 @@ entered (Some next) past = Enter next.0 next.1 ∷ past
 abbrev pub gone_on : List Event → List Event
 gone_on past = entered (next_stage past) past
 
--- init reads an inittab, as for telinit q, or for telinit with a level where one is named, and enters the stage that is
--- next on the way to a level that is asked for
+-- init reads an inittab, as for telinit q, or for telinit with a level where one is named
+abbrev pub read_again : List Entry → Option Level → List Event → List Event
+read_again table level past = NewTable table ∷ with_request level past
+
+-- and enters the stage that is next on the way to a level that is asked for
 abbrev pub reloaded : List Entry → Option Level → List Event → List Event
-reloaded table level past = gone_on (NewTable table ∷ with_request level past)
+reloaded table level past = gone_on (read_again table level past)
 
 -- In what follows the past is one in which the inittab was just read, so that nothing is called (is_called).
 

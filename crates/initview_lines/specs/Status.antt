@@ -10,6 +10,7 @@ use Rattle.trace_view.specs.declared.whys.Why.{Why}
 use Rattle.trace_view.specs.declared.whys.Why.TheVariants as why
 use Rattle.trace_view.specs.declared.wishes.Wish.{Wish}
 use Rattle.initview_lines.specs.declared.rows.Head.{Head}
+use Rattle.initview_lines.specs.Days.{clocked}
 use Rattle.initview_lines.specs.Words.{act_words, held_left, last_words, level_words, numbered, padded, stage_words, wish_words}
 
 -- since when a child runs, and which of its id it is
@@ -100,7 +101,7 @@ settled_words settled = if settled then codes ", settled" else []
 abbrev pub head_words : Head → List ℕ
 head_words head =
     stage_words head.stage ++ (settled_words head.settled
-    ++ (numbered (codes ", clock ") head.time (codes ", ") ++ numbered [] head.grace (codes " s from TERM to KILL\n")))
+    ++ (clocked (codes ", clock ") head.time (codes ", ") ++ numbered [] head.grace (codes " s from TERM to KILL\n")))
 
 abbrev pub goal_line : Option Level → List ℕ
 goal_line None = []

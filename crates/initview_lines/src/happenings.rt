@@ -6,6 +6,7 @@ ghost use Rattle.trace_events.specs.Past.{open_of};
 ghost use Rattle.trace_view.specs.Viewing.{Viewed};
 ghost use Rattle.initview_lines.specs.Happenings.{born_words, called_words, cause_words, child_number, ended_words, entered_words, handed_words, happening_line, happening_words, held_words, is_news, letter_words, level_request, news_words, number_words, power_words, request_words, sent_words, settled_words, signal_word, table_words, unborn_words, unseen_words, unsent_words};
 
+use crate::days::add_clock;
 use crate::words::{add_level, add_number, add_stage, add_status, put};
 use init_words::{ChildNumber, Id, Letter, Level, OrderKind, PowerKind, Stage, Status};
 use initctl_frame::{Cause, HeardRequest};
@@ -299,8 +300,8 @@ fn add_words<A: Allocator, B: Allocator>(
     }
 }
 
-/// Adds the line of the happening that the view has seen last: the time of the trace's clock, in seconds, a blank, and
-/// the words. Of what an operator need not see there is none: an order, a death, a look that found its child alive, an
+/// Adds the line of the happening that the view has seen last: the time of the trace's clock, in seconds and as the
+/// time of day, and the words. Of what an operator need not see there is none: an order, a death, a look that found its child alive, an
 /// answer that reached init, a reading of the clock, a round.
 pub fn add_happening<A: Allocator, B: Allocator>(
     text: &mut Vec<u8>,
@@ -313,7 +314,7 @@ pub fn add_happening<A: Allocator, B: Allocator>(
     if !is_news(happening) {
         return Ok(());
     }
-    add_number(text, b"", view.time(), b" ")?;
+    add_clock(text, b"", view.time(), b" ")?;
     add_words(text, view, happening)?;
     put(text, b"\n")?;
     Ok(())

@@ -3,6 +3,7 @@
 ghost use Rattle.std.specs.Prelude.{◌≡◌, ◌++◌, OnOk};
 ghost use Rattle.initview_lines.specs.Json.{act_json, born_at, births_of, child_json, ended_at, for_json, goal_json, head_json, held_json, id_json, last_json, number_member, quoted, quoted_byte, quoted_bytes, row_json, settled_json, stage_json, state_json, status_json, times_json, waits_json, wish_json};
 
+use crate::days::add_time_of_day;
 use crate::rows::Head;
 use crate::status::{child_state, state_word};
 use crate::words::{add_level, add_number, add_stage, add_status, add_wish, held_left, put};
@@ -241,7 +242,9 @@ fn add_times_part(text: &mut Vec<u8>, time: u64, grace: u64) -> Result<(), Alloc
     ensures { OnOk result (text.new.items ≡ text.old.items ++ times_json time grace) }
 {
     add_member(text, b",\"clock\":", Some(time))?;
-    add_member(text, b",\"grace\":", Some(grace))
+    put(text, b",\"time\":\"")?;
+    add_time_of_day(text, time)?;
+    add_member(text, b"\",\"grace\":", Some(grace))
 }
 
 /// Adds the object of init, in a line.

@@ -4,6 +4,7 @@
 #![tactic(auto)]
 
 mod changes;
+mod days;
 mod happenings;
 mod json;
 mod left;
@@ -16,11 +17,12 @@ mod status;
 mod words;
 
 pub use changes::{Change, change_lines};
+pub use days::add_clock;
 pub use happenings::add_happening;
 pub use left::left_lines;
 pub use pieces::take_lines;
-pub use plans::plan_lines;
+pub use plans::{is_on_path, plan_lines};
 pub use reasons::why_lines;
-pub use reloads::reload_lines;
+pub use reloads::{law_of_reloads, reload_lines};
 pub use rows::{Head, Shape, row_line, status_lines};
 pub use words::{add_level, add_number, add_padded, add_stage, add_status, put, seconds_since};

@@ -105,7 +105,7 @@ fn add_path_line(text: &mut Vec<u8>, before: Option<Id>, entry: &Entry) -> Resul
 }
 
 /// The entry is on the critical path of a stage.
-fn is_on_path(stage: Stage, entry: &Entry) -> bool
+pub fn is_on_path(stage: Stage, entry: &Entry) -> bool
     ensures { result ≡ is_on_path stage entry.now }
 {
     is_started(stage, entry) && waited(entry)

@@ -1,12 +1,19 @@
 //! What becomes of each id where init, as a trace left it, reads another inittab now.
 
-ghost use Rattle.std.specs.Prelude.{◌≡◌, ◌++◌, List, Some, codes, option_copied, IfOk, OnOk};
+ghost use Rattle.std.specs.Prelude.{◌≡◌, ◌++◌, ℕ, IsTrue, List, Option, Some, false, codes, option_copied, IfOk, OnOk};
 ghost use Rattle.init_words.specs.declared.entries.Entry.{Entry};
 ghost use Rattle.trace_events.specs.Event.{Event};
-ghost use Rattle.trace_events.specs.Past.{table_of};
+ghost use Rattle.trace_events.specs.Past.{is_quiet, stage_of, table_of};
+ghost use Rattle.trace_events.specs.declared.steps.Goal.{Goal};
+ghost use Rattle.trace_events.specs.declared.steps.Step.TheVariants as step;
+ghost use Rattle.trace_events.specs.Due.{due, first};
+ghost use Rattle.trace_events.specs.Wishes.{wants_reexec};
+ghost use Rattle.init_words.specs.declared.levels.Level.{Level};
+ghost use Rattle.init_words.specs.declared.stages.Stage.{Stage};
 ghost use Rattle.inittab_text.specs.Tables.{entry_of};
 ghost use Rattle.trace_view.specs.Viewing.{Viewed};
-ghost use Rattle.initview_lines.specs.Reloads.{change_by, gone_now, idle_by, idle_change, idle_entry, kept_change, left_now, line_by, line_now, line_unless, new_now, number_words, reload_text, stopped_change};
+ghost use Rattle.trace_view.specs.Wishes.{next_stage};
+ghost use Rattle.initview_lines.specs.Reloads.{change_by, gone_now, idle_by, idle_change, idle_entry, kept_change, left_now, line_by, line_now, line_unless, new_now, number_words, read_again, reload_text, stopped_change};
 ghost use Rattle.initview_lines.specs.Words.{stage_words};
 
 use crate::changes::{Change, change_words, same_process};
@@ -15,6 +22,16 @@ use init_words::{Act, ChildNumber, Entry, Id, Stage};
 use inittab_text::Table;
 use std::alloc::{AllocError, Allocator, Global};
 use trace_view::TraceView;
+
+/// Where init reads another inittab in a stage, at a moment at which no start and no signal is open, the stage that its
+/// next step enters is the one in which is shown what becomes of each id. It does nothing: its contract is the law.
+pub fn law_of_reloads()
+    ensures { (goal : Goal) (table : List Entry) (level : Option Level) (past : List Event)
+        (now : Stage) (next : Stage) (seconds : ℕ)
+        → stage_of past ≡ Some now → IsTrue (is_quiet past) → wants_reexec past ≡ false
+        → next_stage (read_again table level past) ≡ Some (next, seconds)
+        → first (due goal (read_again table level past)) ≡ step.Enter next seconds }
+{}
 
 /// What becomes of an entry that has no child, by whether it starts in the stage and is wanted.
 fn idle_by(act: Act, starts: bool, wanted: bool) -> Change

@@ -3,6 +3,7 @@
 ghost use Rattle.std.specs.Prelude.{◌≡◌, ◌++◌, OnOk};
 ghost use Rattle.initview_lines.specs.Status.{asked_word, births_words, child_state, child_words, earlier_words, excluded_words, goal_line, head_text, head_words, row_text, settled_words, state_text, state_word, stop_words, term_words, waits_text, waits_words, wish_line};
 
+use crate::days::add_clock;
 use crate::rows::Head;
 use crate::words::{
     act_words, add_last, add_level, add_number, add_padded, add_stage, add_wish, held_left, put,
@@ -211,7 +212,7 @@ fn add_head_words(text: &mut Vec<u8>, head: &Head) -> Result<(), AllocError>
 {
     add_stage(text, head.stage)?;
     text.extend_from_slice(settled_words(head.settled))?;
-    add_number(text, b", clock ", head.time, b", ")?;
+    add_clock(text, b", clock ", head.time, b", ")?;
     add_number(text, b"", head.grace, b" s from TERM to KILL\n")?;
     Ok(())
 }

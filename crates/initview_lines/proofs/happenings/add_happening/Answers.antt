@@ -1,5 +1,5 @@
 use Rattle.std.proofs.Common.{rules, ◌≡◌, true, sym, ◌∙◌, ap, ◌∷◌, ◌++◌, [], codes}
-use Rattle.initview_lines.specs.Words.{numbered}
+use Rattle.initview_lines.specs.Days.{clocked}
 use Rattle.initview_lines.proofs.Lines.{three_more}
 use Rattle.initview_lines.specs.Happenings.{happening_words, is_news, timed}
 use Rattle.initview_lines.proofs.Saying.{said_if}
@@ -10,7 +10,7 @@ returns g c = λ past seen.
     let h = c.args.happening.now in
     let old = c.args.text.now.items in
     let news : is_news h ≡ true = search rules in
-    three_more old (numbered [] c.time.result (codes " ")) (happening_words h past) (codes "\n") _ _ _
-    c.in_ok-add_number.ensures (c.in_ok-add_words.ensures past seen) c.in_ok-put.ensures
+    three_more old (clocked [] c.time.result (codes " ")) (happening_words h past) (codes "\n") _ _ _
+    c.in_ok-add_clock.ensures (c.in_ok-add_words.ensures past seen) c.in_ok-put.ensures
     ∙ ap (λ n. old ++ timed n (happening_words h past)) (c.time.ensures (h ∷ past) seen)
     ∙ ap (λ line. old ++ line) (sym (said_if _ _ news))
