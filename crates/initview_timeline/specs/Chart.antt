@@ -8,6 +8,7 @@ use Rattle.init_words.specs.declared.stages.Stage.TheVariants as stage
 use Rattle.init_words.specs.Levels.{level_code}
 use Rattle.trace_events.specs.Event.{Event}
 use Rattle.trace_events.specs.Past.{time_of}
+use Rattle.initview_lines.specs.Days.{clocked}
 use Rattle.initview_lines.specs.Words.{numbered, padded}
 use Rattle.initview_timeline.specs.declared.marks.Shown.{Shown}
 use Rattle.initview_timeline.specs.declared.marks.Shown.TheVariants.{Entered, Settled, Born, NotBorn, Sent, Held}
@@ -113,7 +114,7 @@ stage_row f marks = padded 9 (codes "stage") ++ (stage_cells f (stage_marks mark
 -- the times of the first column and of the last, and what stands between them
 abbrev pub times_words : Frame → List ℕ
 times_words f =
-    numbered (codes "clock ") f.start (codes " to ") ++ (numbered [] f.end (codes ", ") ++ numbered [] (span_of f) (codes " s"))
+    clocked (codes "clock ") f.start (codes " to ") ++ (clocked [] f.end (codes ", ") ++ numbered [] (span_of f) (codes " s"))
 
 abbrev pub times_line : Frame → List ℕ
 times_line f = times_words f ++ codes "\n"

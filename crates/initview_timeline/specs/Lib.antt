@@ -1,9 +1,7 @@
-pub mod Axis
-pub mod Bars
 pub mod Chart
 pub mod Frames
-pub mod Legend
 pub mod Lives
 pub mod Marks
-pub mod Signs
+pub mod Pictures
 pub mod Svg
+pub mod Times

@@ -8,7 +8,6 @@ use Rattle.initview_timeline.specs.declared.marks.Shown.{Shown}
 use Rattle.initview_timeline.specs.declared.marks.Shown.TheVariants.{Entered, Settled, Born, NotBorn, Ended, Sent, Held}
 use Rattle.initview_timeline.specs.declared.marks.Mark.{Mark}
 use Rattle.initview_timeline.specs.declared.lives.Life.{Life}
-use Rattle.initview_timeline.specs.declared.lives.StageSpan.{StageSpan}
 
 -- the id that it happened to
 abbrev pub id_of : Shown → Option (List ℕ)
@@ -77,7 +76,7 @@ abbrev pub end_time : ℕ → Option Ending → ℕ
 end_time time None = time
 end_time time (Some ending) = ending.time
 
--- how long a stage was in force, and how long it was announced settled: up to the next stage, or the last time
+-- a stage was in force, or settled, up to the next stage, or the last time
 abbrev pub or_stage : ℕ → Shown → ℕ → ℕ
 or_stage time (Entered stage) further = time
 or_stage time _ further = further
@@ -90,13 +89,3 @@ abbrev pub is_of_stage : Shown → Bool
 is_of_stage (Entered stage) = true
 is_of_stage (Settled level) = true
 is_of_stage _ = false
-
-abbrev pub span_of : ℕ → Mark → List Mark → List StageSpan
-span_of last mark later =
-    if is_of_stage mark.what
-    then record { what = mark.what; from = mark.time; to = next_stage last later } ∷ []
-    else []
-
-abbrev pub stage_spans : ℕ → List Mark → List StageSpan
-stage_spans last [] = []
-stage_spans last (mark ∷ later) = span_of last mark later ++ stage_spans last later

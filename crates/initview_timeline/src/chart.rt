@@ -8,7 +8,7 @@ use crate::frames::Frame;
 use crate::lives::{Life, end_time, ids_of, is_of_stage, lives_of, marks_for};
 use crate::marks::{Mark, Shown};
 use init_words::{Id, SignalKind, Stage};
-use initview_lines::{add_number, add_padded, put};
+use initview_lines::{add_clock, add_number, add_padded, put};
 use std::alloc::{AllocError, Global};
 
 pub(crate) fn stage_letter(stage: Stage) -> u8
@@ -98,28 +98,14 @@ fn lives_in(frame: Frame, column: u64, life: &Life) -> bool
 fn any_lives_in(frame: Frame, column: u64, lives: &[Life]) -> bool
     ensures { result ≡ list_any (lives_in frame column) lives.now }
 {
-    let mut rest = lives;
-    while let Some((life, others)) = rest.split_first() {
-        if lives_in(frame, column, life) {
-            return true;
-        }
-        rest = others;
-    }
-    false
+    lives.iter().any(|life| lives_in(frame, column, life))
 }
 
 /// One of the marks is a birth in a column.
 fn any_born_in(frame: Frame, column: u64, marks: &[Mark]) -> bool
     ensures { result ≡ list_any (is_born_in frame column) marks.now }
 {
-    let mut rest = marks;
-    while let Some((mark, others)) = rest.split_first() {
-        if is_born_in(frame, column, mark) {
-            return true;
-        }
-        rest = others;
-    }
-    false
+    marks.iter().any(|mark| is_born_in(frame, column, mark))
 }
 
 /// A birth in a column, a child that lives in it, or none.
@@ -291,8 +277,8 @@ fn add_stage_row(
 pub(crate) fn add_times(text: &mut Vec<u8>, frame: Frame) -> Result<(), AllocError>
     ensures { OnOk result (text.new.items ≡ text.old.items ++ times_words frame) }
 {
-    add_number(text, b"clock ", frame.start, b" to ")?;
-    add_number(text, b"", frame.end, b", ")?;
+    add_clock(text, b"clock ", frame.start, b" to ")?;
+    add_clock(text, b"", frame.end, b", ")?;
     add_number(text, b"", frame.span(), b" s")
 }
 

@@ -2,17 +2,16 @@
 //! over the trace's time, as lines of text or as a picture.
 #![tactic(auto)]
 
-mod axis;
-mod bars;
 mod chart;
 mod frames;
-mod legend;
 mod lives;
 mod looks;
 mod marks;
-mod signs;
+mod pictures;
 mod svg;
+mod times;
 
 pub use chart::chart_lines;
 pub use marks::{Mark, Marks, Shown};
 pub use svg::svg_text;
+pub use times::add_path_times;

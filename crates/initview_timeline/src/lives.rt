@@ -3,7 +3,7 @@
 ghost use Rattle.std.specs.Prelude.{◌≡◌, ◌++◌, Some, IfOk, OnOk};
 ghost use Rattle.std.specs.List.{list_any};
 ghost use Rattle.init_words.specs.Ids.{same_id};
-ghost use Rattle.initview_timeline.specs.Lives.{end_of, end_time, ending_if, ending_in, id_of, ids_from, ids_of, is_for, is_of_stage, kept_for, life_of, lives_of, marks_for, next_stage, span_of, stage_spans, with_id};
+ghost use Rattle.initview_timeline.specs.Lives.{end_of, end_time, ending_if, ending_in, id_of, ids_from, ids_of, is_for, is_of_stage, kept_for, life_of, lives_of, marks_for, next_stage, with_id};
 
 use crate::marks::{Mark, Shown};
 use init_words::{ChildNumber, Id, Status};
@@ -18,16 +18,8 @@ pub struct Life {
     pub end: Option<Ending>,
 }
 
-/// How long a stage was in force, or was announced settled. Times are seconds.
-#[derive(Clone, Copy)]
-pub struct StageSpan {
-    pub what: Shown,
-    pub from: u64,
-    pub to: u64,
-}
-
 /// The id that it happened to.
-fn id_of(what: Shown) -> Option<Id>
+pub(crate) fn id_of(what: Shown) -> Option<Id>
     ensures { result ≡ id_of what }
 {
     match what {
@@ -150,7 +142,7 @@ fn ending_in(number: ChildNumber, time: u64, what: Shown) -> Option<Ending>
 }
 
 /// How the child of this number ended: its first end in these marks.
-fn end_of(number: ChildNumber, later: &[Mark]) -> Option<Ending>
+pub(crate) fn end_of(number: ChildNumber, later: &[Mark]) -> Option<Ending>
     ensures { result ≡ end_of number later.now }
 {
     let mut rest = later;
@@ -209,7 +201,7 @@ pub(crate) fn end_time(time: u64, end: Option<Ending>) -> u64
 }
 
 /// The time of the next stage, or the last one.
-fn next_stage(last: u64, later: &[Mark]) -> u64
+pub(crate) fn next_stage(last: u64, later: &[Mark]) -> u64
     ensures { result ≡ next_stage last later.now }
 {
     let mut rest = later;
@@ -226,47 +218,4 @@ pub(crate) fn is_of_stage(what: Shown) -> bool
     ensures { result ≡ is_of_stage what }
 {
     matches!(what, Shown::Entered(_) | Shown::Settled(_))
-}
-
-fn add_span(
-    spans: &mut Vec<StageSpan>,
-    last: u64,
-    mark: &Mark,
-    later: &[Mark],
-) -> Result<(), AllocError>
-    ensures { OnOk result (spans.new.items
-        ≡ spans.old.items ++ span_of last mark.now later.now) }
-{
-    if is_of_stage(mark.what) {
-        spans.push(StageSpan {
-            what: mark.what,
-            from: mark.time,
-            to: next_stage(last, later),
-        })?;
-    }
-    Ok(())
-}
-
-fn add_spans(spans: &mut Vec<StageSpan>, last: u64, marks: &[Mark]) -> Result<(), AllocError>
-    ensures { OnOk result (spans.new.items ≡ spans.old.items ++ stage_spans last marks.now) }
-{
-    let mut rest = marks;
-    while let Some((mark, later)) = rest.split_first() {
-        add_span(spans, last, mark, later)?;
-        rest = later;
-    }
-    Ok(())
-}
-
-/// How long each stage was in force, and how long it was announced settled.
-pub(crate) fn stage_spans(
-    alloc: Global,
-    last: u64,
-    marks: &[Mark],
-) -> Result<Vec<StageSpan>, AllocError>
-    ensures { IfOk result (λ spans. spans.items ≡ stage_spans last marks.now) }
-{
-    let mut spans = Vec::new(alloc);
-    add_spans(&mut spans, last, marks)?;
-    Ok(spans)
 }

@@ -1,91 +1,252 @@
 //! A timeline as a picture: one SVG document.
 
 ghost use Rattle.std.specs.Prelude.{◌≡◌, ◌++◌, length, IfOk, OnOk};
-ghost use Rattle.initview_timeline.specs.Svg.{all_rows, band, bottom_of, document, foot, front, ground, heading, id_row, id_rows, size_words, stages_row, svg_by, svg_of, title};
+ghost use Rattle.std.specs.List.{flat_map};
+ghost use Rattle.initview_timeline.specs.Svg.{bar_text, bottom_of, document, drawn_text, element, end_words, ended_look, escaped_byte, front, label, label_by, life_look, look, name_words, said_of, svg_of, tip};
 
-use crate::axis::add_axis;
-use crate::bars::{add_escaped, add_life_bars, add_stage_bars};
-use crate::chart::add_times;
+use crate::chart::{add_times, signal_words, stage_letter};
 use crate::frames::Frame;
-use crate::legend::add_picture_legend;
-use crate::lives::{ids_of, lives_of, marks_for, stage_spans};
-use crate::looks::{DRAWING, MARGINS, ROW, STYLE};
-use crate::marks::Mark;
-use crate::signs::add_signs;
-use init_words::Id;
-use initview_lines::{add_number, put};
+use crate::lives::ids_of;
+use crate::looks::{
+    BELOW, DONE, DRAWING, FAILED, GAP, HEAD, HELD, KILL, KILLED, LEGEND, LETTER_ROOM, MARGINS,
+    NAME, ROW, ROWS, RUNS, SETTLED, STAGE, STYLE, TERM, TICK, UNBORN, WORDS_ROOM,
+};
+use crate::marks::{Mark, Shown};
+use crate::pictures::{Drawn, Shape, shapes_of};
+use init_words::{Id, SignalKind, Stage, Status};
+use initview_lines::{add_level, add_number, add_stage, add_status, put};
 use std::alloc::{AllocError, Global};
+use trace_view::Ending;
 
-/// Begins a row: a band as wide as the drawing, and in front of it a name.
-#[tactic(auto, unfolding(crate::specs::Svg::band))]
-fn add_band(text: &mut Vec<u8>, frame: Frame, place: u64, name: &[u8]) -> Result<(), AllocError>
-    ensures { OnOk result (text.new.items ≡ text.old.items ++ band frame place name.now) }
+fn add_escaped_byte(text: &mut Vec<u8>, byte: u8) -> Result<(), AllocError>
+    ensures { OnOk result (text.new.items ≡ text.old.items ++ escaped_byte byte) }
 {
-    add_number(text, b"<g transform=\"translate(0 ", place, b")\">")?;
-    add_number(
-        text,
-        b"<rect class=\"band\" height=\"20\" width=\"",
-        frame.last,
-        b"\"/>",
-    )?;
-    put(text, b"<text class=\"id\" x=\"-8\" y=\"14\">")?;
-    add_escaped(text, name)?;
-    put(text, b"</text>\n")
+    match byte {
+        b'&' => put(text, b"&amp;"),
+        b'<' => put(text, b"&lt;"),
+        b'>' => put(text, b"&gt;"),
+        b'"' => put(text, b"&quot;"),
+        _ => put(text, &[byte]),
+    }
 }
 
-fn add_stages_row(
-    text: &mut Vec<u8>,
-    alloc: Global,
-    frame: Frame,
-    marks: &[Mark],
-) -> Result<(), AllocError>
-    ensures { OnOk result (text.new.items ≡ text.old.items ++ stages_row frame marks.now) }
-{
-    let spans = stage_spans(alloc, frame.end, marks)?;
-    add_band(text, frame, 0, b"stage")?;
-    add_stage_bars(text, frame, spans.as_slice())?;
-    put(text, b"</g>\n")
-}
-
-/// Adds the row of an id, by its marks. The last life is drawn first, so that it doesn't hide a short one before it.
-fn add_id_row(
-    text: &mut Vec<u8>,
-    alloc: Global,
-    frame: Frame,
-    place: u64,
-    id: &Id,
-    marks: &[Mark],
-) -> Result<(), AllocError>
-    ensures { OnOk result (text.new.items ≡ text.old.items ++ id_row frame place id.now marks.now) }
-{
-    let mut lives = lives_of(alloc, marks)?;
-    lives.reverse();
-    add_band(text, frame, place, id.as_bytes())?;
-    add_life_bars(text, frame, id, lives.as_slice())?;
-    add_signs(text, frame, id, marks)?;
-    put(text, b"</g>\n")
-}
-
-/// Adds the rows of ids, from a place on.
-fn add_id_rows(
-    text: &mut Vec<u8>,
-    alloc: Global,
-    frame: Frame,
-    first: u64,
-    marks: &[Mark],
-    ids: &[Id],
-) -> Result<(), AllocError>
+/// Adds bytes as a text of XML.
+fn add_escaped(text: &mut Vec<u8>, bytes: &[u8]) -> Result<(), AllocError>
     ensures { OnOk result (text.new.items
-        ≡ text.old.items ++ id_rows frame first marks.now ids.now) }
+        ≡ text.old.items ++ flat_map escaped_byte bytes.now) }
 {
-    let mut place = first;
-    let mut rest = ids;
-    while let Some((id, others)) = rest.split_first() {
-        let own = marks_for(alloc, id, marks)?;
-        add_id_row(text, alloc, frame, place, id, own.as_slice())?;
-        place = place.saturating_add(ROW);
+    let mut rest = bytes;
+    while let Some((byte, others)) = rest.split_first() {
+        add_escaped_byte(text, *byte)?;
         rest = others;
     }
+    Ok(())
+}
+
+fn ended_look(status: Option<Status>) -> &'static [u8]
+    ensures { result.now ≡ ended_look status }
+{
+    match status {
+        Some(Status::Exit(0)) => DONE,
+        Some(Status::Killed) => KILLED,
+        _ => FAILED,
+    }
+}
+
+fn life_look(end: Option<Ending>) -> &'static [u8]
+    ensures { result.now ≡ life_look end }
+{
+    match end {
+        Some(ending) => ended_look(ending.status),
+        None => RUNS,
+    }
+}
+
+fn look(what: Shown, end: Option<Ending>) -> &'static [u8]
+    ensures { result.now ≡ look what end }
+{
+    match what {
+        Shown::Entered(_) => STAGE,
+        Shown::Settled(_) => SETTLED,
+        Shown::Born(_, _) => life_look(end),
+        Shown::Sent(_, SignalKind::Term) => TERM,
+        Shown::Sent(_, SignalKind::Kill) => KILL,
+        Shown::Held(_) => HELD,
+        Shown::NotBorn(_) => UNBORN,
+        Shown::Ended(_, _, _) => b"",
+    }
+}
+
+fn add_end(text: &mut Vec<u8>, end: Option<Ending>) -> Result<(), AllocError>
+    ensures { OnOk result (text.new.items ≡ text.old.items ++ end_words end) }
+{
+    match end {
+        Some(ending) => add_status(text, ending.status),
+        None => put(text, b"runs still"),
+    }
+}
+
+/// Adds an id, and words behind it.
+fn add_named(text: &mut Vec<u8>, id: &Id, words: &[u8]) -> Result<(), AllocError>
+    ensures { OnOk result (text.new.items
+        ≡ text.old.items ++ (flat_map escaped_byte id.now ++ words.now)) }
+{
+    add_escaped(text, id.as_bytes())?;
+    put(text, words)?;
+    Ok(())
+}
+
+/// Adds what is said of a bar or a sign.
+fn add_said(text: &mut Vec<u8>, what: Shown, end: Option<Ending>) -> Result<(), AllocError>
+    ensures { OnOk result (text.new.items ≡ text.old.items ++ said_of what end) }
+{
+    match what {
+        Shown::Entered(stage) => add_stage(text, Some(stage)),
+        Shown::Settled(level) => {
+            add_level(text, level)?;
+            put(text, b" settled")
+        }
+        Shown::Born(id, number) => {
+            add_escaped(text, id.as_bytes())?;
+            add_number(text, b" ", u64::from(number.0), b": ")?;
+            add_end(text, end)
+        }
+        Shown::Sent(id, signal) => {
+            add_named(text, &id, b": ")?;
+            put(text, signal_words(signal))
+        }
+        Shown::Held(id) => add_named(text, &id, b": held"),
+        Shown::NotBorn(id) => add_named(text, &id, b": start failed"),
+        Shown::Ended(_, _, _) => Ok(()),
+    }
+}
+
+/// Begins a bar or a sign: what is said of it, and when it began.
+fn add_tip(text: &mut Vec<u8>, mark: &Mark, end: Option<Ending>) -> Result<(), AllocError>
+    ensures { OnOk result (text.new.items ≡ text.old.items ++ tip mark.now end) }
+{
+    put(text, b"<title>")?;
+    add_said(text, mark.what, end)?;
+    add_number(text, b", clock ", mark.time, b"")
+}
+
+fn add_label_words(text: &mut Vec<u8>, room: u64, stage: Stage) -> Result<(), AllocError>
+    ensures { OnOk result (text.new.items ≡ text.old.items ++ label_by room stage) }
+{
+    if room >= WORDS_ROOM {
+        add_stage(text, Some(stage))
+    } else if room >= LETTER_ROOM {
+        put(text, &[stage_letter(stage)])
+    } else {
+        Ok(())
+    }
+}
+
+/// Adds a stage's words where there is room for them, else its letter where there is room for that.
+fn add_label(text: &mut Vec<u8>, room: u64, what: Shown) -> Result<(), AllocError>
+    ensures { OnOk result (text.new.items ≡ text.old.items ++ label room what) }
+{
+    match what {
+        Shown::Entered(stage) => {
+            put(text, b"<text y=\"14\" x=\"4\">")?;
+            add_label_words(text, room, stage)?;
+            put(text, b"</text>")
+        }
+        _ => Ok(()),
+    }
+}
+
+fn add_bar(
+    text: &mut Vec<u8>,
+    width: u64,
+    mark: &Mark,
+    to: u64,
+    end: Option<Ending>,
+) -> Result<(), AllocError>
+    ensures { OnOk result (text.new.items
+        ≡ text.old.items ++ bar_text width mark.now to end) }
+{
+    add_tip(text, mark, end)?;
+    add_number(text, b" to ", to, b"</title>")?;
+    put(text, look(mark.what, end))?;
+    add_number(text, b"", width, b"\"/>")?;
+    add_label(text, width, mark.what)
+}
+
+fn add_name(text: &mut Vec<u8>, id: Option<Id>) -> Result<(), AllocError>
+    ensures { OnOk result (text.new.items ≡ text.old.items ++ name_words id) }
+{
+    match id {
+        Some(id) => add_escaped(text, id.as_bytes()),
+        None => put(text, b"stage"),
+    }
+}
+
+fn add_drawn(text: &mut Vec<u8>, what: Drawn) -> Result<(), AllocError>
+    ensures { OnOk result (text.new.items ≡ text.old.items ++ drawn_text what) }
+{
+    match what {
+        Drawn::Tick(time) => add_number(text, TICK, time, b"</text>"),
+        Drawn::Name(id) => {
+            put(text, NAME)?;
+            add_name(text, id)?;
+            put(text, b"</text>")
+        }
+        Drawn::Bar(width, mark, to, end) => add_bar(text, width, &mark, to, end),
+        Drawn::Sign(mark) => {
+            add_tip(text, &mark, None)?;
+            put(text, b"</title>")?;
+            put(text, look(mark.what, None))
+        }
+    }
+}
+
+/// Adds a shape, as a group at its place.
+fn add_shape(text: &mut Vec<u8>, shape: &Shape) -> Result<(), AllocError>
+    ensures { OnOk result (text.new.items ≡ text.old.items ++ element shape.now) }
+{
+    add_number(text, b"<g transform=\"translate(", shape.left, b" ")?;
+    add_number(text, b"", shape.top, b")\">")?;
+    add_drawn(text, shape.what)?;
+    put(text, b"</g>\n")
+}
+
+fn add_shapes(text: &mut Vec<u8>, shapes: &[Shape]) -> Result<(), AllocError>
+    ensures { OnOk result (text.new.items ≡ text.old.items ++ flat_map element shapes.now) }
+{
+    let mut rest = shapes;
+    while let Some((shape, others)) = rest.split_first() {
+        add_shape(text, shape)?;
+        rest = others;
+    }
+    Ok(())
+}
+
+/// Adds what stands before the shapes: the size, the title, the colors and the heading.
+fn add_front(text: &mut Vec<u8>, frame: Frame, height: u64) -> Result<(), AllocError>
+    ensures { OnOk result (text.new.items ≡ text.old.items ++ front frame height) }
+{
+    add_number(text, HEAD, height, b"\" viewBox=\"0 0 1030 ")?;
+    add_number(text, b"", height, b"\">\n<title>init: ")?;
+    add_times(text, frame)?;
+    put(text, STYLE)?;
+    add_times(text, frame)?;
+    Ok(())
+}
+
+fn add_document(
+    text: &mut Vec<u8>,
+    frame: Frame,
+    bottom: u64,
+    shapes: &[Shape],
+) -> Result<(), AllocError>
+    ensures { OnOk result (text.new.items
+        ≡ text.old.items ++ document frame bottom shapes.now) }
+{
+    add_front(text, frame, bottom.saturating_add(MARGINS))?;
+    add_number(text, ROWS, bottom, b"\">\n")?;
+    add_shapes(text, shapes)?;
+    add_number(text, BELOW, bottom.saturating_add(GAP), LEGEND)?;
     Ok(())
 }
 
@@ -94,98 +255,6 @@ fn bottom_of(count: u64) -> u64
     ensures { result ≡ bottom_of count }
 {
     count.saturating_add(1).saturating_mul(ROW)
-}
-
-fn add_size(text: &mut Vec<u8>, height: u64) -> Result<(), AllocError>
-    ensures { OnOk result (text.new.items ≡ text.old.items ++ size_words height) }
-{
-    put(
-        text,
-        b"<svg xmlns=\"http://www.w3.org/2000/svg\" role=\"img\"",
-    )?;
-    add_number(text, b" width=\"1030\" height=\"", height, b"\"")?;
-    add_number(text, b" viewBox=\"0 0 1030 ", height, b"\">\n")?;
-    Ok(())
-}
-
-#[tactic(auto, unfolding(crate::specs::Svg::title))]
-fn add_title(text: &mut Vec<u8>, frame: Frame) -> Result<(), AllocError>
-    ensures { OnOk result (text.new.items ≡ text.old.items ++ title frame) }
-{
-    put(text, b"<title>init: ")?;
-    add_times(text, frame)?;
-    put(text, b"</title>\n")
-}
-
-fn add_ground(text: &mut Vec<u8>) -> Result<(), AllocError>
-    ensures { OnOk result (text.new.items ≡ text.old.items ++ ground) }
-{
-    put(text, STYLE.as_bytes())?;
-    put(
-        text,
-        b"<rect class=\"paper\" width=\"100%\" height=\"100%\"/>\n",
-    )?;
-    put(text, b"<g transform=\"translate(80 48)\">\n")?;
-    Ok(())
-}
-
-#[tactic(auto, unfolding(crate::specs::Svg::heading))]
-fn add_heading(text: &mut Vec<u8>, frame: Frame) -> Result<(), AllocError>
-    ensures { OnOk result (text.new.items ≡ text.old.items ++ heading frame) }
-{
-    put(text, b"<text y=\"-30\">")?;
-    add_times(text, frame)?;
-    put(text, b"</text>\n")
-}
-
-/// Adds what stands before the axis and the rows.
-fn add_front(text: &mut Vec<u8>, frame: Frame, bottom: u64) -> Result<(), AllocError>
-    ensures { OnOk result (text.new.items ≡ text.old.items ++ front frame bottom) }
-{
-    add_size(text, bottom.saturating_add(MARGINS))?;
-    add_title(text, frame)?;
-    add_ground(text)?;
-    add_heading(text, frame)?;
-    Ok(())
-}
-
-fn add_rows(
-    text: &mut Vec<u8>,
-    alloc: Global,
-    frame: Frame,
-    marks: &[Mark],
-    ids: &[Id],
-) -> Result<(), AllocError>
-    ensures { OnOk result (text.new.items ≡ text.old.items ++ all_rows frame marks.now ids.now) }
-{
-    add_stages_row(text, alloc, frame, marks)?;
-    add_id_rows(text, alloc, frame, ROW, marks, ids)
-}
-
-#[tactic(auto, unfolding(crate::specs::Svg::foot))]
-fn add_foot(text: &mut Vec<u8>, bottom: u64) -> Result<(), AllocError>
-    ensures { OnOk result (text.new.items ≡ text.old.items ++ foot bottom) }
-{
-    add_picture_legend(text, bottom)?;
-    put(text, b"</g>\n</svg>\n")
-}
-
-fn add_document(
-    text: &mut Vec<u8>,
-    alloc: Global,
-    frame: Frame,
-    bottom: u64,
-    marks: &[Mark],
-    ids: &[Id],
-) -> Result<(), AllocError>
-    ensures { OnOk result (text.new.items
-        ≡ text.old.items ++ document frame bottom marks.now ids.now) }
-{
-    add_front(text, frame, bottom)?;
-    add_axis(text, frame, bottom)?;
-    add_rows(text, alloc, frame, marks, ids)?;
-    add_foot(text, bottom)?;
-    Ok(())
 }
 
 /// A timeline as an SVG document, by its marks, the oldest first, and the last time, in seconds: over an axis of readings
@@ -199,7 +268,12 @@ pub fn svg_text(alloc: Global, marks: &[Mark], time: u64) -> Result<Vec<u8>, All
     let mut text = Vec::new(alloc);
     let ids = ids_of(alloc, marks)?;
     let frame = Frame::of(marks, time, DRAWING);
-    let bottom = bottom_of(ids.len() as u64);
-    add_document(&mut text, alloc, frame, bottom, marks, ids.as_slice())?;
+    let shapes = shapes_of(alloc, frame, ids.as_slice(), marks)?;
+    add_document(
+        &mut text,
+        frame,
+        bottom_of(ids.len() as u64),
+        shapes.as_slice(),
+    )?;
     Ok(text)
 }

@@ -1,10 +1,16 @@
+use Rattle.std.proofs.Common.{ap, ◌∙◌, ◌++◌, codes}
+use Rattle.std.specs.List.{flat_map}
+use Rattle.initview_lines.specs.Words.{numbered}
 use Rattle.initview_lines.proofs.Lines.{four_more}
-use Rattle.initview_timeline.specs.Axis.{axis}
-use Rattle.initview_timeline.specs.Svg.{all_rows, document, foot, front}
+use Rattle.initview_timeline.specs.declared.looks.TheConstants.{BELOW, GAP, LEGEND, MARGINS, ROWS}
+use Rattle.initview_timeline.specs.Frames.{plus}
+use Rattle.initview_timeline.specs.Svg.{document, element, front}
 use Rattle.initview_timeline.proofs.svg.add_document.Goals as goal
 
 pub returns : goal.returns
 unfolding document
 returns c =
-    four_more c.args.text.now.items (front c.args.frame c.args.bottom) (axis c.args.frame c.args.bottom) (all_rows c.args.frame c.args.marks.now c.args.ids.now) (foot c.args.bottom) _ _ _ _
-    c.in_ok-add_front.ensures c.in_ok-add_axis.ensures c.in_ok-add_rows.ensures c.in_ok-add_foot.ensures
+    four_more c.args.text.now.items (front c.args.frame (plus c.args.bottom MARGINS)) (numbered ROWS.now c.args.bottom (codes "\">\n")) (flat_map element c.args.shapes.now) (numbered BELOW.now (plus c.args.bottom GAP) LEGEND.now) _ _ _ _
+    (c.in_ok-add_front.ensures ∙ ap (λ height. c.args.text.now.items ++ front c.args.frame height) c.saturating_add.ensures)
+    c.in_ok-add_number.ensures c.in_ok-add_shapes.ensures
+    (c.in_ok-add_number-2.ensures ∙ ap (λ place. c.add_shapes.new.text.items ++ numbered BELOW.now place LEGEND.now) c.saturating_add-2.ensures)

@@ -1,13 +1,16 @@
-use Rattle.std.proofs.Common.{ap, ◌∙◌, ◌++◌}
-use Rattle.initview_lines.proofs.Lines.{four_more}
-use Rattle.initview_timeline.specs.declared.looks.TheConstants.{MARGINS}
-use Rattle.initview_timeline.specs.Frames.{plus}
-use Rattle.initview_timeline.specs.Svg.{front, ground, heading, size_words, title}
+use Rattle.std.proofs.Common.{[], ◌++◌, codes}
+use Rattle.initview_lines.specs.Words.{numbered}
+use Rattle.initview_lines.proofs.Lines.{four_more, two_more}
+use Rattle.initview_timeline.specs.declared.looks.TheConstants.{HEAD, STYLE}
+use Rattle.initview_timeline.specs.Chart.{times_words}
+use Rattle.initview_timeline.specs.Svg.{front}
 use Rattle.initview_timeline.proofs.svg.add_front.Goals as goal
 
 pub returns : goal.returns
 unfolding front
 returns c =
-    four_more c.args.text.now.items (size_words (plus c.args.bottom MARGINS)) (title c.args.frame) ground (heading c.args.frame) _ _ _ _
-    (c.in_ok-add_size.ensures ∙ ap (λ height. c.args.text.now.items ++ size_words height) c.saturating_add.ensures)
-    c.in_ok-add_title.ensures c.in_ok-add_ground.ensures c.in_ok-add_heading.ensures
+    let size = numbered HEAD.now c.args.height (codes "\" viewBox=\"0 0 1030 ") in
+    let title = numbered [] c.args.height (codes "\">\n<title>init: ") in
+    let times = times_words c.args.frame in
+    two_more c.args.text.now.items size (title ++ (times ++ (STYLE.now ++ times))) _ _ c.in_ok-add_number.ensures
+    (four_more _ title times STYLE.now times _ _ _ _ c.in_ok-add_number-2.ensures c.in_ok-add_times.ensures c.in_ok-put.ensures c.in_ok-add_times-2.ensures)
