@@ -1,8 +1,7 @@
 -- What is written of a trace, and where nothing is.
-use Rattle.std.proofs.Common.{◌≡◌, ◌⊎◌, Bool, true, false, refl, sym, ap, ◌∙◌, inl, inr, subst, ℕ, List, [], reverse, Option, Some, None}
-use Rattle.std.specs.Io.KnownBytes.{Appends, Keeps}
-use Rattle.std.proofs.KnownBytes.{Appends-nil, Keeps-refl}
-use Rattle.program_io.specs.Writing.{AppendsPrefix}
+use Rattle.std.proofs.Common.{◌≡◌, ◌⊎◌, Bool, true, false, inl, inr, subst, ℕ, List, reverse, Option}
+use Rattle.std.specs.Io.KnownBytes.{Keeps}
+use Rattle.std.proofs.KnownBytes.{Keeps-refl}
 use Rattle.program_io.specs.declared.statuses.TheConstants.{REFUSED, DEVICE_FAULT}
 use Rattle.program_io.specs.Known.{IsTextAt, KnownTexts}
 use Rattle.inittab_text.specs.declared.faults.TableFault.{TableFault}

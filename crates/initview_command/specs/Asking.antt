@@ -2,7 +2,6 @@
 use Rattle.std.specs.Prelude.{ℕ, Bool, true, false, not, ◌&&◌, ◌||◌, ◌==◌, if◌then◌else◌, List, [], ◌∷◌, ◌++◌, codes, Option, Some, None}
 use Rattle.std.specs.Option.{option_map}
 use Rattle.std.specs.Str.{bytes_eq}
-use Rattle.text_lines.specs.Numbers.{number_read}
 use Rattle.init_words.specs.declared.levels.Level.{Level}
 use Rattle.init_words.specs.Ids.{id_read}
 use Rattle.init_words.specs.Levels.{level_read}
@@ -13,7 +12,7 @@ use Rattle.initview_command.specs.declared.asking.TableQuestion.TheVariants as t
 use Rattle.initview_command.specs.declared.asking.Kind.{Kind}
 use Rattle.initview_command.specs.declared.asking.Kind.TheVariants as kind
 use Rattle.initview_command.specs.declared.asking.What.{What}
-use Rattle.initview_command.specs.declared.asking.What.TheVariants.{Show, Draw, Follow, Explain, Reload, Tables}
+use Rattle.initview_command.specs.declared.asking.What.TheVariants.{Show, Draw, Follow, Explain, Reload, Timing, Tables}
 use Rattle.initview_command.specs.declared.charting.Form.{Form}
 use Rattle.initview_command.specs.declared.charting.Form.TheVariants.{Lines, Svg}
 use Rattle.initview_command.specs.declared.charting.TheConstants.{WIDTH}
@@ -31,7 +30,7 @@ is_option _ = false
 abbrev pub takes_value : Text → Bool
 takes_value word =
     bytes_eq word (codes "--level") || bytes_eq word (codes "--trace") || bytes_eq word (codes "--width")
-    || bytes_eq word (codes "--inittab-dir")
+    || bytes_eq word (codes "--inittab-dir") || bytes_eq word (codes "--programs")
 
 abbrev pub own_kind : Text → Kind
 own_kind word =
@@ -156,13 +155,31 @@ is_two _ = false
 abbrev pub diff_of : List Text → List Text → Option What
 diff_of options words = if is_two words then diff_by options else None
 
--- plan [--level LEVEL] TABLE [FILE..], lint TABLE [FILE..]
+-- plan [--trace TRACE] [--level LEVEL]
+abbrev pub timing_of : List Text → Option What
+timing_of rest = option_map Timing (level_of rest)
+
+abbrev pub plan_in : List Text → Option (List Text) → Option What
+plan_in options (Some rest) = timing_of rest
+plan_in options None = option_map (λ level. Tables (table.Plan level)) (level_of options)
+
+abbrev pub plan_of : List Text → Option What
+plan_of options = plan_in options (traced options)
+
+-- [--programs FOLDERS]
+abbrev pub lint_of : List Text → Option What
+lint_of [] = Some (Tables table.Lint)
+lint_of (option ∷ folders ∷ []) =
+    if bytes_eq option (codes "--programs") then Some (Tables table.Programs) else None
+lint_of _ = None
+
+-- plan OPTIONS TABLE [FILE..], lint [--programs FOLDERS] TABLE [FILE..]
 abbrev pub tables_of : Text → List Text → List Text → Option What
 tables_of verb options words =
     if bytes_eq verb (codes "diff") then diff_of options words
     else if is_nil words then None
-    else if bytes_eq verb (codes "plan") then option_map (λ level. Tables (table.Plan level)) (level_of options)
-    else if bytes_eq verb (codes "lint") && is_nil options then Some (Tables table.Lint)
+    else if bytes_eq verb (codes "plan") then plan_of options
+    else if bytes_eq verb (codes "lint") then lint_of options
     else None
 
 -- left TRACE, follow TRACE
@@ -199,6 +216,7 @@ what_of options (verb ∷ words) = asked_by verb options words
 abbrev pub reads_files : What → Bool
 reads_files (Explain id) = true
 reads_files (Reload level) = true
+reads_files (Timing level) = true
 reads_files (Tables question) = true
 reads_files _ = false
 
@@ -217,7 +235,7 @@ abbrev pub folder_of : List Text → Option Text
 folder_of (option ∷ path ∷ []) = Some path
 folder_of _ = None
 
--- the path of the trace, and those of the files of inittabs
+-- the path of the trace, or the folders of programs; and the paths of the files of inittabs
 abbrev pub second_of : List Text → Text
 second_of (first ∷ second ∷ words) = second
 second_of _ = []
@@ -236,7 +254,9 @@ behind_one [] = []
 
 abbrev pub trace_of : What → List Text → List Text → Text
 trace_of (Reload level) options words = trace_given options
+trace_of (Timing level) options words = trace_given options
 trace_of (Explain id) options words = third_of words
+trace_of (Tables question) options words = second_of options
 trace_of _ options words = second_of words
 
 abbrev pub files_of : What → List Text → List Text

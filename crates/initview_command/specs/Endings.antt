@@ -7,14 +7,16 @@ use Rattle.command_words.specs.CommandLines.{asks_version}
 use Rattle.command_words.specs.VersionLine.{PrintsVersion}
 use Rattle.initview_command.specs.declared.asking.Kind.TheVariants as kind
 use Rattle.initview_command.specs.declared.asking.What.{What}
-use Rattle.initview_command.specs.declared.asking.What.TheVariants.{Show, Draw, Follow, Explain, Reload, Tables}
+use Rattle.initview_command.specs.declared.asking.What.TheVariants.{Show, Draw, Follow, Explain, Reload, Timing, Tables}
 use Rattle.initview_command.specs.Asking.{files_of, folder_of, picked, trace_of, what_of, with_folder}
 use Rattle.initview_command.specs.Charting.{drawing}
-use Rattle.initview_command.specs.Explaining.{Explains}
+use Rattle.initview_command.specs.Explaining.{explained_with}
 use Rattle.initview_command.specs.Following.{Follows}
-use Rattle.initview_command.specs.Reloading.{Reloads}
+use Rattle.initview_command.specs.Planning.{timing_with}
+use Rattle.initview_command.specs.Reloading.{reload_with}
 use Rattle.initview_command.specs.Showing.{Shows, answer_by, stop_status}
-use Rattle.initview_command.specs.Tables.{Answers}
+use Rattle.initview_command.specs.Tables.{Answers, AreNone, NoneOf}
+use Rattle.initview_command.specs.WithFiles.{ShowsWithFiles}
 use Rattle.initview_command.specs.Writers.{KnownWriters}
 
 -- what is asked of the trace at a path, or of files, is done
@@ -26,9 +28,11 @@ Does text_at growing_at writers path files folder (Draw form) status old new =
     Shows text_at writers path (λ writer stop past. (drawing form past, stop_status stop)) status old new
 Does text_at growing_at writers path files folder Follow status old new = Follows (growing_at path) status old new
 Does text_at growing_at writers path files folder (Explain id) status old new =
-    Explains text_at writers path files folder id status old new
+    ShowsWithFiles text_at writers path files folder (explained_with path id) AreNone status old new
 Does text_at growing_at writers path files folder (Reload level) status old new =
-    Reloads text_at writers path files folder level status old new
+    ShowsWithFiles text_at writers path files folder (λ parts writer. reload_with level parts) NoneOf status old new
+Does text_at growing_at writers path files folder (Timing level) status old new =
+    ShowsWithFiles text_at writers path files folder (λ parts writer. timing_with level parts) AreNone status old new
 Does text_at growing_at writers path files folder (Tables question) status old new =
     Answers text_at files folder question status old new
 

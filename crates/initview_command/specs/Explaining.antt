@@ -1,8 +1,5 @@
 -- What is written of the reason that keeps an entry from its start.
-use Rattle.std.specs.Prelude.{◌≡◌, ◌⊎◌, ℕ, List, [], ◌∷◌, ◌++◌, Option, None}
-use Rattle.std.specs.Io.KnownBytes.{Keeps}
-use Rattle.program_io.specs.declared.statuses.TheConstants.{REFUSED, DEVICE_FAULT}
-use Rattle.program_io.specs.Known.{KnownTexts}
+use Rattle.std.specs.Prelude.{ℕ, List, [], ◌∷◌, ◌++◌, Option, None}
 use Rattle.init_words.specs.Parts.{NamedText}
 use Rattle.trace_events.specs.Event.{Event}
 use Rattle.inittab_lint.specs.IdLines.{id_text}
@@ -13,9 +10,8 @@ use Rattle.trace_view.specs.Why.{why}
 use Rattle.trace_view.specs.LastLines.{line_at_fault}
 use Rattle.initview_lines.specs.Reasons.{why_text}
 use Rattle.initview_command.specs.declared.growing.Writer.{Writer}
-use Rattle.initview_command.specs.Showing.{Shows, stop_status}
-use Rattle.initview_command.specs.Tables.{AreFiles, AreNone}
-use Rattle.initview_command.specs.Writers.{KnownWriters, present}
+use Rattle.initview_command.specs.Showing.{stop_status}
+use Rattle.initview_command.specs.Writers.{present}
 
 -- of the id's lines in the inittab, where one is named
 abbrev pub files_text : List ℕ → List NamedText → List ℕ
@@ -35,18 +31,5 @@ abbrev pub explained : List ℕ → List ℕ → List ℕ → Writer → Option 
 explained path id told writer stop past =
     (explanation path id told (line_at_fault id (why id past) past) (present writer stop past), stop_status stop)
 
--- so of the trace at the path, with the inittab of these files; or they are too many or too long, or memory ran out, and
--- nothing was written
-abbrev pub ExplainsFiles : KnownTexts → KnownWriters → List ℕ → List NamedText → List ℕ → ℕ → Option (List ℕ)
-    → Option (List ℕ) → Type 0
-ExplainsFiles text_at writers path files id status old new =
-    Shows text_at writers path (explained path id (files_text id files)) status old new
-    ⊎ ((status ≡ REFUSED) × AreNone files × Keeps old new)
-
--- so of the files at the paths; or one was not read, and nothing was written
-abbrev pub Explains : KnownTexts → KnownWriters → List ℕ → List (List ℕ) → Option (List ℕ) → List ℕ → ℕ
-    → Option (List ℕ) → Option (List ℕ) → Type 0
-Explains text_at writers path paths folder id status old new =
-    ((files : List NamedText) × AreFiles text_at paths folder files
-    × ExplainsFiles text_at writers path files id status old new)
-    ⊎ ((status ≡ DEVICE_FAULT) × Keeps old new)
+abbrev pub explained_with : List ℕ → List ℕ → List NamedText → Writer → Option Stop → List Event → List ℕ × ℕ
+explained_with path id files = explained path id (files_text id files)

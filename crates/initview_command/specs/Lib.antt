@@ -3,7 +3,9 @@ pub mod Charting
 pub mod Endings
 pub mod Explaining
 pub mod Following
+pub mod Planning
 pub mod Reloading
 pub mod Showing
 pub mod Tables
+pub mod WithFiles
 pub mod Writers

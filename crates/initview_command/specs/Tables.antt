@@ -1,6 +1,7 @@
 -- What is written of inittabs, and the exit status.
-use Rattle.std.specs.Prelude.{◌≡◌, ◌⊎◌, ℕ, List, [], ◌∷◌, ◌++◌, take, drop, Option, Some, None, unwrap_or}
+use Rattle.std.specs.Prelude.{◌≡◌, ◌⊎◌, ℕ, true, List, [], ◌∷◌, ◌++◌, take, drop, Option, Some, None, unwrap_or}
 use Rattle.std.specs.Io.KnownBytes.{Keeps}
+use Rattle.std.specs.List.{list_all}
 use Rattle.program_io.specs.declared.statuses.TheConstants.{DONE, REFUSED, DEVICE_FAULT}
 use Rattle.program_io.specs.Known.{IsTextAt, KnownTexts}
 use Rattle.init_words.specs.declared.entries.Entry.{Entry}
@@ -13,7 +14,9 @@ use Rattle.inittab_text.specs.Parts.{AreTooLong, AreTooMany, table_of_texts}
 use Rattle.inittab_text.specs.Tables.{default_level_of}
 use Rattle.inittab_lint.specs.declared.linting.Found.{Found}
 use Rattle.inittab_lint.specs.declared.linting.Found.TheVariants as found
+use Rattle.inittab_lint.specs.declared.traps.LineWarning.{LineWarning}
 use Rattle.inittab_lint.specs.Linting.{lint_in}
+use Rattle.inittab_lint.specs.Programs.{is_missing}
 use Rattle.initview_lines.specs.Changes.{changes_text}
 use Rattle.initview_lines.specs.Plans.{plan_text}
 use Rattle.initview_command.specs.Showing.{Writes}
@@ -62,15 +65,26 @@ plan_by level entries = plan_text (level_asked level entries) entries
 abbrev pub old_of : List NamedText → List NamedText
 old_of parts = take 1 parts ++ drop 2 parts
 
+-- which programs aren't found is the file system's to say, and none is looked for unasked
+abbrev pub AreMissing : TableQuestion → List LineWarning → Type 0
+AreMissing table.Programs missing = list_all is_missing missing ≡ true
+AreMissing _ missing = missing ≡ []
+
 -- what is written of files, and the exit status
-abbrev pub answer_of : TableQuestion → List NamedText → List ℕ × ℕ
-answer_of table.Lint parts = ((lint_in parts).0, found_status (lint_in parts).1)
-answer_of (table.Diff level) parts = (changes_by level (table_in (old_of parts)) (table_in (drop 1 parts)), DONE)
-answer_of (table.Plan level) parts = (plan_by level (table_in parts), DONE)
+abbrev pub lint_by : List NamedText → List LineWarning → List ℕ × ℕ
+lint_by parts missing = ((lint_in parts missing).0, found_status (lint_in parts missing).1)
+
+abbrev pub answer_of : TableQuestion → List LineWarning → List NamedText → List ℕ × ℕ
+answer_of (table.Diff level) missing parts =
+    (changes_by level (table_in (old_of parts)) (table_in (drop 1 parts)), DONE)
+answer_of (table.Plan level) missing parts = (plan_by level (table_in parts), DONE)
+answer_of _ missing parts = lint_by parts missing
 
 -- a text and an exit status are the answer
 abbrev pub IsAnswer : TableQuestion → List NamedText → List ℕ → ℕ → Type 0
-IsAnswer asked parts text status = (text ≡ (answer_of asked parts).0) × (status ≡ (answer_of asked parts).1)
+IsAnswer asked parts text status =
+    (missing : List LineWarning) × AreMissing asked missing
+    × (text ≡ (answer_of asked missing parts).0) × (status ≡ (answer_of asked missing parts).1)
 
 -- files that are no table: too many, or too long
 abbrev pub AreNone : List NamedText → Type 0
@@ -80,9 +94,8 @@ abbrev pub NoneOf : List NamedText → Type 0
 NoneOf parts = AreNone (old_of parts) ⊎ AreNone (drop 1 parts)
 
 abbrev pub IsRefused : TableQuestion → List NamedText → Type 0
-IsRefused table.Lint parts = AreNone parts
 IsRefused (table.Diff level) parts = NoneOf parts
-IsRefused (table.Plan level) parts = AreNone parts
+IsRefused _ parts = AreNone parts
 
 -- why there is no answer: memory ran out, or the files are refused
 abbrev pub FailsBy : Type 0 → TableFault → Type 0
@@ -99,7 +112,8 @@ fault_status fault.Parts = REFUSED
 -- the answer was written; or there are too many files, or too long ones, and nothing was written
 abbrev pub AnswersOf : TableQuestion → List NamedText → ℕ → Option (List ℕ) → Option (List ℕ) → Type 0
 AnswersOf asked parts status old new =
-    Writes (answer_of asked parts).0 (answer_of asked parts).1 status old new
+    ((missing : List LineWarning) × AreMissing asked missing
+    × Writes (answer_of asked missing parts).0 (answer_of asked missing parts).1 status old new)
     ⊎ ((status ≡ REFUSED) × IsRefused asked parts × Keeps old new)
 
 -- so of the files at the paths; or one was not read, and nothing was written

@@ -1,7 +1,7 @@
 //! What the words of a command line ask: the options, which may stand anywhere, and the other words.
 
 ghost use Rattle.std.specs.Prelude.{◌≡◌, ◌++◌, None, map, option_map, string_bytes, IfOk, OnOk};
-ghost use Rattle.initview_command.specs.Asking.{asked_by, behind_one, behind_three, diff_by, diff_of, draw_of, explain_of, files_of, folder_of, form_of, given_by, is_nil, is_one, is_option, is_picked, is_plain, is_two, kind_of, level_in, level_of, own_kind, picked, plain_of, reads_files, reload_of, same_kind, second_of, shape_of, show_of, tables_of, takes_value, third_of, trace_given, trace_of, traced, value_next, what_of, where_named, where_reads, with_folder};
+ghost use Rattle.initview_command.specs.Asking.{asked_by, behind_one, behind_three, diff_by, diff_of, draw_of, explain_of, files_of, folder_of, form_of, given_by, is_nil, is_one, is_option, is_picked, is_plain, is_two, kind_of, level_in, level_of, lint_of, own_kind, picked, plain_of, plan_of, reads_files, reload_of, same_kind, second_of, shape_of, show_of, tables_of, takes_value, third_of, timing_of, trace_given, trace_of, traced, value_next, what_of, where_named, where_reads, with_folder};
 
 use crate::charting::{Form, WIDTH, lines_of};
 use init_words::{Id, Level};
@@ -24,6 +24,8 @@ pub enum Question {
 pub enum TableQuestion {
     /// The faults and warnings of one.
     Lint,
+    /// The same, and which programs of it aren't found.
+    Programs,
     /// What becomes of the entries of the first in a level, where the second is read in its place.
     Diff(Option<Level>),
     /// What one starts on the way to a level.
@@ -40,6 +42,8 @@ pub enum What {
     Explain(Id),
     /// What becomes of what runs, where init reads the second file and goes to the level.
     Reload(Option<Level>),
+    /// What is started on the way to the level, and how long what init waits for took in the trace.
+    Timing(Option<Level>),
     Tables(TableQuestion),
 }
 
@@ -66,7 +70,11 @@ pub(crate) fn is_option(word: &str) -> bool
 pub(crate) fn takes_value(word: &str) -> bool
     ensures { result ≡ takes_value word.now }
 {
-    word == "--level" || word == "--trace" || word == "--width" || word == "--inittab-dir"
+    word == "--level"
+        || word == "--trace"
+        || word == "--width"
+        || word == "--inittab-dir"
+        || word == "--programs"
 }
 
 /// The kind of a word by itself.
@@ -263,6 +271,21 @@ fn diff_by(options: &[String]) -> Option<What>
     }
 }
 
+fn timing_of(rest: &[String]) -> Option<What>
+    ensures { result ≡ timing_of (map string_bytes rest.now) }
+{
+    Some(What::Timing(level_of(rest)?))
+}
+
+fn plan_of(options: &[String]) -> Option<What>
+    ensures { result ≡ plan_of (map string_bytes options.now) }
+{
+    match traced(options) {
+        Some(rest) => timing_of(rest),
+        None => Some(What::Tables(TableQuestion::Plan(level_of(options)?))),
+    }
+}
+
 fn is_two(words: &[String]) -> bool
     ensures { result ≡ is_two (map string_bytes words.now) }
 {
@@ -282,6 +305,18 @@ fn diff_of(options: &[String], words: &[String]) -> Option<What>
     }
 }
 
+fn lint_of(options: &[String]) -> Option<What>
+    ensures { result ≡ lint_of (map string_bytes options.now) }
+{
+    match options {
+        [] => Some(What::Tables(TableQuestion::Lint)),
+        [option, _] if option.as_str() == "--programs" => {
+            Some(What::Tables(TableQuestion::Programs))
+        }
+        _ => None,
+    }
+}
+
 /// What a command for inittabs asks.
 fn tables_of(verb: &str, options: &[String], words: &[String]) -> Option<What>
     ensures { result
@@ -294,10 +329,10 @@ fn tables_of(verb: &str, options: &[String], words: &[String]) -> Option<What>
         return None;
     }
     if verb == "plan" {
-        return Some(What::Tables(TableQuestion::Plan(level_of(options)?)));
+        return plan_of(options);
     }
-    if verb == "lint" && is_nil(options) {
-        Some(What::Tables(TableQuestion::Lint))
+    if verb == "lint" {
+        lint_of(options)
     } else {
         None
     }
@@ -412,6 +447,7 @@ fn reads_files(what: &What) -> bool
     match what {
         What::Explain(_) => true,
         What::Reload(_) => true,
+        What::Timing(_) => true,
         What::Tables(_) => true,
         What::Show(_) => false,
         What::Draw(_) => false,
@@ -458,18 +494,19 @@ pub(crate) fn folder_of(folder: &[String]) -> Option<&str>
     }
 }
 
-/// The path of the trace.
+/// The path of the trace, or the folders of programs.
 pub(crate) fn trace_of<'a>(what: &What, options: &'a [String], words: &'a [String]) -> &'a str
     ensures { result.now
         ≡ trace_of what.now (map string_bytes options.now) (map string_bytes words.now) }
 {
     match what {
         What::Reload(_) => trace_given(options),
+        What::Timing(_) => trace_given(options),
         What::Explain(_) => third_of(words),
         What::Show(_) => second_of(words),
         What::Draw(_) => second_of(words),
         What::Follow => second_of(words),
-        What::Tables(_) => second_of(words),
+        What::Tables(_) => second_of(options),
     }
 }
 
@@ -483,6 +520,7 @@ pub(crate) fn files_of<'a>(what: &What, words: &'a [String]) -> &'a [String]
         What::Draw(_) => behind_one(words),
         What::Follow => behind_one(words),
         What::Reload(_) => behind_one(words),
+        What::Timing(_) => behind_one(words),
         What::Tables(_) => behind_one(words),
     }
 }

@@ -6,14 +6,16 @@ ghost use Rattle.initview_command.specs.declared.asking.Kind.TheVariants as kind
 ghost use Rattle.initview_command.specs.Endings.{Does, EndsBy, EndsOf};
 
 use crate::asking::{Kind, What, files_of, folder_of, picked, trace_of, what_of, with_folder};
-use crate::explaining::explain_file;
+use crate::explaining::ReasonOf;
 use crate::following::follow_file;
 use crate::growing::GrowingTexts;
+use crate::planning::TimingTo;
 use crate::refusals::report_refusal;
-use crate::reloading::show_reload;
+use crate::reloading::ReloadTo;
 use crate::showing::show_file;
 use crate::tables::show_files;
 use crate::telling::report_memory;
+use crate::with_files::show_with_files;
 use command_words::{is_version, print_version};
 use program_io::Texts;
 use std::alloc::{AllocError, Global};
@@ -26,9 +28,9 @@ pub const USAGE: &str = "usage: initview why [--inittab-dir DIR] ID TRACE [TABLE
        initview left TRACE
        initview timeline [--svg | --width N] TRACE
        initview follow TRACE
-       initview lint [--inittab-dir DIR] TABLE [FILE..]
+       initview lint [--programs FOLDERS] [--inittab-dir DIR] TABLE [FILE..]
        initview diff [--trace TRACE] [--level LEVEL] [--inittab-dir DIR] OLD NEW
-       initview plan [--level LEVEL] [--inittab-dir DIR] TABLE [FILE..]
+       initview plan [--trace TRACE] [--level LEVEL] [--inittab-dir DIR] TABLE [FILE..]
        initview --version
   why     say why the entry ID isn't started next, the line of TRACE at fault, and what to do; with
           TABLE also where the inittab has a line of ID, and why it is left out
@@ -41,11 +43,13 @@ pub const USAGE: &str = "usage: initview why [--inittab-dir DIR] ID TRACE [TABLE
   follow  print a line for each happening that an operator is told of, also while the trace is
           written, until it is interrupted
   lint    list the faults of an inittab's lines, with what was probably meant, and warnings; the
-          exit status is 1 with faults, 2 with warnings alone
+          exit status is 1 with faults, 2 with warnings alone; with --programs also warnings of
+          programs that aren't in FOLDERS, as \"$PATH\" of init has them
   diff    list what becomes of each entry in a level where the inittab NEW is read in OLD's place;
           with --trace of what runs now, and the exit status is as for status TRACE
   plan    list what init starts on the way to a level, in its order, what it waits for, and the
-          critical path: the entries whose ends the way goes through
+          critical path: the entries whose ends the way goes through; with --trace also how long
+          each of these took there, and the exit status is as for status TRACE
   Options stand anywhere.
   ID      an id of the inittab, 1 to 8 characters
   TRACE   a trace of init, also one that is still being written; - is standard input
@@ -57,7 +61,7 @@ pub const USAGE: &str = "usage: initview why [--inittab-dir DIR] ID TRACE [TABLE
 /// Runs initview on its words, and gives the exit status: 0 where the trace was read to its end and the answer written
 /// on `out`, 1 where the words are refused or a line of the trace is none, 2 where a happening breaks a law, 4 where the
 /// trace can't be read, the output fails or memory runs out; of `status TRACE ID` 0, 3 or 4, as the LSB has them. What
-/// stands before a line that is none, or that breaks a law, is shown, and is the trace of `diff --trace`; of a text that
+/// stands before a line that is none, or that breaks a law, is shown, and is the trace of `diff --trace` and `plan --trace`; of a text that
 /// begins within a run nothing is, and the status is 1. A trace that is
 /// followed is read on in `growing` until it ends, and each of its lines is written when it comes. Of an inittab the
 /// status is 1 where it isn't read for its size, of `lint` also where it has faults, and 2 where it has warnings alone.
@@ -130,7 +134,7 @@ fn run_cut<T: Texts, G: GrowingTexts, W: Write, E: Write>(
     }
 }
 
-/// Does what is asked of the trace at a path, or of files.
+/// Does what is asked of the trace at a path, or of files and the programs of folders.
 fn run_asked<T: Texts, G: GrowingTexts, W: Write, E: Write>(
     texts: &T,
     growing: &G,
@@ -152,13 +156,21 @@ fn run_asked<T: Texts, G: GrowingTexts, W: Write, E: Write>(
         What::Draw(form) => show_file(texts, growing, alloc, path, form, out, err),
         What::Follow => follow_file(growing, alloc, path, out, err),
         What::Explain(id) => {
-            explain_file(texts, growing, alloc, path, files, folder, id, out, err)
+            let asked = ReasonOf { id: *id };
+            show_with_files(texts, growing, alloc, path, files, folder, &asked, out, err)
         }
         What::Reload(level) => {
-            show_reload(texts, growing, alloc, path, files, folder, *level, out, err)
+            let asked = ReloadTo { level: *level };
+            show_with_files(texts, growing, alloc, path, files, folder, &asked, out, err)
+        }
+        What::Timing(level) => {
+            let asked = TimingTo { level: *level };
+            show_with_files(texts, growing, alloc, path, files, folder, &asked, out, err)
         }
         What::Tables(question) => {
-            show_files(texts, growing, alloc, files, folder, *question, out, err)
+            show_files(
+                texts, growing, alloc, path, files, folder, *question, out, err,
+            )
         }
     }
 }

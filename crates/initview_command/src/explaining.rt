@@ -1,29 +1,34 @@
 //! Why an entry isn't started next, asked for.
 
-ghost use Rattle.std.specs.Prelude.{◌≡◌, List, map, option_map, string_bytes, IfOk, IfErr};
+ghost use Rattle.std.specs.Prelude.{◌≡◌, List, IfOk, IfErr};
 ghost use Rattle.trace_events.specs.Event.{Event};
 ghost use Rattle.trace_view.specs.Viewing.{Viewed};
 ghost use Rattle.trace_view.specs.LastLines.{Lined, line_at_fault};
 ghost use Rattle.trace_view.specs.Why.{why};
-ghost use Rattle.initview_command.specs.Explaining.{Explains, ExplainsFiles, explanation, files_text, line_by};
+ghost use Rattle.initview_command.specs.Explaining.{explanation, files_text, line_by};
 ghost use Rattle.initview_command.specs.Tables.{AreNone, FailsBy};
 
-use crate::growing::{GrowingTexts, Writer};
+use crate::growing::Writer;
 use crate::presence::show_present;
-use crate::showing::{Asks, show_file, stop_status};
-use crate::tables::{read_files, report_fault};
+use crate::showing::{Asks, stop_status};
+use crate::with_files::NeedsFiles;
 use init_words::{Id, Memory, Part};
 use inittab_lint::id_lines;
 use inittab_text::TableFault;
 use initview_lines::why_lines;
-use program_io::{DEVICE_FAULT, Texts};
 use std::alloc::{AllocError, Global};
 use std::io::Write;
 use trace_view::{LastLines, SeenText, Stop, TraceView, Why};
 
-/// Why the id isn't started is asked, and this is told of it behind the answer.
+/// Why the id isn't started is asked, with what the files have of it.
 #[derive(Drop)]
-struct Reason {
+pub(crate) struct ReasonOf {
+    pub(crate) id: Id,
+}
+
+/// The same, and this is told of it behind the answer.
+#[derive(Drop)]
+pub(crate) struct Reason {
     id: Id,
     told: Vec<u8>,
 }
@@ -95,28 +100,6 @@ impl Asks for Reason {
     }
 }
 
-/// Reads the files of an inittab and the trace of a path, writes why the id isn't started, and gives the exit status.
-pub(crate) fn explain_file<T: Texts, G: GrowingTexts, W: Write, E: Write>(
-    texts: &T,
-    growing: &G,
-    alloc: Global,
-    path: &str,
-    paths: &[String],
-    folder: Option<&str>,
-    id: &Id,
-    out: &mut W,
-    err: &mut E,
-) -> u8
-    ensures { Explains (T.text_at texts.now) (G.writer_at growing.now) path.now
-        (map string_bytes paths.now) (option_map (λ path. path.now) folder.entry) id.now
-        result (W.contents out.old) (W.contents out.new) }
-{
-    match read_files(texts, growing, alloc, paths, folder, err) {
-        Some(files) => explain_files(texts, growing, alloc, path, &files, id, out, err),
-        None => DEVICE_FAULT,
-    }
-}
-
 /// What is told of the id's lines in an inittab, where one is named.
 fn files_text(alloc: Global, files: &[Part], id: &Id) -> Result<Vec<u8>, TableFault>
     ensures told { IfOk result (λ text. text.items ≡ files_text id.now files.now) }
@@ -133,29 +116,27 @@ fn files_text(alloc: Global, files: &[Part], id: &Id) -> Result<Vec<u8>, TableFa
     }
 }
 
-fn explain_files<T: Texts, G: GrowingTexts, W: Write, E: Write>(
-    texts: &T,
-    growing: &G,
-    alloc: Global,
-    path: &str,
-    files: &[Part],
-    id: &Id,
-    out: &mut W,
-    err: &mut E,
-) -> u8
-    ensures { ExplainsFiles (T.text_at texts.now) (G.writer_at growing.now) path.now
-        files.now id.now result (W.contents out.old) (W.contents out.new) }
-{
-    match files_text(alloc, files, id) {
-        Ok(told) => show_file(
-            texts,
-            growing,
-            alloc,
-            path,
-            &Reason { id: *id, told },
-            out,
-            err,
-        ),
-        Err(fault) => report_fault(fault, err),
+impl NeedsFiles for ReasonOf {
+    ghost use Rattle.initview_command.specs.Explaining.{explained_with};
+    ghost use Rattle.initview_command.specs.Tables.{AreNone};
+
+    type Asked = Reason;
+
+    ghost gives = { λ asked path files. explained_with path asked.id files };
+
+    ghost AreRefused = { AreNone };
+
+    fn with_files<E: Write>(
+        &self,
+        alloc: Global,
+        files: &mut [Part],
+        _err: &mut E,
+    ) -> Result<Reason, TableFault> {
+        match files_text(alloc, files, &self.id) {
+            Ok(told) => Ok(Reason { id: self.id, told }),
+            Err(TableFault::Memory) => Err(TableFault::Memory),
+            Err(TableFault::TooLong) => Err(TableFault::TooLong),
+            Err(TableFault::Parts) => Err(TableFault::Parts),
+        }
     }
 }

@@ -5,10 +5,10 @@ ghost use Rattle.init_words.specs.Parts.{NamedText};
 ghost use Rattle.program_io.specs.Known.{KnownTexts};
 ghost use Rattle.initview_command.specs.Writers.{IsWriterAt, KnownWriters};
 
-use host_system::{FolderFault, PassedNames, with_folder};
+use host_files::{FolderFault, PassedNames, with_folder};
 use init_words::Part;
 use program_io::{KeptTexts, Texts, open_plain};
-use std::alloc::{Allocator, Global};
+use std::alloc::{AllocError, Allocator, Global};
 use std::fs::{File, Metadata, TryLockError};
 use std::io::{Cursor, Error, ErrorKind, Read};
 use std::os::unix::fs::MetadataExt;
@@ -57,6 +57,10 @@ pub trait GrowingTexts {
     ) -> Result<(), FolderFault>
         ensures { OnOk result ((more : List NamedText)
             × (parts.new.items ≡ parts.old.items ++ more)) };
+
+    /// Whether a program is found: in one of the folders, between which stand colons, or at its path, where that begins
+    /// with `/`. One with another path is another thing for each folder that init is started in, and taken for found.
+    fn has_program(&self, alloc: Global, folders: &str, program: &str) -> Result<bool, AllocError>;
 }
 
 /// A text in memory is whole, and has no lock.
@@ -88,6 +92,16 @@ impl<A: Allocator> GrowingTexts for KeptTexts<A> {
     ) -> Result<(), FolderFault> {
         let path = String::from_str(alloc, folder)?;
         Err(FolderFault::Unread(path, Error::from(ErrorKind::NotFound)))
+    }
+
+    /// No program is kept.
+    fn has_program(
+        &self,
+        _alloc: Global,
+        _folders: &str,
+        _program: &str,
+    ) -> Result<bool, AllocError> {
+        Ok(false)
     }
 }
 
@@ -156,6 +170,27 @@ impl<'a, R: Files<File = File> + Clock + Eprint> GrowingTexts for GrowingFiles<'
         let mut more = with_folder(self.rt, alloc, last, Some(folder), &mut passed)?;
         parts.append(&mut more)?;
         Ok(())
+    }
+
+    fn has_program(&self, alloc: Global, folders: &str, program: &str) -> Result<bool, AllocError> {
+        if program.contains('/') {
+            return Ok(!program.starts_with('/') || is_program(self.rt, program));
+        }
+        for folder in folders.split(':') {
+            let path = format!(in alloc; "{folder}/{program}")?;
+            if is_program(self.rt, path.as_str()) {
+                return Ok(true);
+            }
+        }
+        Ok(false)
+    }
+}
+
+/// A file stands at the path that may be executed.
+fn is_program(rt: &impl Files, path: &str) -> bool {
+    match fs::metadata(rt, path) {
+        Ok(found) => found.is_file() && found.mode() & 0o111 != 0,
+        Err(_) => false,
     }
 }
 

@@ -7,12 +7,15 @@ mod command;
 mod explaining;
 mod following;
 mod growing;
+mod planning;
 mod presence;
+mod programs;
 mod refusals;
 mod reloading;
 mod showing;
 mod tables;
 mod telling;
+mod with_files;
 
 pub use asking::{Question, TableQuestion, What};
 pub use charting::{Form, WIDTH, WIDTH_LEAST, WIDTH_LIMIT};

@@ -20,9 +20,12 @@ const COMMANDS: &[(&str, Command)] = &[
     ("left", (&[], 1, 1)),
     ("timeline", (&["--svg", "--width"], 1, 1)),
     ("follow", (&[], 1, 1)),
-    ("lint", (&["--inittab-dir"], 1, usize::MAX)),
+    ("lint", (&["--programs", "--inittab-dir"], 1, usize::MAX)),
     ("diff", (&["--trace", "--level", "--inittab-dir"], 2, 2)),
-    ("plan", (&["--level", "--inittab-dir"], 1, usize::MAX)),
+    (
+        "plan",
+        (&["--trace", "--level", "--inittab-dir"], 1, usize::MAX),
+    ),
 ];
 
 fn command_of(name: &str) -> Option<Command> {

@@ -1,28 +1,34 @@
 //! What becomes of what runs where init reads another inittab, asked for.
 
-ghost use Rattle.std.specs.Prelude.{◌≡◌, ◌∷◌, List, map, option_map, string_bytes, OnOk};
+ghost use Rattle.std.specs.Prelude.{◌≡◌, ◌∷◌, List, OnOk};
 ghost use Rattle.trace_events.specs.declared.happenings.Happening.TheVariants.{NewTable};
 ghost use Rattle.trace_events.specs.Event.{Event};
 ghost use Rattle.trace_view.specs.Viewing.{Viewed};
 ghost use Rattle.initview_lines.specs.Reloads.{gone_on, reloaded, with_request};
-ghost use Rattle.initview_command.specs.Reloading.{Reloads, ReloadsFiles};
 
-use crate::growing::{GrowingTexts, Writer};
-use crate::showing::{Asks, show_file, stop_status};
-use crate::tables::{old_and_new, read_files, report_fault};
+use crate::growing::Writer;
+use crate::showing::{Asks, stop_status};
+use crate::tables::old_and_new;
+use crate::with_files::NeedsFiles;
 use init_words::{Level, Memory, Part};
 use initctl_frame::HeardRequest;
-use inittab_text::Table;
+use inittab_text::{Table, TableFault};
 use initview_lines::reload_lines;
-use program_io::{DEVICE_FAULT, Texts};
 use std::alloc::Global;
 use std::io::Write;
 use trace_events::{Happening, HappeningIn};
 use trace_view::{SeenText, Stop};
 
-/// What becomes of what runs is asked, where init reads the new inittab in the place of the old one, and goes to a level.
+/// What becomes of what runs is asked, where init reads the second of two inittabs in the place of the first, and goes to
+/// the level.
 #[derive(Drop)]
-struct Reload {
+pub(crate) struct ReloadTo {
+    pub(crate) level: Option<Level>,
+}
+
+/// The same, of two tables.
+#[derive(Drop)]
+pub(crate) struct Reload {
     old: Table,
     new: Table,
     level: Option<Level>,
@@ -109,55 +115,29 @@ impl Asks for Reload {
     }
 }
 
-/// Reads inittabs and the trace of a path, writes what becomes of each id where init reads the second one behind the
-/// trace, and gives the exit status.
-pub(crate) fn show_reload<T: Texts, G: GrowingTexts, W: Write, E: Write>(
-    texts: &T,
-    growing: &G,
-    alloc: Global,
-    path: &str,
-    paths: &[String],
-    folder: Option<&str>,
-    level: Option<Level>,
-    out: &mut W,
-    err: &mut E,
-) -> u8
-    ensures { Reloads (T.text_at texts.now) (G.writer_at growing.now) path.now
-        (map string_bytes paths.now)
-        (option_map (λ path. path.now) folder.entry) level result
-        (W.contents out.old) (W.contents out.new) }
-{
-    match read_files(texts, growing, alloc, paths, folder, err) {
-        Some(mut parts) => { show_files(texts, growing, alloc, path, &mut parts, level, out, err) }
-        None => DEVICE_FAULT,
-    }
-}
+impl NeedsFiles for ReloadTo {
+    ghost use Rattle.initview_command.specs.Reloading.{reload_with};
+    ghost use Rattle.initview_command.specs.Tables.{NoneOf};
 
-fn show_files<T: Texts, G: GrowingTexts, W: Write, E: Write>(
-    texts: &T,
-    growing: &G,
-    alloc: Global,
-    path: &str,
-    parts: &mut [Part],
-    level: Option<Level>,
-    out: &mut W,
-    err: &mut E,
-) -> u8
-    ensures { ReloadsFiles (T.text_at texts.now) (G.writer_at growing.now) path.now
-        parts.old level result (W.contents out.old) (W.contents out.new) }
-{
-    match old_and_new(alloc, parts, err) {
-        Ok((old, new)) => {
-            show_file(
-                texts,
-                growing,
-                alloc,
-                path,
-                &Reload { old, new, level },
-                out,
-                err,
-            )
-        },
-        Err(fault) => report_fault(fault, err),
+    type Asked = Reload;
+
+    ghost gives = { λ asked path files writer. reload_with asked.level files };
+
+    ghost AreRefused = { NoneOf };
+
+    fn with_files<E: Write>(
+        &self,
+        alloc: Global,
+        files: &mut [Part],
+        err: &mut E,
+    ) -> Result<Reload, TableFault> {
+        match old_and_new(alloc, files, err) {
+            Ok((old, new)) => Ok(Reload {
+                old,
+                new,
+                level: self.level,
+            }),
+            Err(fault) => Err(fault),
+        }
     }
 }

@@ -4,14 +4,15 @@ ghost use Rattle.std.specs.Prelude.{◌≡◌, ◌++◌, ◌∷◌, [], map, opt
 ghost use Rattle.program_io.specs.Known.{IsTextAt};
 ghost use Rattle.init_words.specs.Parts.{NamedText};
 ghost use Rattle.initview_command.specs.declared.asking.TableQuestion.TheVariants as table_question;
-ghost use Rattle.initview_command.specs.Tables.{Answers, AnswersOf, AreFiles, AreFilesAt, AreNone, FailsBy, IsAnswer, IsFolderBehind, IsRefused, NoneOf, changes_by, fault_status, found_status, level_asked, old_of, plan_by, table_in};
+ghost use Rattle.initview_command.specs.Tables.{Answers, AnswersOf, AreFiles, AreFilesAt, AreNone, FailsBy, IsAnswer, IsFolderBehind, IsRefused, NoneOf, changes_by, fault_status, found_status, level_asked, lint_by, old_of, plan_by, table_in};
 
 use crate::asking::TableQuestion;
 use crate::growing::GrowingTexts;
+use crate::programs::missing;
 use crate::showing::write_answer;
 use crate::telling::report_unread;
 use init_words::{Level, Part};
-use inittab_lint::{Found, lint_parts};
+use inittab_lint::{Found, LineWarning, lint_parts};
 use inittab_text::{PartFault, Table, TableFault, read_parts};
 use initview_lines::{change_lines, plan_lines};
 use program_io::{DEVICE_FAULT, DONE, REFUSED, Texts};
@@ -117,7 +118,11 @@ fn tell_faulty<E: Write>(parts: &[Part], faults: &[PartFault], err: &mut E) {
 }
 
 /// The table of files.
-fn table_in<E: Write>(alloc: Global, parts: &[Part], err: &mut E) -> Result<Table, TableFault>
+pub(crate) fn table_in<E: Write>(
+    alloc: Global,
+    parts: &[Part],
+    err: &mut E,
+) -> Result<Table, TableFault>
     ensures table { IfOk result (λ table. table ≡ table_in parts.now) }
     ensures fault { IfErr result (FailsBy (AreNone parts.now)) }
 {
@@ -133,7 +138,7 @@ fn table_in<E: Write>(alloc: Global, parts: &[Part], err: &mut E) -> Result<Tabl
 }
 
 /// The level that is asked about: the one that is named, else the table's default, else S.
-fn level_asked(level: Option<Level>, table: &Table) -> Level
+pub(crate) fn level_asked(level: Option<Level>, table: &Table) -> Level
     ensures { result ≡ level_asked level table.now }
 {
     match level {
@@ -142,13 +147,17 @@ fn level_asked(level: Option<Level>, table: &Table) -> Level
     }
 }
 
-/// The faults and warnings of an inittab, and the exit status.
-fn lint_answer(alloc: Global, parts: &[Part]) -> Result<(Vec<u8>, u8), TableFault>
-    ensures told { IfOk result (λ given.
-        IsAnswer table_question.Lint parts.now given.0.items given.1) }
+/// The faults and warnings of an inittab, with further ones, and the exit status.
+fn lint_answer(
+    alloc: Global,
+    parts: &[Part],
+    missing: &[LineWarning],
+) -> Result<(Vec<u8>, u8), TableFault>
+    ensures told { IfOk result (λ given. (given.0.items ≡ (lint_by parts.now missing.now).0)
+        × (given.1 ≡ (lint_by parts.now missing.now).1)) }
     ensures fault { IfErr result (FailsBy (AreNone parts.now)) }
 {
-    match lint_parts(alloc, parts) {
+    match lint_parts(alloc, parts, missing) {
         Ok(lint) => {
             let status = found_status(lint.found);
             Ok((lint.text, status))
@@ -156,6 +165,23 @@ fn lint_answer(alloc: Global, parts: &[Part]) -> Result<(Vec<u8>, u8), TableFaul
         Err(TableFault::Memory) => Err(TableFault::Memory),
         Err(TableFault::TooLong) => Err(TableFault::TooLong),
         Err(TableFault::Parts) => Err(TableFault::Parts),
+    }
+}
+
+/// The same, with warnings of programs that aren't found in folders.
+fn programs_answer<G: GrowingTexts>(
+    growing: &G,
+    alloc: Global,
+    folders: &str,
+    parts: &[Part],
+) -> Result<(Vec<u8>, u8), TableFault>
+    ensures told { IfOk result (λ given.
+        IsAnswer table_question.Programs parts.now given.0.items given.1) }
+    ensures fault { IfErr result (FailsBy (AreNone parts.now)) }
+{
+    match missing(growing, alloc, folders, parts) {
+        Ok(missing) => lint_answer(alloc, parts, &missing),
+        Err(_) => Err(TableFault::Memory),
     }
 }
 
@@ -195,15 +221,21 @@ fn diff_text(
 }
 
 /// What an inittab starts on the way to a level.
-fn plan_of(alloc: Global, level: Option<Level>, table: &Table) -> Result<Vec<u8>, AllocError>
+pub(crate) fn plan_of(
+    alloc: Global,
+    level: Option<Level>,
+    table: &Table,
+) -> Result<Vec<u8>, AllocError>
     ensures { IfOk result (λ text. text.items ≡ plan_by level table.now) }
 {
     plan_lines(alloc, level_asked(level, table), table)
 }
 
 /// What is answered of inittabs, and the exit status.
-fn answer<E: Write>(
+fn answer<G: GrowingTexts, E: Write>(
+    growing: &G,
     alloc: Global,
+    folders: &str,
     question: TableQuestion,
     parts: &mut [Part],
     err: &mut E,
@@ -213,7 +245,8 @@ fn answer<E: Write>(
     ensures fault { IfErr result (FailsBy (IsRefused question parts.old)) }
 {
     match question {
-        TableQuestion::Lint => lint_answer(alloc, parts),
+        TableQuestion::Lint => lint_answer(alloc, parts, &[]),
+        TableQuestion::Programs => programs_answer(growing, alloc, folders, parts),
         TableQuestion::Diff(level) => diff_answer(alloc, level, parts, err),
         TableQuestion::Plan(level) => plan_answer(alloc, level, parts, err),
     }
@@ -298,8 +331,10 @@ pub(crate) fn report_fault<E: Write>(fault: TableFault, err: &mut E) -> u8
 }
 
 /// Writes what is answered of inittabs, and gives the exit status.
-fn show_parts<W: Write, E: Write>(
+fn show_parts<G: GrowingTexts, W: Write, E: Write>(
+    growing: &G,
     alloc: Global,
+    folders: &str,
     question: TableQuestion,
     parts: &mut [Part],
     out: &mut W,
@@ -307,7 +342,7 @@ fn show_parts<W: Write, E: Write>(
 ) -> u8
     ensures { AnswersOf question parts.old result (W.contents out.old) (W.contents out.new) }
 {
-    match answer(alloc, question, parts, err) {
+    match answer(growing, alloc, folders, question, parts, err) {
         Ok((text, status)) => write_answer(&text, status, out, err),
         Err(fault) => report_fault(fault, err),
     }
@@ -318,6 +353,7 @@ pub(crate) fn show_files<T: Texts, G: GrowingTexts, W: Write, E: Write>(
     texts: &T,
     growing: &G,
     alloc: Global,
+    folders: &str,
     paths: &[String],
     folder: Option<&str>,
     question: TableQuestion,
@@ -329,7 +365,7 @@ pub(crate) fn show_files<T: Texts, G: GrowingTexts, W: Write, E: Write>(
         (W.contents out.old) (W.contents out.new) }
 {
     match read_files(texts, growing, alloc, paths, folder, err) {
-        Some(mut parts) => show_parts(alloc, question, &mut parts, out, err),
+        Some(mut parts) => show_parts(growing, alloc, folders, question, &mut parts, out, err),
         None => DEVICE_FAULT,
     }
 }

@@ -1,5 +1,5 @@
 use Rattle.std.proofs.Common.{◌∙◌, ap, map, string_bytes, subst}
-use Rattle.initview_command.specs.Asking.{files_of, folder_of, trace_of, what_of, with_folder}
+use Rattle.initview_command.specs.Asking.{folder_of, what_of, with_folder}
 use Rattle.initview_command.specs.Endings.{Does}
 use Rattle.initview_command.proofs.Done.{so_done, none_done}
 use Rattle.initview_command.proofs.command.run_cut.Goals as goal

@@ -1,4 +1,4 @@
-use Rattle.std.proofs.Common.{◌∙◌, None, ap, false, true, inl, inr, map, string_bytes, subst, sym}
+use Rattle.std.proofs.Common.{◌∙◌, None, ap, inl, inr, map, string_bytes, subst, sym}
 use Rattle.std.proofs.KnownBytes.{Keeps-refl}
 use Rattle.initview_command.specs.declared.asking.Kind.TheVariants as kind
 use Rattle.initview_command.specs.Asking.{folder_of, picked, what_of, with_folder}

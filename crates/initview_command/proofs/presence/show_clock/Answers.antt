@@ -1,6 +1,5 @@
-use Rattle.std.proofs.Common.{◌≡◌, ◌∷◌, ◌∙◌, ◌+◌, ◌-◌, ◌^◌, ap, min, sym, subst, ℕ}
+use Rattle.std.proofs.Common.{◌∷◌, ◌∙◌, ◌+◌, ◌-◌, ◌^◌, ap, min, sym, subst}
 use Rattle.trace_events.specs.declared.happenings.Happening.TheVariants.{Clock}
-use Rattle.trace_events.specs.Past.{time_of}
 use Rattle.trace_view.specs.Viewing.{Viewed}
 use Rattle.initview_command.proofs.Reloads.{seen}
 use Rattle.initview_command.proofs.presence.show_clock.Goals as goal

@@ -1,4 +1,4 @@
-use Rattle.std.proofs.Common.{◌≡◌, ◌∙◌, ap, sym, subst}
+use Rattle.std.proofs.Common.{◌∙◌, ap, sym, subst}
 use Rattle.trace_view.specs.Viewing.{ViewState, Viewed}
 use Rattle.trace_view.specs.LastLines.{LinesState, Lined}
 use Rattle.initview_command.specs.Explaining.{explanation}

@@ -1,0 +1,11 @@
+use Rattle.std.proofs.Common.{◌≡◌, true, length}
+use Rattle.std.specs.List.{list_all}
+use Rattle.inittab_lint.specs.Programs.{is_missing}
+use Rattle.initview_command.proofs.programs.add_text.Given as goal
+
+-- each warning so far is of a program
+abbrev pub invariant-loop-rest : goal.invariant-loop-rest
+invariant-loop-rest g l = list_all is_missing l.found.items ≡ true
+
+abbrev pub decreases-loop-rest : goal.decreases-loop-rest
+decreases-loop-rest g l = length l.rest

@@ -1,0 +1,11 @@
+use Rattle.std.proofs.Common.{◌≡◌, true, length}
+use Rattle.std.specs.List.{list_all}
+use Rattle.inittab_lint.specs.Programs.{is_missing}
+use Rattle.initview_command.proofs.programs.missing.Given as goal
+
+-- each warning so far is of a program
+abbrev pub invariant-loop-file : goal.invariant-loop-file
+invariant-loop-file g l = list_all is_missing l.found.items ≡ true
+
+abbrev pub decreases-loop-file : goal.decreases-loop-file
+decreases-loop-file g l = length l.rest

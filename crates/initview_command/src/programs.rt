@@ -1,0 +1,71 @@
+//! The programs of an inittab, looked for in folders.
+
+ghost use Rattle.std.specs.Prelude.{◌≡◌, true, IfOk, OnOk};
+ghost use Rattle.std.specs.List.{list_all};
+ghost use Rattle.inittab_lint.specs.Programs.{is_missing};
+
+use crate::growing::GrowingTexts;
+use init_words::Part;
+use inittab_lint::{LineWarning, Warning, program_of};
+use std::alloc::{AllocError, Global};
+use std::str;
+use text_lines::first_line;
+
+/// The program isn't in the folders. One that is no text isn't looked for.
+fn is_missing<G: GrowingTexts>(
+    growing: &G,
+    alloc: Global,
+    folders: &str,
+    program: &[u8],
+) -> Result<bool, AllocError> {
+    match str::from_utf8(program) {
+        Ok("") | Err(_) => Ok(false),
+        Ok(program) => Ok(!growing.has_program(alloc, folders, program)?),
+    }
+}
+
+/// Adds a warning for each line of a file whose program isn't in the folders.
+fn add_text<G: GrowingTexts>(
+    found: &mut Vec<LineWarning>,
+    growing: &G,
+    alloc: Global,
+    folders: &str,
+    part: usize,
+    text: &[u8],
+) -> Result<(), AllocError>
+    requires { list_all is_missing found.old.items ≡ true }
+    ensures { OnOk result (list_all is_missing found.new.items ≡ true) }
+{
+    let mut rest = text;
+    let mut line = 0usize;
+    while !rest.is_empty() {
+        let (text, more) = first_line(rest);
+        line = line.saturating_add(1);
+        if is_missing(growing, alloc, folders, program_of(text))? {
+            let kind = Warning::Missing;
+            found.push(LineWarning { part, line, kind })?;
+        }
+        rest = more;
+    }
+    Ok(())
+}
+
+/// Warnings about the lines of files whose program isn't in the folders.
+pub(crate) fn missing<G: GrowingTexts>(
+    growing: &G,
+    alloc: Global,
+    folders: &str,
+    files: &[Part],
+) -> Result<Vec<LineWarning>, AllocError>
+    ensures { IfOk result (λ found. list_all is_missing found.items ≡ true) }
+{
+    let mut found = Vec::new(alloc);
+    let mut rest = files;
+    let mut number = 0usize;
+    while let Some((file, others)) = rest.split_first() {
+        add_text(&mut found, growing, alloc, folders, number, &file.bytes)?;
+        number = number.saturating_add(1);
+        rest = others;
+    }
+    Ok(found)
+}

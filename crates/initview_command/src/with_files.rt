@@ -1,0 +1,85 @@
+//! What is asked of a trace with files of inittabs, answered and written.
+
+ghost use Rattle.std.specs.Prelude.{◌≡◌, List, ℕ, Option, map, option_map, string_bytes, IfOk, IfErr};
+ghost use Rattle.init_words.specs.Parts.{NamedText};
+ghost use Rattle.trace_events.specs.Event.{Event};
+ghost use Rattle.trace_view.specs.declared.text_views.Stop.{Stop};
+ghost use Rattle.initview_command.specs.declared.growing.Writer.{Writer};
+ghost use Rattle.initview_command.specs.Tables.{FailsBy};
+ghost use Rattle.initview_command.specs.WithFiles.{ShowsWith, ShowsWithFiles};
+
+use crate::growing::GrowingTexts;
+use crate::showing::{Asks, show_file};
+use crate::tables::{read_files, report_fault};
+use init_words::Part;
+use inittab_text::TableFault;
+use program_io::{DEVICE_FAULT, Texts};
+use std::alloc::Global;
+use std::io::Write;
+
+/// What is asked of a trace, once files of inittabs are read.
+pub(crate) trait NeedsFiles {
+    /// What is asked then.
+    type Asked: Asks + Drop;
+
+    /// What is written and the exit status, by the path of the trace, the files, who writes it, why it is shown no
+    /// further, and its past.
+    ghost gives: { Self → List ℕ → List NamedText → Writer → Option Stop → List Event → List ℕ × ℕ };
+
+    /// Files that are refused: they are no inittab.
+    ghost AreRefused: { List NamedText → Type 0 };
+
+    fn with_files<E: Write>(
+        &self,
+        alloc: Global,
+        files: &mut [Part],
+        err: &mut E,
+    ) -> Result<Self::Asked, TableFault>
+        ensures asked { IfOk result (λ asked. (path : List ℕ)
+            → Self.Asked.gives asked path ≡ gives self.now path files.old) }
+        ensures fault { IfErr result (FailsBy (AreRefused files.old)) };
+}
+
+/// Reads the files of the paths, and those of a folder, where one is named, and the trace of a path, writes what is asked
+/// of it, and gives the exit status.
+pub(crate) fn show_with_files<T: Texts, G: GrowingTexts, Q: NeedsFiles, W: Write, E: Write>(
+    texts: &T,
+    growing: &G,
+    alloc: Global,
+    path: &str,
+    paths: &[String],
+    folder: Option<&str>,
+    asked: &Q,
+    out: &mut W,
+    err: &mut E,
+) -> u8
+    ensures { ShowsWithFiles (T.text_at texts.now) (G.writer_at growing.now) path.now
+        (map string_bytes paths.now) (option_map (λ path. path.now) folder.entry)
+        (Q.gives asked.now path.now) Q.AreRefused result
+        (W.contents out.old) (W.contents out.new) }
+{
+    match read_files(texts, growing, alloc, paths, folder, err) {
+        Some(mut files) => show_with(texts, growing, alloc, path, &mut files, asked, out, err),
+        None => DEVICE_FAULT,
+    }
+}
+
+fn show_with<T: Texts, G: GrowingTexts, Q: NeedsFiles, W: Write, E: Write>(
+    texts: &T,
+    growing: &G,
+    alloc: Global,
+    path: &str,
+    files: &mut [Part],
+    asked: &Q,
+    out: &mut W,
+    err: &mut E,
+) -> u8
+    ensures { ShowsWith (T.text_at texts.now) (G.writer_at growing.now) path.now files.old
+        (Q.gives asked.now path.now) Q.AreRefused result
+        (W.contents out.old) (W.contents out.new) }
+{
+    match asked.with_files(alloc, files, err) {
+        Ok(asked) => show_file(texts, growing, alloc, path, &asked, out, err),
+        Err(fault) => report_fault(fault, err),
+    }
+}
