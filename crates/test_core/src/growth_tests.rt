@@ -1,127 +1,199 @@
-//! Growths are refused in turn, on heaps of more and more room. A refused adoption leaves the core as it was, and a
-//! call with room again succeeds.
+//! Growths are refused in turn, by less more room from one try to the next than the least growth takes. A refused
+//! adoption changes nothing, and one with room again is made.
 
-use crate::steps::add_steps;
-use core_steps::Core;
-use init_words::{Answer, ChildNumber, Id, Memory, Refusal};
-use inittab_text::Table;
+use crate::cores::core_over;
+use crate::records::records_over;
+use crate::runs::{Subject, goes_on, table_of};
+use core_records::{Record, Records};
+use init_words::{Act, Id, Level, Refusal};
 use linked_list_allocator::LocalHeap;
 use std::alloc::Global;
-use std::test::Fail;
 
-const BEFORE: &[u8] = b"a:S:respawn:x\nb:S:off:y\n";
-
-const AFTER: &[u8] = b"b:S:once:z\nc:S:wait:w\nd:S:off:v\n";
-
-/// Bytes that keep an adoption from growing, and that are enough for it.
-const FILLER: usize = 8192;
-
-/// What a heap refuses.
-enum Refused {
-    New,
-    Adoption,
-    Nothing,
-    /// The core is another than it was.
-    Wrong,
+/// A run up to an adoption, what is so where that is refused, and what comes of it where it is made.
+struct Scarce<'a> {
+    what: &'a str,
+    inittab: &'a str,
+    begun: &'a str,
+    call: &'a str,
+    refused: &'a str,
+    made: &'a str,
 }
 
-fn table_of<'a>(heap: &'a LocalHeap, text: &[u8]) -> Option<Table<&'a LocalHeap>> {
-    let (table, _) = inittab_text::read(heap, text).ok()?;
-    Some(table)
-}
+const SCARCE: &[Scarce] = &[
+    // Before the level is settled.
+    Scarce {
+        what: "core",
+        inittab: "a:S:respawn:x\nb:S:off:y",
+        begun: "enter sysinit 5 / enter S 5 / ask a start / birth a 700 / then",
+        call: "use b:S:once:z\nc:S:wait:w\nd:S:off:v",
+        refused: "entries 2 / records 2 / settle S",
+        made: "entries 3 / records 4 / ask a term",
+    },
+    // Whose end is awaited is told where no memory is left.
+    Scarce {
+        what: "core",
+        inittab: "a:S:once:x\nb:S:wait:y",
+        begun: "enter sysinit 5 / enter S 5 / ask a start / ask b start / birth a 7 / birth b 8",
+        call: "use b:S:wait:y",
+        refused: "awaits b 8 waited for",
+        made: "ask a term / awaits b 8 waited for, a 7 excluded",
+    },
+    // One child was sent SIGTERM, and a SIGTERM is open for the other; the first, held, is the second of its id.
+    Scarce {
+        what: "records",
+        inittab: "a:3:respawn:x\nb:3:once:y",
+        begun: "ask a start / birth a 701 / ask a look / reaped a 701 exit 3 / ask a start / birth a 4294967295 / \
+                ask b start / birth b 701 / judge 4 / hold a / ask a term / clock 7 / hit a / ask b term",
+        call: "use b:3:once:z\nc:3:wait:w",
+        refused: "shows a 5-ta----, b 1tda---- / number a 4294967295 / number b 701 / child 4294967295 a / child 701 b / \
+                  starts a 1000000000000 1000000000000 / held a 1000000000300 / last a 3 / termed 7",
+        made: "shows b 1tda----, c --------, a 5-t----x / number a 4294967295 / number b 701 / child 4294967295 a / \
+               child 701 b / starts a none / held a none / last a 3 / termed 7",
+    },
+];
 
-/// The table and the records are so many, and these are the next steps.
-fn is_so(alloc: Global, core: &mut Core<&LocalHeap>, sizes: (usize, usize), steps: &[u8]) -> bool {
-    let mut text = Vec::new(alloc);
-    add_steps(alloc, &mut text, core).is_ok()
-        && (core.table().len(), core.slots().len()) == sizes
-        && text.as_slice() == steps
-}
+const SIZES: &[usize] = &[4096, 256, 64, 16];
 
-/// The first steps, and a child.
-fn is_begun(alloc: Global, core: &mut Core<&LocalHeap>, id: Id) -> bool {
-    is_so(
-        alloc,
-        core,
-        (2, 2),
-        b"enter sysinit 5 / enter S 5 / ask a start",
-    ) && core.answer(id, Answer::Born(ChildNumber(700))) == Ok(())
-}
-
-/// Whether an adoption is refused while the filler stands; none where there is no room for the filler.
-fn is_refused<'a>(
-    heap: &'a LocalHeap,
-    core: &mut Core<&'a LocalHeap>,
-    table: Table<&'a LocalHeap>,
-) -> Option<bool> {
-    let _filler: Vec<u8, &LocalHeap> = Vec::with_capacity(heap, FILLER).ok()?;
-    Some(core.adopt(table) == Err(Refusal::Memory))
-}
-
-/// An adoption with room is made; none where there is no room for the table.
-fn is_made<'a>(alloc: Global, heap: &'a LocalHeap, core: &mut Core<&'a LocalHeap>) -> Option<bool> {
-    let table = table_of(heap, AFTER)?;
-    Some(core.adopt(table) == Ok(()) && is_so(alloc, core, (3, 4), b"ask a term"))
-}
-
-/// An adoption is refused before the level is settled, and leaves the core; the next one has room.
-fn refused_then_made<'a>(
-    alloc: Global,
-    heap: &'a LocalHeap,
-    core: &mut Core<&'a LocalHeap>,
-    id: Id,
-) -> Option<Refused> {
-    if !is_begun(alloc, core, id) {
-        return Some(Refused::Wrong);
-    }
-    if !is_refused(heap, core, table_of(heap, AFTER)?)? {
-        return Some(Refused::Nothing);
-    }
-    if is_so(alloc, core, (2, 2), b"settle S") && is_made(alloc, heap, core)? {
-        Some(Refused::Adoption)
-    } else {
-        Some(Refused::Wrong)
-    }
-}
-
-/// What is refused on a heap; none where it is something else.
-fn refused_on(alloc: Global, heap: &LocalHeap, id: Id) -> Option<Refused> {
-    match Core::new(heap, table_of(heap, BEFORE)?, None) {
-        Ok(mut core) => refused_then_made(alloc, heap, &mut core, id),
-        Err(Memory) => Some(Refused::New),
-    }
-}
-
-fn refused_in(alloc: Global, room: usize, id: Id) -> Option<Refused> {
-    let heap = LocalHeap::new(alloc, room).ok()?;
-    refused_on(alloc, &heap, id)
-}
-
-/// How many heaps refuse a core, how many an adoption, and how many neither; none where a core is wrong. From one heap to
-/// the next there is less more room than the least growth takes, so that each growth is refused on some heap.
-fn counts(alloc: Global, id: Id) -> Option<(usize, usize, usize)> {
-    let mut new = 0usize;
-    let mut adopted = 0usize;
-    let mut none = 0usize;
-    for step in 1..1600usize {
-        match refused_in(alloc, 16 * step, id) {
-            Some(Refused::New) => new = new.wrapping_add(1),
-            Some(Refused::Adoption) => adopted = adopted.wrapping_add(1),
-            Some(Refused::Nothing) => none = none.wrapping_add(1),
-            Some(Refused::Wrong) => return None,
-            None => {}
+/// Takes what a heap has left but the given number of bytes, in blocks of falling sizes, up to 64 of each.
+fn fill<'a>(own: Global, heap: &'a LocalHeap, room: usize) -> Option<Vec<Vec<u8, &'a LocalHeap>>> {
+    let _kept = Vec::<u8, &LocalHeap>::with_capacity(heap, room).ok()?;
+    let mut fillers = Vec::new(own);
+    for size in SIZES {
+        for _ in 0..64 {
+            let Ok(filler) = Vec::with_capacity(heap, *size) else {
+                break;
+            };
+            fillers.push(filler).ok()?;
         }
     }
-    Some((new, adopted, none))
+    Some(fillers)
+}
+
+/// Two heaps: of the first so much is left, the other has ample room.
+#[derive(Drop)]
+struct Heaps<'a> {
+    own: Global,
+    scarce: &'a LocalHeap,
+    ample: &'a LocalHeap,
+    room: usize,
+}
+
+/// Whether an adoption is refused while so much is left, and nothing is changed then.
+fn is_refused<'a, S: Subject<&'a LocalHeap>>(
+    heaps: &Heaps<'a>,
+    subject: &mut S,
+    row: &Scarce,
+) -> Option<bool> {
+    let Heaps { own, ample, .. } = *heaps;
+    let _fillers = fill(own, heaps.scarce, heaps.room)?;
+    if !subject.goes(own, ample, row.call, Err(Refusal::Memory)) {
+        return Some(false);
+    }
+    goes_on(own, ample, subject, row.refused).then_some(true)
+}
+
+/// Whether an adoption is refused while so much is left; with all of it, it is made.
+fn tried_on<'a, S: Subject<&'a LocalHeap>>(
+    heaps: &Heaps<'a>,
+    subject: &mut S,
+    row: &Scarce,
+) -> Option<bool> {
+    let Heaps { own, ample, .. } = *heaps;
+    if !goes_on(own, ample, subject, row.begun) {
+        return None;
+    }
+    let refused = is_refused(heaps, subject, row)?;
+    if refused && !subject.goes(own, ample, row.call, Ok(())) {
+        return None;
+    }
+    goes_on(own, ample, subject, row.made).then_some(refused)
+}
+
+fn tried_in(heaps: &Heaps, row: &Scarce) -> Option<bool> {
+    let table = table_of(heaps.ample, row.inittab)?;
+    if row.what == "core" {
+        let mut core = core_over(heaps.own, heaps.scarce, table, None).ok()?;
+        return tried_on(heaps, &mut *core, row);
+    }
+    let mut records = records_over(heaps.own, heaps.scarce, table).ok()?;
+    tried_on(heaps, &mut *records, row)
+}
+
+fn tried(own: Global, row: &Scarce, room: usize) -> Option<bool> {
+    let scarce = LocalHeap::new(own, 16_384).ok()?;
+    let ample = LocalHeap::new(own, 16_384).ok()?;
+    let heaps = Heaps {
+        own,
+        scarce: &scarce,
+        ample: &ample,
+        room,
+    };
+    tried_in(&heaps, row)
 }
 
 #[test]
-fn refused_growths(rt: HostRuntime) -> Result<(), Fail> {
-    let id = Id::read(b"a").ok_or("no id")?;
-    let (new, adopted, none) = counts(rt.alloc(), id).ok_or("a wrong core")?;
-    assert!(rt;
-        new > 3 && adopted > 3 && none > 8,
-        "{new} {adopted} {none}"
+fn a_table_without_room_is_not_adopted(rt: HostRuntime) {
+    for row in SCARCE {
+        let (mut refused, mut made) = (0u32, 0u32);
+        for step in 0..300usize {
+            match tried(rt.alloc(), row, 16 * step) {
+                Some(true) => refused = refused.saturating_add(1),
+                Some(false) => made = made.saturating_add(1),
+                None => panic!(rt; "{} at {step}", row.begun),
+            }
+        }
+        assert!(rt; refused > 3 && made > 8, "{refused} {made}");
+    }
+}
+
+/// Whether the list of one record has room on a heap.
+fn is_rebuilt(heap: &LocalHeap, ample: &LocalHeap) -> Option<bool> {
+    let act = Some(Act::Respawn);
+    let slot = Record::of(
+        Id::read(b"a")?,
+        act,
+        None,
+        None,
+        None,
+        false,
+        false,
+        false,
+        false,
+        &[],
+        None,
+        None,
     );
-    Ok(())
+    let mut given = Vec::new(ample);
+    given.push(slot).ok()?;
+    Some(Records::rebuilt(heap, given).is_ok())
+}
+
+/// Whether it has room on a heap, over a table that lies in another one.
+fn has_room(own: Global, heap: &LocalHeap, what: &str) -> Option<bool> {
+    let ample = LocalHeap::new(own, 16_384).ok()?;
+    let table = table_of(&ample, "a:S:respawn:x\nb:S:off:y")?;
+    match what {
+        "core" => Some(core_over(own, heap, table, None).is_ok()),
+        "records" => Some(records_over(own, heap, table).is_ok()),
+        _ => is_rebuilt(heap, &ample),
+    }
+}
+
+/// How many heaps, each with less more room than the least growth takes, have none for this until one has.
+fn refusals(own: Global, what: &str) -> Option<usize> {
+    for step in 0..1600usize {
+        let heap = LocalHeap::new(own, 16 * step).ok()?;
+        if has_room(own, &heap, what)? {
+            return Some(step);
+        }
+    }
+    None
+}
+
+#[test]
+fn what_has_no_room_is_not_made(rt: HostRuntime) {
+    for what in ["core", "records", "rebuilt"] {
+        let refused = refusals(rt.alloc(), what);
+        assert!(rt; refused > Some(3), "{what}: {refused:?}");
+    }
 }

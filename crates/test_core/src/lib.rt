@@ -3,20 +3,12 @@
 #![tactic(auto)]
 
 #[cfg(test)]
-mod awaited;
-#[cfg(test)]
-mod awaited_tests;
+mod cores;
 #[cfg(test)]
 mod growth_tests;
 #[cfg(test)]
-mod record_growth_tests;
-#[cfg(test)]
-mod record_run_tests;
+mod records;
 #[cfg(test)]
 mod run_tests;
 #[cfg(test)]
 mod runs;
-#[cfg(test)]
-mod shown;
-#[cfg(test)]
-mod steps;

@@ -1,6 +1,7 @@
-//! Runs of a core, worked out by hand from the rules of init.
+//! Runs of a core, and of records by themselves, worked out by hand from the rules of init.
 
-use crate::runs::is_run;
+use crate::cores::is_core_run;
+use crate::records::is_records_run;
 use init_words::Level;
 
 /// Where a start is not answered, and after it.
@@ -14,7 +15,7 @@ const ALL: &str =
     "id:3:initdefault:\ns::sysinit:a\nb::bootwait:b\no:3:once:c\nd:A:ondemand:d\np:3:powerfail:e";
 
 /// An inittab, an opening level, and the run.
-const RUNS: &[(&str, Option<Level>, &str)] = &[
+const CORES: &[(&str, Option<Level>, &str)] = &[
     // The goal is the level that is given, else the table's, else S.
     (
         "",
@@ -30,8 +31,8 @@ const RUNS: &[(&str, Option<Level>, &str)] = &[
     (
         WAITED,
         None,
-        "entries 3 / records 3 / enter sysinit 5 / enter boot 5 / enter 3 5 / ask w start / still r / not asked / \
-         still x / not asked / hit w / wrong answer / use # / not quiet / use w:3:wait:prep\nr:3:respawn:serv / \
+        "entries 3 / records 3 / enter sysinit 5 / enter boot 5 / enter 3 5 / ask w start / still r ! not asked / \
+         still x ! not asked / hit w ! wrong answer / use # ! not quiet / use w:3:wait:prep\nr:3:respawn:serv ! \
          not quiet / entries 3 / records 3 / birth w 10 / nudge / ask w look / reaped w 10 exit 0 / ask r start / \
          birth r 11 / settle 3",
     ),
@@ -39,27 +40,27 @@ const RUNS: &[(&str, Option<Level>, &str)] = &[
     (
         WAIT,
         None,
-        "enter sysinit 5 / enter boot 5 / enter 3 5 / ask w start / reaped w 9 killed / wrong answer / \
-         still w / wrong answer / nolook w / wrong answer / hit w / wrong answer / miss w / wrong answer / \
-         nobirth w / settle 3 / nobirth w / not asked",
+        "enter sysinit 5 / enter boot 5 / enter 3 5 / ask w start / reaped w 9 killed ! wrong answer / \
+         still w ! wrong answer / nolook w ! wrong answer / hit w ! wrong answer / miss w ! wrong answer / \
+         nobirth w / settle 3 / nobirth w ! not asked",
     ),
     (
         WAIT,
         None,
-        "enter sysinit 5 / enter boot 5 / enter 3 5 / ask w start / birth w 9 / birth w 9 / not asked / \
-         nudge / ask w look / birth w 9 / wrong answer / nobirth w / wrong answer / hit w / wrong answer / \
-         miss w / wrong answer / still w / still w / not asked / nudge / ask w look / nolook w / nolook w / \
-         not asked / nudge / ask w look / reaped w 9 exit 1 / settle 3 / reaped w 9 exit 1 / not asked",
+        "enter sysinit 5 / enter boot 5 / enter 3 5 / ask w start / birth w 9 / birth w 9 ! not asked / \
+         nudge / ask w look / birth w 9 ! wrong answer / nobirth w ! wrong answer / hit w ! wrong answer / \
+         miss w ! wrong answer / still w / still w ! not asked / nudge / ask w look / nolook w / nolook w ! \
+         not asked / nudge / ask w look / reaped w 9 exit 1 / settle 3 / reaped w 9 exit 1 ! not asked",
     ),
     (
         WAIT,
         None,
         "enter sysinit 5 / enter boot 5 / enter 3 5 / ask w start / birth w 9 / got level 1 0 / reread / \
-         notread / enter 1 0 / ask w term / birth w 9 / wrong answer / nobirth w / wrong answer / \
-         reaped w 9 killed / wrong answer / still w / wrong answer / nolook w / wrong answer / miss w / \
-         miss w / not asked / nudge / ask w term / hit w / ask w kill / birth w 9 / wrong answer / nobirth w / \
-         wrong answer / reaped w 9 killed / wrong answer / still w / wrong answer / nolook w / wrong answer / \
-         miss w / ask w look / still w / nudge / ask w kill / hit w / ask w look / hit w / wrong answer / \
+         notread / enter 1 0 / ask w term / birth w 9 ! wrong answer / nobirth w ! wrong answer / \
+         reaped w 9 killed ! wrong answer / still w ! wrong answer / nolook w ! wrong answer / miss w / \
+         miss w ! not asked / nudge / ask w term / hit w / ask w kill / birth w 9 ! wrong answer / nobirth w ! \
+         wrong answer / reaped w 9 killed ! wrong answer / still w ! wrong answer / nolook w ! wrong answer / \
+         miss w / ask w look / still w / nudge / ask w kill / hit w / ask w look / hit w ! wrong answer / \
          reaped w 9 killed / settle 1",
     ),
     // One number for two children in turn.
@@ -176,7 +177,7 @@ const RUNS: &[(&str, Option<Level>, &str)] = &[
         None,
         "enter sysinit 5 / enter boot 5 / enter 3 5 / ask r start / got level 1 5 / birth r 10 / reread / \
          notread / enter 1 5 / ask r term / clock 100 / clock 40 / time 100 / hit r / clock 104 / clock 105 / \
-         ask r kill / use # / not quiet / miss r / clock 200 / nudge / ask r kill / hit r / ask r look / still r / \
+         ask r kill / use # ! not quiet / miss r / clock 200 / nudge / ask r kill / hit r / ask r look / still r / \
          clock 18446744073709551615 / time 1000000000000 / nudge / ask r look / nolook r / nudge / ask r look / \
          reaped r 10 killed / settle 1",
     ),
@@ -295,11 +296,197 @@ const RUNS: &[(&str, Option<Level>, &str)] = &[
          ask d start / busy / birth d 5 / busy / nudge / ask d look / busy / \
          reaped d 5 exit 0 / ask d start / busy",
     ),
+    // A level excludes a child: it is awaited from there on, whatever its signals came to.
+    (
+        "id:3:initdefault:\nr:3:respawn:serv",
+        None,
+        "awaits none / enter sysinit 5 / enter boot 5 / enter 3 5 / ask r start / awaits none / birth r 10 / settle 3 / \
+         awaits none / got level 1 5 / reread / awaits none / notread / enter 1 5 / ask r term / \
+         awaits r 10 excluded / miss r / awaits r 10 excluded / nudge / ask r term / hit r / ask r look / still r / \
+         awaits r 10 excluded / clock 5 / ask r kill / hit r / awaits r 10 excluded / nudge / ask r look / \
+         reaped r 10 killed / settle 1 / awaits none",
+    ),
+    // Back in its level it is awaited no more.
+    (
+        "id:3:initdefault:\nr:3:respawn:serv",
+        None,
+        "enter sysinit 5 / enter boot 5 / enter 3 5 / ask r start / birth r 10 / settle 3 / got level 1 5 / reread / \
+         notread / enter 1 5 / ask r term / hit r / awaits r 10 excluded / got level 3 5 / reread / notread / \
+         enter 3 5 / settle 3 / awaits none",
+    ),
+    // A table excludes a child, by its action and without its id. Those of ids that left it come last.
+    (
+        "a:S:once:x\nb:S:once:y",
+        None,
+        "enter sysinit 5 / enter S 5 / ask a start / ask b start / birth a 1 / birth b 2 / settle S / awaits none / \
+         use b:S:wait:y / ask b term / ask a term / awaits b 2 excluded, a 1 excluded",
+    ),
+    // Init waits for a child in Sysinit, in Boot, and in a level before it starts a later entry.
+    (
+        "id:3:initdefault:\ns::sysinit:a\nb::bootwait:b\nw:3:wait:prep\nr:3:respawn:serv",
+        None,
+        "enter sysinit 5 / ask s start / awaits none / birth s 1 / awaits s 1 waited for / nudge / ask s look / \
+         awaits s 1 waited for / reaped s 1 exit 0 / enter boot 5 / ask b start / birth b 2 / \
+         awaits b 2 waited for / nudge / ask b look / reaped b 2 exit 0 / enter 3 5 / ask w start / birth w 3 / \
+         awaits w 3 waited for / nudge / ask w look / reaped w 3 exit 0 / ask r start / birth r 4 / settle 3 / \
+         awaits none",
+    ),
+    // A once entry of both levels starts again in the second, once its child of the first is gone.
+    (
+        "id:3:initdefault:\no:23:once:x",
+        None,
+        "enter sysinit 5 / enter boot 5 / enter 3 5 / ask o start / birth o 7 / settle 3 / awaits none / \
+         got level 2 5 / reread / notread / enter 2 5 / awaits o 7 in the way / nudge / ask o look / \
+         awaits o 7 in the way / reaped o 7 exit 0 / ask o start / awaits none / nobirth o / settle 2",
+    ),
+    // Two reasons at once, in the order of the table and not in that of their births.
+    (
+        "id:3:initdefault:\nr:3:respawn:x\no:23:once:y",
+        None,
+        "enter sysinit 5 / enter boot 5 / enter 3 5 / ask r start / ask o start / birth o 8 / birth r 7 / settle 3 / \
+         got level 2 5 / reread / notread / enter 2 5 / ask r term / awaits r 7 excluded, o 8 in the way / hit r / \
+         awaits r 7 excluded, o 8 in the way",
+    ),
+    (
+        "id:3:initdefault:\no:23:once:y\nr:3:respawn:x",
+        None,
+        "enter sysinit 5 / enter boot 5 / enter 3 5 / ask o start / ask r start / birth o 8 / birth r 7 / settle 3 / \
+         got level 2 5 / reread / notread / enter 2 5 / ask r term / awaits o 8 in the way, r 7 excluded",
+    ),
+    // In a settled level, what news of the power calls; and a respawn entry is not awaited.
+    (
+        "id:3:initdefault:\np:3:powerwait:e\nr:3:respawn:x",
+        None,
+        "enter sysinit 5 / enter boot 5 / enter 3 5 / ask r start / birth r 7 / settle 3 / awaits none / \
+         got power fail / power fail / ask p start / birth p 8 / awaits p 8 waited for / nudge / ask p look / ask r look / \
+         reaped p 8 exit 0 / awaits none",
+    ),
+    (
+        "id:3:initdefault:\np:3:powerfail:e",
+        None,
+        "enter sysinit 5 / enter boot 5 / enter 3 5 / settle 3 / got power fail / power fail / ask p start / \
+         birth p 8 / awaits none / got power fail / power fail / awaits p 8 in the way / nudge / ask p look / \
+         reaped p 8 exit 0 / ask p start / awaits none",
+    ),
+];
+
+/// Two entries of runlevel 3.
+const BOTH: &str = "a:3:respawn:x\nb:3:once:y";
+
+/// An inittab, and the run of its records.
+const RECORDS: &[(&str, &str)] = &[
+    ("", "quiet / shows none"),
+    (BOTH, "quiet / shows a --------, b --------"),
+    (
+        BOTH,
+        "still a ! not asked / still z ! not asked / ask a start / hit a ! wrong answer / busy / shows a -s-a----, \
+         b --------",
+    ),
+    // A failed start counts as asked.
+    (
+        BOTH,
+        "ask b start / nobirth b / shows a --------, b ---a----",
+    ),
+    // A failed look forgets nothing, and looks leave the point quiet.
+    (
+        BOTH,
+        "ask a start / birth a 700 / nudge / ask a look / quiet / nolook a / shows a 0--a----, b --------",
+    ),
+    // Two children with one number, of which the first was reaped.
+    (
+        BOTH,
+        "child 700 / ask a start / ask b start / birth a 700 / nudge / ask a look / birth b 700 / child 700 a / \
+         reaped a 700 exit 0 / child 700 b / shows a ---a----, b 0--a----",
+    ),
+    // A child that the stage excludes is stopped, and a killed one stays until it is reaped.
+    (
+        BOTH,
+        "ask a start / birth a 700 / judge 1 / ask a term / miss a / shows a 0-da--m-, b --------",
+    ),
+    (
+        BOTH,
+        "ask a start / birth a 700 / judge 1 / ask a term / hit a / ask a kill / hit a / shows a 0-ka----, b \
+         --------",
+    ),
+    // Back in its stage nothing is left of the stop.
+    (
+        BOTH,
+        "ask a start / birth a 700 / judge 1 / ask a term / miss a / judge 3 / shows a 0--a----, b --------",
+    ),
+    // An id that left the table stays for its child, and goes with it.
+    (
+        BOTH,
+        "ask a start / birth a 700 / ask b start / use b:3:once:z\nc:3:wait:w / judge 3 / shows b -s-a----, c \
+         --------, a 0-d----x",
+    ),
+    (
+        BOTH,
+        "ask a start / birth a 700 / use b:3:once:z\nc:3:wait:w / nudge / ask a look / reaped a 700 killed / shows \
+         b --------, c --------",
+    ),
+    // With another action it was not asked.
+    (
+        BOTH,
+        "ask a start / birth a 700 / use a:3:once:x / judge 3 / shows a 0-d-----",
+    ),
+    // A stage forgets calls, and a start answers one.
+    (BOTH, "called a / shows a ----c---, b --------"),
+    (
+        BOTH,
+        "called a / ask b start / enter 3 5 / shows a --------, b -s------",
+    ),
+    (
+        BOTH,
+        "called b / ask b start / shows a --------, b -s-a----",
+    ),
+    (
+        BOTH,
+        "none due / termed none / shows a --------, b --------",
+    ),
+    // A stop is due from the judging on until the signal is sent.
+    (
+        BOTH,
+        "ask a start / birth a 700 / none due / judge 1 / due / ask a term / due / termed none / clock 30 / hit a / \
+         none due / termed 30 / shows a 0-ta----, b --------",
+    ),
+    // The first of two, then the second, and then none.
+    (
+        BOTH,
+        "ask a start / ask b start / birth a 700 / birth b 701 / judge 1 / ask a term / ask b term / clock 30 / \
+         hit a / due / clock 40 / hit b / none due / termed 30 / ask a kill / termed 30 / clock 50 / hit a / termed 40 \
+         / nudge / ask b look / reaped b 701 killed / termed none / shows a 0-ka-l--, b ---a----",
+    ),
+    // The earlier of two is that of the later record, and a judging that excludes none leaves none.
+    (
+        BOTH,
+        "ask a start / ask b start / birth a 700 / birth b 701 / judge 1 / ask a term / ask b term / clock 40 / \
+         hit a / termed 40 / clock 30 / hit b / termed 30 / judge 1 / termed 30 / judge 3 / termed none / none due / \
+         shows a 0--a----, b 1--a----",
+    ),
+    // An id that left the table keeps its stop, which goes with it.
+    (
+        BOTH,
+        "ask a start / birth a 700 / judge 1 / ask a term / clock 30 / hit a / use b:3:once:z\nc:3:wait:w / termed \
+         30 / nudge / ask a look / reaped a 700 killed / termed none / shows b --------, c --------",
+    ),
 ];
 
 #[test]
-fn runs(rt: HostRuntime) {
-    for (inittab, level, run) in RUNS {
-        assert!(rt; is_run(rt.alloc(), inittab, *level, run), "{run}");
+fn runs_of_cores(rt: HostRuntime) {
+    for (inittab, level, run) in CORES {
+        assert!(rt;
+            is_core_run(rt.alloc(), inittab, *level, run) == Some(true),
+            "{run}"
+        );
+    }
+}
+
+#[test]
+fn runs_of_records(rt: HostRuntime) {
+    for (inittab, run) in RECORDS {
+        assert!(rt;
+            is_records_run(rt.alloc(), inittab, run) == Some(true),
+            "{run}"
+        );
     }
 }

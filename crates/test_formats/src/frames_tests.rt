@@ -62,25 +62,34 @@ fn ints_are_read(rt: HostRuntime) {
     }
 }
 
-fn is_written(request: &Request, ints: &[u8; 16], want: HeardRequest) -> bool {
-    encode(request) == block_of(ints) && meaning(request) == want
-}
+/// A character of telinit(8) or news of the power, the ints of its block, and what that asks for.
+const WRITTEN: &[(Option<u8>, &[u8; 16], HeardRequest)] = &[
+    (Some(b'q'), &RELOAD, HeardRequest::Reload),
+    (None, &POWER_BACK, HeardRequest::Power(PowerKind::Ok)),
+];
 
-fn is_reload_written() -> bool {
-    let Some(sign) = Sign::read(b'q') else {
-        return false;
+/// The request of a character, for 5 seconds; of none, that the power is back.
+fn request_of(code: Option<u8>) -> Option<Request> {
+    let Some(code) = code else {
+        return Some(Request::Power(PowerKind::Ok));
     };
-    sign.code() == b'q' && is_written(&Request::Runlvl(sign, 5), &RELOAD, HeardRequest::Reload)
+    let sign = Sign::read(code)?;
+    (sign.code() == code).then_some(Request::Runlvl(sign, 5))
 }
 
-fn is_power_written() -> bool {
-    let back = HeardRequest::Power(PowerKind::Ok);
-    is_written(&Request::Power(PowerKind::Ok), &POWER_BACK, back)
+fn is_written(code: Option<u8>, ints: &[u8; 16], want: HeardRequest) -> bool {
+    match request_of(code) {
+        Some(request) => encode(&request) == block_of(ints) && meaning(&request) == want,
+        None => false,
+    }
 }
 
 #[test]
 fn requests_are_written(rt: HostRuntime) {
-    assert!(rt; is_reload_written() && is_power_written() && Sign::read(b'x').is_none());
+    for (code, ints, want) in WRITTEN {
+        assert!(rt; is_written(*code, ints, *want), "{code:?}");
+    }
+    assert!(rt; Sign::read(b'x').is_none());
 }
 
 /// Whether of the piece the given number of bytes are taken, this is got, and the given number of bytes of a block are
@@ -175,20 +184,15 @@ fn are_heard_of_cuts(bytes: &[u8; 1152]) -> bool {
     true
 }
 
+/// What is past the room is left out.
+fn is_first_alone(block: &[u8; BLOCK]) -> bool {
+    let mut room = [HeardRequest::Reexec];
+    read_pieces(&[block, block], &mut room) == 1 && room == [HeardRequest::Reload]
+}
+
 #[test]
 fn cuts_change_nothing(rt: HostRuntime) {
-    assert!(rt; are_heard_of_cuts(&three_blocks()));
-}
-
-fn is_first_alone() -> bool {
-    let reload = block_of(&RELOAD);
-    let mut room = [HeardRequest::Reexec];
-    read_pieces(&[&reload, &reload], &mut room) == 1 && room == [HeardRequest::Reload]
-}
-
-#[test]
-fn requests_past_the_room_are_left_out(rt: HostRuntime) {
-    assert!(rt; is_first_alone());
+    assert!(rt; are_heard_of_cuts(&three_blocks()) && is_first_alone(&block_of(&RELOAD)));
 }
 
 /// The block is one request, whatever its bytes are, and nothing of it is kept.

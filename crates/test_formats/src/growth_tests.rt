@@ -1,114 +1,173 @@
 //! Growths are refused in turn, on heaps of more and more room, until a call meets no refusal: what is answered is lack
 //! of memory, and a table that was there is as it was.
 
-use init_words::{Memory, Part};
+use crate::inittab_tests::part_of;
+use init_words::{Id, Memory, Part};
+use inittab_lint::{Found, LineWarning, Warning, id_lines, lint_parts, warnings};
 use inittab_text::{Table, TableFault, read_parts};
 use linked_list_allocator::LocalHeap;
-use std::alloc::Global;
+use std::alloc::{Allocator, Global};
 use std::test::Fail;
-
-/// A call that grows.
-#[derive(Clone, Copy)]
-enum Call {
-    Read,
-    ReadParts,
-    Write,
-    ReadWritten,
-    Copy,
-}
 
 /// A text with two entries and two faults, and the two entries as they are written.
 const TEXT: &[u8] = b"id:3:initdefault:\nnothing\na:3:respawn:/bin/x 1\na:3:once:twice\n";
 
 const WRITTEN: &[u8] = b"id:3:initdefault:\na:3:respawn:/bin/x 1\n";
 
-/// From one heap to the next there is less more room than the least growth takes, so that each growth is refused on
-/// some heap.
-const STEP: usize = 16;
+/// Two files with a fault and two warnings.
+const FILES: [&[u8]; 2] = [b"a:3:onec:x\nb:3:once:x & \n", b"c:x:once:x\n"];
 
-const CALLS: &[(Call, &str)] = &[
-    (Call::Read, "read"),
-    (Call::ReadParts, "read_parts"),
-    (Call::Write, "write"),
-    (Call::ReadWritten, "read_written"),
-    (Call::Copy, "copy"),
+/// What is told of them.
+const TOLD: &str =
+    "a:1: unknown action onec: once?\na:2: warning: & ends the shell at once, and init takes its child for ended: take it out\nb:1: warning: a character of the runlevels counts for nothing: name each level (2345)\nb:1: warning: nothing starts it: its runlevels name no level\nb:1: warning: its program is in none of the folders: mend the line, or the folders\na: warning: no initdefault names a level: init goes to S\n";
+
+/// What the caller warns of.
+const MISSING: [LineWarning; 1] = [LineWarning {
+    part: 1,
+    line: 1,
+    kind: Warning::Missing,
+}];
+
+const WARNINGS: [LineWarning; 3] = [
+    LineWarning {
+        part: 0,
+        line: 2,
+        kind: Warning::Background,
+    },
+    LineWarning {
+        part: 1,
+        line: 1,
+        kind: Warning::Runlevel,
+    },
+    LineWarning {
+        part: 1,
+        line: 1,
+        kind: Warning::NoLevel,
+    },
 ];
 
+/// What is told of the lines of `a`.
+const OWN: &str = "a:1: unknown action onec: once?\n";
+
 /// The table has these entries.
-fn is_table<A: std::alloc::Allocator>(alloc: Global, table: &Table<A>) -> Result<bool, Memory> {
-    Ok(inittab_text::write(alloc, table)?.as_slice() == WRITTEN)
+fn is_table<A: Allocator>(own: Global, table: &Table<A>) -> Result<bool, Memory> {
+    Ok(inittab_text::write(own, table)?.as_slice() == WRITTEN)
 }
 
-/// The text, cut in two parts.
-fn two_parts(alloc: Global) -> Result<[Part; 2], Memory> {
-    Ok([part_of(alloc, &TEXT[..26])?, part_of(alloc, &TEXT[26..])?])
-}
-
-fn part_of(alloc: Global, text: &[u8]) -> Result<Part, Memory> {
-    Ok(Part {
-        name: String::new(alloc),
-        bytes: Vec::from_slice(alloc, text)?,
-    })
-}
-
-fn parts_answer(alloc: Global, heap: &LocalHeap) -> Result<Option<bool>, Memory> {
-    match read_parts(heap, &two_parts(alloc)?) {
-        Ok((read, faults)) => Ok(Some(faults.len() == 2 && is_table(alloc, &read)?)),
-        Err(TableFault::Memory) => Ok(None),
-        Err(TableFault::TooLong | TableFault::Parts) => Ok(Some(false)),
+/// The answer of a call over two parts of the text is right.
+fn is_read(own: Global, heap: &LocalHeap, parts: &[Part], call: &str) -> Result<bool, TableFault> {
+    if call == "read" {
+        let (table, faults) = inittab_text::read(heap, TEXT)?;
+        return Ok(faults.len() == 2 && is_table(own, &table)?);
     }
+    let (table, faults) = read_parts(heap, parts)?;
+    Ok(faults.len() == 2 && is_table(own, &table)?)
 }
 
-/// The call's answer on a heap is right; where it is a refusal, it is one for lack of memory, given as `None`.
-fn answer(
-    alloc: Global,
-    heap: &LocalHeap,
-    table: &Table,
-    call: Call,
-) -> Result<Option<bool>, Memory> {
+/// The answer of a call over a table is right, and leaves it as it was.
+fn is_kept(own: Global, heap: &LocalHeap, table: &Table, call: &str) -> Result<bool, TableFault> {
     match call {
-        Call::Read => match inittab_text::read(heap, TEXT) {
-            Ok((read, faults)) => Ok(Some(faults.len() == 2 && is_table(alloc, &read)?)),
-            Err(TableFault::Memory) => Ok(None),
-            Err(TableFault::TooLong | TableFault::Parts) => Ok(Some(false)),
-        },
-        Call::ReadParts => parts_answer(alloc, heap),
-        Call::Write => match inittab_text::write(heap, table) {
-            Ok(text) => Ok(Some(text.as_slice() == WRITTEN)),
-            Err(Memory) => Ok(None),
-        },
-        Call::ReadWritten => match inittab_text::read_written(heap, WRITTEN) {
-            Ok(Some(read)) => Ok(Some(is_table(alloc, &read)?)),
-            Ok(None) => Ok(Some(false)),
-            Err(Memory) => Ok(None),
-        },
-        Call::Copy => match table.copy(heap) {
-            Ok(copy) => Ok(Some(is_table(alloc, &copy)?)),
-            Err(Memory) => Ok(None),
+        "write" => Ok(
+            inittab_text::write(heap, table)?.as_slice() == WRITTEN && is_table(own, table)?,
+        ),
+        "copy" => Ok(is_table(own, &table.copy(heap)?)? && is_table(own, table)?),
+        _ => match inittab_text::read_written(heap, WRITTEN)? {
+            Some(read) => Ok(is_table(own, &read)?),
+            None => Ok(false),
         },
     }
 }
 
-/// How many heaps refuse the call before one has room for it, and the table is as it was; 0 where an answer is wrong.
-fn refusals(alloc: Global, table: &Table, call: Call) -> Result<usize, Fail> {
-    for refused in 0..4096usize {
-        let heap = LocalHeap::new(alloc, STEP * refused)?;
-        let given = answer(alloc, &heap, table, call)?;
-        if given == Some(false) || !is_table(alloc, table)? {
-            return Ok(0);
+/// The answer of a call over the files is right.
+fn is_linted(heap: &LocalHeap, files: &[Part], call: &str) -> Result<bool, TableFault> {
+    match call {
+        "lint_parts" => {
+            let lint = lint_parts(heap, files, &MISSING)?;
+            Ok(lint.found == Found::Faults && lint.text.as_slice() == TOLD.as_bytes())
         }
-        if given.is_some() {
-            return Ok(refused);
+        "warnings" => match warnings(heap, files) {
+            Ok(found) => Ok(found.as_slice() == WARNINGS.as_slice()),
+            Err(_) => Err(TableFault::Memory),
+        },
+        _ => match Id::read(b"a") {
+            Some(id) => Ok(id_lines(heap, files, &id)?.as_slice() == OWN.as_bytes()),
+            None => Ok(false),
+        },
+    }
+}
+
+/// What the calls are over.
+#[derive(Clone, Copy)]
+struct Given<'a> {
+    table: &'a Table,
+    parts: &'a [Part],
+    files: &'a [Part],
+}
+
+/// The calls that grow.
+const CALLS: &[&str] = &[
+    "read",
+    "read_parts",
+    "write",
+    "read_written",
+    "copy",
+    "lint_parts",
+    "warnings",
+    "id_lines",
+];
+
+/// The call's answer on a heap is right.
+fn is_answered(
+    own: Global,
+    heap: &LocalHeap,
+    given: Given,
+    call: &str,
+) -> Result<bool, TableFault> {
+    let Given {
+        table,
+        parts,
+        files,
+    } = given;
+    match call {
+        "read" | "read_parts" => is_read(own, heap, parts, call),
+        "write" | "read_written" | "copy" => is_kept(own, heap, table, call),
+        _ => is_linted(heap, files, call),
+    }
+}
+
+/// How many heaps refuse the call before one has room for it, each with less more room than the least growth takes, so
+/// that each growth is refused on some heap; none where an answer is wrong.
+fn refusals(own: Global, given: Given, call: &str) -> Option<usize> {
+    for refused in 0..4096usize {
+        let heap = LocalHeap::new(own, 16 * refused).ok()?;
+        match is_answered(own, &heap, given, call) {
+            Ok(true) => return Some(refused),
+            Err(TableFault::Memory) => {}
+            _ => return None,
         }
     }
-    Ok(0)
+    None
 }
 
 #[test]
 fn each_growth_is_refused_once(rt: HostRuntime) -> Result<(), Fail> {
     let (table, _) = inittab_text::read(rt.alloc(), TEXT)?;
-    for (call, name) in CALLS {
-        assert!(rt; refusals(rt.alloc(), &table, *call)? > 1, "{name}");
+    let parts = [
+        part_of(rt.alloc(), "", &TEXT[..26])?,
+        part_of(rt.alloc(), "", &TEXT[26..])?,
+    ];
+    let files = [
+        part_of(rt.alloc(), "a", FILES[0])?,
+        part_of(rt.alloc(), "b", FILES[1])?,
+    ];
+    let given = Given {
+        table: &table,
+        parts: &parts,
+        files: &files,
+    };
+    for call in CALLS {
+        let refused = refusals(rt.alloc(), given, call);
+        assert!(rt; refused > Some(1), "{call}: {refused:?}");
     }
     Ok(())
 }

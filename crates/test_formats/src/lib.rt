@@ -9,8 +9,4 @@ mod growth_tests;
 #[cfg(test)]
 mod inittab_tests;
 #[cfg(test)]
-mod lint_growth_tests;
-#[cfg(test)]
-mod part_tests;
-#[cfg(test)]
 mod respawn_tests;

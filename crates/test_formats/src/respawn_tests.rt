@@ -4,36 +4,68 @@ ghost use Rattle.std.specs.Prelude.{◌≤◌};
 ghost use Rattle.respawn_limit.specs.declared.TheConstants.{CLOCK_LIMIT};
 
 use respawn_limit::{CLOCK_LIMIT, Limiter, May};
-use std::test::Fail;
+
+/// A call of a limiter, or what it gives.
+enum Call {
+    /// Starts that it allows.
+    Starts(&'static [u64]),
+    Hold(u64),
+    Clear,
+    /// The starts that it keeps, and when its hold ends.
+    Kept(&'static [u64], Option<u64>),
+    /// What it answers at a time, and whether it is held then.
+    At(u64, May, bool),
+}
 
 const AT_ONCE: &[u64] = &[0; 10];
 
-const AT_A_MINUTE: &[u64] = &[0, 60, 60, 60, 60, 60, 60, 60, 60, 60];
+/// Ten starts at most are kept, and a hold stands five minutes.
+const RUNS: &[&[Call]] = &[
+    &[
+        Call::Starts(AT_ONCE),
+        Call::Kept(AT_ONCE, None),
+        Call::At(119, May::HoldUntil(419), false),
+        Call::At(120, May::Yes, false),
+        Call::Hold(119),
+        Call::At(418, May::HoldUntil(419), true),
+        Call::At(419, May::Yes, false),
+        Call::Kept(AT_ONCE, Some(419)),
+        Call::Clear,
+        Call::Kept(&[], None),
+        Call::At(119, May::Yes, false),
+    ],
+    &[
+        Call::Starts(&[0, 60, 60, 60, 60, 60, 60, 60, 60, 60]),
+        Call::At(60, May::HoldUntil(360), false),
+        Call::At(119, May::HoldUntil(419), false),
+        Call::At(120, May::Yes, false),
+        // The next start is free at 180.
+        Call::Starts(&[120]),
+        Call::Kept(&[60, 60, 60, 60, 60, 60, 60, 60, 60, 120], None),
+        Call::At(120, May::HoldUntil(420), false),
+        Call::At(179, May::HoldUntil(479), false),
+        Call::At(180, May::Yes, false),
+    ],
+    &[
+        Call::Starts(&[5, 7]),
+        Call::Hold(9),
+        Call::Kept(&[5, 7], Some(309)),
+        Call::At(9, May::HoldUntil(309), true),
+    ],
+];
 
-/// One start is free at 120, and the next at 180.
-const AND_AT_TWO: &[u64] = &[0, 60, 60, 60, 60, 60, 60, 60, 60, 60, 120];
-
-/// Notes a start, as a caller that asks first; gives whether it may be made.
-fn is_noted(limiter: &mut Limiter, time: u64) -> bool {
-    if time > CLOCK_LIMIT || !limiter.starts().iter().all(|start| *start <= time) {
-        return false;
-    }
-    if limiter.may(time) != May::Yes {
-        return false;
-    }
-    limiter.note(time);
-    true
-}
-
-/// The limiter after these starts, one that is new where a start may not be made.
-fn limiter_after(times: &[u64]) -> Limiter {
-    let mut limiter = Limiter::new();
+/// Notes the starts, as a caller that asks first; gives whether each may be made.
+fn are_noted(limiter: &mut Limiter, times: &[u64]) -> bool {
     for &time in times {
-        if !is_noted(&mut limiter, time) {
-            return Limiter::new();
+        if time > CLOCK_LIMIT || !limiter.starts().iter().all(|start| *start <= time) {
+            return false;
         }
+        if limiter.may(time) != May::Yes {
+            return false;
+        }
+        limiter.note(time);
     }
-    limiter
+    true
 }
 
 fn is_alike(limiter: &Limiter, again: &Limiter, now: u64, may: May, held: bool) -> bool
@@ -46,64 +78,35 @@ fn is_alike(limiter: &Limiter, again: &Limiter, now: u64, may: May, held: bool) 
         && again == limiter
 }
 
-/// The limiter answers this now, and so does one made of its parts.
+/// The limiter answers this now, and so do one made of its parts and its copy.
 fn answers(limiter: &Limiter, now: u64, may: May, held: bool) -> bool {
     let again = Limiter::of(limiter.starts(), limiter.held_until());
-    now <= CLOCK_LIMIT && is_alike(limiter, &again, now, may, held)
+    let is_copied = match limiter.clone() {
+        Ok(copy) => copy == *limiter,
+        Err(_) => false,
+    };
+    is_copied && now <= CLOCK_LIMIT && is_alike(limiter, &again, now, may, held)
 }
 
-/// Starts, a time after them, and what is answered then.
-const ROWS: &[(&[u64], u64, May)] = &[
-    (AT_ONCE, 119, May::HoldUntil(419)),
-    (AT_ONCE, 120, May::Yes),
-    (AT_A_MINUTE, 60, May::HoldUntil(360)),
-    (AT_A_MINUTE, 119, May::HoldUntil(419)),
-    (AT_A_MINUTE, 120, May::Yes),
-    (AND_AT_TWO, 120, May::HoldUntil(420)),
-    (AND_AT_TWO, 179, May::HoldUntil(479)),
-    (AND_AT_TWO, 180, May::Yes),
-];
+fn goes(limiter: &mut Limiter, call: &Call) -> bool {
+    match *call {
+        Call::Starts(times) => return are_noted(limiter, times),
+        Call::Hold(now) => limiter.hold(now.min(CLOCK_LIMIT)),
+        Call::Clear => limiter.clear(),
+        Call::Kept(starts, until) => {
+            return limiter.starts() == starts && limiter.held_until() == until;
+        }
+        Call::At(now, may, held) => return answers(limiter, now, may, held),
+    }
+    true
+}
 
 #[test]
 fn the_window_slides(rt: HostRuntime) {
-    for (times, now, may) in ROWS {
-        assert!(rt; answers(&limiter_after(times), *now, *may, false), "{now}");
+    for run in RUNS {
+        let mut limiter = Limiter::new();
+        for (place, call) in run.iter().enumerate() {
+            assert!(rt; goes(&mut limiter, call), "at {place}");
+        }
     }
-}
-
-/// Ten starts at most are kept.
-fn are_kept(times: &[u64], want: &[u64]) -> bool {
-    let limiter = limiter_after(times);
-    limiter.starts() == want && limiter.held_until().is_none()
-}
-
-#[test]
-fn starts_are_kept(rt: HostRuntime) {
-    assert!(rt; are_kept(AT_ONCE, AT_ONCE) && are_kept(AND_AT_TWO, &AND_AT_TWO[1..]));
-}
-
-fn is_held(limiter: &mut Limiter) -> bool {
-    limiter.hold(119);
-    answers(limiter, 418, May::HoldUntil(419), true)
-        && answers(limiter, 419, May::Yes, false)
-        && limiter.held_until() == Some(419)
-}
-
-fn is_cleared(limiter: &mut Limiter) -> bool {
-    limiter.clear();
-    *limiter == Limiter::new() && answers(limiter, 119, May::Yes, false)
-}
-
-#[test]
-fn a_hold_stands_five_minutes(rt: HostRuntime) {
-    let mut limiter = limiter_after(AT_ONCE);
-    assert!(rt; is_held(&mut limiter) && is_cleared(&mut limiter));
-}
-
-#[test]
-fn a_copy_is_alike(rt: HostRuntime) -> Result<(), Fail> {
-    let mut limiter = limiter_after(&[5, 7]);
-    limiter.hold(9);
-    assert!(rt; limiter.clone()? == limiter);
-    Ok(())
 }

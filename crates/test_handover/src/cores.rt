@@ -1,57 +1,104 @@
 //! Cores, and what texts say of them, each on the heap.
 
-use core_handover::take_over;
+use crate::texts::text_of;
+use core_handover::{hand_over, take_over};
 use core_model::Parts;
 use core_steps::Core;
 use core_text::{StateFault, read_state};
-use init_words::Level;
+use init_words::{Level, Memory};
+use inittab_text::Table;
 use std::alloc::{Allocator, Global};
-use std::test::Fail;
 use test_support::boxed;
 
-/// The core of an init that begins with an inittab, for a level or the inittab's own.
-pub(crate) fn opened(
-    alloc: Global,
-    inittab: &[u8],
-    level: Option<Level>,
-) -> Result<Box<Core>, Fail> {
-    let (table, _) = inittab_text::read(alloc, inittab)?;
-    Ok(boxed(alloc, Core::new(alloc, table, level)?)?)
+fn core_over(own: Global, table: Table, level: Option<Level>) -> Result<Box<Core>, Memory> {
+    Ok(boxed(own, Core::new(own, table, level)?)?)
 }
 
-/// The table of the core that is started.
-pub(crate) const STARTED_TABLE: &str = "id:3:initdefault:\na:3:respawn:x\nb:3:once:y\n";
-
-/// The core right after it ordered its second start: three stages were entered, and two starts ordered.
-pub(crate) fn started(alloc: Global) -> Result<Box<Core>, Fail> {
-    let mut core = opened(alloc, STARTED_TABLE.as_bytes(), None)?;
-    for _ in 0..5 {
-        core.next();
-    }
-    Ok(core)
+/// The core of an init that begins with an inittab, for a level or the inittab's own.
+pub(crate) fn opened(own: Global, inittab: &str, level: Option<Level>) -> Option<Box<Core>> {
+    let (table, _) = inittab_text::read(own, inittab.as_bytes()).ok()?;
+    core_over(own, table, level).ok()
 }
 
 /// The core that a text of this generation gives, over the given memory.
 pub(crate) fn taken<A: Allocator + Copy>(
-    alloc: Global,
-    memory: A,
+    own: Global,
+    alloc: A,
     text: &[u8],
     generation: u64,
 ) -> Result<Box<Core<A>>, StateFault> {
-    Ok(boxed(alloc, take_over(memory, text, generation)?)?)
-}
-
-/// Why a text of this generation is not taken over, none where it is.
-pub(crate) fn not_taken(alloc: Global, text: &[u8], generation: u64) -> Option<StateFault> {
-    taken(alloc, alloc, text, generation).err()
+    Ok(boxed(own, take_over(alloc, text, generation)?)?)
 }
 
 /// What a text of this generation says, over the given memory.
 pub(crate) fn parts_of<A: Allocator + Copy>(
-    alloc: Global,
-    memory: A,
+    own: Global,
+    alloc: A,
     text: &[u8],
     generation: u64,
 ) -> Result<Box<Parts<A>>, StateFault> {
-    Ok(boxed(alloc, read_state(memory, text, generation)?)?)
+    Ok(boxed(own, read_state(alloc, text, generation)?)?)
+}
+
+/// Whether a text of this generation is refused so, or taken over: what isn't read is not taken over, for the same
+/// reason.
+pub(crate) fn is_answered(
+    own: Global,
+    text: &[u8],
+    generation: u64,
+    want: Option<StateFault>,
+) -> bool {
+    let told = if want == Some(StateFault::Unfit) {
+        None
+    } else {
+        want
+    };
+    parts_of(own, own, text, generation).err() == told
+        && taken(own, own, text, generation).err() == want
+}
+
+/// Whether these are the lines, each record with this behind it.
+fn are_lines(got: &str, lines: &str, behind: &str) -> bool {
+    let mut news = got.split('\n');
+    for line in lines.split('\n') {
+        let end = if line.starts_with("slot ") {
+            behind
+        } else {
+            ""
+        };
+        let Some(new) = news.next() else {
+            return false;
+        };
+        if new.strip_prefix(line) != Some(end) {
+            return false;
+        }
+    }
+    news.next().is_none()
+}
+
+/// Whether a text is of a generation and has these lines, each record with this behind it.
+pub(crate) fn is_text(
+    own: Global,
+    text: &[u8],
+    generation: u64,
+    lines: &str,
+    behind: &str,
+) -> Option<bool> {
+    let front = text_of(own, 2, generation, "").ok()?;
+    let rest = str::from_utf8(text).ok()?.strip_prefix(front.as_str())?;
+    Some(are_lines(rest, lines, behind))
+}
+
+/// The text that the core hands over, where it is of this generation and has these lines, each record with this behind
+/// it.
+pub(crate) fn handed<A: Allocator>(
+    own: Global,
+    core: &mut Core<A>,
+    generation: u64,
+    lines: &str,
+    behind: &str,
+) -> Option<Vec<u8>> {
+    let text = hand_over(own, core).ok()?;
+    let is_text = is_text(own, &text, generation, lines, behind)?;
+    is_text.then_some(text)
 }

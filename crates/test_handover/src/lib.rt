@@ -7,17 +7,11 @@ mod byte_tests;
 #[cfg(test)]
 mod cores;
 #[cfg(test)]
-mod last_tests;
-#[cfg(test)]
 mod line_tests;
-#[cfg(test)]
-mod over_tests;
 #[cfg(test)]
 mod room_tests;
 #[cfg(test)]
-mod states;
-#[cfg(test)]
-mod text_tests;
+mod run_tests;
 #[cfg(test)]
 mod texts;
 #[cfg(test)]

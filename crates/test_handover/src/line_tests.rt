@@ -1,413 +1,341 @@
-//! One line of a text is replaced by others, and the text is read or refused.
+//! Lines of texts are replaced by others, and the texts are taken over or refused; so are whole texts, and tables of
+//! many entries.
 
-use crate::texts::{STARTED, STARTED_NOW, is_answered};
-use core_text::StateFault::{self, Cut, Generation, Line, Version};
+use crate::cores::is_answered;
+use crate::texts::{ENDED, OPENING, SETTLED, STARTED, STARTED_OLD, text_of};
+use core_text::StateFault::{self, Cut, Generation, Line, Unfit, Version};
+use core_text::generation_of;
+use std::alloc::{AllocError, Global};
+use std::fmt::Write;
+use std::test::Fail;
 
-/// The number of a line, what stands in its place, and why the text is refused.
-const REFUSED: &[(usize, &str, StateFault)] = &[
-    // Each version has lines of its own.
-    (1, "initd-state 2", Line(12)),
-    (1, "initd-state 3", Version),
-    (1, "initd-state 9", Version),
-    (1, "initd-state 01", Version),
-    (1, "initd-state 1 ", Version),
-    (1, "initd-state", Version),
-    (1, "Initd-state 1", Version),
-    (1, "\ninitd-state 1", Version),
-    (1, "", Version),
-    (2, "", Line(2)),
-    (2, "generation", Line(2)),
-    (2, "generation ", Line(2)),
-    (2, "generation 0", Line(2)),
-    (2, "generation 00", Line(2)),
-    (2, "generation 01", Line(2)),
-    (2, "generation -1", Line(2)),
-    (2, "generation +1", Line(2)),
-    (2, "generation 1x", Line(2)),
-    (2, "generation 1 ", Line(2)),
-    (2, "generation  1", Line(2)),
-    (2, "generation 1 1", Line(2)),
-    (2, "generation\t1", Line(2)),
-    (2, "generation 1\r", Line(2)),
-    (2, " generation 1", Line(2)),
-    (2, "Generation 1", Line(2)),
-    (2, "generations 1", Line(2)),
-    (2, "generation 18446744073709551616", Line(2)),
-    (2, "generation 99999999999999999999999", Line(2)),
-    (2, "generation 18446744073709551615", Generation),
-    (2, "generation 2", Generation),
-    (2, "clock 0", Line(2)),
-    (2, "clock 0\ngeneration 1", Line(2)),
-    (2, "generation 1\ngeneration 1", Line(3)),
-    (3, "", Line(3)),
-    (3, "clock", Line(3)),
-    (3, "clock ", Line(3)),
-    (3, "clock -", Line(3)),
-    (3, "clock 00", Line(3)),
-    (3, "clock 01", Line(3)),
-    (3, "clock 1:0", Line(3)),
-    (3, "clock 0 0", Line(3)),
-    (3, "clock 18446744073709551616", Line(3)),
-    (3, "\nclock 0", Line(3)),
-    (3, "clock 0\nclock 0", Line(4)),
-    (4, "", Line(4)),
-    (4, "stage", Line(4)),
-    (4, "stage 3", Line(4)),
-    (4, "stage 3 ", Line(4)),
-    (4, "stage  5", Line(4)),
-    (4, "stage none", Line(4)),
-    (4, "stage none 5", Line(4)),
-    (4, "stage none 00", Line(4)),
-    (4, "stage - 0", Line(4)),
-    (4, "stage 4 3601", Line(4)),
-    (4, "stage 3 05", Line(4)),
-    (4, "stage 3 -", Line(4)),
-    (4, "stage 3 65541", Line(4)),
-    (4, "stage 3 5 5", Line(4)),
-    (4, "stage 3:5", Line(4)),
-    (4, "stage 10 5", Line(4)),
-    (4, "stage s 5", Line(4)),
-    (4, "stage A 5", Line(4)),
-    (4, "stage Boot 5", Line(4)),
-    (4, "stage sysini 5", Line(4)),
-    (4, "goal 3 5", Line(4)),
-    (4, "stage 3 5\nstage 3 5", Line(5)),
-    (5, "", Line(5)),
-    (5, "goal", Line(5)),
-    (5, "goal 3", Line(5)),
-    (5, "goal 5", Line(5)),
-    (5, "goal none 0", Line(5)),
-    (5, "goal - 0", Line(5)),
-    (5, "goal sysinit 5", Line(5)),
-    (5, "goal boot 5", Line(5)),
-    (5, "goal s 5", Line(5)),
-    (5, "goal 33 5", Line(5)),
-    (5, "goal B 5", Line(5)),
-    (5, "goal 3:5", Line(5)),
-    (5, "goal 3 3601", Line(5)),
-    (5, "goal 3 00", Line(5)),
-    (5, "goal 3 5 ", Line(5)),
-    (5, "goal 3 5\ngoal 3 5", Line(6)),
-    (6, "", Line(6)),
-    (6, "flags", Line(6)),
-    (6, "flags ", Line(6)),
-    (6, "flags 1", Line(6)),
-    (6, "flags 100", Line(6)),
-    (6, "flags 1 0", Line(6)),
-    (6, "flags 2 0", Line(6)),
-    (6, "flags 20", Line(6)),
-    (6, "flags 02", Line(6)),
-    (6, "flags -0", Line(6)),
-    (6, "flags 0x", Line(6)),
-    (6, "flags 10 ", Line(6)),
-    (6, "flag 10", Line(6)),
-    (6, "flags 10\nflags 10", Line(7)),
-    (7, "", Line(7)),
-    (7, "wish", Line(7)),
-    (7, "wish 00", Line(7)),
-    (7, "wish 00 -", Line(7)),
-    (7, "wish 00 - 000", Line(7)),
-    (7, "wish 00 - 000000", Line(7)),
-    (7, "wish 00 000 000", Line(7)),
-    (7, "wish 01 - 000 000", Line(7)),
-    (7, "wish 11 - 000 000", Line(7)),
-    (7, "wish 20 - 000 000", Line(7)),
-    (7, "wish 0 - 000 000", Line(7)),
-    (7, "wish 000 - 000 000", Line(7)),
-    (7, "wish - - 000 000", Line(7)),
-    (7, "wish 00 3 000 000", Line(7)),
-    (7, "wish 00 3: 000 000", Line(7)),
-    (7, "wish 00 :5 000 000", Line(7)),
-    (7, "wish 00 3:05 000 000", Line(7)),
-    (7, "wish 00 3:3601 000 000", Line(7)),
-    (7, "wish 00 3:5:5 000 000", Line(7)),
-    (7, "wish 00 A:5 000 000", Line(7)),
-    (7, "wish 00 s:5 000 000", Line(7)),
-    (7, "wish 00 none 000 000", Line(7)),
-    (7, "wish 00 -:5 000 000", Line(7)),
-    (7, "wish 00 3 5 000 000", Line(7)),
-    (7, "wish 00  000 000", Line(7)),
-    (7, "wish 00 3:5 0000 000", Line(7)),
-    (7, "wish 00 3:5 00 000", Line(7)),
-    (7, "wish 00 3:5 200 000", Line(7)),
-    (7, "wish 00 3:5 020 000", Line(7)),
-    (7, "wish 00 3:5 00- 000", Line(7)),
-    (7, "wish 00 3:5 - 000", Line(7)),
-    (7, "wish 00 3:5 000 0000", Line(7)),
-    (7, "wish 00 3:5 000 00", Line(7)),
-    (7, "wish 00 3:5 000 200", Line(7)),
-    (7, "wish 00 3:5 000 0A0", Line(7)),
-    (7, "wish 00 3:5 000 002", Line(7)),
-    (7, "wish 00 3:5 000 000 000", Line(7)),
-    (7, "wish 00 3:5 000 000 ", Line(7)),
-    (7, "wish 00 - 000 000\nwish 00 - 000 000", Line(8)),
-    // The table.
-    (8, "", Line(8)),
-    (8, "table", Line(8)),
-    (8, "table ", Line(8)),
-    (8, "table -", Line(8)),
-    (8, "table 03", Line(8)),
-    (8, "table 3 ", Line(8)),
-    (8, "table 3 3", Line(8)),
-    (8, "table 18446744073709551616", Line(8)),
-    (8, "slot id - - - - 0000 - -", Line(8)),
-    // The first line that is not the table's, or is one too many.
-    (8, "table 0", Line(9)),
-    (8, "table 1", Line(10)),
-    (8, "table 2", Line(11)),
-    (8, "table 4", Line(12)),
-    (8, "table 512", Line(12)),
-    (8, "table 513", Line(12)),
-    (8, "table 18446744073709551615", Line(12)),
-    (8, "table 3\ntable 3", Line(9)),
-    (8, "table 3\n", Line(9)),
-    (9, "", Line(11)),
-    (9, "id:3:initdefault:x", Line(9)),
-    (9, "id::initdefault:", Line(9)),
-    (9, " id:3:initdefault:", Line(9)),
-    (9, "id:3:initdefault", Line(9)),
-    (9, "# id", Line(9)),
-    (9, "\nid:3:initdefault:", Line(9)),
-    (10, "a:33:respawn:x", Line(10)),
-    (10, "a::respawn:x", Line(10)),
-    (10, "a:s:respawn:x", Line(10)),
-    (10, "a:3x:respawn:x", Line(10)),
-    (10, "a:3:Respawn:x", Line(10)),
-    (10, "a:3:respawn", Line(10)),
-    (10, "a:3:respawn: ", Line(10)),
-    (10, "a:3:sysinit:x", Line(10)),
-    (10, "abcde:3:respawn:x", Line(10)),
-    // The first of two.
-    (9, "abcde:3:initdefault:\nx", Line(9)),
-    (10, ":3:respawn:x", Line(10)),
-    (10, "id:3:respawn:x", Line(10)),
-    (10, "id:3:initdefault:", Line(10)),
-    (10, "slot a - - start - 1000 - 0", Line(10)),
-    (10, "end 14", Line(10)),
-    (11, "", Line(11)),
-    (11, "a:3:once:y", Line(11)),
-    (11, "b:3:once:", Line(11)),
-    (11, "b:3:once:y\nc:3:once:y", Line(12)),
-    // The records.
-    (12, "table 3", Line(12)),
-    (12, "id:3:initdefault:", Line(12)),
-    (13, "b:3:once:y", Line(13)),
-    (13, "end 14", Line(13)),
-    (13, "slot", Line(13)),
-    (13, "slot ", Line(13)),
-    (13, "slot a", Line(13)),
-    (13, "slot a -", Line(13)),
-    (13, "slot a - -", Line(13)),
-    (13, "slot a - - start", Line(13)),
-    (13, "slot a - - start -", Line(13)),
-    (13, "slot a - - start - 1000", Line(13)),
-    (13, "slot a - - start - 1000 -", Line(13)),
-    (13, "slot a - - start - 1000 - ", Line(13)),
-    (13, "slot a - - start - 1000 - 0 ", Line(13)),
-    (13, "slot a - - start - 1000 - 0 0", Line(13)),
-    (13, " slot a - - start - 1000 - 0", Line(13)),
-    (13, "slot  a - - start - 1000 - 0", Line(13)),
-    (13, "Slot a - - start - 1000 - 0", Line(13)),
-    (13, "slots a - - start - 1000 - 0", Line(13)),
-    (13, "slot  - - start - 1000 - 0", Line(13)),
-    (13, "slot abcde - - start - 1000 - 0", Line(13)),
-    (13, "slot # - - start - 1000 - 0", Line(13)),
-    (13, "slot a: - - start - 1000 - 0", Line(13)),
-    (13, "slot \u{e9} - - start - 1000 - 0", Line(13)),
-    (13, "slot a  - start - 1000 - 0", Line(13)),
-    (13, "slot a x - start - 1000 - 0", Line(13)),
-    (13, "slot a 07 - start - 1000 - 0", Line(13)),
-    (13, "slot a -7 - start - 1000 - 0", Line(13)),
-    (13, "slot a 4294967296 - start - 1000 - 0", Line(13)),
-    (13, "slot a -  start - 1000 - 0", Line(13)),
-    (13, "slot a - x start - 1000 - 0", Line(13)),
-    (13, "slot a - Once start - 1000 - 0", Line(13)),
-    (13, "slot a - none start - 1000 - 0", Line(13)),
-    (13, "slot a - -  - 1000 - 0", Line(13)),
-    (13, "slot a - - Start - 1000 - 0", Line(13)),
-    (13, "slot a - - due - 1000 - 0", Line(13)),
-    (13, "slot a - - none - 1000 - 0", Line(13)),
-    (13, "slot a - - start  1000 - 0", Line(13)),
-    (13, "slot a - - start start 1000 - 0", Line(13)),
-    (13, "slot a - - start Due 1000 - 0", Line(13)),
-    (13, "slot a - - start due:5 1000 - 0", Line(13)),
-    (13, "slot a - - start term 1000 - 0", Line(13)),
-    (13, "slot a - - start term: 1000 - 0", Line(13)),
-    (13, "slot a - - start term:- 1000 - 0", Line(13)),
-    (13, "slot a - - start term:05 1000 - 0", Line(13)),
-    (13, "slot a - - start kill 1000 - 0", Line(13)),
-    (
-        13,
-        "slot a - - start kill:18446744073709551616 1000 - 0",
-        Line(13),
-    ),
-    (13, "slot a - - start kill:5:5 1000 - 0", Line(13)),
-    (13, "slot a - - start look:5 1000 - 0", Line(13)),
-    (13, "slot a - - start :5 1000 - 0", Line(13)),
-    (13, "slot a - - start -  - 0", Line(13)),
-    (13, "slot a - - start - - - 0", Line(13)),
-    (13, "slot a - - start - 100 - 0", Line(13)),
-    (13, "slot a - - start - 10000 - 0", Line(13)),
-    (13, "slot a - - start - 2000 - 0", Line(13)),
-    (13, "slot a - - start - 1200 - 0", Line(13)),
-    (13, "slot a - - start - 1020 - 0", Line(13)),
-    (13, "slot a - - start - 1002 - 0", Line(13)),
-    (13, "slot a - - start - 1000  0", Line(13)),
-    (13, "slot a - - start - 1000 x 0", Line(13)),
-    (13, "slot a - - start - 1000 00 0", Line(13)),
-    (13, "slot a - - start - 1000 -1 0", Line(13)),
-    (
-        13,
-        "slot a - - start - 1000 18446744073709551616 0",
-        Line(13),
-    ),
-    (13, "slot a - - start - 1000 - x", Line(13)),
-    (13, "slot a - - start - 1000 - 00", Line(13)),
-    (13, "slot a - - start - 1000 - --", Line(13)),
-    (13, "slot a - - start - 1000 - ,", Line(13)),
-    (13, "slot a - - start - 1000 - 0,", Line(13)),
-    (13, "slot a - - start - 1000 - ,0", Line(13)),
-    (13, "slot a - - start - 1000 - 0,,0", Line(13)),
-    (13, "slot a - - start - 1000 - 0,-", Line(13)),
-    (13, "slot a - - start - 1000 - -,0", Line(13)),
-    (13, "slot a - - start - 1000 - 0, 0", Line(13)),
-    (13, "slot a - - start - 1000 - 0:0", Line(13)),
-    (13, "slot a - - start - 1000 - 0,01", Line(13)),
-    (
-        13,
-        "slot a - - start - 1000 - 18446744073709551616",
-        Line(13),
-    ),
-    (
-        13,
-        "slot a - - start - 1000 - 0,0,0,0,0,0,0,0,0,0,0",
-        Line(13),
-    ),
-    (14, "slot b - - start - 1000 - 0,", Line(14)),
-    // The end.
-    // A line of a record too few, and one too many.
-    (12, "", Line(14)),
-    (13, "", Line(14)),
-    (
-        14,
-        "slot b - - start - 1000 - -\nslot c - - - - 0000 - -",
-        Line(16),
-    ),
-    (14, "slot b - - start - 1000 - -\n", Line(15)),
-    (15, "end 13", Line(15)),
-    (15, "end 15", Line(15)),
-    (15, "end 0", Line(15)),
-    (15, "end 014", Line(15)),
-    (15, "end 14 ", Line(15)),
-    (15, "end  14", Line(15)),
-    (15, "end 14 14", Line(15)),
-    (15, "end -", Line(15)),
-    (15, "end ", Line(15)),
-    (15, "end 18446744073709551630", Line(15)),
-    (15, "end 14\nend 14", Line(15)),
-    (15, "end 14\nend 15", Line(15)),
-    (15, "", Cut),
-    (15, "end", Cut),
-    (15, "End 14", Cut),
-    (15, " end 14", Cut),
-    (15, "ends 14", Cut),
-    (15, "end\t14", Cut),
-    (15, "end 14\n", Cut),
-    (15, "end 14\nslot c - - - - 0000 - -", Cut),
+// Rows of a text: a line, counted from 1, or the first and the last of some; what is answered; and what stands in their
+// place, each of which is tried, parted by `|`. There `/` parts lines, and nothing is no line.
+
+const OF_STARTED_OLD: &str = "\
+# Each version has lines of its own.
+1 line 12:initd-state 2
+1 version:initd-state 3|initd-state 9|initd-state 01|initd-state 1 |initd-state|Initd-state 1|/initd-state 1|
+2 line 2:|generation|generation |generation 0|generation 00|generation 01|generation -1|generation +1|generation 1x
+2 line 2:generation 1 |generation  1|generation 1 1|generation\t1|generation 1\r| generation 1|Generation 1
+2 line 2:generations 1|generation 18446744073709551616|generation 99999999999999999999999|clock 0|clock 0/generation 1
+2 generation:generation 18446744073709551615|generation 2
+2 line 3:generation 1/generation 1
+3 line 3:|clock|clock |clock -|clock 00|clock 01|clock 1:0|clock 0 0|clock 18446744073709551616|/clock 0
+3 line 4:clock 0/clock 0
+4 line 4:|stage|stage 3|stage 3 |stage  5|stage none|stage none 5|stage none 00|stage - 0|stage 4 3601|stage 3 05
+4 line 4:stage 3 -|stage 3 65541|stage 3 5 5|stage 3:5|stage 10 5|stage s 5|stage A 5|stage Boot 5|stage sysini 5
+4 line 4:goal 3 5
+4 line 5:stage 3 5/stage 3 5
+5 line 5:|goal|goal 3|goal 5|goal none 0|goal - 0|goal sysinit 5|goal boot 5|goal s 5|goal 33 5|goal B 5|goal 3:5
+5 line 5:goal 3 3601|goal 3 5 |goal 3 00
+5 line 6:goal 3 5/goal 3 5
+6 line 6:|flags|flags |flags 1|flags 100|flags 1 0|flags 2 0|flags 20|flags 02|flags -0|flags 0x|flags 10 |flag 10
+6 line 7:flags 10/flags 10
+7 line 7:|wish|wish 00|wish 00 -|wish 00 - 000|wish 00 - 000000|wish 00 000 000|wish 01 - 000 000|wish 11 - 000 000
+7 line 7:wish 20 - 000 000|wish 0 - 000 000|wish 000 - 000 000|wish - - 000 000|wish 00 3 000 000|wish 00 3: 000 000
+7 line 7:wish 00 :5 000 000|wish 00 3:05 000 000|wish 00 3:3601 000 000|wish 00 3:5:5 000 000|wish 00 A:5 000 000
+7 line 7:wish 00 s:5 000 000|wish 00 none 000 000|wish 00 -:5 000 000|wish 00 3 5 000 000|wish 00  000 000
+7 line 7:wish 00 3:5 0000 000|wish 00 3:5 00 000|wish 00 3:5 200 000|wish 00 3:5 020 000|wish 00 3:5 00- 000
+7 line 7:wish 00 3:5 - 000|wish 00 3:5 000 0000|wish 00 3:5 000 00|wish 00 3:5 000 200|wish 00 3:5 000 0A0
+7 line 7:wish 00 3:5 000 002|wish 00 3:5 000 000 |wish 00 3:5 000 000 000
+7 line 8:wish 00 - 000 000/wish 00 - 000 000
+# The table.
+8 line 8:|table|table |table -|table 03|table 3 |table 3 3|table 18446744073709551616|slot id - - - - 0000 - -
+# The first line that is not the table's, or is one too many.
+8 line 9:table 0|table 3/table 3|table 3/
+8 line 10:table 1
+8 line 11:table 2
+8 line 12:table 4|table 512|table 513|table 18446744073709551615
+9 line 11:
+9 line 9:id:3:initdefault:x|id::initdefault:| id:3:initdefault:|id:3:initdefault|# id|/id:3:initdefault:
+10 line 10:a:33:respawn:x|a::respawn:x|a:s:respawn:x|a:3x:respawn:x|a:3:Respawn:x|a:3:respawn: |a:3:respawn
+10 line 10:a:3:sysinit:x|abcde:3:respawn:x
+# The first of two.
+9 line 9:abcde:3:initdefault:/x
+10 line 10::3:respawn:x|id:3:respawn:x|id:3:initdefault:|slot a - - start - 1000 - 0|end 14
+11 line 11:|a:3:once:y|b:3:once:
+11 line 12:b:3:once:y/c:3:once:y
+# The records.
+12 line 12:table 3|id:3:initdefault:
+13 line 13:b:3:once:y|end 14|slot|slot |slot a|slot a -|slot a - -|slot a - - start|slot a - - start -
+13 line 13:slot a - - start - 1000|slot a - - start - 1000 - |slot a - - start - 1000 - 0 |slot a - - start - 1000 -
+13 line 13:slot a - - start - 1000 - 0 0| slot a - - start - 1000 - 0|slot  a - - start - 1000 - 0
+13 line 13:Slot a - - start - 1000 - 0|slots a - - start - 1000 - 0|slot  - - start - 1000 - 0
+13 line 13:slot abcde - - start - 1000 - 0|slot # - - start - 1000 - 0|slot a: - - start - 1000 - 0
+13 line 13:slot \u{e9} - - start - 1000 - 0|slot a  - start - 1000 - 0|slot a x - start - 1000 - 0
+13 line 13:slot a 07 - start - 1000 - 0|slot a -7 - start - 1000 - 0|slot a 4294967296 - start - 1000 - 0
+13 line 13:slot a -  start - 1000 - 0|slot a - x start - 1000 - 0|slot a - Once start - 1000 - 0
+13 line 13:slot a - none start - 1000 - 0|slot a - -  - 1000 - 0|slot a - - Start - 1000 - 0|slot a - - due - 1000 - 0
+13 line 13:slot a - - none - 1000 - 0|slot a - - start  1000 - 0|slot a - - start start 1000 - 0
+13 line 13:slot a - - start Due 1000 - 0|slot a - - start due:5 1000 - 0|slot a - - start term 1000 - 0
+13 line 13:slot a - - start term: 1000 - 0|slot a - - start term:- 1000 - 0|slot a - - start term:05 1000 - 0
+13 line 13:slot a - - start kill 1000 - 0|slot a - - start kill:18446744073709551616 1000 - 0
+13 line 13:slot a - - start kill:5:5 1000 - 0|slot a - - start look:5 1000 - 0|slot a - - start :5 1000 - 0
+13 line 13:slot a - - start -  - 0|slot a - - start - - - 0|slot a - - start - 100 - 0|slot a - - start - 10000 - 0
+13 line 13:slot a - - start - 2000 - 0|slot a - - start - 1200 - 0|slot a - - start - 1020 - 0
+13 line 13:slot a - - start - 1002 - 0|slot a - - start - 1000  0|slot a - - start - 1000 x 0
+13 line 13:slot a - - start - 1000 00 0|slot a - - start - 1000 -1 0|slot a - - start - 1000 18446744073709551616 0
+13 line 13:slot a - - start - 1000 - x|slot a - - start - 1000 - 00|slot a - - start - 1000 - --
+13 line 13:slot a - - start - 1000 - ,|slot a - - start - 1000 - 0,|slot a - - start - 1000 - ,0
+13 line 13:slot a - - start - 1000 - 0,,0|slot a - - start - 1000 - 0,-|slot a - - start - 1000 - -,0
+13 line 13:slot a - - start - 1000 - 0, 0|slot a - - start - 1000 - 0:0|slot a - - start - 1000 - 0,01
+13 line 13:slot a - - start - 1000 - 18446744073709551616|slot a - - start - 1000 - 0,0,0,0,0,0,0,0,0,0,0
+14 line 14:slot b - - start - 1000 - 0,
+# The end.
+# A line of a record too few, and one too many.
+12 line 14:
+13 line 14:
+14 line 16:slot b - - start - 1000 - -/slot c - - - - 0000 - -
+14 line 15:slot b - - start - 1000 - -/
+15 line 15:end 13|end 15|end 0|end 014|end 14 |end  14|end 14 14|end -|end |end 18446744073709551630|end 14/end 14
+15 line 15:end 14/end 15
+15 cut:|end|End 14| end 14|ends 14|end\t14|end 14/|end 14/slot c - - - - 0000 - -
+# What is read, and whether an init comes to it.
+3 unfit:clock 18446744073709551615
+4 unfit:stage none 0|stage sysinit 0|stage boot 3600|stage S 5|stage 0 5|stage 9 5
+5 unfit:goal S 0|goal 9 3600
+6 taken:flags 00|flags 01|flags 11
+7 taken:wish 10 - 000 000|wish 00 S:0 111 000|wish 10 0:3600 000 111
+9 taken:id:S:initdefault:|id:-:initdefault:
+10 taken:a:-:ondemand:x|a:3:respawn: x:y |a:3:respawn:y
+10 unfit:a::sysinit:x|a:3:off:
+12 unfit:slot x# - - - - 0000 - -
+13 unfit:slot ~!\"$ - - - - 0000 - -|slot a 0 sysinit look due 0001 0 -
+13 unfit:slot a 4294967295 kbrequest term term:0 0010 18446744073709551615 0
+13 unfit:slot a - - kill kill:18446744073709551615 0100 - 1,0
+13 unfit:slot a - - start - 1111 - 0,1,2,3,4,5,6,7,8,18446744073709551615|slot id - - start - 1000 - 0
+3 taken:clock 7
+14 unfit:slot b 5 - start - 1000 - -";
+
+/// Most are of the last status.
+const OF_STARTED: &str = "\
+1 line 12:initd-state 1
+13 line 13:slot a - - start - 1000 - 0|slot a - - start - 1000 - 0 |slot a - - start - 1000 - 0  -
+13 line 13:slot a - - start - 1000 - 0 - |slot a - - start - 1000 - 0 - -|slot a - - start - 1000 - 0 --
+13 line 13:slot a - - start - 1000 - 0 none|slot a - - start - 1000 - 0 exit|slot a - - start - 1000 - 0 exit:
+13 line 13:slot a - - start - 1000 - 0 exit:-|slot a - - start - 1000 - 0 exit:00|slot a - - start - 1000 - 0 exit:256
+13 line 13:slot a - - start - 1000 - 0 exit 0|slot a - - start - 1000 - 0 exit:0:0|slot a - - start - 1000 - 0 Exit:0
+13 line 13:slot a - - start - 1000 - 0 kill|slot a - - start - 1000 - 0 killed:9|slot abcdefghi - - start - 1000 - 0 -
+13 taken:slot a - - start - 1000 - 0 -|slot a - - start - 1000 - 0 exit:255|slot a - - start - 1000 - 0 killed
+13 unfit:slot abcdefgh - - start - 1000 - 0 -
+10 unfit:abcdefgh:3:respawn:x
+10 line 10:abcdefghi:3:respawn:x";
+
+const OF_ENDED: &str = "\
+1 line 12:initd-state 1
+12-15 line 12:slot id - - - - 0000 - -/slot a - - start - 1000 - 0,0/slot b 700 once - - 1000 - -/end 14";
+
+const SETTLED_OLD: &str = "clock 7\nstage 3 5\ngoal 3 5\nflags 11\nwish 00 - 000 000\n\
+    table 2\nw:3:wait:a\nr:3:respawn:b\nslot w - - - - 1000 - -\nslot r 700 respawn - - 1000 - 7\nend 12\n";
+
+const OF_SETTLED_OLD: &str = "\
+1 taken:initd-state 1
+# Records in another order, of one entry alone, two of one id, and one of no entry without child.
+11-12 unfit:slot r 700 respawn - - 1000 - 7/slot w - - - - 1000 - -
+12-13 unfit:end 11|slot r - - - - 1000 - 7/slot r 700 respawn - due 0000 - -/end 13
+12-13 unfit:slot r 700 respawn - - 1000 - 7/slot x - - - - 0000 - -/end 13
+# A child of an id that left the table is to be stopped.
+12-13 taken:slot r 700 respawn - - 1000 - 7/slot x 701 once - due 0000 - -/end 13
+12-13 unfit:slot r 700 respawn - - 1000 - 7/slot x 701 once - - 0000 - -/end 13
+# A child has a number and an action; a look is that of a child; a start waits for the one before it.
+12 unfit:slot r 700 - - - 1000 - 7
+11 unfit:slot w - - look - 1000 - -
+12 taken:slot r - - start - 1000 - 7
+11-12 unfit:slot w - - start - 1000 - -/slot r - - start - 1000 - 7
+# Times that fall, and a later one than now.
+12 taken:slot r 700 respawn - - 1000 - 6,7
+12 unfit:slot r 700 respawn - - 1000 - 7,6|slot r 700 respawn - - 1000 - 8
+# A goal that isn't the level, Boot before it was entered, and a wish for the level in force.
+5 unfit:goal 4 5
+4-6 unfit:stage boot 5/goal 3 5/flags 00
+7 unfit:wish 10 3:5 000 000
+7 taken:wish 10 4:5 000 000";
+
+const CALLED: &str = "clock 7\nstage 3 5\ngoal 3 5\nflags 11\nwish 00 - 000 000\n\
+    table 1\nd:A:ondemand:x\nslot d 700 ondemand - - 1100 - 7\nend 10\n";
+
+const OF_CALLED: &str = "\
+10 taken:slot d 700 ondemand - - 1100 - 7
+# It was started by an init that counted no starts of it, and ended the call with the start.
+10 taken:slot d 700 ondemand - - 1000 - -
+# The respawn limit holds for it: ten starts and a hold of five minutes.
+10 taken:slot d - - - - 1100 307 0,1,2,3,4,5,6,7,7,7
+10 unfit:slot d - - - - 1100 308 0,1,2,3,4,5,6,7,7,7|slot d - - - - 1100 307 0,1,2|slot d - - - - 1100 - 8";
+
+/// The first check that fails counts, that of the generation behind those of the lines.
+const OF_OPENING: &str = "\
+1-9 cut:|/|end /|initd-state 1|initd-state 9/generation 1|initd-state 1/generation 1
+1-9 version:end 0|end |initd-state 9/end 1|initd-state 1\r/end 1|initd-state 1\0/end 1
+2-9 line 2:end 1
+2-9 line 3:generation 2/end 2|generation 2/clock \u{ff}/end 3|generation 2/clock/stage/end/end x
+2-9 line 8:generation 2/clock 0/stage 3 5/goal 3 5/flags 10/wish 00 - 000 000/end 7
+2-9 line 9:generation 2/clock 0/stage 3 5/goal 3 5/flags 10/wish 00 - 000 000/table 1/end 8
+2-9 line 10:generation 2/clock 0/stage 3 5/goal 3 5/flags 10/wish 00 - 000 000/table 2/a:3:once:x/end 9
+2-9 line 9:generation 2/clock 0/stage 3 5/goal 3 5/flags 10/wish 00 - 000 000/table 0/end 9
+2-9 generation:generation 2/clock 0/stage 3 5/goal 3 5/flags 10/wish 00 - 000 000/table 0/end 8";
+
+/// The version and the lines of a text of generation 1, and its rows.
+const CHANGES: &[(u64, &str, &str)] = &[
+    (1, STARTED_OLD, OF_STARTED_OLD),
+    (2, STARTED, OF_STARTED),
+    (2, ENDED, OF_ENDED),
+    (1, SETTLED_OLD, OF_SETTLED_OLD),
+    (1, CALLED, OF_CALLED),
+    (1, OPENING, OF_OPENING),
 ];
 
-#[test]
-fn refused_lines(rt: HostRuntime) {
-    for (number, lines, why) in REFUSED {
-        let told = is_answered(rt.alloc(), STARTED, *number, lines, Some(*why));
-        assert!(rt; told, "{number}: {lines}");
+fn add_line(text: &mut String, line: &str) -> Result<(), AllocError> {
+    text.push_str(line)?;
+    text.push('\n')
+}
+
+/// The text with these lines in place of its own, from a first to a last.
+fn replaced(
+    own: Global,
+    whole: &str,
+    places: (usize, usize),
+    lines: &str,
+) -> Result<String, AllocError> {
+    let mut text = String::new(own);
+    for (at, line) in whole.lines().enumerate() {
+        if at + 1 == places.0 && !lines.is_empty() {
+            for line in lines.split('/') {
+                add_line(&mut text, line)?;
+            }
+        }
+        if at + 1 < places.0 || places.1 < at + 1 {
+            add_line(&mut text, line)?;
+        }
+    }
+    Ok(text)
+}
+
+/// What is answered by the word for it, nothing where a text is taken over.
+fn answer_of(word: &str) -> Option<StateFault> {
+    match word {
+        "cut" => Some(Cut),
+        "version" => Some(Version),
+        "generation" => Some(Generation),
+        "unfit" => Some(Unfit),
+        _ => Some(Line(word.strip_prefix("line ")?.parse::<u64>().ok()?)),
     }
 }
 
-/// The number of a line, what stands in its place, and what is answered.
-type Row = (usize, &'static str, Option<StateFault>);
-
-const READ: &[Row] = &[
-    (3, "clock 18446744073709551615", None),
-    (4, "stage none 0", None),
-    (4, "stage sysinit 0", None),
-    (4, "stage boot 3600", None),
-    (4, "stage S 5", None),
-    (4, "stage 0 5", None),
-    (4, "stage 9 5", None),
-    (5, "goal S 0", None),
-    (5, "goal 9 3600", None),
-    (6, "flags 00", None),
-    (6, "flags 01", None),
-    (6, "flags 11", None),
-    (7, "wish 10 - 000 000", None),
-    (7, "wish 00 S:0 111 000", None),
-    (7, "wish 10 0:3600 000 111", None),
-    (9, "id:S:initdefault:", None),
-    (9, "id:-:initdefault:", None),
-    (10, "a:-:ondemand:x", None),
-    (10, "a::sysinit:x", None),
-    (10, "a:3:respawn: x:y ", None),
-    (10, "a:3:off:", None),
-    (12, "slot x# - - - - 0000 - -", None),
-    (13, "slot ~!\"$ - - - - 0000 - -", None),
-    (13, "slot a 0 sysinit look due 0001 0 -", None),
-    (
-        13,
-        "slot a 4294967295 kbrequest term term:0 0010 18446744073709551615 0",
-        None,
-    ),
-    (
-        13,
-        "slot a - - kill kill:18446744073709551615 0100 - 1,0",
-        None,
-    ),
-    (
-        13,
-        "slot a - - start - 1111 - 0,1,2,3,4,5,6,7,8,18446744073709551615",
-        None,
-    ),
-    (13, "slot id - - start - 1000 - 0", None),
-];
-
-/// The last status.
-const LASTS: &[Row] = &[
-    (1, "initd-state 1", Some(Line(12))),
-    (13, "slot a - - start - 1000 - 0", Some(Line(13))),
-    (13, "slot a - - start - 1000 - 0 ", Some(Line(13))),
-    (13, "slot a - - start - 1000 - 0  -", Some(Line(13))),
-    (13, "slot a - - start - 1000 - 0 - ", Some(Line(13))),
-    (13, "slot a - - start - 1000 - 0 - -", Some(Line(13))),
-    (13, "slot a - - start - 1000 - 0 --", Some(Line(13))),
-    (13, "slot a - - start - 1000 - 0 none", Some(Line(13))),
-    (13, "slot a - - start - 1000 - 0 exit", Some(Line(13))),
-    (13, "slot a - - start - 1000 - 0 exit:", Some(Line(13))),
-    (13, "slot a - - start - 1000 - 0 exit:-", Some(Line(13))),
-    (13, "slot a - - start - 1000 - 0 exit:00", Some(Line(13))),
-    (13, "slot a - - start - 1000 - 0 exit:256", Some(Line(13))),
-    (13, "slot a - - start - 1000 - 0 exit 0", Some(Line(13))),
-    (13, "slot a - - start - 1000 - 0 exit:0:0", Some(Line(13))),
-    (13, "slot a - - start - 1000 - 0 Exit:0", Some(Line(13))),
-    (13, "slot a - - start - 1000 - 0 kill", Some(Line(13))),
-    (13, "slot a - - start - 1000 - 0 killed:9", Some(Line(13))),
-    (13, "slot a - - start - 1000 - 0 -", None),
-    (13, "slot a - - start - 1000 - 0 exit:255", None),
-    (13, "slot a - - start - 1000 - 0 killed", None),
-    (13, "slot abcdefgh - - start - 1000 - 0 -", None),
-    (13, "slot abcdefghi - - start - 1000 - 0 -", Some(Line(13))),
-    (10, "abcdefgh:3:respawn:x", None),
-    (10, "abcdefghi:3:respawn:x", Some(Line(10))),
-];
-
-/// A text, and lines of it.
-const ANSWERED: &[(&str, &[Row])] = &[(STARTED, READ), (STARTED_NOW, LASTS)];
-
-#[test]
-fn answered_lines(rt: HostRuntime) {
-    for (text, rows) in ANSWERED {
-        for (number, lines, want) in *rows {
-            let told = is_answered(rt.alloc(), text, *number, lines, *want);
-            assert!(rt; told, "{number}: {lines}");
+/// What is answered to a text where the lines of a row stand in it is what the row says.
+fn is_row(own: Global, whole: &str, row: &str) -> Option<bool> {
+    let (head, items) = row.split_once(':')?;
+    let (places, word) = head.split_once(' ')?;
+    let (first, last) = places.split_once('-').unwrap_or((places, places));
+    let places = (first.parse::<usize>().ok()?, last.parse::<usize>().ok()?);
+    for lines in items.split('|') {
+        let text = replaced(own, whole, places, lines).ok()?;
+        if !is_answered(own, text.as_bytes(), 1, answer_of(word)) {
+            return Some(false);
         }
     }
+    Some(true)
+}
+
+#[test]
+fn lines_are_replaced(rt: HostRuntime) -> Result<(), Fail> {
+    for (version, lines, rows) in CHANGES {
+        let whole = text_of(rt.alloc(), *version, 1, lines)?;
+        for row in rows.lines() {
+            assert!(rt;
+                row.starts_with('#') || is_row(rt.alloc(), &whole, row) == Some(true),
+                "{row}"
+            );
+        }
+    }
+    Ok(())
+}
+
+/// A text, the generation that is asked for, what is answered, and the generation that its second line names.
+const TEXTS: &[(&str, u64, Option<StateFault>, Option<u64>)] = &[
+    ("", 0, Some(Cut), None),
+    ("", 1, Some(Cut), None),
+    ("\n", 1, Some(Cut), None),
+    ("end 0", 1, Some(Cut), None),
+    ("initd-state 9\nend 1", 1, Some(Cut), None),
+    (
+        "initd-state 9\ngeneration 0\nend x\n",
+        2,
+        Some(Version),
+        None,
+    ),
+    ("\ngeneration 7\n", 7, Some(Cut), Some(7)),
+    (
+        "initd-state 9\ngeneration 18446744073709551615\nx",
+        1,
+        Some(Cut),
+        Some(u64::MAX),
+    ),
+    ("initd-state 1\ngeneration 7", 7, Some(Cut), None),
+    ("initd-state 1\ngeneration 0\n", 0, Some(Cut), None),
+    ("initd-state 1\ngeneration 07\n", 7, Some(Cut), None),
+    ("initd-state 1\nclock 7\ngeneration 7\n", 7, Some(Cut), None),
+    ("generation 7\n", 7, Some(Cut), None),
+];
+
+#[test]
+fn whole_texts(rt: HostRuntime) {
+    for (text, generation, want, named) in TEXTS {
+        let is_answered = is_answered(rt.alloc(), text.as_bytes(), *generation, *want);
+        assert!(rt;
+            is_answered && generation_of(text.as_bytes()) == *named,
+            "{text}"
+        );
+    }
+}
+
+/// A version and lines, the generation that is asked for of a text of generation 1, and what is answered.
+const ASKED: &[(u64, &str, u64, Option<StateFault>)] = &[
+    (1, STARTED_OLD, 1, None),
+    (1, STARTED_OLD, 2, Some(Generation)),
+    (1, STARTED_OLD, 0, Some(Generation)),
+    (2, STARTED, 1, None),
+    (2, OPENING, 1, None),
+    (2, SETTLED, 2, Some(Generation)),
+];
+
+/// A text of a version, of so many entries, and none of their records.
+fn large(own: Global, version: u64, entries: u64) -> Result<String, Fail> {
+    let mut text = text_of(own, version, 1, "")?;
+    let (heads, _) = OPENING.split_once("table").ok_or("no table")?;
+    writeln!(text, "{heads}table {entries}")?;
+    for number in 0..entries {
+        writeln!(text, "{number}:3:once:x")?;
+    }
+    writeln!(text, "end {}", entries.saturating_add(8))?;
+    Ok(text)
+}
+
+/// A version, and how many entries there are: the first that is too many is refused. No init comes to a table whose
+/// entries have no record.
+const LARGEST: &[(u64, u64, Option<StateFault>)] = &[
+    (1, 512, Some(Unfit)),
+    (1, 513, Some(Line(521))),
+    (2, 513, Some(Unfit)),
+    (2, 4_096, Some(Unfit)),
+    (2, 4_097, Some(Line(4_105))),
+];
+
+#[test]
+fn generations_and_tables(rt: HostRuntime) -> Result<(), Fail> {
+    for (version, lines, generation, want) in ASKED {
+        let text = text_of(rt.alloc(), *version, 1, lines)?;
+        assert!(rt;
+            is_answered(rt.alloc(), text.as_bytes(), *generation, *want),
+            "{generation}: {text}"
+        );
+    }
+    for (version, entries, want) in LARGEST {
+        let text = large(rt.alloc(), *version, *entries)?;
+        assert!(rt;
+            is_answered(rt.alloc(), text.as_bytes(), 1, *want),
+            "{version}: {entries}"
+        );
+    }
+    Ok(())
 }

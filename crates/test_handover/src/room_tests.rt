@@ -1,234 +1,145 @@
-//! Growths are refused in turn, on heaps of more and more room. A refused hand-over leaves the core as it was.
+//! Growths are refused in turn, on heaps of more and more room. A refused call leaves the core as it was.
 
-use crate::cores::{parts_of, taken};
-use crate::states::SETTLED;
+use crate::cores::{handed, is_text, parts_of, taken};
+use crate::texts::{SETTLED, text_of};
 use core_handover::{StateFault, hand_over};
 use core_model::Parts;
 use core_steps::{Core, Rebuild};
 use init_words::Refusal;
 use linked_list_allocator::LocalHeap;
-use std::alloc::{Allocator, Global};
-use std::test::Fail;
+use std::alloc::Global;
 use test_support::boxed;
 
-/// From one heap to the next there is less more room than the least growth takes, so that each growth is refused on
-/// some heap.
-const STEP: usize = 16;
+/// A child, an order about it that is open, a signal that is due, a wish for another level, times, and ends of
+/// children.
+const BUSY: &str = "clock 700\nstage 3 5\ngoal 3 5\nflags 11\nwish 10 4:8 101 010\n\
+    table 3\nw:3:wait:a\nr:3:respawn:b\nd:3A:ondemand:c\n\
+    slot w - - - - 1000 - - exit:3\nslot r 700 respawn look - 1010 - 6,7,600 -\nslot d - - - - 0100 - - killed\n\
+    slot x 701 once term due 0011 - - exit:255\nend 15\n";
 
-/// A core with a child, an order about it that is open, a signal that is due, a wish for another level, times, and ends
+/// A child, a look at it that is open, a child that was sent SIGTERM, a hold, a wish for another level, times, and ends
 /// of children.
-const BUSY: &str = "initd-state 2
-generation 1
-clock 700
-stage 3 5
-goal 3 5
-flags 11
-wish 10 4:8 101 010
-table 3
-w:3:wait:a
-r:3:respawn:b
-d:3A:ondemand:c
-slot w - - - - 1000 - - exit:3
-slot r 700 respawn look - 1010 - 6,7,600 -
-slot d - - - - 0100 - - killed
-slot x 701 once term due 0011 - - exit:255
-end 15
-";
+const QUIET: &str = "clock 700\nstage 3 5\ngoal 3 5\nflags 11\nwish 10 4:8 101 010\n\
+    table 2\nw:3:wait:a\nr:3:respawn:b\n\
+    slot w - - - - 1000 - - exit:3\nslot r 700 respawn look - 1010 900 6,7,8,9,10,11,12,13,14,600 -\n\
+    slot x 701 once - term:650 0011 - - exit:255\nend 13\n";
 
-/// What such a core hands over next.
-const BUSY_AGAIN: &str = "initd-state 2
-generation 2
-clock 700
-stage 3 5
-goal 3 5
-flags 11
-wish 10 4:8 101 010
-table 3
-w:3:wait:a
-r:3:respawn:b
-d:3A:ondemand:c
-slot w - - - - 1000 - - exit:3
-slot r 700 respawn look - 1010 - 6,7,600 -
-slot d - - - - 0100 - - killed
-slot x 701 once term due 0011 - - exit:255
-end 15
-";
+/// An inittab that is adopted by it.
+const NEXT: &[u8] = b"r:3:respawn:b\nn:3:once:c\nm:3:off:\nl:3:wait:d\n";
 
-/// Whether the core hands its state on over a heap of the given number of bytes. Where it doesn't, it is as it was: what
-/// it hands over with room says so.
-fn hands_on(alloc: Global, room: usize) -> Result<bool, Fail> {
-    let mut core = taken(alloc, alloc, BUSY.as_bytes(), 1)?;
-    let heap = LocalHeap::new(alloc, room)?;
-    let given = hand_over(&heap, &mut core);
-    match given {
-        Ok(text) if is_again(&text, BUSY_AGAIN) => Ok(true),
-        Err(StateFault::Memory) if hands_over(alloc, &mut core, BUSY_AGAIN) => Ok(false),
-        _ => Err(Fail::from("another text")),
-    }
+/// What comes of a call on a heap.
+#[derive(Clone, Copy, PartialEq, Eq)]
+enum Outcome {
+    /// There was no room for what it is called with.
+    Unmade,
+    Refused,
+    Done,
 }
 
-fn is_again(text: &[u8], want: &str) -> bool {
-    text == want.as_bytes()
-}
+use Outcome::{Done, Refused, Unmade};
 
-/// What the core hands over with room is this.
-fn hands_over<A: Allocator + Copy>(alloc: Global, core: &mut Core<A>, want: &str) -> bool {
-    match hand_over(alloc, core) {
-        Ok(text) => is_again(&text, want),
-        Err(_) => false,
-    }
-}
-
-#[test]
-fn a_refused_hand_over_changes_nothing(rt: HostRuntime) -> Result<(), Fail> {
-    for refused in 0..4096usize {
-        if hands_on(rt.alloc(), STEP * refused)? {
-            assert!(rt; refused > 8, "{refused}");
-            return Ok(());
+/// The core hands its state over. Where there is no room for it, it hands the same over with room.
+fn hand_over_on(own: Global, heap: &LocalHeap, text: &[u8]) -> Option<Outcome> {
+    let mut core = taken(own, own, text, 1).ok()?;
+    match hand_over(heap, &mut core) {
+        Ok(text) => is_text(own, &text, 2, BUSY, "")?.then_some(Done),
+        Err(StateFault::Memory) => {
+            let _same = handed(own, &mut core, 2, BUSY, "")?;
+            Some(Refused)
         }
+        Err(_) => None,
     }
-    Err(Fail::from("no heap has room"))
 }
 
-/// Whether a text is taken over on a heap of the given number of bytes.
-fn is_taken(alloc: Global, text: &str, room: usize) -> Result<bool, Fail> {
-    let heap = LocalHeap::new(alloc, room)?;
-    match taken(alloc, &heap, text.as_bytes(), 1) {
-        Ok(_) => Ok(true),
-        Err(StateFault::Memory) => Ok(false),
-        Err(_) => Err(Fail::from("another refusal")),
+fn take_over_on(own: Global, heap: &LocalHeap, text: &[u8]) -> Option<Outcome> {
+    match taken(own, heap, text, 1) {
+        Ok(_) => Some(Done),
+        Err(StateFault::Memory) => Some(Refused),
+        Err(_) => None,
     }
 }
 
 fn rebuilt<'h>(
-    alloc: Global,
+    own: Global,
     heap: &'h LocalHeap,
     parts: Box<Parts<&'h LocalHeap>>,
 ) -> Result<Box<Core<&'h LocalHeap>>, Rebuild> {
-    Ok(boxed(alloc, Core::rebuilt(heap, Box::into_inner(parts))?)?)
+    Ok(boxed(own, Core::rebuilt(heap, Box::into_inner(parts))?)?)
 }
 
-/// Whether a core is rebuilt of what a text says, on a heap of the given number of bytes; None where the text isn't
-/// read there.
-fn is_rebuilt(alloc: Global, text: &str, room: usize) -> Result<Option<bool>, Fail> {
-    let heap = LocalHeap::new(alloc, room)?;
-    let Ok(parts) = parts_of(alloc, &heap, text.as_bytes(), 1) else {
-        return Ok(None);
+fn rebuild_on(own: Global, heap: &LocalHeap, text: &[u8]) -> Option<Outcome> {
+    let Ok(parts) = parts_of(own, heap, text, 1) else {
+        return Some(Unmade);
     };
-    match rebuilt(alloc, &heap, parts) {
-        Ok(_) => Ok(Some(true)),
-        Err(Rebuild::Memory) => Ok(Some(false)),
-        Err(_) => Err(Fail::from("another refusal")),
+    match rebuilt(own, heap, parts) {
+        Ok(_) => Some(Done),
+        Err(Rebuild::Memory) => Some(Refused),
+        Err(_) => None,
     }
 }
 
-#[test]
-fn a_core_without_room_is_not_rebuilt(rt: HostRuntime) -> Result<(), Fail> {
-    let text = format!(in rt.alloc(); "initd-state 2\ngeneration 1\n{SETTLED}")?;
-    let mut refused = 0usize;
-    let mut rebuilt = 0usize;
-    for step in 1..800usize {
-        match is_rebuilt(rt.alloc(), &text, STEP * step)? {
-            Some(true) => rebuilt = rebuilt.wrapping_add(1),
-            Some(false) => refused = refused.wrapping_add(1),
-            None => {}
-        }
-    }
-    assert!(rt; refused > 3 && rebuilt > 8, "{refused} {rebuilt}");
-    Ok(())
-}
-
-#[test]
-fn a_text_without_room_is_not_taken_over(rt: HostRuntime) -> Result<(), Fail> {
-    for refused in 0..4096usize {
-        if is_taken(rt.alloc(), BUSY, STEP * refused)? {
-            assert!(rt; refused > 8, "{refused}");
-            return Ok(());
-        }
-    }
-    Err(Fail::from("no heap has room"))
-}
-
-/// A core with a child, a look at it that is open, a child that was sent SIGTERM, a hold, a wish for another level, times,
-/// and ends of children.
-const QUIET: &str = "initd-state 2
-generation 1
-clock 700
-stage 3 5
-goal 3 5
-flags 11
-wish 10 4:8 101 010
-table 2
-w:3:wait:a
-r:3:respawn:b
-slot w - - - - 1000 - - exit:3
-slot r 700 respawn look - 1010 900 6,7,8,9,10,11,12,13,14,600 -
-slot x 701 once - term:650 0011 - - exit:255
-end 13
-";
-
-/// What such a core hands over next.
-const QUIET_AGAIN: &str = "initd-state 2
-generation 2
-clock 700
-stage 3 5
-goal 3 5
-flags 11
-wish 10 4:8 101 010
-table 2
-w:3:wait:a
-r:3:respawn:b
-slot w - - - - 1000 - - exit:3
-slot r 700 respawn look - 1010 900 6,7,8,9,10,11,12,13,14,600 -
-slot x 701 once - term:650 0011 - - exit:255
-end 13
-";
-
-const NEXT: &[u8] = b"r:3:respawn:b\nn:3:once:c\nm:3:off:\nl:3:wait:d\n";
-
-/// What a heap refuses.
-enum Refused {
-    Before,
-    Adoption,
-    Nothing,
-    /// The core is another.
-    Wrong,
-}
-
-/// What is refused to a core on a heap, to which a table is given. Where that is the adoption, the core is as it was:
-/// what it hands over with room says so.
-fn refused_on(alloc: Global, heap: &LocalHeap) -> Refused {
-    match taken(alloc, heap, QUIET.as_bytes(), 1) {
-        Ok(mut core) => refused_to(alloc, heap, &mut core),
-        Err(_) => Refused::Before,
-    }
-}
-
-fn refused_to<'h>(alloc: Global, heap: &'h LocalHeap, core: &mut Core<&'h LocalHeap>) -> Refused {
+/// A core adopts a table. Where it has no room for it, it hands over what it would have before.
+fn adopt_on(own: Global, heap: &LocalHeap, text: &[u8]) -> Option<Outcome> {
+    let Ok(mut core) = taken(own, heap, text, 1) else {
+        return Some(Unmade);
+    };
     let Ok((table, _)) = inittab_text::read(heap, NEXT) else {
-        return Refused::Before;
+        return Some(Unmade);
     };
     match core.adopt(table) {
-        Ok(()) if core.table().len() == 4 && core.slots().len() == 5 => Refused::Nothing,
-        Err(Refusal::Memory) if hands_over(alloc, core, QUIET_AGAIN) => Refused::Adoption,
-        _ => Refused::Wrong,
+        Ok(()) => (core.table().len() == 4 && core.slots().len() == 5).then_some(Done),
+        Err(Refusal::Memory) => {
+            let _same = handed(own, &mut core, 2, QUIET, "")?;
+            Some(Refused)
+        }
+        Err(_) => None,
     }
 }
 
-#[test]
-fn a_refused_adoption_changes_nothing(rt: HostRuntime) -> Result<(), Fail> {
-    let mut adoptions = 0usize;
+fn outcome_on(own: Global, heap: &LocalHeap, what: &str, text: &[u8]) -> Option<Outcome> {
+    match what {
+        "hand over" => hand_over_on(own, heap, text),
+        "take over" => take_over_on(own, heap, text),
+        "rebuild" => rebuild_on(own, heap, text),
+        _ => adopt_on(own, heap, text),
+    }
+}
+
+/// On how many heaps it is refused, of which each has less more room than the least growth takes, until it was done on
+/// nine, and on how many it is done; none where anything else comes of it.
+fn counts(own: Global, what: &str, lines: &str) -> Option<(usize, usize)> {
+    let text = text_of(own, 2, 1, lines).ok()?;
+    let (mut refused, mut done) = (0usize, 0usize);
     for step in 0..4096usize {
-        let heap = LocalHeap::new(rt.alloc(), STEP * step)?;
-        match refused_on(rt.alloc(), &heap) {
-            Refused::Before => {}
-            Refused::Wrong => return Err(Fail::from("another core")),
-            Refused::Adoption => adoptions = adoptions.wrapping_add(1),
-            Refused::Nothing => {
-                assert!(rt; adoptions > 3, "{adoptions}");
-                return Ok(());
-            }
+        if done > 8 {
+            break;
+        }
+        let heap = LocalHeap::new(own, 16 * step).ok()?;
+        match outcome_on(own, &heap, what, text.as_bytes())? {
+            Unmade => {}
+            Refused => refused = refused.wrapping_add(1),
+            Done => done = done.wrapping_add(1),
         }
     }
-    Err(Fail::from("no heap has room"))
+    Some((refused, done))
+}
+
+/// What needs room, for which state, and how many heaps at least have none for it.
+const REFUSED: &[(&str, &str, usize)] = &[
+    ("hand over", BUSY, 8),
+    ("take over", BUSY, 8),
+    ("rebuild", SETTLED, 3),
+    ("adopt", QUIET, 3),
+];
+
+#[test]
+fn what_has_no_room_is_refused(rt: HostRuntime) {
+    for (what, lines, least) in REFUSED {
+        let counts = counts(rt.alloc(), what, lines);
+        let is_so = match counts {
+            Some((refused, done)) => refused > *least && done > 8,
+            None => false,
+        };
+        assert!(rt; is_so, "{what}: {counts:?}");
+    }
 }

@@ -1,0 +1,179 @@
+//! A core as what a run is about. Its steps are init's own lines, `reread` and `reexec`, and `then` leaves the next one
+//! for later; `handed` is the end of the wish to be re-executed. `awaits` has the children whose end is awaited, parted
+//! by `, `, or `none`.
+
+use crate::runs::{Subject, answer_of, goes_on, happening_of, table_of};
+use core_steps::{Core, Goal, Step};
+use core_waiting::{Awaited, AwaitedChildren, Why};
+use init_words::{Level, Memory, Refusal};
+use inittab_text::Table;
+use std::alloc::{Allocator, Global};
+use test_support::boxed;
+use trace_events::{Happening, HappeningIn};
+use trace_text::words::{read_level, read_stage};
+
+/// A core within a run.
+#[derive(Drop)]
+pub(crate) struct CoreRun<A: Allocator> {
+    core: Core<A>,
+    /// The step that stays until the next call; none before the first line that is no reader's.
+    stays: Option<Step>,
+}
+
+pub(crate) fn core_over<A: Allocator + Copy>(
+    own: Global,
+    alloc: A,
+    table: Table<A>,
+    level: Option<Level>,
+) -> Result<Box<CoreRun<A>>, Memory> {
+    let core = Core::new(alloc, table, level)?;
+    Ok(boxed(own, CoreRun { core, stays: None })?)
+}
+
+fn why_text(why: Why) -> &'static str {
+    match why {
+        Why::Excluded => "excluded",
+        Why::WaitedFor => "waited for",
+        Why::InTheWay => "in the way",
+    }
+}
+
+/// The text is that of the child: `ID NUMBER WHY`.
+fn is_text_of(awaited: &Awaited, said: &str) -> Option<bool> {
+    let (id, rest) = said.split_once(' ')?;
+    let (number, why) = rest.split_once(' ')?;
+    Some(
+        id.as_bytes() == awaited.id.as_bytes()
+            && number.parse::<u32>().ok() == Some(awaited.number.0)
+            && why == why_text(awaited.why),
+    )
+}
+
+/// The core awaits the end of just the children of the text, in their order.
+fn awaits<A: Allocator>(core: &Core<A>, text: &str) -> bool {
+    let mut left = AwaitedChildren::of(core);
+    for said in text.split(", ") {
+        let is_said = match left.next() {
+            Some(awaited) => is_text_of(&awaited, said) == Some(true),
+            None => said == "none",
+        };
+        if !is_said {
+            return false;
+        }
+    }
+    left.next().is_none()
+}
+
+/// Whether a reader gives what its line says; none where the line is no reader's.
+fn gives<A: Allocator>(core: &Core<A>, line: &str) -> Option<bool> {
+    let (reader, said) = line.split_once(' ').unwrap_or((line, ""));
+    match reader {
+        "busy" => Some(!core.drained()),
+        "drained" => Some(core.drained()),
+        "awaits" => Some(awaits(core, said)),
+        "stage" => Some(core.stage() == read_stage(said.as_bytes())),
+        "goal" => {
+            let (level, secs) = said.split_once(' ')?;
+            let level = read_level(level.as_bytes())?;
+            let grace = secs.parse::<u16>().ok()?;
+            Some(core.goal() == Goal { level, grace })
+        }
+        "time" => Some(said.parse::<u64>().ok() == Some(core.time())),
+        "entries" => Some(said.parse::<usize>().ok() == Some(core.table().len())),
+        "records" => Some(said.parse::<usize>().ok() == Some(core.slots().len())),
+        _ => None,
+    }
+}
+
+/// The step of a happening that is one.
+fn made_by(happening: &HappeningIn<Global>) -> Option<Step> {
+    Some(match *happening {
+        Happening::Enter(stage, grace) => Step::Enter(stage, grace),
+        Happening::Call(letter) => Step::Call(letter),
+        Happening::Power(kind) => Step::Power(kind),
+        Happening::Asked(id, order) => Step::Order(id, order),
+        Happening::Hold(id) => Step::Hold(id),
+        Happening::Settle(level) => Step::Settle(level),
+        _ => return None,
+    })
+}
+
+fn step_of(own: Global, line: &str) -> Option<Step> {
+    match line {
+        "reread" => Some(Step::Reread),
+        "reexec" => Some(Step::Reexec),
+        _ => made_by(&happening_of(own, line)?),
+    }
+}
+
+/// How the core answers what it is told; none where that is no call.
+fn told<A: Allocator>(
+    core: &mut Core<A>,
+    call: &HappeningIn<Global>,
+) -> Option<Result<(), Refusal>> {
+    match *call {
+        Happening::NotRead => core.not_read(),
+        Happening::Clock(reading) => core.clock(reading),
+        Happening::Nudge => core.begin_round(),
+        Happening::Got(request) => core.got(request),
+        Happening::Handed(_) => core.not_handed(),
+        _ => {
+            let (id, answer) = answer_of(call)?;
+            return Some(core.answer(id, answer));
+        }
+    }
+    Some(Ok(()))
+}
+
+/// How the core answers the call of a line; none where it is no call.
+fn answered<A: Allocator + Copy>(
+    own: Global,
+    alloc: A,
+    core: &mut Core<A>,
+    line: &str,
+) -> Option<Result<(), Refusal>> {
+    match line.strip_prefix("use ") {
+        Some(inittab) => Some(core.adopt(table_of(alloc, inittab)?)),
+        None => told(core, &happening_of(own, line)?),
+    }
+}
+
+impl<A: Allocator + Copy> Subject<A> for CoreRun<A> {
+    fn goes(&mut self, own: Global, alloc: A, line: &str, want: Result<(), Refusal>) -> bool {
+        if let Some(is_so) = gives(&self.core, line) {
+            return is_so;
+        }
+        if line == "then" {
+            self.stays = None;
+            return true;
+        }
+        if let Some(step) = step_of(own, line) {
+            let does_stay = matches!(step, Step::Reread | Step::Reexec);
+            self.stays = Some(if does_stay { step } else { Step::Idle });
+            return self.core.next() == step;
+        }
+        if !self.rests() {
+            return false;
+        }
+        self.stays = Some(Step::Idle);
+        answered(own, alloc, &mut self.core, line) == Some(want)
+    }
+
+    fn rests(&mut self) -> bool {
+        match self.stays {
+            Some(step) => self.core.next() == step,
+            None => true,
+        }
+    }
+}
+
+/// What comes of the lines of a run, of an inittab and an opening level, is as they say.
+pub(crate) fn is_core_run(
+    own: Global,
+    inittab: &str,
+    level: Option<Level>,
+    run: &str,
+) -> Option<bool> {
+    let mut subject = core_over(own, own, table_of(own, inittab)?, level).ok()?;
+    Some(goes_on::<Global, CoreRun<Global>>(own, own, &mut subject, run))
+}
