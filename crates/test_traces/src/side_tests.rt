@@ -1,220 +1,112 @@
-use crate::texts::{first_line, is_said};
-use init_words::{Answer, ChildNumber, Id, OrderKind, Status};
-use simulator::{Objection, SimulatedSystem};
-use std::alloc::{AllocError, Global};
-use std::process::Abort;
-use std::test::Fail;
+//! The system's side below a run of `simulate`: what it allows, what it objects to, and the answers that are under way.
+
+use crate::texts::first_line;
+use init_words::{Answer, Id};
+use simulator::SimulatedSystem;
+use std::alloc::Global;
 use test_support::boxed;
-use trace_events::HappeningIn;
+use trace_events::{Happening, HappeningIn};
 
-/// What is done with the system's side, or asked of it.
-enum Turn {
-    /// It takes an order of an id.
-    Order(&'static [u8], OrderKind),
-    /// A script line is allowed, and taken in, or it is not.
-    Line(&'static str, bool),
-    /// This is objected to a script line.
-    Refused(&'static str, &'static str),
-    /// The answer under way to an id's order is a birth of this number.
-    Born(&'static [u8], u32),
-    /// It is the end of a child, by this exit status or by a signal.
-    Ended(&'static [u8], Option<u8>),
-}
+/// Lines that it takes, orders of init among them; behind ` ! ` what is objected to one. `owes` has the answer about an id
+/// that is under way.
+const RUNS: &[&str] = &[
+    // The children born for a and b take the number 7 in turn: it is free only once the first is reaped.
+    "birth a 7 ! no start of a is open / ask a start / birth a 7 / nobirth a ! no start of a is open / owes birth a 7 / \
+     told a / told a ! nothing is to be told of a / ask a look / \
+     reaped a 7 killed ! a has no dead child with the number 7 / nolook a / told a / death 7 / \
+     death 7 ! no living child has the number 7 / ask b start / birth b 7 ! an unreaped child has the number 7 / \
+     ask a look / reaped a 7 killed / owes reaped a 7 killed / birth b 7 / owes birth b 7",
+    // Two children live at once: one is reaped while the other lives, and then the other.
+    "ask a start / ask b start / birth a 7 / birth b 7 ! an unreaped child has the number 7 / birth b 8 / told a / told b / \
+     ask a look / ask b look / death 7 / reaped b 7 exit 0 ! b has no dead child with the number 7 / \
+     reaped b 8 exit 0 ! b has no dead child with the number 8 / \
+     reaped a 8 exit 0 ! a has no dead child with the number 8 / reaped a 7 exit 0 / owes reaped a 7 exit 0 / \
+     death 7 ! no living child has the number 7 / death 8 / reaped b 8 killed / owes reaped b 8 killed",
+    // What may not come next, and why: each objection, and what is never objected to.
+    "birth a 7 ! no start of a is open / nobirth a ! no start of a is open / told a ! nothing is to be told of a / \
+     death 7 ! no living child has the number 7 / ask a start / ask b~!c start / still a ! no look of a is open / \
+     birth a 4294967295 / nobirth a ! no start of a is open / \
+     birth b~!c 4294967295 ! an unreaped child has the number 4294967295 / told a / \
+     reaped a 4294967295 exit 0 ! no look of a is open / nolook a ! no look of a is open / ask a look / \
+     reaped a 4294967295 exit 0 ! a has no dead child with the number 4294967295 / death 4294967295 / \
+     death 4294967295 ! no living child has the number 4294967295 / \
+     birth b~!c 4294967295 ! an unreaped child has the number 4294967295 / \
+     reaped a 8 killed ! a has no dead child with the number 8 / \
+     reaped b~!c 4294967295 killed ! no look of b~!c is open / reaped a 4294967295 killed / told a / \
+     hit a ! no term or kill of a is open / miss b~!c ! no term or kill of b~!c is open / ask a term / hit a / \
+     miss a ! no term or kill of a is open / told a / ask a kill / miss a / \
+     enter S 5 ! this is a step of init itself / call A ! this is a step of init itself / \
+     power ok ! this is a step of init itself / ask a look ! this is a step of init itself / \
+     hold a ! this is a step of init itself / settle 2 ! this is a step of init itself / \
+     use 0 ! inittab is not to be read now / handed whole / notread / got reload / clock 5 / nudge",
+];
 
-fn order(side: &mut SimulatedSystem, id: &[u8], ask: OrderKind) -> bool {
-    let Some(id) = Id::read(id) else {
-        return false;
-    };
-    let asked: HappeningIn<Global> = HappeningIn::Asked(id, ask);
-    side.take(&asked).is_ok()
-}
-
-/// The answer under way to the id's order.
-fn answer(side: &SimulatedSystem, id: &[u8]) -> Option<Answer> {
-    side.answer(&Id::read(id)?)
-}
-
-fn status(code: Option<u8>) -> Status {
-    match code {
-        Some(code) => Status::Exit(code),
-        None => Status::Killed,
+/// The answer of a happening, where it is one that is under way in a run.
+fn answer_of(happening: &HappeningIn<Global>) -> Option<(Id, Answer)> {
+    match *happening {
+        Happening::Birth(id, number) => Some((id, Answer::Born(number))),
+        Happening::Reaped(id, _, status) => Some((id, Answer::Ended(status))),
+        _ => None,
     }
 }
 
-/// Takes the happening in, if it is allowed, and says whether it is.
-fn step(side: &mut SimulatedSystem, happening: &HappeningIn<Global>) -> Option<bool> {
-    if !side.allows(happening) {
-        return Some(false);
+/// This is objected to the happening.
+fn is_refused(
+    own: Global,
+    side: &SimulatedSystem,
+    happening: &HappeningIn<Global>,
+    text: &str,
+) -> Option<bool> {
+    let why = side.objection(happening)?;
+    let told = format!(in own; "{why}").ok()?;
+    Some(!side.allows(happening) && told.as_str() == text)
+}
+
+/// The happening is an order or allowed, and is taken.
+fn is_taken(side: &mut SimulatedSystem, happening: &HappeningIn<Global>) -> bool {
+    let may_come = matches!(happening, Happening::Asked(_, _)) || side.allows(happening);
+    may_come && side.take(happening).is_ok()
+}
+
+/// The happening goes so: its answer is under way, it is taken, or this is objected to it.
+fn happens(
+    own: Global,
+    side: &mut SimulatedSystem,
+    happening: &HappeningIn<Global>,
+    is_owed: bool,
+    why: &str,
+) -> Option<bool> {
+    if is_owed {
+        let (id, answer) = answer_of(happening)?;
+        return Some(side.answer(&id) == Some(answer));
     }
-    side.take(happening).ok()?;
+    if why.is_empty() {
+        return Some(is_taken(side, happening));
+    }
+    is_refused(own, side, happening, why)
+}
+
+/// The line goes as it says.
+fn goes(own: Global, side: &mut SimulatedSystem, line: &str) -> Option<bool> {
+    let (said, why) = line.split_once(" ! ").unwrap_or((line, ""));
+    let owed = said.strip_prefix("owes ");
+    let happening = first_line(own, owed.unwrap_or(said))?;
+    happens(own, side, &happening, owed.is_some(), why)
+}
+
+fn all_go(own: Global, run: &str) -> Option<bool> {
+    let mut side = boxed(own, SimulatedSystem::new(own)).ok()?;
+    for line in run.split(" / ") {
+        if !goes(own, &mut side, line)? {
+            return Some(false);
+        }
+    }
     Some(true)
 }
 
-fn step_line(alloc: Global, side: &mut SimulatedSystem, line: &str) -> Option<bool> {
-    let happening = first_line(alloc, line)?;
-    step(side, &happening)
-}
-
-/// What is objected to a script line.
-fn objection(alloc: Global, side: &SimulatedSystem, line: &str) -> Option<Objection> {
-    let happening = first_line(alloc, line)?;
-    side.objection(&happening)
-}
-
-/// What is objected to a script line is this text.
-fn objects(alloc: Global, side: &SimulatedSystem, line: &str, text: &str) -> bool {
-    match objection(alloc, side, line) {
-        Some(why) => is_said(alloc, why, text),
-        None => false,
-    }
-}
-
-/// The turn goes as it says.
-fn goes(alloc: Global, side: &mut SimulatedSystem, turn: &Turn) -> bool {
-    match turn {
-        Turn::Order(id, ask) => order(side, id, *ask),
-        Turn::Line(line, is_allowed) => step_line(alloc, side, line) == Some(*is_allowed),
-        Turn::Refused(line, text) => objects(alloc, side, line, text),
-        Turn::Born(id, number) => answer(side, id) == Some(Answer::Born(ChildNumber(*number))),
-        Turn::Ended(id, code) => answer(side, id) == Some(Answer::Ended(status(*code))),
-    }
-}
-
-fn system_side(alloc: Global) -> Result<Box<SimulatedSystem>, AllocError> {
-    boxed(alloc, SimulatedSystem::new(alloc))
-}
-
-fn all_go(alloc: Global, side: &mut SimulatedSystem, turns: &[Turn]) -> bool {
-    for turn in turns {
-        if !goes(alloc, side, turn) {
-            return false;
-        }
-    }
-    true
-}
-
-fn follow(rt: &impl Abort, alloc: Global, turns: &[Turn]) -> Result<(), Fail> {
-    let mut side = system_side(alloc)?;
-    assert!(rt; all_go(alloc, &mut side, turns));
-    Ok(())
-}
-
-/// The children born for a and b take the number 7 in turn: it is free only once the first is reaped.
-const IN_TURN: &[Turn] = &[
-    Turn::Line("birth a 7", false),
-    Turn::Order(b"a", OrderKind::Start),
-    Turn::Line("birth a 7", true),
-    Turn::Line("nobirth a", false),
-    Turn::Born(b"a", 7),
-    Turn::Line("told a", true),
-    Turn::Line("told a", false),
-    Turn::Order(b"a", OrderKind::Look),
-    Turn::Line("reaped a 7 killed", false),
-    Turn::Line("nolook a", true),
-    Turn::Line("told a", true),
-    Turn::Line("death 7", true),
-    Turn::Line("death 7", false),
-    Turn::Order(b"b", OrderKind::Start),
-    Turn::Line("birth b 7", false),
-    Turn::Order(b"a", OrderKind::Look),
-    Turn::Line("reaped a 7 killed", true),
-    Turn::Ended(b"a", None),
-    Turn::Line("birth b 7", true),
-    Turn::Born(b"b", 7),
-];
-
-/// Two children live at once: one is reaped while the other lives, and then the other.
-const AT_ONCE: &[Turn] = &[
-    Turn::Order(b"a", OrderKind::Start),
-    Turn::Order(b"b", OrderKind::Start),
-    Turn::Line("birth a 7", true),
-    Turn::Line("birth b 7", false),
-    Turn::Line("birth b 8", true),
-    Turn::Line("told a", true),
-    Turn::Line("told b", true),
-    Turn::Order(b"a", OrderKind::Look),
-    Turn::Order(b"b", OrderKind::Look),
-    Turn::Line("death 7", true),
-    Turn::Line("reaped b 7 exit 0", false),
-    Turn::Line("reaped b 8 exit 0", false),
-    Turn::Line("reaped a 8 exit 0", false),
-    Turn::Line("reaped a 7 exit 0", true),
-    Turn::Ended(b"a", Some(0)),
-    Turn::Line("death 7", false),
-    Turn::Line("death 8", true),
-    Turn::Line("reaped b 8 killed", true),
-    Turn::Ended(b"b", None),
-];
-
-/// What may not come next, and why: each objection, and what is never objected to.
-const OBJECTIONS: &[Turn] = &[
-    Turn::Refused("birth a 7", "no start of a is open"),
-    Turn::Refused("nobirth a", "no start of a is open"),
-    Turn::Refused("told a", "nothing is to be told of a"),
-    Turn::Refused("death 7", "no living child has the number 7"),
-    Turn::Order(b"a", OrderKind::Start),
-    Turn::Order(b"b~!c", OrderKind::Start),
-    Turn::Refused("still a", "no look of a is open"),
-    Turn::Line("birth a 4294967295", true),
-    Turn::Refused("nobirth a", "no start of a is open"),
-    Turn::Refused(
-        "birth b~!c 4294967295",
-        "an unreaped child has the number 4294967295",
-    ),
-    Turn::Line("told a", true),
-    Turn::Refused("reaped a 4294967295 exit 0", "no look of a is open"),
-    Turn::Refused("nolook a", "no look of a is open"),
-    Turn::Order(b"a", OrderKind::Look),
-    Turn::Refused(
-        "reaped a 4294967295 exit 0",
-        "a has no dead child with the number 4294967295",
-    ),
-    Turn::Line("death 4294967295", true),
-    Turn::Refused(
-        "death 4294967295",
-        "no living child has the number 4294967295",
-    ),
-    Turn::Refused(
-        "birth b~!c 4294967295",
-        "an unreaped child has the number 4294967295",
-    ),
-    Turn::Refused("reaped a 8 killed", "a has no dead child with the number 8"),
-    Turn::Refused("reaped b~!c 4294967295 killed", "no look of b~!c is open"),
-    Turn::Line("reaped a 4294967295 killed", true),
-    Turn::Line("told a", true),
-    Turn::Refused("hit a", "no term or kill of a is open"),
-    Turn::Refused("miss b~!c", "no term or kill of b~!c is open"),
-    Turn::Order(b"a", OrderKind::Term),
-    Turn::Line("hit a", true),
-    Turn::Refused("miss a", "no term or kill of a is open"),
-    Turn::Line("told a", true),
-    Turn::Order(b"a", OrderKind::Kill),
-    Turn::Line("miss a", true),
-    Turn::Refused("enter S 5", "this is a step of init itself"),
-    Turn::Refused("call A", "this is a step of init itself"),
-    Turn::Refused("power ok", "this is a step of init itself"),
-    Turn::Refused("ask a look", "this is a step of init itself"),
-    Turn::Refused("hold a", "this is a step of init itself"),
-    Turn::Refused("settle 2", "this is a step of init itself"),
-    Turn::Refused("use 0", "inittab is not to be read now"),
-    Turn::Line("handed whole", true),
-    Turn::Line("notread", true),
-    Turn::Line("got reload", true),
-    Turn::Line("clock 5", true),
-    Turn::Line("nudge", true),
-];
-
 #[test]
-fn number_of_two_children(rt: HostRuntime) -> Result<(), Fail> {
-    follow(&rt, rt.alloc(), IN_TURN)
-}
-
-#[test]
-fn two_children_at_once(rt: HostRuntime) -> Result<(), Fail> {
-    follow(&rt, rt.alloc(), AT_ONCE)
-}
-
-#[test]
-fn each_objection(rt: HostRuntime) -> Result<(), Fail> {
-    follow(&rt, rt.alloc(), OBJECTIONS)
+fn the_system_is_simulated(rt: HostRuntime) {
+    for run in RUNS {
+        assert!(rt; all_go(rt.alloc(), run) == Some(true), "{run}");
+    }
 }

@@ -4,8 +4,6 @@
 #[cfg(test)]
 mod log_tests;
 #[cfg(test)]
-mod reexec_tests;
-#[cfg(test)]
 mod replies;
 #[cfg(test)]
 mod request_tests;
@@ -15,5 +13,3 @@ mod room_tests;
 mod run_tests;
 #[cfg(test)]
 mod runs;
-#[cfg(test)]
-mod trials;

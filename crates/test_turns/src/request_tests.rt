@@ -1,12 +1,14 @@
 //! Blocks of requests that are cut at any place, by which the turns divide them.
 
-use crate::runs::{Bench, serve_on};
-use crate::trials::{Trial, passes};
-use init_words::Level;
-use initctl_frame::{Blocks, Cause, HeardRequest};
-use std::alloc::{Allocator, Global};
-use std::fmt::Write;
+use crate::replies::blocks_of;
+use crate::runs::{Bench, bench_of, serve_on};
+use host_calls::Bytes;
+use host_scripted::MemoryHost;
+use init_words::{Level, Memory};
+use initctl_frame::{BLOCK, Blocks, Cause, HeardRequest};
+use std::alloc::Global;
 use trace_events::{Happening, HappeningIn};
+use trace_log::ListLog;
 
 /// The requests of a good block, a bad one and a good one: `q bad 2`.
 const REQUESTS: &[HeardRequest] = &[
@@ -29,63 +31,80 @@ fn has_requests(list: &[HappeningIn<Global>], count: usize) -> bool {
     place == count
 }
 
-/// After a turn over the bytes up to a place, those of whole blocks were heard.
-fn hears_whole_blocks<A: Allocator + Copy>(
-    bench: &mut Bench<A>,
+/// Gives the host the bytes of the requests: those up to a place, and the others in pieces of one length, each in a turn
+/// of its own.
+fn give_pieces(
+    own: Global,
+    host: &mut MemoryHost,
+    front: &[u8],
+    rest: &[u8],
+    length: usize,
+) -> Result<(), Memory> {
+    if !front.is_empty() {
+        host.give_bytes(Ok(Bytes::copy_of(own, front)?))?;
+    }
+    for piece in rest.chunks(length.max(1)) {
+        host.give_bytes(Ok(Bytes::new(own)))?;
+        host.give_bytes(Ok(Bytes::copy_of(own, piece)?))?;
+    }
+    host.give_bytes(Ok(Bytes::new(own)))
+}
+
+/// After a turn over the bytes up to a place, those of whole blocks were heard, and no step is due; where there are none,
+/// there are five happenings: the time, the round, two stages, and the settled level.
+fn hears_whole_blocks(
+    own: Global,
+    bench: &mut Bench<Global, Global, ListLog>,
     blocks: &mut Blocks,
     heard: usize,
 ) -> bool {
-    init_turns::turn(bench.own, bench.core, bench.edge, blocks);
-    blocks.rest() == heard % 384 && has_requests(bench.edge.log.list(), heard / 384)
+    let is_done = init_turns::turn(own, &mut bench.core, &mut bench.edge, blocks);
+    let list = bench.edge.log.list();
+    is_done
+        && bench.core.drained()
+        && blocks.rest() == heard % BLOCK
+        && has_requests(list, heard / BLOCK)
+        && (heard >= BLOCK || list.len() == 5)
 }
 
-/// A turn over the bytes up to a place, and one over the others, hear the blocks that came whole.
-pub(crate) fn hears_parts<A: Allocator + Copy>(bench: &mut Bench<A>, place: usize) -> bool {
-    let mut blocks = Blocks::new();
-    hears_whole_blocks(bench, &mut blocks, place) && hears_whole_blocks(bench, &mut blocks, 1152)
-}
-
-fn is_cut(own: Global, place: usize) -> bool {
-    let replies = format!(in own; "piece 0 {place} q bad 2 / bytes / piece {place} 1152 q bad 2");
-    match &replies {
-        Ok(replies) => passes(own, "# none", replies.as_str(), &Trial::Parts(place)),
-        Err(_) => false,
+/// All requests are heard in the given number of turns; where none is given, in two turns, of which the first hears the
+/// blocks that came whole.
+fn hears(
+    own: Global,
+    bench: &mut Bench<Global, Global, ListLog>,
+    place: usize,
+    turns: Option<u64>,
+) -> bool {
+    match turns {
+        Some(turns) => {
+            serve_on(own, bench, turns, false);
+            has_requests(bench.edge.log.list(), 3)
+        }
+        None => {
+            let mut blocks = Blocks::new();
+            hears_whole_blocks(own, bench, &mut blocks, place)
+                && hears_whole_blocks(own, bench, &mut blocks, 1152)
+        }
     }
+}
+
+/// The requests are heard where the bytes up to a place come first, and the others in pieces of this length.
+fn are_heard(own: Global, place: usize, length: usize, turns: Option<u64>) -> Option<bool> {
+    let bytes = blocks_of(own, "q bad 2")?;
+    let (front, rest) = bytes.split_at_checked(place)?;
+    let mut bench = bench_of(own, own, own, "# none", ListLog::new(own))?;
+    give_pieces(own, &mut bench.edge.host, front, rest, length).ok()?;
+    Some(hears(own, &mut bench, place, turns))
 }
 
 #[test]
 fn a_turn_hears_the_blocks_that_came_whole(rt: HostRuntime) {
-    for place in 1..1152usize {
-        assert!(rt; is_cut(rt.alloc(), place), "at {place}");
+    for place in 0..1152usize {
+        assert!(rt;
+            are_heard(rt.alloc(), place, 1152, None) == Some(true),
+            "at {place}"
+        );
     }
-}
-
-/// Adds the bytes from a place on, so many, in a turn of their own.
-fn add_piece(replies: &mut String, from: usize, length: usize) -> bool {
-    let to = from.saturating_add(length).min(1152);
-    write!(replies, "piece {from} {to} q bad 2 / bytes / ").is_ok()
-}
-
-/// Adds the bytes in pieces of one length, each in a turn of its own.
-fn add_pieces(replies: &mut String, length: usize) -> bool {
-    for from in (0..1152usize).step_by(length.max(1)) {
-        if !add_piece(replies, from, length) {
-            return false;
-        }
-    }
-    replies.push_str("bytes").is_ok()
-}
-
-/// All requests are heard in the given number of turns.
-pub(crate) fn hears_all<A: Allocator + Copy>(bench: &mut Bench<A>, turns: u64) -> bool {
-    serve_on(bench, turns, false);
-    has_requests(bench.edge.log.list(), 3)
-}
-
-fn are_served(own: Global, length: usize, turns: u64) -> bool {
-    let mut replies = String::new(own);
-    add_pieces(&mut replies, length)
-        && passes(own, "# none", replies.as_str(), &Trial::Heard(turns))
 }
 
 /// Lengths of pieces, and how many turns they take.
@@ -94,6 +113,9 @@ const LENGTHS: &[(usize, u64)] = &[(1, 1152), (7, 165), (255, 5), (256, 5), (257
 #[test]
 fn requests_are_those_of_all_bytes(rt: HostRuntime) {
     for (length, turns) in LENGTHS {
-        assert!(rt; are_served(rt.alloc(), *length, *turns), "{length}");
+        assert!(rt;
+            are_heard(rt.alloc(), *length, *length, Some(*turns)) == Some(true),
+            "{length}"
+        );
     }
 }

@@ -1,22 +1,39 @@
-//! Worked runs.
+//! Worked runs, and those that differ from them in one call; init re-executed: what comes of its state text where that
+//! comes back whole, cut, older, changed, or not at all.
 
-use crate::runs::{Bench, Calls, Row};
-use crate::trials::{Trial, are_run, passes};
-use initctl_frame::Blocks;
-use std::alloc::Allocator;
+use crate::runs::{Row, passes};
+use std::alloc::Global;
 use std::test::Fail;
 
-/// Runs without a fault of a file or a signal.
+/// A child is born, and its level ends.
+const SERVED: Row = Row {
+    inittab: "id:3:initdefault:|r:3:respawn:serv",
+    replies: "start birth 10 / clock 100 / clock 101 / clock 106 / clock 107 / bytes / bytes 1 / \
+            table id:3:initdefault:|r:3:respawn:serv / signal hit / signal hit / look still / look still / look killed",
+    limit: (9, true),
+    ended: (4, true),
+    faults: 0,
+    trace: "clock 100 / nudge / enter sysinit 5 / enter boot 5 / enter 3 5 / ask r start / birth r 10 / told r / settle 3 / \
+            clock 101 / got level 1 5 / nudge / use 2 / id:3:initdefault: / r:3:respawn:serv / enter 1 5 / \
+            ask r term / hit r / told r / ask r look / still r / told r / \
+            clock 106 / nudge / ask r kill / hit r / told r / ask r look / still r / told r / \
+            clock 107 / nudge / ask r look / death 10 / reaped r 10 killed / told r / settle 1",
+};
+
+/// The state text of init is taken over, before inittab is read again.
+const HANDED: Row = Row {
+    inittab: "# none",
+    replies: "bytes q u",
+    limit: (1, true),
+    ended: (1, true),
+    faults: 0,
+    trace: "clock 0 / got reload / got reexec / nudge / enter sysinit 5 / handed whole / use 0 / enter S 5 / settle S",
+};
+
+/// Runs without a fault of a file or a signal, and runs of which init is executed anew.
 const ROWS: &[Row] = &[
-    // No turn is nothing.
-    Row {
-        inittab: "# none",
-        replies: "",
-        limit: (0, false),
-        ended: (0, false),
-        faults: 0,
-        trace: "",
-    },
+    SERVED,
+    HANDED,
     // A start fails, the next is answered late.
     Row {
         inittab: "id:3:initdefault:|w:3:wait:prep|r:3:respawn:serv",
@@ -48,19 +65,6 @@ const ROWS: &[Row] = &[
                 clock 0 / nudge / ask b look / still b / told b / \
                 clock 0 / nudge / ask b look / death 2 / reaped b 2 killed / told b / ask c start / birth c 3 / told c / settle 3 / \
                 clock 0 / nudge / ask c look / death 3 / reaped c 3 exit 7 / told c",
-    },
-    // Respawned too fast.
-    Row {
-        inittab: "r:S:respawn:x",
-        replies: "clock 7",
-        limit: (1, true),
-        ended: (1, false),
-        faults: 10,
-        trace: "clock 7 / nudge / enter sysinit 5 / enter S 5 / ask r start / nobirth r / told r / \
-                ask r start / nobirth r / told r / ask r start / nobirth r / told r / ask r start / nobirth r / told r / \
-                ask r start / nobirth r / told r / ask r start / nobirth r / told r / ask r start / nobirth r / told r / \
-                ask r start / nobirth r / told r / ask r start / nobirth r / told r / ask r start / nobirth r / told r / \
-                hold r / settle S",
     },
     // All requests that came, before the round; one of them is no block.
     Row {
@@ -155,247 +159,363 @@ const ROWS: &[Row] = &[
                 clock 110 / hit r / told r / nudge / ask r look / still r / told r / \
                 clock 114 / nudge / ask r look / still r / told r / \
                 clock 115 / nudge / ask r kill / hit r / told r / ask r look / death 10 / reaped r 10 killed / told r / settle 1",
+    }, // The second time the text of the first comes back, and the third time its own.
+    Row {
+        inittab: "# none",
+        replies: "bytes u / bytes / bytes u / bytes / bytes u / carry fails / \
+                carry initd-state 2|generation 1|clock 0|stage sysinit 5|goal S 5|flags 00|wish 00 - 000 000|table 0|end 8",
+        limit: (3, false),
+        ended: (3, true),
+        faults: 1,
+        trace: "clock 0 / got reexec / nudge / enter sysinit 5 / handed none / enter S 5 / settle S / \
+                clock 0 / got reexec / nudge / handed older 1 / clock 0 / got reexec / nudge / handed whole",
+    },
+    // A child, and the order about it that is open, are not lost.
+    Row {
+        inittab: "r:S:respawn:x",
+        replies: "start birth 10 / bytes / bytes u / look later / late / late / late r exit 3 / start birth 11",
+        limit: (3, false),
+        ended: (3, false),
+        faults: 0,
+        trace: "clock 0 / nudge / enter sysinit 5 / enter S 5 / ask r start / birth r 10 / told r / settle S / \
+                clock 0 / got reexec / nudge / handed whole / ask r look / \
+                clock 0 / death 10 / reaped r 10 exit 3 / told r / nudge / ask r start / birth r 11 / told r",
+    },
+    Row {
+        inittab: "r:S:respawn:x",
+        replies: "start birth 10 / bytes / bytes / bytes u / look later / late / late / late / late r exit 3 / start birth 11",
+        limit: (4, false),
+        ended: (4, false),
+        faults: 0,
+        trace: "clock 0 / nudge / enter sysinit 5 / enter S 5 / ask r start / birth r 10 / told r / settle S / \
+                clock 0 / nudge / ask r look / clock 0 / got reexec / nudge / handed whole / \
+                clock 0 / death 10 / reaped r 10 exit 3 / told r / nudge / ask r start / birth r 11 / told r",
     },
 ];
 
-#[test]
-fn runs(rt: HostRuntime) -> Result<(), Fail> {
-    are_run(rt.alloc(), ROWS)
+/// A run that differs from another one: a part of what the host is given and what is there in its place, how many calls
+/// are faults then, and the parts of the trace that are others.
+struct Change {
+    replies: (&'static str, &'static str),
+    faults: u64,
+    trace: &'static [(&'static str, &'static str)],
 }
 
-/// The same run, of which in turn each call fails once.
-const FAILING: &[Row] = &[
-    // No call.
-    Row {
-        inittab: "id:3:initdefault:|r:3:respawn:serv",
-        replies: "start birth 10 / clock 100 / clock 101 / clock 106 / clock 107 / bytes / bytes 1 / \
-                table id:3:initdefault:|r:3:respawn:serv / signal hit / signal hit / look still / look still / look killed",
-        limit: (9, true),
-        ended: (4, true),
-        faults: 0,
-        trace: "clock 100 / nudge / enter sysinit 5 / enter boot 5 / enter 3 5 / ask r start / birth r 10 / told r / settle 3 / \
-                clock 101 / got level 1 5 / nudge / use 2 / id:3:initdefault: / r:3:respawn:serv / enter 1 5 / \
-                ask r term / hit r / told r / ask r look / still r / told r / \
-                clock 106 / nudge / ask r kill / hit r / told r / ask r look / still r / told r / \
-                clock 107 / nudge / ask r look / death 10 / reaped r 10 killed / told r / settle 1",
-    },
-    // The start.
-    Row {
-        inittab: "id:3:initdefault:|r:3:respawn:serv",
-        replies: "start nobirth / start birth 10 / clock 100 / clock 101 / clock 106 / clock 107 / bytes / bytes 1 / \
-                table id:3:initdefault:|r:3:respawn:serv / signal hit / signal hit / look still / look still / look killed",
-        limit: (9, true),
-        ended: (4, true),
-        faults: 1,
-        trace: "clock 100 / nudge / enter sysinit 5 / enter boot 5 / enter 3 5 / ask r start / nobirth r / told r / \
-                ask r start / birth r 10 / told r / settle 3 / \
-                clock 101 / got level 1 5 / nudge / use 2 / id:3:initdefault: / r:3:respawn:serv / enter 1 5 / \
-                ask r term / hit r / told r / ask r look / still r / told r / \
-                clock 106 / nudge / ask r kill / hit r / told r / ask r look / still r / told r / \
-                clock 107 / nudge / ask r look / death 10 / reaped r 10 killed / told r / settle 1",
-    },
-    // The first look.
-    Row {
-        inittab: "id:3:initdefault:|r:3:respawn:serv",
-        replies: "start birth 10 / clock 100 / clock 101 / clock 106 / clock 107 / bytes / bytes 1 / \
-                table id:3:initdefault:|r:3:respawn:serv / signal hit / signal hit / look nolook / look still / look killed",
-        limit: (9, true),
-        ended: (4, true),
-        faults: 1,
-        trace: "clock 100 / nudge / enter sysinit 5 / enter boot 5 / enter 3 5 / ask r start / birth r 10 / told r / settle 3 / \
-                clock 101 / got level 1 5 / nudge / use 2 / id:3:initdefault: / r:3:respawn:serv / enter 1 5 / \
-                ask r term / hit r / told r / ask r look / nolook r / told r / \
-                clock 106 / nudge / ask r kill / hit r / told r / ask r look / still r / told r / \
-                clock 107 / nudge / ask r look / death 10 / reaped r 10 killed / told r / settle 1",
-    },
-    // The first signal.
-    Row {
-        inittab: "id:3:initdefault:|r:3:respawn:serv",
-        replies: "start birth 10 / clock 100 / clock 101 / clock 106 / clock 107 / bytes / bytes 1 / \
-                table id:3:initdefault:|r:3:respawn:serv / signal miss / signal hit / look still / look still / look killed",
-        limit: (9, true),
-        ended: (4, true),
-        faults: 1,
-        trace: "clock 100 / nudge / enter sysinit 5 / enter boot 5 / enter 3 5 / ask r start / birth r 10 / told r / settle 3 / \
-                clock 101 / got level 1 5 / nudge / use 2 / id:3:initdefault: / r:3:respawn:serv / enter 1 5 / \
-                ask r term / miss r / told r / ask r look / still r / told r / \
-                clock 106 / nudge / ask r term / hit r / told r / ask r look / still r / told r / \
-                clock 107 / nudge / ask r look / death 10 / reaped r 10 killed / told r / settle 1",
-    },
-    // The second signal.
-    Row {
-        inittab: "id:3:initdefault:|r:3:respawn:serv",
-        replies: "start birth 10 / clock 100 / clock 101 / clock 106 / clock 107 / bytes / bytes 1 / \
-                table id:3:initdefault:|r:3:respawn:serv / signal hit / signal miss / look still / look still / look killed",
-        limit: (9, true),
-        ended: (4, true),
-        faults: 1,
-        trace: "clock 100 / nudge / enter sysinit 5 / enter boot 5 / enter 3 5 / ask r start / birth r 10 / told r / settle 3 / \
-                clock 101 / got level 1 5 / nudge / use 2 / id:3:initdefault: / r:3:respawn:serv / enter 1 5 / \
-                ask r term / hit r / told r / ask r look / still r / told r / \
-                clock 106 / nudge / ask r kill / miss r / told r / ask r look / still r / told r / \
-                clock 107 / nudge / ask r kill / hit r / told r / ask r look / death 10 / reaped r 10 killed / told r / settle 1",
-    },
-    // The second reading: the time stays, and the grace counts from it.
-    Row {
-        inittab: "id:3:initdefault:|r:3:respawn:serv",
-        replies: "start birth 10 / clock 100 / clock fails / clock 105 / clock 107 / bytes / bytes 1 / \
-                table id:3:initdefault:|r:3:respawn:serv / signal hit / signal hit / look still / look still / look killed",
-        limit: (9, true),
-        ended: (4, true),
-        faults: 1,
-        trace: "clock 100 / nudge / enter sysinit 5 / enter boot 5 / enter 3 5 / ask r start / birth r 10 / told r / settle 3 / \
-                got level 1 5 / nudge / use 2 / id:3:initdefault: / r:3:respawn:serv / enter 1 5 / \
-                ask r term / hit r / told r / ask r look / still r / told r / \
-                clock 105 / nudge / ask r kill / hit r / told r / ask r look / still r / told r / \
-                clock 107 / nudge / ask r look / death 10 / reaped r 10 killed / told r / settle 1",
-    },
-    // The bytes, within a block, whose cut stays.
-    Row {
-        inittab: "id:3:initdefault:|r:3:respawn:serv",
-        replies: "start birth 10 / clock 100 / clock 101 / clock 106 / clock 111 / bytes / piece 0 200 1 / bytes fails / \
-                piece 200 384 1 / table id:3:initdefault:|r:3:respawn:serv / signal hit / signal hit / look still / \
-                look still / look killed",
-        limit: (9, true),
-        ended: (4, true),
-        faults: 1,
-        trace: "clock 100 / nudge / enter sysinit 5 / enter boot 5 / enter 3 5 / ask r start / birth r 10 / told r / settle 3 / \
-                clock 101 / nudge / ask r look / still r / told r / \
-                clock 106 / got level 1 5 / nudge / use 2 / id:3:initdefault: / r:3:respawn:serv / enter 1 5 / \
-                ask r term / hit r / told r / ask r look / still r / told r / \
-                clock 111 / nudge / ask r kill / hit r / told r / ask r look / death 10 / reaped r 10 killed / told r / settle 1",
-    },
-    // The answer to the first look, which comes late.
-    Row {
-        inittab: "id:3:initdefault:|r:3:respawn:serv",
-        replies: "start birth 10 / clock 100 / clock 101 / clock 106 / clock 107 / bytes / bytes 1 / \
-                table id:3:initdefault:|r:3:respawn:serv / signal hit / signal hit / look later / late / late / \
-                late r nolook / look still / look killed",
-        limit: (9, true),
-        ended: (4, true),
-        faults: 1,
-        trace: "clock 100 / nudge / enter sysinit 5 / enter boot 5 / enter 3 5 / ask r start / birth r 10 / told r / settle 3 / \
-                clock 101 / got level 1 5 / nudge / use 2 / id:3:initdefault: / r:3:respawn:serv / enter 1 5 / \
-                ask r term / hit r / told r / ask r look / \
-                clock 106 / nolook r / told r / nudge / ask r kill / hit r / told r / ask r look / still r / told r / \
-                clock 107 / nudge / ask r look / death 10 / reaped r 10 killed / told r / settle 1",
-    },
-    // The text of init's state, while the child runs.
-    Row {
-        inittab: "id:3:initdefault:|r:3:respawn:serv",
-        replies: "start birth 10 / clock 100 / clock 101 / clock 106 / clock 111 / bytes / bytes u / bytes / bytes 1 / carry fails / \
-                table id:3:initdefault:|r:3:respawn:serv / signal hit / signal hit / look still / look still / look killed",
-        limit: (9, true),
-        ended: (4, true),
-        faults: 1,
-        trace: "clock 100 / nudge / enter sysinit 5 / enter boot 5 / enter 3 5 / ask r start / birth r 10 / told r / settle 3 / \
-                clock 101 / got reexec / nudge / handed none / ask r look / still r / told r / \
-                clock 106 / got level 1 5 / nudge / use 2 / id:3:initdefault: / r:3:respawn:serv / enter 1 5 / \
-                ask r term / hit r / told r / ask r look / still r / told r / \
-                clock 111 / nudge / ask r kill / hit r / told r / ask r look / death 10 / reaped r 10 killed / told r / settle 1",
-    },
-    // The inittab,
-    Row {
-        inittab: "id:3:initdefault:|r:3:respawn:serv",
-        replies: "start birth 10 / clock 100 / clock 101 / clock 106 / clock 107 / bytes / bytes 1 / \
-                table fails / signal hit / signal hit / look still / look still / look killed",
-        limit: (9, true),
-        ended: (4, true),
-        faults: 1,
-        trace: "clock 100 / nudge / enter sysinit 5 / enter boot 5 / enter 3 5 / ask r start / birth r 10 / told r / settle 3 / \
-                clock 101 / got level 1 5 / nudge / notread / enter 1 5 / \
-                ask r term / hit r / told r / ask r look / still r / told r / \
-                clock 106 / nudge / ask r kill / hit r / told r / ask r look / still r / told r / \
-                clock 107 / nudge / ask r look / death 10 / reaped r 10 killed / told r / settle 1",
-    },
-    // and its reading.
-    Row {
-        inittab: "id:3:initdefault:|r:3:respawn:serv",
-        replies: "start birth 10 / clock 100 / clock 101 / clock 106 / clock 107 / bytes / bytes 1 / \
-                table long / signal hit / signal hit / look still / look still / look killed",
-        limit: (9, true),
-        ended: (4, true),
-        faults: 0,
-        trace: "clock 100 / nudge / enter sysinit 5 / enter boot 5 / enter 3 5 / ask r start / birth r 10 / told r / settle 3 / \
-                clock 101 / got level 1 5 / nudge / notread / enter 1 5 / \
-                ask r term / hit r / told r / ask r look / still r / told r / \
-                clock 106 / nudge / ask r kill / hit r / told r / ask r look / still r / told r / \
-                clock 107 / nudge / ask r look / death 10 / reaped r 10 killed / told r / settle 1",
-    },
-];
-
-#[test]
-fn a_call_that_fails_leaves_the_rest(rt: HostRuntime) -> Result<(), Fail> {
-    are_run(rt.alloc(), FAILING)
-}
-
-/// An inittab, what the host is given, how many turns are made, and its calls.
-const CALLS: &[(&str, &str, Calls)] = &[
-    ("# none", "", Calls { turns: 0, want: "" }),
+const CHANGES: &[(Row, &[Change])] = &[
+    // In turn each call fails once.
     (
-        "id:3:initdefault:|r:3:respawn:serv",
-        "start birth 10 / bytes / bytes 1 / table r:3:respawn:serv / look still / clock 0 / clock 0 / clock 9 / look killed",
-        Calls {
-            turns: 3,
-            want: "CBLNNNservSNPCBBBLTNGOPCBLGONP",
-        },
+        SERVED,
+        &[
+            // The start.
+            Change {
+                replies: ("start birth", "start nobirth / start birth"),
+                faults: 1,
+                trace: &[(
+                    "ask r start",
+                    "ask r start / nobirth r / told r / ask r start",
+                )],
+            },
+            // The first look.
+            Change {
+                replies: ("look still", "look nolook"),
+                faults: 1,
+                trace: &[("still r", "nolook r")],
+            },
+            // The first signal.
+            Change {
+                replies: ("signal hit", "signal miss"),
+                faults: 1,
+                trace: &[("hit r", "miss r"), ("kill", "term")],
+            },
+            // The second signal.
+            Change {
+                replies: ("signal hit / look", "signal miss / look"),
+                faults: 1,
+                trace: &[
+                    ("kill / hit r", "kill / miss r"),
+                    (
+                        "clock 107 / nudge",
+                        "clock 107 / nudge / ask r kill / hit r / told r",
+                    ),
+                ],
+            },
+            // The second reading: the time stays, and the grace counts from it.
+            Change {
+                replies: ("clock 101 / clock 106", "clock fails / clock 105"),
+                faults: 1,
+                trace: &[("clock 101 / ", ""), ("clock 106", "clock 105")],
+            },
+            // The bytes, within a block, whose cut stays.
+            Change {
+                replies: (
+                    "clock 107 / bytes / bytes 1",
+                    "clock 111 / bytes / bytes 1- / bytes fails / bytes -1",
+                ),
+                faults: 1,
+                trace: &[
+                    (
+                        "clock 101",
+                        "clock 101 / nudge / ask r look / still r / told r / clock 106",
+                    ),
+                    ("clock 106 / nudge", "clock 111 / nudge"),
+                    (
+                        "still r / told r / clock 107 / nudge / ask r look / death",
+                        "death",
+                    ),
+                ],
+            },
+            // The answer to the first look, which comes late.
+            Change {
+                replies: ("look still", "look later / late / late / late r nolook"),
+                faults: 1,
+                trace: &[(
+                    "still r / told r / clock 106",
+                    "clock 106 / nolook r / told r",
+                )],
+            },
+            // The text of init's state, while the child runs.
+            Change {
+                replies: (
+                    "clock 107 / bytes / bytes 1",
+                    "clock 111 / bytes / bytes u / bytes / bytes 1 / carry fails",
+                ),
+                faults: 1,
+                trace: &[
+                    (
+                        "clock 101",
+                        "clock 101 / got reexec / nudge / handed none / ask r look / still r / told r / clock 106",
+                    ),
+                    ("clock 106 / nudge", "clock 111 / nudge"),
+                    (
+                        "still r / told r / clock 107 / nudge / ask r look / death",
+                        "death",
+                    ),
+                ],
+            },
+            // The inittab,
+            Change {
+                replies: ("table id:3:initdefault:|r:3:respawn:serv", "table fails"),
+                faults: 1,
+                trace: &[("use 2 / id:3:initdefault: / r:3:respawn:serv", "notread")],
+            },
+            // and its reading.
+            Change {
+                replies: ("table id:3:initdefault:|r:3:respawn:serv", "table long"),
+                faults: 0,
+                trace: &[("use 2 / id:3:initdefault: / r:3:respawn:serv", "notread")],
+            },
+        ],
     ),
+    // It dies before the second signal.
+    (
+        STOPPED,
+        &[Change {
+            replies: (" / clock 0 / clock 0 / clock 9", ""),
+            faults: 0,
+            trace: &[(
+                "clock 9 / nudge / ask r kill / hit r / told r",
+                "clock 0 / nudge",
+            )],
+        }],
+    ),
+    (
+        HANDED,
+        &[
+            // It does not come back.
+            Change {
+                replies: ("u", "u / carry fails"),
+                faults: 1,
+                trace: &[("whole", "none")],
+            },
+            // Its first lines come back.
+            Change {
+                replies: ("u", "u / carry initd-state 2|generation 1|clock 0"),
+                faults: 0,
+                trace: &[("whole", "cut 35")],
+            },
+            // What comes back is cut, and no part of it.
+            Change {
+                replies: ("u", "u / carry initd-state 2|generation 1|clock 9"),
+                faults: 0,
+                trace: &[("whole", "none")],
+            },
+            // A text of another generation comes back.
+            Change {
+                replies: (
+                    "u",
+                    "u / carry initd-state 2|generation 7|clock 0|stage sysinit 5|goal S 5|flags 00|\
+                    wish 10 - 000 000|table 0|end 8",
+                ),
+                faults: 0,
+                trace: &[("whole", "older 7")],
+            },
+            // It was changed: to another version, to a line that is none, and to a state that is none of init's.
+            Change {
+                replies: (
+                    "u",
+                    "u / carry initd-state 9|generation 1|clock 0|stage sysinit 5|goal S 5|flags 00|\
+                    wish 10 - 000 000|table 0|end 8",
+                ),
+                faults: 0,
+                trace: &[("whole", "none")],
+            },
+            Change {
+                replies: (
+                    "u",
+                    "u / carry initd-state 2|generation 1|clock 0|stage sysinit 5|goal S 5|flags 00|\
+                    wish 10 - 000 000|table 0|end 9",
+                ),
+                faults: 0,
+                trace: &[("whole", "none")],
+            },
+            Change {
+                replies: (
+                    "u",
+                    "u / carry initd-state 2|generation 1|clock 0|stage sysinit 5|goal S 5|flags 01|\
+                    wish 10 - 000 000|table 0|end 8",
+                ),
+                faults: 0,
+                trace: &[("whole", "none")],
+            },
+        ],
+    ),
+];
+
+/// The text, each part of which is there, with others in their places.
+fn changed(own: Global, text: &str, changes: &[(&str, &str)]) -> Option<String> {
+    let mut made = String::from_str(own, text).ok()?;
+    for (part, other) in changes {
+        if !made.contains(*part) {
+            return None;
+        }
+        made = made.replacen(own, *part, other, 1).ok()?;
+    }
+    Some(made)
+}
+
+fn passes_changed(own: Global, row: &Row, change: &Change) -> Option<bool> {
+    let replies = changed(own, row.replies, &[change.replies])?;
+    let trace = changed(own, row.trace, change.trace)?;
+    let row = Row {
+        replies: replies.as_str(),
+        trace: trace.as_str(),
+        faults: change.faults,
+        ..*row
+    };
+    Some(passes(own, &row, None))
+}
+
+#[test]
+fn runs(rt: HostRuntime) {
+    for row in ROWS {
+        assert!(rt;
+            passes(rt.alloc(), row, None),
+            "{} over {}",
+            row.replies,
+            row.inittab
+        );
+    }
+}
+
+#[test]
+fn a_call_that_fails_leaves_the_rest(rt: HostRuntime) {
+    for (row, changes) in CHANGES {
+        for change in *changes {
+            assert!(rt;
+                passes_changed(rt.alloc(), row, change) == Some(true),
+                "{}",
+                change.replies.1
+            );
+        }
+    }
+}
+
+/// A child is stopped, whose level ends.
+pub(crate) const STOPPED: Row = Row {
+    inittab: "id:3:initdefault:|r:3:respawn:serv",
+    replies: "start birth 10 / bytes / bytes 1 / table r:3:respawn:serv / look still / clock 0 / clock 0 / clock 9 / look killed",
+    limit: (9, true),
+    ended: (3, true),
+    faults: 0,
+    trace: "clock 0 / nudge / enter sysinit 5 / enter boot 5 / enter 3 5 / ask r start / birth r 10 / told r / settle 3 / \
+            clock 0 / got level 1 5 / nudge / use 1 / r:3:respawn:serv / enter 1 5 / ask r term / hit r / told r / \
+            ask r look / still r / told r / \
+            clock 9 / nudge / ask r kill / hit r / told r / ask r look / death 10 / reaped r 10 killed / told r / settle 1",
+};
+
+/// Runs, and the letters of their calls.
+const CALLS: &[(Row, &str)] = &[
+    // No turn is nothing.
+    (
+        Row {
+            inittab: "# none",
+            replies: "",
+            limit: (0, false),
+            ended: (0, false),
+            faults: 0,
+            trace: "",
+        },
+        "",
+    ),
+    (STOPPED, "CBLNNNservSNPCBBBLTNGOPCBLGONP"),
     // Of a `+` the child sees nothing.
     (
-        "r:S:respawn:+serv -x",
-        "start later",
-        Calls {
-            turns: 1,
-            want: "CBLNNserv -xSP",
+        Row {
+            inittab: "r:S:respawn:+serv -x",
+            replies: "start later",
+            limit: (1, false),
+            ended: (1, false),
+            faults: 0,
+            trace: "clock 0 / nudge / enter sysinit 5 / enter S 5 / ask r start",
         },
+        "CBLNNserv -xSP",
     ),
     // A table that is not read and a letter are announced, and a re-execution that is refused; one that isn't is not.
     (
-        "# none",
-        "bytes q A u / table fails",
-        Calls {
-            turns: 1,
-            want: "CBBBBBBLNHTNNNNP",
+        Row {
+            inittab: "# none",
+            replies: "bytes q A u / table fails",
+            limit: (1, false),
+            ended: (1, true),
+            faults: 1,
+            trace: "clock 0 / got reload / got call A / got reexec / nudge / enter sysinit 5 / handed whole / notread / \
+                    enter S 5 / call A / settle S",
         },
+        "CBBBBBBLNHtNNNNP",
     ),
     (
-        "# none",
-        "bytes q A u / carry fails / table fails",
-        Calls {
-            turns: 1,
-            want: "CBBBBBBLNHNTNNNNP",
+        Row {
+            inittab: "# none",
+            replies: "bytes q A u / carry fails / table fails",
+            limit: (1, false),
+            ended: (1, true),
+            faults: 2,
+            trace: "clock 0 / got reload / got call A / got reexec / nudge / enter sysinit 5 / handed none / notread / \
+                    enter S 5 / call A / settle S",
         },
+        "CBBBBBBLNHNtNNNNP",
     ),
-    // Ten starts, and the hold.
+    // Respawned too fast: ten starts, and the hold.
     (
-        "r:S:respawn:x",
-        "late / late",
-        Calls {
-            turns: 2,
-            want: "CBLNNxSxSxSxSxSxSxSxSxSxSNNPCBLP",
+        Row {
+            inittab: "r:S:respawn:x",
+            replies: "clock 7 / clock 7 / late / late",
+            limit: (2, true),
+            ended: (2, false),
+            faults: 10,
+            trace: "clock 7 / nudge / enter sysinit 5 / enter S 5 / ask r start / nobirth r / told r / \
+                    ask r start / nobirth r / told r / ask r start / nobirth r / told r / ask r start / nobirth r / told r / \
+                    ask r start / nobirth r / told r / ask r start / nobirth r / told r / ask r start / nobirth r / told r / \
+                    ask r start / nobirth r / told r / ask r start / nobirth r / told r / ask r start / nobirth r / told r / \
+                    hold r / settle S / clock 7 / nudge",
         },
+        "CBLNNxSxSxSxSxSxSxSxSxSxSNNPCBLP",
     ),
 ];
 
 #[test]
 fn calls_come_in_their_order(rt: HostRuntime) {
-    for (inittab, replies, calls) in CALLS {
-        assert!(rt;
-            passes(rt.alloc(), inittab, replies, &Trial::Made(calls)),
-            "{}",
-            calls.want
-        );
+    for (row, calls) in CALLS {
+        assert!(rt; passes(rt.alloc(), row, Some(*calls)), "{calls}");
     }
-}
-
-/// A turn ends where no step is due.
-pub(crate) fn is_idle<A: Allocator + Copy>(bench: &mut Bench<A>) -> bool {
-    init_turns::turn(bench.own, bench.core, bench.edge, &mut Blocks::new())
-        && bench.core.drained()
-        && bench.edge.log.list().len() == 5
-}
-
-#[test]
-fn a_turn_ends_where_no_step_is_due(rt: HostRuntime) {
-    assert!(rt; passes(rt.alloc(), "# none", "", &Trial::Idle));
 }

@@ -1,5 +1,6 @@
 //! Runs of init over a scripted host, whose traces are text, their lines parted by ` / `.
 
+use crate::replies::give_all;
 use core_steps::Core;
 use host_calls::{Call, CallIn, Host};
 use host_scripted::MemoryHost;
@@ -7,141 +8,144 @@ use host_trace::Joined;
 use init_turns::{Served, Unwatched};
 use init_words::Memory;
 use inittab_text::Table;
-use std::alloc::{Allocator, Global};
+use std::alloc::{AllocError, Allocator, Global};
 use test_support::boxed;
 use trace_check::Verdict;
 use trace_events::{Happening, HappeningIn};
 use trace_log::{ListLog, Log};
 
 /// A run over an inittab, its lines parted by `|`, and a host that is given so much.
-pub(crate) struct Row {
-    pub(crate) inittab: &'static str,
-    pub(crate) replies: &'static str,
+#[derive(Clone, Copy)]
+pub(crate) struct Row<'a> {
+    pub(crate) inittab: &'a str,
+    pub(crate) replies: &'a str,
     /// How many turns it may make, and whether it ends where it is drained.
     pub(crate) limit: (u64, bool),
     /// How many turns it made, and whether it is drained.
     pub(crate) ended: (u64, bool),
     /// How many calls of the host were faults.
     pub(crate) faults: u64,
-    pub(crate) trace: &'static str,
-}
-
-fn add_line(lines: &mut Vec<u8>, line: &str) -> bool {
-    lines.extend_from_slice(line.as_bytes()).is_ok() && lines.push(b'\n').is_ok()
+    pub(crate) trace: &'a str,
 }
 
 /// The lines of a text, each ended by a newline; none of an empty text.
-pub(crate) fn lines_of(alloc: Global, text: &str, parted: &str) -> Option<Vec<u8>> {
+pub(crate) fn lines_of(alloc: Global, text: &str, parted: &str) -> Result<Vec<u8>, AllocError> {
     let mut lines = Vec::new(alloc);
     if text.is_empty() {
-        return Some(lines);
+        return Ok(lines);
     }
     for line in text.split(parted) {
-        if !add_line(&mut lines, line) {
-            return None;
-        }
+        lines.extend_from_slice(line.as_bytes())?;
+        lines.push(b'\n')?;
     }
-    Some(lines)
+    Ok(lines)
 }
 
-fn core_over<A: Allocator + Copy>(
-    own: Global,
-    alloc: A,
-    table: Table<A>,
-) -> Result<Box<Core<A>>, Memory> {
-    Ok(boxed(own, Core::new(alloc, table, None)?)?)
-}
-
-/// A core over an inittab, in the memory of the tests.
-pub(crate) fn core_of<A: Allocator + Copy>(
-    own: Global,
-    alloc: A,
-    inittab: &str,
-) -> Option<Box<Core<A>>> {
-    let lines = lines_of(own, inittab, "|")?;
-    let (table, _) = inittab_text::read(alloc, lines.as_slice()).ok()?;
-    core_over(own, alloc, table).ok()
-}
-
-/// What a run is made with.
+/// Init before its first turn: its core, and its host and its log.
 #[derive(Drop)]
-pub(crate) struct Bench<'a, A: Allocator + Copy> {
-    pub(crate) own: Global,
-    pub(crate) core: &'a mut Core,
-    pub(crate) edge: &'a mut Joined<MemoryHost<A>, ListLog>,
+pub(crate) struct Bench<A: Allocator, B: Allocator, L> {
+    pub(crate) core: Core<B>,
+    pub(crate) edge: Joined<MemoryHost<A>, L>,
 }
 
-/// Hands the log the table in force.
-fn log_table(own: Global, core: &Core, log: &mut ListLog) -> bool {
-    let Ok(table) = core.table().copy(own) else {
-        return false;
-    };
-    !log.failed() && log.take(&Happening::NewTable(table)).is_ok()
+fn bench_over<A: Allocator + Copy, B: Allocator + Copy, L: Drop>(
+    own: Global,
+    host: A,
+    alloc: B,
+    table: Table<B>,
+    log: L,
+) -> Result<Box<Bench<A, B, L>>, Memory> {
+    let core = Core::new(alloc, table, None)?;
+    let host = MemoryHost::new(host);
+    let edge = Joined { host, log };
+    Ok(boxed(own, Bench { core, edge })?)
 }
 
-fn is_trace(own: Global, text: &[u8], trace: &str) -> bool {
-    match &lines_of(own, trace, " / ") {
-        Some(want) => text == want.as_slice(),
-        None => false,
-    }
+/// A core over an inittab, with a host that is given nothing, each in memory of its own, and with a log.
+pub(crate) fn bench_of<A: Allocator + Copy, B: Allocator + Copy, L: Drop>(
+    own: Global,
+    host: A,
+    alloc: B,
+    inittab: &str,
+    log: L,
+) -> Option<Box<Bench<A, B, L>>> {
+    let lines = lines_of(own, inittab, "|").ok()?;
+    let (table, _) = inittab_text::read(alloc, lines.as_slice()).ok()?;
+    bench_over(own, host, alloc, table, log).ok()
 }
 
-fn is_text(own: Global, made: &[HappeningIn<Global>], trace: &str) -> bool {
-    match &trace_text::print(own, made) {
-        Ok(text) => is_trace(own, text.as_slice(), trace),
-        Err(_) => false,
-    }
-}
-
-/// The log's happenings after the opening table are these lines, and all of it is lawful.
-fn is_logged(own: Global, list: &[HappeningIn<Global>], trace: &str) -> bool {
-    let [_, made @ ..] = list else {
-        return false;
-    };
-    is_text(own, made, trace) && matches!(trace_check::check(own, list), Ok(Verdict::Lawful))
-}
-
-/// How the run of a row ends that is logged.
-fn ended(row: &Row) -> Served {
-    Served {
-        turns: row.ended.0,
-        drained: row.ended.1,
-        logged: true,
-    }
+/// What is left of it: its log.
+pub(crate) fn log_of<A: Allocator, B: Allocator, L: Drop>(bench: Box<Bench<A, B, L>>) -> L {
+    let Bench { core: _, edge } = Box::into_inner(bench);
+    let Joined { host: _, log } = edge;
+    log
 }
 
 /// Makes the given number of turns; with `drain` it ends where init is drained.
-pub(crate) fn serve_on<A: Allocator + Copy>(
-    bench: &mut Bench<A>,
+pub(crate) fn serve_on<A: Allocator + Copy, B: Allocator + Copy, L: Log>(
+    alloc: B,
+    bench: &mut Bench<A, B, L>,
     turns: u64,
     drain: bool,
 ) -> Served {
     let mut watch = Unwatched {};
-    let served = init_turns::serve(bench.own, bench.core, bench.edge, turns, drain, &mut watch);
+    let served = init_turns::serve(
+        alloc,
+        &mut bench.core,
+        &mut bench.edge,
+        turns,
+        drain,
+        &mut watch,
+    );
     let Unwatched {} = watch;
     served
 }
 
-fn is_served<A: Allocator + Copy>(bench: &mut Bench<A>, row: &Row) -> bool {
-    let (turns, drain) = row.limit;
-    serve_on(bench, turns, drain) == ended(row) && bench.edge.host.faults() == row.faults
+/// Hands the log the table in force.
+fn log_table<A: Allocator + Copy>(own: Global, bench: &mut Bench<A, Global, ListLog>) -> bool {
+    let Ok(table) = bench.core.table().copy(own) else {
+        return false;
+    };
+    !bench.edge.log.failed() && bench.edge.log.take(&Happening::NewTable(table)).is_ok()
+}
+
+/// The log's happenings after the opening table are these lines, and all of it is lawful.
+fn is_logged(own: Global, list: &[HappeningIn<Global>], trace: &str) -> Option<bool> {
+    let [_, made @ ..] = list else {
+        return None;
+    };
+    let text = trace_text::print(own, made).ok()?;
+    let want = lines_of(own, trace, " / ").ok()?;
+    let verdict = trace_check::check(own, list).ok()?;
+    Some(text.as_slice() == want.as_slice() && matches!(verdict, Verdict::Lawful))
 }
 
 /// The run of a row is as it says.
-pub(crate) fn is_run<A: Allocator + Copy>(bench: &mut Bench<A>, row: &Row) -> bool {
-    log_table(bench.own, bench.core, &mut bench.edge.log)
-        && is_served(bench, row)
-        && is_logged(bench.own, bench.edge.log.list(), row.trace)
+pub(crate) fn is_run<A: Allocator + Copy>(
+    own: Global,
+    bench: &mut Bench<A, Global, ListLog>,
+    row: &Row,
+) -> bool {
+    let ended = Served {
+        turns: row.ended.0,
+        drained: row.ended.1,
+        logged: true,
+    };
+    log_table(own, bench)
+        && serve_on(own, bench, row.limit.0, row.limit.1) == ended
+        && bench.edge.host.faults() == row.faults
+        && is_logged(own, bench.edge.log.list(), row.trace) == Some(true)
 }
 
-/// A call's letter: `C`lock, `B`ytes, `L`ate answer, `T`able, `S`tart, l`O`ok, si`G`nal, carry `H`, a`N`nouncement,
-/// `P`ause.
+/// A call's letter: `C`lock, `B`ytes, `L`ate answer, `T`able or none (`t`), `S`tart, l`O`ok, si`G`nal, carry `H`,
+/// a`N`nouncement, `P`ause.
 fn letter_of<A: Allocator>(call: &CallIn<A>) -> u8 {
     match call {
         Call::Clock(_) => b'C',
         Call::TakeBytes(_, _) => b'B',
         Call::Late(_) => b'L',
-        Call::ReadTables(_) => b'T',
+        Call::ReadTables(Ok(_)) => b'T',
+        Call::ReadTables(Err(_)) => b't',
         Call::Start(_, _, _) => b'S',
         Call::Look(_, _) => b'O',
         Call::Signal(_, _, _) => b'G',
@@ -151,46 +155,37 @@ fn letter_of<A: Allocator>(call: &CallIn<A>) -> u8 {
     }
 }
 
-/// Adds a call's letter, after the command of a start.
-fn add_call<A: Allocator>(text: &mut Vec<u8>, call: &CallIn<A>) -> bool {
-    if let Call::Start(_, command, _) = call {
-        if text.extend_from_slice(command.as_slice()).is_err() {
-            return false;
+/// The letters of the calls that a host tells, each start's after its command.
+pub(crate) fn letters_of(own: Global, host: &MemoryHost) -> Option<Vec<u8>> {
+    let mut letters = Vec::new(own);
+    for call in host.calls()? {
+        if let Call::Start(_, command, _) = call {
+            letters.extend_from_slice(command.as_slice()).ok()?;
         }
+        letters.push(letter_of(call)).ok()?;
     }
-    text.push(letter_of(call)).is_ok()
+    Some(letters)
 }
 
-/// The letters of a host's calls, each start's after its command.
-fn letters_of<A: Allocator>(alloc: Global, calls: &[CallIn<A>]) -> Option<Vec<u8>> {
-    let mut text = Vec::new(alloc);
-    for call in calls {
-        if !add_call(&mut text, call) {
-            return None;
-        }
+/// The run of a row is as it says, and its calls have these letters, where they are asked.
+fn has_calls(
+    own: Global,
+    bench: &mut Bench<Global, Global, ListLog>,
+    row: &Row,
+    calls: Option<&str>,
+) -> Option<bool> {
+    give_all(own, own, &mut bench.edge.host, row.replies)?;
+    if !is_run(own, bench, row) {
+        return None;
     }
-    Some(text)
+    let letters = letters_of(own, &bench.edge.host)?;
+    Some(calls.is_none_or(|calls| letters.as_slice() == calls.as_bytes()))
 }
 
-/// The calls have these letters.
-fn are_calls<A: Allocator>(alloc: Global, calls: &[CallIn<A>], want: &str) -> bool {
-    match &letters_of(alloc, calls) {
-        Some(letters) => letters.as_slice() == want.as_bytes(),
-        None => false,
-    }
-}
-
-/// The given number of turns, and the calls that are made then.
-pub(crate) struct Calls {
-    pub(crate) turns: u64,
-    pub(crate) want: &'static str,
-}
-
-/// The host tells these calls.
-pub(crate) fn are_made<A: Allocator + Copy>(bench: &mut Bench<A>, calls: &Calls) -> bool {
-    serve_on(bench, calls.turns, false);
-    match bench.edge.host.calls() {
-        Some(made) => are_calls(bench.own, made, calls.want),
+/// Makes the run of a row, and gives whether it is as it says, and its calls have these letters, where they are asked.
+pub(crate) fn passes(own: Global, row: &Row, calls: Option<&str>) -> bool {
+    match bench_of(own, own, own, row.inittab, ListLog::new(own)) {
+        Some(mut bench) => has_calls(own, &mut bench, row, calls) == Some(true),
         None => false,
     }
 }

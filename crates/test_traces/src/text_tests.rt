@@ -1,8 +1,8 @@
-use crate::texts::{first_line, has_lines, holds};
+use crate::verdicts::is_printed;
+use init_words::Memory;
 use std::alloc::Global;
-use std::process::Abort;
-use trace_events::HappeningIn;
-use trace_text::{ReadFault, print_table};
+use trace_events::{Happening, HappeningIn};
+use trace_text::{ReadFault, print_one, print_table};
 
 /// Texts of traces, and texts that are none with the number of the line at which no happening begins.
 const TEXTS: &[(&str, u64)] = &[
@@ -33,6 +33,7 @@ const TEXTS: &[(&str, u64)] = &[
         0,
     ),
     ("use 0\nuse 2\na:3:once:x\nb:1:respawn:y\nnudge\n", 0),
+    ("use 2\nr:0123456789:respawn:getty\nk:S:off:\n", 0),
     // No last newline, and a line of no byte.
     ("nudge", 1),
     ("nudge\nnudge\nnudge", 3),
@@ -87,70 +88,34 @@ const TEXTS: &[(&str, u64)] = &[
     ("use 1\na:3:once:x\nb:3:once:y\n", 3),
 ];
 
-/// The trace prints as the text again.
-fn is_printed(alloc: Global, trace: &[HappeningIn<Global>], text: &str) -> bool {
-    match trace_text::print(alloc, trace) {
-        Ok(again) => again.as_slice() == text.as_bytes(),
-        Err(_) => false,
+/// The happenings of a trace, each printed by itself, are its text.
+fn are_printed(own: Global, trace: &[HappeningIn<Global>], text: &str) -> Result<bool, Memory> {
+    let mut printed = Vec::new(own);
+    for happening in trace {
+        let lines = match happening {
+            Happening::NewTable(table) => print_table(own, table)?,
+            _ => print_one(own, happening)?,
+        };
+        printed.extend_from_slice(lines.as_slice())?;
     }
+    Ok(printed.as_slice() == text.as_bytes())
 }
 
 /// The number of the line at which the text is no trace's, 0 where it is one's, which is printed again.
-fn fault_in(alloc: Global, text: &str) -> Option<u64> {
-    match trace_text::read(alloc, text.as_bytes()) {
-        Ok(trace) if is_printed(alloc, &trace, text) => Some(0),
+fn fault_in(own: Global, text: &str) -> Option<u64> {
+    match trace_text::read(own, text.as_bytes()) {
+        Ok(trace) => {
+            let is_so = is_printed(own, &trace, text).ok()? && are_printed(own, &trace, text).ok()?;
+            is_so.then_some(0)
+        }
         Err(ReadFault::Line(number)) => Some(number),
-        _ => None,
-    }
-}
-
-fn are_read(rt: &impl Abort, alloc: Global, rows: &[(&str, u64)]) {
-    for (text, fault) in rows {
-        holds(rt, fault_in(alloc, text) == Some(*fault), text);
+        Err(ReadFault::Memory) => None,
     }
 }
 
 #[test]
-fn traces_are_read(rt: HostRuntime) {
-    are_read(&rt, rt.alloc(), TEXTS);
-}
-
-fn print_line(alloc: Global, line: &str) -> Option<Vec<u8>> {
-    let happening = first_line(alloc, line)?;
-    trace_text::print_one(alloc, &happening).ok()
-}
-
-fn is_line_printed(alloc: Global, line: &str, want: &[u8]) -> bool {
-    match print_line(alloc, line) {
-        Some(text) => text.as_slice() == want,
-        None => false,
+fn traces_are_read_and_printed(rt: HostRuntime) {
+    for (text, fault) in TEXTS {
+        assert!(rt; fault_in(rt.alloc(), text) == Some(*fault), "{text:?}");
     }
-}
-
-#[test]
-fn a_happening_is_printed(rt: HostRuntime) {
-    assert!(rt; is_line_printed(rt.alloc(), "told r", b"told r\n"));
-}
-
-fn print_table_of(alloc: Global, text: &[u8]) -> Option<Vec<u8>> {
-    let (table, _) = inittab_text::read(alloc, text).ok()?;
-    print_table(alloc, &table).ok()
-}
-
-fn is_table_printed(alloc: Global, text: &[u8], row: &str) -> bool {
-    match print_table_of(alloc, text) {
-        Some(text) => has_lines(alloc, &text, row),
-        None => false,
-    }
-}
-
-#[test]
-fn tables_are_printed(rt: HostRuntime) {
-    assert!(rt;
-        is_table_printed(
-            rt.alloc(),
-            b"r::respawn:getty\nbad\nk:S:off:\n",
-            "use 2 / r:0123456789:respawn:getty / k:S:off:"
-        )
-    );
 }

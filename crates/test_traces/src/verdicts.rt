@@ -1,0 +1,240 @@
+//! What is said of a text: read whole, in pieces, and in its brief form.
+
+use crate::texts::{lines, trace_of};
+use init_words::Memory;
+use std::alloc::{AllocError, Allocator, Global};
+use test_support::boxed;
+use trace_check::Verdict;
+use trace_events::HappeningIn;
+use trace_log::{EndedLog, ListLog, Log};
+use trace_log_wrappers::BriefLog;
+use trace_text::ReadFault;
+use trace_verdict::{Finding, TextJudge};
+
+/// What is done to a line of a trace.
+#[derive(Clone, Copy, PartialEq, Eq)]
+enum Change {
+    None,
+    Dropped,
+    Doubled,
+    /// With the next one.
+    Exchanged,
+}
+
+const CHANGES: [Change; 4] = [
+    Change::None,
+    Change::Dropped,
+    Change::Doubled,
+    Change::Exchanged,
+];
+
+fn add_changed(text: &mut String, line: &str, change: Change) -> Result<(), AllocError> {
+    if change != Change::Dropped {
+        text.push_str(line)?;
+    }
+    if change == Change::Doubled {
+        text.push_str(line)?;
+    }
+    Ok(())
+}
+
+/// A text with its line at a place changed.
+fn changed(own: Global, text: &str, place: usize, change: Change) -> Result<String, AllocError> {
+    let mut made = String::new(own);
+    let mut held = None;
+    for (at, line) in text.split_inclusive('\n').enumerate() {
+        if at == place && change == Change::Exchanged {
+            held = Some(line);
+            continue;
+        }
+        let here = if at == place { change } else { Change::None };
+        add_changed(&mut made, line, here)?;
+        if let Some(first) = held.take() {
+            made.push_str(first)?;
+        }
+    }
+    Ok(made)
+}
+
+/// Hands the log the happenings of a trace: whether it took them all.
+fn takes_all<L: Log>(log: &mut L, trace: &[HappeningIn<Global>]) -> bool {
+    for happening in trace {
+        if log.failed() || log.take(happening).is_err() {
+            return false;
+        }
+    }
+    true
+}
+
+/// What is left of a log after the brief form of a trace, and whether it took it whole.
+pub(crate) fn finished<L: EndedLog>(log: L, trace: &[HappeningIn<Global>]) -> (L::Left, bool) {
+    let mut brief = BriefLog::new(log);
+    let all = takes_all(&mut brief, trace);
+    let (left, whole) = brief.end();
+    (left, all && whole)
+}
+
+/// How many happenings of the brief form of a trace are written before its end.
+fn written_before(own: Global, trace: &[HappeningIn<Global>]) -> usize {
+    let mut brief = BriefLog::new(ListLog::new(own));
+    takes_all(&mut brief, trace);
+    brief.into_log().list().len()
+}
+
+/// `.` for a lawful trace, else the place of the first breach and its law.
+fn verdict_on(own: Global, trace: &[HappeningIn<Global>]) -> Result<String, Memory> {
+    match trace_check::check(own, trace)? {
+        Verdict::Lawful => Ok(String::from_str(own, ".")?),
+        Verdict::Breach(place, law) => {
+            let number = law.number();
+            Ok(format!(in own; "{place}:{number}")?)
+        }
+    }
+}
+
+/// The law of a verdict; none of a lawful trace.
+fn law_of(verdict: &str) -> Option<&str> {
+    let (_, law) = verdict.split_once(':')?;
+    Some(law)
+}
+
+/// The brief form of a trace breaks the same law first as the trace itself, of which this is the verdict, or none.
+fn is_alike(own: Global, trace: &[HappeningIn<Global>], verdict: &str) -> Result<bool, Memory> {
+    let (brief, all) = finished(ListLog::new(own), trace);
+    let given = verdict_on(own, brief.as_slice())?;
+    Ok(all && brief.len() <= trace.len() && law_of(given.as_str()) == law_of(verdict))
+}
+
+/// The trace prints as the text.
+pub(crate) fn is_printed(
+    own: Global,
+    trace: &[HappeningIn<Global>],
+    text: &str,
+) -> Result<bool, Memory> {
+    Ok(trace_text::print(own, trace)?.as_slice() == text.as_bytes())
+}
+
+/// The trace prints as the text, has this verdict, and has a brief form like it.
+fn is_said(
+    own: Global,
+    trace: &[HappeningIn<Global>],
+    text: &str,
+    want: &str,
+) -> Result<bool, Memory> {
+    Ok(
+        is_printed(own, trace, text)?
+            && verdict_on(own, trace)?.as_str() == want
+            && is_alike(own, trace, want)?,
+    )
+}
+
+/// The verdict on a text is this; `?` and the number of a line that is none.
+fn is_judged(own: Global, text: &str, want: &str) -> Result<bool, Memory> {
+    match trace_text::read(own, text.as_bytes()) {
+        Ok(trace) => is_said(own, &trace, text, want),
+        Err(ReadFault::Line(number)) => Ok(format!(in own; "?{number}")?.as_str() == want),
+        Err(ReadFault::Memory) => Err(Memory),
+    }
+}
+
+/// A judge over the given memory, in plain memory itself.
+pub(crate) fn judge_over<A: Allocator + Copy>(
+    own: Global,
+    memory: A,
+) -> Result<Box<TextJudge<A>>, AllocError> {
+    boxed(own, TextJudge::new(memory))
+}
+
+/// Hands a text to a judge in pieces of a size.
+pub(crate) fn hand_over<A: Allocator + Copy>(
+    judge: &mut TextJudge<A>,
+    text: &[u8],
+    size: usize,
+) -> Result<(), Memory> {
+    for piece in text.chunks(size.max(1)) {
+        judge.take(piece)?;
+    }
+    Ok(())
+}
+
+/// What a judge found: `.`, the place of the first breach, its law, its line and its text, or `?` and a line.
+fn found<A: Allocator + Copy>(own: Global, judge: &TextJudge<A>) -> Option<String> {
+    match judge.answer().0 {
+        Finding::Lawful => String::from_str(own, ".").ok(),
+        Finding::Breach(breach) => {
+            let (place, law, line) = (breach.place(), breach.law().number(), breach.line());
+            let text = std::str::from_utf8(breach.text()).ok()?;
+            format!(in own; "{place}:{law} line {line}: {text}").ok()
+        }
+        Finding::Torn(number) => format!(in own; "?{number}").ok(),
+    }
+}
+
+/// A judge found this, and the happening at this line isn't finished, 0 for none.
+pub(crate) fn is_found<A: Allocator + Copy>(
+    own: Global,
+    judge: &TextJudge<A>,
+    said: (&str, u64),
+) -> Option<bool> {
+    let (want, left) = said;
+    Some(found(own, judge)?.as_str() == want && judge.answer().1.unwrap_or(0) == left)
+}
+
+/// This is found of a text in pieces of a size.
+pub(crate) fn is_cut(own: Global, text: &str, size: usize, said: (&str, u64)) -> Option<bool> {
+    let mut judge = judge_over(own, own).ok()?;
+    hand_over(&mut judge, text.as_bytes(), size).ok()?;
+    is_found(own, &judge, said)
+}
+
+/// The verdict on a text in pieces of five bytes is this.
+fn is_cut_so(own: Global, text: &str, want: &str) -> Option<bool> {
+    let mut judge = judge_over(own, own).ok()?;
+    hand_over(&mut judge, text.as_bytes(), 5).ok()?;
+    let found = found(own, &judge)?;
+    let (verdict, _) = found.split_once(' ').unwrap_or((found.as_str(), ""));
+    Some(verdict == want)
+}
+
+/// With its line at each place changed so in turn a text has these verdicts.
+fn are_so(own: Global, text: &str, change: Change, verdicts: &str) -> Option<bool> {
+    for (place, want) in verdicts.split(' ').enumerate() {
+        let text = changed(own, text, place, change).ok()?;
+        if is_judged(own, text.as_str(), want) != Ok(true)
+            || !is_cut_so(own, text.as_str(), want)?
+        {
+            return Some(false);
+        }
+    }
+    Some(true)
+}
+
+/// The trace of a row has its verdict, and its others with each of its lines changed.
+pub(crate) fn are_judged(own: Global, row: &str) -> Option<bool> {
+    let (trace, verdicts) = row.split_once("| ")?;
+    let text = lines(own, trace.trim_ascii_end()).ok()?;
+    for (change, said) in CHANGES.iter().zip(verdicts.split(" | ")) {
+        if !are_so(own, text.as_str(), *change, said)? {
+            return Some(false);
+        }
+    }
+    Some(true)
+}
+
+/// The brief form of a trace is this, both have these verdicts, and so many happenings are held back at the end.
+pub(crate) fn is_shortened(
+    own: Global,
+    traces: (&str, &str),
+    verdicts: (&str, &str),
+    held: usize,
+) -> Option<bool> {
+    let trace = trace_of(own, traces.0)?;
+    let brief = lines(own, traces.1).ok()?;
+    let (list, all) = finished(ListLog::new(own), &trace);
+    Some(
+        all && list.len() == written_before(own, &trace).saturating_add(held)
+            && is_printed(own, list.as_slice(), brief.as_str()) == Ok(true)
+            && verdict_on(own, list.as_slice()).ok()?.as_str() == verdicts.1
+            && verdict_on(own, &trace).ok()?.as_str() == verdicts.0,
+    )
+}
