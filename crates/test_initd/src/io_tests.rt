@@ -1,50 +1,42 @@
 //! Writers and readers that give or take little at a time, or fail in the middle, and the words of a program.
 
-use program_io::{only_byte, read_all, read_file, words, write_text};
+use program_io::{
+    only_byte, read_all, read_file, report_unread_words, unread_status, words, write_text,
+};
 use std::alloc::Global;
 use std::env::{Env, FillError};
 use std::io::{ErrorKind, Read, Write};
 use std::process::Abort;
-use std::rt::Files;
 use std::test::Fail;
 use std::{fs, io};
+use telinit_command::SHORT_USAGE;
 use test_support::Slow;
 
 /// Room, whether a full writer fails, and how the write of `request` ends and what is taken of it.
 const WRITES: &[(usize, bool, Option<ErrorKind>, &[u8])] = &[
     (9, false, None, b"request"),
     (7, false, None, b"request"),
+    (7, true, None, b"request"),
     (3, false, Some(ErrorKind::WriteZero), b"req"),
     (3, true, Some(ErrorKind::BrokenPipe), b"req"),
     (0, false, Some(ErrorKind::WriteZero), b""),
     (0, true, Some(ErrorKind::BrokenPipe), b""),
 ];
 
-fn fault_of(written: io::Result<()>) -> Option<ErrorKind> {
-    match written {
+/// How the write of `request` ends.
+fn fault_at(slow: &mut Slow) -> Option<ErrorKind> {
+    match write_text(slow, b"request") {
         Ok(()) => None,
         Err(error) => Some(error.kind()),
     }
 }
 
-fn is_written(
-    alloc: Global,
-    room: usize,
-    fails: bool,
-    fault: Option<ErrorKind>,
-    taken: &[u8],
-) -> bool {
-    let mut slow = Slow::new(alloc, room, fails, false);
-    fault_of(write_text(&mut slow, b"request")) == fault && slow.taken.as_slice() == taken
-}
-
 #[test]
 fn slow_writers_take_it_all(rt: HostRuntime) {
     for (room, fails, fault, taken) in WRITES {
-        assert!(rt;
-            is_written(rt.alloc(), *room, *fails, *fault, taken),
-            "room for {room}"
-        );
+        let mut slow = Slow::new(rt.alloc(), *room, *fails, false);
+        let is_written = fault_at(&mut slow) == *fault && slow.taken.as_slice() == *taken;
+        assert!(rt; is_written, "room for {room}, {fails}");
     }
 }
 
@@ -83,21 +75,17 @@ const READS: &[(usize, bool, Result<usize, ErrorKind>)] = &[
     (1_000_000, false, Err(ErrorKind::FileTooLarge)),
 ];
 
-fn count_x(bytes: &[u8]) -> usize {
-    let mut count = 0usize;
-    for byte in bytes {
-        if *byte == b'x' {
-            count = count.wrapping_add(1);
-        }
-    }
-    count
-}
-
 /// How many bytes were read, all `x`, or how that ended.
 fn count_of(read: io::Result<Vec<u8>>) -> Result<usize, ErrorKind> {
     match read {
-        Ok(bytes) => Ok(count_x(bytes.as_slice())),
         Err(error) => Err(error.kind()),
+        Ok(bytes) => {
+            if bytes.iter().all(|byte| *byte == b'x') {
+                Ok(bytes.len())
+            } else {
+                Err(ErrorKind::InvalidData)
+            }
+        }
     }
 }
 
@@ -119,24 +107,23 @@ fn slow_readers_are_read_to_their_end(rt: HostRuntime) {
 /// A file of more than one read's bytes.
 const LONG: &[u8] = &[b'x'; 20_000];
 
-/// How many bytes of a file are read, all `x`, or how that ends.
-fn count_in(rt: &impl Files, alloc: Global, path: &str) -> Result<usize, ErrorKind> {
-    count_of(read_file(rt, alloc, path))
-}
+/// Paths, and how many bytes of the file are read, all `x`, or how that ends: a file, none, and a folder.
+const FILES: &[(&str, Result<usize, ErrorKind>)] = &[
+    ("long", Ok(20_000)),
+    ("missing", Err(ErrorKind::NotFound)),
+    (".", Err(ErrorKind::IsADirectory)),
+];
 
 #[test]
 fn files_are_read_whole(rt: HostRuntime) -> Result<(), Fail> {
     fs::write(&rt, "long", LONG)?;
-    assert!(rt; count_in(&rt, rt.alloc(), "long") == Ok(20_000), "long");
+    for (path, want) in FILES {
+        assert!(rt;
+            count_of(read_file(&rt, rt.alloc(), path)) == *want,
+            "{path}"
+        );
+    }
     fs::remove_file(&rt, "long")?;
-    assert!(rt;
-        count_in(&rt, rt.alloc(), "long") == Err(ErrorKind::NotFound),
-        "missing"
-    );
-    assert!(rt;
-        count_in(&rt, rt.alloc(), ".") == Err(ErrorKind::IsADirectory),
-        "a folder"
-    );
     Ok(())
 }
 
@@ -176,32 +163,26 @@ const LINES: &[(&[&[u8]], Option<&[&str]>)] = &[
     (&[b"telinit", b"q", b"\xff"], None),
 ];
 
-fn are_words(words: &[String], want: &[&str]) -> bool {
-    words.len() == want.len()
-        && words
-            .iter()
-            .zip(want)
-            .all(|(word, want)| word.as_str() == *want)
-}
-
 /// What came of a command line is this.
 fn is_read(read: &io::Result<Vec<String>>, want: Option<&[&str]>) -> bool {
     match (read, want) {
-        (Ok(words), Some(want)) => are_words(words.as_slice(), want),
+        (Ok(words), Some(want)) => {
+            words.len() == want.len()
+                && words
+                    .iter()
+                    .zip(want)
+                    .all(|(word, want)| word.as_str() == *want)
+        }
         (Err(error), None) => error.kind() == ErrorKind::InvalidData,
         _ => false,
     }
-}
-
-fn line_is_read(alloc: Global, line: &'static [&'static [u8]], want: Option<&[&str]>) -> bool {
-    is_read(&words(&(Line(line), alloc), alloc), want)
 }
 
 #[test]
 fn words_begin_behind_the_name(rt: HostRuntime) {
     for (line, want) in LINES {
         assert!(rt;
-            line_is_read(rt.alloc(), line, *want),
+            is_read(&words(&(Line(line), rt.alloc()), rt.alloc()), *want),
             "{} words",
             line.len()
         );
@@ -220,5 +201,45 @@ const WORDS: &[(&str, Option<u8>)] = &[
 fn only_bytes(rt: HostRuntime) {
     for (word, byte) in WORDS {
         assert!(rt; only_byte(word) == *byte, "{word}");
+    }
+}
+
+/// A program and its usage, why its words can't be had, and the status and the text of it.
+const UNREAD: &[(&str, &str, ErrorKind, u8, &str)] = &[
+    (
+        "telinit",
+        SHORT_USAGE,
+        ErrorKind::OutOfMemory,
+        4,
+        "telinit: out of memory: nothing was written; free some memory and ask again\n",
+    ),
+    (
+        "telinit",
+        SHORT_USAGE,
+        ErrorKind::InvalidData,
+        1,
+        SHORT_USAGE,
+    ),
+    (
+        "initd",
+        "usage\n",
+        ErrorKind::OutOfMemory,
+        4,
+        "initd: out of memory: nothing was written; free some memory and ask again\n",
+    ),
+    ("initd", "usage\n", ErrorKind::InvalidData, 1, "usage\n"),
+];
+
+#[test]
+fn unread_words_are_reported(rt: HostRuntime) {
+    for (name, usage, kind, status, report) in UNREAD {
+        let error = io::Error::from(*kind);
+        let mut err: Vec<u8> = Vec::new(rt.alloc());
+        let said = report_unread_words(name, usage, &error, &mut err);
+        let is_reported = said == *status && unread_status(&error) == *status;
+        assert!(rt;
+            is_reported && err.as_slice() == report.as_bytes(),
+            "{report}"
+        );
     }
 }

@@ -3,24 +3,14 @@
 #![tactic(auto)]
 
 #[cfg(test)]
-mod edge_tests;
-#[cfg(test)]
-mod host_tests;
-#[cfg(test)]
 mod io_tests;
-#[cfg(test)]
-mod judge_tests;
 #[cfg(test)]
 mod log_tests;
 #[cfg(test)]
 mod one_channel;
 #[cfg(test)]
+mod run_tests;
+#[cfg(test)]
 mod telinit_tests;
-#[cfg(test)]
-mod turns;
-#[cfg(test)]
-mod waiting_tests;
-#[cfg(test)]
-mod word_tests;
 #[cfg(test)]
 mod writer_tests;

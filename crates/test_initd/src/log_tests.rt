@@ -1,11 +1,14 @@
 //! Turns over a log: what is left of it behind them.
 
-use crate::turns::turns_of;
 use host_calls::Reply;
 use host_scripted::MemoryHost;
-use init_words::{Answer, ChildNumber};
+use init_turns::Opening;
+use init_words::{Answer, ChildNumber, Level, Memory};
+use initd_command::make_turns;
+use initd_options::{RunWords, Words, read_words};
 use std::alloc::Global;
 use std::test::Fail;
+use test_support::{boxed, line_words};
 use trace_log::{EndedLog, StreamLog};
 use trace_log_wrappers::BriefLog;
 
@@ -22,34 +25,54 @@ const BRIEF: &[u8] =
     b"use 1\nr:3:respawn:x\nclock 0\nnudge\nenter sysinit 5\nenter boot 5\nenter 3 5\n\
     ask r start\nbirth r 10\ntold r\nsettle 3\nclock 0\nnudge\n";
 
-fn host_of(alloc: Global) -> Result<MemoryHost, Fail> {
+/// The words of the run.
+fn run_of(alloc: Global) -> Result<Box<RunWords>, Fail> {
+    let words = line_words(alloc, "run --level 3 --turns 3")?;
+    match read_words(alloc, words.as_slice()) {
+        Ok(Words::Run(said)) => Ok(boxed(alloc, said)?),
+        _ => Err(Fail::from("no run")),
+    }
+}
+
+fn opening_of(alloc: Global) -> Result<Box<Opening>, Fail> {
+    let (table, _) = inittab_text::read(alloc, INITTAB)?;
+    Ok(boxed(alloc, Opening::new(alloc, table, Some(Level::L3))?)?)
+}
+
+/// The child lives where nothing else is answered.
+fn host_of(alloc: Global) -> Result<Box<MemoryHost>, Memory> {
     let mut host = MemoryHost::new(alloc);
     host.give_start(Reply::Now(Answer::Born(ChildNumber(10))))?;
-    host.give_look(Reply::Now(Answer::Alive))?;
-    host.give_look(Reply::Now(Answer::Alive))?;
-    Ok(host)
+    Ok(boxed(alloc, host)?)
 }
 
 /// What is left of the log behind the turns.
 fn left_of<L: EndedLog + Drop>(rt: &HostRuntime, log: L) -> Result<L::Left, Fail> {
-    let host = host_of(rt.alloc())?;
-    let (_, _, left) = turns_of(rt, INITTAB, "run --level 3 --turns 3", host, log)?;
+    let alloc = rt.alloc();
+    let said = run_of(alloc)?;
+    let opening = opening_of(alloc)?;
+    let host = host_of(alloc)?;
+    let mut err: Vec<u8> = Vec::new(alloc);
+    let (_, _, left) = make_turns(
+        rt,
+        alloc,
+        &said,
+        Box::into_inner(opening),
+        Box::into_inner(host),
+        log,
+        &mut err,
+    );
     Ok(left)
 }
 
+/// The writer that is left has the trace, or its brief form.
 #[test]
 fn the_writer_that_is_left_has_the_trace(rt: HostRuntime) -> Result<(), Fail> {
     let alloc = rt.alloc();
     let text: Vec<u8> = left_of(&rt, StreamLog::new(alloc, Vec::new(alloc)))?;
     assert!(rt; text.as_slice() == TRACE, "{text:?}");
-    Ok(())
-}
-
-#[test]
-fn the_writer_that_is_left_of_a_brief_log_has_the_brief_form(rt: HostRuntime) -> Result<(), Fail> {
-    let alloc = rt.alloc();
     let log = BriefLog::new(StreamLog::new(alloc, Vec::new(alloc)));
     let text: Vec<u8> = left_of(&rt, log)?;
-    assert!(rt; text.as_slice() == BRIEF, "{text:?}");
+    assert!(rt; text.as_slice() == BRIEF, "brief: {text:?}");
     Ok(())
 }

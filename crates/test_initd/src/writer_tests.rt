@@ -43,27 +43,8 @@ const SCRIPT: &[u8] = b"birth w 10\ntold w\nnudge\n";
 const TRACE: &[u8] =
     b"use 3\nid:3:initdefault:\nw:3:wait:prep\nr:3:respawn:serv\nenter sysinit 5\nenter boot 5\nenter 3 5\nask w start\nbirth w 10\ntold w\nnudge\nask w look\n";
 
-/// The room of a writer, and whether it fails or takes nothing where it is full.
-const ROOMS: &[(usize, bool)] = &[
-    (100_000, false),
-    (0, false),
-    (1, false),
-    (5, false),
-    (6, false),
-    (60, false),
-    (77, false),
-    (100, false),
-    (121, false),
-    (100_000, true),
-    (0, true),
-    (1, true),
-    (5, true),
-    (6, true),
-    (60, true),
-    (77, true),
-    (100, true),
-    (121, true),
-];
+/// The room of a writer, which fails or takes nothing where it is full.
+const ROOMS: &[usize] = &[100_000, 0, 1, 5, 6, 60, 77, 100, 121];
 
 /// The run is done where all of it has room, and else the fault is the writer's, which holds as much as it has room
 /// for.
@@ -84,25 +65,12 @@ fn is_written(alloc: Global, room: usize, fails: bool) -> bool {
 
 #[test]
 fn slow_writers_take_the_trace(rt: HostRuntime) {
-    for (room, fails) in ROOMS {
-        assert!(rt; is_written(rt.alloc(), *room, *fails), "room for {room}");
-    }
-}
-
-/// The room of a writer, whether the text is written whole, and what is.
-const TEXTS: &[(usize, bool, &str)] = &[(4, true, "text"), (3, false, "tex"), (0, false, "")];
-
-fn is_taken(alloc: Global, room: usize, is_whole: bool, taken: &str) -> bool {
-    let mut slow = Slow::new(alloc, room, true, false);
-    write_text(&mut slow, b"text").is_ok() == is_whole && slow.taken.as_slice() == taken.as_bytes()
-}
-
-#[test]
-fn texts_are_written_whole(rt: HostRuntime) {
-    for (room, is_whole, taken) in TEXTS {
-        assert!(rt;
-            is_taken(rt.alloc(), *room, *is_whole, taken),
-            "room for {room}"
-        );
+    for room in ROOMS {
+        for fails in [false, true] {
+            assert!(rt;
+                is_written(rt.alloc(), *room, fails),
+                "room for {room}, {fails}"
+            );
+        }
     }
 }

@@ -1,14 +1,14 @@
-//! The tests of rc: which scripts of a folder are run and in which order, and their run over a scripted host. Its command
-//! lines with real children: tools/pages.d/rc-lines and rc.
+//! The tests of rc: which scripts of a folder are run and in which order, and their run over a scripted host. Its
+//! command lines with real children: tools/pages.d/rc-lines and rc.
 #![tactic(auto)]
 
 #[cfg(test)]
-mod driving_tests;
+mod command_tests;
 #[cfg(test)]
 mod growth_tests;
 #[cfg(test)]
-mod host_tests;
-#[cfg(test)]
-mod names_tests;
+mod hosts;
 #[cfg(test)]
 mod order_tests;
+#[cfg(test)]
+mod run_tests;

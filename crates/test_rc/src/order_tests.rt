@@ -1,271 +1,157 @@
 //! The scripts that are handed out, by the names in two folders.
 
-use init_words::{Level, Status};
+use init_words::{Level, Memory, Status};
 use rc_driver::{Arg, NotAsked, Passage, Rc, RcAnswer, RcStep};
-use std::alloc::Global;
-use std::process::Abort;
+use std::alloc::{Allocator, Global};
 use std::test::Fail;
+use test_support::{boxed, line_words};
 
-/// What is run: links, each to stop or to start.
-type Runs = &'static [(&'static str, Arg)];
-
-/// The names in the previous folder and in the new one, and what is run.
-type Row = (&'static [&'static str], &'static [&'static str], Runs);
+/// A change of level, as `23` or `N3`, where scripts are run as sysv-rc runs them; the names in the previous folder,
+/// and in the new one; and what is run, `-` for stop and `+` for start.
+type Row = (&'static str, &'static str, &'static str, &'static str);
 
 const ROWS: &[Row] = &[
-    (&[], &[], &[]),
+    ("", "", "", ""),
     (
-        &["S10a", "S20b"],
-        &["K05c", "S10a", "S20b", "K90b", "S30d"],
-        &[
-            ("K05c", Arg::Stop),
-            ("K90b", Arg::Stop),
-            ("S20b", Arg::Start),
-            ("S30d", Arg::Start),
-        ],
+        "",
+        "S10a S20b",
+        "K05c S10a S20b K90b S30d",
+        "-K05c -K90b +S20b +S30d",
     ),
     // Names that are no links.
     (
-        &["S10a"],
-        &[
-            "README", "S1x", "S10", "s10a", "K05c~", "K05", "Kx5c", "k05c", ".S10a", "S1aa",
-            "SS10a", "S10a/", "S10é",
-        ],
-        &[],
+        "",
+        "S10a",
+        "README S1x S10 s10a K05c~ K05 Kx5c k05c .S10a S1aa SS10a S10a/ S10é",
+        "",
     ),
-    (&["S1x", "S10", "s10b"], &["S10b"], &[("S10b", Arg::Start)]),
+    ("", "S1x S10 s10b", "S10b", "+S10b"),
     (
-        &[],
-        &["S10.x", "K05c.sh", "S00_", "S99-"],
-        &[
-            ("K05c.sh", Arg::Stop),
-            ("S00_", Arg::Start),
-            ("S10.x", Arg::Start),
-            ("S99-", Arg::Start),
-        ],
+        "",
+        "",
+        "S10.x K05c.sh S00_ S99-",
+        "-K05c.sh +S00_ +S10.x +S99-",
     ),
     // The digits and the rest decide in byte order; capitals come first.
     (
-        &[],
-        &["S20a", "S10b", "S10B", "S09z", "K9Xa", "K10a", "K09b"],
-        &[
-            ("K09b", Arg::Stop),
-            ("K10a", Arg::Stop),
-            ("S09z", Arg::Start),
-            ("S10B", Arg::Start),
-            ("S10b", Arg::Start),
-            ("S20a", Arg::Start),
-        ],
+        "",
+        "",
+        "S20a S10b S10B S09z K9Xa K10a K09b",
+        "-K09b -K10a +S09z +S10B +S10b +S20a",
     ),
     // A name that stands twice is run once.
-    (
-        &[],
-        &["S10a", "K05a", "S10a", "K05a", "S10a"],
-        &[("K05a", Arg::Stop), ("S10a", Arg::Start)],
-    ),
+    ("", "", "S10a K05a S10a K05a S10a", "-K05a +S10a"),
     // A service runs already, whatever its number was; a K link of the previous level says nothing.
-    (
-        &["S99a", "K01b"],
-        &["S10a", "S10b"],
-        &[("S10b", Arg::Start)],
-    ),
+    ("", "S99a K01b", "S10a S10b", "+S10b"),
     // Two numbers of one service; it is stopped, and so started again.
-    (
-        &["S10a"],
-        &["S10a", "S20a", "K50a"],
-        &[
-            ("K50a", Arg::Stop),
-            ("S10a", Arg::Start),
-            ("S20a", Arg::Start),
-        ],
-    ),
-    (&["S10a"], &["S10a", "S20a", "K50b"], &[("K50b", Arg::Stop)]),
+    ("", "S10a", "S10a S20a K50a", "-K50a +S10a +S20a"),
+    ("", "S10a", "S10a S20a K50b", "-K50b"),
     // A K link of the new level alone stops; what the previous level started is not stopped by itself.
-    (&["S10a", "S20b"], &["S20b"], &[]),
+    ("", "S10a S20b", "S20b", ""),
+    ("", "S10ab", "S10a S10b", "+S10a +S10b"),
+    // With no level before no K link is run, and no S link is left out.
+    ("N2", "", "K05c S10a S20b", "+S10a +S20b"),
+    // What the level before had stopped is not stopped again, unless it was started there too.
     (
-        &["S10ab"],
-        &["S10a", "S10b"],
-        &[("S10a", Arg::Start), ("S10b", Arg::Start)],
+        "23",
+        "K01c K02d S80d S10a",
+        "K05c K05d K05e S10a S20b",
+        "-K05d -K05e +S20b",
     ),
+    // In levels 0 and 6 the S links are stopped, behind the K links and by the same rule.
+    (
+        "20",
+        "S10a K20b",
+        "S90h S10a K05c S20b",
+        "-K05c -S10a -S90h",
+    ),
+    ("N6", "", "K05c S90h", "-S90h"),
+    // In S as in every other level.
+    ("6S", "S10a", "S10a S20b K20b", "-K20b +S20b"),
 ];
 
-fn add_names(names: &mut Vec<String>, alloc: Global, words: &[&str]) -> Result<(), Fail> {
-    for word in words {
-        names.push(String::from_str(alloc, word)?)?;
+/// The scripts that are run at a change of level, as LSB has it or as sysv-rc has it.
+pub(crate) fn rc_over<'n, A: Allocator + Copy>(
+    own: Global,
+    alloc: A,
+    change: &str,
+    previous: &[String],
+    new: &'n [String],
+) -> Result<Box<Rc<'n, A>>, Memory> {
+    match passage_of(change) {
+        None => Ok(boxed(own, Rc::new(alloc, previous, new)?)?),
+        Some(passage) => Ok(boxed(own, Rc::as_sysv(alloc, passage, previous, new)?)?),
     }
-    Ok(())
 }
 
-fn names_of(alloc: Global, words: &[&str]) -> Result<Vec<String>, Fail> {
-    let mut names = Vec::new(alloc);
-    add_names(&mut names, alloc, words)?;
-    Ok(names)
+fn passage_of(change: &str) -> Option<Passage> {
+    let [before, new] = change.as_bytes() else {
+        return None;
+    };
+    Some(Passage {
+        before: Level::read(*before),
+        new: Level::read(*new)?,
+    })
 }
 
 /// This script is handed out next, once; it is answered when the next was asked for.
-fn is_handed_out(rt: &impl Abort, rc: &mut Rc, link: &str, arg: Arg) {
-    assert!(rt;
-        rc.next() == RcStep::Run(link, arg)
-            && rc.next() == RcStep::Waiting
-            && rc.answer(RcAnswer::NotStarted) == Ok(())
-    );
+fn is_handed_out(rc: &mut Rc, run: &str) -> bool {
+    let (link, arg) = match run.strip_prefix('-') {
+        Some(link) => (link, Arg::Stop),
+        None => (run.trim_start_matches('+'), Arg::Start),
+    };
+    rc.next() == RcStep::Run(link, arg)
+        && rc.next() == RcStep::Waiting
+        && rc.answer(RcAnswer::NotStarted) == Ok(())
 }
 
 /// These scripts are handed out, and then no more.
-fn are_handed_out(rt: &impl Abort, rc: &mut Rc, runs: &[(&str, Arg)]) {
-    for (link, arg) in runs {
-        is_handed_out(rt, rc, link, *arg);
+fn are_handed_out(rc: &mut Rc, runs: &str) -> bool {
+    for run in runs.split_ascii_whitespace() {
+        if !is_handed_out(rc, run) {
+            return false;
+        }
     }
-    assert!(rt; rc.next() == RcStep::Done && rc.answer(RcAnswer::NotStarted) == Err(NotAsked));
+    rc.next() == RcStep::Done && rc.answer(RcAnswer::NotStarted) == Err(NotAsked)
 }
 
-fn runs_of(
-    rt: &impl Abort,
-    alloc: Global,
-    previous: &[String],
-    new: &[String],
-    runs: &[(&str, Arg)],
-) -> Result<(), Fail> {
-    let mut rc = Rc::new(alloc, previous, new)?;
-    are_handed_out(rt, &mut rc, runs);
-    Ok(())
-}
-
-fn is_run_after(
-    rt: &impl Abort,
-    alloc: Global,
-    previous: &[String],
-    row: &Row,
-) -> Result<(), Fail> {
-    let new = names_of(alloc, row.1)?;
-    runs_of(rt, alloc, previous, &new, row.2)
-}
-
-fn is_run(rt: &impl Abort, alloc: Global, row: &Row) -> Result<(), Fail> {
-    let previous = names_of(alloc, row.0)?;
-    is_run_after(rt, alloc, &previous, row)
+fn is_row(own: Global, row: &Row) -> Result<bool, Memory> {
+    let previous = line_words(own, row.1)?;
+    let new = line_words(own, row.2)?;
+    let mut rc = rc_over(own, own, row.0, &previous, &new)?;
+    Ok(are_handed_out(&mut rc, row.3))
 }
 
 #[test]
-fn scripts_are_handed_out_in_order(rt: HostRuntime) -> Result<(), Fail> {
+fn scripts_are_handed_out_in_order(rt: HostRuntime) {
     for row in ROWS {
-        is_run(&rt, rt.alloc(), row)?;
+        assert!(rt;
+            is_row(rt.alloc(), row) == Ok(true),
+            "{} {}: {}",
+            row.0,
+            row.1,
+            row.2
+        );
     }
-    Ok(())
 }
 
-fn answers_are_asked_for_once(rt: &impl Abort, rc: &mut Rc) {
+/// Of two scripts each is answered once, and where it was handed out alone.
+fn are_answered_once(rc: &mut Rc) -> bool {
     let ended = RcAnswer::Ended(Status::Exit(3));
-    assert!(rt;
-        rc.answer(ended) == Err(NotAsked)
-            && rc.next() == RcStep::Run("S10a", Arg::Start)
-            && rc.next() == RcStep::Waiting
-            && rc.next() == RcStep::Waiting
-    );
-    assert!(rt;
-        rc.answer(ended) == Ok(())
-            && rc.answer(ended) == Err(NotAsked)
-            && rc.next() == RcStep::Run("S20b", Arg::Start)
-    );
-}
-
-fn is_asked_once(rt: &impl Abort, alloc: Global, new: &[String]) -> Result<(), Fail> {
-    let mut rc = Rc::new(alloc, &[], new)?;
-    answers_are_asked_for_once(rt, &mut rc);
-    Ok(())
+    let is_first = rc.answer(ended) == Err(NotAsked)
+        && rc.next() == RcStep::Run("S10a", Arg::Start)
+        && rc.next() == RcStep::Waiting
+        && rc.next() == RcStep::Waiting;
+    is_first
+        && rc.answer(ended) == Ok(())
+        && rc.answer(ended) == Err(NotAsked)
+        && rc.next() == RcStep::Run("S20b", Arg::Start)
 }
 
 #[test]
 fn an_answer_is_asked_for_once(rt: HostRuntime) -> Result<(), Fail> {
-    let new = names_of(rt.alloc(), &["S10a", "S20b"])?;
-    is_asked_once(&rt, rt.alloc(), &new)
-}
-
-/// The change of level, the names in the previous folder and in the new one, and what sysv-rc runs.
-type SysvRow = (
-    Option<Level>,
-    Level,
-    &'static [&'static str],
-    &'static [&'static str],
-    Runs,
-);
-
-const SYSV_ROWS: &[SysvRow] = &[
-    // With no level before no K link is run, and no S link is left out.
-    (
-        None,
-        Level::L2,
-        &[],
-        &["K05c", "S10a", "S20b"],
-        &[("S10a", Arg::Start), ("S20b", Arg::Start)],
-    ),
-    // What the level before had stopped is not stopped again, unless it was started there too.
-    (
-        Some(Level::L2),
-        Level::L3,
-        &["K01c", "K02d", "S80d", "S10a"],
-        &["K05c", "K05d", "K05e", "S10a", "S20b"],
-        &[
-            ("K05d", Arg::Stop),
-            ("K05e", Arg::Stop),
-            ("S20b", Arg::Start),
-        ],
-    ),
-    // In levels 0 and 6 the S links are stopped, behind the K links and by the same rule.
-    (
-        Some(Level::L2),
-        Level::L0,
-        &["S10a", "K20b"],
-        &["S90h", "S10a", "K05c", "S20b"],
-        &[
-            ("K05c", Arg::Stop),
-            ("S10a", Arg::Stop),
-            ("S90h", Arg::Stop),
-        ],
-    ),
-    (
-        None,
-        Level::L6,
-        &[],
-        &["K05c", "S90h"],
-        &[("S90h", Arg::Stop)],
-    ),
-    // In S as in every other level.
-    (
-        Some(Level::L6),
-        Level::S,
-        &["S10a"],
-        &["S10a", "S20b", "K20b"],
-        &[("K20b", Arg::Stop), ("S20b", Arg::Start)],
-    ),
-];
-
-fn is_run_by(
-    rt: &impl Abort,
-    alloc: Global,
-    row: &SysvRow,
-    previous: &[String],
-    new: &[String],
-) -> Result<(), Fail> {
-    let passage = Passage {
-        before: row.0,
-        new: row.1,
-    };
-    let mut rc = Rc::as_sysv(alloc, passage, previous, new)?;
-    are_handed_out(rt, &mut rc, row.4);
-    Ok(())
-}
-
-fn is_run_as_sysv(rt: &impl Abort, alloc: Global, row: &SysvRow) -> Result<(), Fail> {
-    let previous = names_of(alloc, row.2)?;
-    let new = names_of(alloc, row.3)?;
-    is_run_by(rt, alloc, row, &previous, &new)
-}
-
-#[test]
-fn scripts_are_handed_out_as_sysv_rc_runs_them(rt: HostRuntime) -> Result<(), Fail> {
-    for row in SYSV_ROWS {
-        is_run_as_sysv(&rt, rt.alloc(), row)?;
-    }
+    let new = line_words(rt.alloc(), "S10a S20b")?;
+    let mut rc = rc_over(rt.alloc(), rt.alloc(), "", &[], &new)?;
+    assert!(rt; are_answered_once(&mut rc));
     Ok(())
 }

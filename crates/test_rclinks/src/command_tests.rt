@@ -1,139 +1,196 @@
-//! Runs of rclinks over texts in memory, and over writers that fail. The cases are rows of the words, the status, what is
-//! written on standard output, and what is told on standard error. Other command lines: tools/pages.d/rclinks-lines.
+//! Runs of rclinks over texts and folders that are kept in memory, and over writers that fail. Other command lines, and
+//! those over folders of the system: tools/pages.d/rclinks-lines and rclinks.
 
+use crate::texts::NET;
 use command_words::{KIT, VERSION};
+use init_words::Level;
 use program_io::KeptTexts;
-use rclinks_command::{KeptLinks, run_words};
-use std::alloc::Global;
-use std::process::Abort;
+use rclinks_command::{KeptLinks, LinkFolders, run_words};
+use std::alloc::{AllocError, Global};
 use std::test::Fail;
-use test_support::{Slow, words_of};
+use test_support::{Slow, line_words};
 
-/// A run's words, status, what is written on standard output, and what is told on standard error.
-pub(crate) type Row = (&'static [&'static str], u8, &'static [u8], &'static [u8]);
-
-/// Runs the words, with a writer of so much room, which may be one that can't be flushed.
-fn words_are_run(
-    rt: &impl Abort,
-    texts: &KeptTexts,
-    alloc: Global,
-    words: &[String],
-    room: usize,
-    is_stuck: bool,
-    row: &Row,
-) {
-    let mut out = Slow::new(alloc, room, true, is_stuck);
-    let mut err: Vec<u8> = Vec::new(alloc);
-    let status = run_words(
-        texts,
-        &mut KeptLinks::new(alloc),
-        alloc,
-        &[],
-        words,
-        &mut out,
-        &mut err,
-    );
-    assert!(rt; (status, out.taken.as_slice(), err.as_slice()) == (row.1, row.2, row.3));
-}
-
-pub(crate) fn is_run(
-    rt: &impl Abort,
-    texts: &KeptTexts,
-    alloc: Global,
-    room: usize,
-    is_stuck: bool,
-    row: &Row,
-) -> Result<(), Fail> {
-    let words = words_of(alloc, row.0)?;
-    words_are_run(rt, texts, alloc, words.as_slice(), room, is_stuck, row);
-    Ok(())
-}
-
-/// Room for all that is written.
-pub(crate) const ROOM: usize = 1000;
-
-/// A script that provides `net` and requires nothing.
-pub(crate) const NET: &str =
-    "### BEGIN INIT INFO\n# Provides: net\n# Required-Start: \n# Default-Start: 3\n### END INIT INFO\n";
-
-const SLOW_NET: &[&str] = &["slow-net"];
-
-/// The room of a writer, whether it can't be flushed, and what comes of a run that writes there.
-const SLOW: &[(usize, bool, Row)] = &[
-    (0, false, (SLOW_NET, 4, b"", b"rclinks: cannot write\n")),
+/// Paths, and the texts that are kept there. Of two at one path the first stands there.
+const TEXTS: &[(&str, &[u8])] = &[
+    ("a/run-net", NET),
+    ("a/run-net", b"# Provides: net\n"),
     (
-        20,
-        false,
-        (
-            SLOW_NET,
-            4,
-            b"rc3.d/S01slow-net ..",
-            b"rclinks: cannot write\n",
-        ),
+        "run-db",
+        b"### BEGIN INIT INFO\n# Provides: db\n# Required-Start: net\n# Default-Start: 3\n### END INIT INFO\n",
+    ),
+    ("run-bad", b"# Provides: bad\n"),
+    ("run+net", NET),
+    (
+        "init.d/net",
+        b"### BEGIN INIT INFO\n# Provides: net\n# Default-Start: 2 3\n# Default-Stop: 0\n### END INIT INFO\n",
     ),
     (
-        100,
-        false,
-        (SLOW_NET, 0, b"rc3.d/S01slow-net ../init.d/slow-net\n", b""),
-    ),
-    (
-        100,
-        true,
-        (
-            SLOW_NET,
-            4,
-            b"rc3.d/S01slow-net ../init.d/slow-net\n",
-            b"rclinks: cannot write\n",
-        ),
+        "init.d/web",
+        b"### BEGIN INIT INFO\n# Provides: web\n# Required-Start: net\n# Default-Start: 3\n### END INIT INFO\n",
     ),
 ];
 
-#[test]
-fn a_write_fault_is_told(rt: HostRuntime) -> Result<(), Fail> {
-    let mut kept = KeptTexts::new(rt.alloc());
-    kept.keep("slow-net", NET.as_bytes())?;
-    for (room, is_stuck, row) in SLOW {
-        is_run(&rt, &kept, rt.alloc(), *room, *is_stuck, row)?;
+/// An entry of a runlevel's folder in a directory: a word for it, the directory, the runlevel, its name, and where it
+/// leads. OLD0 and OLD3 are numbered links that no plan has; SWAPPED has the plan's name and leads to the other script;
+/// README and those behind it are changed by no run, but for DB, which has no script.
+const ENTRIES: &[(&str, &str, Level, &str, &str)] = &[
+    ("NET2", "etc", Level::L2, "S01net", "../init.d/net"),
+    ("NET3", "etc", Level::L3, "S01net", "../init.d/net"),
+    ("NET0", "etc", Level::L0, "K01net", "../init.d/net"),
+    ("WEB3", "etc", Level::L3, "S02web", "../init.d/web"),
+    ("OLD0", "etc", Level::L0, "K09web", "../init.d/web"),
+    ("OLD3", "etc", Level::L3, "S20net", "../init.d/net"),
+    ("SWAPPED", "etc", Level::L3, "S01net", "../init.d/web"),
+    ("README", "etc", Level::L3, "README", ""),
+    ("DB", "etc", Level::L3, "S50db", "../init.d/db"),
+    ("ABSOLUTE", "etc", Level::L3, "S20web", "/etc/init.d/web"),
+    ("UNNUMBERED", "etc", Level::L3, "xweb", "../init.d/web"),
+    ("ELSEWHERE", "old", Level::L3, "S20net", "../init.d/net"),
+    ("TAKEN", "etc", Level::L3, "S02web", ""),
+];
+
+/// Parted by `|`: what the folders hold; a command line; the room of the writer, behind `stuck` of one that can't be
+/// flushed; the status; what is written, VERSION for the version's line, as far as there is room; what is told; and
+/// what the folders hold then.
+const ROWS: &[&str] = &[
+    "|a/run-net|0|4||rclinks: cannot write\n|",
+    "|a/run-net|20|4|rc3.d/S01run-net ../|rclinks: cannot write\n|",
+    "|a/run-net|100|0|rc3.d/S01run-net ../init.d/run-net\n||",
+    "|a/run-net|stuck 100|4|rc3.d/S01run-net ../init.d/run-net\n|rclinks: cannot write\n|",
+    "|--version|100|0|VERSION||",
+    "|--version|stuck 100|4|VERSION|rclinks: cannot write\n|",
+    "|--version|7|4|VERSION|rclinks: cannot write\n|",
+    "|run-db a/run-net|999|0|rc3.d/S01run-net ../init.d/run-net\nrc3.d/S02run-db ../init.d/run-db\n||",
+    "|run-bad|999|1||rclinks: bad header: run-bad\nrclinks: run-bad: no line \"### BEGIN INIT INFO\"\n|",
+    "|run-db|999|1||rclinks: missing: net\nrclinks: run-db: Required-Start names net, which no file provides\n|",
+    "|run+net|999|1||rclinks: bad header: run+net\n\
+     rclinks: run+net: the name of a script has bytes of A-Z a-z 0-9 . _ - alone\n|",
+    // A path is that of a text only as it was given.
+    "|run-net|999|4||rclinks: cannot read: run-net\nrclinks: run-net: entity not found\n|",
+    "|--write etc init.d/net init.d/web|999|0|||NET0 NET2 NET3 WEB3",
+    "NET0 NET2 NET3 WEB3|--write etc init.d/net init.d/web|999|0|||NET0 NET2 NET3 WEB3",
+    "README OLD3 DB ABSOLUTE OLD0 NET2 UNNUMBERED ELSEWHERE|--write etc init.d/net init.d/web|999|0|||\
+     README DB ABSOLUTE NET2 UNNUMBERED ELSEWHERE NET0 NET3 WEB3",
+    "SWAPPED|-n --write etc init.d/net init.d/web|999|0|make rc0.d/K01net ../init.d/net\n\
+     make rc2.d/S01net ../init.d/net\nremove rc3.d/S01net ../init.d/web\nmake rc3.d/S01net ../init.d/net\n\
+     make rc3.d/S02web ../init.d/web\n||SWAPPED",
+    "SWAPPED|--write etc init.d/net init.d/web|999|0|||NET0 NET2 NET3 WEB3",
+    "OLD0 TAKEN|--write etc init.d/net init.d/web|999|1||rclinks: etc/rc3.d/S02web: \
+     it is no link to a planned script, and the plan needs the name: move it away; nothing was changed\n|OLD0 TAKEN",
+    "OLD0|--write etc init.d/net run-bad|999|1||\
+     rclinks: bad header: run-bad\nrclinks: run-bad: no line \"### BEGIN INIT INFO\"\n|OLD0",
+    "OLD0|-n init.d/net|999|0|\
+     rc0.d/K01net ../init.d/net\nrc2.d/S01net ../init.d/net\nrc3.d/S01net ../init.d/net\n||OLD0",
+    "OLD0 OLD3|--write etc --skip run-bad init.d/net|999|0||rclinks: bad header: run-bad\n\
+     rclinks: run-bad: no line \"### BEGIN INIT INFO\"\nrclinks: run-bad: left out\n|OLD0 NET0 NET2 NET3",
+    // A script that has links stays in their runlevels.
+    "OLD3|--keep --write etc init.d/net init.d/web|999|0|||NET3 WEB3",
+    "OLD0 NET2|--keep --write etc -n init.d/net init.d/web|999|0|\
+     remove rc0.d/K09web ../init.d/web\nmake rc0.d/K01web ../init.d/web\n||OLD0 NET2",
+    // These folders have no script.
+    "DB README ABSOLUTE UNNUMBERED ELSEWHERE|--write etc --prune init.d/net|999|0|||\
+     README ABSOLUTE UNNUMBERED ELSEWHERE NET0 NET2 NET3",
+];
+
+fn kept_texts(own: Global) -> Result<KeptTexts, AllocError> {
+    let mut kept = KeptTexts::new(own);
+    for (path, text) in TEXTS {
+        kept.keep(path, text)?;
     }
-    Ok(())
+    Ok(kept)
 }
 
-/// The room of a writer, whether it can't be flushed, and the status and the report of a run that writes the version
-/// there.
-const VERSIONS: &[(usize, bool, u8, &str)] = &[
-    (100, false, 0, ""),
-    (100, true, 4, "rclinks: cannot write\n"),
-    (7, false, 4, "rclinks: cannot write\n"),
-];
+fn kept_links(own: Global, words: &str) -> Result<KeptLinks, AllocError> {
+    let mut kept = KeptLinks::new(own);
+    for word in words.split_ascii_whitespace() {
+        for (name, dir, level, link, leads) in ENTRIES {
+            if *name == word {
+                kept.keep(dir, *level, link.as_bytes(), leads.as_bytes())?;
+            }
+        }
+    }
+    Ok(kept)
+}
 
-fn version_is_written(
-    rt: &impl Abort,
-    alloc: Global,
-    words: &[String],
-    line: &str,
-    row: &(usize, bool, u8, &str),
-) {
-    let (room, is_stuck, status, report) = *row;
-    let mut out = Slow::new(alloc, room, true, is_stuck);
-    let mut err: Vec<u8> = Vec::new(alloc);
+/// The folder of a runlevel in a directory holds just those of these entries that are its own, in order.
+fn holds(
+    own: Global,
+    links: &KeptLinks,
+    words: &str,
+    dir: &'static str,
+    level: Level,
+) -> Option<bool> {
+    let found = links.entries(own, dir, level).ok()?;
+    let mut place = 0usize;
+    for word in words.split_ascii_whitespace() {
+        for (name, its_dir, its_level, link, leads) in ENTRIES {
+            if *name == word && *its_dir == dir && *its_level == level {
+                let entry = found.get(place)?;
+                if entry.name() != link.as_bytes() || entry.leads() != leads.as_bytes() {
+                    return Some(false);
+                }
+                place = place.wrapping_add(1);
+            }
+        }
+    }
+    Some(place == found.len())
+}
+
+fn hold(own: Global, links: &KeptLinks, words: &str) -> bool {
+    for level in [Level::L0, Level::L2, Level::L3] {
+        for dir in ["etc", "old"] {
+            if holds(own, links, words, dir, level) != Some(true) {
+                return false;
+            }
+        }
+    }
+    true
+}
+
+fn fields_of<'r>(own: Global, row: &'r str) -> Result<Vec<&'r str>, AllocError> {
+    let mut fields = Vec::new(own);
+    for field in row.split('|') {
+        fields.push(field)?;
+    }
+    Ok(fields)
+}
+
+/// The run of a row is as it says, with the line of the version where that is written.
+fn is_row(own: Global, texts: &KeptTexts, row: &str, version: &str) -> Option<bool> {
+    let fields = fields_of(own, row).ok()?;
+    let [before, line, room, status, out, err, after] = fields.as_slice() else {
+        return None;
+    };
+    let mut links = kept_links(own, before).ok()?;
+    let words = line_words(own, line).ok()?;
+    let is_stuck = room.starts_with("stuck ");
+    let room = room.trim_start_matches("stuck ").parse::<usize>().ok()?;
+    let mut lines = Slow::new(own, room, true, is_stuck);
+    let mut told: Vec<u8> = Vec::new(own);
     let ended = run_words(
-        &KeptTexts::new(alloc),
-        &mut KeptLinks::new(alloc),
-        alloc,
+        texts,
+        &mut links,
+        own,
         &[],
-        words,
-        &mut out,
-        &mut err,
+        words.as_slice(),
+        &mut lines,
+        &mut told,
     );
-    assert!(rt; ended == status && err.as_slice() == report.as_bytes() && out.has_line(line));
+    let written = if *out == "VERSION" { version } else { *out };
+    let is_ended = ended == status.parse::<u8>().ok()?;
+    let is_said = lines.has_line(written) && told.as_slice() == err.as_bytes();
+    Some(is_ended && is_said && hold(own, &links, after))
 }
 
 #[test]
-fn the_version_is_written(rt: HostRuntime) -> Result<(), Fail> {
-    let line = format!(in rt.alloc(); "rclinks {VERSION} ({KIT})\n")?;
-    let words = words_of(rt.alloc(), &["--version"])?;
-    for row in VERSIONS {
-        version_is_written(&rt, rt.alloc(), words.as_slice(), line.as_str(), row);
+fn lines_are_answered(rt: HostRuntime) -> Result<(), Fail> {
+    let texts = kept_texts(rt.alloc())?;
+    let version = format!(in rt.alloc(); "rclinks {VERSION} ({KIT})\n")?;
+    for row in ROWS {
+        assert!(rt;
+            is_row(rt.alloc(), &texts, row, &version) == Some(true),
+            "{row}"
+        );
     }
     Ok(())
 }

@@ -1,148 +1,170 @@
-//! Growths are refused in turn, on heaps of more and more room, until a call meets no refusal: what is answered is lack
-//! of memory.
+//! Growths are refused in turn, on heaps of more and more room: what is answered is lack of memory. With room each call
+//! gives what it has to.
 
+use crate::texts::{END, NET, NINE, SHOWN_NINE, header_of, joined, scripts_of, shown};
 use init_words::{Level, Memory};
 use linked_list_allocator::LocalHeap;
-use rc_links::{Change, Folder, FolderEntry, PlanFault, Script};
+use program_io::{KeptTexts, Texts};
+use rc_header::HeaderFault;
+use rc_links::{Change, Folder, FolderEntry, Plan, PlanFault, Script};
 use std::alloc::{Allocator, Global};
-use std::process::Abort;
-use std::test::Fail;
+use std::io::ErrorKind;
+use test_support::boxed;
 
-/// From one heap to the next there is less more room than the least growth takes, so that each growth is refused on
-/// some heap.
-const STEP: usize = 16;
+/// What comes of a call on a heap.
+#[derive(Clone, Copy, PartialEq, Eq)]
+enum Outcome {
+    /// There was no room for what it is called with.
+    Unmade,
+    Refused,
+    Done,
+}
 
-const NET: &[u8] = b"### BEGIN INIT INFO\n# Provides: net\n# Default-Start: 3\n### END INIT INFO\n";
+use Outcome::{Done, Refused, Unmade};
 
-const WEB: &[u8] =
-    b"### BEGIN INIT INFO\n# Provides: web www\n# Required-Start: net\n# Required-Stop: net\n\
-    # Default-Start: 3\n# Default-Stop: 0\n### END INIT INFO\n";
+fn read_header(own: Global, heap: &LocalHeap) -> Option<Outcome> {
+    let text = joined(own, &[NINE, END]).ok()?;
+    match header_of(own, heap, &text) {
+        Ok(header) => (shown(own, &header).ok()?.as_slice() == SHOWN_NINE).then_some(Done),
+        Err(fault) => (fault == HeaderFault::Memory).then_some(Refused),
+    }
+}
 
 const LINKS: &[u8] =
     b"rc0.d/K01web ../init.d/web\nrc3.d/S01net ../init.d/net\nrc3.d/S02web ../init.d/web\n";
 
-/// The script of a name and a header; None where there is no room for it.
-fn script<A: Allocator + Copy>(alloc: A, name: &str, header: &[u8]) -> Option<Script<A>> {
-    let header = rc_header::read(alloc, header).ok()?;
-    Some(Script::new(String::from_str(alloc, name).ok()?, header))
-}
-
-fn scripts_of<A: Allocator + Copy>(alloc: A) -> Option<Vec<Script<A>, A>> {
-    let mut scripts = Vec::new(alloc);
-    if scripts.push(script(alloc, "web", WEB)?).is_err()
-        || scripts.push(script(alloc, "net", NET)?).is_err()
-    {
-        return None;
+fn plan_of<A: Allocator + Copy>(
+    own: Global,
+    alloc: A,
+    scripts: &[Script<A>],
+) -> Result<Box<Plan<A>>, PlanFault<A>> {
+    let plan = rc_links::plan(alloc, scripts)?;
+    match boxed(own, plan) {
+        Ok(plan) => Ok(plan),
+        Err(_) => Err(PlanFault::Memory),
     }
-    Some(scripts)
 }
 
-/// What a heap has no room for.
-#[derive(Clone, Copy, PartialEq, Eq)]
-enum Refused {
-    Scripts,
-    Plan,
-    Print,
-    Nothing,
+/// Each script has its start and its stop number.
+fn has_numbers<A: Allocator>(plan: &Plan<A>) -> bool {
+    (plan.start_number("net"), plan.stop_number("net")) == (Some(1), Some(2))
+        && (plan.start_number("web"), plan.stop_number("web")) == (Some(2), Some(1))
+        && (plan.start_number("db"), plan.stop_number("db")) == (None, None)
 }
 
-fn refused_on(rt: &impl Abort, heap: &LocalHeap) -> Refused {
+/// A plan is made of scripts, or it is printed too.
+fn plan(own: Global, heap: &LocalHeap, is_printed: bool) -> Option<Outcome> {
     let Some(scripts) = scripts_of(heap) else {
-        return Refused::Scripts;
+        return Some(Unmade);
     };
-    match rc_links::plan(heap, &scripts) {
+    match plan_of(own, heap, &scripts) {
+        Ok(plan) if !is_printed => has_numbers(&plan).then_some(Done),
         Ok(plan) => match plan.print(heap) {
-            Ok(text) => {
-                assert!(rt; text.as_slice() == LINKS);
-                Refused::Nothing
-            }
-            Err(Memory) => Refused::Print,
+            Ok(text) => (text.as_slice() == LINKS).then_some(Done),
+            Err(Memory) => Some(Refused),
         },
-        Err(why) => {
-            assert!(rt; matches!(why, PlanFault::Memory));
-            Refused::Plan
-        }
+        Err(PlanFault::Memory) if is_printed => Some(Unmade),
+        Err(why) => matches!(why, PlanFault::Memory).then_some(Refused),
     }
-}
-
-#[test]
-fn scripts_without_room_are_not_planned(rt: HostRuntime) -> Result<(), Fail> {
-    let mut plans = 0usize;
-    let mut prints = 0usize;
-    for step in 0..8192usize {
-        let heap = LocalHeap::new(rt.alloc(), STEP * step)?;
-        match refused_on(&rt, &heap) {
-            Refused::Scripts => {}
-            Refused::Plan => plans = plans.wrapping_add(1),
-            Refused::Print => prints = prints.wrapping_add(1),
-            Refused::Nothing => {
-                assert!(rt; plans > 4 && prints > 1, "{plans} {prints}");
-                return Ok(());
-            }
-        }
-    }
-    Err(Fail::from("no heap has room"))
-}
-
-/// An entry of a folder; None where there is no room for it.
-fn entry<A: Allocator + Copy>(alloc: A, name: &str, leads: &str) -> Option<FolderEntry<A>> {
-    let name = Vec::from_slice(alloc, name.as_bytes()).ok()?;
-    let leads = Vec::from_slice(alloc, leads.as_bytes()).ok()?;
-    Some(FolderEntry::new(name, leads))
 }
 
 /// One entry; None where there is no room for it.
-fn one_entry<A: Allocator + Copy>(
-    alloc: A,
-    name: &str,
-    leads: &str,
-) -> Option<Vec<FolderEntry<A>, A>> {
+fn entries_of<A: Allocator + Copy>(alloc: A, name: &[u8]) -> Option<Vec<FolderEntry<A>, A>> {
     let mut entries = Vec::new(alloc);
-    match entries.push(entry(alloc, name, leads)?) {
-        Ok(()) => Some(entries),
-        Err(_) => None,
-    }
+    let name = Vec::from_slice(alloc, name).ok()?;
+    let leads = Vec::from_slice(alloc, b"../init.d/net").ok()?;
+    entries.push(FolderEntry::new(name, leads)).ok()?;
+    Some(entries)
 }
 
-/// A folder that needs one removal and one making; None where there is no room for it.
-fn folders_of<A: Allocator + Copy>(alloc: A) -> Option<Vec<Folder<A>, A>> {
-    let planned = one_entry(alloc, "S01net", "../init.d/net")?;
-    let held = one_entry(alloc, "S20net", "../init.d/net")?;
-    let mut folders = Vec::new(alloc);
-    match folders.push(Folder::new(Level::L3, planned, held)) {
-        Ok(()) => Some(folders),
-        Err(_) => None,
-    }
-}
-
-fn targets_of<A: Allocator + Copy>(alloc: A) -> Option<Vec<Vec<u8, A>, A>> {
-    let mut targets = Vec::new(alloc);
-    match targets.push(Vec::from_slice(alloc, b"../init.d/net").ok()?) {
-        Ok(()) => Some(targets),
-        Err(_) => None,
-    }
-}
-
-/// The changes that the folder needs; None where there is no room for the folder.
+/// The changes of a folder that needs one removal and one making; None where there is no room for the folder.
 fn changes_on<A: Allocator + Copy>(alloc: A) -> Option<Result<Vec<Change<A>, A>, Memory>> {
-    let folders = folders_of(alloc)?;
-    let targets = targets_of(alloc)?;
+    let (planned, held) = (entries_of(alloc, b"S01net")?, entries_of(alloc, b"S20net")?);
+    let mut folders = Vec::new(alloc);
+    folders.push(Folder::new(Level::L3, planned, held)).ok()?;
+    let mut targets = Vec::new(alloc);
+    targets
+        .push(Vec::from_slice(alloc, b"../init.d/net").ok()?)
+        .ok()?;
     Some(rc_links::changes(alloc, &targets, &folders))
 }
 
-#[test]
-fn changes_without_room_are_not_given(rt: HostRuntime) -> Result<(), Fail> {
+fn change(heap: &LocalHeap) -> Option<Outcome> {
+    match changes_on(heap) {
+        None => Some(Unmade),
+        Some(Err(Memory)) => Some(Refused),
+        Some(Ok(changes)) => (changes.len() == 2).then_some(Done),
+    }
+}
+
+/// A text is kept at `b` behind one at `a`. Where there is no room for it, the first stands alone.
+fn keep(own: Global, heap: &LocalHeap) -> Option<Outcome> {
+    let mut kept = KeptTexts::new(heap);
+    if kept.keep("a", NET).is_err() {
+        return Some(Unmade);
+    }
+    let outcome = if kept.keep("b", NET).is_ok() {
+        Done
+    } else {
+        Refused
+    };
+    let is_first = kept.read(own, "a").ok()?.as_slice() == NET;
+    let is_second = match kept.read(own, "b") {
+        Ok(text) => outcome == Done && text.as_slice() == NET,
+        Err(error) => outcome == Refused && error.kind() == ErrorKind::NotFound,
+    };
+    (is_first && is_second).then_some(outcome)
+}
+
+fn read_kept(own: Global, heap: &LocalHeap) -> Option<Outcome> {
+    let mut kept = KeptTexts::new(own);
+    kept.keep("a", NET).ok()?;
+    match kept.read(heap, "a") {
+        Ok(text) => (text.as_slice() == NET).then_some(Done),
+        Err(error) => (error.kind() == ErrorKind::OutOfMemory).then_some(Refused),
+    }
+}
+
+fn outcome_on(own: Global, heap: &LocalHeap, what: &str) -> Option<Outcome> {
+    match what {
+        "header" => read_header(own, heap),
+        "plan" => plan(own, heap, false),
+        "print" => plan(own, heap, true),
+        "changes" => change(heap),
+        "keep" => keep(own, heap),
+        _ => read_kept(own, heap),
+    }
+}
+
+/// On how many heaps it is refused, each with less more room than the least growth takes, before the first on which it
+/// is done; None where anything else comes of it.
+fn refusals(own: Global, what: &str) -> Option<usize> {
     let mut refused = 0usize;
-    for step in 0..256usize {
-        let heap = LocalHeap::new(rt.alloc(), STEP * step)?;
-        match changes_on(&heap) {
-            None => {}
-            Some(Err(Memory)) => refused = refused.wrapping_add(1),
-            Some(Ok(changes)) => {
-                assert!(rt; changes.len() == 2 && refused > 3, "{refused}");
-                return Ok(());
-            }
+    for step in 4..8192usize {
+        let heap = LocalHeap::new(own, 16 * step).ok()?;
+        match outcome_on(own, &heap, what)? {
+            Unmade => {}
+            Refused => refused = refused.wrapping_add(1),
+            Done => return Some(refused),
         }
     }
-    Err(Fail::from("no heap has room"))
+    None
+}
+
+/// What needs room, and on how many heaps at least it has none.
+const REFUSED: &[(&str, usize)] = &[
+    ("header", 4),
+    ("plan", 4),
+    ("print", 1),
+    ("changes", 3),
+    ("keep", 3),
+    ("read", 1),
+];
+
+#[test]
+fn what_has_no_room_is_refused(rt: HostRuntime) {
+    for (what, least) in REFUSED {
+        let refused = refusals(rt.alloc(), what);
+        assert!(rt; refused > Some(*least), "{what}: {refused:?}");
+    }
 }

@@ -8,8 +8,4 @@ mod growth_tests;
 #[cfg(test)]
 mod headers_tests;
 #[cfg(test)]
-mod kept_tests;
-#[cfg(test)]
-mod plans_tests;
-#[cfg(test)]
-mod write_tests;
+mod texts;

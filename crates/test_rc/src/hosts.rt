@@ -1,0 +1,116 @@
+//! Scripted hosts: what they are given, and the letters of the calls that were made of them.
+
+use host_calls::{Call, Host, HostFault, Reply};
+use host_scripted::MemoryHost;
+use init_words::{Answer, ChildNumber, Id, Memory, SignalKind, Status};
+use std::alloc::{AllocError, Global};
+use test_support::boxed;
+
+/// The fields of a row, parted by `|`.
+pub(crate) fn fields_of<'r>(own: Global, row: &'r str) -> Result<Vec<&'r str>, AllocError> {
+    let mut fields = Vec::new(own);
+    for field in row.split('|') {
+        fields.push(field)?;
+    }
+    Ok(fields)
+}
+
+/// The answer of a letter: `b`orn, `n`ot born, `e`nded with 0, `t`hree, `k`illed, `a`live, `o` that a look failed.
+fn answer_of(letter: u8) -> Answer {
+    match letter {
+        b'b' => Answer::Born(ChildNumber(7)),
+        b'n' => Answer::NotBorn,
+        b'e' => Answer::Ended(Status::Exit(0)),
+        b't' => Answer::Ended(Status::Exit(3)),
+        b'k' => Answer::Ended(Status::Killed),
+        b'o' => Answer::NoLook,
+        _ => Answer::Alive,
+    }
+}
+
+fn reply_of(letter: u8) -> Reply {
+    match letter {
+        b'l' => Reply::Later,
+        _ => Reply::Now(answer_of(letter)),
+    }
+}
+
+fn give_replies(host: &mut MemoryHost, starts: &str, looks: &str) -> Result<(), Memory> {
+    for letter in starts.bytes() {
+        host.give_start(reply_of(letter))?;
+    }
+    for letter in looks.bytes() {
+        host.give_look(reply_of(letter))?;
+    }
+    Ok(())
+}
+
+fn give_others(host: &mut MemoryHost, lates: &str, readings: &str) -> Option<()> {
+    let id = Id::read(b"rc")?;
+    for letter in lates.bytes() {
+        let late = if letter == b'-' {
+            None
+        } else {
+            Some((id, answer_of(letter)))
+        };
+        host.give_late(late).ok()?;
+    }
+    for reading in readings.split_ascii_whitespace() {
+        let reading = match reading.parse::<u64>() {
+            Ok(second) => Ok(second),
+            Err(_) => Err(HostFault::Device),
+        };
+        host.give_clock(reading).ok()?;
+    }
+    Some(())
+}
+
+fn new_host(own: Global) -> Result<Box<MemoryHost>, AllocError> {
+    boxed(own, MemoryHost::new(own))
+}
+
+/// A host that is given this, parted by `/`: replies to starts and to looks, and late answers, each a letter, `l` for
+/// later and `-` for no late answer; and readings of the clock, of which what is no number fails.
+pub(crate) fn given_host(own: Global, given: &str) -> Option<Box<MemoryHost>> {
+    let mut parts = given.split('/');
+    let (starts, looks) = (parts.next()?, parts.next()?);
+    let mut host = new_host(own).ok()?;
+    give_replies(&mut host, starts, looks).ok()?;
+    give_others(&mut host, parts.next()?, parts.next()?)?;
+    Some(host)
+}
+
+/// A call's letter: `S`tart, `L`ook, `P`ause, l`A`te, `C`lock, `T`ERM, `K`ILL.
+fn letter_of(call: &Call) -> u8 {
+    match call {
+        Call::Start(_, _, _) => b'S',
+        Call::Look(_, _) => b'L',
+        Call::Late(_) => b'A',
+        Call::Pause => b'P',
+        Call::Clock(_) => b'C',
+        Call::Signal(_, SignalKind::Term, _) => b'T',
+        Call::Signal(_, SignalKind::Kill, _) => b'K',
+        _ => b'?',
+    }
+}
+
+/// The calls that were made of the host are these letters.
+pub(crate) fn has_calls(host: &MemoryHost, letters: &str) -> bool {
+    let mut letters = letters.bytes();
+    for call in host.calls().unwrap_or(&[]) {
+        if letters.next() != Some(letter_of(call)) {
+            return false;
+        }
+    }
+    letters.next().is_none()
+}
+
+/// The first call that was made of the host starts this command, under the id of rc.
+pub(crate) fn begins_with(host: &MemoryHost, want: &str) -> bool {
+    match host.calls().unwrap_or(&[]) {
+        [Call::Start(id, command, _), ..] => {
+            id.as_bytes() == b"rc".as_slice() && command.as_slice() == want.as_bytes()
+        }
+        _ => false,
+    }
+}

@@ -1,0 +1,168 @@
+//! Runs of scripts over a scripted host, and what is printed of them.
+
+use crate::hosts::{begins_with, fields_of, given_host, has_calls};
+use crate::order_tests::rc_over;
+use host_scripted::MemoryHost;
+use init_words::Level;
+use rc_driver::{Passage, Rc, RcStep, RunEnd, RunWay, print_links, run_links};
+use std::alloc::Global;
+use test_support::{Slow, line_words};
+
+/// By `sh`, and no start is told.
+pub(crate) const PLAIN: RunWay = RunWay {
+    direct: false,
+    verbose: false,
+    seconds: None,
+    levels: None,
+};
+
+/// The scripts themselves, and each start is told.
+const TOLD: RunWay = RunWay {
+    direct: true,
+    verbose: true,
+    ..PLAIN
+};
+
+/// The scripts themselves, each with three seconds.
+const TIMED: RunWay = RunWay {
+    direct: true,
+    seconds: Some(3),
+    ..PLAIN
+};
+
+/// The scripts themselves, with the levels of a change to S from no level.
+const FIRST: RunWay = RunWay {
+    direct: true,
+    levels: Some(Passage {
+        before: None,
+        new: Level::S,
+    }),
+    ..PLAIN
+};
+
+/// Parted by `|`: how scripts are run or printed, `asked` where the first was asked for before, `stuck` over a writer
+/// that keeps its bytes; what the host is given; the limit of pauses, the room of the writer of lines and of that of
+/// reports; the end of the run, or the script that has not ended; what is written and reported, and the calls.
+const ROWS: &[&str] = &[
+    "plain|bb/oee//|9 99 0|done|K05c stop exit 0\nS10a start exit 0\n||SLPALSL",
+    "plain|lb/aek/-b-/|9 99 0|failed|K05c stop exit 0\nS10a start killed\n||SPAPALPALSL",
+    "plain|nb/t//|0 99 0|failed|K05c stop not started\nS10a start exit 3\n||SSL",
+    "plain|bb/lk/-e/|2 99 0|failed|K05c stop exit 0\nS10a start killed\n||SLPAPASL",
+    "plain|ln//n/|1 99 0|failed|K05c stop not started\nS10a start not started\n||SPAS",
+    "plain|bb/eaae//|1 99 0|S10a|K05c stop exit 0\n||SLSLPAL",
+    "plain|b/a//|0 99 0|K05c|||SL",
+    "plain|bb/ee//|9 20 0|write|K05c stop exit 0\nS10||SLSL",
+    "plain|bb/ee//|9 0 0|write|||SL",
+    "asked|///|9 99 0|waiting|||",
+    "stuck|///|9 99 0|write|K05c stop not started\n||S",
+    // Each start is told.
+    "told|b/e//|9 99 0|failed|K05c stop begins\nK05c stop exit 0\nS10a start begins\nS10a start not started\n||SLS",
+    "told|b/e//|9 35 0|write|K05c stop begins\nK05c stop exit 0\nS||SL",
+    // The clock isn't read of a script that has ended at once.
+    "timed|b/e//|99 99 200|done|S10a start exit 0\n||SL",
+    // Three seconds are within the limit; the first reading is that of its beginning.
+    "timed|b/aae//40 43|99 99 200|done|S10a start exit 0\n||SLCPALCPAL",
+    "timed|b/aak//40 44|99 99 200|failed|S10a start killed\n|\
+     rc: x/S10a has not ended after 3 s: TERM was sent\n|SLCPALCTPAL",
+    // It is sent each signal once, and KILL behind the grace.
+    "timed|b/aaaaat//40 44 49 50 90|99 99 200|failed|S10a start exit 3\n|\
+     rc: x/S10a has not ended after 3 s: TERM was sent\n\
+     rc: x/S10a has not ended after 5 s more: KILL was sent\n|SLCPALCTPALCPALCKPALCPAL",
+    // No time passes by a clock that can't be read, nor by one that is set back.
+    "timed|b/aaae//none 40 7|99 99 200|done|S10a start exit 0\n||SLCPALCPALCPAL",
+    // A line that can't be told ends nothing.
+    "timed|b/aaak//40 44 50|99 99 6|failed|S10a start killed\n|rc: x/|SLCPALCTPALCKPAL",
+    // What would be run is printed.
+    "print|///|9 99 0|done|sh x/K05c stop\nsh x/S10a start\n||",
+    "print told|///|9 99 0|done|x/K05c stop\nx/S10a start\n||",
+    "print told|///|9 14 0|write|x/K05c stop\nx/||",
+    "print first|///|9 199 0|done|\
+     env RUNLEVEL=S PREVLEVEL=N x/K05c stop\nenv RUNLEVEL=S PREVLEVEL=N x/S10a start\n||",
+];
+
+fn way_of(how: &str) -> RunWay {
+    match how {
+        "told" | "print told" => TOLD,
+        "timed" => TIMED,
+        "print first" => FIRST,
+        _ => PLAIN,
+    }
+}
+
+fn rooms_of(text: &str) -> Option<(u32, usize, usize)> {
+    let (limit, rooms) = text.split_once(' ')?;
+    let (room, told) = rooms.split_once(' ')?;
+    Some((
+        limit.parse::<u32>().ok()?,
+        room.parse::<usize>().ok()?,
+        told.parse::<usize>().ok()?,
+    ))
+}
+
+/// The run ended so, and so much is asked for then.
+fn is_end(end: RunEnd, next: RcStep, want: &str) -> bool {
+    let is_over = next == RcStep::Done;
+    match end {
+        RunEnd::Done => want == "done" && is_over,
+        RunEnd::Failed => want == "failed" && is_over,
+        RunEnd::Limit(link) => want == link && !is_over,
+        RunEnd::Waiting => want == "waiting" && !is_over,
+        RunEnd::Write => want == "write" && !is_over,
+        RunEnd::Memory => false,
+    }
+}
+
+/// The scripts are run or printed, and that ends as the row says.
+fn ends(own: Global, rc: &mut Rc, host: &mut MemoryHost, row: &[&str]) -> Option<bool> {
+    let [how, _, rooms, end, out, err, _] = row else {
+        return None;
+    };
+    let (limit, room, told) = rooms_of(rooms)?;
+    let mut lines = Slow::new(own, room, true, *how == "stuck");
+    let mut reports = Slow::new(own, told, true, false);
+    let ended = if how.starts_with("print") {
+        print_links(own, rc, way_of(how), "x", &mut lines)
+    } else {
+        run_links(
+            own,
+            rc,
+            host,
+            way_of(how),
+            "x",
+            limit,
+            &mut lines,
+            &mut reports,
+        )
+    };
+    let is_written = lines.taken.as_slice() == out.as_bytes();
+    let is_told = reports.taken.as_slice() == err.as_bytes();
+    Some(is_end(ended, rc.next(), end) && is_written && is_told)
+}
+
+fn is_row(own: Global, row: &str) -> Option<bool> {
+    let fields = fields_of(own, row).ok()?;
+    let [how, given, .., calls] = fields.as_slice() else {
+        return None;
+    };
+    let (names, command) = match *how {
+        "told" => ("S10a K05c", "x/K05c stop"),
+        "timed" => ("S10a", "x/S10a start"),
+        _ => ("S10a K05c", "sh x/K05c stop"),
+    };
+    let names = line_words(own, names).ok()?;
+    let mut host = given_host(own, given)?;
+    let mut rc = rc_over(own, own, "", &[], &names).ok()?;
+    if *how == "asked" {
+        let _ = rc.next();
+    }
+    let is_ended = ends(own, &mut rc, &mut host, fields.as_slice())?;
+    let has_begun = calls.is_empty() || begins_with(&host, command);
+    Some(is_ended && has_begun && has_calls(&host, calls))
+}
+
+#[test]
+fn scripts_are_run_and_printed(rt: HostRuntime) {
+    for row in ROWS {
+        assert!(rt; is_row(rt.alloc(), row) == Some(true), "{row}");
+    }
+}
