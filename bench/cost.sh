@@ -1,7 +1,7 @@
 #!/bin/bash
-# What a line of a script costs `initd simulate` over tables of 16, 512 and 4,096 respawn entries, what 60 turns cost
-# `initd run` over 500 children that sleep, and what a trace of 10,000,000 lines costs `initd check` and `initview`, in
-# processor time; of the last also the memory.
+# What a line of a script costs `initd simulate` over tables of 16, 512 and 4,096 respawn entries, and where 4,096 all
+# end; what 60 turns cost `initd run` over 500 children that sleep, and what a trace of 10,000,000 lines costs
+# `initd check` and `initview`, in processor time; of the last also the memory.
 # usage: bench/cost.sh INITD INITVIEW     (the programs, as `rt run` leaves them in crates/initd/out/initd and
 # crates/initview/out/initview)
 set -eu
@@ -23,6 +23,18 @@ for entries in 16 512 4096; do
     ( time "$initd" simulate --level 3 "$folder/table" "$folder/script" > "$folder/trace" ) 2>&1 | grep user
     echo "the trace, $(wc -l < "$folder/trace") lines, is judged"
     ( time "$initd" check "$folder/trace" ) 2>&1 | grep -e user -e lawful
+done
+
+for act in once respawn; do
+    awk -v act=$act 'BEGIN { for (i = 0; i < 4096; i++) printf "%08x:3:%s:x\n", i, act }' > "$folder/table"
+    awk 'BEGIN {
+        print "clock 0"
+        for (i = 0; i < 4096; i++) printf "birth %08x %d\ntold %08x\n", i, 1000 + i, i
+        print "nudge"
+        for (i = 0; i < 4096; i++) printf "death %d\nreaped %08x %d exit 0\ntold %08x\n", 1000 + i, i, 1000 + i, i
+    }' > "$folder/script"
+    echo "4096 $act entries that all end, $(wc -l < "$folder/script") lines"
+    ( time "$initd" simulate --level 3 "$folder/table" "$folder/script" > "$folder/trace" ) 2>&1 | grep user
 done
 
 cd "$folder"

@@ -19,7 +19,8 @@ if [ -z "$peers" ]; then
     peers=$own/peers
     mkdir "$peers"
     for package in busybox-static sysvinit-core; do
-        (cd "$own" && apt-get download -q "$package" >said 2>&1) || true
+        (cd "$own" && { apt-get download -q "$package" || { apt-get update -q && apt-get download -q "$package"; }; } \
+            >said 2>&1) || true
         for archive in "$own/${package}_"*.deb /var/cache/apt/archives/"${package}_"*.deb; do
             [ ! -f "$archive" ] || dpkg-deb -x "$archive" "$peers"
         done
@@ -43,13 +44,16 @@ rooted() {
     local root=$own/$1
     mkdir -p "$root"/{bin,etc,dev,run,proc,tmp}
     cp "$busybox" "$root/bin/"
-    for program in sh true sleep touch; do ln -sf busybox "$root/bin/$program"; done
+    for program in sh true sleep touch mkfifo; do ln -sf busybox "$root/bin/$program"; done
     mknod -m 666 "$root/dev/null" c 1 3
     mknod -m 666 "$root/dev/console" c 1 3
     case $1 in
     initd) cp "$initd" "$root/bin/init" ;;
     busybox) ln -sf busybox "$root/bin/init" ;;
-    sysvinit) cp "$peers/sbin/init" "$root/bin/init" ;;
+    sysvinit)
+        cp "$peers/sbin/init" "$root/bin/init"
+        ln -sf init "$root/bin/telinit"
+        ;;
     esac
     if [ "$1" != busybox ]; then
         for file in $(linked "$root/bin/init"); do
@@ -159,6 +163,27 @@ request() {
     over
 }
 no_children() { ! pgrep -P "$first" >/dev/null; }
+# A level in which nothing runs, after one in which 500 do.
+stops() {
+    [ "$1" != busybox ] || { echo -; return; }
+    { head_of "$1"; for n in $(seq 500); do entry "$1" "$n" respawn "/bin/sleep $((600 + n))"; done; } >"$own/$1/etc/inittab"
+    begun "$1"
+    until_so has_children 500
+    sleep 3
+    local begin before
+    before=$(awk '{ print $1 / 1e6 }' "/proc/$first/schedstat")
+    begin=$(now)
+    case $1 in
+    initd) "$telinit" --initctl "$own/initd/run/ctl" -t 1 4 ;;
+    sysvinit) chroot "$own/sysvinit" /bin/telinit -t 1 4 ;;
+    esac
+    until_so no_children
+    echo $((($(now) - begin) / 1000)) | awk '{ print $1 / 1000 }'
+    sleep 0.5
+    awk -v a="$before" '{ print $1 / 1e6 - a }' "/proc/$first/schedstat" >"$own/cpu"
+    over
+}
+stops_cpu() { stops "$1" >/dev/null; [ "$1" = busybox ] && echo - || cat "$own/cpu"; }
 
 # the least and the middle of the numbers, a line each
 summed() { sort -n | awk '{ it[NR] = $1 } END { print it[1] "/" it[int((NR + 1) / 2)] }'; }
@@ -184,4 +209,6 @@ measured '500 once, milliseconds of processor time' starts_cpu
 measured 'at rest over 10 children, milliseconds a second' idle
 measured 'a child that dies at rest is respawned, milliseconds' respawn
 measured 'a request that ends 10 children, milliseconds' request
+measured 'a level that stops 500, milliseconds' stops
+measured 'a level that stops 500, milliseconds of processor time' stops_cpu
 measured 'resident memory over 10 children, kB' memory
