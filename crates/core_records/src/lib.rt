@@ -3,6 +3,9 @@
 //!
 //! A `Records` keeps them by id, in record order: those of the table's entries first, then those of ids that left the
 //! table and still have a child. It decides nothing: its caller says what was ordered, answered and entered.
+//!
+//! Tested by `test_core`. The order of records is proved of, and cited by all crates of the core; the
+//! indexes and the counts may be kept otherwise, by the invariant of `Records`.
 #![tactic(auto)]
 
 mod adopting;

@@ -5,7 +5,8 @@ use Rattle.init_words.specs.declared.orders.OrderKind.{OrderKind}
 use Rattle.init_words.specs.declared.orders.Answer.TheVariants.{Born, NotBorn, Ended, Alive, NoLook, Hit, Miss}
 use Rattle.core_records.specs.Changes.{is_over}
 use Rattle.core_records.specs.Lists.{is_over_in, without}
-use Rattle.core_records.proofs.Found.{is_listed, others, rest_distinct, unchanged}
+use Rattle.core_records.proofs.Found.{is_listed, others, rest_distinct, unchanged, without_none}
+use Rattle.core_records.proofs.Ordered.{over_none}
 use Rattle.core_steps.proofs.Places.{KeepsSeen, KeepsPassed, seen_map, seen_changed, all_passed_map, all_but}
 
 -- the record at the place is that of the id
@@ -84,23 +85,13 @@ module _ (stage : Option Stage) (id : List ℕ) where
       → AllBut (λ i. i == place || is_passed_at stage (zip table (with_changed id (after_order ask now) slots)) i) places
   passed_ordered ask now table slots places place distinct at passed = all_but (is_passed_at stage (zip table slots)) (is_passed_at stage (zip table (with_changed id (after_order ask now) slots))) places place (λ i other. elsewhere (after_order ask now) table slots i place distinct at other) passed
 
-  -- an end takes the record of no entry out
-  over_gone : (answer : Answer) (slot : RecordState) → is_over answer slot ≡ true → is_none slot.table_act ≡ true
-  over_gone (Born n) slot over = absurd (false≢true over)
-  over_gone NotBorn slot over = absurd (false≢true over)
-  over_gone (Ended status) slot over = over
-  over_gone Alive slot over = absurd (false≢true over)
-  over_gone NoLook slot over = absurd (false≢true over)
-  over_gone Hit slot over = absurd (false≢true over)
-  over_gone Miss slot over = absurd (false≢true over)
-
   pairs_left : (answer : Answer) (table : List Entry) (slots : List RecordState) → IsInOrder table slots → is_over_in id answer slots ≡ true → zip table (without id slots) ≡ zip table slots
   pairs_left answer [] slots order over = refl
   pairs_left answer (e ∷ table) [] order over = absurd order
   pairs_left answer (e ∷ table) (slot ∷ slots) order over = by (is_record_of id slot) over (pairs_left answer table slots order.2)
     where
       by : (b : Bool) → is_over_of answer (cond b (Some slot) (record_by_id id slots)) ≡ true → (is_over_in id answer slots ≡ true → zip table (without id slots) ≡ zip table slots) → zip (e ∷ table) (cond (not b) (slot ∷ without id slots) (without id slots)) ≡ (e, slot) ∷ zip table slots
-      by true gone rest = absurd (false≢true (ap is_none (sym order.1) ∙ over_gone answer slot gone))
+      by true gone rest = absurd (false≢true (ap is_none (sym order.1) ∙ over_none answer slot gone))
       by false later rest = ap (λ ps. (e, slot) ∷ ps) (rest later)
 
   pub passed_told : (answer : Answer) (now : ℕ) (table : List Entry) (slots : List RecordState) (places : Places) (place : ℕ) → IsInOrder table slots → are_distinct slots ≡ true → is_place id place slots ≡ true → ArePassed stage places table slots
@@ -128,10 +119,6 @@ seen_less (slot ∷ slots) (suc i) seen =
     let parts = and_parts (is_seen_record slot) (are_seen (suc i) slots) seen in
     and_from (is_seen_record slot) (are_seen i slots) parts.0 (seen_less slots i parts.1)
 
-none_out : (id : List ℕ) (slots : List RecordState) → is_listed id slots ≡ false → without id slots ≡ slots
-none_out id [] none = refl
-none_out id (slot ∷ slots) none = let parts = or_parts (is_record_of id slot) (is_listed id slots) none in rw (parts.0) (ap (λ rest. slot ∷ rest) (none_out id slots parts.1))
-
 seen_without : (id : List ℕ) (slots : List RecordState) (i : ℕ) → are_distinct slots ≡ true → are_seen (suc i) slots ≡ true → are_seen i (without id slots) ≡ true
 seen_without id [] i distinct seen = rw (take-nil i) refl
 seen_without id (slot ∷ slots) i distinct seen =
@@ -139,7 +126,7 @@ seen_without id (slot ∷ slots) i distinct seen =
     by (is_record_of id slot) refl i parts.0 parts.1 (λ j. seen_without id slots j (rest_distinct slot slots distinct))
   where
     by : (b : Bool) → is_record_of id slot ≡ b → (i : ℕ) → is_seen_record slot ≡ true → are_seen i slots ≡ true → ((j : ℕ) → are_seen (suc j) slots ≡ true → are_seen j (without id slots) ≡ true) → are_seen i (cond (not b) (slot ∷ without id slots) (without id slots)) ≡ true
-    by true is i own rest less = rw (none_out id slots (others id slot slots distinct is)) rest
+    by true is i own rest less = rw (without_none id slots (others id slot slots distinct is)) rest
     by false is zero own rest less = refl
     by false is (suc i) own rest less = and_from (is_seen_record slot) (are_seen i (without id slots)) own (less i rest)
 

@@ -1,4 +1,7 @@
 //! Ondemand entries, and entries of the power, that a step calls.
+//!
+//! Tested by the rows of `test_core` and `test_turns`. The walks over the table are cited by their proofs:
+//! their order of entries is that of inittab(5).
 
 ghost use Rattle.std.specs.Prelude.{◌≡◌, ◌<◌, length, slice_get, true, option_map, if◌then◌else◌, Some};
 ghost use Rattle.core_records.specs.Changes.{after_call};

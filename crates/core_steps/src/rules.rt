@@ -4,7 +4,6 @@ ghost use Rattle.std.specs.Prelude.{◌≡◌, ◌≤◌, if◌then◌else◌, n
 ghost use Rattle.std.specs.List.{list_all, list_any};
 ghost use Rattle.std.specs.List.Sorted.{IsNonDecreasing};
 ghost use Rattle.respawn_limit.specs.declared.TheConstants.{CLOCK_LIMIT};
-ghost use Rattle.trace_events.specs.Wishes.{in_run};
 ghost use Rattle.core_records.specs.Lists.{are_distinct, is_record_of};
 ghost use Rattle.core_records.specs.Times.{is_stop_timely, is_timely};
 ghost use Rattle.core_model.specs.Decide.{has_excluded};
@@ -18,7 +17,7 @@ use init_words::{Act, Entry, Id, OrderKind, PowerKind, Stage, starts};
 use inittab_text::Table;
 use respawn_limit::{CLOCK_LIMIT, HOLD, STARTS};
 use std::alloc::Allocator;
-use trace_events::Goal;
+use trace_events::{Goal, in_run};
 
 /// No reading is less than one before it.
 pub(crate) fn never_fall(times: &[u64]) -> bool
@@ -309,12 +308,6 @@ fn is_other_level(stage: Option<Stage>, wish: Option<Goal>) -> bool
     }
 }
 
-fn is_in_run(stage: Option<Stage>) -> bool
-    ensures { result ≡ in_run stage }
-{
-    matches!(stage, Some(Stage::Run(_)))
-}
-
 /// The goal of a run level is that level; Boot was entered in Boot, and not before it.
 fn is_goal_reached(stage: Option<Stage>, goal: Goal, booted: bool) -> bool
     ensures { result ≡ is_goal_reached stage goal booted }
@@ -331,7 +324,7 @@ fn are_heads_kept(heads: &CoreFields) -> bool
 {
     heads.time <= CLOCK_LIMIT
         && is_other_level(heads.stage, heads.level_wish)
-        && (!heads.announced || is_in_run(heads.stage))
+        && (!heads.announced || in_run(heads.stage))
         && is_goal_reached(heads.stage, heads.goal, heads.booted)
 }
 

@@ -3,6 +3,7 @@ use Rattle.core_waiting.proofs.Words.{◌≡◌, ◌≤◌, ◌<◌, ◌+◌, re
 use Rattle.std.proofs.Common.{is_some}
 use Rattle.init_words.specs.declared.stages.Stage.TheVariants as stage
 use Rattle.init_words.specs.Orders.{same_stage}
+use Rattle.init_words.proofs.Same.{same_stage-is}
 use Rattle.initctl_frame.specs.declared.requests.HeardRequest.TheVariants as got
 use Rattle.trace_events.specs.declared.happenings.Happening.TheVariants.{Call, Power}
 use Rattle.trace_events.specs.declared.steps.Step.TheVariants as step
@@ -250,9 +251,6 @@ abbrev pub is_climb : Option Stage → Stage → Bool
 is_climb (Some stage.Sysinit) s = true
 is_climb (Some stage.Boot) (stage.Run level) = true
 is_climb _ s = false
-
-same_stage-is : (k l : Stage) → same_stage k l ≡ true → k ≡ l
-same_stage-is k l h = grind arith
 
 pub one_step : (s x : Stage) (g grace : ℕ) → (same_stage s x && g == grace || false) ≡ true → s ≡ x
 one_step s x g grace h = same_stage-is s x (and_parts (same_stage s x) (g == grace) (sym (or_false (same_stage s x && g == grace)) ∙ h)).0

@@ -1,4 +1,7 @@
 //! Whose end init awaits, and why: the children that it names where it has nothing to do (init(8)).
+//!
+//! Tested by the rows of `test_core`, and against the trace by `tools/pages.d/waits`. What the record of a child
+//! says is compared with `awaited_children` of the past by `next`, whose clause is public: the helpers may change.
 
 ghost use Rattle.std.specs.Prelude.{◌≡◌, IsTrue};
 ghost use Rattle.trace_events.specs.Past.{is_quiet};

@@ -1,8 +1,10 @@
 //! Where init is at rest, and whose end it awaits there: init never waits for nothing.
 //!
-//! The words are those of `trace_events`, and of `specs/Rest`. A trace is a list of happenings, the newest first. The laws
-//! stand for all readings of the clock and whatever is asked of init, before a stretch of which they say that nothing is
-//! asked in it.
+//! No function of it runs: its contracts are the laws, and the rows of `proofs/Rows` compute their definitions.
+//!
+//! The words are those of `trace_events`, and of `specs/Rest`. A trace is a list of happenings, the newest first. The
+//! laws stand for all readings of the clock and whatever is asked of init, before a stretch of which they say that
+//! nothing is asked in it.
 
 ghost use Rattle.std.specs.Prelude.{◌≡◌, ℕ, Bool, IsTrue, false, not, ◌||◌, List, ◌++◌, filter_map};
 ghost use Rattle.std.specs.List.{list_any, list_all};

@@ -1,4 +1,6 @@
 //! Values on the heap, which are one word to whoever holds them.
+//!
+//! A function that holds a channel or a bell in its own frame costs the prover minutes; so they are made here, by `?`.
 
 ghost use Rattle.std.specs.Prelude.{◌≡◌, IfOk};
 

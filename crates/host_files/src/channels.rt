@@ -1,4 +1,7 @@
-//! The channel of requests, as a file.
+//! The channel of requests, as a file: what was read of it, the lock, and whether another file stands at its path.
+//!
+//! Tested by `tools/pages.d/channel` and `edges`, over real files, and by `test_hosts`. No clause says what a
+//! file has; the clauses bound what is handed on. Its messages are those of `host_messages`.
 
 ghost use Rattle.std.specs.Prelude.{◌≡◌, ◌≤◌, ◌-◌, ◌%◌, length, IfOk};
 ghost use Rattle.program_io.specs.declared.channel_files.TheConstants.{REQUEST};

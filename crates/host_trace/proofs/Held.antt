@@ -12,6 +12,7 @@ use Rattle.trace_events.specs.declared.happenings.Happening.TheVariants as past
 use Rattle.host_calls.specs.declared.calls.Call.TheVariants.{Look}
 use Rattle.host_calls.specs.Held.{AreOwn, HeldChildren, holds_child, holds_number, without_child, Starts, Looks, Signals, KeepsHeld}
 use Rattle.host_trace.specs.Held.{AreNew, unreaped_in_order}
+use Rattle.core_model.proofs.Reading.{any_map}
 
 -- lists
 all_then : {X : Type 0} (P Q : X → Type 0) → ((x : X) → P x → Q x) → (xs : List X) → AllByRecursion P xs → AllByRecursion Q xs
@@ -37,10 +38,6 @@ any_agree p q (x ∷ xs) all = ap₂ (λ a b. a || b) all.0 (any_agree p q xs al
 filter_agree_on : {X : Type 0} (p q : X → Bool) (xs : List X) → AllByRecursion (λ x. p x ≡ q x) xs → filter p xs ≡ filter q xs
 filter_agree_on p q [] all = refl
 filter_agree_on p q (x ∷ xs) all = ap₂ (λ b rest. cond b (x ∷ rest) rest) all.0 (filter_agree_on p q xs all.1)
-
-any_map : {X Y : Type 0} (f : X → Y) (p : Y → Bool) (xs : List X) → list_any p (map f xs) ≡ list_any (λ x. p (f x)) xs
-any_map f p [] = refl
-any_map f p (x ∷ xs) = ap (λ b. p (f x) || b) (any_map f p xs)
 
 filter_map_of : {X Y : Type 0} (f : X → Y) (p : Y → Bool) (xs : List X) → filter p (map f xs) ≡ map f (filter (λ x. p (f x)) xs)
 filter_map_of f p [] = refl

@@ -1,3 +1,4 @@
+pub mod Behind
 pub mod IdParts
 pub mod Same
 pub mod Spelled

@@ -1,5 +1,5 @@
 -- When two ids, orders, levels, stages, marks or actions are one.
-use Rattle.std.proofs.Common.{◌≡◌, refl, sym, ◌∙◌, ap, ℕ, true, false, List, Some, subst, eq-eqb}
+use Rattle.std.proofs.Common.{◌≡◌, refl, sym, ◌∙◌, ap, ℕ, true, false, List, Some, subst, eq-eqb, arith}
 use Rattle.std.proofs.lemmas.Bool.{false≢true, false_from_ne_true, eqb-true}
 use Rattle.std.proofs.lemmas.Option.{same_Some}
 use Rattle.std.proofs.lemmas.Slice.Eq.{bytes_eq-Decides}
@@ -70,6 +70,9 @@ level_read-code S = refl
 
 pub same_level-is : (k l : Level) → same_level k l ≡ true → k ≡ l
 same_level-is k l h = same_Some k l (sym (level_read-code k) ∙ ap level_read (eqb-true (level_code k) (level_code l) h) ∙ level_read-code l)
+
+pub same_stage-is : (k l : Stage) → same_stage k l ≡ true → k ≡ l
+same_stage-is k l h = grind (arith, same_level-is)
 
 pub same_act-self : (a : Act) → same_act a a ≡ true
 same_act-self a = eq-eqb (act_number a) (act_number a) refl

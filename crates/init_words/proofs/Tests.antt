@@ -153,6 +153,14 @@ found_any {X} f p (x ∷ xs) = split (p x) (found_any f p xs) where
   split true rest = refl
   split false rest = rest
 
+-- nothing is found where none passes
+pub none_found : {X Y : Type 0} (f : X → Y) (p : X → Bool) (xs : List X) → is_none (option_map f (find p xs)) ≡ not (list_any p xs)
+none_found f p [] = refl
+none_found {X} f p (x ∷ xs) = split (p x) (none_found f p xs) where
+  split : (b : Bool) → is_none (option_map f (find p xs)) ≡ not (list_any p xs) → is_none (option_map f (cond b (Some x) (find p xs))) ≡ not (b || list_any p xs)
+  split true rest = refl
+  split false rest = rest
+
 -- what holds of an error holds of a result that is it
 pub err_is : {S E : Type 0} (r : Result S E) (e : E) (Q : E → Type 0) → r ≡ Err e → Q e → IfErr r Q
 err_is (Ok x) e Q is h = absurd (cc)

@@ -1,4 +1,7 @@
 //! What is said of a level change that was asked for and that a later one passes over.
+//!
+//! It stands on standard error alone, so no contract says it: `tools/pages.d/messages` reads the line. What the log
+//! takes and how it ends are those of the log below, which the clauses of `AskedLog` pin.
 
 use init_words::{Level, Stage};
 use initctl_frame::HeardRequest;

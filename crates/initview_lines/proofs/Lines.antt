@@ -13,20 +13,6 @@ use Rattle.initview_lines.specs.declared.rows.Shape.{Shape}
 use Rattle.initview_lines.specs.Rows.{head_of, row_in, row_of_in}
 use Rattle.initview_lines.specs.Reasons.{reason_text, why_text}
 
-pub one_more : (text new line rest all : List ℕ) → new ≡ text ++ line → text ++ (line ++ rest) ≡ all → new ++ rest ≡ all
-one_more text new line rest all is so = ap (λ t. t ++ rest) is ∙ append_assoc text line rest ∙ so
-
-pub two_more : (text first second one two : List ℕ) → one ≡ text ++ first → two ≡ one ++ second → two ≡ text ++ (first ++ second)
-two_more text first second one two is so = so ∙ ap (λ t. t ++ second) is ∙ append_assoc text first second
-
-pub three_more : (text first second third one two three : List ℕ) → one ≡ text ++ first → two ≡ one ++ second → three ≡ two ++ third → three ≡ text ++ (first ++ (second ++ third))
-three_more text first second third one two three is so then =
-    two_more text first (second ++ third) one three is (two_more one second third two three so then)
-
-pub four_more : (text first second third fourth one two three four : List ℕ) → one ≡ text ++ first → two ≡ one ++ second → three ≡ two ++ third → four ≡ three ++ fourth → four ≡ text ++ (first ++ (second ++ (third ++ fourth)))
-four_more text first second third fourth one two three four is so then last =
-    two_more text first (second ++ (third ++ fourth)) one four is (three_more one second third fourth two three four so then last)
-
 pub whole : (head entries ids one two three : List ℕ) → one ≡ head → two ≡ one ++ entries → three ≡ two ++ ids → three ≡ head ++ (entries ++ ids)
 whole head entries ids one two three a b c = c ∙ ap (λ t. t ++ ids) b ∙ append_assoc one entries ids ∙ ap (λ t. t ++ (entries ++ ids)) a
 

@@ -8,7 +8,7 @@ use Rattle.init_words.specs.declared.stages.Stage.TheVariants.{Sysinit, Boot, Ru
 use Rattle.init_words.specs.Levels.{same_level}
 use Rattle.trace_laws.specs.Plans.{boot_before, is_on_path, path_along, stages_to, critical_path}
 use Rattle.initview_lines.specs.Plans.{last_of, path_line, path_lines, path_text, reached_line, stage_text, stages_text, start_line, start_lines}
-use Rattle.initview_lines.proofs.Lines.{one_more, three_more}
+use Rattle.init_words.proofs.Behind.{one_more, three_more}
 
 -- one more entry, where it passes the test
 pub starts_more : (b : Bool) (e : Entry) (es : List Entry) → cond b (start_line e) [] ++ start_lines es ≡ start_lines (cond b (e ∷ es) es)

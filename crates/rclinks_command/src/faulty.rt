@@ -1,4 +1,7 @@
 //! Which scripts have a fault that leaves them out of a plan.
+//!
+//! Tested by `tools/pages.d/rclinks-lines`, with `--skip` and `--all`. Each function is its definition in
+//! `specs/Skipping` and may be written otherwise; what a fault says is told by `telling`.
 
 ghost use Rattle.std.specs.Prelude.{◌≡◌, ◌<◌, ◌||◌, ◌&&◌, true, IfSome, length, map, string_bytes};
 ghost use Rattle.std.specs.List.{list_any};

@@ -2,7 +2,8 @@
 use Rattle.simulator.proofs.Words.{◌≡◌, refl, sym, ◌∙◌, ap, ℕ, ◌==◌, Bool, true, false, not, ◌&&◌, List, ◌||◌, cond, Option, Some, None, find, is_none, is_some, list_any, option_map, option_map_or, Start, Look, Term, Kill, same_id, Birth, NoBirth, Death, Reaped, Still, NoLook, Hit, Miss, Told, Goal, Event, Child, has_number, is_child, is_dead, is_living, undone_of, unreaped_children, is_order, may_come, is_sound, same_id-is, and_three, any_same, answered_untold, Objection, SystemState, order_in, answer_in, child_in, is_living_in, is_dead_in, is_script, unless, objection_to, Follows, simulated_child_of, lone_any}
 use Rattle.std.proofs.Math.Bool.{and_comm}
 use Rattle.simulator.specs.declared.objections.Objection.TheVariants as why
-use Rattle.simulator.proofs.Numbers.{one_number, none_found}
+use Rattle.init_words.proofs.Tests.{none_found}
+use Rattle.simulator.proofs.Numbers.{one_number}
 
 living : (number : ℕ) (past : List Event) (o : Option Child) → option_map_or (λ child. not (is_dead child.id number past)) o false ≡ option_map_or (λ child. not child.is_dead) (option_map (simulated_child_of number past) o) false
 living number past None = refl

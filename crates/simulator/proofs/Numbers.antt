@@ -23,11 +23,3 @@ lone_gone p r within (x ∷ xs) h there = split (p x) (r x) refl refl (lone_gone
   split true false is own rest h there = both_ways (list_any p xs) (any_less r p within xs there) (not-true (list_any p xs) h)
   split false true is own rest h there = both_ways (p x) (within x own) is
   split false false is own rest h there = rw is (rest h there)
-
--- the first that passes is there exactly where one passes
-pub none_found : {X : Type 0} (f : Child → X) (p : Child → Bool) (xs : List Child) → is_none (option_map f (find p xs)) ≡ not (list_any p xs)
-none_found f p [] = refl
-none_found {X} f p (x ∷ xs) = split (p x) (none_found f p xs) where
-  split : (b : Bool) → is_none (option_map f (find p xs)) ≡ not (list_any p xs) → is_none (option_map f (cond b (Some x) (find p xs))) ≡ not (b || list_any p xs)
-  split true rest = refl
-  split false rest = rest

@@ -5,8 +5,8 @@ use Rattle.std.proofs.lemmas.List.{length-append}
 use Rattle.std.proofs.lemmas.Option.{none-some, same_Some}
 use Rattle.init_words.specs.declared.levels.Letter.TheVariants.{A, B, C}
 use Rattle.init_words.specs.declared.orders.PowerKind.TheVariants as power
-use Rattle.init_words.specs.declared.stages.Stage.TheVariants as stage
 use Rattle.init_words.specs.Orders.{same_ask, same_power, same_stage}
+use Rattle.init_words.proofs.Same.{same_stage-is}
 use Rattle.trace_events.specs.declared.happenings.Happening.TheVariants as event
 use Rattle.simulator.proofs.Moves.{first_more, heard_more}
 
@@ -24,16 +24,10 @@ same_power_is power.FailNow power.FailNow is = refl
 same_power_is power.Ok power.Ok is = refl
 same_power_is _ _ is = absurd (false≢true is)
 
-same_stage_is : (k l : Stage) → same_stage k l ≡ true → k ≡ l
-same_stage_is stage.Sysinit stage.Sysinit is = refl
-same_stage_is stage.Boot stage.Boot is = refl
-same_stage_is (stage.Run k) (stage.Run l) is = ap (λ level. stage.Run level) (same_level-is k l is)
-same_stage_is _ _ is = absurd (false≢true is)
-
 same_step_is : (s t : Step) → same_step s t ≡ true → s ≡ t
 same_step_is (Enter k m) (Enter l n) is =
     let both = and_parts (same_stage k l) (m == n) is in
-    rw (same_stage_is k l both.0, eqb-true m n both.1) refl
+    rw (same_stage-is k l both.0, eqb-true m n both.1) refl
 same_step_is (Call k) (Call l) is = ap (λ letter. Call letter) (same_letter_is k l is)
 same_step_is (Power k) (Power l) is = ap (λ kind. Power kind) (same_power_is k l is)
 same_step_is (Order i a) (Order j b) is =

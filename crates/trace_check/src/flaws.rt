@@ -9,11 +9,11 @@ use crate::laws::Law;
 use crate::parts::is_open;
 use crate::spells::excludes;
 use crate::tables::{act, entry_at, starts_in};
-use init_words::{Entry, Id, Level, OrderKind, Stage, waited};
+use init_words::{Entry, Id, Level, OrderKind, waited};
 use inittab_text::Table;
 use respawn_limit::HOLD;
 use std::alloc::Allocator;
-use trace_events::{Happening, HappeningIn};
+use trace_events::{Happening, HappeningIn, is_level};
 
 /// The respawn limit holds for the id's entry (init(8)).
 fn is_limited<B: Allocator>(table: &Table<B>, id: &Id) -> bool
@@ -28,7 +28,6 @@ fn is_limited<B: Allocator>(table: &Table<B>, id: &Id) -> bool
 impl<A: Allocator> Judge<A> {
     ghost use Rattle.std.specs.Map.{keys_of};
     ghost use Rattle.std.specs.List.{list_any, list_all};
-    ghost use Rattle.trace_events.specs.Wishes.{is_level};
     ghost use Rattle.trace_check.specs.Flaws.{is_alive, is_excluded_in, none_excluded_in, IsCalm, is_placed_in, is_starting, is_wanted_in, is_owed_in, is_in_turn_in, first_owed_in, is_held_in, is_full_in, is_free_in, is_due_hold_in, is_served_in, is_settled_in, is_over_in, may_kill_in, flaw_of_birth, flaw_in};
 
     /// The least law that the happening breaks, where `table` is in force before it.
@@ -228,20 +227,13 @@ impl<A: Allocator> Judge<A> {
         true
     }
 
-    fn is_in_level(&self, level: Level) -> bool
-        ensures { result ≡ is_level level self.now.stage }
-    {
-        match self.stage {
-            Some(Stage::Run(current)) => level == current,
-            _ => false,
-        }
-    }
-
     pub(crate) fn is_settled(&self, level: Level, table: &Table<A>, calm: bool) -> bool
         requires { IsCalm calm table.now self.now }
         ensures { result ≡ is_settled_in level table.now self.now }
     {
-        self.is_in_level(level) && self.none_excluded(table, calm) && self.all_served(level, table)
+        is_level(level, self.stage)
+            && self.none_excluded(table, calm)
+            && self.all_served(level, table)
     }
 
     /// The grace since the first TERM in the child's spell is over.

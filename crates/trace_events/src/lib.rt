@@ -10,4 +10,4 @@ mod steps;
 pub use copies::happening_copy;
 pub use happenings::{Handed, Happening, HappeningIn};
 pub use ranges::law_of_ranges;
-pub use steps::{Goal, Step};
+pub use steps::{Goal, Step, in_run, is_level};

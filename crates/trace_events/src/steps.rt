@@ -1,4 +1,10 @@
-//! The steps of init, and the goal that it works at.
+//! The steps of init, and the goal that it works at; which of them are due is said in `specs/Due`.
+//!
+//! Tested by all that reads or makes a trace: the rows of `test_traces` and `test_core`. A new step changes its text
+//! (`trace_text`), its laws and the core: the prover names each place.
+
+ghost use Rattle.std.specs.Prelude.{◌≡◌};
+ghost use Rattle.trace_events.specs.Wishes.{in_run, is_level};
 
 use init_words::{Id, Letter, Level, OrderKind, PowerKind, Stage};
 
@@ -30,4 +36,24 @@ pub enum Step {
 pub struct Goal {
     pub level: Level,
     pub grace: u16,
+}
+
+/// The stage is this runlevel.
+pub fn is_level(level: Level, stage: Option<Stage>) -> bool
+    ensures { result ≡ is_level level stage }
+{
+    match stage {
+        Some(Stage::Run(current)) => level == current,
+        _ => false,
+    }
+}
+
+/// The stage is a runlevel.
+pub fn in_run(stage: Option<Stage>) -> bool
+    ensures { result ≡ in_run stage }
+{
+    match stage {
+        Some(Stage::Run(_)) => true,
+        _ => false,
+    }
 }

@@ -198,39 +198,9 @@ looks past (id ∷ ids) = grind (arith, looks past ids)
 
 -- all the ranks
 dues : (goal : Goal) (past : List Event) → Each (Facts past) (due goal past)
-dues goal past = join (rank1 ++ rank2 ++ rank3 ++ rank4 ++ rank5 ++ rank6 ++ rank7 ++ rank8 ++ rank9) rank10 (join (rank1 ++ rank2 ++ rank3 ++ rank4 ++ rank5 ++ rank6 ++ rank7 ++ rank8) rank9 (join (rank1 ++ rank2 ++ rank3 ++ rank4 ++ rank5 ++ rank6 ++ rank7) rank8 (join (rank1 ++ rank2 ++ rank3 ++ rank4 ++ rank5 ++ rank6) rank7 (join (rank1 ++ rank2 ++ rank3 ++ rank4 ++ rank5) rank6 (join (rank1 ++ rank2 ++ rank3 ++ rank4) rank5 (join (rank1 ++ rank2 ++ rank3) rank4 (join (rank1 ++ rank2) rank3 (join rank1 rank2 facts1 facts2) facts3) facts4) facts5) facts6) facts7) facts8) facts9) facts10 where
+dues goal past = join _ _ (join _ _ (join _ _ (join _ _ (join _ _ (join _ _ (join _ _ (join _ _ (join _ _ facts1 facts2) facts3) facts4) facts5) facts6) facts7) facts8) facts9) facts10 where
   join : (xs ys : List Step) → Each (Facts past) xs → Each (Facts past) ys → Each (Facts past) (xs ++ ys)
   join xs ys f g = each_append (Facts past) xs ys f g
-
-  rank1 : List Step
-  rank1 = due_first goal (stage_of past) past
-
-  rank2 : List Step
-  rank2 = due_reexec past
-
-  rank3 : List Step
-  rank3 = due_reread past
-
-  rank4 : List Step
-  rank4 = due_level past
-
-  rank5 : List Step
-  rank5 = due_news past
-
-  rank6 : List Step
-  rank6 = due_stops past
-
-  rank7 : List Step
-  rank7 = due_starts past
-
-  rank8 : List Step
-  rank8 = due_stage goal past
-
-  rank9 : List Step
-  rank9 = due_settle past
-
-  rank10 : List Step
-  rank10 = due_looks past
 
   facts1 : Each (Facts past) (due_first goal (stage_of past) past)
   facts1 = firsts goal past (stage_of past) refl

@@ -31,7 +31,7 @@ pub capped_is : (n : ℕ) → n < 2 ^ 64 → capped n ≡ n
 capped_is n small = min-eq_left (omega (arith, small))
 
 -- lines and happenings are no more than bytes
-one_line : (h : Event) → 1 ≤ line_count h
+pub one_line : (h : Event) → 1 ≤ line_count h
 one_line (NewTable table) = omega arith
 one_line _ = lit≤ tt
 

@@ -15,14 +15,6 @@ use Rattle.trace_events.specs.Past.{has_child, is_of, kept_children, open_of, ta
 use Rattle.trace_events.specs.Wanted.{entries_before, is_order, is_owed, is_wanted}
 use Rattle.trace_view.specs.Why.{entry_id, first_awaited}
 
--- something is found where something passes
-pub some_found : {X Y : Type 0} (f : X → Y) (p : X → Bool) (xs : List X) → is_some (option_map f (find p xs)) ≡ list_any p xs
-some_found f p [] = refl
-some_found {X} f p (x ∷ xs) = split (p x) (some_found f p xs) where
-  split : (b : Bool) → is_some (option_map f (find p xs)) ≡ list_any p xs → is_some (option_map f (cond b (Some x) (find p xs))) ≡ (b || list_any p xs)
-  split true rest = refl
-  split false rest = rest
-
 pub owed_is : (e : Entry) (past : List Event) (waited kept starting wanted : Bool) → waited ≡ waited_by e.act → kept ≡ has_child e.id (kept_children past) → starting ≡ is_order Start (open_of e.id past) → wanted ≡ is_wanted e past → (waited && (kept || starting || wanted)) ≡ is_owed e past
 owed_is e past waited kept starting wanted e1 e2 e3 e4 = rw (e1, e2, e3, e4) refl
 

@@ -13,7 +13,7 @@ use Rattle.init_words.specs.declared.stages.Stage.TheVariants.{Sysinit, Boot, Ru
 use Rattle.init_words.specs.Actions.{wanted_by, is_limited}
 use Rattle.init_words.specs.Ids.{same_id}
 use Rattle.init_words.proofs.Same.{same_id-is}
-use Rattle.init_words.proofs.Tests.{and_false, find_none}
+use Rattle.init_words.proofs.Tests.{and_false, find_none, none_found}
 use Rattle.inittab_text.specs.Tables.{entry_of, has_id, is_distinct}
 use Rattle.trace_events.specs.declared.steps.Step.{Step}
 use Rattle.trace_events.specs.declared.steps.Step.TheVariants.{Order, Hold}
@@ -32,14 +32,6 @@ use Rattle.trace_view.specs.declared.wishes.Wish.{Wish}
 use Rattle.trace_view.specs.declared.whys.Why.TheVariants.{NoEntry, NeverStarts, RanBefore, StageOver, WasStarted, NotCalled, WindowFull, Nothing}
 use Rattle.trace_view.specs.Wishes.{first_of, first_wish}
 use Rattle.trace_view.specs.Why.{number_of, entry_id, excluded_as, standing_of, is_past, by_awaited, by_child, elsewhere, not_here, not_wanted, why_by, why_entry, why, is_nothing}
-
--- nothing is found where none passes
-none_found : {X Y : Type 0} (f : X → Y) (p : X → Bool) (xs : List X) → is_none (option_map f (find p xs)) ≡ not (list_any p xs)
-none_found f p [] = refl
-none_found {X} f p (x ∷ xs) = split (p x) (none_found f p xs) where
-  split : (b : Bool) → is_none (option_map f (find p xs)) ≡ not (list_any p xs) → is_none (option_map f (cond b (Some x) (find p xs))) ≡ not (b || list_any p xs)
-  split true rest = refl
-  split false rest = rest
 
 module _ (id : List ℕ) (past : List Event) where
   abbrev start : Step

@@ -17,7 +17,7 @@ use Rattle.trace_check.specs.declared.laws.Law.{Law}
 use Rattle.trace_check.specs.Laws.{law_number}
 use Rattle.trace_verdict.specs.Fronts.{BeginsNever, line_left}
 use Rattle.trace_verdict.specs.Readers.{Reading, capped, ReadsNext}
-use Rattle.trace_verdict.proofs.Judging.{capped_is, lines_push, lines_within, past_push}
+use Rattle.trace_verdict.proofs.Judging.{capped_is, lines_push, lines_within, one_line, past_push}
 use Rattle.trace_verdict.proofs.Fronts.{never_some}
 use Rattle.trace_view.specs.Viewing.{ViewState, Viewed}
 use Rattle.trace_view.specs.declared.text_views.Stop.{Stop}
@@ -38,10 +38,6 @@ begins_push (x ∷ trace) h line is may begins = begins
 both_false : (a b : Bool) → (not a || b) ≡ false → (a ≡ true) × (b ≡ false)
 both_false true b is = (refl, is)
 both_false false b is = absurd (cc)
-
-one_line : (h : Event) → 1 ≤ line_count h
-one_line (NewTable table) = omega arith
-one_line _ = lit≤ tt
 
 none_before : (trace : List Event) → are_in_range trace ≡ true → newlines (trace_text trace) ≡ 0 → trace ≡ []
 none_before [] are none = refl

@@ -3,7 +3,6 @@
 ghost use Rattle.std.specs.Prelude.{◌≡◌, ℕ, List, [], ◌∷◌, OnOk};
 ghost use Rattle.trace_events.specs.Event.{Event};
 ghost use Rattle.trace_events.specs.Past.{stage_of};
-ghost use Rattle.trace_events.specs.Wishes.{is_level};
 ghost use Rattle.trace_check.specs.State.{at};
 ghost use Rattle.trace_view.specs.LastLines.{Lined, born_in, held_in, is_entering, is_goal, is_news, is_reexec, is_reread, is_table, kinds_after, last_line, last_of, later, line_after, line_at_fault, line_behind, names, no_kinds, ordered_in, reaped_in, unborn_in, wish_line};
 
@@ -12,12 +11,12 @@ use crate::views::TraceView;
 use crate::whys::Why;
 use crate::wishes::Wish;
 use indexmap::IndexMap;
-use init_words::{Id, Level, Memory, Stage};
+use init_words::{Id, Memory, Stage};
 use initctl_frame::HeardRequest;
 use std::alloc::{Allocator, Global};
 use std::hash::{BuildHasherDefault, FoldHasher};
 use std::marker::Model;
-use trace_events::{Happening, HappeningIn};
+use trace_events::{Happening, HappeningIn, is_level};
 
 /// A line of each id.
 type LineById<A> = IndexMap<Id, u64, BuildHasherDefault<FoldHasher>, A>;
@@ -105,15 +104,6 @@ fn is_news<B: Allocator>(happening: &HappeningIn<B>) -> bool
     match happening {
         Happening::Got(HeardRequest::Call(_)) => true,
         Happening::Got(HeardRequest::Power(_)) => true,
-        _ => false,
-    }
-}
-
-fn is_level(level: Level, stage: Option<Stage>) -> bool
-    ensures { result ≡ is_level level stage }
-{
-    match stage {
-        Some(Stage::Run(current)) => level == current,
         _ => false,
     }
 }

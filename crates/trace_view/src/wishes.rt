@@ -1,13 +1,13 @@
 //! The wishes that stand.
 
 ghost use Rattle.std.specs.Prelude.{◌≡◌};
-ghost use Rattle.trace_events.specs.Wishes.{is_level, in_run, other_than};
+ghost use Rattle.trace_events.specs.Wishes.{other_than};
 ghost use Rattle.trace_view.specs.Wishes.{reexec_after, reread_after, heard_after, power_after, letter_after, no_wishes, wishes_after, has_news, first_wish_in, unless_here, booted_after, next_stage_in};
 
 use init_words::{Letter, Level, PowerKind, Stage};
 use initctl_frame::HeardRequest;
 use std::alloc::Allocator;
-use trace_events::{Goal, Happening, HappeningIn};
+use trace_events::{Goal, Happening, HappeningIn, in_run, is_level};
 
 /// A wish that stands: no entry is started before it is carried out.
 #[derive(Clone, Copy)]
@@ -36,24 +36,6 @@ pub(crate) struct Wishes {
     pub(crate) c: bool,
     /// Boot was entered.
     pub(crate) booted: bool,
-}
-
-fn is_level(level: Level, stage: Option<Stage>) -> bool
-    ensures { result ≡ is_level level stage }
-{
-    match stage {
-        Some(Stage::Run(current)) => level == current,
-        _ => false,
-    }
-}
-
-fn in_run(stage: Option<Stage>) -> bool
-    ensures { result ≡ in_run stage }
-{
-    match stage {
-        Some(Stage::Run(_)) => true,
-        _ => false,
-    }
 }
 
 fn reexec_after<B: Allocator>(happening: &HappeningIn<B>, before: bool) -> bool

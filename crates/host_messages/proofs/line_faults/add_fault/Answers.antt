@@ -1,12 +1,7 @@
-use Rattle.std.proofs.Common.{rules, ◌≡◌, ◌∙◌, ap, ℕ, List, ◌++◌, codes, append_assoc}
+use Rattle.std.proofs.Common.{rules, ◌≡◌, ◌++◌, codes}
+use Rattle.init_words.proofs.Behind.{three_more}
 use Rattle.host_messages.specs.LineFaults.{line_text, place_text}
 use Rattle.host_messages.proofs.line_faults.add_fault.Goals as goal
-
--- three texts behind one another
-added : (text first second third one two three : List ℕ) → one ≡ text ++ first → two ≡ one ++ second → three ≡ two ++ third → three ≡ text ++ (first ++ (second ++ third))
-added text first second third one two three at_one at_two at_three =
-    at_three ∙ ap (λ t. t ++ third) (at_two ∙ ap (λ t. t ++ second) at_one)
-    ∙ append_assoc (text ++ first) second third ∙ append_assoc text first (second ++ third)
 
 pub returns : goal.returns
 returns g c =
@@ -15,4 +10,4 @@ returns g c =
     let one : c.extend_from_slice.new.self.items ≡ c.args.text.now.items ++ codes "initd: inittab " = search rules in
     let two : c.add_place.new.text.items ≡ c.extend_from_slice.new.self.items ++ place = search rules in
     let three : c.extend_from_slice-2.new.self.items ≡ c.add_place.new.text.items ++ line_text fault.line fault.kind = search rules in
-    added c.args.text.now.items (codes "initd: inittab ") place (line_text fault.line fault.kind) c.extend_from_slice.new.self.items c.add_place.new.text.items c.extend_from_slice-2.new.self.items one two three
+    three_more c.args.text.now.items (codes "initd: inittab ") place (line_text fault.line fault.kind) c.extend_from_slice.new.self.items c.add_place.new.text.items c.extend_from_slice-2.new.self.items one two three

@@ -1,5 +1,5 @@
 use Rattle.std.proofs.Common.{codes}
-use Rattle.inittab_lint.proofs.Parts.{four_more}
+use Rattle.init_words.proofs.Behind.{four_more}
 use Rattle.inittab_lint.proofs.own_lines.tell_none.Goals as goal
 
 pub returns : goal.returns

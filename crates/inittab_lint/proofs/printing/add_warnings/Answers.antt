@@ -1,6 +1,6 @@
 use Rattle.std.proofs.Common.{rules, ◌≡◌, ◌∙◌, ap, sym, ◌∷◌, ◌++◌, option_copied, slice_get}
 use Rattle.inittab_lint.specs.Linting.{warning_line, warning_lines}
-use Rattle.inittab_lint.proofs.Parts.{one_more}
+use Rattle.init_words.proofs.Behind.{one_more}
 use Rattle.inittab_lint.proofs.printing.add_warnings.Goals as goal
 
 pub loop-found-preserved : goal.loop-found-preserved

@@ -1,6 +1,6 @@
 use Rattle.std.proofs.Common.{◌∙◌, ap, ◌++◌}
 use Rattle.initview_lines.specs.Days.{date_of, date_text, time_of_day, time_text}
-use Rattle.initview_lines.proofs.Lines.{two_more}
+use Rattle.init_words.proofs.Behind.{two_more}
 use Rattle.initview_lines.proofs.days.add_time_of_day.Goals as goal
 
 pub returns : goal.returns

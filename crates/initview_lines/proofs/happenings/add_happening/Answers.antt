@@ -1,6 +1,6 @@
 use Rattle.std.proofs.Common.{rules, ◌≡◌, true, sym, ◌∙◌, ap, ◌∷◌, ◌++◌, [], codes}
 use Rattle.initview_lines.specs.Days.{clocked}
-use Rattle.initview_lines.proofs.Lines.{three_more}
+use Rattle.init_words.proofs.Behind.{three_more}
 use Rattle.initview_lines.specs.Happenings.{happening_words, is_news, timed}
 use Rattle.initview_lines.proofs.Saying.{said_if}
 use Rattle.initview_lines.proofs.happenings.add_happening.Goals as goal

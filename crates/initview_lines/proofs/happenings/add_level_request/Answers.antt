@@ -1,6 +1,6 @@
 use Rattle.std.proofs.Common.{rules, ◌≡◌, ◌∙◌, ap, ◌++◌, codes}
 use Rattle.initview_lines.specs.Words.{level_words, numbered}
-use Rattle.initview_lines.proofs.Lines.{two_more}
+use Rattle.init_words.proofs.Behind.{two_more}
 use Rattle.initview_lines.proofs.happenings.add_level_request.Goals as goal
 
 pub returns : goal.returns

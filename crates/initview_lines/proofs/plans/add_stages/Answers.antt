@@ -2,7 +2,7 @@ use Rattle.std.proofs.Common.{◌∙◌, ap, ◌++◌}
 use Rattle.init_words.specs.declared.stages.Stage.TheVariants.{Sysinit, Run}
 use Rattle.trace_laws.specs.Plans.{boot_before}
 use Rattle.initview_lines.specs.Plans.{stage_text, stages_text}
-use Rattle.initview_lines.proofs.Lines.{three_more}
+use Rattle.init_words.proofs.Behind.{three_more}
 use Rattle.initview_lines.proofs.Paths.{stages_are}
 use Rattle.initview_lines.proofs.plans.add_stages.Goals as goal
 

@@ -1,6 +1,6 @@
 use Rattle.std.proofs.Common.{◌∙◌, ap, ◌++◌, codes}
 use Rattle.initview_lines.specs.Words.{act_words}
-use Rattle.initview_lines.proofs.Lines.{three_more}
+use Rattle.init_words.proofs.Behind.{three_more}
 use Rattle.initview_lines.proofs.reasons.add_act.Goals as goal
 
 pub returns : goal.returns

@@ -1,6 +1,6 @@
 use Rattle.std.proofs.Common.{codes}
 use Rattle.initview_lines.specs.Words.{last_words}
-use Rattle.initview_lines.proofs.Lines.{two_more}
+use Rattle.init_words.proofs.Behind.{two_more}
 use Rattle.initview_lines.proofs.reasons.add_done.Goals as goal
 
 pub returns : goal.returns

@@ -1,6 +1,6 @@
 use Rattle.std.proofs.Common.{rules, ◌≡◌, ◌∙◌, ap, ◌++◌, codes}
 use Rattle.initview_lines.specs.Words.{numbered, stage_words}
-use Rattle.initview_lines.proofs.Lines.{four_more}
+use Rattle.init_words.proofs.Behind.{four_more}
 use Rattle.initview_lines.proofs.reasons.add_excluded.Goals as goal
 
 pub returns : goal.returns

@@ -1,7 +1,7 @@
 use Rattle.std.proofs.Common.{rules, ◌≡◌, ◌∙◌, ap, ◌++◌, [], codes}
 use Rattle.initview_lines.specs.Words.{numbered}
 use Rattle.initview_lines.specs.Status.{births_words}
-use Rattle.initview_lines.proofs.Lines.{two_more}
+use Rattle.init_words.proofs.Behind.{two_more}
 use Rattle.initview_lines.proofs.reasons.add_runs.Goals as goal
 
 pub returns : goal.returns

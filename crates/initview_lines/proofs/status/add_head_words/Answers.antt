@@ -2,7 +2,7 @@ use Rattle.std.proofs.Common.{◌∙◌, ap, ◌++◌, [], codes}
 use Rattle.initview_lines.specs.Days.{clocked}
 use Rattle.initview_lines.specs.Words.{numbered, stage_words}
 use Rattle.initview_lines.specs.Status.{settled_words}
-use Rattle.initview_lines.proofs.Lines.{four_more}
+use Rattle.init_words.proofs.Behind.{four_more}
 use Rattle.initview_lines.proofs.status.add_head_words.Goals as goal
 
 pub returns : goal.returns

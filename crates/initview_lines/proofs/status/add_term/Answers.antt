@@ -1,6 +1,6 @@
 use Rattle.std.proofs.Common.{◌∙◌, ap, ◌-◌, ◌++◌, [], codes}
 use Rattle.initview_lines.specs.Words.{numbered}
-use Rattle.initview_lines.proofs.Lines.{two_more}
+use Rattle.init_words.proofs.Behind.{two_more}
 use Rattle.initview_lines.proofs.status.add_term.Goals as goal
 
 pub returns : goal.returns

@@ -1,7 +1,7 @@
 use Rattle.std.proofs.Common.{ap, ◌∙◌, ◌++◌, codes}
 use Rattle.std.specs.List.{flat_map}
 use Rattle.initview_lines.specs.Words.{numbered}
-use Rattle.initview_lines.proofs.Lines.{four_more}
+use Rattle.init_words.proofs.Behind.{four_more}
 use Rattle.initview_timeline.specs.declared.looks.TheConstants.{BELOW, GAP, LEGEND, MARGINS, ROWS}
 use Rattle.initview_timeline.specs.Frames.{plus}
 use Rattle.initview_timeline.specs.Svg.{document, element, front}

@@ -1,6 +1,6 @@
 use Rattle.std.proofs.Common.{[], ◌++◌, codes}
 use Rattle.initview_lines.specs.Words.{numbered}
-use Rattle.initview_lines.proofs.Lines.{four_more, two_more}
+use Rattle.init_words.proofs.Behind.{four_more, two_more}
 use Rattle.initview_timeline.specs.declared.looks.TheConstants.{HEAD, STYLE}
 use Rattle.initview_timeline.specs.Chart.{times_words}
 use Rattle.initview_timeline.specs.Svg.{front}
