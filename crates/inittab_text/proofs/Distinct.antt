@@ -1,5 +1,5 @@
 -- What is read has each id once.
-use Rattle.std.proofs.Common.{◌≡◌, true, List, [], ◌∷◌, Option, Some, None, Result, Ok, Err, refl, ap, ℕ}
+use Rattle.std.proofs.Common.{arith, ◌≡◌, true, List, [], ◌∷◌, Option, Some, None, Result, Ok, refl, ℕ}
 use Rattle.init_words.specs.declared.entries.Entry.{Entry}
 use Rattle.inittab_text.specs.declared.faults.LineKind.{LineKind}
 use Rattle.inittab_text.specs.Tables.{entry_of, is_distinct}
@@ -11,16 +11,10 @@ use Rattle.inittab_text.proofs.Entries.{is_distinct-push}
 use Rattle.inittab_text.proofs.ReadLemmas.{passed}
 
 new_entry : (before : List Entry) (line : List ℕ) (e : Entry) → verdict_of before line ≡ Ok (Some e) → entry_of e.id before ≡ None
-new_entry before line e is =
-    let all = passed before line e is in
-    let h = all.3 in
-    let id : e.id ≡ all.0.id = ap (λ (x : Entry). x.id) h.is in
-    rw id h.new
+new_entry before line e is = grind (arith, passed)
 
 distinct_after : (before : List Entry) (v : Result (Option Entry) LineKind) → ((e : Entry) → v ≡ Ok (Some e) → entry_of e.id before ≡ None) → is_distinct before ≡ true → is_distinct (entries_after before v) ≡ true
-distinct_after before (Ok (Some e)) new distinct = is_distinct-push before e distinct (new e refl)
-distinct_after before (Ok None) new distinct = distinct
-distinct_after before (Err kind) new distinct = distinct
+distinct_after before v new distinct = grind (arith, is_distinct-push)
 
 distinct_from : (before : List Entry) (lines : List (List ℕ)) → is_distinct before ≡ true → is_distinct (entries_from before lines) ≡ true
 distinct_from before [] distinct = distinct

@@ -1,10 +1,10 @@
 -- Lists of entries: one more behind them, and what is left of them from a place on.
-use Rattle.std.proofs.Common.{◌≡◌, refl, sym, ◌∙◌, ap, cond, zero, suc, ◌+◌, ◌<◌, ◌≤◌, Bool, true, false, not, ◌&&◌, nat_le, List, [], ◌∷◌, ◌++◌, length, drop, slice_get, length-append, ℕ, map, Option, Some, None, find, option_map, append_assoc, subst, arith}
+use Rattle.std.proofs.Common.{◌≡◌, refl, sym, ◌∙◌, ap, cond, zero, suc, ◌+◌, ◌<◌, ◌≤◌, Bool, true, false, not, List, [], ◌∷◌, ◌++◌, length, drop, slice_get, length-append, ℕ, map, Option, Some, None, find, option_map, append_assoc, subst, arith}
 use Rattle.std.specs.Map.{keys_of, values_of, lookup}
 use Rattle.std.specs.List.{list_any, list_all}
 use Rattle.std.specs.Option.{option_or}
 use Rattle.std.specs.Cmp.Lexicographic.{nat_list_eq_equiv}
-use Rattle.std.proofs.lemmas.Bool.{and_parts, and_from, or_parts, or_from, not-true, not_from_false, leb-true, le-leb}
+use Rattle.std.proofs.lemmas.Bool.{and_parts, and_from, or_parts, or_from, not-true, not_from_false}
 use Rattle.std.proofs.lemmas.List.{length_push}
 use Rattle.std.proofs.lemmas.List.Folds.{list_any-append, list_all-append}
 use Rattle.inittab_text.specs.declared.tables.TheConstants.{ENTRY_LIMIT}
@@ -16,10 +16,7 @@ use Rattle.inittab_text.specs.Written.{is_written, is_table, text_of, line_of}
 -- A map whose keys are the ids of its values is read as the list of the values.
 pub lookup-find : {K X : Type 0} (key : X → K) (test : K → Bool) (es : List (K × X)) → keys_of es ≡ map key (values_of es) → lookup test es ≡ find (λ x. test (key x)) (values_of es)
 lookup-find key test [] own = refl
-lookup-find {K} {X} key test (e ∷ es) own =
-    let first : e.0 ≡ key e.1 = cc in
-    let rest : keys_of es ≡ map key (values_of es) = cc in
-    rw (first, lookup-find key test es rest) refl
+lookup-find {K} {X} key test (e ∷ es) own = grind (arith, lookup-find key test es)
 
 pub values-push : {K X : Type 0} (es : List (K × X)) (k : K) (x : X) → values_of (es ++ (k, x) ∷ []) ≡ values_of es ++ x ∷ []
 values-push [] k x = refl
@@ -27,20 +24,13 @@ values-push (e ∷ es) k x = ap (λ xs. e.1 ∷ xs) (values-push es k x)
 
 pub keys-push : {K X : Type 0} (key : X → K) (es : List (K × X)) (x : X) → keys_of es ≡ map key (values_of es) → keys_of (es ++ (key x, x) ∷ []) ≡ map key (values_of (es ++ (key x, x) ∷ []))
 keys-push key [] x own = refl
-keys-push {K} {X} key (e ∷ es) x own =
-    let first : e.0 ≡ key e.1 = cc in
-    let rest : keys_of es ≡ map key (values_of es) = cc in
-    rw (first, keys-push key es x rest) refl
+keys-push {K} {X} key (e ∷ es) x own = grind (arith, keys-push key es x)
 
 -- what is left from a place on begins with what stands there
 pub drop-slice_get : {X : Type 0} (xs : List X) (i : ℕ) (x : X) → slice_get xs i ≡ Some x → drop i xs ≡ x ∷ drop (i + 1) xs
 drop-slice_get [] i x is = absurd (cc)
-drop-slice_get (y ∷ xs) zero x is =
-    let at : y ≡ x = cc in
-    rw at refl
-drop-slice_get (y ∷ xs) (suc i) x is =
-    let more : suc i + 1 ≡ suc (i + 1) = omega arith in
-    rw more (drop-slice_get xs i x is)
+drop-slice_get (y ∷ xs) zero x is = grind arith
+drop-slice_get (y ∷ xs) (suc i) x is = grind (arith, drop-slice_get xs i x)
 
 -- a list made along another, one item at a time
 pub one_made : {X Y : Type 0} (f : X → Y) (made : List Y) (xs : List X) (i : ℕ) (y : Y) (all : List Y) → Some y ≡ option_map f (slice_get xs i) → made ++ map f (drop i xs) ≡ all → (made ++ y ∷ []) ++ map f (drop (i + 1) xs) ≡ all
@@ -75,21 +65,14 @@ is_distinct-push (x ∷ es) e distinct new =
 
 -- what a table is, in parts
 pub table_parts : (es : List Entry) → is_table es ≡ true → (length es ≤ ENTRY_LIMIT) × (is_distinct es ≡ true) × (list_all is_written es ≡ true)
-table_parts es is =
-    let outer = and_parts (nat_le (length es) ENTRY_LIMIT && is_distinct es) (list_all is_written es) is in
-    let inner = and_parts (nat_le (length es) ENTRY_LIMIT) (is_distinct es) outer.0 in
-    (leb-true (length es) ENTRY_LIMIT inner.0, inner.1, outer.1)
+table_parts es is = grind arith
 
 pub table_from : (es : List Entry) → length es ≤ ENTRY_LIMIT → is_distinct es ≡ true → list_all is_written es ≡ true → is_table es ≡ true
-table_from es few distinct written =
-    and_from (nat_le (length es) ENTRY_LIMIT && is_distinct es) (list_all is_written es)
-    (and_from (nat_le (length es) ENTRY_LIMIT) (is_distinct es) (le-leb (length es) ENTRY_LIMIT few) distinct) written
+table_from es few distinct written = grind arith
 
 pub is_table-push : (es : List Entry) (e : Entry) → is_table es ≡ true → entry_of e.id es ≡ None → is_written e ≡ true → length es < ENTRY_LIMIT → is_table (es ++ e ∷ []) ≡ true
 is_table-push es e is new written room =
-    let parts = table_parts es is in
-    table_from (es ++ e ∷ []) (omega (arith, length_push es e)) (is_distinct-push es e parts.1 new)
-    (list_all-append is_written es (e ∷ []) ∙ and_from (list_all is_written es) (list_all is_written (e ∷ [])) parts.2 (and_from (is_written e) true written refl))
+    grind (arith, table_parts, table_from, length_push, is_distinct-push, list_all-append)
 
 -- an entry of a table has an id that none before it has
 pub distinct-new : (before : List Entry) (e : Entry) (table : List Entry) → is_distinct (before ++ e ∷ table) ≡ true → entry_of e.id before ≡ None

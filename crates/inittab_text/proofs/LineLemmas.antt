@@ -1,5 +1,5 @@
 -- The lines of a written table: one an entry; and what is read is a table.
-use Rattle.std.proofs.Common.{◌≡◌, ℕ, Bool, true, false, cond, not, ◌==◌, ◌-◌, List, [], ◌∷◌, ◌++◌, length, take, Option, Some, None, Result, Ok, Err, refl, sym, ap, ◌∙◌, arith}
+use Rattle.std.proofs.Common.{◌≡◌, ℕ, Bool, true, false, cond, not, ◌==◌, ◌-◌, List, [], ◌∷◌, ◌++◌, length, take, Option, Some, None, Result, refl, sym, ap, ◌∙◌, arith}
 use Rattle.std.specs.List.{list_all}
 use Rattle.std.specs.Str.{bytes_eq}
 use Rattle.std.proofs.lemmas.Bool.{and_parts, and_from, not-true, not_from_false, or_parts, or_from}
@@ -20,11 +20,9 @@ use Rattle.inittab_text.proofs.WriteLemmas.{one_line, parts, table_written-text,
 
 -- a line an entry
 newlines-written : (table : List Entry) → list_all is_written table ≡ true → newlines (text_of table) ≡ length table
-newlines-written [] are = refl
+newlines-written [] are = grind (arith, newlines-append, newlines-line, one_line, parts)
 newlines-written (e ∷ table) are =
-    let both = and_parts (is_written e) (list_all is_written table) are in
-    newlines-append (fields_written e ++ 10 ∷ []) (text_of table)
-    ∙ omega (arith, newlines-line (fields_written e) (one_line e (parts e both.0)), newlines-written table both.1)
+    grind (arith, newlines-written table, newlines-append, newlines-line, one_line, parts)
 
 pub newlines-text : (table : List Entry) → is_table table ≡ true → newlines (text_of table) ≡ length table
 newlines-text table is = newlines-written table (table_parts table is).2
@@ -66,11 +64,7 @@ lines_lack (b ∷ text) = lines_by b text (b == 10) refl (lines_lack text)
 
 -- a table, after a line of it
 table_after : (before : List Entry) (line : List ℕ) (v : Result (Option Entry) LineKind) → verdict_of before line ≡ v → has_byte 10 line ≡ false → is_table before ≡ true → is_table (entries_after before v) ≡ true
-table_after before line (Ok (Some e)) is one table =
-    let kept = kept_entry before line e is one in
-    is_table-push before e table kept.0 kept.1 kept.2
-table_after before line (Ok None) is one table = table
-table_after before line (Err kind) is one table = table
+table_after before line v is one table = grind (arith, kept_entry, is_table-push)
 
 table_from_lines : (before : List Entry) (lines : List (List ℕ)) → list_all lacks lines ≡ true → is_table before ≡ true → is_table (entries_from before lines) ≡ true
 unfolding lacks
@@ -84,9 +78,7 @@ pub is_table-read : (text : List ℕ) → is_table (table_of_text text) ≡ true
 is_table-read text = table_from_lines [] (lines_of text) (lines_lack text) refl
 
 written_by : (text : List ℕ) (b : Bool) (table : List Entry) → cond b (Some (table_of_text text)) None ≡ Some table → is_table table ≡ true
-written_by text true table is =
-    let same : table_of_text text ≡ table = cc in
-    rw (← same) (is_table-read text)
+written_by text true table is = grind (arith, is_table-read)
 written_by text false table is = absurd (cc)
 
 pub is_table-written : (text : List ℕ) (table : List Entry) → table_written text ≡ Some table → is_table table ≡ true

@@ -1,5 +1,5 @@
 -- The marks of a runlevels field, and their characters.
-use Rattle.std.proofs.Common.{◌≡◌, ℕ, suc, ◌+◌, ◌<◌, ◌≤◌, Bool, true, false, cond, not, List, [], ◌∷◌, ◌++◌, length, take, map, get_or, filter, Option, Some, None, refl, ap, ◌∙◌, arith}
+use Rattle.std.proofs.Common.{◌≡◌, ℕ, ◌+◌, ◌<◌, ◌≤◌, Bool, true, false, cond, not, List, [], ◌∷◌, ◌++◌, length, take, map, get_or, filter, Option, Some, None, refl, ap, ◌∙◌, arith}
 use Rattle.std.specs.List.{filter_map, cons_option}
 use Rattle.std.proofs.lemmas.Bool.{or_parts, and_parts, not-true, not_from_false, not_from_true}
 use Rattle.std.proofs.lemmas.List.{take_more}
@@ -46,9 +46,7 @@ push_other x m ms true other = refl
 push_other x m ms false other = ap (λ ys. x ∷ ys) (others-push x m ms other)
 
 with_mark-front : (x m : Mark) (ms : List Mark) (s : Bool) → same_mark x m ≡ s → x ∷ others x (with_mark ms (Some m)) ≡ with_mark (x ∷ others x ms) (Some m)
-with_mark-front x m ms true is =
-    let back : same_mark m x ≡ true = same_mark-flip x m is in
-    rw back (ap (λ ys. x ∷ ys) (push_same x m ms (names m ms) is))
+with_mark-front x m ms true is = grind (arith, same_mark-flip, push_same)
 with_mark-front x m ms false other =
     let back : same_mark m x ≡ false = same_mark-apart x m other in
     rw (back, names-others m x ms other) (push_other x m ms (names m ms) other)
@@ -87,24 +85,16 @@ length-with_mark ms (Some m) = by_test (names m ms)
         length_one (x ∷ xs) = omega (arith, length_one xs)
 
 length-filter_le : (p : Mark → Bool) (ms : List Mark) → length (filter p ms) ≤ length ms
-length-filter_le p [] = omega arith
-length-filter_le p (m ∷ ms) = by_test (p m) (length-filter_le p ms)
-  where
-    by_test : (b : Bool) → length (filter p ms) ≤ length ms → length (cond b (m ∷ filter p ms) (filter p ms)) ≤ suc (length ms)
-    by_test true h = omega arith
-    by_test false h = omega arith
+length-filter_le p [] = grind arith
+length-filter_le p (m ∷ ms) = grind (arith, length-filter_le p ms)
 
 length-without_repeats : (ms : List Mark) → length (without_repeats ms) ≤ length ms
 length-without_repeats [] = omega arith
 length-without_repeats (m ∷ ms) = omega (arith, length-filter_le (λ other. not (same_mark m other)) (without_repeats ms), length-without_repeats ms)
 
 length-filter_map_le : (field : List ℕ) → length (filter_map mark_read field) ≤ length field
-length-filter_map_le [] = omega arith
-length-filter_map_le (b ∷ field) = by_mark (mark_read b) (length-filter_map_le field)
-  where
-    by_mark : (o : Option Mark) → length (filter_map mark_read field) ≤ length field → length (cons_option o (filter_map mark_read field)) ≤ suc (length field)
-    by_mark None h = omega arith
-    by_mark (Some m) h = omega arith
+length-filter_map_le [] = grind arith
+length-filter_map_le (b ∷ field) = grind (arith, length-filter_map_le field)
 
 pub length-marks_of : (field : List ℕ) → length (marks_of field) ≤ length field
 length-marks_of field = omega (arith, length-without_repeats (filter_map mark_read field), length-filter_map_le field)
@@ -121,14 +111,8 @@ names-filter m p (x ∷ ms) lacks =
     by_test false here rest = rest
 
 has_no_repeat-filter : (p : Mark → Bool) (ms : List Mark) → has_no_repeat ms ≡ true → has_no_repeat (filter p ms) ≡ true
-has_no_repeat-filter p [] once = refl
-has_no_repeat-filter p (x ∷ ms) once =
-    let parts = and_parts (not (names x ms)) (has_no_repeat ms) once in
-    by_test (p x) (names-filter x p ms (not-true (names x ms) parts.0)) (has_no_repeat-filter p ms parts.1)
-  where
-    by_test : (b : Bool) → names x (filter p ms) ≡ false → has_no_repeat (filter p ms) ≡ true → has_no_repeat (cond b (x ∷ filter p ms) (filter p ms)) ≡ true
-    by_test true here rest = rw (here, rest) refl
-    by_test false here rest = rest
+has_no_repeat-filter p [] once = grind (arith, names-filter, not-true)
+has_no_repeat-filter p (x ∷ ms) once = grind (arith, has_no_repeat-filter p ms, names-filter, not-true)
 
 pub has_no_repeat-without_repeats : (ms : List Mark) → has_no_repeat (without_repeats ms) ≡ true
 unfolding others

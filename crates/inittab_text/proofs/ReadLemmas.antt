@@ -1,9 +1,8 @@
 -- What the checks of a line say of the entry that is kept.
-use Rattle.std.proofs.Common.{◌≡◌, ℕ, ◌+◌, ◌<◌, ◌≤◌, Bool, true, false, cond, not, ◌==◌, nat_lt, nat_le, List, [], ◌∷◌, ◌++◌, length, drop, Option, Some, None, is_some, Result, Ok, Err, refl, sym, ap, ◌∙◌, arith, subst, length-append, get_or, lit≤}
+use Rattle.std.proofs.Common.{◌≡◌, ℕ, ◌+◌, ◌<◌, ◌≤◌, Bool, true, false, cond, not, ◌==◌, nat_lt, nat_le, List, [], ◌∷◌, ◌++◌, length, drop, Option, Some, None, is_some, Result, Ok, Err, refl, sym, ap, ◌∙◌, arith, subst, length-append, get_or}
 use Rattle.std.specs.Option.{option_map}
-use Rattle.std.specs.List.{filter_map}
 use Rattle.std.specs.Str.{IsUtf8, is_utf8}
-use Rattle.std.proofs.lemmas.Bool.{true≢false, or_parts, and_parts, and_from, not-true, not-false, not_from_false, ltb-false, leb-false, le-leb}
+use Rattle.std.proofs.lemmas.Bool.{or_parts, and_parts, and_from, not-true, not-false, not_from_false, ltb-false, leb-false, le-leb}
 use Rattle.std.proofs.lemmas.List.{drop_at, get_or_at, length_push, append_assoc}
 use Rattle.std.proofs.lemmas.Option.{option_and_then_some}
 use Rattle.std.proofs.lemmas.Str.{is_utf8-from_IsUtf8, IsUtf8-from_is_utf8, IsUtf8-nil, IsUtf8-drop, IsCharBoundary-after_ascii}
@@ -11,16 +10,14 @@ use Rattle.inittab_text.specs.declared.tables.TheConstants.{ENTRY_LIMIT}
 use Rattle.init_words.specs.declared.entries.TheConstants.{MARK_LIMIT}
 use Rattle.init_words.specs.declared.entries.Entry.{Entry}
 use Rattle.init_words.specs.declared.actions.Act.{Act}
-use Rattle.init_words.specs.declared.actions.Act.TheVariants as act
 use Rattle.init_words.specs.declared.levels.Mark.{Mark}
 use Rattle.init_words.specs.Ids.{is_id}
-use Rattle.init_words.specs.Levels.{mark_read}
 use Rattle.inittab_text.specs.declared.faults.LineKind.{LineKind}
 use Rattle.inittab_text.specs.declared.faults.LineKind.TheVariants as fault
-use Rattle.text_lines.specs.Lines.{cut, has_byte, skip_blanks}
+use Rattle.text_lines.specs.Lines.{has_byte, skip_blanks}
 use Rattle.init_words.specs.Actions.{act_read, ignores_levels, has_process, needs_process}
 use Rattle.inittab_text.specs.Lines.{FieldBytes, fields_of, is_ignored}
-use Rattle.inittab_text.specs.Kept.{levels_meant, levels_kept, marks_of, kept_of}
+use Rattle.inittab_text.specs.Kept.{levels_meant, levels_kept, kept_of}
 use Rattle.inittab_text.specs.Checks.{is_too_long, is_missing, is_text, checked_as, checked_with, checked, verdict_of}
 use Rattle.text_lines.proofs.CutLemmas.{cut-parts, has_byte-parts, has_byte-skip_blanks}
 use Rattle.inittab_text.specs.Tables.{entry_of}
@@ -37,11 +34,7 @@ option_map_some f (Some x) y is next = next x refl (cc)
 
 -- a line is its fields and the colons between them
 pub fields_of-spelled : (line : List ℕ) (f : FieldBytes) → fields_of line ≡ Some f → line ≡ spelled f
-fields_of-spelled line f is =
-    option_and_then_some _ (cut 58 line) f is (λ first at more.
-    option_and_then_some _ (cut 58 first.1) f more (λ second at_second rest.
-    option_map_some _ (cut 58 second.1) f rest (λ third at_third same.
-    rw (← same, (cut-parts 58 line first.0 first.1 at).0, (cut-parts 58 first.1 second.0 second.1 at_second).0, (cut-parts 58 second.1 third.0 third.1 at_third).0) refl)))
+fields_of-spelled line f is = grind (arith, option_and_then_some, option_map_some, cut-parts)
 
 -- the checks that a kept line passed
 pub record Passed (before : List Entry) (line : List ℕ) (f : FieldBytes) (a : Act) (e : Entry) : Type 0 where
@@ -64,8 +57,7 @@ guard_ignored true r e is = absurd (cc)
 guard_ignored false r e is = is
 
 none_there : {X : Type 0} (o : Option X) → is_some o ≡ false → o ≡ None
-none_there None is = refl
-none_there (Some x) is = absurd (true≢false is)
+none_there o is = grind arith
 
 passed_as : (before : List Entry) (line : List ℕ) (f : FieldBytes) (a : Act) (e : Entry) → is_id f.id ≡ true → length f.levels ≤ MARK_LIMIT → act_read f.action ≡ Some a → checked_as a before line f ≡ Ok (Some e) → Passed before line f a e
 unfolding checked_as
@@ -120,8 +112,7 @@ is_text-rest front rest is =
     (not_from_false (has_byte 0 rest) (or_parts (58 == 0) (has_byte 0 rest) lacks.1).1)
 
 is_text-process : (f : FieldBytes) → is_text (spelled f) ≡ true → is_text f.process ≡ true
-is_text-process f is =
-    is_text-rest f.action f.process (is_text-rest f.levels (f.action ++ 58 ∷ f.process) (is_text-rest f.id (f.levels ++ 58 ∷ (f.action ++ 58 ∷ f.process)) is))
+is_text-process f is = grind (arith, is_text-rest)
 
 lacks-rest : (front rest : List ℕ) → has_byte 10 (front ++ 58 ∷ rest) ≡ false → has_byte 10 rest ≡ false
 lacks-rest front rest lacks = (or_parts (58 == 10) (has_byte 10 rest) (has_byte-parts 10 front (58 ∷ rest) lacks).1).1
@@ -131,22 +122,7 @@ lacks-process f is = lacks-rest f.action f.process (lacks-rest f.levels (f.actio
 
 -- a field that may be left out means at most eleven characters
 length-levels_meant : (a : Act) (field : List ℕ) → length field ≤ MARK_LIMIT → length (levels_meant a field) ≤ MARK_LIMIT
-length-levels_meant act.Sysinit [] few = lit≤ tt
-length-levels_meant act.Boot [] few = lit≤ tt
-length-levels_meant act.Bootwait [] few = lit≤ tt
-length-levels_meant act.Wait [] few = lit≤ tt
-length-levels_meant act.Once [] few = lit≤ tt
-length-levels_meant act.Respawn [] few = lit≤ tt
-length-levels_meant act.Ondemand [] few = lit≤ tt
-length-levels_meant act.Powerwait [] few = lit≤ tt
-length-levels_meant act.Powerfail [] few = lit≤ tt
-length-levels_meant act.Powerokwait [] few = lit≤ tt
-length-levels_meant act.Powerfailnow [] few = lit≤ tt
-length-levels_meant act.Off [] few = lit≤ tt
-length-levels_meant act.Initdefault [] few = lit≤ tt
-length-levels_meant act.Ctrlaltdel [] few = lit≤ tt
-length-levels_meant act.Kbrequest [] few = lit≤ tt
-length-levels_meant a (b ∷ field) few = few
+length-levels_meant a field few = grind arith
 
 is_levels_by : (a : Act) (marks : List Mark) (b : Bool) → ignores_levels a ≡ b → length marks ≤ MARK_LIMIT → has_no_repeat marks ≡ true → is_levels a (cond b [] marks) ≡ true
 is_levels_by a marks true ignored few once = rw ignored refl
@@ -154,18 +130,14 @@ is_levels_by a marks false ignored few once = rw (le-leb (length marks) MARK_LIM
 
 pub is_levels-kept : (a : Act) (field : List ℕ) → length field ≤ MARK_LIMIT → is_levels a (levels_kept a field) ≡ true
 is_levels-kept a field few =
-    let meant = levels_meant a field in
-    is_levels_by a (marks_of meant) (ignores_levels a) refl (omega (arith, length-marks_of meant, length-levels_meant a field few)) (has_no_repeat-without_repeats (filter_map mark_read meant))
+    grind (arith, is_levels_by, length-marks_of, length-levels_meant, has_no_repeat-without_repeats)
 
 needs_none : (a : Act) → has_process a ≡ false → needs_process a ≡ false
-needs_none act.Initdefault none = refl
-needs_none _ none = absurd (true≢false none)
+needs_none a none = grind arith
 
 is_process_by : (a : Act) (process : List ℕ) (b : Bool) → has_process a ≡ b → is_too_long a process ≡ false → is_missing a process ≡ false → is_text process ≡ true → has_byte 10 process ≡ false → is_process a (cond b process []) ≡ true
 is_process_by a process true has long missing text lacks = rw (long, missing, text, lacks, has) refl
-is_process_by a process false has long missing text lacks =
-    let valid : is_text [] ≡ true = and_from (is_utf8 []) true (is_utf8-from_IsUtf8 [] IsUtf8-nil) refl in
-    rw (has, needs_none a has, valid) refl
+is_process_by a process false has long missing text lacks = grind (arith, is_utf8-from_IsUtf8, IsUtf8-nil, needs_none)
 
 -- what was kept is written as it was read
 pub is_written-kept : (before : List Entry) (line : List ℕ) (f : FieldBytes) (a : Act) (e : Entry) → Passed before line f a e → line ≡ spelled f → has_byte 10 line ≡ false → is_written e ≡ true

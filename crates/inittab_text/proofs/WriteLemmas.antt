@@ -1,5 +1,5 @@
 -- What is written is read as it was.
-use Rattle.std.proofs.Common.{◌≡◌, ◌≢◌, ℕ, zero, suc, ◌+◌, ◌<◌, ◌≤◌, Bool, true, false, cond, not, ◌==◌, ◌&&◌, nat_lt, nat_le, List, [], ◌∷◌, ◌++◌, map, Option, length, Some, None, Ok, refl, sym, ap, ◌∙◌, arith, subst, append-nil, codes, lit<, lit≤}
+use Rattle.std.proofs.Common.{◌≡◌, ◌≢◌, ℕ, zero, suc, ◌+◌, ◌<◌, ◌≤◌, Bool, true, false, cond, not, ◌==◌, ◌&&◌, nat_lt, nat_le, List, [], ◌∷◌, ◌++◌, map, Option, length, Some, None, Ok, refl, sym, ap, ◌∙◌, arith, subst, append-nil, codes, lit<}
 use Rattle.std.specs.List.{list_all}
 use Rattle.std.specs.Option.{IfSome, IfNone}
 use Rattle.std.specs.Str.{IsUtf8, is_utf8, IsAscii, bytes_eq}
@@ -21,7 +21,7 @@ use Rattle.init_words.specs.Actions.{word_of, act_read, ignores_levels, has_proc
 use Rattle.init_words.specs.Ids.{is_id, is_id_byte}
 use Rattle.init_words.proofs.IdParts.{id_parts}
 use Rattle.init_words.specs.Levels.{mark_code}
-use Rattle.text_lines.specs.Lines.{has_byte, is_blank, skip_blanks, lines_of}
+use Rattle.text_lines.specs.Lines.{has_byte, skip_blanks, lines_of}
 use Rattle.inittab_text.specs.Lines.{FieldBytes, fields_of, is_ignored}
 use Rattle.inittab_text.specs.Kept.{levels_kept, kept_of}
 use Rattle.inittab_text.specs.Checks.{is_too_long, is_missing, is_text, checked_as, checked, verdict_of}
@@ -160,13 +160,7 @@ is_text-front front rest clean is =
 
 -- a written line begins with its id: no blank is skipped, and it is no comment
 shown_by : (b : ℕ) (bs rest : List ℕ) → is_id (b ∷ bs) ≡ true → (skip_blanks ((b ∷ bs) ++ rest) ≡ (b ∷ bs) ++ rest) × (is_ignored ((b ∷ bs) ++ rest) ≡ false)
-shown_by b bs rest is =
-    let facts = id_parts (b ∷ bs) is in
-    let bytes = and_parts (is_id_byte b) (list_all is_id_byte bs) facts.bytes in
-    let range = and_parts (nat_le 33 b && nat_le b 126) (not (b == 58)) bytes.0 in
-    let low : 33 ≤ b = leb-true 33 b (and_parts (nat_le 33 b) (nat_le b 126) range.0).0 in
-    let blank : is_blank b ≡ false = or_from (b == 32) (b == 9) (ne_eqb b 32 (λ same. omega arith)) (ne_eqb b 9 (λ same. omega arith)) in
-    (rw blank refl, not-true (b == 35) facts.begins)
+shown_by b bs rest is = grind arith
 
 shown : (id rest : List ℕ) → is_id id ≡ true → (skip_blanks (id ++ rest) ≡ id ++ rest) × (is_ignored (id ++ rest) ≡ false)
 shown [] rest is = absurd (false≢true is)
@@ -256,20 +250,14 @@ levels_kept-written a [] once ignored = kept_none a (ignores_levels a) refl
 levels_kept-written a (m ∷ ms) once ignored = kept_some a m ms (ignores_levels a) refl ignored once
 
 empty_is : (p : List ℕ) → is_empty p ≡ true → [] ≡ p
-empty_is [] is = refl
-empty_is (b ∷ p) is = absurd (false≢true is)
+empty_is p is = grind arith
 
 kept_process : (p : List ℕ) (b : Bool) → cond b true (is_empty p) ≡ true → cond b p [] ≡ p
 kept_process p true is = refl
 kept_process p false is = empty_is p is
 
 pub length-levels_written : (a : Act) (ms : List Mark) → length ms ≤ MARK_LIMIT → length (levels_written a ms) ≤ MARK_LIMIT
-length-levels_written a [] few = by_test (ignores_levels a)
-  where
-    by_test : (b : Bool) → length (cond b [] (codes "-")) ≤ MARK_LIMIT
-    by_test true = lit≤ tt
-    by_test false = lit≤ tt
-length-levels_written a (m ∷ ms) few = omega (arith, length-map ms mark_code)
+length-levels_written a ms few = grind (arith, length-map)
 
 -- the word of an action is read as the action
 pub act_back : (a : Act) → act_read (word_of a) ≡ Some a
@@ -346,9 +334,7 @@ pub table_written-text : (table : List Entry) → is_table table ≡ true → ta
 table_written-text table is = rw (entries_from-text table [] is, (bytes_eq-Decides (text_of table) (text_of table)).1 refl) refl
 
 written_by : (t table : List Entry) (text : List ℕ) (b : Bool) → bytes_eq (text_of t) text ≡ b → cond b (Some t) None ≡ Some table → text_of table ≡ text
-written_by t table text true same is =
-    let at : t ≡ table = cc in
-    subst (λ x. text_of x ≡ text) at ((bytes_eq-Decides (text_of t) text).0 same)
+written_by t table text true same is = grind (arith, bytes_eq-Decides)
 written_by t table text false same is = absurd (cc)
 
 -- a table whose written text this is has this text
@@ -360,9 +346,7 @@ pub only_written : (text : List ℕ) (got : Option (List Entry)) → got ≡ tab
 only_written text got is table valid at = is ∙ ap table_written (sym at) ∙ table_written-text table valid
 
 pub found_written : (text : List ℕ) (got : Option (List Entry)) → got ≡ table_written text → IfSome got (λ table. text_of table ≡ text)
-found_written text None is = tt
-found_written text (Some table) is = text_of-table_written text table (sym is)
+found_written text got is = grind (arith, text_of-table_written)
 
 pub none_written : (text : List ℕ) (got : Option (List Entry)) → got ≡ table_written text → IfNone got ((table : List Entry) → is_table table ≡ true → text_of table ≢ text)
-none_written text None is = λ table valid at. absurd (none-some table (only_written text None is table valid at))
-none_written text (Some table) is = tt
+none_written text got is = grind (arith, none-some, only_written)

@@ -18,19 +18,14 @@ use Rattle.text_lines.proofs.Utf8Lemmas.{behind_ascii, behind-utf8, trim-utf8}
 
 -- what a chain of choices that gives something went through
 and_then : {X Y : Type 0} (f : X → Option Y) (o : Option X) (y : Y) → option_and_then f o ≡ Some y → (x : X) × (o ≡ Some x) × (f x ≡ Some y)
-and_then f None y is = absurd (cc)
-and_then f (Some x) y is = (x, refl, is)
+and_then f o y is = grind arith
 
 if_some : {X : Type 0} (b : Bool) (x y : X) → cond b (Some x) None ≡ Some y → x ≡ y
 if_some true x y is = ap (λ o. unwrap_or o x) is
 if_some false x y is = absurd (cc)
 
-some_is : {X : Type 0} (x y : X) → Some x ≡ Some y → x ≡ y
-some_is x y is = ap (λ o. unwrap_or o x) is
-
 second_of : {K T : Type 0} (o : Option K) (t : T) (known : K × T) → option_map (λ k. (k, t)) o ≡ Some known → t ≡ known.1
-second_of None t known is = absurd (cc)
-second_of {K} {T} (Some k) t known is = ap (λ (pair : K × T). pair.1) (some_is (k, t) known is)
+second_of o t known is = grind arith
 
 body_by : (a b : ℕ) (rest body : List ℕ) (x : Bool) → ((a == 35) && (b == 32)) ≡ x → IsUtf8 (a ∷ b ∷ rest) → cond x (Some rest) None ≡ Some body → IsUtf8 body
 body_by a b rest body true is utf8 same =
@@ -116,8 +111,7 @@ line_by line true found other rest is none = (line_utf8 line is, none)
 line_by line false found other rest is none = absurd (cc)
 
 rest_none : (o p : Option HeaderFault) → option_or o p ≡ None → p ≡ None
-rest_none None p is = is
-rest_none (Some x) p is = absurd (cc)
+rest_none o p is = grind arith
 
 pub block-utf8 : (seen : List Keyword) (number : ℕ) (block : List (List ℕ)) → block_fault seen number block ≡ None → AllByRecursion IsUtf8 block
 block-utf8 seen number [] none = tt

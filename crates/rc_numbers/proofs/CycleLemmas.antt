@@ -73,8 +73,7 @@ Walk-rises edges number is a [] b walk = is.rises a b walk
 Walk-rises edges number is a (x ∷ xs) b walk = let rest = Walk-rises edges number is x xs b walk.1 in omega (arith, is.rises a x walk.0)
 
 pub IsCycle-none : (edges : List (ℕ × ℕ)) (cycle : List ℕ) → IsCycle edges cycle → (number : ℕ → ℕ) → IsNumbering edges number → ⊥
-IsCycle-none edges [] is number numbering = is
-IsCycle-none edges (a ∷ xs) is number numbering = let up = Walk-rises edges number numbering a xs a is.0 in omega arith
+IsCycle-none edges cycle is number numbering = grind (arith, Walk-rises)
 
 -- a place that is needed and has no number
 abbrev pub Good : List (ℕ × ℕ) → List ℕ → ℕ → ℕ → Type 0
@@ -114,8 +113,7 @@ need-good count edges numbers a stuck within none =
 
 -- a ring has a place
 pub ring_some : (edges : List (ℕ × ℕ)) (ring : List ℕ) → IsRing edges ring → 0 < length ring
-ring_some edges [] is = absurd is
-ring_some edges (a ∷ xs) is = omega arith
+ring_some edges ring is = grind arith
 
 none_dropped : (m k : ℕ) → k < length (drop {A = ℕ} m []) → ⊥
 none_dropped zero k within = omega arith
@@ -179,10 +177,7 @@ set-other (x ∷ marks) (suc at) (suc v) n other = set-other marks at v n (λ e.
 
 marked_by : (marks path : List ℕ) (at n v m : ℕ) (y : Bool) → (at == v) ≡ y → at < length marks → n ≡ length path + 1 → Marked marks path → get_or (set marks at n) v 0 ≡ suc m → (m < length (path ++ at ∷ [])) × (get_or (path ++ at ∷ []) m 0 ≡ v)
 marked_by marks path at n v m true here within counted old is =
-    let e : at ≡ v = eqb-true at v here in
-    let own : get_or (set marks at n) v 0 ≡ n = rw (← e) (set-here marks at n within) in
-    let last : m ≡ length path = omega arith in
-    (omega (arith, length-push path at), get_or-last path at m last ∙ e)
+    grind (arith, eqb-true, set-here, length-push, get_or-last)
 marked_by marks path at n v m false other within counted old is =
     let kept = set-other marks at v n (λ e. true≢false (sym (eq-eqb at v e) ∙ other)) in
     let was = old v m (sym kept ∙ is) in

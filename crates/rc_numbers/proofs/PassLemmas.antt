@@ -116,11 +116,10 @@ Needs-range count (e ∷ edges) a b range need = elim need [
 
 -- a number that is given leaves one less without
 pub zeros-set : (numbers : List ℕ) (a n : ℕ) → a < length numbers → get_or numbers a 0 ≡ 0 → 0 < n → zeros (set numbers a n) + 1 ≡ zeros numbers
-zeros-set [] a n within none some = absurd (omega arith)
-zeros-set (x ∷ numbers) zero n within none some = rw (none, not_zero n some) (omega arith)
 zeros-set (x ∷ numbers) (suc a) n within none some =
     let rest : zeros (set numbers a n) + 1 ≡ zeros numbers = zeros-set numbers a n (omega arith) none some in
     omega arith
+zeros-set numbers a n within none some = grind (arith, not_zero)
 
 pub zeros-replicate : (n : ℕ) → zeros (replicate n 0) ≡ n
 zeros-replicate zero = refl
@@ -151,8 +150,7 @@ abbrev pub Fewer : List ℕ → List ℕ → Type 0
 Fewer numbers next = (next ≡ numbers) ⊎ (zeros next < zeros numbers)
 
 fewer_le : (numbers next : List ℕ) → Fewer numbers next → zeros next ≤ zeros numbers
-fewer_le numbers next (inl same) = omega (arith, ap zeros same)
-fewer_le numbers next (inr less) = omega arith
+fewer_le numbers next h = grind arith
 
 fewer_first : (x h : ℕ) (numbers next : List ℕ) → (x == 0) ≡ true → Fewer numbers next → Fewer (x ∷ numbers) (h ∷ next)
 fewer_first x zero numbers next none (inl same) = let e : x ≡ 0 = eqb-true x 0 none in inl (rw (e, same) refl)
@@ -187,18 +185,11 @@ get_or-some (x ∷ xs) zero some = omega arith
 get_or-some (x ∷ xs) (suc a) some = let rest = get_or-some xs a some in omega arith
 
 stuck_by : (numbers heights : List ℕ) (a : ℕ) → get_or numbers a 0 ≡ 0 → get_or (settled numbers heights) a 0 ≡ cond (get_or numbers a 0 == 0) (get_or heights a 0) (get_or numbers a 0) → settled numbers heights ≡ numbers → get_or heights a 0 ≡ 0
-stuck_by numbers heights a none at still =
-    let open_at : get_or (settled numbers heights) a 0 ≡ get_or heights a 0 = at ∙ rw none refl in
-    sym open_at ∙ ap (λ xs. get_or xs a 0) still ∙ none
+stuck_by numbers heights a none at still = grind arith
 
 -- at the start none has a number
 pub IsPartial-start : (count : ℕ) (edges : List (ℕ × ℕ)) → IsPartial count edges (replicate count 0)
-IsPartial-start count edges = record {
-  size = length-zeros count;
-  small = λ a. let e = get_or-zeros count a in omega (arith, zeros-replicate count);
-  rises = λ a b need some. absurd (let e = get_or-zeros count a in omega arith);
-  least = λ number is a. let e = get_or-zeros count a in omega arith;
-}
+IsPartial-start count edges = grind (arith, length-zeros, get_or-zeros, zeros-replicate)
 
 -- the number of a place after a pass: its own, or its height where it had none
 abbrev After : List ℕ → List ℕ → ℕ → Type 0
@@ -215,10 +206,7 @@ after numbers heights a same = after_by numbers heights a (get_or numbers a 0 ==
 
 -- a place that had a number keeps it
 kept_number : (numbers heights : List ℕ) (a : ℕ) → length heights ≡ length numbers → 0 < get_or numbers a 0 → get_or (settled numbers heights) a 0 ≡ get_or numbers a 0
-kept_number numbers heights a same some = elim (after numbers heights a same) [
-  | inl old ↦ old.1
-  | inr new ↦ absurd (omega (arith, new.0))
-]
+kept_number numbers heights a same some = grind (arith, after)
 
 module _ (count : ℕ) (edges : List (ℕ × ℕ)) (numbers heights : List ℕ) (p : IsPartial count edges numbers) (same : length heights ≡ length numbers) (all : AreHeights edges numbers heights) where
   are : (a : ℕ) → 0 < get_or heights a 0 → get_or heights a 0 ≡ height_from numbers a 1 edges
@@ -236,37 +224,14 @@ module _ (count : ℕ) (edges : List (ℕ × ℕ)) (numbers heights : List ℕ) 
 
   least_new : (number : ℕ → ℕ) → IsNumbering edges number → (a h : ℕ) → get_or heights a 0 ≡ h → get_or (settled numbers heights) a 0 ≡ get_or heights a 0 → get_or (settled numbers heights) a 0 ≤ number a
   least_new number is a zero at new = omega arith
-  least_new number is a (suc h) at new =
-      let low : height_from numbers a 1 edges ≤ number a =
-      height-least numbers a 1 edges (number a) (is.some a) (λ b need. omega (arith, p.least number is b, is.rises a b need)) in
-      omega (arith, are a (omega arith))
+  least_new number is a (suc h) at new = grind (arith, height-least, are)
 
   small_new : (a : ℕ) (x : Fewer numbers (settled numbers heights)) → get_or numbers a 0 ≡ 0 → get_or (settled numbers heights) a 0 ≡ get_or heights a 0 → get_or (settled numbers heights) a 0 + zeros (settled numbers heights) ≤ count
-  small_new a (inl e) none is = rw e (p.small a)
-  small_new a (inr less) none is = small_by a (get_or heights a 0) refl less is
+  small_new a x none is = grind (arith, small_by)
 
   pub IsPartial-next : IsPartial count edges (settled numbers heights)
-  IsPartial-next = record {
-    size = length-settled numbers heights ∙ p.size;
-    small = λ a. elim (after numbers heights a same) [
-      | inl old ↦ omega (arith, old.1, p.small a, fewer_le numbers (settled numbers heights) (fewer numbers heights))
-      | inr new ↦ small_new a (fewer numbers heights) new.0 new.1
-    ];
-    rises = λ a b need some. elim (after numbers heights a same) [
-      | inl old ↦ (let low = p.rises a b need old.0 in
-          let kept = kept_number numbers heights b same low.0 in
-          (omega (arith, kept, low.0), omega (arith, kept, old.1, low.1)))
-      | inr new ↦ (let high : 0 < get_or heights a 0 = omega (arith, new.1) in
-          let at = are a high in
-          let low = (height-above numbers a 1 edges (omega (arith, at))).above b need in
-          let kept = kept_number numbers heights b same low.0 in
-          (omega (arith, kept, low.0), omega (arith, kept, new.1, at, low.1)))
-    ];
-    least = λ number is a. elim (after numbers heights a same) [
-      | inl old ↦ omega (arith, old.1, p.least number is a)
-      | inr new ↦ least_new number is a (get_or heights a 0) refl new.1
-    ];
-  }
+  IsPartial-next =
+      grind (arith, length-settled, after, fewer_le, fewer, small_new, kept_number, are, height-above, least_new)
 
 -- where a pass changes nothing, each place without a number needs one without
 pub IsStuck-same : (count : ℕ) (edges : List (ℕ × ℕ)) (numbers heights : List ℕ) → length numbers ≡ count → length heights ≡ length numbers → AreHeights edges numbers heights → settled numbers heights ≡ numbers → IsStuck count edges numbers
@@ -277,12 +242,10 @@ IsStuck-same count edges numbers heights size same are still a within none =
 
 -- the places from one on
 pub settled-drop : (numbers heights : List ℕ) (k : ℕ) → k < length numbers → length heights ≡ length numbers → settled (drop k numbers) (drop k heights) ≡ cond (get_or numbers k 0 == 0) (get_or heights k 0) (get_or numbers k 0) ∷ settled (drop (k + 1) numbers) (drop (k + 1) heights)
-settled-drop [] heights k within same = absurd (omega arith)
-settled-drop (x ∷ numbers) [] k within same = absurd (omega arith)
-settled-drop (x ∷ numbers) (h ∷ heights) zero within same = refl
 settled-drop (x ∷ numbers) (h ∷ heights) (suc k) within same =
     let more : suc k + 1 ≡ suc (k + 1) = omega arith in
     rw more (settled-drop numbers heights k (omega arith) (omega arith))
+settled-drop numbers heights k within same = grind arith
 
 -- lists that are told to be one
 pub same_lists : (xs ys : List ℕ) → bytes_eq xs ys ≡ true → xs ≡ ys

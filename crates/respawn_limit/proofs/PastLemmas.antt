@@ -1,31 +1,28 @@
 -- The laws of whole runs.
-use Rattle.std.proofs.Common.{◌≡◌, ℕ, ◌+◌, ◌<◌, ◌≤◌, Bool, true, false, cond, inl, inr, List, [], ◌∷◌, ◌++◌, length, refl, sym, ◌∙◌, ap, arith, nat_le, nat_lt, Option, Some, None, append_assoc}
-use Rattle.std.specs.Prelude.{All, count_by}
-use Rattle.std.specs.List.{AllPass, list_all}
-use Rattle.std.proofs.lemmas.Bool.{and_from, and_parts, cases_lt, le-leb, leb-true, ltb-false}
+use Rattle.std.proofs.Common.{◌≡◌, ℕ, ◌+◌, ◌<◌, ◌≤◌, Bool, true, false, inl, inr, List, [], ◌∷◌, ◌++◌, length, refl, sym, ◌∙◌, ap, arith, nat_le, Option, Some, append_assoc}
+use Rattle.std.specs.Prelude.{All}
+use Rattle.std.specs.List.{list_all}
+use Rattle.std.proofs.lemmas.Bool.{and_parts, cases_lt, le-leb, leb-true}
 use Rattle.std.proofs.lemmas.Bool.Decides.{nat_tests}
 use Rattle.std.proofs.lemmas.List.{append-nil}
 use Rattle.std.proofs.lemmas.List.Elements.{All-nil, All-push, All-weaker}
 use Rattle.std.proofs.lemmas.List.Sums.{sum_by-append, sum_by_push}
 use Rattle.respawn_limit.specs.declared.TheConstants.{HOLD, STARTS, WINDOW}
-use Rattle.respawn_limit.specs.declared.May.TheVariants.{Yes, HoldUntil}
+use Rattle.respawn_limit.specs.declared.May.TheVariants.{Yes}
 use Rattle.respawn_limit.specs.State.{LimiterState}
-use Rattle.respawn_limit.specs.Window.{is_recent, is_full, answer, may_of, last_starts, with_start, Remembers}
+use Rattle.respawn_limit.specs.Window.{is_full, answer, may_of, last_starts, with_start, Remembers}
 use Rattle.respawn_limit.specs.Past.{Event, Noted, HeldAt, Cleared, times_noted, hold_end, last_reading, is_yes, may_follow, is_run, is_no_clear, StandsAfter, StartsKeepPace, NoStartWhileHeld}
 use Rattle.respawn_limit.proofs.WindowLemmas.{count_all, answer-last_starts, Remembers-push}
 
 -- it remembers all starts that it was told of
 pub Remembers-StandsAfter : (limiter : LimiterState) (past : List Event) → StandsAfter limiter past
     → Remembers limiter.starts (times_noted past)
-Remembers-StandsAfter limiter past stands =
-    record { last = ap (λ (l : LimiterState). l.starts) stands.state; ordered = stands.ordered }
+Remembers-StandsAfter limiter past stands = grind arith
 
 -- what a limiter answers by its state, it answers by all that it was told
 pub may_of-StandsAfter : (limiter : LimiterState) (past : List Event) (now : ℕ) → StandsAfter limiter past
     → may_of limiter now ≡ answer (times_noted past) (hold_end past) now
-may_of-StandsAfter limiter past now stands =
-    ap (λ (l : LimiterState). may_of l now) stands.state
-    ∙ answer-last_starts (times_noted past) (hold_end past) now stands.ordered
+may_of-StandsAfter limiter past now stands = grind (arith, answer-last_starts)
 
 -- one more start, no earlier than those that are kept
 pub StandsAfter-Noted : (limiter new : LimiterState) (past : List Event) (now : ℕ) → StandsAfter limiter past
@@ -46,12 +43,7 @@ StandsAfter-Noted limiter new past now stands late is =
 -- one more start that the limiter allows continues a run
 pub is_run-Noted : (limiter : LimiterState) (past : List Event) (now : ℕ) → StandsAfter limiter past → may_of limiter now ≡ Yes
     → is_run past ≡ true → last_reading past ≤ now → is_run (Noted now ∷ past) ≡ true
-is_run-Noted limiter past now stands allowed run late =
-    let says : is_yes (answer (times_noted past) (hold_end past) now) ≡ true =
-    ap is_yes (sym (may_of-StandsAfter limiter past now stands) ∙ allowed) in
-    and_from (may_follow past (Noted now)) (is_run past)
-    (and_from (nat_le (last_reading past) now) (is_yes (answer (times_noted past) (hold_end past) now))
-    (le-leb (last_reading past) now late) says) run
+is_run-Noted limiter past now stands allowed run late = grind (arith, may_of-StandsAfter, le-leb)
 
 -- what came before is a run too
 pub is_run-earlier : (later past : List Event) → is_run (later ++ past) ≡ true → is_run past ≡ true
@@ -94,32 +86,17 @@ none_earlier (HeldAt time ∷ between) past run kept =
     record { starts = before.starts; reading = omega arith }
 none_earlier (Cleared ∷ between) past run kept = cc
 
--- what a yes says of the tests before it
-yes_at : (full : Bool) (end : ℕ) → is_yes (cond full (HoldUntil end) Yes) ≡ true → full ≡ false
-yes_at true end says = cc
-yes_at false end says = refl
-
-yes_past : (held full : Bool) (end next : ℕ) → is_yes (cond held (HoldUntil end) (cond full (HoldUntil next) Yes)) ≡ true
-    → (held ≡ false) × (full ≡ false)
-yes_past true full end next says = cc
-yes_past false full end next says = (refl, yes_at full next says)
-
 -- at a yes the window isn't full
 room_at_yes : (noted : List ℕ) (end : Option ℕ) (now : ℕ) → is_yes (answer noted end now) ≡ true → is_full noted now ≡ false
-room_at_yes noted None now says = yes_at (is_full noted now) (now + HOLD) says
-room_at_yes noted (Some end) now says = (yes_past (nat_lt now end) (is_full noted now) end (now + HOLD) says).1
+room_at_yes noted end now says = grind arith
 
 -- at a yes the hold is over
 over_at_yes : (noted : List ℕ) (held : Option ℕ) (end now : ℕ) → held ≡ Some end → is_yes (answer noted held now) ≡ true → end ≤ now
-over_at_yes noted held end now is says =
-    let at_end : is_yes (answer noted (Some end) now) ≡ true = rw is at says in
-    ltb-false now end (yes_past (nat_lt now end) (is_full noted now) end (now + HOLD) at_end).0
+over_at_yes noted held end now is says = grind arith
 
 -- a start in a run was noted at a yes
 yes_at_start : (past : List Event) (now : ℕ) → is_run (Noted now ∷ past) ≡ true → is_yes (answer (times_noted past) (hold_end past) now) ≡ true
-yes_at_start past now run =
-    (and_parts (nat_le (last_reading past) now) (is_yes (answer (times_noted past) (hold_end past) now))
-    (and_parts (may_follow past (Noted now)) (is_run past) run).0).1
+yes_at_start past now run = grind arith
 
 -- a hold that ends five minutes after this moment or later
 record HoldStands (hold : ℕ) (past : List Event) : Type 0 where
@@ -160,22 +137,7 @@ no_start_while_held later between earlier hold start run kept =
 full_within : (before after : List ℕ) (first now : ℕ) → STARTS ≤ length after + 1 → All (λ time. first ≤ time) after → now < first + WINDOW
     → is_full ((before ++ first ∷ []) ++ after) now ≡ true
 full_within before after first now nine since soon =
-    let p : ℕ → Bool = is_recent now in
-    let each : AllPass p after = All-weaker (λ time. first ≤ time) (λ time. p time ≡ true) (λ time le. within time le) after since in
-    let here : p first ≡ true = grind (arith, nat_tests) in
-    let all : count_by p after ≡ length after = count_all p after each in
-    let joined : count_by p ((before ++ first ∷ []) ++ after) ≡ count_by p (before ++ first ∷ []) + count_by p after =
-    sum_by-append (λ y. cond (p y) 1 0) (before ++ first ∷ []) after in
-    let pushed : count_by p (before ++ first ∷ []) ≡ count_by p before + cond (p first) 1 0 =
-    sum_by_push (λ y. cond (p y) 1 0) before first in
-    let counted : count_by p (before ++ first ∷ []) ≡ count_by p before + 1 = rw here at pushed in
-    enough (count_by p ((before ++ first ∷ []) ++ after)) (omega arith)
-  where
-    within : (time : ℕ) → first ≤ time → is_recent now time ≡ true
-    within time le = grind (arith, nat_tests)
-
-    enough : (n : ℕ) → STARTS ≤ n → nat_le STARTS n ≡ true
-    enough n le = grind (arith, nat_tests)
+    grind (arith, All-weaker, nat_tests, count_all, sum_by-append, sum_by_push)
 
 -- no test is both
 not_both : (b : Bool) → b ≡ true → b ≡ false → ⊥

@@ -1,7 +1,7 @@
 -- Blanks at the ends of a text, and the words of a line.
-use Rattle.std.proofs.Common.{◌≡◌, ◌⊎◌, ℕ, zero, suc, ◌+◌, ◌<◌, ◌≤◌, Bool, true, false, cond, List, [], ◌∷◌, ◌++◌, length, take, drop, get_or, reverse, refl, sym, ap, ◌∙◌, arith, inl, inr}
+use Rattle.std.proofs.Common.{◌≡◌, ◌⊎◌, ℕ, suc, ◌+◌, ◌<◌, ◌≤◌, Bool, true, false, cond, List, [], ◌∷◌, ◌++◌, length, take, drop, get_or, reverse, refl, sym, ap, ◌∙◌, arith, inl, inr}
 use Rattle.std.proofs.lemmas.List.{reverse-append, reverse-reverse}
-use Rattle.text_lines.specs.Lines.{onto_first_line, skip_blanks, is_blank, trim_end, word_length, words_of}
+use Rattle.text_lines.specs.Lines.{skip_blanks, is_blank, trim_end, word_length, words_of}
 
 -- one byte at the end of a text
 trim_end-blank : (text : List ℕ) (b : ℕ) → is_blank b ≡ true → trim_end (text ++ b ∷ []) ≡ trim_end text
@@ -15,11 +15,10 @@ trim_end-other text b other =
     rw (back, other) (ap reverse (sym back) ∙ reverse-reverse (text ++ b ∷ []))
 
 take-last : (text : List ℕ) (n : ℕ) → n < length text → take (n + 1) text ≡ take n text ++ get_or text n 0 ∷ []
-take-last [] n within = absurd (omega arith)
-take-last (b ∷ text) zero within = refl
 take-last (b ∷ text) (suc n) within =
     let more : suc n + 1 ≡ suc (n + 1) = omega arith in
     rw more (ap (λ t. b ∷ t) (take-last text n (omega arith)))
+take-last text n within = grind arith
 
 -- a text that ends in a blank is trimmed as the text before it
 pub trim_end-shorter : (text : List ℕ) (n : ℕ) → n < length text → is_blank (get_or text n 0) ≡ true → trim_end (take (n + 1) text) ≡ trim_end (take n text)
@@ -44,9 +43,7 @@ words_of-skip (b ∷ text) = words_skip b text (is_blank b) refl (words_of-skip 
 
 word_by : (b c : ℕ) (text : List ℕ) (x : Bool) → is_blank c ≡ x → is_blank b ≡ false → (is_blank c ≡ false → words_of (c ∷ text) ≡ (c ∷ take (word_length text) text) ∷ words_of (drop (word_length text) text)) → words_of (b ∷ c ∷ text) ≡ (b ∷ take (word_length (c ∷ text)) (c ∷ text)) ∷ words_of (drop (word_length (c ∷ text)) (c ∷ text))
 word_by b c text true is other rest = rw (other, is, is) refl
-word_by b c text false is other rest =
-    let tail : words_of (c ∷ text) ≡ (c ∷ take (word_length text) text) ∷ words_of (drop (word_length text) text) = rest is in
-    rw (other, is) (rw is at (ap (onto_first_line b) tail))
+word_by b c text false is other rest = grind arith
 
 -- the first word of a text that begins with one
 pub words_of-first : (b : ℕ) (text : List ℕ) → is_blank b ≡ false → words_of (b ∷ text) ≡ (b ∷ take (word_length text) text) ∷ words_of (drop (word_length text) text)
@@ -66,11 +63,7 @@ left [] = inl refl
 left (b ∷ text) = left_by b text (is_blank b) refl (left text)
 
 next_by : (rest : List ℕ) → 0 < length rest → Left rest → (words_of rest ≡ take (word_length rest) rest ∷ words_of (drop (word_length rest) rest)) × (0 < word_length rest)
-next_by rest some (inl e) = absurd (omega (arith, ap length e))
-next_by rest some (inr g) =
-    let first = words_of-first g.0 g.1 g.3 in
-    let counted : word_length (g.0 ∷ g.1) ≡ suc (word_length g.1) = rw g.3 refl in
-    rw (g.2, counted) (first, omega arith)
+next_by rest some h = grind (arith, words_of-first)
 
 -- the first word of a text, behind its blanks
 pub words_of-next : (text : List ℕ) → 0 < length (skip_blanks text) → words_of text ≡ take (word_length (skip_blanks text)) (skip_blanks text) ∷ words_of (drop (word_length (skip_blanks text)) (skip_blanks text))

@@ -1,10 +1,9 @@
 -- A text, cut at the first byte of a kind, and its lines.
-use Rattle.std.proofs.Common.{◌≡◌, ◌⊎◌, ℕ, zero, suc, ◌+◌, ◌<◌, Bool, true, false, cond, ◌==◌, List, [], ◌∷◌, ◌++◌, length, take, drop, slice_index, Option, Some, None, refl, sym, ◌∙◌, arith, inl, inr}
+use Rattle.std.proofs.Common.{◌≡◌, ◌⊎◌, ℕ, suc, ◌+◌, ◌<◌, Bool, true, false, cond, ◌==◌, List, [], ◌∷◌, ◌++◌, length, take, drop, slice_index, Option, Some, None, refl, sym, ◌∙◌, arith, inl, inr}
 use Rattle.std.specs.Option.{option_map}
-use Rattle.std.proofs.lemmas.Bool.{false_from_ne_true, or_parts, eqb-true, eq-eqb}
+use Rattle.std.proofs.lemmas.Bool.{false_from_ne_true, or_parts, eqb-true}
 use Rattle.std.proofs.lemmas.List.Folds.{list_any-append}
-use Rattle.std.proofs.lemmas.Option.{some_pair_parts}
-use Rattle.text_lines.specs.Lines.{onto_first, cut, has_byte, lines_of, skip_blanks, is_blank}
+use Rattle.text_lines.specs.Lines.{onto_first, cut, has_byte, lines_of, skip_blanks}
 
 pub cut-none : (mark : ℕ) (text : List ℕ) → ((k : ℕ) → k < length text → (slice_index text k == mark) ≡ true → ⊥) → cut mark text ≡ None
 cut-none mark [] h = refl
@@ -14,13 +13,12 @@ cut-none mark (b ∷ text) h =
     rw (here, rest) refl
 
 pub cut-first : (mark : ℕ) (text : List ℕ) (k : ℕ) → k < length text → ((j : ℕ) → j < k → (slice_index text j == mark) ≡ true → ⊥) → (slice_index text k == mark) ≡ true → cut mark text ≡ Some (take k text, drop (k + 1) text)
-cut-first mark [] k within before here = absurd (omega arith)
-cut-first mark (b ∷ text) zero within before here = rw here refl
 cut-first mark (b ∷ text) (suc k) within before here =
     let other : (b == mark) ≡ false = false_from_ne_true (b == mark) (before 0 (omega arith)) in
     let rest : cut mark text ≡ Some (take k text, drop (k + 1) text) = cut-first mark text k (omega arith) (λ j within is. before (suc j) (omega arith) is) here in
     let more : suc k + 1 ≡ suc (k + 1) = omega arith in
     rw (other, rest, more) refl
+cut-first mark text k within before here = grind arith
 
 -- the cut of a text whose first byte is of the kind
 abbrev at_once : List ℕ → Option (List ℕ × List ℕ)
@@ -31,15 +29,10 @@ abbrev Began : ℕ → ℕ → List ℕ → List ℕ → List ℕ → Type 0
 Began mark b text left right = ((left ≡ []) × (right ≡ text) × ((b == mark) ≡ true)) ⊎ ((more : List ℕ) × (left ≡ b ∷ more) × (cut mark text ≡ Some (more, right)) × ((b == mark) ≡ false))
 
 began_later : (mark b : ℕ) (text left right : List ℕ) (o : Option (List ℕ × List ℕ)) → cut mark text ≡ o → (b == mark) ≡ false → option_map (onto_first b) o ≡ Some (left, right) → Began mark b text left right
-began_later mark b text left right None was other is = absurd (cc)
-began_later mark b text left right (Some p) was other is =
-    let same = some_pair_parts (b ∷ p.0) left p.1 right is in
-    inr (p.0, sym same.0, rw (← same.1) was, other)
+began_later mark b text left right o was other is = grind arith
 
 began_by : (mark b : ℕ) (text left right : List ℕ) (x : Bool) → (b == mark) ≡ x → cond x (at_once text) (option_map (onto_first b) (cut mark text)) ≡ Some (left, right) → Began mark b text left right
-began_by mark b text left right true here is =
-    let same = some_pair_parts [] left text right is in
-    inl (sym same.0, sym same.1, here)
+began_by mark b text left right true here is = grind arith
 began_by mark b text left right false other is = began_later mark b text left right (cut mark text) refl other is
 
 began : (mark b : ℕ) (text left right : List ℕ) → cut mark (b ∷ text) ≡ Some (left, right) → Began mark b text left right
@@ -61,17 +54,13 @@ none_by mark b text false None is = (refl, refl)
 none_by mark b text false (Some p) is = absurd (cc)
 
 pub cut-lacks : (mark : ℕ) (text : List ℕ) → cut mark text ≡ None → has_byte mark text ≡ false
-cut-lacks mark [] is = refl
-cut-lacks mark (b ∷ text) is =
-    let parts = none_by mark b text (b == mark) (cut mark text) is in
-    rw (parts.0, cut-lacks mark text parts.1) refl
+cut-lacks mark [] is = grind arith
+cut-lacks mark (b ∷ text) is = grind (arith, cut-lacks mark text)
 
 -- a cut of two parts joined
 pub cut-append : (mark : ℕ) (left right : List ℕ) → has_byte mark left ≡ false → cut mark (left ++ mark ∷ right) ≡ Some (left, right)
-cut-append mark [] right lacks = rw (eq-eqb mark mark refl) refl
-cut-append mark (b ∷ left) right lacks =
-    let parts = or_parts (b == mark) (has_byte mark left) lacks in
-    rw (parts.0, cut-append mark left right parts.1) refl
+cut-append mark [] right lacks = grind arith
+cut-append mark (b ∷ left) right lacks = grind (arith, cut-append mark left right)
 
 -- the first line of a text, and the rest
 pub lines_of-cut : (text left right : List ℕ) → cut 10 text ≡ Some (left, right) → lines_of text ≡ left ∷ lines_of right
@@ -84,14 +73,11 @@ lines_of-cut (b ∷ text) left right is =
 
 -- a last line
 pub lines_of-last : (text : List ℕ) → 0 < length text → cut 10 text ≡ None → lines_of text ≡ text ∷ []
-lines_of-last [] some is = absurd (omega arith)
-lines_of-last (b ∷ []) some is =
-    let parts = none_by 10 b [] (b == 10) None is in
-    rw parts.0 refl
 lines_of-last (b ∷ c ∷ text) some is =
     let parts = none_by 10 b (c ∷ text) (b == 10) (cut 10 (c ∷ text)) is in
     let rest : lines_of (c ∷ text) ≡ (c ∷ text) ∷ [] = lines_of-last (c ∷ text) (omega arith) parts.1 in
     rw (parts.0, rest) refl
+lines_of-last text some is = grind (arith, none_by)
 
 -- a line and the text behind it
 pub lines_of-append : (left right : List ℕ) → has_byte 10 left ≡ false → lines_of (left ++ 10 ∷ right) ≡ left ∷ lines_of right
@@ -105,11 +91,6 @@ has_byte-append byte left right first second = list_any-append (λ b. b == byte)
 pub has_byte-parts : (byte : ℕ) (left right : List ℕ) → has_byte byte (left ++ right) ≡ false → (has_byte byte left ≡ false) × (has_byte byte right ≡ false)
 has_byte-parts byte left right lacks = or_parts (has_byte byte left) (has_byte byte right) (sym (list_any-append (λ b. b == byte) left right) ∙ lacks)
 
-skip_by : (byte b : ℕ) (line : List ℕ) (x : Bool) → has_byte byte (b ∷ line) ≡ false → has_byte byte (skip_blanks line) ≡ false → has_byte byte (cond x (skip_blanks line) (b ∷ line)) ≡ false
-skip_by byte b line true lacks rest = rest
-skip_by byte b line false lacks rest = lacks
-
 pub has_byte-skip_blanks : (byte : ℕ) (line : List ℕ) → has_byte byte line ≡ false → has_byte byte (skip_blanks line) ≡ false
-has_byte-skip_blanks byte [] lacks = refl
-has_byte-skip_blanks byte (b ∷ line) lacks =
-    skip_by byte b line (is_blank b) lacks (has_byte-skip_blanks byte line (or_parts (b == byte) (has_byte byte line) lacks).1)
+has_byte-skip_blanks byte [] lacks = grind arith
+has_byte-skip_blanks byte (b ∷ line) lacks = grind (arith, has_byte-skip_blanks byte line)

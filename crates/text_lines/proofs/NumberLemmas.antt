@@ -1,10 +1,9 @@
 -- A text is no number where it is not UTF-8, or parses as none.
-use Rattle.std.proofs.Common.{Bool, true, false, ◌≡◌, ◌&&◌, ◌==◌, ◌<◌, ◌^◌, ℕ, List, [], ◌∷◌, arith, Some, None, Result, Ok, Err, refl, sym, ap, ◌∙◌, cond, nat_lt, is_ok, MatchResult, decimal, IsUtf8, Bor}
+use Rattle.std.proofs.Common.{Bool, true, false, ◌≡◌, ◌&&◌, ◌<◌, ◌^◌, ℕ, List, [], ◌∷◌, arith, Some, None, Result, Ok, Err, refl, ap, ◌∙◌, cond, nat_lt, is_ok, MatchResult, decimal, IsUtf8, Bor}
 use Rattle.std.specs.Result.{result_ok}
-use Rattle.std.specs.Str.Parse.{AllDigits, ParsesUnsigned, digits_value, without_leading_plus}
-use Rattle.std.proofs.lemmas.Bool.{false≢true, ltb-true, or_from, ne_eqb}
+use Rattle.std.specs.Str.Parse.{AllDigits, ParsesUnsigned, without_leading_plus}
+use Rattle.std.proofs.lemmas.Bool.{false≢true, ltb-true}
 use Rattle.std.proofs.lemmas.Fmt.{parse-decimal, IsAscii-decimal, decimal_is_IsNumeral}
-use Rattle.std.proofs.lemmas.Str.Parse.{digit_from_value}
 use Rattle.std.proofs.lemmas.Slice.Eq.{bytes_eq-Decides}
 use Rattle.std.proofs.lemmas.Str.{IsUtf8-from_ascii}
 use Rattle.std.specs.Str.{bytes_eq}
@@ -13,13 +12,7 @@ use Rattle.text_lines.specs.Numbers.{number_read}
 
 -- no number, where a number whose decimal form it is makes it none
 pub none_read : (text : List ℕ) → ((n : ℕ) → n < 2 ^ 64 → text ≡ decimal n → false ≡ true) → None ≡ number_read (2 ^ 64) text
-none_read text never = at (nat_lt (digits_value 10 (without_leading_plus text)) (2 ^ 64)) (bytes_eq (decimal (digits_value 10 (without_leading_plus text))) text) refl refl
-  where
-    at : (b c : Bool) → nat_lt (digits_value 10 (without_leading_plus text)) (2 ^ 64) ≡ b → bytes_eq (decimal (digits_value 10 (without_leading_plus text))) text ≡ c
-        → None ≡ cond (b && c) (Some (digits_value 10 (without_leading_plus text))) None
-    at false c h k = refl
-    at true false h k = refl
-    at true true h k = absurd (false≢true (never (digits_value 10 (without_leading_plus text)) (ltb-true (digits_value 10 (without_leading_plus text)) (2 ^ 64) h) (sym ((bytes_eq-Decides (decimal (digits_value 10 (without_leading_plus text))) text).0 k))))
+none_read text never = grind (arith, ltb-true, bytes_eq-Decides)
 
 pub no_text : {S E : Type 0} (text : List ℕ) (A : S → Type 0) (B : E → Type 0) (r : Result S E) → MatchResult r (λ s. A s × IsUtf8 text) (λ e. (¬ IsUtf8 text) × B e) → false ≡ is_ok r → None ≡ number_read (2 ^ 64) text
 no_text text A B (Ok s) m bad = absurd (false≢true bad)
@@ -29,15 +22,11 @@ pub no_number : {E : Type 0} (text : List ℕ) (r : Result ℕ E) → ParsesUnsi
 no_number {E} text r parses bad = none_read text (λ n small is. bad ∙ ap is_ok (parse-decimal 64 n text r small small is parses))
 
 pub same_text : {E : Type 0} (text : List ℕ) (U : Type 0) (B : E → Type 0) (r : Result (Bor (List ℕ)) E) (s : Bor (List ℕ)) → MatchResult r (λ s. (s.now ≡ text) × U) B → Some s ≡ result_ok r → s.now ≡ text
-same_text text U B (Ok t) s m is = let same : s ≡ t = cc in rw same m.0
-same_text text U B (Err e) s m is = cc
+same_text text U B r s m is = grind arith
 
 -- a number's decimal form is read as the number, where it is below the limit
 plus_none : (ds : List ℕ) → AllDigits 10 ds → without_leading_plus ds ≡ ds
-plus_none [] digits = refl
-plus_none (c ∷ ds) digits =
-    let other : (c == 43) ≡ false = ne_eqb c 43 (λ same. omega (arith, (digit_from_value c digits.0).0, (digit_from_value c digits.0).1)) in
-    rw other refl
+plus_none ds digits = grind arith
 
 pub number_read-decimal : (limit n : ℕ) → n < 2 ^ 64 → nat_lt n limit ≡ true → number_read limit (decimal n) ≡ Some n
 number_read-decimal limit n small within =
@@ -46,24 +35,18 @@ number_read-decimal limit n small within =
     rw (plain, numeral.1, within, (bytes_eq-Decides (decimal n) (decimal n)).1 refl) refl
 
 read_by : (limit n m : ℕ) (text : List ℕ) (b c : Bool) → nat_lt n limit ≡ b → bytes_eq (decimal n) text ≡ c → cond (b && c) (Some n) None ≡ Some m → (decimal m ≡ text) × (nat_lt m limit ≡ true)
-read_by limit n m text true true below same is =
-    let this : n ≡ m = cc in
-    (rw (← this) ((bytes_eq-Decides (decimal n) text).0 same), rw (← this) below)
+read_by limit n m text true true below same is = grind (arith, bytes_eq-Decides)
 read_by limit n m text true false below same is = absurd (cc)
 read_by limit n m text false c below same is = absurd (cc)
 
 -- what was read is below the limit, and the text is its decimal form
 pub decimal-number_read : (limit : ℕ) (text : List ℕ) (n : ℕ) → number_read limit text ≡ Some n → (decimal n ≡ text) × (nat_lt n limit ≡ true)
-decimal-number_read limit text n is =
-    let value = digits_value 10 (without_leading_plus text) in
-    read_by limit value n text (nat_lt value limit) (bytes_eq (decimal value) text) refl refl is
+decimal-number_read limit text n is = grind (arith, read_by)
 
 -- a byte that is no digit stands in no decimal form
 lacks_digits : (byte : ℕ) (ds : List ℕ) → byte < 48 → AllDigits 10 ds → has_byte byte ds ≡ false
-lacks_digits byte [] low digits = refl
-lacks_digits byte (c ∷ ds) low digits =
-    let range = digit_from_value c digits.0 in
-    or_from (c == byte) (has_byte byte ds) (ne_eqb c byte (λ same. omega (arith, range.0, low))) (lacks_digits byte ds low digits.1)
+lacks_digits byte [] low digits = grind arith
+lacks_digits byte (c ∷ ds) low digits = grind (arith, lacks_digits byte ds)
 
 pub decimal-lacks : (byte n : ℕ) → byte < 48 → n < 2 ^ 64 → has_byte byte (decimal n) ≡ false
 decimal-lacks byte n low small = lacks_digits byte (decimal n) low (decimal_is_IsNumeral n small).0.1

@@ -1,7 +1,7 @@
 -- A text in pieces, and a text by its lines: what is cut off and what is left make the whole.
 use Rattle.std.proofs.Common.{◌≡◌, ℕ, zero, suc, ◌+◌, ◌-◌, ◌<◌, Bool, true, false, cond, not, ◌==◌, List, [], ◌∷◌, ◌++◌, length, take, filter, slice_get, Option, Some, None, refl, sym, ap, ◌∙◌, arith, length-append}
 use Rattle.std.specs.List.{join_with_byte, list_all}
-use Rattle.std.proofs.lemmas.Bool.{or_parts, eq-eqb, and_parts, not-true}
+use Rattle.std.proofs.lemmas.Bool.{not-true}
 use Rattle.std.proofs.lemmas.List.{append_assoc}
 use Rattle.std.proofs.lemmas.Option.{option_and_then_some, same_Some}
 use Rattle.text_lines.specs.Lines.{cut, ended, has_byte, newlines, after_lines, pieces_of}
@@ -9,16 +9,12 @@ use Rattle.text_lines.proofs.CutLemmas.{cut-parts, cut-lacks}
 
 -- the first piece, and those of what stands behind it
 pub pieces_of-at : (mark : ℕ) (word rest : List ℕ) → has_byte mark word ≡ false → pieces_of mark (word ++ mark ∷ rest) ≡ word ∷ pieces_of mark rest
-pieces_of-at mark [] rest lacks = rw (eq-eqb mark mark refl) refl
-pieces_of-at mark (b ∷ word) rest lacks =
-    let parts = or_parts (b == mark) (has_byte mark word) lacks in
-    rw (parts.0, pieces_of-at mark word rest parts.1) refl
+pieces_of-at mark [] rest lacks = grind arith
+pieces_of-at mark (b ∷ word) rest lacks = grind (arith, pieces_of-at mark word rest)
 
 pub pieces_of-last : (mark : ℕ) (word : List ℕ) → has_byte mark word ≡ false → pieces_of mark word ≡ word ∷ []
-pieces_of-last mark [] lacks = refl
-pieces_of-last mark (b ∷ word) lacks =
-    let parts = or_parts (b == mark) (has_byte mark word) lacks in
-    rw (parts.0, pieces_of-last mark word parts.1) refl
+pieces_of-last mark [] lacks = grind arith
+pieces_of-last mark (b ∷ word) lacks = grind (arith, pieces_of-last mark word)
 
 pub pieces_of-cut : (mark : ℕ) (text word rest : List ℕ) → cut mark text ≡ Some (word, rest) → pieces_of mark text ≡ word ∷ pieces_of mark rest
 pieces_of-cut mark text word rest is =
@@ -31,10 +27,9 @@ pieces_of-whole mark text is = pieces_of-last mark text (cut-lacks mark text is)
 -- pieces without the byte, joined by it, are the pieces again
 pub pieces_of-joined : (mark : ℕ) (word : List ℕ) (words : List (List ℕ)) → list_all (λ w. not (has_byte mark w)) (word ∷ words) ≡ true
     → pieces_of mark (join_with_byte mark (word ∷ words)) ≡ word ∷ words
-pieces_of-joined mark word [] lack = pieces_of-last mark word (not-true (has_byte mark word) (and_parts (not (has_byte mark word)) true lack).0)
+pieces_of-joined mark word [] lack = grind (arith, pieces_of-last, not-true, pieces_of-at)
 pieces_of-joined mark word (next ∷ words) lack =
-    let parts = and_parts (not (has_byte mark word)) (list_all (λ w. not (has_byte mark w)) (next ∷ words)) lack in
-    pieces_of-at mark word (join_with_byte mark (next ∷ words)) (not-true (has_byte mark word) parts.0) ∙ ap (λ ps. word ∷ ps) (pieces_of-joined mark next words parts.1)
+    grind (arith, pieces_of-joined mark word words, pieces_of-last, not-true, pieces_of-at)
 
 -- newlines of two texts
 newlines_by : (b : ℕ) (left right : List ℕ) (x : Bool) → newlines (left ++ right) ≡ newlines left + newlines right
@@ -47,10 +42,8 @@ newlines-append [] right = omega arith
 newlines-append (b ∷ left) right = newlines_by b left right (b == 10) (newlines-append left right)
 
 pub newlines-none : (text : List ℕ) → has_byte 10 text ≡ false → newlines text ≡ 0
-newlines-none [] lacks = refl
-newlines-none (b ∷ text) lacks =
-    let parts = or_parts (b == 10) (has_byte 10 text) lacks in
-    rw (parts.0, newlines-none text parts.1) refl
+newlines-none [] lacks = grind arith
+newlines-none (b ∷ text) lacks = grind (arith, newlines-none text)
 
 pub newlines-line : (line : List ℕ) → has_byte 10 line ≡ false → newlines (line ++ 10 ∷ []) ≡ 1
 newlines-line line lacks = newlines-append line (10 ∷ []) ∙ ap (λ n. n + 1) (newlines-none line lacks)
@@ -62,9 +55,7 @@ pub record Front (count : ℕ) (text rest : List ℕ) : Type 0 where
   pub counted : newlines front ≡ count
 
 pub after_lines-front : (count : ℕ) (text rest : List ℕ) → after_lines count text ≡ Some rest → Front count text rest
-after_lines-front zero text rest is =
-    let same : text ≡ rest = cc in
-    record { front = []; whole = same; counted = refl }
+after_lines-front zero text rest is = grind arith
 after_lines-front (suc n) text rest is =
     option_and_then_some (λ (parts : List ℕ × List ℕ). after_lines n parts.1) (cut 10 text) rest is (λ parts at more.
     let first = cut-parts 10 text parts.0 parts.1 at in
@@ -89,9 +80,7 @@ take-front front rest = short (length (front ++ rest) - length rest) (omega (ari
 -- one line of those that are wanted is gone
 pub after_lines-step : (n : ℕ) (text line rest : List ℕ) → 0 < n → cut 10 text ≡ Some (line, rest) → after_lines n text ≡ after_lines (n - 1) rest
 after_lines-step zero text line rest some is = absurd (omega arith)
-after_lines-step (suc n) text line rest some is =
-    let less : suc n - 1 ≡ n = omega arith in
-    rw (is, less) refl
+after_lines-step (suc n) text line rest some is = grind arith
 
 -- a text that has a line too few
 pub after_lines-short : (n : ℕ) (text : List ℕ) → 0 < n → cut 10 text ≡ None → after_lines n text ≡ None
@@ -100,22 +89,15 @@ after_lines-short (suc n) text some is = rw is refl
 
 -- a text with its last line ended
 pub ended-closed : (text : List ℕ) → slice_get text (length text - 1) ≡ Some 10 → ended text ≡ text
-ended-closed [] last = absurd (cc)
-ended-closed (b ∷ []) last =
-    let newline : b ≡ 10 = same_Some b 10 last in
-    rw (newline) refl
 ended-closed (b ∷ c ∷ text) last = ap (λ t. b ∷ t) (ended-closed (c ∷ text) (behind b c text (Some 10) last))
   where
     behind : (b c : ℕ) (text : List ℕ) (o : Option ℕ) → slice_get (b ∷ c ∷ text) (length (b ∷ c ∷ text) - 1) ≡ o → slice_get (c ∷ text) (length (c ∷ text) - 1) ≡ o
-    behind b c text o is =
-        let less : length (b ∷ c ∷ text) - 1 ≡ suc (length (c ∷ text) - 1) = omega arith in
-        sym (ap (slice_get (b ∷ c ∷ text)) less) ∙ is
+    behind b c text o is = grind arith
+ended-closed text last = grind (arith, same_Some)
 
 pub ended-open : (text : List ℕ) (byte : ℕ) → slice_get text (length text - 1) ≡ Some byte → (byte == 10) ≡ false → ended text ≡ text ++ 10 ∷ []
 ended-open [] byte last other = absurd (cc)
-ended-open (b ∷ []) byte last other =
-    let same : b ≡ byte = same_Some b byte last in
-    rw (same, other) refl
+ended-open (b ∷ []) byte last other = grind arith
 ended-open (b ∷ c ∷ text) byte last other =
     let less : length (b ∷ c ∷ text) - 1 ≡ suc (length (c ∷ text) - 1) = omega arith in
     ap (λ t. b ∷ t) (ended-open (c ∷ text) byte (sym (ap (slice_get (b ∷ c ∷ text)) less) ∙ last) other)

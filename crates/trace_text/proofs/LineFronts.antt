@@ -1,5 +1,5 @@
 -- Whole lines at the front of a text stay the same when more of it comes.
-use Rattle.std.proofs.Common.{◌≡◌, ℕ, zero, suc, ◌+◌, ◌≤◌, List, [], ◌∷◌, ◌++◌, Option, Some, None, option_and_then, refl, sym, ap, ◌∙◌, arith}
+use Rattle.std.proofs.Common.{◌≡◌, ℕ, zero, suc, ◌+◌, ◌≤◌, List, [], ◌∷◌, ◌++◌, Option, Some, None, option_and_then, refl, ap, ◌∙◌, arith}
 use Rattle.std.proofs.lemmas.List.{append_assoc}
 use Rattle.std.proofs.lemmas.Option.{none-some}
 use Rattle.text_lines.specs.Lines.{cut, newlines, after_lines}
@@ -38,16 +38,10 @@ pub after_lines-some : (n : ℕ) (text : List ℕ) → n ≤ newlines text → (
 after_lines-some zero text enough = (text, refl)
 after_lines-some (suc n) text enough = by (cut 10 text) refl (λ rest less. after_lines-some n rest less) where
   by : (o : Option (List ℕ × List ℕ)) → cut 10 text ≡ o → ((rest : List ℕ) → n ≤ newlines rest → (behind : List ℕ) × (after_lines n rest ≡ Some behind)) → (rest : List ℕ) × (after_lines (suc n) text ≡ Some rest)
-  by None is further = absurd (omega (arith, enough, newlines-uncut text is))
-  by (Some parts) is further =
-      let more = further parts.1 (omega (arith, enough, newlines-cut text parts.0 parts.1 is)) in
-      (more.0, after_cut n text parts.0 parts.1 is ∙ more.1)
+  by o is further = grind (arith, newlines-uncut, newlines-cut, after_cut)
 
 pub after_lines-more : (n : ℕ) (text more rest : List ℕ) → after_lines n text ≡ Some rest → after_lines n (text ++ more) ≡ Some (rest ++ more)
-after_lines-more zero text more rest is =
-    let same : text ≡ rest = cc in
-    ap (λ t. Some (t ++ more)) same
+after_lines-more zero text more rest is = grind arith
 after_lines-more (suc n) text more rest is = by (cut 10 text) refl (λ t h. after_lines-more n t more rest h) where
   by : (o : Option (List ℕ × List ℕ)) → cut 10 text ≡ o → ((t : List ℕ) → after_lines n t ≡ Some rest → after_lines n (t ++ more) ≡ Some (rest ++ more)) → after_lines (suc n) (text ++ more) ≡ Some (rest ++ more)
-  by None at further = absurd (none-some rest (sym (after_uncut n text at) ∙ is))
-  by (Some parts) at further = after_cut n (text ++ more) parts.0 (parts.1 ++ more) (cut-more text more parts.0 parts.1 at) ∙ further parts.1 (sym (after_cut n text parts.0 parts.1 at) ∙ is)
+  by o at further = grind (arith, none-some, after_uncut, after_cut, cut-more)

@@ -1,8 +1,8 @@
 -- The text of a happening is read as the happening, and what is read has this text.
-use Rattle.std.proofs.Common.{◌≡◌, ℕ, ◌+◌, ◌*◌, ◌-◌, ◌<◌, ◌≤◌, ◌^◌, Bool, true, false, cond, not, ◌==◌, ◌&&◌, nat_lt, nat_le, List, [], ◌∷◌, ◌++◌, length, Option, Some, None, option_and_then, refl, sym, ap, ◌∙◌, arith, codes, decimal, subst, append-nil, length-append, lit<, lit≤}
+use Rattle.std.proofs.Common.{◌≡◌, ℕ, ◌+◌, ◌*◌, ◌-◌, ◌<◌, ◌≤◌, ◌^◌, Bool, true, false, cond, not, ◌&&◌, nat_lt, nat_le, List, [], ◌∷◌, ◌++◌, length, Option, Some, None, refl, sym, ap, ◌∙◌, arith, codes, decimal, subst, append-nil, length-append, lit<}
 use Rattle.std.specs.Option.{option_map, option_map_or}
 use Rattle.std.specs.List.{list_all, join_with_byte}
-use Rattle.std.proofs.lemmas.Bool.{and_parts, and_from, or_from, ne_eqb, ltb-true, leb-true, le-leb, lt-ltb, not-true}
+use Rattle.std.proofs.lemmas.Bool.{and_parts, and_from, ltb-true, leb-true, le-leb, lt-ltb, not-true}
 use Rattle.std.proofs.lemmas.Fmt.{decimal_digit, length-decimal-le}
 use Rattle.std.proofs.lemmas.List.{append_assoc}
 use Rattle.std.proofs.lemmas.List.Splits.{join_with_byte-slice_split}
@@ -32,7 +32,6 @@ use Rattle.text_lines.specs.Numbers.{number_read}
 use Rattle.initctl_frame.specs.declared.requests.HeardRequest.{HeardRequest as Request}
 use Rattle.initctl_frame.specs.declared.requests.HeardRequest.TheVariants as got
 use Rattle.initctl_frame.specs.declared.requests.Cause.{Cause}
-use Rattle.initctl_frame.specs.declared.requests.Cause.TheVariants as cause
 use Rattle.inittab_text.specs.declared.reading.TheConstants.{TEXT_LIMIT}
 use Rattle.inittab_text.specs.declared.tables.TheConstants.{ENTRY_LIMIT}
 use Rattle.inittab_text.specs.Written.{is_table, table_begun, text_of}
@@ -65,12 +64,8 @@ unfolding clean
 clean_from word blank newline short = rw (blank, newline) (le-leb (length word) 20 short)
 
 pub lacks_low : (byte : ℕ) (bytes : List ℕ) → byte < 33 → list_all is_id_byte bytes ≡ true → has_byte byte bytes ≡ false
-lacks_low byte [] low are = refl
-lacks_low byte (b ∷ bytes) low are =
-    let parts = and_parts (is_id_byte b) (list_all is_id_byte bytes) are in
-    let range = and_parts (nat_le 33 b) (nat_le b 126) (and_parts (nat_le 33 b && nat_le b 126) (not (b == 58)) parts.0).0 in
-    let above : 33 ≤ b = leb-true 33 b range.0 in
-    or_from (b == byte) (has_byte byte bytes) (ne_eqb b byte (λ same. omega (arith, low, above))) (lacks_low byte bytes low parts.1)
+lacks_low byte [] low are = grind arith
+lacks_low byte (b ∷ bytes) low are = grind (arith, lacks_low byte bytes)
 
 clean_id : (id : List ℕ) → is_id id ≡ true → clean id ≡ true
 clean_id id is =
@@ -120,10 +115,7 @@ clean_power power.FailNow = refl
 clean_power power.Ok = refl
 
 small_cause : (why : Cause) → cause_number why < 10
-small_cause cause.Magic = lit< tt
-small_cause cause.Unknown = lit< tt
-small_cause cause.LeftOut = lit< tt
-small_cause cause.Character = lit< tt
+small_cause why = grind arith
 
 below : (n limit : ℕ) → nat_lt n limit ≡ true → limit ≤ 2 ^ 64 → n < 2 ^ 64
 below n limit is fits = omega (arith, ltb-true n limit is)
@@ -193,57 +185,22 @@ clean_words (Handed how) is = one_more (codes "handed") _ refl (clean_handed how
 -- AND THEY ARE READ
 
 pub level_back : (level : Level) → level_of_word (level_word level) ≡ Some level
-level_back L0 = refl
-level_back L1 = refl
-level_back L2 = refl
-level_back L3 = refl
-level_back L4 = refl
-level_back L5 = refl
-level_back L6 = refl
-level_back L7 = refl
-level_back L8 = refl
-level_back L9 = refl
-level_back S = refl
+level_back level = grind arith
 
 letter_back : (letter : Letter) → letter_of_word (letter_word letter) ≡ Some letter
-letter_back A = refl
-letter_back B = refl
-letter_back C = refl
-
-run_back : (level : Level) → stage_of_word (level_word level) ≡ Some (stage.Run level)
-run_back L0 = refl
-run_back L1 = refl
-run_back L2 = refl
-run_back L3 = refl
-run_back L4 = refl
-run_back L5 = refl
-run_back L6 = refl
-run_back L7 = refl
-run_back L8 = refl
-run_back L9 = refl
-run_back S = refl
+letter_back letter = grind arith
 
 pub stage_back : (now : Stage) → stage_of_word (stage_word now) ≡ Some now
-stage_back stage.Sysinit = refl
-stage_back stage.Boot = refl
-stage_back (stage.Run level) = run_back level
+stage_back now = grind arith
 
 pub order_back : (order : OrderKind) → order_of_word (order_word order) ≡ Some order
-order_back Start = refl
-order_back Look = refl
-order_back Term = refl
-order_back Kill = refl
+order_back order = grind arith
 
 power_back : (kind : PowerKind) → power_of_word (power_word kind) ≡ Some kind
-power_back power.Fail = refl
-power_back power.FailNow = refl
-power_back power.Ok = refl
+power_back kind = grind arith
 
 cause_back : (why : Cause) → cause_of_word (decimal (cause_number why)) ≡ Some why
-cause_back cause.Magic = rw (decimal_digit 1 (lit< tt)) refl
-cause_back cause.Unknown = rw (decimal_digit 2 (lit< tt)) refl
-cause_back cause.LeftOut = rw (decimal_digit 3 (lit< tt)) refl
-cause_back cause.Character = rw (decimal_digit 4 (lit< tt)) refl
+cause_back why = grind (arith, decimal_digit)
 
 -- how the words of a happening are read: a table's by its count, all others as the happening
 abbrev Said : Event → Type 0
@@ -380,23 +337,8 @@ joined_short word (next ∷ words) are =
     let parts = and_parts (clean word) (list_all clean (next ∷ words)) are in
     omega (arith, (unblank word parts.0).2, joined_short next words parts.1, length-append word (32 ∷ join_with_byte 32 (next ∷ words)))
 
-few_got : (request : Request) → length (got_words request) ≤ 4
-few_got (got.Level level seconds) = lit≤ tt
-few_got _ = lit≤ tt
-
-few_handed : (how : HandOver) → length (handed_words how) ≤ 4
-few_handed handed.Whole = lit≤ tt
-few_handed _ = lit≤ tt
-
-few_statuses : (status : Status) → length (status_words status) ≤ 2
-few_statuses (Exit code) = lit≤ tt
-few_statuses Killed = lit≤ tt
-
 few_words : (h : Event) → length (words_of h) ≤ 5
-few_words (Got request) = omega (arith, few_got request)
-few_words (Handed how) = omega (arith, few_handed how)
-few_words (Reaped id number status) = omega (arith, few_statuses status)
-few_words _ = lit≤ tt
+few_words h = grind arith
 
 line_lacks : (h : Event) → is_in_range h ≡ true → has_byte 10 (line (words_of h)) ≡ false
 unfolding line
@@ -431,12 +373,10 @@ pub record FirstLine (h : Event) (more : List ℕ) : Type 0 where
   pub size : length (event_text h) ≤ LINE_LIMIT + TEXT_LIMIT
 
 table_short : (h : Event) → is_in_range h ≡ true → length (table_lines h) ≤ TEXT_LIMIT
-table_short (NewTable table) is = text_short table is
-table_short _ is = lit≤ tt
+table_short h is = grind (arith, text_short)
 
 brings : (h : Event) → Said h → option_map_or (λ count. count + 1) (entries_brought (words_of h)) 1 ≡ line_count h
-brings (NewTable table) own = ap (λ o. option_map_or (λ count. count + 1) o 1) own
-brings _ own = ap (λ o. option_map_or (λ count. count + 1) o 1) own.0
+brings h own = grind arith
 
 pub line_first : (h : Event) (more : List ℕ) → is_in_range h ≡ true → FirstLine h more
 line_first h more is = record {
@@ -484,11 +424,7 @@ begun-text h more is = rw (first_line h more is) (found_by h more is (said h is)
 
 -- no table is read from words
 pub no_use : (given : List ℕ) → words_read (codes "use" ∷ given ∷ []) ≡ None
-no_use given = by (is_id given)
-  where
-    by : (b : Bool) → option_and_then {U = Event} (λ id. None) (cond b (Some given) None) ≡ None
-    by true = refl
-    by false = refl
+no_use given = grind arith
 
 abbrev Lineless : Event → List (List ℕ) → Type 0
 Lineless h words = words_of h ≡ words → words_read words ≡ Some h → table_lines h ≡ []
@@ -516,14 +452,12 @@ words_begin first rest h is =
 
 -- the words that bring a table
 use_words : (words : List (List ℕ)) (count : ℕ) → entries_brought words ≡ Some count → words ≡ codes "use" ∷ decimal count ∷ []
-use_words [] count is = absurd (cc)
-use_words (word ∷ []) count is = absurd (cc)
 use_words (word ∷ given ∷ []) count is = by (same_id word (codes "use")) refl is
   where
     by : (b : Bool) → same_id word (codes "use") ≡ b → cond b (number_read (ENTRY_LIMIT + 1) given) None ≡ Some count → word ∷ given ∷ [] ≡ codes "use" ∷ decimal count ∷ []
     by true same read = rw (same_id-is word (codes "use") same, (decimal-number_read (ENTRY_LIMIT + 1) given count read).0) refl
     by false same read = absurd (cc)
-use_words (word ∷ given ∷ more ∷ words) count is = absurd (cc)
+use_words words count is = grind arith
 
 table_begins : (first rest : List ℕ) (count : ℕ) (h : Event) (more : List ℕ) → entries_brought (words_in first) ≡ Some count → use_begun count rest ≡ Some (h, more) → Begins h more (first ++ 10 ∷ rest)
 table_begins first rest count h more brought is =
@@ -561,8 +495,7 @@ line_and_more h is =
     ∙ omega (arith, newlines-line (line (words_of h)) (line_lacks h is))
 
 table_newlines : (h : Event) → is_in_range h ≡ true → newlines (table_lines h) + 1 ≡ line_count h
-table_newlines (NewTable table) is = ap (λ n. n + 1) (newlines-text table is)
-table_newlines _ is = refl
+table_newlines h is = grind (arith, newlines-text)
 
 pub newlines-event : (h : Event) → is_in_range h ≡ true → newlines (event_text h) ≡ line_count h
 newlines-event h is = line_and_more h is ∙ table_newlines h is

@@ -1,6 +1,6 @@
 -- The words of a happening's line are read as the happening, and what is read has these words.
-use Rattle.std.proofs.Common.{◌≡◌, ℕ, ◌+◌, ◌^◌, Bool, true, false, cond, ◌==◌, ◌&&◌, List, [], ◌∷◌, Option, Some, None, refl, sym, ap, ◌∙◌, codes, decimal, subst, lit<}
-use Rattle.std.proofs.lemmas.Bool.{and_parts, and_from, eqb-true}
+use Rattle.std.proofs.Common.{arith, ◌≡◌, ℕ, ◌+◌, ◌^◌, Bool, true, false, cond, ◌&&◌, List, [], ◌∷◌, Option, Some, None, refl, sym, ◌∙◌, codes, decimal, subst, lit<}
+use Rattle.std.proofs.lemmas.Bool.{and_parts, and_from}
 use Rattle.std.proofs.lemmas.Fmt.{decimal_digit}
 use Rattle.std.proofs.lemmas.Option.{option_and_then_some, same_Some}
 use Rattle.inittab_text.proofs.ReadLemmas.{option_map_some}
@@ -20,7 +20,7 @@ use Rattle.init_words.specs.declared.orders.PowerKind.{PowerKind}
 use Rattle.init_words.specs.declared.orders.PowerKind.TheVariants as power
 use Rattle.init_words.specs.declared.limits.TheConstants.{GRACE_LIMIT}
 use Rattle.init_words.specs.Ids.{is_id, id_read, same_id}
-use Rattle.init_words.specs.Levels.{level_code, level_read, letter_code, letter_read}
+use Rattle.init_words.specs.Levels.{level_code}
 use Rattle.init_words.proofs.Same.{same_id-is}
 use Rattle.initctl_frame.specs.declared.requests.HeardRequest.{HeardRequest as Request}
 use Rattle.initctl_frame.specs.declared.requests.HeardRequest.TheVariants as got
@@ -32,7 +32,7 @@ use Rattle.trace_events.specs.declared.happenings.Handed.TheVariants as handed
 use Rattle.trace_events.specs.Event.{Event}
 use Rattle.trace_text.specs.Lines.{words_of, level_word, letter_word, stage_word, order_word, power_word, cause_number, status_words, got_words, handed_words}
 use Rattle.trace_events.specs.Range.{is_in_range, is_number, is_status, is_request, is_hand_over}
-use Rattle.trace_text.specs.Reading.{both, all_three, own_level, level_of_word, own_letter, letter_of_word, stage_of_word, order_of_word, power_of_word, cause_of_word, seconds_of_word, child_of_word, code_of_word, one_read, about_read, request_read, request_pair_read, handed_read, handed_pair_read, two_read, three_read, level_wanted, four_read, five_read, words_read, words_in, entries_brought}
+use Rattle.trace_text.specs.Reading.{both, all_three, own_level, level_of_word, letter_of_word, stage_of_word, order_of_word, power_of_word, cause_of_word, seconds_of_word, child_of_word, code_of_word, one_read, about_read, request_read, request_pair_read, handed_read, handed_pair_read, two_read, three_read, level_wanted, four_read, five_read, words_read, words_in, entries_brought}
 
 -- FROM WHAT IS READ TO ITS WORDS
 
@@ -64,22 +64,13 @@ pub id_own : (word id : List ℕ) → id_read word ≡ Some id → (id ≡ word)
 id_own word id is = choice (is_id word) (Some word) None id is (λ holds at. let same : word ≡ id = same_Some word id at in (sym same, subst (λ w. is_id w ≡ true) same holds)) (nothing id)
 
 own_level_is : (code : ℕ) (o : Option Level) (level : Level) → own_level code o ≡ Some level → level_code level ≡ code
-own_level_is code None level is = nothing level is
-own_level_is code (Some k) level is = choice (level_code k == code) (Some k) None level is (λ holds at. let same : k ≡ level = same_Some k level at in subst (λ l. level_code l ≡ code) same (eqb-true (level_code k) code holds)) (nothing level)
+own_level_is code o level is = grind arith
 
 pub level_own : (word : List ℕ) (level : Level) → level_of_word word ≡ Some level → level_word level ≡ word
-level_own [] level is = nothing level is
-level_own (code ∷ []) level is = ap (λ c. c ∷ []) (own_level_is code (level_read code) level is)
-level_own (code ∷ b ∷ word) level is = nothing level is
-
-own_letter_is : (code : ℕ) (o : Option Letter) (letter : Letter) → own_letter code o ≡ Some letter → letter_code letter ≡ code
-own_letter_is code None letter is = nothing letter is
-own_letter_is code (Some k) letter is = choice (letter_code k == code) (Some k) None letter is (λ holds at. let same : k ≡ letter = same_Some k letter at in subst (λ l. letter_code l ≡ code) same (eqb-true (letter_code k) code holds)) (nothing letter)
+level_own word level is = grind (arith, nothing, own_level_is)
 
 pub letter_own : (word : List ℕ) (letter : Letter) → letter_of_word word ≡ Some letter → letter_word letter ≡ word
-letter_own [] letter is = nothing letter is
-letter_own (code ∷ []) letter is = ap (λ c. c ∷ []) (own_letter_is code (letter_read code) letter is)
-letter_own (code ∷ b ∷ word) letter is = nothing letter is
+letter_own word letter is = grind arith
 
 -- a constant that was read at a name
 pub at_name : {X : Type 0} (write : X → List ℕ) (word name : List ℕ) (k x : X) → write k ≡ name → word ≡ name → Some k ≡ Some x → write x ≡ word
@@ -142,9 +133,7 @@ request_is word request is =
     named word (codes "reexec") _ _ request is (λ same at. constant got.Reexec (codes "reexec") refl refl same at) (nothing request))
   where
     constant : (k : Request) (name : List ℕ) → got_words k ≡ name ∷ [] → is_request k ≡ true → word ≡ name → Some k ≡ Some request → (got_words request ≡ word ∷ []) × (is_request request ≡ true)
-    constant k name spoken ranged same is =
-        let this : k ≡ request = same_Some k request is in
-        subst (λ r. (got_words r ≡ word ∷ []) × (is_request r ≡ true)) this (spoken ∙ rw same refl, ranged)
+    constant k name spoken ranged same is = grind arith
 
 request_pair_is : (word given : List ℕ) (request : Request) → request_pair_read word given ≡ Some request → (got_words request ≡ word ∷ given ∷ []) × (is_request request ≡ true)
 request_pair_is word given request is =
@@ -161,9 +150,7 @@ handed_is word how is =
     named word (codes "none") _ _ how is (λ same at. constant handed.Failed (codes "none") refl refl same at) (nothing how))
   where
     constant : (k : HandOver) (name : List ℕ) → handed_words k ≡ name ∷ [] → is_hand_over k ≡ true → word ≡ name → Some k ≡ Some how → (handed_words how ≡ word ∷ []) × (is_hand_over how ≡ true)
-    constant k name spoken ranged same is =
-        let this : k ≡ how = same_Some k how is in
-        subst (λ r. (handed_words r ≡ word ∷ []) × (is_hand_over r ≡ true)) this (spoken ∙ rw same refl, ranged)
+    constant k name spoken ranged same is = grind arith
 
 handed_pair_is : (word given : List ℕ) (how : HandOver) → handed_pair_read word given ≡ Some how → (handed_words how ≡ word ∷ given ∷ []) × (is_hand_over how ≡ true)
 handed_pair_is word given how is =

@@ -1,5 +1,5 @@
 -- A text is read as one trace at most, and as none where a line begins no happening.
-use Rattle.std.proofs.Common.{◌≡◌, ◌≢◌, ℕ, suc, ◌+◌, ◌<◌, ◌≤◌, Bool, true, false, cond, ◌==◌, ◌&&◌, List, [], ◌∷◌, ◌++◌, length, filter, append-nil, lit<, Option, Some, None, refl, sym, ap, ◌∙◌, arith, length-append}
+use Rattle.std.proofs.Common.{◌≡◌, ◌≢◌, ℕ, suc, ◌+◌, ◌<◌, ◌≤◌, Bool, true, false, cond, ◌==◌, ◌&&◌, List, [], ◌∷◌, ◌++◌, length, filter, append-nil, Option, Some, None, refl, sym, ap, ◌∙◌, arith, length-append}
 use Rattle.std.specs.Option.{option_map, IfSome, IfNone}
 use Rattle.std.proofs.lemmas.Bool.{and_parts, and_from}
 use Rattle.std.proofs.lemmas.List.{append_assoc}
@@ -7,7 +7,6 @@ use Rattle.std.proofs.lemmas.List.Folds.{list_all-append}
 use Rattle.std.proofs.lemmas.Option.{some_pair_parts, none-some}
 use Rattle.text_lines.specs.Lines.{newlines}
 use Rattle.text_lines.proofs.PieceLemmas.{newlines-append}
-use Rattle.trace_events.specs.declared.happenings.Happening.TheVariants.{NewTable}
 use Rattle.trace_events.specs.Event.{Event}
 use Rattle.trace_text.specs.Lines.{event_text, trace_text}
 use Rattle.trace_events.specs.Range.{is_in_range, are_in_range}
@@ -25,8 +24,7 @@ as_begun now found = option_map {U = Begun} (λ parts. (parts.0, now parts.1)) f
 
 -- it begins the text, alone, and where nothing is found nothing does
 pub found_begins : {B : Type 0} (now : B → List ℕ) (text : List ℕ) (found : Option (Event × B)) → as_begun now found ≡ begun text → IfSome found (λ parts. (is_in_range parts.0 ≡ true) × (event_text parts.0 ++ now parts.1 ≡ text))
-found_begins now text None is = tt
-found_begins now text (Some parts) is = text-begun text parts.0 (now parts.1) (sym is)
+found_begins now text found is = grind (arith, text-begun)
 
 pub only_begins : {B : Type 0} (now : B → List ℕ) (text : List ℕ) (found : Option (Event × B)) → as_begun now found ≡ begun text → (h : Event) (more : List ℕ) → is_in_range h ≡ true → event_text h ++ more ≡ text → as_begun now found ≡ Some (h, more)
 only_begins now text found is h more ranged same = is ∙ ap begun (sym same) ∙ begun-text h more ranged
@@ -54,8 +52,7 @@ newlines-few (x ∷ text) = few_by x text (x == 10) (newlines-few text)
 
 -- a happening's text is not empty
 lines_some : (h : Event) → 0 < line_count h
-lines_some (NewTable table) = omega arith
-lines_some _ = lit< tt
+lines_some h = grind arith
 
 pub event_text-some : (h : Event) → is_in_range h ≡ true → 0 < length (event_text h)
 event_text-some h is = omega (arith, newlines-few (event_text h), newlines-event h is, lines_some h)
