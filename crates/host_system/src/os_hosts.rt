@@ -44,12 +44,15 @@ pub struct OsHost<
     R: Processes + Files<File = File> + Clock + Print + Eprint + Drop,
     A: Allocator = Global,
 > {
-    host: Box<SystemHost<R, A>, A>,
+    host: Box<OsHostParts<R, A>, A>,
 }
 
 /// What a host has, which is on the heap: so a host is one word to whoever owns it.
 #[derive(Drop)]
-struct SystemHost<R: Processes + Files<File = File> + Clock + Print + Eprint + Drop, A: Allocator> {
+struct OsHostParts<
+    R: Processes + Files<File = File> + Clock + Print + Eprint + Drop,
+    A: Allocator,
+> {
     rt: R,
     alloc: A,
     children: Box<Children<R, A>, A>,
@@ -75,7 +78,7 @@ impl<R: Processes + Files<File = File> + Clock + Print + Eprint + Drop, A: Alloc
 }
 
 impl<R: Processes + Files<File = File> + Clock + Print + Eprint + Drop, A: Allocator> Model
-    for SystemHost<R, A> {
+    for OsHostParts<R, A> {
     ghost use Rattle.host_system.specs.Hosts.{HostState};
 
     ghost Value = { HostState };
@@ -121,7 +124,7 @@ impl<R: Processes + Files<File = File> + Clock + Print + Eprint + Drop, A: Alloc
         let output = boxed(alloc, Output::new(alloc, program))?;
         let pauses = boxed(alloc, Pauses::of_a_second())?;
         let clock = boxed(alloc, SteadyClock::new(program))?;
-        let host = SystemHost {
+        let host = OsHostParts {
             rt,
             alloc,
             children,
@@ -242,7 +245,7 @@ impl<R: Processes + Files<File = File> + Clock + Print + Eprint + Drop, A: Alloc
 impl<
     R: Processes + Files<File = File> + Clock + Print + Eprint + Drop,
     A: Allocator + Copy,
-> SystemHost<R, A> {
+> OsHostParts<R, A> {
     fn spare(&mut self, path: &str) -> Result<(), Memory>
         ensures { self.new ≡ self.old }
     {

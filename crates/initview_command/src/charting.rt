@@ -84,14 +84,6 @@ impl Asks for Form {
 
     ghost gives = { λ form path writer stop past. (drawing form past, stop_status stop) };
 
-    fn asks_writer(&self) -> bool {
-        false
-    }
-
-    fn nothing(&self, alloc: Global) -> Marks {
-        Marks::new(alloc)
-    }
-
     fn answer(
         &self,
         alloc: Global,

@@ -81,10 +81,6 @@ impl Asks for Reason {
         true
     }
 
-    fn nothing(&self, alloc: Global) -> LastLines {
-        LastLines::new(alloc)
-    }
-
     fn answer(
         &self,
         alloc: Global,

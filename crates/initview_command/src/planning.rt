@@ -52,14 +52,6 @@ impl Asks for Timing {
     ghost gives = { λ asked path writer stop past.
         timing_answer asked.level asked.table stop past };
 
-    fn asks_writer(&self) -> bool {
-        false
-    }
-
-    fn nothing(&self, alloc: Global) -> Marks {
-        Marks::new(alloc)
-    }
-
     fn answer(
         &self,
         alloc: Global,

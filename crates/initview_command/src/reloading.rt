@@ -95,12 +95,6 @@ impl Asks for Reload {
     ghost gives = { λ asked path writer stop past.
         reload_answer asked.old asked.new asked.level stop past };
 
-    fn asks_writer(&self) -> bool {
-        false
-    }
-
-    fn nothing(&self, _alloc: Global) {}
-
     fn answer(
         &self,
         alloc: Global,

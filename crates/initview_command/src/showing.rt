@@ -29,11 +29,9 @@ pub(crate) trait Asks {
     ghost gives: { Self → List ℕ → Writer → Option Stop → List Event → List ℕ × ℕ };
 
     /// Whether it is told that nobody writes the trace.
-    fn asks_writer(&self) -> bool;
-
-    /// What has seen nothing.
-    fn nothing(&self, alloc: Global) -> Self::Seen
-        ensures { Self.Seen.has_seen result [] };
+    fn asks_writer(&self) -> bool {
+        false
+    }
 
     /// What is written, and the exit status.
     fn answer(
@@ -58,22 +56,20 @@ struct FileText<S: Sees<Global> + Drop> {
 
 impl<S: Sees<Global> + Drop> FileText<S> {
     /// A text of which nothing was taken, nor seen.
-    fn new(alloc: Global, seen: S) -> FileText<S>
-        requires { S.has_seen seen [] }
+    fn new(alloc: Global) -> FileText<S>
         ensures { HasSeenText S.has_seen result.text [] }
     {
         FileText {
-            text: SeenText::new(alloc, seen),
+            text: SeenText::new(alloc),
         }
     }
 }
 
 /// The same on the heap: a function that has one in its frame is dear to prove.
-fn file_text<S: Sees<Global> + Drop>(alloc: Global, seen: S) -> Result<Box<FileText<S>>, AllocError>
-    requires { S.has_seen seen [] }
+fn file_text<S: Sees<Global> + Drop>(alloc: Global) -> Result<Box<FileText<S>>, AllocError>
     ensures { IfOk result (λ file. HasSeenText S.has_seen file.value.text []) }
 {
-    Ok(Box::new(alloc, FileText::new(alloc, seen))?)
+    Ok(Box::new(alloc, FileText::new(alloc))?)
 }
 
 impl<S: Sees<Global> + Drop> PieceTaker for FileText<S> {
@@ -172,8 +168,6 @@ impl Asks for Question {
         true
     }
 
-    fn nothing(&self, _alloc: Global) {}
-
     fn answer(
         &self,
         alloc: Global,
@@ -202,7 +196,7 @@ pub(crate) fn show_file<T: Texts, G: GrowingTexts, Q: Asks, W: Write, E: Write>(
     ensures { Shows (T.text_at texts.now) (G.writer_at growing.now) path.now
         (Q.gives asked.now path.now) result (W.contents out.old) (W.contents out.new) }
 {
-    match file_text(alloc, asked.nothing(alloc)) {
+    match file_text(alloc) {
         Ok(mut file) => show_text(texts, growing, alloc, path, asked, &mut file, out, err),
         Err(_) => report_memory(err),
     }

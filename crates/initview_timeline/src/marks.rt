@@ -1,6 +1,6 @@
 //! What a timeline shows of a trace, and when.
 
-ghost use Rattle.std.specs.Prelude.{◌≡◌, ◌∷◌, ◌++◌, [], List, OnOk};
+ghost use Rattle.std.specs.Prelude.{◌≡◌, ◌∷◌, ◌++◌, List, OnOk};
 ghost use Rattle.trace_events.specs.Event.{Event};
 ghost use Rattle.trace_events.specs.Past.{time_of};
 ghost use Rattle.trace_view.specs.Viewing.{Viewed};
@@ -114,17 +114,6 @@ impl<A: Allocator> Model for Marks<A> {
     ghost view = { λ m. m.marks.items };
 }
 
-impl<A: Allocator + Copy> Marks<A> {
-    /// No marks. They take no memory.
-    pub fn new(alloc: A) -> Marks<A>
-        ensures { result ≡ [] }
-    {
-        Marks {
-            marks: Vec::new(alloc),
-        }
-    }
-}
-
 impl<A: Allocator> Marks<A> {
     pub fn as_slice(&self) -> &[Mark]
         ensures { result.now ≡ self.now }
@@ -133,11 +122,17 @@ impl<A: Allocator> Marks<A> {
     }
 }
 
-impl<A: Allocator> Sees<A> for Marks<A> {
+impl<A: Allocator + Copy> Sees<A> for Marks<A> {
     ghost use Rattle.std.specs.Prelude.{◌≡◌};
     ghost use Rattle.initview_timeline.specs.Marks.{marks_of};
 
     ghost has_seen = { λ marks past. marks ≡ marks_of past };
+
+    fn new(alloc: A) -> Marks<A> {
+        Marks {
+            marks: Vec::new(alloc),
+        }
+    }
 
     fn see(
         &mut self,

@@ -2,17 +2,20 @@
 //! System Initialization).
 #![tactic(auto)]
 
-use program_io::{StandardFiles, report_unread_words, words};
-use rc_command::{SHORT_USAGE, SystemFiles, SystemHosts, run_words};
+use program_io::{StandardFiles, report_no_memory, report_unread_words, words};
+use rc_command::{OsFiles, SHORT_USAGE, os_host, run_words};
 use std::process::ExitCode;
 
 fn main(rt: HostRuntime) -> ExitCode {
     let _standard = StandardFiles::hold(&rt);
+    let Ok(mut host) = os_host(rt, rt.alloc()) else {
+        return ExitCode::from(report_no_memory("rc", &mut rt.stderr()));
+    };
     let status = match words(&rt, rt.alloc()) {
         Ok(words) => run_words(
-            &mut SystemHosts::new(rt),
+            &mut host,
             &rt,
-            &mut SystemFiles::new(&rt),
+            &mut OsFiles::new(&rt),
             rt.alloc(),
             words,
             &mut rt.stdout(),

@@ -33,18 +33,18 @@ pub trait LevelFiles {
 
 /// The files of the operating system. Nothing is known of their texts.
 #[derive(Drop)]
-pub struct SystemFiles<'r, R> {
+pub struct OsFiles<'r, R> {
     rt: &'r R,
 }
 
-impl<'r, R: Files> SystemFiles<'r, R> {
+impl<'r, R: Files> OsFiles<'r, R> {
     /// The files that this system has.
-    pub fn new(rt: &'r R) -> SystemFiles<'r, R> {
-        SystemFiles { rt }
+    pub fn new(rt: &'r R) -> OsFiles<'r, R> {
+        OsFiles { rt }
     }
 }
 
-impl<'r, R: Files> LevelFiles for SystemFiles<'r, R> {
+impl<'r, R: Files> LevelFiles for OsFiles<'r, R> {
     ghost use Rattle.std.specs.Prelude.{None};
 
     ghost file_at = { λ _ _. None };

@@ -16,7 +16,6 @@ ghost use Rattle.rc_command.specs.Endings.{IsSilent, RunsNames, RunsSaid, RunsSc
 
 use crate::command::{RunOptions, Words, entering, read_words};
 use crate::folders::{Folders, folder_of, previous_names};
-use crate::hosts::ScriptHosts;
 use crate::level_files::{LevelFiles, level_in};
 use command_words::{WordFault, is_version, print_version, report_word_fault};
 use host_calls::Host;
@@ -61,9 +60,9 @@ pub const SHORT_USAGE: &str =
 /// one written there, the output fails or memory runs out. The version is written on `out`, where the words are
 /// `--version` alone; or a line for each script at its end, with `-v` at its start too, with `-n` what would start it; a
 /// fault is reported on `err`. The children are
-/// those of a host of `hosts`, the folders are listed by `folders`, and the file of the levels is one of `levels`.
-pub fn run_words<H, S, F, L, W, E>(
-    hosts: &mut S,
+/// those of the host, the folders are listed by `folders`, and the file of the levels is one of `levels`.
+pub fn run_words<H, F, L, W, E>(
+    host: &mut H,
     folders: &F,
     levels: &mut L,
     alloc: Global,
@@ -72,8 +71,7 @@ pub fn run_words<H, S, F, L, W, E>(
     err: &mut E,
 ) -> u8
 where
-    H: Host + Drop,
-    S: ScriptHosts<H>,
+    H: Host,
     F: Folders,
     L: LevelFiles,
     W: Write,
@@ -94,16 +92,16 @@ where
         ⊎ Asks (L.file_at levels.old) (map string_bytes words.items) (λ said. ReportsPart
         (F.names_at folders.now) said (W.contents out.old) (W.contents out.new)) }
     // Nothing was run and nothing asked of a host, or it is a call of `run_names` over the names in the two folders, with
-    // the calls that the hosts tell; behind it the level is kept.
+    // the calls that the host tells; behind it the level is kept.
     ensures ran { asks_version (map string_bytes words.items) ≡ false
         → (((result ≡ REFUSED) ⊎ (result ≡ DEVICE_FAULT)) × (out.new ≡ out.old)
-        × (S.told hosts.new ≡ S.told hosts.old))
+        × (H.told host.new ≡ H.told host.old))
         ⊎ Says (map string_bytes words.items) (λ asked. RunsAsked (L.file_at levels.old)
-        (F.names_at folders.now) asked (S.told hosts.old) (S.told hosts.new)
+        (F.names_at folders.now) asked (H.told host.old) (H.told host.new)
         (W.contents out.old) (E.contents err.old) result
         (W.contents out.new) (E.contents err.new)) }
     ensures unasked { asks_version (map string_bytes words.items) ≡ true
-        → S.told hosts.new ≡ S.told hosts.old }
+        → H.told host.new ≡ H.told host.old }
     // The new level stands in the file that is named, where all scripts were carried out; else each file is as it was.
     ensures kept { asks_version (map string_bytes words.items) ≡ false → IsWhole result
         → Says (map string_bytes words.items)
@@ -117,7 +115,7 @@ where
         return print_version("rc", out, err);
     }
     match read_words(alloc, words.as_slice()) {
-        Ok(said) => run_asked(hosts, folders, levels, alloc, &said, out, err),
+        Ok(said) => run_asked(host, folders, levels, alloc, &said, out, err),
         Err(fault) => report_word_fault("rc", &fault, usage_for(&fault), err),
     }
 }
@@ -134,8 +132,8 @@ fn usage_for(fault: &WordFault) -> &'static str
 }
 
 /// Runs the scripts that words ask for, behind the level before, and keeps the new one.
-fn run_asked<H: Host + Drop, S: ScriptHosts<H>, F: Folders, L: LevelFiles, W: Write, E: Write>(
-    hosts: &mut S,
+fn run_asked<H: Host, F: Folders, L: LevelFiles, W: Write, E: Write>(
+    host: &mut H,
     folders: &F,
     levels: &mut L,
     alloc: Global,
@@ -150,9 +148,9 @@ fn run_asked<H: Host + Drop, S: ScriptHosts<H>, F: Folders, L: LevelFiles, W: Wr
     ensures part { (out.new ≡ out.old) ⊎ AsksFor (L.file_at levels.old) (said_of said.now) (λ said.
         ReportsPart (F.names_at folders.now) said (W.contents out.old) (W.contents out.new)) }
     ensures ran { ((result ≡ DEVICE_FAULT) × (out.new ≡ out.old)
-        × (S.told hosts.new ≡ S.told hosts.old))
+        × (H.told host.new ≡ H.told host.old))
         ⊎ RunsAsked (L.file_at levels.old) (F.names_at folders.now) (said_of said.now)
-        (S.told hosts.old) (S.told hosts.new) (W.contents out.old) (E.contents err.old) result
+        (H.told host.old) (H.told host.new) (W.contents out.old) (E.contents err.old) result
         (W.contents out.new) (E.contents err.new) }
     ensures kept { IsWhole result
         → Keeps (said_of said.now) (L.file_at levels.old) (L.file_at levels.new) }
@@ -168,7 +166,7 @@ fn run_asked<H: Host + Drop, S: ScriptHosts<H>, F: Folders, L: LevelFiles, W: Wr
     };
     let options = entering(said.sysv, passage, said.options);
     let status = run(
-        hosts,
+        host,
         folders,
         alloc,
         said.dir.as_str(),
@@ -274,8 +272,8 @@ fn report_unkept<E: Write>(path: &str, error: &io::Error, err: &mut E) -> u8
 }
 
 /// Runs the scripts of the new level's folder.
-fn run<H: Host + Drop, S: ScriptHosts<H>, F: Folders, W: Write, E: Write>(
-    hosts: &mut S,
+fn run<H: Host, F: Folders, W: Write, E: Write>(
+    host: &mut H,
     folders: &F,
     alloc: Global,
     dir: &str,
@@ -290,10 +288,10 @@ fn run<H: Host + Drop, S: ScriptHosts<H>, F: Folders, W: Write, E: Write>(
     ensures part { (out.new ≡ out.old) ⊎ ReportsPart (F.names_at folders.now)
         (said_at dir.now passage options) (W.contents out.old) (W.contents out.new) }
     ensures ran { ((result ≡ DEVICE_FAULT) × (out.new ≡ out.old)
-        × (S.told hosts.new ≡ S.told hosts.old))
-        ⊎ ((options.dry ≡ true → S.told hosts.new ≡ S.told hosts.old)
+        × (H.told host.new ≡ H.told host.old))
+        ⊎ ((options.dry ≡ true → H.told host.new ≡ H.told host.old)
         × (options.dry ≡ false → RunsSaid (F.names_at folders.now) (said_at dir.now passage options)
-        (S.told hosts.old) (S.told hosts.new) (W.contents out.old) (E.contents err.old) result
+        (H.told host.old) (H.told host.new) (W.contents out.old) (E.contents err.old) result
         (W.contents out.new) (E.contents err.new))) }
 {
     let Ok(path) = folder_of(alloc, dir, passage.new) else {
@@ -304,9 +302,9 @@ fn run<H: Host + Drop, S: ScriptHosts<H>, F: Folders, W: Write, E: Write>(
         Err(error) => return report_unlisted(dir, &error, err),
     };
     match folders.names(alloc, path.as_str()) {
-        Ok(names) => run_children(
-            hosts,
+        Ok(names) => run_names(
             alloc,
+            host,
             path.as_str(),
             &previous,
             &names,
@@ -316,40 +314,6 @@ fn run<H: Host + Drop, S: ScriptHosts<H>, F: Folders, W: Write, E: Write>(
         ),
         Err(error) => report_unlisted(path.as_str(), &error, err),
     }
-}
-
-/// Runs the scripts of a folder as children of a host.
-fn run_children<H: Host + Drop, S: ScriptHosts<H>, W: Write, E: Write>(
-    hosts: &mut S,
-    alloc: Global,
-    path: &str,
-    previous: &[String],
-    names: &[String],
-    options: RunOptions,
-    out: &mut W,
-    err: &mut E,
-) -> u8
-    ensures statuses { IsWhole result ⊎ (result ≡ LIMIT_REACHED) ⊎ (result ≡ DEVICE_FAULT) }
-    ensures done { IsWhole result → ReportsNames options path.now
-        (map string_bytes previous.now) (map string_bytes names.now) (W.contents out.old) result
-        (W.contents out.new) }
-    ensures part { (out.new ≡ out.old) ⊎ ReportsFirst options path.now
-        (map string_bytes previous.now) (map string_bytes names.now) (W.contents out.old)
-        (W.contents out.new) }
-    ensures ran { ((result ≡ DEVICE_FAULT) × (out.new ≡ out.old)
-        × (S.told hosts.new ≡ S.told hosts.old))
-        ⊎ ((options.dry ≡ true → S.told hosts.new ≡ S.told hosts.old)
-        × (options.dry ≡ false → Since (S.told hosts.old) (S.told hosts.new) (RunsNames options
-        path.now (map string_bytes previous.now) (map string_bytes names.now)
-        (W.contents out.old) (E.contents err.old) result (W.contents out.new)
-        (E.contents err.new)))) }
-{
-    let Ok(mut host) = hosts.open(alloc) else {
-        return report_no_memory("rc", err);
-    };
-    let status = run_names(alloc, &mut host, path, previous, names, options, out, err);
-    hosts.close(host);
-    status
 }
 
 /// Runs the scripts of the folder at `path` over a host, from the names in the folder of the previous level and in it,

@@ -3,7 +3,7 @@
 #![tactic(auto)]
 
 use program_io::{StandardFiles, report_unread_words, words};
-use rclinks_command::{SHORT_USAGE, SystemFolders, run_words};
+use rclinks_command::{OsFolders, SHORT_USAGE, run_words};
 use std::alloc::Global;
 use std::fs::{read_dir, read_link};
 use std::io;
@@ -35,7 +35,7 @@ fn main(rt: HostRuntime) -> ExitCode {
             let facilities = facilities(&rt, alloc).unwrap_or(Vec::new(alloc));
             run_words(
                 &rt,
-                &mut SystemFolders::new(&rt),
+                &mut OsFolders::new(&rt),
                 alloc,
                 facilities.as_slice(),
                 words.as_slice(),

@@ -43,18 +43,18 @@ pub trait LinkFolders {
 
 /// The folders of the operating system. Nothing is known of what they hold.
 #[derive(Drop)]
-pub struct SystemFolders<'r, R> {
+pub struct OsFolders<'r, R> {
     rt: &'r R,
 }
 
-impl<'r, R: Files + Alloc + Clone + Drop> SystemFolders<'r, R> {
+impl<'r, R: Files + Alloc + Clone + Drop> OsFolders<'r, R> {
     /// The folders that this system has.
-    pub fn new(rt: &'r R) -> SystemFolders<'r, R> {
-        SystemFolders { rt }
+    pub fn new(rt: &'r R) -> OsFolders<'r, R> {
+        OsFolders { rt }
     }
 }
 
-impl<'r, R: Files + Alloc + Clone + Drop> LinkFolders for SystemFolders<'r, R> {
+impl<'r, R: Files + Alloc + Clone + Drop> LinkFolders for OsFolders<'r, R> {
     ghost use Rattle.std.specs.Prelude.{None};
 
     ghost held = { λ _ _ _. None };

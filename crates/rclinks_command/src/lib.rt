@@ -17,5 +17,5 @@ mod writing;
 
 pub use command::{SHORT_USAGE, USAGE, run_words};
 pub use files::{FileFault, script_in};
-pub use folders::{LinkFolders, SystemFolders};
+pub use folders::{LinkFolders, OsFolders};
 pub use kept_links::KeptLinks;

@@ -1,38 +1,13 @@
 //! Whole command lines of rc over a scripted host and folders in memory: which calls a run makes of its host, and what
 //! can't be written.
 
-ghost use Rattle.std.specs.Prelude.{option_and_then};
-
 use crate::hosts::{fields_of, given_host, has_calls};
 use command_words::{KIT, VERSION};
-use host_calls::Host;
 use host_scripted::MemoryHost;
-use init_words::Memory;
-use rc_command::{Folders, KeptFolders, KeptLevel, LevelFiles, ScriptHosts, run_words};
-use std::alloc::{AllocError, Global};
+use rc_command::{Folders, KeptFolders, KeptLevel, LevelFiles, run_words};
+use std::alloc::Global;
 use std::test::Fail;
-use test_support::{Slow, boxed, line_words};
-
-/// A source of one host, which is there again behind the run.
-#[derive(Drop)]
-struct OneHost {
-    host: Option<MemoryHost>,
-}
-
-impl ScriptHosts<MemoryHost> for OneHost {
-    ghost told = { λ one. option_and_then ⟦<MemoryHost as Host>⟧.told one.host };
-
-    fn open(&mut self, _alloc: Global) -> Result<MemoryHost, Memory> {
-        match self.host.take() {
-            Some(host) => Ok(host),
-            None => Err(Memory),
-        }
-    }
-
-    fn close(&mut self, host: MemoryHost) {
-        self.host = Some(host);
-    }
-}
+use test_support::{Slow, line_words};
 
 /// Parted by `|`: a command line; the scripts in the folders `k/rc3.d` and so on; what the host is given; the room of
 /// the writer; the status; what is written, VERSION for the version's line, as far as there is room; what is told; the
@@ -68,11 +43,6 @@ fn folders_of(own: Global, scripts: &str) -> Option<KeptFolders> {
     Some(folders)
 }
 
-fn one_host(own: Global, host: Box<MemoryHost>) -> Result<Box<OneHost>, AllocError> {
-    let host = Some(Box::into_inner(host));
-    boxed(own, OneHost { host })
-}
-
 /// What is told is this, or begins with what stands before a star.
 fn is_told(err: &[u8], want: &str) -> bool {
     match want.split_once('*') {
@@ -93,7 +63,7 @@ fn has_level(own: Global, level: &KeptLevel, want: &str) -> bool {
 /// The run ends with what the row says, and writes and tells that, with the line of the version where that is written.
 fn is_run(
     own: Global,
-    hosts: &mut OneHost,
+    host: &mut MemoryHost,
     level: &mut KeptLevel,
     row: &[&str],
     version: &str,
@@ -105,7 +75,7 @@ fn is_run(
     let words = line_words(own, line).ok()?;
     let mut lines = Slow::new(own, room.parse::<usize>().ok()?, true, false);
     let mut told: Vec<u8> = Vec::new(own);
-    let ended = run_words(hosts, &folders, level, own, words, &mut lines, &mut told);
+    let ended = run_words(host, &folders, level, own, words, &mut lines, &mut told);
     let written = if *out == "VERSION" { version } else { *out };
     let is_ended = ended == status.parse::<u8>().ok()?;
     Some(is_ended && lines.has_line(written) && is_told(&told, err))
@@ -116,10 +86,10 @@ fn is_row(own: Global, row: &str, version: &str) -> Option<bool> {
     let [_, _, given, .., calls, kept] = fields.as_slice() else {
         return None;
     };
-    let mut hosts = one_host(own, given_host(own, given)?).ok()?;
+    let mut host = given_host(own, given)?;
     let mut level = KeptLevel::new(own, "level").ok()?;
-    let is_run = is_run(own, &mut hosts, &mut level, fields.as_slice(), version)?;
-    Some(is_run && has_calls(hosts.host.as_ref()?, calls) && has_level(own, &level, kept))
+    let is_run = is_run(own, &mut host, &mut level, fields.as_slice(), version)?;
+    Some(is_run && has_calls(&host, calls) && has_level(own, &level, kept))
 }
 
 #[test]

@@ -108,9 +108,8 @@ const SEEN: &[u8] =
 fn seen_over<'h, S: Sees<&'h LocalHeap> + Drop>(
     own: Global,
     heap: &'h LocalHeap,
-    seen: S,
 ) -> Result<Box<SeenText<S, &'h LocalHeap>>, AllocError> {
-    boxed(own, SeenText::new(heap, seen))
+    boxed(own, SeenText::new(heap))
 }
 
 /// Hands the trace over in pieces.
@@ -125,7 +124,7 @@ fn take_all<'h, S: Sees<&'h LocalHeap> + Drop>(
 
 /// Whether a heap has room for the view and the last lines; where it has, the child of `r` is born at line 8.
 fn are_lines_seen(own: Global, heap: &LocalHeap) -> Option<bool> {
-    let mut text = seen_over(own, heap, LastLines::new(heap)).ok()?;
+    let mut text = seen_over::<LastLines<&LocalHeap>>(own, heap).ok()?;
     if take_all(&mut text).is_err() {
         return Some(false);
     }
@@ -136,7 +135,7 @@ fn are_lines_seen(own: Global, heap: &LocalHeap) -> Option<bool> {
 
 /// Whether a heap has room for the view and the marks; where it has, all are there: three stages, and two children.
 fn are_marks_seen(own: Global, heap: &LocalHeap) -> Option<bool> {
-    let mut text = seen_over(own, heap, Marks::new(heap)).ok()?;
+    let mut text = seen_over::<Marks<&LocalHeap>>(own, heap).ok()?;
     if take_all(&mut text).is_err() {
         return Some(false);
     }

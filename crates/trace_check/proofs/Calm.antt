@@ -5,14 +5,11 @@ use Rattle.std.specs.Map.{keys_of}
 use Rattle.std.specs.Option.{option_map, option_map_or}
 use Rattle.std.proofs.lemmas.Bool.{and_parts, false≢true, not-true}
 use Rattle.std.proofs.lemmas.Map.Made.{is_some-lookup}
-use Rattle.init_words.specs.declared.actions.Act.{Act}
 use Rattle.init_words.specs.declared.entries.Entry.{Entry}
 use Rattle.init_words.specs.declared.stages.Stage.{Stage}
 use Rattle.init_words.specs.declared.levels.Level.{Level}
-use Rattle.init_words.specs.declared.levels.Mark.{Mark}
-use Rattle.init_words.specs.Actions.{starts_by, lives_by}
 use Rattle.init_words.specs.Ids.{same_id}
-use Rattle.init_words.proofs.Same.{same_id-is, same_act-self}
+use Rattle.init_words.proofs.Same.{same_id-is}
 use Rattle.init_words.proofs.Tests.{any_less, falsely, not_from}
 use Rattle.inittab_text.specs.Tables.{entry_of, act_of}
 use Rattle.trace_events.specs.declared.happenings.Happening.TheVariants.{NewTable, Enter, Settle, Birth, Reaped}
@@ -33,8 +30,7 @@ pub calm_none : (calm : Bool) (table : List Entry) (s : JudgeState) → IsCalm c
 calm_none calm table s known is = not_from (list_any (is_excluded_in table s) (keys_of s.children)) (none_among (is_excluded_in table s) (known is) (keys_of s.children))
 
 there : (o : Option UnreapedChild) (p : UnreapedChild → Bool) → option_map_or p o false ≡ true → is_some o ≡ true
-there None p h = absurd (false≢true h)
-there (Some living) p h = refl
+there o p h = grind arith
 
 none_each : (table : List Entry) (s : JudgeState) → none_excluded_in table s ≡ true → (id : List ℕ) → is_excluded_in table s id ≡ false
 none_each table s none id = falsely (is_excluded_in table s id) (list_any (is_excluded_in table s) (keys_of s.children)) listed (not-true (list_any (is_excluded_in table s) (keys_of s.children)) none)
@@ -44,14 +40,8 @@ none_each table s none id = falsely (is_excluded_in table s id) (list_any (is_ex
         let key : list_any (same_id id) (keys_of s.children) ≡ true = sym (is_some-lookup (same_id id) s.children) ∙ there (at id s.children) (λ living. not (may_live (entry_of id table) living.act s.stage)) is in
         any_less (same_id id) (is_excluded_in table s) (λ k same. ap (is_excluded_in table s) (sym (same_id-is id k same)) ∙ is) (keys_of s.children) key
 
--- a child may live where its entry starts
-starts_live : (action : Act) (levels : List Mark) (now : Stage) → starts_by action levels now ≡ true → lives_by action levels now ≡ true
-starts_live action levels now h = grind arith
-
 newborn_lives : (entry : Option Entry) (stage : Option Stage) → option_map_or (λ e. starts_in e stage) entry false ≡ true → not (may_live entry (option_map (λ (e : Entry). e.act) entry) stage) ≡ false
-newborn_lives None stage h = absurd (false≢true h)
-newborn_lives (Some e) None h = absurd (false≢true h)
-newborn_lives (Some e) (Some stage) h = rw (same_act-self e.act, starts_live e.act e.levels.items stage h) refl
+newborn_lives entry stage h = grind arith
 
 -- what a lawful birth and a lawful settling say
 no_law : (b : Bool) (law : ℕ) → cond (not b) (Some law) None ≡ None → b ≡ true

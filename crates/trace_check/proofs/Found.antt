@@ -1,5 +1,5 @@
 -- The entries of a table in which no id stands twice, each found by its id.
-use Rattle.std.proofs.Common.{◌≡◌, refl, sym, ◌∙◌, ap, ℕ, Bool, true, false, not, ◌&&◌, ◌||◌, cond, List, [], ◌∷◌, find, Some}
+use Rattle.std.proofs.Common.{arith, ◌≡◌, refl, sym, ◌∙◌, ap, ℕ, Bool, true, false, not, ◌&&◌, ◌||◌, cond, List, [], ◌∷◌, find, Some}
 use Rattle.std.specs.List.{list_any, list_all}
 use Rattle.std.specs.Option.{option_map_or}
 use Rattle.std.proofs.lemmas.Bool.{and_parts, or_parts, not-true}
@@ -23,13 +23,8 @@ each_weaker P Q r weaker (e ∷ es) none each =
     (weaker e parts.0 each.0, each_weaker P Q r weaker es parts.1 each.1)
 
 each_found : (es : List Entry) → is_distinct es ≡ true → Each (λ e. entry_of e.id es ≡ Some e) es
-each_found [] distinct = tt
-each_found (x ∷ es) distinct =
-    let parts = and_parts (not (list_any (has_id x.id) es)) (is_distinct es) distinct in
-    (ap (λ b. cond b (Some x) (entry_of x.id es)) (same_id-self x.id), each_weaker (λ e. entry_of e.id es ≡ Some e) (λ e. entry_of e.id (x ∷ es) ≡ Some e) (has_id x.id) later es (not-true (list_any (has_id x.id) es) parts.0) (each_found es parts.1))
-  where
-    later : (e : Entry) → has_id x.id e ≡ false → entry_of e.id es ≡ Some e → cond (same_id e.id x.id) (Some x) (entry_of e.id es) ≡ Some e
-    later e differ found = ap (λ b. cond b (Some x) (entry_of e.id es)) (same_id-sym e.id x.id ∙ differ) ∙ found
+each_found [] distinct = grind (arith, same_id-self, each_weaker, not-true, same_id-sym)
+each_found (x ∷ es) distinct = grind (arith, each_found es, same_id-self, each_weaker, not-true, same_id-sym)
 
 each_any : (p q : Entry → Bool) (es : List Entry) → Each (λ e. p e ≡ q e) es → list_any p es ≡ list_any q es
 each_any p q [] same = refl

@@ -1,5 +1,5 @@
 -- The law that a happening breaks by the state is the one that it breaks by the past.
-use Rattle.std.proofs.Common.{◌≡◌, ◌+◌, ◌-◌, refl, sym, ◌∙◌, ap, ℕ, Bool, true, false, not, ◌&&◌, ◌||◌, cond, nat_le, nat_lt, List, slice_get, take, find, Option, Some, None, is_some}
+use Rattle.std.proofs.Common.{arith, ◌≡◌, ◌-◌, refl, sym, ◌∙◌, ap, ℕ, Bool, true, false, not, ◌&&◌, ◌||◌, cond, nat_lt, List, slice_get, take, find, Option, Some, is_some}
 use Rattle.std.specs.List.{list_any, list_all}
 use Rattle.std.specs.Map.{keys_of}
 use Rattle.std.specs.Option.{option_map, option_map_or}
@@ -8,16 +8,11 @@ use Rattle.std.proofs.lemmas.Map.Made.{is_some-lookup}
 use Rattle.respawn_limit.specs.declared.TheConstants.{HOLD, STARTS, WINDOW}
 use Rattle.init_words.specs.declared.entries.Entry.{Entry}
 use Rattle.init_words.specs.declared.levels.Level.{Level}
-use Rattle.init_words.specs.declared.levels.Mark.TheVariants.{At}
-use Rattle.init_words.specs.declared.orders.OrderKind.TheVariants.{Start, Term, Kill}
 use Rattle.init_words.specs.Ids.{same_id}
-use Rattle.init_words.specs.Levels.{names}
-use Rattle.init_words.specs.Actions.{served_by}
 use Rattle.inittab_text.specs.Tables.{entry_of, is_distinct}
-use Rattle.trace_events.specs.declared.happenings.Happening.TheVariants.{Asked, Hold, Settle, Birth}
 use Rattle.trace_events.specs.Event.{Event}
 use Rattle.trace_events.specs.Past.{table_of, stage_of, grace_of, time_of, Child, is_of, has_child, unreaped_children}
-use Rattle.trace_events.specs.Wanted.{starts_in, is_asked, is_called, is_wanted, is_owed, is_excluded, may_live, entries_before}
+use Rattle.trace_events.specs.Wanted.{starts_in, is_called, is_wanted, is_owed, is_excluded, may_live, entries_before}
 use Rattle.trace_events.specs.Wishes.{is_level}
 use Rattle.trace_events.specs.Spells.{is_ripe, spell_hits}
 use Rattle.trace_events.specs.Timing.{start_times, hold_times, is_held, is_full}
@@ -31,7 +26,7 @@ use Rattle.trace_check.specs.State.{JudgeState, at, among}
 use Rattle.trace_check.specs.Flaws.{is_alive, is_excluded_in, none_excluded_in, is_placed_in, is_wanted_in, is_owed_in, is_in_turn_in, is_held_in, is_full_in, is_free_in, is_due_hold_in, is_served_in, is_settled_in, is_over_in, may_kill_in, flaw_in}
 use Rattle.trace_check.proofs.Lone.{found_test, by_child}
 use Rattle.trace_check.proofs.Found.{found_all, found_before, first_before}
-use Rattle.trace_check.specs.Reading.{child_of, living_of, least_term, term_of, newest, Reads}
+use Rattle.trace_check.specs.Reading.{child_of, living_of, newest, Reads}
 use Rattle.trace_check.proofs.Windows.{full_by_last, held_by_last}
 use Rattle.trace_check.proofs.Terms.{over_age, ripe_least}
 
@@ -101,14 +96,7 @@ module _ (s : JudgeState) (past : List Event) (r : Reads s past) (lone : (id : L
   due_hold id = ap (λ b. is_limited_id id past && not b && is_full_in s id) (held s past r id) ∙ ap (λ b. is_limited_id id past && not (is_held id past) && b) (full s past r id)
 
   served : (level : Level) (e : Entry) → entry_of e.id (table_of past) ≡ Some e → is_served_in level s e ≡ is_served level (unreaped_children past) past e
-  served level e found =
-      ap (λ b. not b && rest (among e.id s.asked) (is_alive s e.id) (is_held_in s e.id)) (owed s past r e found)
-      ∙ ap (λ b. not (is_owed e past) && rest b (is_alive s e.id) (is_held_in s e.id)) (r.asked e.id)
-      ∙ ap (λ b. not (is_owed e past) && rest (is_asked e.id past) b (is_held_in s e.id)) (alive e.id)
-      ∙ ap (λ b. not (is_owed e past) && rest (is_asked e.id past) (has_child e.id (unreaped_children past)) b) (held s past r e.id)
-    where
-      rest : Bool → Bool → Bool → Bool
-      rest asked there held = not (names (At level) e.levels.items) || served_by e.act asked (there || held)
+  served level e found = grind (arith, owed, alive, held)
 
   pub settled : (level : Level) → is_settled_in level (table_of past) s ≡ is_settled level (unreaped_children past) past
   settled level =
@@ -120,24 +108,10 @@ module _ (s : JudgeState) (past : List Event) (r : Reads s past) (lone : (id : L
   may_be_termed id = excluded id ∙ sym (lone_any (is_of id) (is_excluded past) (unreaped_children past) (lone id))
 
   over : (id : List ℕ) → is_over_in s id ≡ option_map_or (is_ripe_child past) (child_of id past) false
-  over id = aged (r.termed id) ∙ by_child (λ x o. option_map_or (λ told. nat_le told s.time && nat_le s.grace (s.time - told)) (term_of past o) false ≡ option_map_or (is_ripe_child past) o false) (λ x. refl) child id past where
-    aged : at id s.termed ≡ term_of past (child_of id past) → is_over_in s id ≡ option_map_or (λ told. nat_le told s.time && nat_le s.grace (s.time - told)) (term_of past (child_of id past)) false
-    aged is = ap (λ o. option_map_or (λ told. nat_le told s.time && nat_le s.grace (s.time - told)) o false) is
-
-    sum : (o : Option ℕ) → option_map_or (λ told. nat_le told s.time && nat_le s.grace (s.time - told)) o false ≡ option_map_or (λ told. nat_le (told + s.grace) s.time) o false
-    sum None = refl
-    sum (Some told) = over_age s.grace s.time told
-
-    child : (c : Child) → option_map_or (λ told. nat_le told s.time && nat_le s.grace (s.time - told)) (least_term (spell_hits c past)) false ≡ is_ripe_child past c
-    child c =
-        let least : Option ℕ = least_term (spell_hits c past) in
-        sum least ∙ ap (λ grace. option_map_or (λ told. nat_le (told + grace) s.time) least false) r.grace
-        ∙ ap (λ now. option_map_or (λ told. nat_le (told + grace_of past) now) least false) r.time
-        ∙ sym (ripe_least (grace_of past) (time_of past) (spell_hits c past))
+  over id = grind (arith, by_child, over_age, ripe_least)
 
   both_found : (p q : Child → Bool) (o : Option Child) → (option_map_or p o false && option_map_or q o false) ≡ option_map_or (λ c. p c && q c) o false
-  both_found p q None = refl
-  both_found p q (Some c) = refl
+  both_found p q o = grind arith
 
   may_be_killed : (id : List ℕ) → may_kill_in (table_of past) s id ≡ may_kill id past
   may_be_killed id =
@@ -152,10 +126,6 @@ module _ (s : JudgeState) (past : List Event) (r : Reads s past) (lone : (id : L
 
   -- the flaw is the law that is broken
   pub flaw_reads : (happening : Event) → flaw_in (table_of past) s happening ≡ broken happening past
-  flaw_reads (Birth id number) = rw (alive id, placed id, in_turn id, any_excluded) (not_not (has_child id (unreaped_children past)) _ _)
-  flaw_reads (Settle level) = ap (λ b. cond (not b) (Some 5) None) (settled level)
-  flaw_reads (Asked id Start) = ap (λ b. cond (not b) (Some 6) None) (free id)
-  flaw_reads (Hold id) = ap (λ b. cond (not b) (Some 6) None) (due_hold id)
-  flaw_reads (Asked id Term) = ap (λ b. cond (not b) (Some 7) None) (may_be_termed id)
-  flaw_reads (Asked id Kill) = ap (λ b. cond (not b) (Some 7) None) (may_be_killed id)
-  flaw_reads _ = refl
+  flaw_reads happening =
+      grind (arith, alive, placed, in_turn, any_excluded, not_not, settled, free, due_hold, may_be_termed,
+          may_be_killed)

@@ -1,5 +1,5 @@
 -- What a happening makes of each part of the state is what the longer past says.
-use Rattle.std.proofs.Common.{◌≡◌, refl, sym, ◌∙◌, ap, lit≤, ℕ, ◌-◌, Bool, true, false, not, ◌&&◌, ◌||◌, cond, List, [], ◌∷◌, ◌++◌, filter, take, take-take, Option, Some, None}
+use Rattle.std.proofs.Common.{arith, ◌≡◌, refl, sym, ◌∙◌, ap, ℕ, ◌-◌, Bool, true, false, not, ◌&&◌, ◌||◌, cond, List, [], ◌∷◌, ◌++◌, filter, take, Option, Some, None}
 use Rattle.std.specs.List.{list_any}
 use Rattle.std.specs.Option.{option_map, option_map_or}
 use Rattle.std.proofs.lemmas.Bool.{not_from_true}
@@ -11,7 +11,7 @@ use Rattle.init_words.specs.declared.orders.OrderKind.TheVariants.{Start, Term}
 use Rattle.init_words.specs.Ids.{same_id}
 use Rattle.init_words.specs.Actions.{stays_called}
 use Rattle.inittab_text.specs.Tables.{has_id, entry_of, is_distinct}
-use Rattle.trace_events.specs.declared.happenings.Happening.TheVariants.{NewTable, Enter, Call, Power, Asked, Hold, Birth, Hit, Told, Clock}
+use Rattle.trace_events.specs.declared.happenings.Happening.TheVariants.{NewTable, Enter, Call, Power, Asked, Hit, Told}
 use Rattle.trace_events.specs.Event.{Event}
 use Rattle.trace_events.specs.Past.{table_of, stage_of, grace_of, time_of, Child, is_of, has_child, open_of, unreaped_children, kept_children}
 use Rattle.trace_events.specs.Wanted.{is_order, is_asked, is_called, starts_in}
@@ -26,25 +26,19 @@ use Rattle.trace_check.proofs.Found.{entry_any, id_any}
 use Rattle.trace_check.specs.Reading.{calls_of, has_sent, newest}
 
 pub table_step : (happening : Event) (past : List Event) → table_after happening (table_of past) ≡ table_of (happening ∷ past)
-table_step (NewTable table) past = refl
-table_step _ past = refl
+table_step happening past = grind arith
 
 pub stage_step : (happening : Event) (past : List Event) → stage_after happening (stage_of past) ≡ stage_of (happening ∷ past)
-stage_step (Enter stage grace) past = refl
-stage_step _ past = refl
+stage_step happening past = grind arith
 
 pub grace_step : (happening : Event) (past : List Event) → grace_after happening (grace_of past) ≡ grace_of (happening ∷ past)
-grace_step (Enter stage grace) past = refl
-grace_step _ past = refl
+grace_step happening past = grind arith
 
 pub time_step : (happening : Event) (past : List Event) → time_after happening (time_of past) ≡ time_of (happening ∷ past)
-time_step (Clock reading) past = refl
-time_step _ past = refl
+time_step happening past = grind arith
 
 pub order_step : (happening : Event) (id : List ℕ) (past : List Event) → order_after happening id (open_of id past) ≡ open_of id (happening ∷ past)
-order_step (Asked i ask) id past = refl
-order_step (Told i) id past = refl
-order_step _ id past = refl
+order_step happening id past = grind arith
 
 -- a Told makes the kept children of its id the unreaped ones
 told_kept : (id i : List ℕ) (unreaped kept : List Child) → cond (same_id id i) (has_child i unreaped) (has_child id kept) ≡ has_child id (filter (is_of i) unreaped ++ filter (λ child. not (is_of i child)) kept)
@@ -59,14 +53,10 @@ told_kept id i unreaped kept = split (same_id id i) refl ∙ sym (list_any-appen
       sym (or_false (has_child i unreaped)) ∙ ap (λ b. has_child i unreaped || b) (sym (any_without (is_of i) others (λ child here. not_from_true (is_of i child) here) kept))
       ∙ ap (λ b. b || list_any (is_of i) (filter others kept)) (sym (any_within (is_of i) (is_of i) (λ child here. here) unreaped)) in
       own ∙ ap (λ x. list_any (is_of x) (filter (is_of i) unreaped) || list_any (is_of x) (filter others kept)) (sym is)
-  split false differ =
-      sym (any_within (is_of id) others (λ child here. not_from (is_of i child) (same_id-apart id i child.id differ here)) kept)
-      ∙ ap (λ b. b || list_any (is_of id) (filter others kept)) (sym (any_without (is_of id) (is_of i) (λ child here. same_id-apart id i child.id differ here) unreaped))
+  split false differ = grind (arith, any_within, others, not_from, same_id-apart, any_without)
 
 pub kept_step : (is_alive : List ℕ → Bool) (happening : Event) (id : List ℕ) (past : List Event) → ((i : List ℕ) → is_alive i ≡ has_child i (unreaped_children past)) → kept_after is_alive happening id (has_child id (kept_children past)) ≡ has_child id (kept_children (happening ∷ past))
-kept_step is_alive (Birth i n) id past alive = refl
-kept_step is_alive (Told i) id past alive = ap (λ b. cond (same_id id i) b (has_child id (kept_children past))) (alive i) ∙ told_kept id i (unreaped_children past) (kept_children past)
-kept_step is_alive _ id past alive = refl
+kept_step is_alive happening id past alive = grind (arith, told_kept)
 
 pub asked_step : (happening : Event) (id : List ℕ) (past : List Event) → asked_after (table_of past) happening id (is_asked id past) ≡ is_asked id (happening ∷ past)
 asked_step (Enter stage grace) id past = refl
@@ -76,8 +66,7 @@ asked_step _ id past = refl
 
 -- an entry that is named, or was called before
 named_or : (q r : Entry → Bool) (o : Option Entry) → (option_map_or q o false || option_map_or r o false) ≡ option_map_or (λ e. q e || r e) o false
-named_or q r None = refl
-named_or q r (Some e) = refl
+named_or q r o = grind arith
 
 -- a Start of an id ends the call of its entry, where its action doesn't stay called
 start_ends : (id i : List ℕ) (r : Entry → Bool) (table : List Entry) → ((stays_called_in table id || not (same_id id i)) && option_map_or r (entry_of id table) false) ≡ option_map_or (λ e. (stays_called e.act || not (same_id e.id i)) && r e) (entry_of id table) false
@@ -103,28 +92,14 @@ forgotten true hits = refl
 forgotten false hits = refl
 
 pub sent_step : (open_order : List ℕ → Option OrderKind) (happening : Event) (id : List ℕ) (past : List Event) → ((i : List ℕ) → open_order i ≡ open_of i past) → sent_after open_order happening id (has_sent id past) ≡ has_sent id (happening ∷ past)
-sent_step open_order (Birth i n) id past orders = forgotten (same_id id i) (untold_hits id past)
-sent_step open_order (Told i) id past orders = forgotten (same_id id i) (untold_hits id past)
 sent_step open_order (Hit i) id past orders = split (same_id id i) refl where
   split : (b : Bool) → same_id id i ≡ b → (b && is_order Term (open_order i) || has_sent id past) ≡ list_any (is_order Term) (cond b (open_of id past ∷ untold_hits id past) (untold_hits id past))
   split true same = ap (λ o. is_order Term o || has_sent id past) (orders i ∙ ap (λ x. open_of x past) (sym (same_id-is id i same)))
   split false differ = refl
-sent_step open_order _ id past orders = refl
+sent_step open_order happening id past orders = grind (arith, forgotten)
 
 pub starts_step : (happening : Event) (id : List ℕ) (past : List Event) → starts_after (time_of past) happening id (take STARTS (start_times id past)) ≡ take STARTS (start_times id (happening ∷ past))
-starts_step (NewTable table) id past = refl
-starts_step (Enter stage grace) id past = refl
-starts_step (Asked i Start) id past = split (same_id id i) where
-  split : (b : Bool) → cond b (time_of past ∷ take (STARTS - 1) (take STARTS (start_times id past))) (take STARTS (start_times id past)) ≡ take STARTS (cond b (time_of past ∷ start_times id past) (start_times id past))
-  split true = ap (λ ts. time_of past ∷ ts) (take-take 9 10 (start_times id past) (lit≤ tt))
-  split false = refl
-starts_step _ id past = refl
+starts_step happening id past = grind arith
 
 pub hold_step : (happening : Event) (id : List ℕ) (past : List Event) → hold_after (time_of past) happening id (newest (hold_times id past)) ≡ newest (hold_times id (happening ∷ past))
-hold_step (NewTable table) id past = refl
-hold_step (Enter stage grace) id past = refl
-hold_step (Hold i) id past = split (same_id id i) where
-  split : (b : Bool) → cond b (Some (time_of past)) (newest (hold_times id past)) ≡ newest (cond b (time_of past ∷ hold_times id past) (hold_times id past))
-  split true = refl
-  split false = refl
-hold_step _ id past = refl
+hold_step happening id past = grind arith

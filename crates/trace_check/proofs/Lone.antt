@@ -1,9 +1,8 @@
 -- The child of an id among children of which at most one has the id.
-use Rattle.std.proofs.Common.{◌≡◌, refl, sym, ◌∙◌, ap, subst, ℕ, Bool, true, false, not, ◌||◌, cond, List, [], ◌∷◌, filter, find, Option, Some, None}
+use Rattle.std.proofs.Common.{arith, ◌≡◌, refl, sym, subst, ℕ, Bool, true, false, cond, List, [], ◌∷◌, filter, find, Option, Some, None}
 use Rattle.std.specs.List.{list_any}
 use Rattle.std.specs.Option.{option_map_or}
-use Rattle.std.proofs.lemmas.Bool.{or_left, or_right}
-use Rattle.std.proofs.lemmas.Option.{none-some, same_Some}
+use Rattle.std.proofs.lemmas.Option.{none-some}
 use Rattle.trace_events.specs.Event.{Event}
 use Rattle.trace_events.specs.Past.{Child, is_of, unreaped_children}
 use Rattle.init_words.proofs.Same.{same_id-is}
@@ -14,18 +13,12 @@ use Rattle.trace_check.specs.Reading.{child_of}
 -- what is found passes
 pub found_passes : {X : Type 0} (p : X → Bool) (xs : List X) (x : X) → find p xs ≡ Some x → p x ≡ true
 found_passes p [] x h = absurd (none-some x h)
-found_passes {X} p (y ∷ xs) x h = split (p y) refl (found_passes p xs x) h where
-  split : (b : Bool) → p y ≡ b → (find p xs ≡ Some x → p x ≡ true) → cond b (Some y) (find p xs) ≡ Some x → p x ≡ true
-  split true passes rest h = ap p (sym (same_Some y x h)) ∙ passes
-  split false fails rest h = rest h
+found_passes {X} p (y ∷ xs) x h = grind (arith, found_passes p xs x)
 
 -- what the one that is found passes, one passes
 pub found_test : {X : Type 0} (p q : X → Bool) (xs : List X) → option_map_or q (find p xs) false ≡ true → list_any q xs ≡ true
 found_test p q [] h = h
-found_test {X} p q (x ∷ xs) h = split (p x) (found_test p q xs) h where
-  split : (b : Bool) → (option_map_or q (find p xs) false ≡ true → list_any q xs ≡ true) → option_map_or q (cond b (Some x) (find p xs)) false ≡ true → (q x || list_any q xs) ≡ true
-  split true rest h = or_left (q x) (list_any q xs) h
-  split false rest h = or_right (q x) (list_any q xs) (rest h)
+found_test {X} p q (x ∷ xs) h = grind (arith, found_test p q xs)
 
 -- what holds of no child, and of each child at its own id, holds of the child of an id
 pub by_child : (P : List ℕ → Option Child → Type 0) → ((id : List ℕ) → P id None) → ((child : Child) → P child.id (Some child)) → (id : List ℕ) (past : List Event) → P id (child_of id past)
@@ -40,10 +33,5 @@ left_if q None = None
 left_if q (Some x) = cond (q x) (Some x) None
 
 pub lone_left : (p q : Child → Bool) (xs : List Child) → is_lone p xs ≡ true → find p (filter q xs) ≡ left_if q (find p xs)
-lone_left p q [] h = refl
-lone_left p q (x ∷ xs) h = split (p x) (q x) refl refl (lone_left p q xs) h where
-  split : (b c : Bool) → p x ≡ b → q x ≡ c → (is_lone p xs ≡ true → find p (filter q xs) ≡ left_if q (find p xs)) → cond b (not (list_any p xs)) (is_lone p xs) ≡ true → find p (cond c (x ∷ filter q xs) (filter q xs)) ≡ left_if q (cond b (Some x) (find p xs))
-  split true true is own rest h = rw (is, own) refl
-  split true false is own rest h = rw own (find_none p (filter q xs) (none_filtered p q xs h))
-  split false true is own rest h = rw is (rest h)
-  split false false is own rest h = rest h
+lone_left p q [] h = grind (arith, is_lone, find_none, none_filtered)
+lone_left p q (x ∷ xs) h = grind (arith, lone_left p q xs, is_lone, find_none, none_filtered)

@@ -1,5 +1,5 @@
 -- What is read of lists by id.
-use Rattle.std.proofs.Common.{◌≡◌, refl, sym, ◌∙◌, ap, ℕ, Bool, true, false, not, cond, List, [], ◌∷◌, filter, Option, Some, None}
+use Rattle.std.proofs.Common.{arith, ◌≡◌, refl, sym, ℕ, Bool, true, false, not, cond, List, [], ◌∷◌, filter, Option, Some, None}
 use Rattle.init_words.specs.Ids.{same_id}
 use Rattle.init_words.proofs.Same.{same_id-is}
 use Rattle.trace_check.specs.State.{at}
@@ -16,12 +16,8 @@ filtered_at {X} keep id (e ∷ es) = split (same_id id e.0) refl (keep e.0) refl
   kept = filter (λ p. keep p.0) es
 
   split : (a : Bool) → same_id id e.0 ≡ a → (b : Bool) → keep e.0 ≡ b → at id kept ≡ cond (keep id) (at id es) None → at id (cond b (e ∷ kept) kept) ≡ cond (keep id) (cond a (Some e.1) (at id es)) None
-  split true same true stays rest =
-      let yes : keep id ≡ true = ap keep (same_id-is id e.0 same) ∙ stays in
-      rw (same, yes) refl
-  split true same false goes rest =
-      let no_longer : keep id ≡ false = ap keep (same_id-is id e.0 same) ∙ goes in
-      rw no_longer (rw no_longer at rest)
+  split true same true stays rest = grind (arith, same_id-is)
+  split true same false goes rest = grind (arith, same_id-is)
   split false differ true stays rest = rw differ rest
   split false differ false goes rest = rest
 

@@ -1,5 +1,5 @@
 -- One happening after another: the state goes on reading the past, and the first breach stays the first.
-use Rattle.std.proofs.Common.{◌≡◌, ◌<◌, ◌≤◌, refl, sym, ◌∙◌, ap, subst, ℕ, ◌+◌, true, List, [], ◌∷◌, ◌++◌, length, reverse, take, take_all, drop, get_or, is_some, arith, Option, Some, None}
+use Rattle.std.proofs.Common.{◌≡◌, ◌<◌, ◌≤◌, sym, ◌∙◌, ap, subst, ℕ, ◌+◌, true, List, [], ◌∷◌, ◌++◌, length, reverse, take, take_all, drop, get_or, is_some, arith, Some, None}
 use Rattle.std.proofs.lemmas.List.{take_more, reverse-append, length-reverse, length-take-le, take-append-drop}
 use Rattle.inittab_text.specs.Tables.{is_distinct}
 use Rattle.trace_events.specs.Event.{Event}
@@ -15,25 +15,12 @@ use Rattle.trace_check.proofs.Keeping.{table_step, stage_step, grace_step, time_
 use Rattle.trace_check.proofs.Bearing.{lone_step, child_step, term_step}
 use Rattle.trace_check.proofs.Judging.{alive, flaw_reads}
 
--- of a lawful past at most one child of an id is unreaped
-no_law : (place : ℕ) (law : Option ℕ) → breach_at place law ≡ None → law ≡ None
-no_law place None is = refl
-no_law place (Some law) is = absurd (cc)
-
-neither : (before later : Option Fault) → earlier before later ≡ None → (before ≡ None) × (later ≡ None)
-neither None later is = (refl, is)
-neither (Some fault) later is = absurd (cc)
-
 pub lawful_parts : (happening : Event) (past : List Event) → first_breach (happening ∷ past) ≡ None → (first_breach past ≡ None) × (broken happening past ≡ None)
-lawful_parts happening past lawful =
-    let both = neither (first_breach past) (breach_at (length past) (broken happening past)) lawful in
-    (both.0, no_law (length past) (broken happening past) both.1)
+lawful_parts happening past lawful = grind arith
 
 pub lone_lawful : (past : List Event) → first_breach past ≡ None → (id : List ℕ) → is_lone (is_of id) (unreaped_children past) ≡ true
-lone_lawful [] lawful = λ id. refl
-lone_lawful (happening ∷ past) lawful =
-    let both = lawful_parts happening past lawful in
-    lone_step happening past both.1 (lone_lawful past both.0)
+lone_lawful [] lawful id = grind (arith, lawful_parts, lone_step)
+lone_lawful (happening ∷ past) lawful id = grind (arith, lone_lawful past, lawful_parts, lone_step)
 
 -- the state reads the longer past
 pub reads_after : (happening : Event) (past : List Event) (old new : JudgeState) → TakesIn (table_of past) old new happening → ((id : List ℕ) → is_lone (is_of id) (unreaped_children past) ≡ true) → is_distinct (table_of past) ≡ true → Reads old past → Reads new (happening ∷ past)
@@ -57,9 +44,7 @@ reads_after happening past old new took lone distinct r = record {
 
 -- the flaw of a happening by the judge is the law that it breaks
 pub flaw_is : (happening : Event) (past : List Event) (judge : Judging) → is_distinct judge.table ≡ true → Judged judge past → flaw_in judge.table judge.state happening ≡ broken happening past
-flaw_is happening past judge distinct judged =
-    ap (λ t. flaw_in t judge.state happening) judged.in_force
-    ∙ flaw_reads judge.state past judged.reads (lone_lawful past judged.lawful) (ap is_distinct (sym judged.in_force) ∙ distinct) happening
+flaw_is happening past judge distinct judged = grind (arith, flaw_reads, lone_lawful)
 
 -- one more that breaks no law
 pub judged_more : (happening : Event) (old new : Judging) → is_distinct old.table ≡ true → flaw_in old.table old.state happening ≡ None → TakesIn old.table old.state new.state happening → new.table ≡ table_after happening old.table → (past : List Event) → Judged old past → Judged new (happening ∷ past)
@@ -91,10 +76,7 @@ breach_found trace place law happening lawful within is broke = sym (ap first_br
   past = reverse (take place trace)
 
   here : first_breach (reverse (take (place + 1) trace)) ≡ Some (record { place = place; law = law })
-  here =
-      ap first_breach (one_more trace place happening within is)
-      ∙ breach_here happening past law lawful broke
-      ∙ ap (λ n. Some (record { place = n; law = law })) (length-reverse (take place trace) ∙ length-take-le place trace (omega arith))
+  here = grind (arith, one_more, breach_here, past, length-reverse, length-take-le)
 
 -- where all are passed there is no breach
 pub passed_all : (trace : List Event) (place : ℕ) → first_breach (reverse (take place trace)) ≡ None → length trace ≤ place → None ≡ first_breach (reverse trace)

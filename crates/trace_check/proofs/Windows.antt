@@ -1,5 +1,5 @@
 -- The last ten starts and the last hold tell all that the limit asks of the past, since the time never falls.
-use Rattle.std.proofs.Common.{◌≡◌, ◌≤◌, ◌+◌, ◌-◌, refl, sym, ◌∙◌, ap, ℕ, Bool, true, false, ◌||◌, cond, max, min, nat_lt, nat_le, List, [], ◌∷◌, take, filter, length, slice_get, suc, zero, arith, le_refl}
+use Rattle.std.proofs.Common.{◌≡◌, ◌≤◌, ◌+◌, ◌-◌, refl, sym, ◌∙◌, ap, ℕ, Bool, true, false, cond, max, min, nat_lt, nat_le, List, [], ◌∷◌, take, filter, length, slice_get, suc, zero, arith, le_refl}
 use Rattle.std.specs.List.{list_any}
 use Rattle.std.specs.Option.{option_map_or}
 use Rattle.std.proofs.lemmas.Bool.{ltb-true, lt-ltb, or_left}
@@ -28,10 +28,8 @@ holds_fall id (_ ∷ past) = holds_fall id past
 
 -- behind an old one all are old
 none_young : (now a : ℕ) (ts : List ℕ) → is_young now a ≡ false → Falling a ts → filter (is_young now) ts ≡ []
-none_young now a [] old falls = refl
-none_young now a (t ∷ ts) old falls =
-    let this = old_later now a t falls.0 old in
-    ap (λ b. cond b (t ∷ filter (is_young now) ts) (filter (is_young now) ts)) this ∙ none_young now t ts this falls.1
+none_young now a [] old falls = grind arith
+none_young now a (t ∷ ts) old falls = grind (arith, none_young now t ts)
 
 old_at : (now a n : ℕ) (ts : List ℕ) → is_young now a ≡ false → Falling a ts → option_map_or (is_young now) (slice_get ts n) false ≡ false
 old_at now a n [] old falls = refl
@@ -78,8 +76,7 @@ first_holds now bound [] falls h = absurd (cc)
 first_holds now bound (t ∷ ts) falls h = later_holds now bound t falls.0 (or_either (nat_lt now (t + HOLD)) (list_any (λ began. nat_lt now (began + HOLD)) ts) h (λ here. here) (λ later. first_holds now t ts falls.1 later))
 
 held_newest : (now bound : ℕ) (ts : List ℕ) → Falling bound ts → option_map_or (λ began. nat_lt (now - began) HOLD) (newest ts) false ≡ list_any (λ began. nat_lt now (began + HOLD)) ts
-held_newest now bound [] falls = refl
-held_newest now bound (t ∷ ts) falls = in_force now t ∙ same_tests (nat_lt now (t + HOLD)) (nat_lt now (t + HOLD) || list_any (λ began. nat_lt now (began + HOLD)) ts) (or_left (nat_lt now (t + HOLD)) (list_any (λ began. nat_lt now (began + HOLD)) ts)) (λ h. or_either (nat_lt now (t + HOLD)) (list_any (λ began. nat_lt now (began + HOLD)) ts) h (λ here. here) (first_holds now t ts falls.1))
+held_newest now bound ts falls = grind (arith, in_force, same_tests, or_left, or_either, first_holds)
 
 pub held_by_last : (id : List ℕ) (past : List Event) → option_map_or (λ began. nat_lt (time_of past - began) HOLD) (newest (hold_times id past)) false ≡ is_held id past
 held_by_last id past = held_newest (time_of past) (time_of past) (hold_times id past) (holds_fall id past)

@@ -17,21 +17,13 @@ use Rattle.trace_text.specs.declared.reading.TheConstants.{LINE_LIMIT}
 use Rattle.trace_text.specs.Lines.{event_text, table_lines}
 use Rattle.trace_events.specs.Range.{is_in_range}
 use Rattle.trace_text.specs.Texts.{Begun, line_count, BeginsNone}
-use Rattle.trace_text.specs.Reading.{entries_brought, words_in, words_read, begun_by, begun}
+use Rattle.trace_text.specs.Reading.{entries_brought, words_in, begun_by, begun}
 use Rattle.trace_text.proofs.LineTexts.{FirstLine, line_first, begun-text, text-begun, newlines-event}
 use Rattle.trace_text.proofs.LineFronts.{cut-more, newlines-cut, newlines-uncut, after_lines-some, after_lines-more}
 use Rattle.trace_verdict.specs.Fronts.{lines_of, lines_due, is_unfinished, size_limit, BeginsNever}
 
--- a happening has a line
-some_lines : (o : Option ℕ) → 1 ≤ option_map_or (λ count. count + 1) o 1
-some_lines None = omega arith
-some_lines (Some count) = omega arith
-
 pub due_some : (text : List ℕ) → 1 ≤ lines_due text
-due_some text = by (cut 10 text) where
-  by : (o : Option (List ℕ × List ℕ)) → 1 ≤ option_map_or (λ parts. lines_of parts.0) o 1
-  by None = omega arith
-  by (Some parts) = some_lines (entries_brought (words_in parts.0))
+due_some text = grind arith
 
 due_cut : (text line rest : List ℕ) → cut 10 text ≡ Some (line, rest) → lines_due text ≡ lines_of line
 due_cut text line rest is = ap (λ o. option_map_or (λ (parts : List ℕ × List ℕ). lines_of parts.0) o 1) is
@@ -41,19 +33,11 @@ due_uncut text is = ap (λ o. option_map_or (λ (parts : List ℕ × List ℕ). 
 
 -- no fewer lines are due of a longer text
 pub due_more : (text more : List ℕ) → lines_due text ≤ lines_due (text ++ more)
-due_more text more = by (cut 10 text) refl where
-  by : (o : Option (List ℕ × List ℕ)) → cut 10 text ≡ o → lines_due text ≤ lines_due (text ++ more)
-  by None is = omega (arith, due_uncut text is, due_some (text ++ more))
-  by (Some parts) is = omega (arith, due_cut text parts.0 parts.1 is, due_cut (text ++ more) parts.0 (parts.1 ++ more) (cut-more text more parts.0 parts.1 is))
+due_more text more = grind (arith, due_uncut, due_some, due_cut, cut-more)
 
 -- a finished happening's first line is whole
 pub finished_cut : (text : List ℕ) → is_unfinished text ≡ false → (parts : List ℕ × List ℕ) × (cut 10 text ≡ Some parts)
-finished_cut text finished = by (cut 10 text) refl where
-  by : (o : Option (List ℕ × List ℕ)) → cut 10 text ≡ o → (parts : List ℕ × List ℕ) × (cut 10 text ≡ Some parts)
-  by None is = absurd (few (newlines text) (lines_due text) (newlines-uncut text is) (due_some text) finished) where
-    few : (n d : ℕ) → n ≡ 0 → 1 ≤ d → nat_lt n d ≡ false → ⊥
-    few n d none some not = grind (arith, nat_tests)
-  by (Some parts) is = (parts, is)
+finished_cut text finished = grind (arith, newlines-uncut, due_some, nat_tests)
 
 lt-false : (n d : ℕ) → nat_lt n d ≡ false → d ≤ n
 lt-false n d is = grind (arith, nat_tests)
@@ -86,17 +70,13 @@ table_more n text more enough none = sym whole where
       ∙ take-front front.front (rest ++ more)
 
   unwritten : (o : Option (List Entry)) → option_map {U = List Entry × List ℕ} (λ table. (table, rest)) o ≡ None → option_map {U = List Entry × List ℕ} (λ table. (table, rest ++ more)) o ≡ None
-  unwritten None is = refl
-  unwritten (Some table) is = absurd (cc)
+  unwritten o is = grind arith
 
   written : option_map {U = List Entry × List ℕ} (λ table. (table, rest)) (table_written front.front) ≡ None
   written = ap (λ t. option_map {U = List Entry × List ℕ} (λ table. (table, rest)) (table_written t)) (sym shorter) ∙ sym (begun_at text rest after) ∙ none
 
   whole : None ≡ table_begun n (text ++ more)
-  whole =
-      sym (begun_at (text ++ more) (rest ++ more) (after_lines-more n text more rest after)
-      ∙ ap (λ t. option_map {U = List Entry × List ℕ} (λ table. (table, rest ++ more)) (table_written t)) longer
-      ∙ unwritten (table_written front.front) written)
+  whole = grind (arith, begun_at, rest, after_lines-more, after, longer, unwritten, front, written)
 
 -- where a finished happening is none, it is none of a longer text
 begun_more : (text more : List ℕ) → is_unfinished text ≡ false → begun text ≡ None → begun (text ++ more) ≡ None
@@ -117,21 +97,16 @@ begun_more text more finished none = begun_at (text ++ more) line (rest ++ more)
   own = sym (begun_at text line rest at) ∙ none
 
   enough : (count : ℕ) → entries_brought (words_in line) ≡ Some count → count ≤ newlines rest
-  enough count is =
-      omega (arith, lt-false (newlines text) (lines_due text) finished, newlines-cut text line rest at, due_cut text line rest at, ap (λ o. option_map_or (λ n. n + 1) o 1) is)
+  enough count is = grind (arith, lt-false, newlines-cut, line, rest, at, due_cut)
 
   unread : (o : Option Event) → option_map {U = Begun} (λ happening. (happening, rest)) o ≡ None → option_map {U = Begun} (λ happening. (happening, rest ++ more)) o ≡ None
-  unread None is = refl
-  unread (Some happening) is = absurd (cc)
+  unread o is = grind arith
 
   unused : (o : Option (List Entry × List ℕ)) → option_map {U = Begun} (λ parts. (NewTable parts.0, parts.1)) o ≡ None → o ≡ None
-  unused None is = refl
-  unused (Some parts) is = absurd (cc)
+  unused o is = grind arith
 
   by : (o : Option ℕ) → entries_brought (words_in line) ≡ o → begun_by (entries_brought (words_in line)) line (rest ++ more) ≡ None
-  by None is =
-      ap (λ o. begun_by o line (rest ++ more)) is
-      ∙ unread (words_read (words_in line)) (ap (λ o. begun_by o line rest) (sym is) ∙ own)
+  by None is = grind arith
   by (Some count) is =
       ap (λ o. begun_by o line (rest ++ more)) is
       ∙ ap (λ o. option_map {U = Begun} (λ (parts : List Entry × List ℕ). (NewTable parts.0, parts.1)) o)
@@ -155,13 +130,12 @@ finished_never text finished none = (ap (λ b. b && nat_le (length text) (size_l
 
 -- a text that begins with a shorter one
 begins_with : (xs ys zs ws : List ℕ) → xs ++ ys ≡ zs ++ ws → length xs ≤ length zs → (s : List ℕ) × (zs ≡ xs ++ s)
-begins_with [] ys zs ws same shorter = (zs, refl)
-begins_with (x ∷ xs) ys [] ws same shorter = absurd (omega (arith, shorter))
 begins_with (x ∷ xs) ys (z ∷ zs) ws same shorter =
     let first : x ≡ z = cc in
     let others : xs ++ ys ≡ zs ++ ws = cc in
     let further = begins_with xs ys zs ws others (omega (arith, shorter)) in
     (further.0, ap (λ t. z ∷ t) further.1 ∙ ap (λ b. b ∷ (xs ++ further.0)) (sym first))
+begins_with xs ys zs ws same shorter = grind arith
 
 limit_behind : (n : ℕ) → 1 ≤ n → size_limit n ≡ LINE_LIMIT + TEXT_LIMIT
 limit_behind zero some = absurd (omega (arith, some))

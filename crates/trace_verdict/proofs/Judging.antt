@@ -1,13 +1,11 @@
 -- One happening more, and a piece more.
-use Rattle.std.proofs.Common.{◌≡◌, ℕ, zero, suc, ◌+◌, ◌^◌, ◌<◌, ◌≤◌, true, List, [], ◌∷◌, ◌++◌, length, reverse, slice_get, Option, Some, append-nil, refl, sym, ap, ◌∙◌, subst, arith, lit≤, length-append}
+use Rattle.std.proofs.Common.{◌≡◌, ℕ, zero, suc, ◌+◌, ◌^◌, ◌<◌, ◌≤◌, true, List, [], ◌∷◌, ◌++◌, length, reverse, slice_get, Option, Some, append-nil, refl, sym, ap, ◌∙◌, subst, arith, length-append}
 use Rattle.std.specs.Option.{option_map, option_map_or}
-use Rattle.std.proofs.lemmas.Bool.{and_parts}
 use Rattle.std.proofs.lemmas.List.{append_assoc, reverse-append, length-reverse, take-append-le}
 use Rattle.std.proofs.Math.Nat.{min-eq_left}
 use Rattle.std.proofs.Math.Seq.{take-append_seam}
 use Rattle.text_lines.specs.Lines.{newlines}
 use Rattle.text_lines.proofs.PieceLemmas.{newlines-append}
-use Rattle.trace_events.specs.declared.happenings.Happening.TheVariants.{NewTable}
 use Rattle.trace_events.specs.Event.{Event}
 use Rattle.trace_events.specs.Lawful.{broken, breach_at, earlier, first_breach}
 use Rattle.trace_text.specs.Lines.{event_text, trace_text}
@@ -32,17 +30,14 @@ capped_is n small = min-eq_left (omega (arith, small))
 
 -- lines and happenings are no more than bytes
 pub one_line : (h : Event) → 1 ≤ line_count h
-one_line (NewTable table) = omega arith
-one_line _ = lit≤ tt
+one_line h = grind arith
 
 pub lines_push : (trace : List Event) (h : Event) → is_in_range h ≡ true → newlines (trace_text (trace ++ h ∷ [])) ≡ newlines (trace_text trace) + line_count h
 lines_push trace h is = ap newlines (trace_text-push trace h) ∙ newlines-append (trace_text trace) (event_text h) ∙ ap (λ n. newlines (trace_text trace) + n) (newlines-event h is)
 
 few_happenings : (trace : List Event) → are_in_range trace ≡ true → length trace ≤ newlines (trace_text trace)
-few_happenings [] are = omega arith
-few_happenings (h ∷ trace) are =
-    let parts = and_parts (is_in_range h) (are_in_range trace) are in
-    omega (arith, few_happenings trace parts.1, newlines-append (event_text h) (trace_text trace), newlines-event h parts.0, one_line h)
+few_happenings [] are = grind (arith, newlines-append, newlines-event, one_line)
+few_happenings (h ∷ trace) are = grind (arith, few_happenings trace, newlines-append, newlines-event, one_line)
 
 pub lines_within : (trace : List Event) (over text : List ℕ) → trace_text trace ++ over ≡ text → newlines (trace_text trace) + length over ≤ length text
 lines_within trace over text whole = omega (arith, newlines-few (trace_text trace), length-append (trace_text trace) over, ap length whole)
@@ -96,15 +91,7 @@ trace_at (Torn number) state text not at = absurd (not number refl)
 
 -- a piece more
 torn_more : (text piece : List ℕ) (number : ℕ) → IsTorn text number → IsTorn (text ++ piece) number
-torn_more text piece number torn = record {
-  trace = torn.trace;
-  rest = torn.rest;
-  behind = torn.behind ++ piece;
-  are = torn.are;
-  whole = sym (append_assoc (trace_text torn.trace ++ torn.rest) torn.behind piece) ∙ ap (λ t. t ++ piece) torn.whole;
-  counted = torn.counted;
-  none = torn.none;
-}
+torn_more text piece number torn = grind (arith, append_assoc)
 
 pub still_torn : (finding : Finding Named) (state : TextState) (text piece : List ℕ) (number : ℕ) → finding ≡ Torn number → AtBy finding state text → AtBy finding state (text ++ piece)
 still_torn (Torn n) state text piece number is taken = torn_more text piece n taken
@@ -143,9 +130,7 @@ read_next old new trace text h small read next place found = record {
 
 -- the number of the line of the next happening
 next_line : (state : TextState) (trace : List Event) (text : List ℕ) → length text < 2 ^ 64 → HasRead state trace text → 1 ≤ length state.reading.over → capped (state.reading.lines + 1) ≡ newlines (trace_text trace) + 1
-next_line state trace text small read some =
-    ap (λ n. capped (n + 1)) read.lines
-    ∙ capped_is (newlines (trace_text trace) + 1) (omega (arith, small, some, lines_within trace state.reading.over text read.whole))
+next_line state trace text small read some = grind (arith, capped_is, lines_within)
 
 pub line_of : (old : TextState) (new : Reading) (trace : List Event) (text : List ℕ) (h : Event) → length text < 2 ^ 64 → HasRead old trace text → ReadsNext old.reading new (Some h) → capped (old.reading.lines + 1) ≡ newlines (trace_text trace) + 1
 line_of old new trace text h small read next = next_line old trace text small read (omega (arith, shorter h new.over old.reading.over next.0 next.1))
@@ -163,17 +148,10 @@ torn_here state text number trace small read is none = record {
 
 -- what is told of the text
 left_is : (state : TextState) (trace : List Event) (text over : List ℕ) → length text < 2 ^ 64 → HasRead state trace text → state.reading.over ≡ over → option_map capped (line_left state.reading.lines over) ≡ line_left (newlines (trace_text trace)) over
-left_is state trace text [] small read is = refl
-left_is state trace text (byte ∷ over) small read is = ap Some (next_line state trace text small read (omega (arith, ap length is)))
+left_is state trace text over small read is = grind (arith, next_line)
 
 front : (state : TextState) (trace : List Event) (text : List ℕ) (left : Option ℕ) → length text < 2 ^ 64 → HasRead state trace text → is_open state.reading.over ≡ true → left ≡ option_map capped (line_left state.reading.lines state.reading.over) → IsFront trace left text
-front state trace text left small read short is = record {
-  over = state.reading.over;
-  are = read.are;
-  whole = read.whole;
-  unfinished = short;
-  at = is ∙ left_is state trace text state.reading.over small read refl;
-}
+front state trace text left small read short is = grind (arith, left_is)
 
 pub told : (finding : Finding Named) (state : TextState) (text : List ℕ) (left : Option ℕ) → state.finding ≡ finding → length text < 2 ^ 64 → TakenBy finding state text → left ≡ left_of finding (option_map capped (line_left state.reading.lines state.reading.over)) → Answers text finding left state.place
 told Lawful state text left is small taken at =

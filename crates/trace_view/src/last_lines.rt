@@ -236,42 +236,6 @@ impl KindLines {
     }
 }
 
-impl<A: Allocator + Copy> LastLines<A> {
-    /// The lines of nothing. It takes no memory.
-    pub fn new(alloc: A) -> LastLines<A>
-        ensures { Lined result [] }
-    {
-        LastLines {
-            kinds: KindLines::new(),
-            births: nothing(alloc),
-            failures: nothing(alloc),
-            reapings: nothing(alloc),
-            orders: nothing(alloc),
-            holds: nothing(alloc),
-        }
-    }
-
-    /// Takes the next happening, which begins at this line, where the stage was in force before it. Where memory runs out
-    /// a part of it may be taken, and the lines are of no more use.
-    fn take<B: Allocator>(
-        &mut self,
-        stage: Option<Stage>,
-        line: u64,
-        happening: &HappeningIn<B>,
-    ) -> Result<(), Memory>
-        ensures { OnOk result ((past : List Event) → stage ≡ stage_of past → line ≡ line_behind past
-            → Lined self.old past → Lined self.new (happening.now ∷ past)) }
-    {
-        mark(&mut self.births, born_in(happening), line)?;
-        mark(&mut self.failures, unborn_in(happening), line)?;
-        mark(&mut self.reapings, reaped_in(happening), line)?;
-        mark(&mut self.orders, ordered_in(happening), line)?;
-        mark(&mut self.holds, held_in(happening), line)?;
-        self.kinds = self.kinds.after(stage, line, happening);
-        Ok(())
-    }
-}
-
 impl<A: Allocator> LastLines<A> {
     /// The line of the last birth of a child of an id.
     fn birth(&self, id: &Id) -> Option<u64>
@@ -361,6 +325,17 @@ impl<A: Allocator> LastLines<A> {
 impl<A: Allocator + Copy> Sees<A> for LastLines<A> {
     ghost has_seen = { Lined };
 
+    fn new(alloc: A) -> LastLines<A> {
+        LastLines {
+            kinds: KindLines::new(),
+            births: nothing(alloc),
+            failures: nothing(alloc),
+            reapings: nothing(alloc),
+            orders: nothing(alloc),
+            holds: nothing(alloc),
+        }
+    }
+
     fn see(
         &mut self,
         _view: &TraceView<A>,
@@ -368,6 +343,12 @@ impl<A: Allocator + Copy> Sees<A> for LastLines<A> {
         line: u64,
         happening: &HappeningIn<A>,
     ) -> Result<(), Memory> {
-        self.take(stage, line, happening)
+        mark(&mut self.births, born_in(happening), line)?;
+        mark(&mut self.failures, unborn_in(happening), line)?;
+        mark(&mut self.reapings, reaped_in(happening), line)?;
+        mark(&mut self.orders, ordered_in(happening), line)?;
+        mark(&mut self.holds, held_in(happening), line)?;
+        self.kinds = self.kinds.after(stage, line, happening);
+        Ok(())
     }
 }

@@ -22,6 +22,10 @@ pub trait Sees<A: Allocator> {
     /// It has seen this past, the newest happening first.
     ghost has_seen: { Self → List Event → Type 0 };
 
+    /// What has seen nothing. It takes no memory.
+    fn new(alloc: A) -> Self
+        ensures { has_seen result [] };
+
     /// Sees the next happening, which begins at this line, where the stage was in force before it; the view has seen it.
     /// Where memory runs out it is of no more use.
     fn see(
@@ -55,12 +59,12 @@ impl<S: Drop, A: Allocator> Model for SeenText<S, A> {
 
 impl<S: Sees<A> + Drop, A: Allocator + Copy> SeenText<S, A> {
     /// Nothing was taken yet, and nothing seen. It takes no memory.
-    pub fn new(alloc: A, seen: S) -> SeenText<S, A>
-        ensures { S.has_seen seen [] → HasSeenText S.has_seen result [] }
+    pub fn new(alloc: A) -> SeenText<S, A>
+        ensures { HasSeenText S.has_seen result [] }
     {
         SeenText {
             view: TextView::new(alloc),
-            seen,
+            seen: S::new(alloc),
         }
     }
 
@@ -143,6 +147,8 @@ impl<A: Allocator> Sees<A> for () {
     ghost use Rattle.std.specs.Prelude.{⊤};
 
     ghost has_seen = { λ _ _. ⊤ };
+
+    fn new(_alloc: A) {}
 
     fn see(
         &mut self,

@@ -2,4 +2,4 @@ use Rattle.std.proofs.Common.{[]}
 use Rattle.trace_view.proofs.seen_texts.SeenText.new.Goals as goal
 
 pub returns : goal.returns
-returns g c = λ none. ([], c.new.ensures, none)
+returns g c = ([], c.new.ensures, c.new-2.ensures)

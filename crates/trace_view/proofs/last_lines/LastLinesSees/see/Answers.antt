@@ -2,10 +2,10 @@ use Rattle.std.proofs.Common.{◌∙◌, sym, ap, subst}
 use Rattle.trace_check.specs.State.{at}
 use Rattle.trace_view.specs.LastLines.{LinesState, Lined, line_after, names}
 use Rattle.trace_view.proofs.Lining.{lined_more}
-use Rattle.trace_view.proofs.last_lines.LastLines.take.Goals as goal
+use Rattle.trace_view.proofs.last_lines.LastLinesSees.see.Goals as goal
 
 pub returns : goal.returns
-returns g c = λ past on is lined.
+returns g c = λ past _ on is lined.
     let old : LinesState = record { kinds = c.self.inside.kinds; births = c.self.inside.births.entries; failures = c.self.inside.failures.entries; reapings = c.self.inside.reapings.entries; orders = c.self.inside.orders.entries; holds = c.self.inside.holds.entries } in
     let new : LinesState = record { kinds = c.after-self-inside.result; births = c.mark.new.lines.entries; failures = c.mark-2.new.lines.entries; reapings = c.mark-3.new.lines.entries; orders = c.mark-4.new.lines.entries; holds = c.mark-5.new.lines.entries } in
     let line = c.args.line in
