@@ -85,7 +85,7 @@ fn read_reread(word: &[u8]) -> Option<(bool, bool)>
 type Bits = (bool, (bool, bool));
 
 /// Whether inittab is to be read again and init to be re-executed, the level that is wished for, and the news.
-pub(crate) type Wishes = ((bool, bool), (Option<Goal>, (Bits, Bits)));
+pub(crate) type WishFields = ((bool, bool), (Option<Goal>, (Bits, Bits)));
 
 fn read_news(words: &[u8]) -> Option<(Bits, Bits)>
     ensures { result ≡ pair_read 32 three_bits three_bits words.now }
@@ -94,7 +94,7 @@ fn read_news(words: &[u8]) -> Option<(Bits, Bits)>
     Some((read_three_bits(powers)?, read_three_bits(letters)?))
 }
 
-fn read_wishes(words: &[u8]) -> Option<Wishes>
+fn read_wishes(words: &[u8]) -> Option<WishFields>
     ensures { result ≡ wishes_read words.now }
 {
     let (bits, words) = cut(b' ', words)?;
@@ -103,7 +103,7 @@ fn read_wishes(words: &[u8]) -> Option<Wishes>
     Some((bits, (read_goal_or_dash(level)?, read_news(words)?)))
 }
 
-pub(crate) fn read_wish_line(line: &[u8]) -> Option<Wishes>
+pub(crate) fn read_wish_line(line: &[u8]) -> Option<WishFields>
     ensures { result ≡ wish_line_read line.now }
 {
     read_wishes(behind(b"wish", line)?)

@@ -12,8 +12,8 @@ ghost use Rattle.core_text.specs.Reading.{end_split, UnreadState, times_read, pl
 ghost use Rattle.core_text.specs.Refused.{AreRecords, NoRecords, IsBody, IsCut, IsOtherVersion, RefusedBody, IsTextOf, Refused};
 
 use crate::fields::{
-    Wishes, read_clock_line, read_end_line, read_flags_line, read_generation_line, read_goal_line,
-    read_slot_line, read_stage_line, read_table_line, read_wish_line,
+    WishFields, read_clock_line, read_end_line, read_flags_line, read_generation_line,
+    read_goal_line, read_slot_line, read_stage_line, read_table_line, read_wish_line,
 };
 use crate::state_fault::StateFault;
 use crate::versions::Version;
@@ -71,7 +71,7 @@ fn take_places(text: &[u8]) -> Result<(((Option<Stage>, u16), Goal), &[u8]), Sta
     Ok(((stage, goal), rest))
 }
 
-fn take_wishes(text: &[u8]) -> Result<(((bool, bool), Wishes), &[u8]), StateFault>
+fn take_wishes(text: &[u8]) -> Result<(((bool, bool), WishFields), &[u8]), StateFault>
     ensures ok { IfOk result (λ found. flags_read text.now ≡ Some (found.0, found.1.now)) }
     ensures err { IfErr result (λ why. UnreadState (flags_read text.now) why) }
 {
@@ -85,7 +85,7 @@ fn take_wishes(text: &[u8]) -> Result<(((bool, bool), Wishes), &[u8]), StateFaul
 fn heads_of(
     times: (u64, u64),
     places: ((Option<Stage>, u16), Goal),
-    wishes: ((bool, bool), Wishes),
+    wishes: ((bool, bool), WishFields),
 ) -> CoreFields
     ensures { result ≡ heads_made (times, (places, wishes)) }
 {

@@ -1,7 +1,7 @@
 -- A list of due steps that forgot one of its ten ranks would break the law: for each rank a sound trace that takes no
 -- step of that rank, at whose end nothing of the other nine is due and no order is open, and of which a clause is wrong.
 -- And for each reason a rest at which `rest` would be wrong without it.
-use Rattle.core_waiting.proofs.Words.{◌≡◌, refl, ℕ, Bool, zero, suc, true, false, not, ◌||◌, List, [], ◌∷◌, ◌++◌, filter, codes, Option, Some, list_all, Entry, At, NewTable, NotRead, Enter, Nudge, Got, Goal, Step, Event, stage_of, Child, is_idle, kept_children, known_children, wish_stands, due_first, due_reexec, due_reread, due_level, due_news, due_stops, due_starts, due_stage, due_settle, due_looks, due, is_sound, Why, Excluded, WaitedFor, InTheWay, why_awaited, awaited_children, is_level_announced, is_empty, is_stopping, is_looked_at}
+use Rattle.core_waiting.proofs.Words.{◌≡◌, refl, ℕ, Bool, zero, suc, true, false, not, ◌||◌, List, [], ◌∷◌, ◌++◌, filter, codes, Option, Some, list_all, Entry, At, NewTable, NotRead, Enter, Nudge, Got, Goal, Step, Event, stage_of, Child, is_idle, kept_children, known_children, wish_stands, due_first, due_reexec, due_reread, due_level, due_news, due_stops, due_starts, due_stage, due_settle, due_looks, due, is_sound, WhyAwaited, Excluded, WaitedFor, InTheWay, why_awaited, awaited_children, is_level_announced, is_empty, is_stopping, is_looked_at}
 use Rattle.init_words.specs.declared.actions.Act.TheVariants as act
 use Rattle.init_words.specs.declared.levels.Level.TheVariants as level
 use Rattle.init_words.specs.declared.stages.Stage.TheVariants as stage
@@ -89,16 +89,16 @@ looks : Breaks 10 (opening level.L3) (Nudge ∷ settled) (list_all (is_looked_at
 looks = record { sound = refl; rests = refl; idle = refl; broken = refl }
 
 -- the awaited children but for those of this reason, and a rest at which they are none
-abbrev is_for : Why → Option Why → Bool
+abbrev is_for : WhyAwaited → Option WhyAwaited → Bool
 is_for Excluded (Some Excluded) = true
 is_for WaitedFor (Some WaitedFor) = true
 is_for InTheWay (Some InTheWay) = true
 is_for _ _ = false
 
-abbrev awaited_but : Why → List Event → List Child
+abbrev awaited_but : WhyAwaited → List Event → List Child
 awaited_but why past = filter (λ child. not (is_for why (why_awaited past child))) (awaited_children past)
 
-record Needs (why : Why) (goal : Goal) (past : List Event) : Type 0 where
+record Needs (why : WhyAwaited) (goal : Goal) (past : List Event) : Type 0 where
   sound : is_sound goal past ≡ true
   rests : due goal past ≡ []
   broken : (not (is_idle past) || is_level_announced past || not (is_empty (awaited_but why past))) ≡ false

@@ -1,5 +1,5 @@
 -- Worked rests, each with whose end init awaits there and why: `refl` computes them.
-use Rattle.core_waiting.proofs.Words.{◌≡◌, refl, ℕ, true, false, List, [], ◌∷◌, ◌++◌, codes, map, Option, Some, Entry, Act, Level, Mark, At, OnCall, Start, Look, Term, Exit, NewTable, NotRead, Enter, Asked, Birth, NoBirth, Death, Reaped, Hit, Miss, Told, Clock, Nudge, Got, Goal, Event, Child, is_idle, due, is_sound, Why, Excluded, WaitedFor, InTheWay, why_awaited, awaited_children, is_level_announced, is_on_power, to_come, after_rounds, AreUndisturbed}
+use Rattle.core_waiting.proofs.Words.{◌≡◌, refl, ℕ, true, false, List, [], ◌∷◌, ◌++◌, codes, map, Option, Some, Entry, Act, Level, Mark, At, OnCall, Start, Look, Term, Exit, NewTable, NotRead, Enter, Asked, Birth, NoBirth, Death, Reaped, Hit, Miss, Told, Clock, Nudge, Got, Goal, Event, Child, is_idle, due, is_sound, WhyAwaited, Excluded, WaitedFor, InTheWay, why_awaited, awaited_children, is_level_announced, is_on_power, to_come, after_rounds, AreUndisturbed}
 use Rattle.init_words.specs.declared.actions.Act.TheVariants as act
 use Rattle.init_words.specs.declared.levels.Level.TheVariants as level
 use Rattle.init_words.specs.declared.levels.Letter.TheVariants as letter
@@ -19,7 +19,7 @@ opening l = record { level = l; grace = 5 }
 abbrev ids : List Event → List (List ℕ)
 ids past = map (λ (child : Child). child.id) (awaited_children past)
 
-abbrev whys : List Event → List (Option Why)
+abbrev whys : List Event → List (Option WhyAwaited)
 whys past = map (why_awaited past) (awaited_children past)
 
 -- an order, its act, and that it is told

@@ -43,7 +43,7 @@ pub use Rattle.core_model.specs.Decide.{is_wanted_record, decide}
 pub use Rattle.core_model.specs.Fit.{LastStatuses, Fits, child_known, living, stop_after, stop_of, stop_known, record_of, StillFits, records_of, with_step}
 pub use Rattle.core_model.proofs.Fitted.{fit_records, fit_table, fit_stage, still}
 pub use Rattle.core_model.proofs.Reading.{any_found, IsOwn, table_own}
-pub use Rattle.core_waiting.specs.declared.rests.Why.TheVariants.{Excluded, WaitedFor, InTheWay}
+pub use Rattle.core_waiting.specs.declared.rests.WhyAwaited.TheVariants.{Excluded, WaitedFor, InTheWay}
 pub use Rattle.core_waiting.specs.Awaiting.{with_why, in_record_order, awaited_known, is_wanted_in, why_by_entry, why_of_record, awaited_of_record, awaited_by}
 pub use Rattle.trace_laws.proofs.Stopping.{found_own, left_apart, hits_are, hits_shape, found_holds}
 pub use Rattle.init_words.specs.declared.levels.Letter.{Letter}
@@ -58,6 +58,6 @@ pub use Rattle.trace_laws.proofs.Orders.{idle_none, undone_is_open, told_same, t
 pub use Rattle.trace_laws.proofs.Keeps.{sound_holds, look_undone, asked_free, free_told, start_undone, born_ready, placed_spared, entry_listed, sound_ind, start_stays}
 pub use Rattle.respawn_limit.specs.declared.TheConstants.{CLOCK_LIMIT, HOLD}
 pub use Rattle.trace_laws.proofs.Settling.{same_any}
-pub use Rattle.core_waiting.specs.declared.rests.Why.{Why}
+pub use Rattle.core_waiting.specs.declared.rests.WhyAwaited.{WhyAwaited}
 pub use Rattle.trace_events.specs.declared.steps.Step.TheVariants.{Reread, Order, Reexec, Idle}
 pub use Rattle.core_waiting.specs.Lines.{answers_text, ends_text}

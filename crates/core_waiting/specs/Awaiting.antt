@@ -14,8 +14,8 @@ use Rattle.core_records.specs.State.{RecordState}
 use Rattle.core_model.specs.State.{CoreState}
 use Rattle.core_model.specs.Decide.{is_wanted_record}
 use Rattle.core_waiting.specs.declared.rests.Awaited.{Awaited}
-use Rattle.core_waiting.specs.declared.rests.Why.{Why}
-use Rattle.core_waiting.specs.declared.rests.Why.TheVariants.{Excluded, WaitedFor, InTheWay}
+use Rattle.core_waiting.specs.declared.rests.WhyAwaited.{WhyAwaited}
+use Rattle.core_waiting.specs.declared.rests.WhyAwaited.TheVariants.{Excluded, WaitedFor, InTheWay}
 use Rattle.core_waiting.specs.Rest.{is_awaited, why_awaited}
 
 -- a child with why its end is awaited, if it is
@@ -38,12 +38,12 @@ is_wanted_in None e slot = false
 is_wanted_in (Some stage) e slot = is_wanted_record stage e slot
 
 -- why the end of a record's child is awaited: it is to be stopped, or the entry of its id says so
-abbrev pub why_by_entry : Option Stage → Option Entry → RecordState → Option Why
+abbrev pub why_by_entry : Option Stage → Option Entry → RecordState → Option WhyAwaited
 why_by_entry stage None slot = None
 why_by_entry stage (Some e) slot =
     if waited_of e then Some WaitedFor else if is_wanted_in stage e slot then Some InTheWay else None
 
-abbrev pub why_of_record : Option Stage → List Entry → RecordState → Option Why
+abbrev pub why_of_record : Option Stage → List Entry → RecordState → Option WhyAwaited
 why_of_record stage table slot =
     if is_some slot.stop then Some Excluded else why_by_entry stage (entry_of slot.id table) slot
 

@@ -10,8 +10,8 @@ use Rattle.core_records.specs.State.{RecordState}
 use Rattle.core_records.specs.Lists.{record_by_id}
 use Rattle.core_model.specs.State.{CoreState}
 use Rattle.core_waiting.specs.declared.rests.Awaited.{Awaited}
-use Rattle.core_waiting.specs.declared.rests.Why.{Why}
-use Rattle.core_waiting.specs.declared.rests.Why.TheVariants.{Excluded, WaitedFor, InTheWay}
+use Rattle.core_waiting.specs.declared.rests.WhyAwaited.{WhyAwaited}
+use Rattle.core_waiting.specs.declared.rests.WhyAwaited.TheVariants.{Excluded, WaitedFor, InTheWay}
 use Rattle.core_waiting.specs.Awaiting.{awaited_by}
 
 abbrev pub level_words : Level → List ℕ
@@ -58,7 +58,7 @@ abbrev pub ended_words : List ℕ → ℕ → List ℕ
 ended_words what number = what ++ (codes " (" ++ (decimal number ++ codes ")"))
 
 -- why the end of the child is awaited
-abbrev pub why_of : CoreState → List ℕ → ℕ → Why → List ℕ
+abbrev pub why_of : CoreState → List ℕ → ℕ → WhyAwaited → List ℕ
 why_of core id number Excluded = stop_words core.heads.grace core.heads.time (stop_in id core.slots)
 why_of core id number WaitedFor = ended_words (codes "init waits for its end") number
 why_of core id number InTheWay = ended_words (codes "its earlier child has to end first") number

@@ -18,17 +18,17 @@ use Rattle.trace_events.specs.Spells.{Signal, is_ripe, is_missed, spell_hits}
 use Rattle.trace_events.specs.Wishes.{in_run, powers}
 use Rattle.trace_events.specs.Due.{due, is_announced, wants_look}
 use Rattle.trace_events.specs.Sound.{is_sound}
-use Rattle.core_waiting.specs.declared.rests.Why.{Why}
-use Rattle.core_waiting.specs.declared.rests.Why.TheVariants.{Excluded, WaitedFor, InTheWay}
+use Rattle.core_waiting.specs.declared.rests.WhyAwaited.{WhyAwaited}
+use Rattle.core_waiting.specs.declared.rests.WhyAwaited.TheVariants.{Excluded, WaitedFor, InTheWay}
 
 -- why the end of a child of the entry is awaited: init waits for the entry, or the entry is wanted again
-abbrev pub why_of_entry : Option Entry → List Event → Option Why
+abbrev pub why_of_entry : Option Entry → List Event → Option WhyAwaited
 why_of_entry None past = None
 why_of_entry (Some e) past =
     if waited_of e then Some WaitedFor else if is_wanted e past then Some InTheWay else None
 
 -- why the end of a kept child is awaited, if it is: the stage excludes it, or its entry says so
-abbrev pub why_awaited : List Event → Child → Option Why
+abbrev pub why_awaited : List Event → Child → Option WhyAwaited
 why_awaited past child =
     if is_excluded past child then Some Excluded else why_of_entry (entry_of child.id (table_of past)) past
 

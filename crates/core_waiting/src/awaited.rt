@@ -9,7 +9,7 @@ ghost use Rattle.core_model.specs.Fit.{OnEachTrace};
 ghost use Rattle.core_waiting.specs.Rest.{awaited_children};
 ghost use Rattle.core_waiting.specs.Awaiting.{in_record_order, awaited_known, is_wanted_in, why_of_record, awaited_of_record, awaited_by};
 
-use crate::rests::{Awaited, Why};
+use crate::rests::{Awaited, WhyAwaited};
 use core_records::Record;
 use core_steps::Core;
 use init_words::{Entry, OrderKind, Stage, starts, waited};
@@ -93,18 +93,18 @@ fn awaited_of<A: Allocator>(
     })
 }
 
-fn why_of<A: Allocator>(stage: Option<Stage>, table: &Table<A>, slot: &Record) -> Option<Why>
+fn why_of<A: Allocator>(stage: Option<Stage>, table: &Table<A>, slot: &Record) -> Option<WhyAwaited>
     ensures { result ≡ why_of_record stage table.now slot.now }
 {
     if slot.stop().is_some() {
-        return Some(Why::Excluded);
+        return Some(WhyAwaited::Excluded);
     }
     let entry = table.get(&slot.id())?;
     if waited(entry) {
-        return Some(Why::WaitedFor);
+        return Some(WhyAwaited::WaitedFor);
     }
     if is_wanted_in(stage, entry, slot) {
-        return Some(Why::InTheWay);
+        return Some(WhyAwaited::InTheWay);
     }
     None
 }

@@ -12,4 +12,4 @@ pub use arrivals::law_of_arrival;
 pub use awaited::AwaitedChildren;
 pub use lines::waiting_lines;
 pub use requests::law_of_request;
-pub use rests::{Awaited, Why, law_of_awaited, law_of_coming, law_of_rest};
+pub use rests::{Awaited, WhyAwaited, law_of_awaited, law_of_coming, law_of_rest};

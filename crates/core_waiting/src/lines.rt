@@ -5,7 +5,7 @@ ghost use Rattle.core_waiting.specs.Awaiting.{awaited_by};
 ghost use Rattle.core_waiting.specs.Lines.{answer_line, answers_text, end_line, ended_words, ends_text, level_words, line_start, seconds_words, stage_words, stop_in, stop_words, termed_words, waiting_text, why_words};
 
 use crate::awaited::AwaitedChildren;
-use crate::rests::{Awaited, Why};
+use crate::rests::{Awaited, WhyAwaited};
 use core_records::{Record, Stop};
 use core_steps::Core;
 use init_words::{ChildNumber, Id, Level, Stage};
@@ -85,12 +85,16 @@ fn add_why<A: Allocator>(
     ensures { OnOk result (text.new.items ≡ text.old.items ++ why_words core.now awaited.now) }
 {
     match awaited.why {
-        Why::Excluded => {
+        WhyAwaited::Excluded => {
             let stop = stop_of(core, &awaited.id);
             add_stop(text, core.heads().grace, core.time(), stop)
         }
-        Why::WaitedFor => add_ended(text, b"init waits for its end", awaited.number),
-        Why::InTheWay => add_ended(text, b"its earlier child has to end first", awaited.number),
+        WhyAwaited::WaitedFor => add_ended(text, b"init waits for its end", awaited.number),
+        WhyAwaited::InTheWay => add_ended(
+            text,
+            b"its earlier child has to end first",
+            awaited.number,
+        ),
     }
 }
 

@@ -29,9 +29,9 @@ ghost use Rattle.core_waiting.specs.declared.rests.Awaited.{Awaited};
 
 use init_words::{ChildNumber, Id};
 
-/// Why init awaits the end of a child.
+/// WhyAwaited init awaits the end of a child.
 #[derive(Clone, Copy)]
-pub enum Why {
+pub enum WhyAwaited {
     /// The stage excludes it: it is stopped.
     Excluded,
     /// Init waits for its entry before it starts a later one, or enters the next stage.
@@ -46,7 +46,7 @@ pub struct Awaited {
     /// The id of its entry, or of one that left the table.
     pub id: Id,
     pub number: ChildNumber,
-    pub why: Why,
+    pub why: WhyAwaited,
 }
 
 /// Init never waits for nothing. It does nothing: its contract says the laws.

@@ -8,7 +8,7 @@ ghost use Rattle.program_io.specs.declared.channel_files.TheConstants.{REQUEST};
 
 use crate::bells::Bell;
 use crate::boxes::boxed;
-use host_messages::{PassedOver, Trouble, say_made_anew, say_old, say_torn};
+use host_messages::{PassedOver, Trouble, tell_made_anew, tell_old, tell_torn};
 use program_io::{ChannelLock, REQUEST, lock_channel};
 use std::alloc::{AllocError, Allocator};
 use std::fs::{File, Metadata};
@@ -203,7 +203,7 @@ impl<A: Allocator + Copy> Channel<A> {
         self.lock_found(rt, &found)?;
         if self.is_anew(&found) {
             self.go_to(0);
-            say_made_anew(rt, self.path.as_str());
+            tell_made_anew(rt, self.path.as_str());
         }
         self.keep_open(rt, &found);
         self.missing = false;
@@ -259,7 +259,7 @@ impl<A: Allocator + Copy> Channel<A> {
     fn begin(&mut self, rt: &impl Eprint, length: u64) {
         self.begun = true;
         if length > 0 {
-            say_old(rt, self.path.as_str(), length, self.fresh);
+            tell_old(rt, self.path.as_str(), length, self.fresh);
         }
         if self.fresh {
             self.go_to(whole_requests(length));
@@ -285,7 +285,7 @@ impl<A: Allocator + Copy> Channel<A> {
             return;
         }
         if self.torn == length && !self.told_torn {
-            say_torn(rt, self.path.as_str(), over);
+            tell_torn(rt, self.path.as_str(), over);
             self.told_torn = true;
         }
         self.torn = length;

@@ -5,7 +5,7 @@ ghost use Rattle.std.specs.List.{list_all};
 ghost use Rattle.init_words.specs.Parts.{NamedText};
 ghost use Rattle.host_files.specs.Folders.{IsFolderFault, ends_in_tab, is_hidden, is_name_byte, is_part_name};
 
-use host_messages::say_passed;
+use host_messages::tell_passed;
 use indexmap::IndexSet;
 use init_words::Part;
 use program_io::{read_all, read_file};
@@ -144,7 +144,7 @@ impl<A: Allocator + Copy> PassedNames<A> {
     /// Tells of a name that is passed over, where it is asked for and was not told.
     fn tell(&mut self, rt: &impl Eprint, folder: &str, name: &[u8]) {
         if self.is_asked && self.note(name) {
-            say_passed(rt, folder, name);
+            tell_passed(rt, folder, name);
         }
     }
 }

@@ -2,7 +2,7 @@
 
 use crate::boxes::boxed;
 use crate::folders::{FolderFault, PassedNames, with_folder};
-use host_messages::{Trouble, say_too_long, say_too_many};
+use host_messages::{Trouble, tell_too_long, tell_too_many};
 use init_words::Part;
 use inittab_text::TableFault;
 use program_io::read_file;
@@ -75,11 +75,11 @@ impl<A: Allocator + Copy> InittabFiles<A> {
     }
 
     /// Says why the parts have no table.
-    pub fn say_no_table(&mut self, rt: &impl Eprint, fault: TableFault) {
+    pub fn tell_no_table(&mut self, rt: &impl Eprint, fault: TableFault) {
         let path = self.path.as_str();
         match fault {
-            TableFault::TooLong => say_too_long(rt, path),
-            TableFault::Parts => say_too_many(rt, path),
+            TableFault::TooLong => tell_too_long(rt, path),
+            TableFault::Parts => tell_too_many(rt, path),
             TableFault::Memory => {
                 self.reading
                     .tell_begun(rt, path, &Error::from(ErrorKind::OutOfMemory));

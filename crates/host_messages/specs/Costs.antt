@@ -5,26 +5,26 @@ use Rattle.init_words.specs.declared.stages.Stage.{Stage}
 use Rattle.init_words.specs.declared.actions.Act.{Act}
 use Rattle.init_words.specs.declared.actions.Act.TheVariants as act
 use Rattle.init_words.specs.Entries.{lives_of}
-use Rattle.host_messages.specs.declared.costs.Line.{Line}
-use Rattle.host_messages.specs.declared.costs.Line.TheVariants as line
+use Rattle.host_messages.specs.declared.costs.ChildLine.{ChildLine}
+use Rattle.host_messages.specs.declared.costs.ChildLine.TheVariants as line
 
 abbrev pub is_off : Act → Bool
 is_off act.Off = true
 is_off _ = false
 
 -- what a table has for a child, by the entry of its id, in a stage
-abbrev pub line_of : Option Entry → Stage → Line
+abbrev pub line_of : Option Entry → Stage → ChildLine
 line_of None stage = line.Gone
 line_of (Some entry) stage =
     if is_off entry.act then line.Off else if lives_of entry stage then line.Here else line.Elsewhere
 
 -- a line that is gone or off costs the child; any other costs it where the stage is that of the reading
-abbrev pub is_cost : Line → Bool → Bool
+abbrev pub is_cost : ChildLine → Bool → Bool
 is_cost line.Gone same = true
 is_cost line.Off same = true
 is_cost _ same = same
 
-abbrev pub cost_text : Line → List ℕ
+abbrev pub cost_text : ChildLine → List ℕ
 cost_text line.Gone = codes "no line any more"
 cost_text line.Off = codes "its line is off"
 cost_text line.Here = codes "its line has another action"

@@ -3,18 +3,18 @@
 use crate::old_requests::OldRequests;
 
 /// Says what becomes of the bytes that stand in a channel before its first reading.
-pub fn say_old(rt: &impl Eprint, path: &str, length: u64, fresh: bool) {
+pub fn tell_old(rt: &impl Eprint, path: &str, length: u64, fresh: bool) {
     let old = OldRequests::of(length, fresh);
     let _ = eprintln!(rt; "initd: {path} has {old}");
 }
 
 /// Says that the channel is another file than before, or shorter than what was read.
-pub fn say_made_anew(rt: &impl Eprint, path: &str) {
+pub fn tell_made_anew(rt: &impl Eprint, path: &str) {
     let _ = eprintln!(rt; "initd: {path} was made anew: read from its beginning");
 }
 
 /// Says that the channel ends with so many bytes that are no whole request.
-pub fn say_torn(rt: &impl Eprint, path: &str, over: u64) {
+pub fn tell_torn(rt: &impl Eprint, path: &str, over: u64) {
     let _ = eprintln!(rt;
         "initd: {path} has {over} bytes that are no whole request: every later request is out of step; truncate -s /384 {path}, or remove it"
     );

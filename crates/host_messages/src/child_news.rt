@@ -1,9 +1,9 @@
 //! What is told of the children of a host: each line has the name of the program that tells it and the id in front.
 
-use crate::costs::Line;
+use crate::costs::ChildLine;
 use crate::names::{Escaped, shown};
-use crate::news::{News, end_news, last_end_of};
-use crate::starts::Starts;
+use crate::news::{ChildMessage, end_news, last_end_of};
+use crate::starts::StartCounts;
 use indexmap::IndexMap;
 use init_words::{ChildNumber, Id, SignalKind};
 use std::alloc::Allocator;
@@ -18,9 +18,9 @@ pub struct ChildNews<A: Allocator> {
     /// The name of the program that tells it.
     program: &'static str,
     /// How the last child of each id ended, as far as there was memory to keep it.
-    ends: IndexMap<Id, News, BuildHasherDefault<FoldHasher>, A>,
+    ends: IndexMap<Id, ChildMessage, BuildHasherDefault<FoldHasher>, A>,
     /// The births, where it is told what children do.
-    starts: Option<Starts<A>>,
+    starts: Option<StartCounts<A>>,
 }
 
 impl<A: Allocator + Copy> ChildNews<A> {
@@ -36,7 +36,7 @@ impl<A: Allocator + Copy> ChildNews<A> {
 
     /// From now on it is told what children do. It takes no memory.
     pub fn tell_all(&mut self) {
-        self.starts = Some(Starts::new(self.alloc, self.program));
+        self.starts = Some(StartCounts::new(self.alloc, self.program));
     }
 
     /// Tells that a child was started, where that is told.
@@ -45,8 +45,8 @@ impl<A: Allocator + Copy> ChildNews<A> {
             return;
         };
         let news = match starts.count(rt, *id) {
-            Some(count) if count > 1 => News::StartedAgain(number.0, count),
-            _ => News::Started(number.0),
+            Some(count) if count > 1 => ChildMessage::StartedAgain(number.0, count),
+            _ => ChildMessage::Started(number.0),
         };
         self.tell(rt, id, &news);
     }
@@ -62,10 +62,10 @@ impl<A: Allocator + Copy> ChildNews<A> {
 
     /// Tells that a child was sent the signal, where that is told.
     pub fn tell_sent(&self, rt: &impl Eprint, id: &Id, signal: SignalKind) {
-        self.tell(rt, id, &News::Sent(signal));
+        self.tell(rt, id, &ChildMessage::Sent(signal));
     }
 
-    fn tell(&self, rt: &impl Eprint, id: &Id, news: &News) {
+    fn tell(&self, rt: &impl Eprint, id: &Id, news: &ChildMessage) {
         if self.starts.is_some() {
             let id = shown(id.as_bytes());
             let _ = eprintln!(rt; "{}: {id}: {news}", self.program);
@@ -73,7 +73,7 @@ impl<A: Allocator + Copy> ChildNews<A> {
     }
 
     /// Says why a child that was to execute this was not born.
-    pub fn say_not_born(&self, rt: &impl Eprint, id: &Id, executed: Escaped<'_>, error: &Error) {
+    pub fn tell_not_born(&self, rt: &impl Eprint, id: &Id, executed: Escaped<'_>, error: &Error) {
         let id = shown(id.as_bytes());
         let program = self.program;
         let _ = match error.kind() {
@@ -83,7 +83,7 @@ impl<A: Allocator + Copy> ChildNews<A> {
     }
 
     /// Says how the id's last child ended, and what that mostly means.
-    pub fn say_last_end(&self, rt: &impl Eprint, id: &Id) {
+    pub fn tell_last_end(&self, rt: &impl Eprint, id: &Id) {
         if let Some(end) = self.ends.get(id) {
             let id = shown(id.as_bytes());
             let end = last_end_of(*end);
@@ -92,7 +92,7 @@ impl<A: Allocator + Copy> ChildNews<A> {
     }
 
     /// Says that a child is stopped since an inittab that was read again has this for it.
-    pub fn say_cost(&self, rt: &impl Eprint, id: &Id, number: ChildNumber, line: Line) {
+    pub fn tell_cost(&self, rt: &impl Eprint, id: &Id, number: ChildNumber, line: ChildLine) {
         let id = shown(id.as_bytes());
         let number = number.0;
         let _ = eprintln!(rt;

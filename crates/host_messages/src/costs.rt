@@ -8,7 +8,7 @@ use std::fmt;
 
 /// What an inittab that was read again has for a child, at the stage of its reading.
 #[derive(Clone, Copy, PartialEq)]
-pub enum Line {
+pub enum ChildLine {
     /// There is no line of its id.
     Gone,
     /// Its line is off.
@@ -19,16 +19,16 @@ pub enum Line {
     Elsewhere,
 }
 
-impl Line {
+impl ChildLine {
     /// What a table has for a child, by the entry of its id, where there is one.
-    pub fn of(entry: Option<&Entry>, stage: Stage) -> Line
+    pub fn of(entry: Option<&Entry>, stage: Stage) -> ChildLine
         ensures { result ≡ line_of (option_copied entry.entry) stage }
     {
         match entry {
-            None => Line::Gone,
-            Some(entry) if matches!(entry.act, Act::Off) => Line::Off,
-            Some(entry) if lives(entry, stage) => Line::Here,
-            Some(_) => Line::Elsewhere,
+            None => ChildLine::Gone,
+            Some(entry) if matches!(entry.act, Act::Off) => ChildLine::Off,
+            Some(entry) if lives(entry, stage) => ChildLine::Here,
+            Some(_) => ChildLine::Elsewhere,
         }
     }
 
@@ -36,11 +36,11 @@ impl Line {
     pub fn is_cost(self, is_same_stage: bool) -> bool
         ensures { result ≡ is_cost self is_same_stage }
     {
-        is_same_stage || matches!(self, Line::Gone | Line::Off)
+        is_same_stage || matches!(self, ChildLine::Gone | ChildLine::Off)
     }
 }
 
-impl fmt::Display for Line {
+impl fmt::Display for ChildLine {
     ghost use Rattle.std.specs.Prelude.{Some};
     ghost use Rattle.host_messages.specs.Costs.{cost_text};
 
@@ -48,10 +48,10 @@ impl fmt::Display for Line {
 
     fn fmt<W: fmt::Write>(&self, f: &mut fmt::Formatter<W>) -> fmt::Result {
         f.write_str(match self {
-            Line::Gone => "no line any more",
-            Line::Off => "its line is off",
-            Line::Here => "its line has another action",
-            Line::Elsewhere => "its line does not run in this level",
+            ChildLine::Gone => "no line any more",
+            ChildLine::Off => "its line is off",
+            ChildLine::Here => "its line has another action",
+            ChildLine::Elsewhere => "its line does not run in this level",
         })
     }
 }

@@ -5,24 +5,24 @@ use init_words::Id;
 use std::io::Error;
 
 /// Says why there is no bell.
-pub fn say_no_bell(rt: &impl Eprint, path: &str, error: &Error) {
+pub fn tell_no_bell(rt: &impl Eprint, path: &str, error: &Error) {
     let _ = eprintln!(rt; "initd: cannot make {path}: {error}");
 }
 
 /// Says why an id's child is started without its log.
-pub fn say_no_log(rt: &impl Eprint, id: &Id, log: &str, error: &Error) {
+pub fn tell_no_log(rt: &impl Eprint, id: &Id, log: &str, error: &Error) {
     let id = shown(id.as_bytes());
     let _ = eprintln!(rt; "initd: {id}: cannot open {log}: {error}: started without");
 }
 
 /// Says which file the log of an id is that is no name of a file.
-pub fn say_log(rt: &impl Eprint, id: &Id, log: &str) {
+pub fn tell_log(rt: &impl Eprint, id: &Id, log: &str) {
     let id = shown(id.as_bytes());
     let _ = eprintln!(rt; "initd: {id}: its log is {log}");
 }
 
 /// Says that a file of the inittab's folder is passed over; nothing of the folder itself and of that above it.
-pub fn say_passed(rt: &impl Eprint, folder: &str, name: &[u8]) {
+pub fn tell_passed(rt: &impl Eprint, folder: &str, name: &[u8]) {
     if matches!(name, b"." | b"..") {
         return;
     }

@@ -24,11 +24,11 @@ mod starts;
 mod troubles;
 
 pub use announcements::announcement_text;
-pub use channel_lines::{say_made_anew, say_old, say_torn};
+pub use channel_lines::{tell_made_anew, tell_old, tell_torn};
 pub use child_news::ChildNews;
-pub use costs::Line;
-pub use file_lines::{say_log, say_no_bell, say_no_log, say_passed};
-pub use line_faults::{faults_text, say_refused, say_too_long, say_too_many};
+pub use costs::ChildLine;
+pub use file_lines::{tell_log, tell_no_bell, tell_no_log, tell_passed};
+pub use line_faults::{faults_text, tell_refused, tell_too_long, tell_too_many};
 pub use names::{Escaped, escape, shown};
 pub use outputs::Output;
 pub use passed_over::PassedOver;

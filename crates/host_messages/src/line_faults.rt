@@ -109,19 +109,19 @@ fn add_place<A: Allocator, B: Allocator>(
     Ok(())
 }
 
-pub fn say_too_long(rt: &impl Eprint, path: &str) {
+pub fn tell_too_long(rt: &impl Eprint, path: &str) {
     let _ = eprintln!(rt;
         "initd: {path} is longer than 1048576 bytes: shorten it, and give telinit q"
     );
 }
 
-pub fn say_too_many(rt: &impl Eprint, path: &str) {
+pub fn tell_too_many(rt: &impl Eprint, path: &str) {
     let _ = eprintln!(rt;
         "initd: {path} and its folder are more than 256 files: put some together, and give telinit q"
     );
 }
 
-pub fn say_refused(rt: &impl Eprint, path: &str) {
+pub fn tell_refused(rt: &impl Eprint, path: &str) {
     let _ = eprintln!(rt;
         "initd: {path} has faulty lines: the one before stays, as --strict says: mend them, and give telinit q"
     );

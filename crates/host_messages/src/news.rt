@@ -12,7 +12,7 @@ use std::process::ExitStatus;
 
 /// What is told of a child by a host that tells of its children.
 #[derive(Clone, Copy)]
-pub(crate) enum News {
+pub(crate) enum ChildMessage {
     /// It was started, with this number, as the first of its id, or nobody knows as which.
     Started(u32),
     /// It was started, with this number, as one of so many of its id.
@@ -27,7 +27,7 @@ pub(crate) enum News {
     Sent(SignalKind),
 }
 
-impl fmt::Display for News {
+impl fmt::Display for ChildMessage {
     ghost use Rattle.std.specs.Prelude.{Some};
     ghost use Rattle.host_messages.specs.News.{news_text};
 
@@ -36,16 +36,16 @@ impl fmt::Display for News {
     fn fmt<W: fmt::Write>(&self, f: &mut fmt::Formatter<W>) -> fmt::Result {
         let mut digits = Buffer::new();
         match *self {
-            News::Started(number) => write!(f, "started, {}", digits.format(number)),
-            News::StartedAgain(number, count) => {
+            ChildMessage::Started(number) => write!(f, "started, {}", digits.format(number)),
+            ChildMessage::StartedAgain(number, count) => {
                 let mut counted = Buffer::new();
                 let number = digits.format(number);
                 write!(f, "started, {number} (start {})", counted.format(count))
             }
-            News::Ended(code) => write!(f, "ended with {}", digits.format(code)),
-            News::Killed(signal) => write!(f, "killed by signal {}", digits.format(signal)),
-            News::Gone => f.write_str("ended"),
-            News::Sent(signal) => f.write_str(sent_text(signal)),
+            ChildMessage::Ended(code) => write!(f, "ended with {}", digits.format(code)),
+            ChildMessage::Killed(signal) => write!(f, "killed by signal {}", digits.format(signal)),
+            ChildMessage::Gone => f.write_str("ended"),
+            ChildMessage::Sent(signal) => f.write_str(sent_text(signal)),
         }
     }
 }
@@ -60,35 +60,35 @@ fn sent_text(signal: SignalKind) -> &'static str
 }
 
 /// How a child of this status ended.
-pub(crate) fn end_news(status: &ExitStatus) -> News
+pub(crate) fn end_news(status: &ExitStatus) -> ChildMessage
     ensures { result ≡ end_news (exit_code status.now) (exit_signal status.now) }
 {
     if let Some(code) = status.code() {
-        return News::Ended(code.unsigned_abs());
+        return ChildMessage::Ended(code.unsigned_abs());
     }
     match status.signal() {
-        Some(signal) => News::Killed(signal.unsigned_abs()),
-        None => News::Gone,
+        Some(signal) => ChildMessage::Killed(signal.unsigned_abs()),
+        None => ChildMessage::Gone,
     }
 }
 
 /// How the last child of an id ended that is started too often, and what that mostly means.
 #[derive(Drop)]
-pub(crate) struct LastEnd(News);
+pub(crate) struct LastEnd(ChildMessage);
 
-pub(crate) fn last_end_of(end: News) -> LastEnd {
+pub(crate) fn last_end_of(end: ChildMessage) -> LastEnd {
     LastEnd(end)
 }
 
 impl fmt::Display for LastEnd {
     fn fmt<W: fmt::Write>(&self, f: &mut fmt::Formatter<W>) -> fmt::Result {
         match self.0 {
-            News::Ended(0) => f.write_str(
+            ChildMessage::Ended(0) => f.write_str(
                 "exit 0: a process that puts itself in the background has ended for init",
             ),
-            News::Ended(126) => f.write_str("exit 126: its program could not be executed"),
-            News::Ended(127) => f.write_str("exit 127: its program was not found"),
-            News::Ended(code) => write!(f, "exit {}", Buffer::new().format(code)),
+            ChildMessage::Ended(126) => f.write_str("exit 126: its program could not be executed"),
+            ChildMessage::Ended(127) => f.write_str("exit 127: its program was not found"),
+            ChildMessage::Ended(code) => write!(f, "exit {}", Buffer::new().format(code)),
             end => write!(f, "{end}"),
         }
     }

@@ -34,7 +34,7 @@ impl<A: Allocator + Copy> Output<A> {
         rt: &R,
         happening: &HappeningIn<B>,
     ) -> bool {
-        let said = say(rt, self.alloc, happening);
+        let said = print_announcement(rt, self.alloc, happening);
         self.tell(rt, &said)
     }
 
@@ -65,7 +65,7 @@ impl<A: Allocator + Copy> Output<A> {
 }
 
 /// Prints what init says of the happening, and gives how many bytes that are.
-fn say<A: Allocator, B: Allocator>(
+fn print_announcement<A: Allocator, B: Allocator>(
     rt: &impl Print,
     alloc: A,
     happening: &HappeningIn<B>,

@@ -7,7 +7,7 @@ use std::hash::{BuildHasherDefault, FoldHasher};
 
 /// How many children were born for each id.
 #[derive(Drop)]
-pub(crate) struct Starts<A: Allocator> {
+pub(crate) struct StartCounts<A: Allocator> {
     /// The name of the program that says what is said of them.
     program: &'static str,
     counts: IndexMap<Id, u64, BuildHasherDefault<FoldHasher>, A>,
@@ -15,10 +15,10 @@ pub(crate) struct Starts<A: Allocator> {
     is_short: bool,
 }
 
-impl<A: Allocator + Copy> Starts<A> {
+impl<A: Allocator + Copy> StartCounts<A> {
     /// No births. It takes no memory.
-    pub(crate) fn new(alloc: A, program: &'static str) -> Starts<A> {
-        Starts {
+    pub(crate) fn new(alloc: A, program: &'static str) -> StartCounts<A> {
+        StartCounts {
             program,
             counts: IndexMap::new(alloc),
             is_short: false,

@@ -2,7 +2,7 @@
 
 use crate::commands::{BoxedCommand, add_word, bare_command};
 use host_files::Channel;
-use host_messages::say_no_bell;
+use host_messages::tell_no_bell;
 use std::alloc::{AllocError, Allocator};
 use std::io;
 use std::io::Error;
@@ -20,7 +20,7 @@ pub(crate) fn make_bell<R: Processes + Files + Eprint, A: Allocator + Copy>(
     }
     let path = channel.bell_path();
     if let Err(error) = made_at(rt, alloc, path) {
-        say_no_bell(rt, path, &error);
+        tell_no_bell(rt, path, &error);
     }
 }
 

@@ -6,11 +6,11 @@ ghost use Rattle.host_calls.specs.Held.{Looks, Signals, holds_child, without_chi
 ghost use Rattle.host_system.specs.Hosts.{is_look_answer, is_signal_answer};
 
 use crate::commands::{BoxedCommand, command_of, needs_shell};
-use crate::held::Held;
+use crate::held::HeldChild;
 use crate::logs::Logs;
 use crate::terms::TermSender;
 use host_files::boxed;
-use host_messages::{ChildNews, Escaped, Line, escape};
+use host_messages::{ChildLine, ChildNews, Escaped, escape};
 use indexmap::IndexMap;
 use init_words::{Answer, ChildNumber, Id, Memory, SignalKind, Stage, Status};
 use inittab_text::Table;
@@ -29,7 +29,7 @@ pub(crate) struct Children<R: Processes, A: Allocator> {
     alloc: A,
     /// The name of the program that says what is said of them.
     program: &'static str,
-    handles: IndexMap<Id, Held<R::Started>, BuildHasherDefault<FoldHasher>, A>,
+    handles: IndexMap<Id, HeldChild<R::Started>, BuildHasherDefault<FoldHasher>, A>,
     terms: TermSender<R::Started>,
     /// The stage, and that in which an inittab was read again last.
     stage: Option<Stage>,
@@ -133,7 +133,7 @@ impl<R: Processes, A: Allocator + Copy> Children<R, A> {
         ensures not_born { OnErr result (self.new ≡ self.old) }
     {
         self.handles.reserve(1)?;
-        let held = Held::new(command.spawn(rt)?, self.program);
+        let held = HeldChild::new(command.spawn(rt)?, self.program);
         let number = held.number();
         let Ok(_) = self.handles.insert(id, held) else {
             unreachable!()
@@ -167,11 +167,11 @@ impl<R: Processes, A: Allocator + Copy> Children<R, A> {
     }
 
     /// Says on standard error why a child was not born.
-    pub(crate) fn say_not_born(&self, rt: &R, id: &Id, text: &[u8], error: &io::Error)
+    pub(crate) fn tell_not_born(&self, rt: &R, id: &Id, text: &[u8], error: &io::Error)
     where
         R: Eprint,
     {
-        self.news.say_not_born(rt, id, program_of(text), error);
+        self.news.tell_not_born(rt, id, program_of(text), error);
     }
 
     /// Reaps the id's child if it has ended.
@@ -211,11 +211,11 @@ impl<R: Processes, A: Allocator + Copy> Children<R, A> {
     }
 
     /// Says on standard error how the id's last child ended, and what that mostly means.
-    pub(crate) fn say_last_end(&self, rt: &R, id: &Id)
+    pub(crate) fn tell_last_end(&self, rt: &R, id: &Id)
     where
         R: Eprint,
     {
-        self.news.say_last_end(rt, id);
+        self.news.tell_last_end(rt, id);
     }
 
     /// The stage was entered.
@@ -235,10 +235,10 @@ impl<R: Processes, A: Allocator + Copy> Children<R, A> {
         self.read_in = Some(stage);
         // All are kept: `retain` says what is written to each, as `iter_mut` doesn't.
         self.handles.retain(
-            |id: &Id, held: &mut Held<R::Started>| -> bool
+            |id: &Id, held: &mut HeldChild<R::Started>| -> bool
                 ensures { (result ≡ true) × (held.new ≡ held.old) }
             {
-                held.note(Line::of(table.get(id), stage));
+                held.note(ChildLine::of(table.get(id), stage));
                 true
             },
         );
@@ -265,14 +265,14 @@ impl<R: Processes, A: Allocator + Copy> Children<R, A> {
         if !sent {
             return Answer::Miss;
         }
-        self.say_cost(rt, id);
+        self.tell_cost(rt, id);
         self.news.tell_sent(rt, id, signal);
         Answer::Hit
     }
 
     /// Says on standard error, once, that the id's child, which is sent a signal, is the cost of an inittab that was
     /// read again.
-    fn say_cost(&mut self, rt: &R, id: &Id)
+    fn tell_cost(&mut self, rt: &R, id: &Id)
     where
         R: Eprint,
         ensures { self.new ≡ self.old }
@@ -281,7 +281,7 @@ impl<R: Processes, A: Allocator + Copy> Children<R, A> {
         let Some(held) = self.handles.get_mut(id) else {
             return;
         };
-        held.say_cost(rt, &self.news, id, is_same_stage);
+        held.tell_cost(rt, &self.news, id, is_same_stage);
     }
 
     fn term(&mut self, rt: &R, id: &Id) -> bool

@@ -2,7 +2,7 @@
 
 ghost use Rattle.std.specs.Prelude.{◌≡◌};
 
-use host_messages::{ChildNews, Line, Trouble, shown};
+use host_messages::{ChildLine, ChildNews, Trouble, shown};
 use init_words::{ChildNumber, Id};
 use std::alloc::Allocator;
 use std::io;
@@ -11,15 +11,15 @@ use std::process::{Child, ExitStatus, OpenProcess};
 
 /// A child with the number that it was born with, and whether TERM could be sent to it.
 #[derive(Drop)]
-pub(crate) struct Held<P: OpenProcess + Drop> {
+pub(crate) struct HeldChild<P: OpenProcess + Drop> {
     number: ChildNumber,
     child: Child<P>,
     stopping: Trouble,
     /// What an inittab that was read since its birth has for it.
-    line: Option<Line>,
+    line: Option<ChildLine>,
 }
 
-impl<P: OpenProcess + Drop> Model for Held<P> {
+impl<P: OpenProcess + Drop> Model for HeldChild<P> {
     ghost use Rattle.std.specs.Prelude.{ℕ};
 
     ghost Value = { ℕ };
@@ -27,10 +27,10 @@ impl<P: OpenProcess + Drop> Model for Held<P> {
     ghost view = { λ held. held.number };
 }
 
-impl<P: OpenProcess + Drop> Held<P> {
+impl<P: OpenProcess + Drop> HeldChild<P> {
     /// A child that was just started.
-    pub(crate) fn new(child: Child<P>, program: &'static str) -> Held<P> {
-        Held {
+    pub(crate) fn new(child: Child<P>, program: &'static str) -> HeldChild<P> {
+        HeldChild {
             number: ChildNumber(child.id()),
             child,
             stopping: Trouble::new(program, "send TERM to", "TERM was sent"),
@@ -67,7 +67,7 @@ impl<P: OpenProcess + Drop> Held<P> {
     }
 
     /// An inittab that was read has this for it.
-    pub(crate) fn note(&mut self, line: Line)
+    pub(crate) fn note(&mut self, line: ChildLine)
         ensures { self.new ≡ self.old }
     {
         self.line = Some(line);
@@ -75,7 +75,7 @@ impl<P: OpenProcess + Drop> Held<P> {
 
     /// Says on standard error, once, that the child, which is sent a signal, is the cost of an inittab that was read
     /// again, where it is.
-    pub(crate) fn say_cost<A: Allocator + Copy>(
+    pub(crate) fn tell_cost<A: Allocator + Copy>(
         &mut self,
         rt: &impl Eprint,
         news: &ChildNews<A>,
@@ -85,7 +85,7 @@ impl<P: OpenProcess + Drop> Held<P> {
         ensures { self.new ≡ self.old }
     {
         match self.line.take() {
-            Some(line) if line.is_cost(is_same_stage) => news.say_cost(rt, id, self.number, line),
+            Some(line) if line.is_cost(is_same_stage) => news.tell_cost(rt, id, self.number, line),
             _ => {}
         }
     }

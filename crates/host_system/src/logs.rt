@@ -6,7 +6,7 @@ ghost use Rattle.host_system.specs.Logs.{is_log_byte, is_log_name};
 
 use crate::commands::{BoxedCommand, command_of, logged_command};
 use host_files::is_hidden;
-use host_messages::{say_log, say_no_log, shown};
+use host_messages::{shown, tell_log, tell_no_log};
 use indexmap::IndexSet;
 use init_words::{Id, Memory};
 use program_io::refuse_special;
@@ -45,7 +45,7 @@ impl<A: Allocator + Copy> Logs<A> {
     ) -> io::Result<Option<BoxedCommand<B>>> {
         let log = self.path(rt, alloc, id)?;
         if let Err(error) = made_ready(rt, log.as_str()) {
-            say_no_log(rt, id, log.as_str(), &error);
+            tell_no_log(rt, id, log.as_str(), &error);
             return Ok(command_of(alloc, text)?);
         }
         let Some(mut command) = logged_command(alloc, log.as_str(), text)? else {
@@ -68,7 +68,7 @@ impl<A: Allocator + Copy> Logs<A> {
         }
         let path = format!(in alloc; "{}/_.log", self.folder)?;
         if !matches!(self.told.insert(*id), Ok(false)) {
-            say_log(rt, id, path.as_str());
+            tell_log(rt, id, path.as_str());
         }
         Ok(path)
     }

@@ -11,7 +11,7 @@ use crate::pauses::{Pauses, has_stirred};
 use crate::steady_clocks::SteadyClock;
 use host_calls::{Host, HostFault, Reading, Reply, counted, is_failed_reply};
 use host_files::{Channel, InittabFiles, StateFile, boxed};
-use host_messages::{Output, say_refused};
+use host_messages::{Output, tell_refused};
 use init_words::{Answer, Id, Memory, Part, SignalKind};
 use inittab_text::{PartFault, Table};
 use program_io::ChannelLock;
@@ -289,7 +289,7 @@ impl<
         self.faults = counted(self.faults, !is_printed);
         if self.strict && !faults.is_empty() {
             self.output.forget_faults();
-            say_refused(&self.rt, self.inittab.path());
+            tell_refused(&self.rt, self.inittab.path());
             return false;
         }
         self.children.note_lines(table);
@@ -341,7 +341,7 @@ impl<R: Processes + Files<File = File> + Clock + Print + Eprint + Drop, A: Alloc
         let reply = match host.children.start(&host.rt, alloc, id, command) {
             Ok(number) => Reply::Now(Answer::Born(number)),
             Err(error) => {
-                host.children.say_not_born(&host.rt, &id, command, &error);
+                host.children.tell_not_born(&host.rt, &id, command, &error);
                 Reply::Now(Answer::NotBorn)
             }
         };
@@ -428,7 +428,7 @@ impl<R: Processes + Files<File = File> + Clock + Print + Eprint + Drop, A: Alloc
         match reading {
             Ok((table, faults)) => host.takes_table(parts, table, faults),
             Err(fault) => {
-                host.inittab.say_no_table(&host.rt, *fault);
+                host.inittab.tell_no_table(&host.rt, *fault);
                 true
             }
         }
@@ -463,7 +463,7 @@ impl<R: Processes + Files<File = File> + Clock + Print + Eprint + Drop, A: Alloc
         host.faults = counted(host.faults, !is_printed);
         match happening {
             Happening::Enter(stage, _) => host.children.enter(*stage),
-            Happening::Hold(id) => host.children.say_last_end(&host.rt, id),
+            Happening::Hold(id) => host.children.tell_last_end(&host.rt, id),
             _ => {}
         }
     }

@@ -1,6 +1,6 @@
 //! How long a pause is.
 
-use crate::steady_clocks::Watch;
+use crate::steady_clocks::TurnTimer;
 use host_calls::Reply;
 use init_words::Answer;
 use std::rt::Clock;
@@ -40,7 +40,7 @@ pub(crate) struct Pauses {
     /// The length of all pauses since something happened, where each is a tenth of those before it.
     passed: Option<u64>,
     /// What takes the time of a turn.
-    watch: Watch,
+    watch: TurnTimer,
 }
 
 impl Pauses {
@@ -53,7 +53,7 @@ impl Pauses {
             by_cost: false,
             stirred: false,
             passed: None,
-            watch: Watch::new(),
+            watch: TurnTimer::new(),
         }
     }
 
@@ -66,7 +66,7 @@ impl Pauses {
             by_cost: false,
             stirred: false,
             passed: Some(0),
-            watch: Watch::new(),
+            watch: TurnTimer::new(),
         }
     }
 

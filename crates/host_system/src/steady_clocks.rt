@@ -59,14 +59,14 @@ fn begun(rt: &impl Clock) -> io::Result<Beginning> {
 
 /// What takes the time of a turn.
 #[derive(Drop)]
-pub(crate) struct Watch {
+pub(crate) struct TurnTimer {
     started: Option<Instant>,
 }
 
-impl Watch {
+impl TurnTimer {
     /// It was not started yet.
-    pub(crate) fn new() -> Watch {
-        Watch { started: None }
+    pub(crate) fn new() -> TurnTimer {
+        TurnTimer { started: None }
     }
 
     /// Starts it anew.

@@ -95,7 +95,7 @@ fn carry<A: Allocator + Copy, E: Edge>(
 }
 
 /// Writes what came of a hand-over, and says so where it was refused.
-fn say<E: Edge>(edge: &mut E, how: Handed)
+fn tell<E: Edge>(edge: &mut E, how: Handed)
     ensures log { (past : List Event) →
         Logs (E.state (E.log edge.old)) (E.state (E.log edge.new)) past
         (happening.Handed how ∷ past) }
@@ -117,7 +117,7 @@ fn not_handed<A: Allocator, E: Edge>(core: &mut Core<A>, edge: &mut E)
         (E.state (E.log edge.old)) (E.state (E.log edge.new)) }
 {
     core.not_handed();
-    say(edge, Handed::Failed);
+    tell(edge, Handed::Failed);
 }
 
 /// Executes init anew. Where no text is made, or what comes back is not taken over, init goes on as it is.
@@ -131,5 +131,5 @@ pub(crate) fn reexec<A: Allocator + Copy, E: Edge>(alloc: A, core: &mut Core<A>,
         return not_handed(core, edge);
     };
     let how = carry(alloc, core, edge, &text);
-    say(edge, how);
+    tell(edge, how);
 }

@@ -24,7 +24,7 @@ fn is_idle(step: &Step) -> bool
 }
 
 /// Says a step that needs no more.
-fn say<E: Edge>(edge: &mut E, happening: Happening)
+fn tell<E: Edge>(edge: &mut E, happening: Happening)
     ensures makes { (core : CoreState) (made : Step) → SaysStep made happening
         → Makes E.state E.told E.log edge.old edge.new
         IsStep (Gave (Tracks core) made) (Tracks core) }
@@ -45,11 +45,11 @@ fn carry_out<A: Allocator + Copy, E: Edge>(alloc: A, core: &mut Core<A>, edge: &
         → GrowsBy core.old core.new (E.state (E.log edge.old)) (E.state (E.log edge.new)) }
 {
     match *step {
-        Step::Enter(stage, grace) => say(edge, Happening::Enter(stage, grace)),
-        Step::Call(letter) => say(edge, Happening::Call(letter)),
-        Step::Power(kind) => say(edge, Happening::Power(kind)),
-        Step::Hold(id) => say(edge, Happening::Hold(id)),
-        Step::Settle(level) => say(edge, Happening::Settle(level)),
+        Step::Enter(stage, grace) => tell(edge, Happening::Enter(stage, grace)),
+        Step::Call(letter) => tell(edge, Happening::Call(letter)),
+        Step::Power(kind) => tell(edge, Happening::Power(kind)),
+        Step::Hold(id) => tell(edge, Happening::Hold(id)),
+        Step::Settle(level) => tell(edge, Happening::Settle(level)),
         Step::Order(id, ask) => order(alloc, core, edge, id, &ask),
         Step::Reread => reread(alloc, core, edge),
         Step::Reexec => reexec(alloc, core, edge),

@@ -245,7 +245,7 @@ impl<'a, R: Files<File = File> + Eprint> FileLog<'a, R> {
             Err(fault) => {
                 self.is_torn = true;
                 self.is_waiting = false;
-                self.say_torn(fault);
+                self.tell_torn(fault);
             }
         }
     }
@@ -256,7 +256,7 @@ impl<'a, R: Files<File = File> + Eprint> FileLog<'a, R> {
         match &self.log.writer().fault {
             Some(error) if !self.is_waiting => {
                 self.is_waiting = true;
-                say_waiting(self.rt, path, error);
+                tell_waiting(self.rt, path, error);
             }
             None if self.is_waiting => {
                 self.is_waiting = false;
@@ -269,7 +269,7 @@ impl<'a, R: Files<File = File> + Eprint> FileLog<'a, R> {
     }
 
     /// Says why a happening could not be written.
-    fn say_torn(&self, fault: LogFault) {
+    fn tell_torn(&self, fault: LogFault) {
         let path = self.path;
         let _ = match &self.log.writer().fault {
             Some(error) => eprintln!(self.rt;
@@ -294,10 +294,10 @@ impl<'a, R: Files<File = File> + Eprint> FileLog<'a, R> {
             Ok(file) => {
                 let _ = takes_lock(&file);
                 self.go_on_in(file, is_torn);
-                say_resumed(self.rt, path, is_torn)
+                tell_resumed(self.rt, path, is_torn)
             }
             Err(error) if error.kind() == ErrorKind::AlreadyExists => {
-                say_occupied(self.rt, path, is_off)
+                tell_occupied(self.rt, path, is_off)
             }
             Err(error) if is_torn => eprintln!(self.rt;
                 "initd: cannot create the trace {path}: {error}: init goes on without it"
@@ -327,14 +327,14 @@ impl<'a, R: Files<File = File> + Eprint> FileLog<'a, R> {
 }
 
 /// Says that bytes are kept since the file can't be written.
-fn say_waiting(rt: &impl Eprint, path: &str, error: &io::Error) {
+fn tell_waiting(rt: &impl Eprint, path: &str, error: &io::Error) {
     let _ = eprintln!(rt;
         "initd: cannot write the trace {path}: {error}: up to 1,048,576 bytes of it are kept until there is room"
     );
 }
 
 /// Says, of a trace that could not be written, that it is written again.
-fn say_resumed(rt: &impl Eprint, path: &str, is_off: bool) -> io::Result<()> {
+fn tell_resumed(rt: &impl Eprint, path: &str, is_off: bool) -> io::Result<()> {
     if !is_off {
         return Ok(());
     }
@@ -344,7 +344,7 @@ fn say_resumed(rt: &impl Eprint, path: &str, is_off: bool) -> io::Result<()> {
 }
 
 /// Says, of a trace that could not be written, what it takes to go on.
-fn say_occupied(rt: &impl Eprint, path: &str, is_off: bool) -> io::Result<()> {
+fn tell_occupied(rt: &impl Eprint, path: &str, is_off: bool) -> io::Result<()> {
     if !is_off {
         return Ok(());
     }
@@ -393,7 +393,7 @@ impl<R: Files<File = File> + Eprint> EndedLog for FileLog<'_, R> {
         let (mut file, _) = log.end();
         file.catch_up();
         match &file.fault {
-            Some(error) if !is_waiting => say_waiting(rt, path, error),
+            Some(error) if !is_waiting => tell_waiting(rt, path, error),
             _ => {}
         }
         ((), !is_torn && file.fault.is_none())

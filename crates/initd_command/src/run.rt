@@ -108,7 +108,7 @@ struct Inittab {
 
 /// What a run made before its first turn, and takes away again where it is refused.
 #[derive(Clone, Copy)]
-struct Made {
+struct MadeFiles {
     channel: bool,
     trace: bool,
 }
@@ -120,7 +120,7 @@ struct Run<H> {
     host: H,
     /// The file of the trace, where one is to be written.
     trace: Option<File>,
-    made: Made,
+    made: MadeFiles,
     /// The lines that tell the faults of the inittab.
     faults: Vec<u8>,
     /// Nothing names a level.
@@ -216,7 +216,7 @@ where
         opening,
         host,
         trace,
-        made: Made {
+        made: MadeFiles {
             channel: made_channel,
             trace: made_trace,
         },

@@ -19,8 +19,8 @@ use Rattle.inittab_text.specs.Tables.{default_level_of}
 use Rattle.inittab_text.specs.Written.{is_empty}
 use Rattle.inittab_lint.specs.declared.linting.DefaultLevel.{DefaultLevel}
 use Rattle.inittab_lint.specs.declared.linting.DefaultLevel.TheVariants as default
-use Rattle.inittab_lint.specs.declared.linting.Found.{Found}
-use Rattle.inittab_lint.specs.declared.linting.Found.TheVariants as found
+use Rattle.inittab_lint.specs.declared.linting.Findings.{Findings}
+use Rattle.inittab_lint.specs.declared.linting.Findings.TheVariants as found
 use Rattle.inittab_lint.specs.declared.traps.LineWarning.{LineWarning}
 use Rattle.inittab_lint.specs.Meant.{meant}
 use Rattle.inittab_lint.specs.Warnings.{warning_words, warnings_of}
@@ -150,18 +150,18 @@ lint_text parts faults warnings level =
     ++ (warning_lines parts warnings ++ default_line (slice_get parts 0) level))
 
 -- a fault counts before any warning
-abbrev pub found_by : List PartFault → List LineWarning → DefaultLevel → Found
+abbrev pub found_by : List PartFault → List LineWarning → DefaultLevel → Findings
 found_by (fault ∷ faults) warnings level = found.Faults
 found_by [] (warning ∷ warnings) level = found.Warnings
 found_by [] [] default.Served = found.Nothing
 found_by [] [] _ = found.Warnings
 
 -- what is told and what was found
-abbrev pub lint_by : List NamedText → List PartFault → List LineWarning → DefaultLevel → List ℕ × Found
+abbrev pub lint_by : List NamedText → List PartFault → List LineWarning → DefaultLevel → List ℕ × Findings
 lint_by parts faults warnings level = (lint_text parts faults warnings level, found_by faults warnings level)
 
 -- of files: the faults of the reader, the warnings that hold, further ones, and the default level of their table
-abbrev pub lint_in : List NamedText → List LineWarning → List ℕ × Found
+abbrev pub lint_in : List NamedText → List LineWarning → List ℕ × Findings
 lint_in parts more =
     lint_by parts (faults_of_parts (texts_of parts)) (warnings_of (texts_of parts) ++ more)
     (default_in (table_of_texts (texts_of parts)))

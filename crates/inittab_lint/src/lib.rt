@@ -10,7 +10,7 @@ mod shell;
 mod slips;
 mod traps;
 
-pub use linting::{Found, Lint, lint_parts, warnings};
+pub use linting::{Findings, Lint, lint_parts, warnings};
 pub use own_lines::id_lines;
 pub use programs::program_of;
 pub use shell::{Operator, operator_of};

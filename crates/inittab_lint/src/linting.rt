@@ -20,7 +20,7 @@ use text_lines::first_line;
 
 /// What was found in the files of an inittab.
 #[derive(Clone, Copy, PartialEq, Eq)]
-pub enum Found {
+pub enum Findings {
     Nothing,
     /// Warnings, and no line that is left out.
     Warnings,
@@ -76,14 +76,14 @@ fn default_in<A: Allocator>(table: &Table<A>) -> DefaultLevel
 pub struct Lint<A: Allocator = Global> {
     /// A line each for its faults and then for its warnings.
     pub text: Vec<u8, A>,
-    pub found: Found,
+    pub found: Findings,
 }
 
 impl<A: Allocator> Model for Lint<A> {
     ghost use Rattle.std.specs.Prelude.{ℕ, List};
-    ghost use Rattle.inittab_lint.specs.declared.linting.Found.{Found};
+    ghost use Rattle.inittab_lint.specs.declared.linting.Findings.{Findings};
 
-    ghost Value = { List ℕ × Found };
+    ghost Value = { List ℕ × Findings };
 
     ghost view = { λ lint. (lint.text.items, lint.found) };
 }
@@ -125,17 +125,17 @@ pub fn warnings<A: Allocator>(alloc: A, parts: &[Part]) -> Result<Vec<LineWarnin
 }
 
 /// What was found, by what is told.
-fn found_by(faults: &[PartFault], warnings: &[LineWarning], level: DefaultLevel) -> Found
+fn found_by(faults: &[PartFault], warnings: &[LineWarning], level: DefaultLevel) -> Findings
     ensures { result ≡ found_by faults.now warnings.now level }
 {
     if !faults.is_empty() {
-        Found::Faults
+        Findings::Faults
     } else if !warnings.is_empty() {
-        Found::Warnings
+        Findings::Warnings
     } else if let DefaultLevel::Served = level {
-        Found::Nothing
+        Findings::Nothing
     } else {
-        Found::Warnings
+        Findings::Warnings
     }
 }
 

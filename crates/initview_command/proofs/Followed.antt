@@ -6,7 +6,7 @@ use Rattle.program_io.specs.Writing.{AppendsPrefix}
 use Rattle.program_io.proofs.WritingLemmas.{AppendsPrefix-then, AppendsPrefix-whole}
 use Rattle.trace_events.specs.Event.{Event}
 use Rattle.trace_events.specs.Lawful.{first_breach}
-use Rattle.trace_view.specs.declared.text_views.Stop.{Stop}
+use Rattle.trace_view.specs.declared.text_views.ViewEnd.{ViewEnd}
 use Rattle.trace_view.specs.Shown.{IsShown}
 use Rattle.trace_view.specs.Views.{TextState, HasShown}
 use Rattle.initview_lines.specs.Following.{HasSaid, IsSaidOf}
@@ -63,16 +63,16 @@ part_of left now text first new consumed part =
     (part.0, part.1, part.2, part.3, begins_more left now text part.0 consumed part.4, part.5, part.6)
 
 -- how the view stands at its end, or where it goes no further
-said_at : (stop : Option Stop) (line : Option ℕ) (state : TextState) (said text : List ℕ) → length text < 2 ^ 64 → ((trace : List Event) (t : List ℕ) → length t < 2 ^ 64 → HasShown state trace t → IsShown t stop line trace × (first_breach (reverse trace) ≡ None)) → HasSaid state said text → IsSaidOf text stop line said
+said_at : (stop : Option ViewEnd) (line : Option ℕ) (state : TextState) (said text : List ℕ) → length text < 2 ^ 64 → ((trace : List Event) (t : List ℕ) → length t < 2 ^ 64 → HasShown state trace t → IsShown t stop line trace × (first_breach (reverse trace) ≡ None)) → HasSaid state said text → IsSaidOf text stop line said
 said_at stop line state said text small so has = (has.0, (so has.0 text small has.1).0, (so has.0 text small has.1).1, has.2)
 
-all_stopped : (left now : Option (List ℕ)) (stop : Option Stop) (line : Option ℕ) (text said : List ℕ) (first new : Option (List ℕ)) → is_some stop ≡ true → Consumes left now text → IsSaidOf text stop line said → Appends first new said → WritesAll left stop line first new
+all_stopped : (left now : Option (List ℕ)) (stop : Option ViewEnd) (line : Option ℕ) (text said : List ℕ) (first new : Option (List ℕ)) → is_some stop ≡ true → Consumes left now text → IsSaidOf text stop line said → Appends first new said → WritesAll left stop line first new
 all_stopped None now stop line text said first new is consumed so appends = (text, said, tt, so, appends)
 all_stopped (Some known) None stop line text said first new is consumed so appends = absurd consumed
 all_stopped (Some known) (Some rest) stop line text said first new is consumed so appends =
     (text ++ rest, said, sym consumed, said_more text rest stop line said is so, appends)
 
-pub all_where_stopped : (left now : Option (List ℕ)) (stop : Option Stop) (line : Option ℕ) (state : TextState) (text : List ℕ) (first new : Option (List ℕ)) → length text < 2 ^ 64 → is_some stop ≡ true → Consumes left now text → ((trace : List Event) (t : List ℕ) → length t < 2 ^ 64 → HasShown state trace t → IsShown t stop line trace × (first_breach (reverse trace) ≡ None)) → HasWritten state text first new → WritesAll left stop line first new
+pub all_where_stopped : (left now : Option (List ℕ)) (stop : Option ViewEnd) (line : Option ℕ) (state : TextState) (text : List ℕ) (first new : Option (List ℕ)) → length text < 2 ^ 64 → is_some stop ≡ true → Consumes left now text → ((trace : List Event) (t : List ℕ) → length t < 2 ^ 64 → HasShown state trace t → IsShown t stop line trace × (first_breach (reverse trace) ≡ None)) → HasWritten state text first new → WritesAll left stop line first new
 all_where_stopped left now stop line state text first new small is consumed so has =
     all_stopped left now stop line text has.0 first new is consumed (said_at stop line state has.0 text small so has.1) has.2
 

@@ -9,7 +9,7 @@ use Rattle.inittab_text.specs.declared.faults.TableFault.TheVariants as fault
 use Rattle.trace_events.specs.Event.{Event}
 use Rattle.trace_view.specs.SeenTexts.{IsSeen}
 use Rattle.trace_view.specs.Viewing.{ViewState, Viewed}
-use Rattle.trace_view.specs.declared.text_views.Stop.{Stop}
+use Rattle.trace_view.specs.declared.text_views.ViewEnd.{ViewEnd}
 use Rattle.initview_command.specs.Showing.{Shows, ShowsBy, ShowsOf, Writes, is_within}
 use Rattle.initview_command.specs.Tables.{FailsBy, fault_status}
 use Rattle.initview_command.specs.Writers.{IsWriterAt, KnownWriters}
@@ -25,18 +25,18 @@ refused_by : (within : Bool) (answer : List ℕ × ℕ) (status : ℕ) (now : Op
 refused_by true answer status now is ends = (ends, Keeps-refl now)
 refused_by false answer status now is ends = absurd (cc)
 
-pub refused : (stop : Option Stop) (answer : List ℕ × ℕ) (status : ℕ) (now : Option (List ℕ)) → is_within stop ≡ true → status ≡ REFUSED → ShowsOf stop answer status now now
+pub refused : (stop : Option ViewEnd) (answer : List ℕ × ℕ) (status : ℕ) (now : Option (List ℕ)) → is_within stop ≡ true → status ≡ REFUSED → ShowsOf stop answer status now now
 refused stop answer status now is ends = refused_by (is_within stop) answer status now is ends
 
 answered_by : (within : Bool) (answer : List ℕ × ℕ) (status : ℕ) (old new : Option (List ℕ)) → within ≡ false → Writes answer.0 answer.1 status old new → ShowsBy within answer status old new
 answered_by true answer status old new is written = absurd (cc)
 answered_by false answer status old new is written = written
 
-pub answered : (stop : Option Stop) (answer : List ℕ × ℕ) (status : ℕ) (old new : Option (List ℕ)) → is_within stop ≡ false → Writes answer.0 answer.1 status old new → ShowsOf stop answer status old new
+pub answered : (stop : Option ViewEnd) (answer : List ℕ × ℕ) (status : ℕ) (old new : Option (List ℕ)) → is_within stop ≡ false → Writes answer.0 answer.1 status old new → ShowsOf stop answer status old new
 answered stop answer status old new is written = answered_by (is_within stop) answer status old new is written
 
 -- what is shown of a text that was taken
-pub shows : {S : Type 0} (has : S → List Event → Type 0) (text_at : KnownTexts) (writers : KnownWriters) (path text : List ℕ) (gives : Writer → Option Stop → List Event → List ℕ × ℕ) (view : ViewState) (seen : S) (writer : Writer) (stop : Option Stop) (left : Option ℕ) (status : ℕ) (old new : Option (List ℕ)) → IsTextAt text_at path text → IsWriterAt writers path writer → IsSeen has text stop left view seen → ((past : List Event) → Viewed view past → has seen past → ShowsOf stop (gives writer stop past) status old new) → Shows text_at writers path gives status old new
+pub shows : {S : Type 0} (has : S → List Event → Type 0) (text_at : KnownTexts) (writers : KnownWriters) (path text : List ℕ) (gives : Writer → Option ViewEnd → List Event → List ℕ × ℕ) (view : ViewState) (seen : S) (writer : Writer) (stop : Option ViewEnd) (left : Option ℕ) (status : ℕ) (old new : Option (List ℕ)) → IsTextAt text_at path text → IsWriterAt writers path writer → IsSeen has text stop left view seen → ((past : List Event) → Viewed view past → has seen past → ShowsOf stop (gives writer stop past) status old new) → Shows text_at writers path gives status old new
 shows has text_at writers path text gives view seen writer stop left status old new at by is of =
     inl (text, writer, stop, left, is.0, at, by, is.1, is.2.judged.lawful, of (reverse is.0) is.2 is.3)
 

@@ -5,8 +5,8 @@ use Rattle.std.specs.Str.{bytes_eq}
 use Rattle.init_words.specs.declared.levels.Level.{Level}
 use Rattle.init_words.specs.Ids.{id_read}
 use Rattle.init_words.specs.Levels.{level_read}
-use Rattle.initview_lines.specs.declared.rows.Shape.{Shape}
-use Rattle.initview_lines.specs.declared.rows.Shape.TheVariants as shape
+use Rattle.initview_lines.specs.declared.rows.RowFormat.{RowFormat}
+use Rattle.initview_lines.specs.declared.rows.RowFormat.TheVariants as shape
 use Rattle.initview_command.specs.declared.asking.Question.TheVariants.{Status, Row, Left}
 use Rattle.initview_command.specs.declared.asking.TableQuestion.TheVariants as table
 use Rattle.initview_command.specs.declared.asking.Kind.{Kind}
@@ -76,7 +76,7 @@ level_of (option ∷ level ∷ []) =
 level_of _ = None
 
 -- [--json]
-abbrev pub shape_of : List Text → Option Shape
+abbrev pub shape_of : List Text → Option RowFormat
 shape_of [] = Some shape.Lines
 shape_of (option ∷ []) = if bytes_eq option (codes "--json") then Some shape.Json else None
 shape_of _ = None
@@ -89,12 +89,12 @@ form_of (option ∷ width ∷ []) = if bytes_eq option (codes "--width") then li
 form_of _ = None
 
 -- status TRACE [ID]
-abbrev pub show_by : Shape → List Text → Option What
+abbrev pub show_by : RowFormat → List Text → Option What
 show_by shape (trace ∷ []) = Some (Show (Status shape))
 show_by shape (trace ∷ id ∷ []) = option_map (λ i. Show (Row i shape)) (id_read id)
 show_by shape _ = None
 
-abbrev pub show_in : Option Shape → List Text → Option What
+abbrev pub show_in : Option RowFormat → List Text → Option What
 show_in None words = None
 show_in (Some shape) words = show_by shape words
 

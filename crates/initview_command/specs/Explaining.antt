@@ -5,7 +5,7 @@ use Rattle.trace_events.specs.Event.{Event}
 use Rattle.inittab_lint.specs.IdLines.{id_text}
 use Rattle.trace_view.specs.declared.whys.Why.{Why}
 use Rattle.trace_view.specs.declared.whys.Why.TheVariants.{Nothing}
-use Rattle.trace_view.specs.declared.text_views.Stop.{Stop}
+use Rattle.trace_view.specs.declared.text_views.ViewEnd.{ViewEnd}
 use Rattle.trace_view.specs.Why.{why}
 use Rattle.trace_view.specs.LastLines.{line_at_fault}
 use Rattle.initview_lines.specs.Reasons.{why_text}
@@ -27,9 +27,9 @@ line_by _ line = line
 abbrev pub explanation : List ℕ → List ℕ → List ℕ → Option ℕ → List Event → List ℕ
 explanation path id told line now = why_text id path (line_by (why id now) line) now ++ told
 
-abbrev pub explained : List ℕ → List ℕ → List ℕ → Writer → Option Stop → List Event → List ℕ × ℕ
+abbrev pub explained : List ℕ → List ℕ → List ℕ → Writer → Option ViewEnd → List Event → List ℕ × ℕ
 explained path id told writer stop past =
     (explanation path id told (line_at_fault id (why id past) past) (present writer stop past), stop_status stop)
 
-abbrev pub explained_with : List ℕ → List ℕ → List NamedText → Writer → Option Stop → List Event → List ℕ × ℕ
+abbrev pub explained_with : List ℕ → List ℕ → List NamedText → Writer → Option ViewEnd → List Event → List ℕ × ℕ
 explained_with path id files = explained path id (files_text id files)

@@ -3,7 +3,7 @@ use Rattle.std.specs.Prelude.{◌≡◌, ◌⊎◌, ℕ, List, ◌++◌, Option,
 use Rattle.std.specs.Io.KnownBytes.{Appends}
 use Rattle.program_io.specs.Writing.{AppendsPrefix}
 use Rattle.program_io.specs.declared.statuses.TheConstants.{DEVICE_FAULT}
-use Rattle.trace_view.specs.declared.text_views.Stop.{Stop}
+use Rattle.trace_view.specs.declared.text_views.ViewEnd.{ViewEnd}
 use Rattle.trace_view.specs.Views.{TextState}
 use Rattle.initview_lines.specs.Following.{HasSaid, IsSaidOf}
 use Rattle.initview_command.specs.Showing.{stop_status}
@@ -17,20 +17,20 @@ BeginsAllOf left text = IfSome left (λ known. (rest : List ℕ) × (text ++ res
 
 -- the lines of all that was left were written: those of what is shown of it, by why it goes no further, and by the line at
 -- which a happening isn't finished
-abbrev pub WritesAll : Option (List ℕ) → Option Stop → Option ℕ → Option (List ℕ) → Option (List ℕ) → Type 0
+abbrev pub WritesAll : Option (List ℕ) → Option ViewEnd → Option ℕ → Option (List ℕ) → Option (List ℕ) → Type 0
 WritesAll left stop line old new =
     (text : List ℕ) × (said : List ℕ) × IsAllOf left text × IsSaidOf text stop line said × Appends old new said
 
 -- a part of the lines of its beginning was written
 abbrev pub WritesPart : Option (List ℕ) → Option (List ℕ) → Option (List ℕ) → Type 0
 WritesPart left old new =
-    (text : List ℕ) × (said : List ℕ) × (stop : Option Stop) × (line : Option ℕ)
+    (text : List ℕ) × (said : List ℕ) × (stop : Option ViewEnd) × (line : Option ℕ)
     × BeginsAllOf left text × IsSaidOf text stop line said × AppendsPrefix old new said
 
 -- all was written, with its exit status; or the trace could not be read further, the output failed or memory ran out
 abbrev pub Follows : Option (List ℕ) → ℕ → Option (List ℕ) → Option (List ℕ) → Type 0
 Follows left status old new =
-    ((stop : Option Stop) × (line : Option ℕ) × (status ≡ stop_status stop) × WritesAll left stop line old new)
+    ((stop : Option ViewEnd) × (line : Option ℕ) × (status ≡ stop_status stop) × WritesAll left stop line old new)
     ⊎ ((status ≡ DEVICE_FAULT) × WritesPart left old new)
 
 -- a view has taken the text, and its lines were written

@@ -8,8 +8,8 @@ use Rattle.trace_events.specs.Event.{Event}
 use Rattle.trace_events.specs.Lawful.{first_breach}
 use Rattle.trace_view.specs.declared.rows.Row.{Row}
 use Rattle.trace_view.specs.Rows.{row_of}
-use Rattle.trace_view.specs.declared.text_views.Stop.{Stop}
-use Rattle.trace_view.specs.declared.text_views.Stop.TheVariants.{Breach, Torn, Within}
+use Rattle.trace_view.specs.declared.text_views.ViewEnd.{ViewEnd}
+use Rattle.trace_view.specs.declared.text_views.ViewEnd.TheVariants.{Breach, Torn, Within}
 use Rattle.trace_view.specs.Shown.{IsShown}
 use Rattle.initview_lines.specs.Left.{left_text}
 use Rattle.initview_lines.specs.Rows.{row_of_in, status_in}
@@ -35,22 +35,22 @@ abbrev pub lsb_status : Writer → Row → ℕ
 lsb_status writer row = if is_some row.child then running_status writer else if is_some row.act then 3 else 4
 
 -- the exit status of a trace that was shown up to its end, up to a breach, up to a line that is none, or not at all
-abbrev pub stop_status : Option Stop → ℕ
+abbrev pub stop_status : Option ViewEnd → ℕ
 stop_status None = DONE
 stop_status (Some (Breach law line)) = UNLAWFUL
 stop_status (Some (Torn number)) = REFUSED
 stop_status (Some Within) = REFUSED
 
-abbrev pub row_status : List ℕ → Writer → Option Stop → List Event → ℕ
+abbrev pub row_status : List ℕ → Writer → Option ViewEnd → List Event → ℕ
 row_status id writer None past = lsb_status writer (row_of id past)
 row_status id writer (Some stop) past = DEVICE_FAULT
 
-abbrev pub status_by : Question → Writer → Option Stop → List Event → ℕ
+abbrev pub status_by : Question → Writer → Option ViewEnd → List Event → ℕ
 status_by (question.Row id shape) writer stop past = row_status id writer stop past
 status_by _ writer stop past = stop_status stop
 
 -- the answer and the exit status, of a trace as it stands by now
-abbrev pub answer_by : Question → Writer → Option Stop → List Event → List ℕ × ℕ
+abbrev pub answer_by : Question → Writer → Option ViewEnd → List Event → List ℕ × ℕ
 answer_by question writer stop past =
     (said question (present writer stop past), status_by question writer stop (present writer stop past))
 
@@ -60,7 +60,7 @@ Writes text ends status old new =
     ((status ≡ ends) × Appends old new text) ⊎ ((status ≡ DEVICE_FAULT) × AppendsPrefix old new text)
 
 -- so of an answer and its exit status; a text that begins within a run is refused, and nothing was written
-abbrev pub is_within : Option Stop → Bool
+abbrev pub is_within : Option ViewEnd → Bool
 is_within (Some Within) = true
 is_within _ = false
 
@@ -68,15 +68,15 @@ abbrev pub ShowsBy : Bool → List ℕ × ℕ → ℕ → Option (List ℕ) → 
 ShowsBy true answer status old new = (status ≡ REFUSED) × Keeps old new
 ShowsBy false answer status old new = Writes answer.0 answer.1 status old new
 
-abbrev pub ShowsOf : Option Stop → List ℕ × ℕ → ℕ → Option (List ℕ) → Option (List ℕ) → Type 0
+abbrev pub ShowsOf : Option ViewEnd → List ℕ × ℕ → ℕ → Option (List ℕ) → Option (List ℕ) → Type 0
 ShowsOf stop answer status old new = ShowsBy (is_within stop) answer status old new
 
 -- so of what a view shows of the text at the path, which breaks no law, and is written by whom its lock names; or it
 -- was not read, and nothing was written
-abbrev pub Shows : KnownTexts → KnownWriters → List ℕ → (Writer → Option Stop → List Event → List ℕ × ℕ) → ℕ
+abbrev pub Shows : KnownTexts → KnownWriters → List ℕ → (Writer → Option ViewEnd → List Event → List ℕ × ℕ) → ℕ
     → Option (List ℕ) → Option (List ℕ) → Type 0
 Shows text_at writers path gives status old new =
-    ((text : List ℕ) × (writer : Writer) × (stop : Option Stop) × (left : Option ℕ) × (trace : List Event)
+    ((text : List ℕ) × (writer : Writer) × (stop : Option ViewEnd) × (left : Option ℕ) × (trace : List Event)
     × IsTextAt text_at path text × IsWriterAt writers path writer
     × IsShown text stop left trace × (first_breach (reverse trace) ≡ None)
     × ShowsOf stop (gives writer stop (reverse trace)) status old new)

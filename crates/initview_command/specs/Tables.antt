@@ -12,8 +12,8 @@ use Rattle.inittab_text.specs.declared.faults.TableFault.{TableFault}
 use Rattle.inittab_text.specs.declared.faults.TableFault.TheVariants as fault
 use Rattle.inittab_text.specs.Parts.{AreTooLong, AreTooMany, table_of_texts}
 use Rattle.inittab_text.specs.Tables.{default_level_of}
-use Rattle.inittab_lint.specs.declared.linting.Found.{Found}
-use Rattle.inittab_lint.specs.declared.linting.Found.TheVariants as found
+use Rattle.inittab_lint.specs.declared.linting.Findings.{Findings}
+use Rattle.inittab_lint.specs.declared.linting.Findings.TheVariants as found
 use Rattle.inittab_lint.specs.declared.traps.LineWarning.{LineWarning}
 use Rattle.inittab_lint.specs.Linting.{lint_in}
 use Rattle.inittab_lint.specs.Programs.{is_missing}
@@ -41,7 +41,7 @@ AreFiles text_at paths folder parts =
     (own : List NamedText) × AreFilesAt text_at paths own × IsFolderBehind folder own parts
 
 -- 1 with faults, 2 with warnings alone
-abbrev pub found_status : Found → ℕ
+abbrev pub found_status : Findings → ℕ
 found_status found.Nothing = DONE
 found_status found.Faults = REFUSED
 found_status found.Warnings = 2

@@ -5,7 +5,7 @@ use Rattle.program_io.specs.declared.statuses.TheConstants.{REFUSED, DEVICE_FAUL
 use Rattle.program_io.specs.Known.{KnownTexts}
 use Rattle.init_words.specs.Parts.{NamedText}
 use Rattle.trace_events.specs.Event.{Event}
-use Rattle.trace_view.specs.declared.text_views.Stop.{Stop}
+use Rattle.trace_view.specs.declared.text_views.ViewEnd.{ViewEnd}
 use Rattle.initview_command.specs.declared.growing.Writer.{Writer}
 use Rattle.initview_command.specs.Showing.{Shows}
 use Rattle.initview_command.specs.Tables.{AreFiles}
@@ -13,7 +13,7 @@ use Rattle.initview_command.specs.Writers.{KnownWriters}
 
 -- what is written and the exit status, by who writes the trace, why it is shown no further, and its past
 abbrev pub Gives : Type 0
-Gives = Writer → Option Stop → List Event → List ℕ × ℕ
+Gives = Writer → Option ViewEnd → List Event → List ℕ × ℕ
 
 -- by these files; or they are no inittab, and nothing was written
 abbrev pub ShowsWith : KnownTexts → KnownWriters → List ℕ → List NamedText → (List NamedText → Gives)

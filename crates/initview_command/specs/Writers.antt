@@ -3,7 +3,7 @@ use Rattle.std.specs.Prelude.{◌≡◌, ℕ, ◌+◌, ◌-◌, ◌^◌, min, Li
 use Rattle.trace_events.specs.declared.happenings.Happening.TheVariants.{Clock}
 use Rattle.trace_events.specs.Event.{Event}
 use Rattle.trace_events.specs.Past.{time_of}
-use Rattle.trace_view.specs.declared.text_views.Stop.{Stop}
+use Rattle.trace_view.specs.declared.text_views.ViewEnd.{ViewEnd}
 use Rattle.initview_command.specs.declared.growing.Writer.{Writer}
 use Rattle.initview_command.specs.declared.growing.Writer.TheVariants.{Init}
 
@@ -16,6 +16,6 @@ abbrev pub IsWriterAt : KnownWriters → List ℕ → Writer → Type 0
 IsWriterAt writers path writer = IfSome (writers path) (λ known. writer ≡ known)
 
 -- a trace by now: where an init writes it, its clock has gone on since the last happening, as far as numbers go
-abbrev pub present : Writer → Option Stop → List Event → List Event
+abbrev pub present : Writer → Option ViewEnd → List Event → List Event
 present (Init seconds) None past = Clock (min (time_of past + seconds) (2 ^ 64 - 1)) ∷ past
 present writer stop past = past

@@ -5,16 +5,16 @@ ghost use Rattle.initview_command.specs.Asking.{asked_by, behind_one, behind_thr
 
 use crate::charting::{Form, WIDTH, lines_of};
 use init_words::{Id, Level};
-use initview_lines::Shape;
+use initview_lines::RowFormat;
 use std::alloc::{AllocError, Global};
 
 /// What is asked of a trace.
 #[derive(Clone, Copy)]
 pub enum Question {
     /// How init and all entries stand.
-    Status(Shape),
+    Status(RowFormat),
     /// How this id stands.
-    Row(Id, Shape),
+    Row(Id, RowFormat),
     /// Which children are left.
     Left,
 }
@@ -180,12 +180,12 @@ fn level_of(options: &[String]) -> Option<Option<Level>>
     }
 }
 
-fn shape_of(options: &[String]) -> Option<Shape>
+fn shape_of(options: &[String]) -> Option<RowFormat>
     ensures { result ≡ shape_of (map string_bytes options.now) }
 {
     match options {
-        [] => Some(Shape::Lines),
-        [option] if option.as_str() == "--json" => Some(Shape::Json),
+        [] => Some(RowFormat::Lines),
+        [option] if option.as_str() == "--json" => Some(RowFormat::Json),
         _ => None,
     }
 }

@@ -11,10 +11,10 @@ ghost use Rattle.initview_command.specs.Charting.{drawing, lines_of};
 use crate::growing::Writer;
 use crate::showing::{Asks, stop_status};
 use init_words::Memory;
-use initview_timeline::{Mark, Marks, chart_lines, svg_text};
+use initview_timeline::{Marks, TimelineMark, chart_lines, svg_text};
 use std::alloc::{AllocError, Global};
 use text_lines::read_below;
-use trace_view::{SeenText, Stop, TraceView};
+use trace_view::{SeenText, TraceView, ViewEnd};
 
 /// How many columns lines have where none are named, at least, and at most.
 pub const WIDTH: u64 = 80;
@@ -47,7 +47,7 @@ pub(crate) fn lines_of(width: &str) -> Option<Form>
 fn draw_lines(
     alloc: Global,
     width: u64,
-    marks: &[Mark],
+    marks: &[TimelineMark],
     view: &TraceView,
 ) -> Result<Vec<u8>, AllocError>
     ensures { IfOk result (λ text. (past : List Event) → Viewed view.now past
@@ -57,7 +57,11 @@ fn draw_lines(
     Ok(text)
 }
 
-fn draw_picture(alloc: Global, marks: &[Mark], view: &TraceView) -> Result<Vec<u8>, AllocError>
+fn draw_picture(
+    alloc: Global,
+    marks: &[TimelineMark],
+    view: &TraceView,
+) -> Result<Vec<u8>, AllocError>
     ensures { IfOk result (λ text. (past : List Event) → Viewed view.now past
         → marks.now ≡ marks_of past → text.items ≡ svg_text past) }
 {
@@ -66,7 +70,12 @@ fn draw_picture(alloc: Global, marks: &[Mark], view: &TraceView) -> Result<Vec<u
 }
 
 /// A timeline, drawn.
-fn draw(alloc: Global, form: Form, marks: &[Mark], view: &TraceView) -> Result<Vec<u8>, AllocError>
+fn draw(
+    alloc: Global,
+    form: Form,
+    marks: &[TimelineMark],
+    view: &TraceView,
+) -> Result<Vec<u8>, AllocError>
     ensures { IfOk result (λ text. (past : List Event) → Viewed view.now past
         → marks.now ≡ marks_of past → text.items ≡ drawing form past) }
 {
@@ -90,7 +99,7 @@ impl Asks for Form {
         _path: &str,
         text: &mut SeenText<Marks>,
         _writer: Writer,
-        stop: Option<Stop>,
+        stop: Option<ViewEnd>,
     ) -> Result<(Vec<u8>, u8), Memory> {
         let drawn = draw(alloc, *self, text.seen().as_slice(), text.view())?;
         Ok((drawn, stop_status(stop)))

@@ -18,7 +18,7 @@ use inittab_text::TableFault;
 use initview_lines::why_lines;
 use std::alloc::{AllocError, Global};
 use std::io::Write;
-use trace_view::{LastLines, SeenText, Stop, TraceView, Why};
+use trace_view::{LastLines, SeenText, TraceView, ViewEnd, Why};
 
 /// Why the id isn't started is asked, with what the files have of it.
 #[derive(Drop)]
@@ -87,7 +87,7 @@ impl Asks for Reason {
         path: &str,
         text: &mut SeenText<LastLines>,
         writer: Writer,
-        stop: Option<Stop>,
+        stop: Option<ViewEnd>,
     ) -> Result<(Vec<u8>, u8), Memory> {
         let line = fault_line(&self.id, text.view(), text.seen());
         show_present(text, writer, stop)?;

@@ -18,7 +18,7 @@ use program_io::{PIECE_LIMIT, PIECES_LIMIT};
 use std::alloc::{AllocError, Global};
 use std::io;
 use std::io::{ErrorKind, Read, Write};
-use trace_view::{Stop, TextView};
+use trace_view::{TextView, ViewEnd};
 
 /// Why a trace is not followed to its end.
 #[derive(Drop)]
@@ -52,7 +52,7 @@ fn report_fault<E: Write>(path: &str, fault: &FollowFault, err: &mut E) -> u8
 }
 
 /// Why a view goes no further, and the number of the line at which a happening isn't finished.
-type End = (Option<Stop>, Option<u64>);
+type End = (Option<ViewEnd>, Option<u64>);
 
 /// How a view that has taken a text stands.
 fn end_of(view: &TextView) -> End

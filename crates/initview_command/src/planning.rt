@@ -11,10 +11,10 @@ use crate::tables::{level_asked, plan_of, table_in};
 use crate::with_files::NeedsFiles;
 use init_words::{Level, Memory, Part};
 use inittab_text::{Table, TableFault};
-use initview_timeline::{Mark, Marks, add_path_times};
+use initview_timeline::{Marks, TimelineMark, add_path_times};
 use std::alloc::{AllocError, Global};
 use std::io::Write;
-use trace_view::{SeenText, Stop};
+use trace_view::{SeenText, ViewEnd};
 
 /// The plan of an inittab is asked, and the times of its critical path.
 #[derive(Drop)]
@@ -34,7 +34,7 @@ fn timed_plan(
     alloc: Global,
     level: Option<Level>,
     table: &Table,
-    marks: &[Mark],
+    marks: &[TimelineMark],
 ) -> Result<Vec<u8>, AllocError>
     ensures { IfOk result (λ text. (past : List Event) → marks.now ≡ marks_of past
         → text.items ≡ timing_said level table.now past) }
@@ -58,7 +58,7 @@ impl Asks for Timing {
         _path: &str,
         text: &mut SeenText<Marks>,
         _writer: Writer,
-        stop: Option<Stop>,
+        stop: Option<ViewEnd>,
     ) -> Result<(Vec<u8>, u8), Memory> {
         let said = timed_plan(alloc, self.level, &self.table, text.seen().as_slice())?;
         Ok((said, stop_status(stop)))

@@ -12,7 +12,7 @@ use init_words::Memory;
 use std::alloc::Global;
 use std::io::Write;
 use trace_events::{Happening, HappeningIn};
-use trace_view::{SeenText, Sees, Stop};
+use trace_view::{SeenText, Sees, ViewEnd};
 
 /// Shows the view that the clock has gone on by these seconds.
 fn show_clock<S: Sees<Global> + Drop>(text: &mut SeenText<S>, seconds: u64) -> Result<(), Memory>
@@ -30,7 +30,7 @@ fn show_clock<S: Sees<Global> + Drop>(text: &mut SeenText<S>, seconds: u64) -> R
 pub(crate) fn show_present<S: Sees<Global> + Drop>(
     text: &mut SeenText<S>,
     writer: Writer,
-    stop: Option<Stop>,
+    stop: Option<ViewEnd>,
 ) -> Result<(), Memory>
     ensures { OnOk result ((past : List Event) → Viewed text.old.viewing.viewing past
         → Viewed text.new.viewing.viewing (present writer stop past)) }
@@ -42,7 +42,12 @@ pub(crate) fn show_present<S: Sees<Global> + Drop>(
 }
 
 /// Tells that a trace that is shown to its end goes no further.
-pub(crate) fn tell_writer<E: Write>(path: &str, writer: Writer, stop: Option<Stop>, err: &mut E) {
+pub(crate) fn tell_writer<E: Write>(
+    path: &str,
+    writer: Writer,
+    stop: Option<ViewEnd>,
+    err: &mut E,
+) {
     if let (Writer::Nobody, None) = (writer, stop) {
         let _ = writeln!(err, "initview: no init writes {path}: this is how it ended");
     }

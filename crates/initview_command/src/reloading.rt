@@ -17,7 +17,7 @@ use initview_lines::reload_lines;
 use std::alloc::Global;
 use std::io::Write;
 use trace_events::{Happening, HappeningIn};
-use trace_view::{SeenText, Stop};
+use trace_view::{SeenText, ViewEnd};
 
 /// What becomes of what runs is asked, where init reads the second of two inittabs in the place of the first, and goes to
 /// the level.
@@ -101,7 +101,7 @@ impl Asks for Reload {
         _path: &str,
         text: &mut SeenText<()>,
         _writer: Writer,
-        stop: Option<Stop>,
+        stop: Option<ViewEnd>,
     ) -> Result<(Vec<u8>, u8), Memory> {
         read_anew(alloc, text, &self.new, self.level)?;
         let said = reload_lines(alloc, &self.old, text.view())?;

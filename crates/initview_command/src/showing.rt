@@ -4,7 +4,7 @@ ghost use Rattle.std.specs.Prelude.{◌≡◌, List, ℕ, [], Option, IfOk};
 ghost use Rattle.trace_events.specs.Event.{Event};
 ghost use Rattle.trace_view.specs.SeenTexts.{HasSeenText};
 ghost use Rattle.trace_view.specs.Viewing.{Viewed};
-ghost use Rattle.trace_view.specs.declared.text_views.Stop.{Stop};
+ghost use Rattle.trace_view.specs.declared.text_views.ViewEnd.{ViewEnd};
 ghost use Rattle.initview_command.specs.declared.growing.Writer.{Writer};
 ghost use Rattle.initview_command.specs.Showing.{Shows, ShowsOf, Writes, is_within, lsb_status, row_status, running_status, said, status_by, stop_status};
 
@@ -17,7 +17,7 @@ use initview_lines::{left_lines, row_line, status_lines};
 use program_io::{DEVICE_FAULT, DONE, PieceTaker, REFUSED, Texts, UNLAWFUL};
 use std::alloc::{AllocError, Global};
 use std::io::Write;
-use trace_view::{Row, SeenText, Sees, Stop, TraceView};
+use trace_view::{Row, SeenText, Sees, TraceView, ViewEnd};
 
 /// What is asked of a trace.
 pub(crate) trait Asks {
@@ -26,7 +26,7 @@ pub(crate) trait Asks {
 
     /// What is written and the exit status, by the path of the trace, who writes it, why it is shown no further, and its
     /// past.
-    ghost gives: { Self → List ℕ → Writer → Option Stop → List Event → List ℕ × ℕ };
+    ghost gives: { Self → List ℕ → Writer → Option ViewEnd → List Event → List ℕ × ℕ };
 
     /// Whether it is told that nobody writes the trace.
     fn asks_writer(&self) -> bool {
@@ -40,7 +40,7 @@ pub(crate) trait Asks {
         path: &str,
         text: &mut SeenText<Self::Seen>,
         writer: Writer,
-        stop: Option<Stop>,
+        stop: Option<ViewEnd>,
     ) -> Result<(Vec<u8>, u8), Memory>
         ensures { IfOk result (λ given. (past : List Event) → Viewed text.old.viewing.viewing past
             → Self.Seen.has_seen text.old.seen past
@@ -111,19 +111,19 @@ fn lsb_status(writer: Writer, row: &Row) -> u8
 }
 
 /// The exit status of a trace that was shown up to its end, or up to here.
-pub(crate) fn stop_status(stop: Option<Stop>) -> u8
+pub(crate) fn stop_status(stop: Option<ViewEnd>) -> u8
     ensures { result ≡ stop_status stop }
 {
     match stop {
         None => DONE,
-        Some(Stop::Breach(_, _)) => UNLAWFUL,
-        Some(Stop::Torn(_)) => REFUSED,
-        Some(Stop::Within) => REFUSED,
+        Some(ViewEnd::Breach(_, _)) => UNLAWFUL,
+        Some(ViewEnd::Torn(_)) => REFUSED,
+        Some(ViewEnd::Within) => REFUSED,
     }
 }
 
 /// The exit status of an answer.
-fn status_of(view: &TraceView, question: &Question, writer: Writer, stop: Option<Stop>) -> u8
+fn status_of(view: &TraceView, question: &Question, writer: Writer, stop: Option<ViewEnd>) -> u8
     ensures { (past : List Event) → Viewed view.now past
         → result ≡ status_by question.now writer stop past }
 {
@@ -135,7 +135,7 @@ fn status_of(view: &TraceView, question: &Question, writer: Writer, stop: Option
 }
 
 /// The exit status of one id's row: unknown where the trace was not shown up to its end.
-fn row_status(view: &TraceView, id: &Id, writer: Writer, stop: Option<Stop>) -> u8
+fn row_status(view: &TraceView, id: &Id, writer: Writer, stop: Option<ViewEnd>) -> u8
     ensures { (past : List Event) → Viewed view.now past
         → result ≡ row_status id.now writer stop past }
 {
@@ -174,7 +174,7 @@ impl Asks for Question {
         _path: &str,
         text: &mut SeenText<()>,
         writer: Writer,
-        stop: Option<Stop>,
+        stop: Option<ViewEnd>,
     ) -> Result<(Vec<u8>, u8), Memory> {
         show_present(text, writer, stop)?;
         let said = lines(alloc, text.view(), self)?;
@@ -233,7 +233,7 @@ fn tell_end<Q: Asks, E: Write>(
     path: &str,
     asked: &Q,
     writer: Writer,
-    stop: Option<Stop>,
+    stop: Option<ViewEnd>,
     left: Option<u64>,
     err: &mut E,
 ) {
@@ -244,11 +244,11 @@ fn tell_end<Q: Asks, E: Write>(
 }
 
 /// The text begins within a run.
-fn is_within(stop: Option<Stop>) -> bool
+fn is_within(stop: Option<ViewEnd>) -> bool
     ensures { result ≡ is_within stop }
 {
     match stop {
-        Some(Stop::Within) => true,
+        Some(ViewEnd::Within) => true,
         _ => false,
     }
 }
@@ -260,7 +260,7 @@ fn show_seen<Q: Asks, W: Write, E: Write>(
     asked: &Q,
     text: &mut SeenText<Q::Seen>,
     writer: Writer,
-    stop: Option<Stop>,
+    stop: Option<ViewEnd>,
     out: &mut W,
     err: &mut E,
 ) -> u8
@@ -295,22 +295,27 @@ pub(crate) fn write_answer<W: Write, E: Write>(
 }
 
 /// Tells up to which line a trace is shown, where that isn't all of it.
-pub(crate) fn tell_stop<E: Write>(path: &str, stop: Option<Stop>, left: Option<u64>, err: &mut E) {
+pub(crate) fn tell_stop<E: Write>(
+    path: &str,
+    stop: Option<ViewEnd>,
+    left: Option<u64>,
+    err: &mut E,
+) {
     match stop {
-        Some(Stop::Breach(law, line)) => {
+        Some(ViewEnd::Breach(law, line)) => {
             let why = law.words();
             let _ = writeln!(
                 err,
                 "initview: {path}:{line}: {why}: shown up to the line before it"
             );
         }
-        Some(Stop::Torn(line)) => {
+        Some(ViewEnd::Torn(line)) => {
             let _ = writeln!(
                 err,
                 "initview: {path}:{line}: not a line of a trace: shown up to the line before it"
             );
         }
-        Some(Stop::Within) => {
+        Some(ViewEnd::Within) => {
             let _ = writeln!(
                 err,
                 "initview: {path} begins within a run: show it with the pieces before it"

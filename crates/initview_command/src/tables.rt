@@ -12,7 +12,7 @@ use crate::programs::missing;
 use crate::showing::write_answer;
 use crate::telling::report_unread;
 use init_words::{Level, Part};
-use inittab_lint::{Found, LineWarning, lint_parts};
+use inittab_lint::{Findings, LineWarning, lint_parts};
 use inittab_text::{PartFault, Table, TableFault, read_parts};
 use initview_lines::{change_lines, plan_lines};
 use program_io::{DEVICE_FAULT, DONE, REFUSED, Texts};
@@ -95,13 +95,13 @@ pub(crate) fn read_files<T: Texts, G: GrowingTexts, E: Write>(
 }
 
 /// The exit status of what was found: 1 with faults, 2 with warnings alone.
-fn found_status(found: Found) -> u8
+fn found_status(found: Findings) -> u8
     ensures { result ≡ found_status found }
 {
     match found {
-        Found::Nothing => DONE,
-        Found::Faults => REFUSED,
-        Found::Warnings => 2,
+        Findings::Nothing => DONE,
+        Findings::Faults => REFUSED,
+        Findings::Warnings => 2,
     }
 }
 

@@ -3,7 +3,7 @@
 ghost use Rattle.std.specs.Prelude.{◌≡◌, List, ℕ, Option, map, option_map, string_bytes, IfOk, IfErr};
 ghost use Rattle.init_words.specs.Parts.{NamedText};
 ghost use Rattle.trace_events.specs.Event.{Event};
-ghost use Rattle.trace_view.specs.declared.text_views.Stop.{Stop};
+ghost use Rattle.trace_view.specs.declared.text_views.ViewEnd.{ViewEnd};
 ghost use Rattle.initview_command.specs.declared.growing.Writer.{Writer};
 ghost use Rattle.initview_command.specs.Tables.{FailsBy};
 ghost use Rattle.initview_command.specs.WithFiles.{ShowsWith, ShowsWithFiles};
@@ -24,7 +24,7 @@ pub(crate) trait NeedsFiles {
 
     /// What is written and the exit status, by the path of the trace, the files, who writes it, why it is shown no
     /// further, and its past.
-    ghost gives: { Self → List ℕ → List NamedText → Writer → Option Stop → List Event → List ℕ × ℕ };
+    ghost gives: { Self → List ℕ → List NamedText → Writer → Option ViewEnd → List Event → List ℕ × ℕ };
 
     /// Files that are refused: they are no inittab.
     ghost AreRefused: { List NamedText → Type 0 };

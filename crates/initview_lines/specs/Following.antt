@@ -2,7 +2,7 @@
 use Rattle.std.specs.Prelude.{◌≡◌, ℕ, Bool, true, false, List, reverse, Option, None}
 use Rattle.trace_events.specs.Event.{Event}
 use Rattle.trace_events.specs.Lawful.{first_breach}
-use Rattle.trace_view.specs.declared.text_views.Stop.{Stop}
+use Rattle.trace_view.specs.declared.text_views.ViewEnd.{ViewEnd}
 use Rattle.trace_view.specs.Shown.{IsShown}
 use Rattle.trace_view.specs.Views.{TextState, HasShown, IsAt}
 use Rattle.initview_lines.specs.Happenings.{follow_text}
@@ -20,7 +20,7 @@ SaysOn true old before new after text = IsSaying old before text → IsSaying ne
 SaysOn false old before new after text = IsSaying old before text → HasSaid new after text
 
 -- these are the lines of a trace that is shown of the text, and breaks no law
-abbrev pub IsSaidOf : List ℕ → Option Stop → Option ℕ → List ℕ → Type 0
+abbrev pub IsSaidOf : List ℕ → Option ViewEnd → Option ℕ → List ℕ → Type 0
 IsSaidOf text stop left said =
     (trace : List Event) × IsShown text stop left trace × (first_breach (reverse trace) ≡ None)
     × (said ≡ follow_text (reverse trace))

@@ -7,8 +7,8 @@ use Rattle.trace_view.specs.declared.rows.Row.{Row}
 use Rattle.trace_view.specs.Rows.{row_of, gone_ids, is_settled_now}
 use Rattle.trace_view.specs.Wishes.{asked_level, first_wish}
 use Rattle.initview_lines.specs.declared.rows.Head.{Head}
-use Rattle.initview_lines.specs.declared.rows.Shape.{Shape}
-use Rattle.initview_lines.specs.declared.rows.Shape.TheVariants.{Lines, Json}
+use Rattle.initview_lines.specs.declared.rows.RowFormat.{RowFormat}
+use Rattle.initview_lines.specs.declared.rows.RowFormat.TheVariants.{Lines, Json}
 use Rattle.initview_lines.specs.Json.{head_json, row_json}
 use Rattle.initview_lines.specs.Status.{head_text, row_text}
 
@@ -23,28 +23,28 @@ head_of past = record {
   wish = first_wish past;
 }
 
-abbrev pub head_in : Shape → Head → List ℕ
+abbrev pub head_in : RowFormat → Head → List ℕ
 head_in Lines head = head_text head
 head_in Json head = head_json head
 
 -- the row of an id, by the grace, the time and what is told of it
-abbrev pub row_in : Shape → ℕ → ℕ → List ℕ → Row → List ℕ
+abbrev pub row_in : RowFormat → ℕ → ℕ → List ℕ → Row → List ℕ
 row_in Lines grace now id row = row_text grace now id row
 row_in Json grace now id row = row_json now id row
 
-abbrev pub row_of_in : Shape → List ℕ → List Event → List ℕ
+abbrev pub row_of_in : RowFormat → List ℕ → List Event → List ℕ
 row_of_in shape id past = row_in shape (grace_of past) (time_of past) id (row_of id past)
 
-abbrev pub entries_in : Shape → List Entry → List Event → List ℕ
+abbrev pub entries_in : RowFormat → List Entry → List Event → List ℕ
 entries_in shape [] past = []
 entries_in shape (entry ∷ entries) past = row_of_in shape entry.id past ++ entries_in shape entries past
 
-abbrev pub ids_in : Shape → List (List ℕ) → List Event → List ℕ
+abbrev pub ids_in : RowFormat → List (List ℕ) → List Event → List ℕ
 ids_in shape [] past = []
 ids_in shape (id ∷ ids) past = row_of_in shape id past ++ ids_in shape ids past
 
 -- all of it: init, the entries in the order of the table, and the ids whose child outlives its entry, the youngest first
-abbrev pub status_in : Shape → List Event → List ℕ
+abbrev pub status_in : RowFormat → List Event → List ℕ
 status_in shape past =
     head_in shape (head_of past) ++ (entries_in shape (table_of past) past
     ++ ids_in shape (gone_ids (table_of past) (unreaped_children past)) past)

@@ -12,7 +12,7 @@ use trace_view::{Row, TraceView, Wish};
 
 /// In which way it is written how init and its entries stand.
 #[derive(Clone, Copy)]
-pub enum Shape {
+pub enum RowFormat {
     /// Lines in columns.
     Lines,
     /// An object of JSON a line.
@@ -40,7 +40,7 @@ pub struct Head {
 pub fn status_lines<A: Allocator>(
     alloc: Global,
     view: &TraceView<A>,
-    shape: Shape,
+    shape: RowFormat,
 ) -> Result<Vec<u8>, AllocError>
     ensures { IfOk result (λ text. (past : List Event) → Viewed view.now past
         → text.items ≡ status_in shape past) }
@@ -60,7 +60,7 @@ pub fn row_line<A: Allocator>(
     alloc: Global,
     view: &TraceView<A>,
     id: &Id,
-    shape: Shape,
+    shape: RowFormat,
 ) -> Result<Vec<u8>, AllocError>
     ensures { IfOk result (λ text. (past : List Event) → Viewed view.now past
         → text.items ≡ row_of_in shape id.now past) }
@@ -83,12 +83,12 @@ fn read_head<A: Allocator>(view: &TraceView<A>) -> Head
     }
 }
 
-fn add_head(text: &mut Vec<u8>, head: &Head, shape: Shape) -> Result<(), AllocError>
+fn add_head(text: &mut Vec<u8>, head: &Head, shape: RowFormat) -> Result<(), AllocError>
     ensures { OnOk result (text.new.items ≡ text.old.items ++ head_in shape head.now) }
 {
     match shape {
-        Shape::Lines => status::add_head(text, head),
-        Shape::Json => json::add_head(text, head),
+        RowFormat::Lines => status::add_head(text, head),
+        RowFormat::Json => json::add_head(text, head),
     }
 }
 
@@ -96,7 +96,7 @@ fn add_entries<A: Allocator>(
     text: &mut Vec<u8>,
     view: &TraceView<A>,
     entries: &[Entry],
-    shape: Shape,
+    shape: RowFormat,
 ) -> Result<(), AllocError>
     ensures { OnOk result ((past : List Event) → Viewed view.now past
         → text.new.items ≡ text.old.items ++ entries_in shape entries.now past) }
@@ -113,7 +113,7 @@ fn add_ids<A: Allocator>(
     text: &mut Vec<u8>,
     view: &TraceView<A>,
     ids: &[Id],
-    shape: Shape,
+    shape: RowFormat,
 ) -> Result<(), AllocError>
     ensures { OnOk result ((past : List Event) → Viewed view.now past
         → text.new.items ≡ text.old.items ++ ids_in shape ids.now past) }
@@ -130,7 +130,7 @@ fn add_id<A: Allocator>(
     text: &mut Vec<u8>,
     view: &TraceView<A>,
     id: &Id,
-    shape: Shape,
+    shape: RowFormat,
 ) -> Result<(), AllocError>
     ensures { OnOk result ((past : List Event) → Viewed view.now past
         → text.new.items ≡ text.old.items ++ row_of_in shape id.now past) }
@@ -148,13 +148,13 @@ fn add_row(
     now: u64,
     id: &Id,
     row: &Row,
-    shape: Shape,
+    shape: RowFormat,
 ) -> Result<(), AllocError>
     ensures { OnOk result (text.new.items
         ≡ text.old.items ++ row_in shape grace now id.now row.now) }
 {
     match shape {
-        Shape::Lines => status::add_row(text, grace, now, id, row),
-        Shape::Json => json::add_row(text, now, id, row),
+        RowFormat::Lines => status::add_row(text, grace, now, id, row),
+        RowFormat::Json => json::add_row(text, now, id, row),
     }
 }

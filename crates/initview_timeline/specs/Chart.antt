@@ -12,7 +12,7 @@ use Rattle.initview_lines.specs.Days.{clocked}
 use Rattle.initview_lines.specs.Words.{numbered, padded}
 use Rattle.initview_timeline.specs.declared.marks.Shown.{Shown}
 use Rattle.initview_timeline.specs.declared.marks.Shown.TheVariants.{Entered, Settled, Born, NotBorn, Sent, Held}
-use Rattle.initview_timeline.specs.declared.marks.Mark.{Mark}
+use Rattle.initview_timeline.specs.declared.marks.TimelineMark.{TimelineMark}
 use Rattle.initview_timeline.specs.declared.frames.Frame.{Frame}
 use Rattle.initview_timeline.specs.declared.lives.Life.{Life}
 use Rattle.initview_timeline.specs.Frames.{frame_of, place_of, span_of}
@@ -41,7 +41,7 @@ abbrev pub or_before : Option ℕ → Option ℕ → Option ℕ
 or_before (Some letter) before = Some letter
 or_before None before = before
 
-abbrev pub letter_from : Frame → ℕ → Option ℕ → List Mark → Option ℕ
+abbrev pub letter_from : Frame → ℕ → Option ℕ → List TimelineMark → Option ℕ
 letter_from f column found [] = found
 letter_from f column found (mark ∷ marks) =
     letter_from f column (if place_of f mark.time == column then or_before (letter_of mark.what) found else found) marks
@@ -51,7 +51,7 @@ abbrev pub is_birth : Shown → Bool
 is_birth (Born id number) = true
 is_birth _ = false
 
-abbrev pub is_born_in : Frame → ℕ → Mark → Bool
+abbrev pub is_born_in : Frame → ℕ → TimelineMark → Bool
 is_born_in f column mark = is_birth mark.what && place_of f mark.time == column
 
 abbrev pub lives_in : Frame → ℕ → Life → Bool
@@ -63,32 +63,32 @@ abbrev pub or_ground : Option ℕ → ℕ → ℕ
 or_ground (Some letter) other = letter
 or_ground None other = other
 
-abbrev pub ground_of : Frame → List Mark → List Life → ℕ → ℕ
+abbrev pub ground_of : Frame → List TimelineMark → List Life → ℕ → ℕ
 ground_of f marks lives column =
     if list_any (is_born_in f column) marks then 124
     else if list_any (lives_in f column) lives then 61
     else 46
 
-abbrev pub cell : Frame → List Mark → List Life → ℕ → ℕ
+abbrev pub cell : Frame → List TimelineMark → List Life → ℕ → ℕ
 cell f marks lives column = or_ground (letter_from f column None marks) (ground_of f marks lives column)
 
-abbrev pub cells : Frame → List Mark → List Life → ℕ → List ℕ
+abbrev pub cells : Frame → List TimelineMark → List Life → ℕ → List ℕ
 cells f marks lives zero = []
 cells f marks lives (suc columns) = cells f marks lives columns ++ cell f marks lives columns ∷ []
 
-abbrev pub row : Frame → List ℕ → List Mark → List ℕ
+abbrev pub row : Frame → List ℕ → List TimelineMark → List ℕ
 row f id marks = padded 9 id ++ (cells f marks (lives_of marks) (f.last + 1) ++ codes "\n")
 
-abbrev pub rows : Frame → List Mark → List (List ℕ) → List ℕ
+abbrev pub rows : Frame → List TimelineMark → List (List ℕ) → List ℕ
 rows f marks [] = []
 rows f marks (id ∷ ids) = row f id (marks_for id marks) ++ rows f marks ids
 
 -- the row of the stages: the letter of the last stage that is entered in a column, - where a stage is in force, = where it
 -- was announced settled
-abbrev pub kept_stage : Mark → List Mark
+abbrev pub kept_stage : TimelineMark → List TimelineMark
 kept_stage mark = if is_of_stage mark.what then mark ∷ [] else []
 
-abbrev pub stage_marks : List Mark → List Mark
+abbrev pub stage_marks : List TimelineMark → List TimelineMark
 stage_marks [] = []
 stage_marks (mark ∷ marks) = kept_stage mark ++ stage_marks marks
 
@@ -96,19 +96,19 @@ abbrev pub force_of : Shown → ℕ
 force_of (Settled level) = 61
 force_of _ = 45
 
-abbrev pub force_from : Frame → ℕ → ℕ → List Mark → ℕ
+abbrev pub force_from : Frame → ℕ → ℕ → List TimelineMark → ℕ
 force_from f column found [] = found
 force_from f column found (mark ∷ marks) =
     force_from f column (if nat_le (place_of f mark.time) column then force_of mark.what else found) marks
 
-abbrev pub stage_cell : Frame → List Mark → ℕ → ℕ
+abbrev pub stage_cell : Frame → List TimelineMark → ℕ → ℕ
 stage_cell f marks column = or_ground (letter_from f column None marks) (force_from f column 46 marks)
 
-abbrev pub stage_cells : Frame → List Mark → ℕ → List ℕ
+abbrev pub stage_cells : Frame → List TimelineMark → ℕ → List ℕ
 stage_cells f marks zero = []
 stage_cells f marks (suc columns) = stage_cells f marks columns ++ stage_cell f marks columns ∷ []
 
-abbrev pub stage_row : Frame → List Mark → List ℕ
+abbrev pub stage_row : Frame → List TimelineMark → List ℕ
 stage_row f marks = padded 9 (codes "stage") ++ (stage_cells f (stage_marks marks) (f.last + 1) ++ codes "\n")
 
 -- the times of the first column and of the last, and what stands between them
@@ -129,11 +129,11 @@ legend =
     codes "stage: i sysinit, b boot, 0 to 9 and S levels; - entered, = settled\n"
     ++ codes "ids: | started, = runs, T TERM sent, K KILL sent, H held, ! start failed\n"
 
-abbrev pub chart_by : Frame → List Mark → List ℕ
+abbrev pub chart_by : Frame → List TimelineMark → List ℕ
 chart_by f marks = times_line f ++ (stage_row f marks ++ (rows f marks (ids_of marks) ++ legend))
 
 -- the lines of a width: nine columns for the ids, and the others for the times
-abbrev pub chart_of : ℕ → List Mark → ℕ → List ℕ
+abbrev pub chart_of : ℕ → List TimelineMark → ℕ → List ℕ
 chart_of width marks time = chart_by (frame_of marks time (width - 10)) marks
 
 abbrev pub chart_text : ℕ → List Event → List ℕ

@@ -1,6 +1,6 @@
 -- Where the times of a timeline stand in its drawing: a definition of scaling.
 use Rattle.std.specs.Prelude.{ℕ, ◌+◌, ◌-◌, ◌*◌, ◌/◌, ◌^◌, ◌==◌, min, if◌then◌else◌, List, [], ◌∷◌}
-use Rattle.initview_timeline.specs.declared.marks.Mark.{Mark}
+use Rattle.initview_timeline.specs.declared.marks.TimelineMark.{TimelineMark}
 use Rattle.initview_timeline.specs.declared.frames.Frame.{Frame}
 
 -- a sum and a product as far as numbers go
@@ -23,9 +23,9 @@ abbrev pub place_of : Frame → ℕ → ℕ
 place_of f time = scaled (time - f.start) (span_of f) f.last
 
 -- from the time of the first mark, or the last time where there is none, up to the last time
-abbrev pub first_time : List Mark → ℕ → ℕ
+abbrev pub first_time : List TimelineMark → ℕ → ℕ
 first_time [] last = last
 first_time (mark ∷ marks) last = mark.time
 
-abbrev pub frame_of : List Mark → ℕ → ℕ → Frame
+abbrev pub frame_of : List TimelineMark → ℕ → ℕ → Frame
 frame_of marks time last = record { start = first_time marks time; end = time; last = last }

@@ -6,7 +6,7 @@ use Rattle.init_words.specs.declared.children.Status.{Status}
 use Rattle.trace_view.specs.declared.rows.Ending.{Ending}
 use Rattle.initview_timeline.specs.declared.marks.Shown.{Shown}
 use Rattle.initview_timeline.specs.declared.marks.Shown.TheVariants.{Entered, Settled, Born, NotBorn, Ended, Sent, Held}
-use Rattle.initview_timeline.specs.declared.marks.Mark.{Mark}
+use Rattle.initview_timeline.specs.declared.marks.TimelineMark.{TimelineMark}
 use Rattle.initview_timeline.specs.declared.lives.Life.{Life}
 
 -- the id that it happened to
@@ -24,11 +24,11 @@ abbrev pub with_id : List (List ℕ) → Option (List ℕ) → List (List ℕ)
 with_id found None = found
 with_id found (Some id) = if list_any (same_id id) found then found else found ++ id ∷ []
 
-abbrev pub ids_from : List (List ℕ) → List Mark → List (List ℕ)
+abbrev pub ids_from : List (List ℕ) → List TimelineMark → List (List ℕ)
 ids_from found [] = found
 ids_from found (mark ∷ marks) = ids_from (with_id found (id_of mark.what)) marks
 
-abbrev pub ids_of : List Mark → List (List ℕ)
+abbrev pub ids_of : List TimelineMark → List (List ℕ)
 ids_of marks = ids_from [] marks
 
 -- the marks of an id
@@ -36,10 +36,10 @@ abbrev pub is_for : List ℕ → Option (List ℕ) → Bool
 is_for id None = false
 is_for id (Some other) = same_id id other
 
-abbrev pub kept_for : List ℕ → Mark → List Mark
+abbrev pub kept_for : List ℕ → TimelineMark → List TimelineMark
 kept_for id mark = if is_for id (id_of mark.what) then mark ∷ [] else []
 
-abbrev pub marks_for : List ℕ → List Mark → List Mark
+abbrev pub marks_for : List ℕ → List TimelineMark → List TimelineMark
 marks_for id [] = []
 marks_for id (mark ∷ marks) = kept_for id mark ++ marks_for id marks
 
@@ -58,16 +58,16 @@ abbrev pub or_later : Option Ending → Option Ending → Option Ending
 or_later (Some ending) later = Some ending
 or_later None later = later
 
-abbrev pub end_of : ℕ → List Mark → Option Ending
+abbrev pub end_of : ℕ → List TimelineMark → Option Ending
 end_of number [] = None
 end_of number (mark ∷ later) = or_later (ending_in number mark.time mark.what) (end_of number later)
 
 -- the lives of an id's children, by its marks, the oldest first
-abbrev pub life_of : ℕ → Shown → List Mark → List Life
+abbrev pub life_of : ℕ → Shown → List TimelineMark → List Life
 life_of time (Born id number) later = record { number = number; from = time; end = end_of number later } ∷ []
 life_of time _ later = []
 
-abbrev pub lives_of : List Mark → List Life
+abbrev pub lives_of : List TimelineMark → List Life
 lives_of [] = []
 lives_of (mark ∷ later) = life_of mark.time mark.what later ++ lives_of later
 
@@ -81,7 +81,7 @@ abbrev pub or_stage : ℕ → Shown → ℕ → ℕ
 or_stage time (Entered stage) further = time
 or_stage time _ further = further
 
-abbrev pub next_stage : ℕ → List Mark → ℕ
+abbrev pub next_stage : ℕ → List TimelineMark → ℕ
 next_stage last [] = last
 next_stage last (mark ∷ later) = or_stage mark.time mark.what (next_stage last later)
 

@@ -8,7 +8,7 @@ use Rattle.trace_events.specs.Event.{Event}
 use Rattle.trace_events.specs.Past.{open_of, time_of}
 use Rattle.initview_timeline.specs.declared.marks.Shown.{Shown}
 use Rattle.initview_timeline.specs.declared.marks.Shown.TheVariants as shown
-use Rattle.initview_timeline.specs.declared.marks.Mark.{Mark}
+use Rattle.initview_timeline.specs.declared.marks.TimelineMark.{TimelineMark}
 
 -- the signal that was sent for an order
 abbrev pub sent_for : List ℕ → Option OrderKind → Option Shown
@@ -27,11 +27,11 @@ shown_of (Reaped id number status) past = Some (shown.Ended id number status)
 shown_of (Hit id) past = sent_for id (open_of id past)
 shown_of _ past = None
 
-abbrev pub mark_at : ℕ → Option Shown → List Mark
+abbrev pub mark_at : ℕ → Option Shown → List TimelineMark
 mark_at time None = []
 mark_at time (Some what) = record { time = time; what = what } ∷ []
 
 -- the marks of a past, the oldest first
-abbrev pub marks_of : List Event → List Mark
+abbrev pub marks_of : List Event → List TimelineMark
 marks_of [] = []
 marks_of (happening ∷ past) = marks_of past ++ mark_at (time_of (happening ∷ past)) (shown_of happening past)

@@ -5,7 +5,7 @@ use Rattle.init_words.specs.Ids.{same_id}
 use Rattle.trace_view.specs.declared.rows.Ending.{Ending}
 use Rattle.initview_timeline.specs.declared.frames.Frame.{Frame}
 use Rattle.initview_timeline.specs.declared.looks.TheConstants.{BAR_LEAST, ROW, STEPS, TICKS}
-use Rattle.initview_timeline.specs.declared.marks.Mark.{Mark}
+use Rattle.initview_timeline.specs.declared.marks.TimelineMark.{TimelineMark}
 use Rattle.initview_timeline.specs.declared.marks.Shown.{Shown}
 use Rattle.initview_timeline.specs.declared.marks.Shown.TheVariants.{Entered, Settled, Born, Held, NotBorn, Sent}
 use Rattle.initview_timeline.specs.declared.pictures.Drawn.{Drawn}
@@ -52,39 +52,39 @@ abbrev pub names : List (List ℕ) → List Shape
 names ids = name ids None ∷ map (id_name ids) ids
 
 -- a mark stands in the row of its id, or of the stages, at the place of its time
-abbrev pub at_mark : Frame → List (List ℕ) → Mark → Drawn → Shape
+abbrev pub at_mark : Frame → List (List ℕ) → TimelineMark → Drawn → Shape
 at_mark f ids mark what = record { left = place_of f mark.time; top = top_of ids (id_of mark.what); what = what }
 
 -- a bar stands from the place of a time to that of a later one, and is wide enough to be seen
 abbrev pub width_of : Frame → ℕ → ℕ → ℕ
 width_of f from to = max (place_of f to - place_of f from) BAR_LEAST
 
-abbrev pub bar : Frame → List (List ℕ) → Mark → ℕ → Option Ending → Shape
+abbrev pub bar : Frame → List (List ℕ) → TimelineMark → ℕ → Option Ending → Shape
 bar f ids mark to end = at_mark f ids mark (Bar (width_of f mark.time to) mark to end)
 
 -- a stage, and that it was settled, goes on to the next stage, and a life to its end, or the last time
-abbrev pub bar_of : Frame → List (List ℕ) → Mark → Shown → List Mark → List Shape
+abbrev pub bar_of : Frame → List (List ℕ) → TimelineMark → Shown → List TimelineMark → List Shape
 bar_of f ids mark (Entered stage) later = bar f ids mark (next_stage f.end later) None ∷ []
 bar_of f ids mark (Settled level) later = bar f ids mark (next_stage f.end later) None ∷ []
 bar_of f ids mark (Born id number) later =
     bar f ids mark (end_time f.end (end_of number later)) (end_of number later) ∷ []
 bar_of f ids mark _ later = []
 
-abbrev pub bars : Frame → List (List ℕ) → List Mark → List Shape
+abbrev pub bars : Frame → List (List ℕ) → List TimelineMark → List Shape
 bars f ids [] = []
 bars f ids (mark ∷ later) = bar_of f ids mark mark.what later ++ bars f ids later
 
-abbrev pub sign_of : Frame → List (List ℕ) → Mark → Shown → List Shape
+abbrev pub sign_of : Frame → List (List ℕ) → TimelineMark → Shown → List Shape
 sign_of f ids mark (Sent id signal) = at_mark f ids mark (Sign mark) ∷ []
 sign_of f ids mark (Held id) = at_mark f ids mark (Sign mark) ∷ []
 sign_of f ids mark (NotBorn id) = at_mark f ids mark (Sign mark) ∷ []
 sign_of f ids mark _ = []
 
-abbrev pub signs : Frame → List (List ℕ) → List Mark → List Shape
+abbrev pub signs : Frame → List (List ℕ) → List TimelineMark → List Shape
 signs f ids [] = []
 signs f ids (mark ∷ marks) = sign_of f ids mark mark.what ++ signs f ids marks
 
 -- an earlier bar stands upon a later one, and the signs upon all
-unfoldable pub shapes_of : Frame → List (List ℕ) → List Mark → List Shape
+unfoldable pub shapes_of : Frame → List (List ℕ) → List TimelineMark → List Shape
 shapes_of f ids marks =
     ticks f (step_of (span_of f)) TICKS ++ (names ids ++ (reverse (bars f ids marks) ++ signs f ids marks))

@@ -11,7 +11,7 @@ use Rattle.trace_view.specs.declared.rows.Ending.{Ending}
 use Rattle.initview_lines.specs.Words.{level_words, numbered, stage_words, status_words}
 use Rattle.initview_timeline.specs.declared.frames.Frame.{Frame}
 use Rattle.initview_timeline.specs.declared.looks.TheConstants.{BELOW, DONE, DRAWING, FAILED, GAP, HEAD, HELD, KILL, KILLED, LEGEND, LETTER_ROOM, MARGINS, NAME, ROW, ROWS, RUNS, SETTLED, STAGE, STYLE, TERM, TICK, UNBORN, WORDS_ROOM}
-use Rattle.initview_timeline.specs.declared.marks.Mark.{Mark}
+use Rattle.initview_timeline.specs.declared.marks.TimelineMark.{TimelineMark}
 use Rattle.initview_timeline.specs.declared.marks.Shown.{Shown}
 use Rattle.initview_timeline.specs.declared.marks.Shown.TheVariants.{Entered, Settled, Born, NotBorn, Ended, Sent, Held}
 use Rattle.initview_timeline.specs.declared.pictures.Drawn.{Drawn}
@@ -63,7 +63,7 @@ said_of (Held id) end = flat_map escaped_byte id ++ codes ": held"
 said_of (NotBorn id) end = flat_map escaped_byte id ++ codes ": start failed"
 said_of (Ended id number status) end = []
 
-abbrev pub tip : Mark → Option Ending → List ℕ
+abbrev pub tip : TimelineMark → Option Ending → List ℕ
 tip mark end = codes "<title>" ++ (said_of mark.what end ++ numbered (codes ", clock ") mark.time [])
 
 -- on a stage stand its words where there is room for them, else its letter where there is room for that
@@ -77,7 +77,7 @@ abbrev pub label : ℕ → Shown → List ℕ
 label room (Entered stage) = codes "<text y=\"14\" x=\"4\">" ++ (label_by room stage ++ codes "</text>")
 label room _ = []
 
-abbrev pub bar_text : ℕ → Mark → ℕ → Option Ending → List ℕ
+abbrev pub bar_text : ℕ → TimelineMark → ℕ → Option Ending → List ℕ
 bar_text width mark to end =
     tip mark end ++ (numbered (codes " to ") to (codes "</title>")
     ++ (look mark.what end ++ (numbered [] width (codes "\"/>") ++ label width mark.what)))
@@ -113,10 +113,10 @@ document f bottom shapes =
 abbrev pub bottom_of : ℕ → ℕ
 bottom_of count = times (plus count 1) ROW
 
-abbrev pub svg_by : Frame → List (List ℕ) → List Mark → List ℕ
+abbrev pub svg_by : Frame → List (List ℕ) → List TimelineMark → List ℕ
 svg_by f ids marks = document f (bottom_of (length ids)) (shapes_of f ids marks)
 
-abbrev pub svg_of : List Mark → ℕ → List ℕ
+abbrev pub svg_of : List TimelineMark → ℕ → List ℕ
 svg_of marks time = svg_by (frame_of marks time DRAWING) (ids_of marks) marks
 
 abbrev pub svg_text : List Event → List ℕ

@@ -7,7 +7,7 @@ use Rattle.trace_laws.specs.Plans.{critical_path}
 use Rattle.trace_view.specs.declared.rows.Ending.{Ending}
 use Rattle.initview_lines.specs.Words.{level_words, numbered, padded}
 use Rattle.initview_timeline.specs.declared.lives.Life.{Life}
-use Rattle.initview_timeline.specs.declared.marks.Mark.{Mark}
+use Rattle.initview_timeline.specs.declared.marks.TimelineMark.{TimelineMark}
 use Rattle.initview_timeline.specs.declared.times.Timed.{Timed}
 use Rattle.initview_timeline.specs.Frames.{plus}
 use Rattle.initview_timeline.specs.Lives.{lives_of, marks_for}
@@ -17,7 +17,7 @@ abbrev pub first_of : List Life → Option Life
 first_of [] = None
 first_of (life ∷ lives) = Some life
 
-abbrev pub timed_of : List Mark → Entry → Timed
+abbrev pub timed_of : List TimelineMark → Entry → Timed
 timed_of marks e = record { id = e.id; act = e.act; life = first_of (lives_of (marks_for e.id marks)) }
 
 -- the seconds of a life that ended, and 0 of any other
@@ -66,5 +66,5 @@ abbrev pub times_by : Level → List Timed → List ℕ
 times_by level timed =
     codes "critical path in the trace\n" ++ (time_lines (longest_from 0 timed) timed ++ whole_line level (sum_from 0 timed))
 
-abbrev pub times_text : Level → List Entry → List Mark → List ℕ
+abbrev pub times_text : Level → List Entry → List TimelineMark → List ℕ
 times_text level table marks = times_by level (map (timed_of marks) (critical_path level table))

@@ -6,7 +6,7 @@ ghost use Rattle.initview_timeline.specs.Chart.{cell, cells, chart_by, chart_of,
 
 use crate::frames::Frame;
 use crate::lives::{Life, end_time, ids_of, is_of_stage, lives_of, marks_for};
-use crate::marks::{Mark, Shown};
+use crate::marks::{Shown, TimelineMark};
 use init_words::{Id, SignalKind, Stage};
 use initview_lines::{add_clock, add_number, add_padded, put};
 use std::alloc::{AllocError, Global};
@@ -53,7 +53,7 @@ fn or_before(letter: Option<u8>, before: Option<u8>) -> Option<u8>
 }
 
 /// The last letter in a column.
-fn letter_in(frame: Frame, column: u64, marks: &[Mark]) -> Option<u8>
+fn letter_in(frame: Frame, column: u64, marks: &[TimelineMark]) -> Option<u8>
     ensures { result ≡ letter_from frame column None marks.now }
 {
     let mut found = None;
@@ -82,7 +82,7 @@ fn is_birth(what: Shown) -> bool
     matches!(what, Shown::Born(_, _))
 }
 
-fn is_born_in(frame: Frame, column: u64, mark: &Mark) -> bool
+fn is_born_in(frame: Frame, column: u64, mark: &TimelineMark) -> bool
     ensures { result ≡ is_born_in frame column mark.now }
 {
     is_birth(mark.what) && frame.place(mark.time) == column
@@ -102,14 +102,14 @@ fn any_lives_in(frame: Frame, column: u64, lives: &[Life]) -> bool
 }
 
 /// One of the marks is a birth in a column.
-fn any_born_in(frame: Frame, column: u64, marks: &[Mark]) -> bool
+fn any_born_in(frame: Frame, column: u64, marks: &[TimelineMark]) -> bool
     ensures { result ≡ list_any (is_born_in frame column) marks.now }
 {
     marks.iter().any(|mark| is_born_in(frame, column, mark))
 }
 
 /// A birth in a column, a child that lives in it, or none.
-fn ground_of(frame: Frame, marks: &[Mark], lives: &[Life], column: u64) -> u8
+fn ground_of(frame: Frame, marks: &[TimelineMark], lives: &[Life], column: u64) -> u8
     ensures { result ≡ ground_of frame marks.now lives.now column }
 {
     if any_born_in(frame, column, marks) {
@@ -121,7 +121,7 @@ fn ground_of(frame: Frame, marks: &[Mark], lives: &[Life], column: u64) -> u8
     }
 }
 
-fn cell(frame: Frame, marks: &[Mark], lives: &[Life], column: u64) -> u8
+fn cell(frame: Frame, marks: &[TimelineMark], lives: &[Life], column: u64) -> u8
     ensures { result ≡ cell frame marks.now lives.now column }
 {
     or_ground(
@@ -133,7 +133,7 @@ fn cell(frame: Frame, marks: &[Mark], lives: &[Life], column: u64) -> u8
 fn add_cells(
     text: &mut Vec<u8>,
     frame: Frame,
-    marks: &[Mark],
+    marks: &[TimelineMark],
     lives: &[Life],
     columns: u64,
 ) -> Result<(), AllocError>
@@ -152,7 +152,7 @@ fn add_row(
     alloc: Global,
     frame: Frame,
     id: &Id,
-    marks: &[Mark],
+    marks: &[TimelineMark],
 ) -> Result<(), AllocError>
     requires { frame.last + 1 < 2 ^ 64 }
     ensures { OnOk result (text.new.items ≡ text.old.items ++ row frame id.now marks.now) }
@@ -167,7 +167,7 @@ fn add_rows(
     text: &mut Vec<u8>,
     alloc: Global,
     frame: Frame,
-    marks: &[Mark],
+    marks: &[TimelineMark],
     ids: &[Id],
 ) -> Result<(), AllocError>
     requires { frame.last + 1 < 2 ^ 64 }
@@ -182,7 +182,7 @@ fn add_rows(
     Ok(())
 }
 
-fn add_kept_stage(kept: &mut Vec<Mark>, mark: &Mark) -> Result<(), AllocError>
+fn add_kept_stage(kept: &mut Vec<TimelineMark>, mark: &TimelineMark) -> Result<(), AllocError>
     ensures { OnOk result (kept.new.items ≡ kept.old.items ++ kept_stage mark.now) }
 {
     if is_of_stage(mark.what) {
@@ -191,7 +191,7 @@ fn add_kept_stage(kept: &mut Vec<Mark>, mark: &Mark) -> Result<(), AllocError>
     Ok(())
 }
 
-fn add_stage_marks(kept: &mut Vec<Mark>, marks: &[Mark]) -> Result<(), AllocError>
+fn add_stage_marks(kept: &mut Vec<TimelineMark>, marks: &[TimelineMark]) -> Result<(), AllocError>
     ensures { OnOk result (kept.new.items ≡ kept.old.items ++ stage_marks marks.now) }
 {
     let mut rest = marks;
@@ -202,7 +202,7 @@ fn add_stage_marks(kept: &mut Vec<Mark>, marks: &[Mark]) -> Result<(), AllocErro
     Ok(())
 }
 
-fn stage_marks(alloc: Global, marks: &[Mark]) -> Result<Vec<Mark>, AllocError>
+fn stage_marks(alloc: Global, marks: &[TimelineMark]) -> Result<Vec<TimelineMark>, AllocError>
     ensures { IfOk result (λ kept. kept.items ≡ stage_marks marks.now) }
 {
     let mut kept = Vec::new(alloc);
@@ -220,7 +220,7 @@ fn force_of(what: Shown) -> u8
 }
 
 /// Whether the last stage that was entered up to a column was announced settled up to there.
-fn force_in(frame: Frame, column: u64, marks: &[Mark]) -> u8
+fn force_in(frame: Frame, column: u64, marks: &[TimelineMark]) -> u8
     ensures { result ≡ force_from frame column 46 marks.now }
 {
     let mut found = b'.';
@@ -234,7 +234,7 @@ fn force_in(frame: Frame, column: u64, marks: &[Mark]) -> u8
     found
 }
 
-fn stage_cell(frame: Frame, marks: &[Mark], column: u64) -> u8
+fn stage_cell(frame: Frame, marks: &[TimelineMark], column: u64) -> u8
     ensures { result ≡ stage_cell frame marks.now column }
 {
     or_ground(
@@ -246,7 +246,7 @@ fn stage_cell(frame: Frame, marks: &[Mark], column: u64) -> u8
 fn add_stage_cells(
     text: &mut Vec<u8>,
     frame: Frame,
-    marks: &[Mark],
+    marks: &[TimelineMark],
     columns: u64,
 ) -> Result<(), AllocError>
     ensures { OnOk result (text.new.items
@@ -262,7 +262,7 @@ fn add_stage_row(
     text: &mut Vec<u8>,
     alloc: Global,
     frame: Frame,
-    marks: &[Mark],
+    marks: &[TimelineMark],
 ) -> Result<(), AllocError>
     requires { frame.last + 1 < 2 ^ 64 }
     ensures { OnOk result (text.new.items ≡ text.old.items ++ stage_row frame marks.now) }
@@ -317,7 +317,7 @@ fn add_chart(
     text: &mut Vec<u8>,
     alloc: Global,
     frame: Frame,
-    marks: &[Mark],
+    marks: &[TimelineMark],
 ) -> Result<(), AllocError>
     requires { frame.last + 1 < 2 ^ 64 }
     ensures { OnOk result (text.new.items ≡ text.old.items ++ chart_by frame marks.now) }
@@ -335,7 +335,7 @@ fn add_chart(
 pub fn chart_lines(
     alloc: Global,
     width: u64,
-    marks: &[Mark],
+    marks: &[TimelineMark],
     time: u64,
 ) -> Result<Vec<u8>, AllocError>
     ensures { IfOk result (λ text. text.items ≡ chart_of width marks.now time) }

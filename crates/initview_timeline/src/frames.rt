@@ -3,7 +3,7 @@
 ghost use Rattle.std.specs.Prelude.{◌≡◌};
 ghost use Rattle.initview_timeline.specs.Frames.{first_time, frame_of, place_of, scaled, span_of};
 
-use crate::marks::Mark;
+use crate::marks::TimelineMark;
 
 /// The times of a drawing, in seconds, and the number of its last place; the first is 0.
 #[derive(Clone, Copy)]
@@ -13,7 +13,7 @@ pub struct Frame {
     pub last: u64,
 }
 
-fn first_time(marks: &[Mark], last: u64) -> u64
+fn first_time(marks: &[TimelineMark], last: u64) -> u64
     ensures { result ≡ first_time marks.now last }
 {
     match marks {
@@ -35,7 +35,7 @@ fn scaled(part: u64, whole: u64, many: u64) -> u64
 
 impl Frame {
     /// From the first mark up to the last time.
-    pub(crate) fn of(marks: &[Mark], time: u64, last: u64) -> Frame
+    pub(crate) fn of(marks: &[TimelineMark], time: u64, last: u64) -> Frame
         ensures { result ≡ frame_of marks.now time last }
     {
         Frame {

@@ -12,6 +12,6 @@ mod svg;
 mod times;
 
 pub use chart::chart_lines;
-pub use marks::{Mark, Marks, Shown};
+pub use marks::{Marks, Shown, TimelineMark};
 pub use svg::svg_text;
 pub use times::add_path_times;

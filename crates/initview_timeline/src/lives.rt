@@ -5,7 +5,7 @@ ghost use Rattle.std.specs.List.{list_any};
 ghost use Rattle.init_words.specs.Ids.{same_id};
 ghost use Rattle.initview_timeline.specs.Lives.{end_of, end_time, ending_if, ending_in, id_of, ids_from, ids_of, is_for, is_of_stage, kept_for, life_of, lives_of, marks_for, next_stage, with_id};
 
-use crate::marks::{Mark, Shown};
+use crate::marks::{Shown, TimelineMark};
 use init_words::{ChildNumber, Id, Status};
 use std::alloc::{AllocError, Global};
 use trace_view::Ending;
@@ -60,7 +60,7 @@ fn add_id(ids: &mut Vec<Id>, id: Option<Id>) -> Result<(), AllocError>
     }
 }
 
-fn add_ids(ids: &mut Vec<Id>, marks: &[Mark]) -> Result<(), AllocError>
+fn add_ids(ids: &mut Vec<Id>, marks: &[TimelineMark]) -> Result<(), AllocError>
     ensures { OnOk result (ids.new.items ≡ ids_from ids.old.items marks.now) }
 {
     let mut rest = marks;
@@ -72,7 +72,7 @@ fn add_ids(ids: &mut Vec<Id>, marks: &[Mark]) -> Result<(), AllocError>
 }
 
 /// The ids, each once, in the order in which something first happened to them.
-pub(crate) fn ids_of(alloc: Global, marks: &[Mark]) -> Result<Vec<Id>, AllocError>
+pub(crate) fn ids_of(alloc: Global, marks: &[TimelineMark]) -> Result<Vec<Id>, AllocError>
     ensures { IfOk result (λ ids. ids.items ≡ ids_of marks.now) }
 {
     let mut ids = Vec::new(alloc);
@@ -89,7 +89,7 @@ fn is_for(id: &Id, other: Option<Id>) -> bool
     }
 }
 
-fn add_kept(kept: &mut Vec<Mark>, id: &Id, mark: &Mark) -> Result<(), AllocError>
+fn add_kept(kept: &mut Vec<TimelineMark>, id: &Id, mark: &TimelineMark) -> Result<(), AllocError>
     ensures { OnOk result (kept.new.items ≡ kept.old.items ++ kept_for id.now mark.now) }
 {
     if is_for(id, id_of(mark.what)) {
@@ -98,7 +98,11 @@ fn add_kept(kept: &mut Vec<Mark>, id: &Id, mark: &Mark) -> Result<(), AllocError
     Ok(())
 }
 
-fn add_marks_for(kept: &mut Vec<Mark>, id: &Id, marks: &[Mark]) -> Result<(), AllocError>
+fn add_marks_for(
+    kept: &mut Vec<TimelineMark>,
+    id: &Id,
+    marks: &[TimelineMark],
+) -> Result<(), AllocError>
     ensures { OnOk result (kept.new.items ≡ kept.old.items ++ marks_for id.now marks.now) }
 {
     let mut rest = marks;
@@ -110,7 +114,11 @@ fn add_marks_for(kept: &mut Vec<Mark>, id: &Id, marks: &[Mark]) -> Result<(), Al
 }
 
 /// The marks of an id.
-pub(crate) fn marks_for(alloc: Global, id: &Id, marks: &[Mark]) -> Result<Vec<Mark>, AllocError>
+pub(crate) fn marks_for(
+    alloc: Global,
+    id: &Id,
+    marks: &[TimelineMark],
+) -> Result<Vec<TimelineMark>, AllocError>
     ensures { IfOk result (λ kept. kept.items ≡ marks_for id.now marks.now) }
 {
     let mut kept = Vec::new(alloc);
@@ -142,7 +150,7 @@ fn ending_in(number: ChildNumber, time: u64, what: Shown) -> Option<Ending>
 }
 
 /// How the child of this number ended: its first end in these marks.
-pub(crate) fn end_of(number: ChildNumber, later: &[Mark]) -> Option<Ending>
+pub(crate) fn end_of(number: ChildNumber, later: &[TimelineMark]) -> Option<Ending>
     ensures { result ≡ end_of number later.now }
 {
     let mut rest = later;
@@ -156,7 +164,11 @@ pub(crate) fn end_of(number: ChildNumber, later: &[Mark]) -> Option<Ending>
     None
 }
 
-fn add_life(lives: &mut Vec<Life>, mark: &Mark, later: &[Mark]) -> Result<(), AllocError>
+fn add_life(
+    lives: &mut Vec<Life>,
+    mark: &TimelineMark,
+    later: &[TimelineMark],
+) -> Result<(), AllocError>
     ensures { OnOk result (lives.new.items
         ≡ lives.old.items ++ life_of mark.now.time mark.now.what later.now) }
 {
@@ -170,7 +182,7 @@ fn add_life(lives: &mut Vec<Life>, mark: &Mark, later: &[Mark]) -> Result<(), Al
     Ok(())
 }
 
-fn add_lives(lives: &mut Vec<Life>, marks: &[Mark]) -> Result<(), AllocError>
+fn add_lives(lives: &mut Vec<Life>, marks: &[TimelineMark]) -> Result<(), AllocError>
     ensures { OnOk result (lives.new.items ≡ lives.old.items ++ lives_of marks.now) }
 {
     let mut rest = marks;
@@ -182,7 +194,7 @@ fn add_lives(lives: &mut Vec<Life>, marks: &[Mark]) -> Result<(), AllocError>
 }
 
 /// The lives of an id's children, by its marks, the oldest first.
-pub(crate) fn lives_of(alloc: Global, marks: &[Mark]) -> Result<Vec<Life>, AllocError>
+pub(crate) fn lives_of(alloc: Global, marks: &[TimelineMark]) -> Result<Vec<Life>, AllocError>
     ensures { IfOk result (λ lives. lives.items ≡ lives_of marks.now) }
 {
     let mut lives = Vec::new(alloc);
@@ -201,7 +213,7 @@ pub(crate) fn end_time(time: u64, end: Option<Ending>) -> u64
 }
 
 /// The time of the next stage, or the last one.
-pub(crate) fn next_stage(last: u64, later: &[Mark]) -> u64
+pub(crate) fn next_stage(last: u64, later: &[TimelineMark]) -> u64
     ensures { result ≡ next_stage last later.now }
 {
     let mut rest = later;

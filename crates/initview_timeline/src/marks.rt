@@ -33,7 +33,7 @@ pub enum Shown {
 
 /// Something that a timeline shows, and when it happened, in seconds.
 #[derive(Clone, Copy)]
-pub struct Mark {
+pub struct TimelineMark {
     pub time: u64,
     pub what: Shown,
 }
@@ -71,21 +71,21 @@ fn shown_of<A: Allocator, B: Allocator>(
 
 /// Adds the mark of what is shown.
 fn add_mark<A: Allocator>(
-    marks: &mut Vec<Mark, A>,
+    marks: &mut Vec<TimelineMark, A>,
     time: u64,
     shown: Option<Shown>,
 ) -> Result<(), Memory>
     ensures { OnOk result (marks.new.items ≡ marks.old.items ++ mark_at time shown) }
 {
     if let Some(what) = shown {
-        marks.push(Mark { time, what })?;
+        marks.push(TimelineMark { time, what })?;
     }
     Ok(())
 }
 
 /// Adds the mark of the happening that the view has seen last.
 fn take_mark<A: Allocator, B: Allocator>(
-    marks: &mut Vec<Mark, A>,
+    marks: &mut Vec<TimelineMark, A>,
     view: &TraceView<A>,
     happening: &HappeningIn<B>,
 ) -> Result<(), Memory>
@@ -102,20 +102,20 @@ fn take_mark<A: Allocator, B: Allocator>(
 /// The marks of what was seen, the oldest first.
 #[derive(Drop)]
 pub struct Marks<A: Allocator = Global> {
-    marks: Vec<Mark, A>,
+    marks: Vec<TimelineMark, A>,
 }
 
 impl<A: Allocator> Model for Marks<A> {
     ghost use Rattle.std.specs.Prelude.{List};
-    ghost use Rattle.initview_timeline.specs.declared.marks.Mark.{Mark};
+    ghost use Rattle.initview_timeline.specs.declared.marks.TimelineMark.{TimelineMark};
 
-    ghost Value = { List Mark };
+    ghost Value = { List TimelineMark };
 
     ghost view = { λ m. m.marks.items };
 }
 
 impl<A: Allocator> Marks<A> {
-    pub fn as_slice(&self) -> &[Mark]
+    pub fn as_slice(&self) -> &[TimelineMark]
         ensures { result.now ≡ self.now }
     {
         self.marks.as_slice()

@@ -6,7 +6,7 @@ ghost use Rattle.initview_timeline.specs.Pictures.{at_mark, bar, bar_of, bars, f
 use crate::frames::Frame;
 use crate::lives::{end_of, end_time, id_of, next_stage};
 use crate::looks::{BAR_LEAST, ROW, STEPS, TICKS};
-use crate::marks::{Mark, Shown};
+use crate::marks::{Shown, TimelineMark};
 use init_words::Id;
 use std::alloc::{AllocError, Global};
 use trace_view::Ending;
@@ -19,9 +19,9 @@ pub enum Drawn {
     /// A row, and its name: that of the stages, or of an id.
     Name(Option<Id>),
     /// What begins at a mark: how wide it is, up to when it lasts, and how it ended.
-    Bar(u64, Mark, u64, Option<Ending>),
+    Bar(u64, TimelineMark, u64, Option<Ending>),
     /// A signal, a hold or a start that failed.
-    Sign(Mark),
+    Sign(TimelineMark),
 }
 
 /// What is drawn, and where, in pixels.
@@ -137,7 +137,7 @@ fn add_id_names(shapes: &mut Vec<Shape>, ids: &[Id], some: &[Id]) -> Result<(), 
     Ok(())
 }
 
-fn at_mark(frame: Frame, ids: &[Id], mark: &Mark, what: Drawn) -> Shape
+fn at_mark(frame: Frame, ids: &[Id], mark: &TimelineMark, what: Drawn) -> Shape
     ensures { result ≡ at_mark frame ids.now mark.now what }
 {
     Shape {
@@ -156,7 +156,7 @@ fn width_of(frame: Frame, from: u64, to: u64) -> u64
         .max(BAR_LEAST)
 }
 
-fn bar(frame: Frame, ids: &[Id], mark: &Mark, to: u64, end: Option<Ending>) -> Shape
+fn bar(frame: Frame, ids: &[Id], mark: &TimelineMark, to: u64, end: Option<Ending>) -> Shape
     ensures { result ≡ bar frame ids.now mark.now to end }
 {
     let width = width_of(frame, mark.time, to);
@@ -168,8 +168,8 @@ fn add_bar(
     shapes: &mut Vec<Shape>,
     frame: Frame,
     ids: &[Id],
-    mark: &Mark,
-    later: &[Mark],
+    mark: &TimelineMark,
+    later: &[TimelineMark],
 ) -> Result<(), AllocError>
     ensures { OnOk result (shapes.new.items
         ≡ shapes.old.items ++ bar_of frame ids.now mark.now mark.now.what later.now) }
@@ -192,7 +192,7 @@ fn add_bars(
     shapes: &mut Vec<Shape>,
     frame: Frame,
     ids: &[Id],
-    marks: &[Mark],
+    marks: &[TimelineMark],
 ) -> Result<(), AllocError>
     ensures { OnOk result (shapes.new.items ≡ shapes.old.items ++ bars frame ids.now marks.now) }
 {
@@ -209,7 +209,7 @@ fn add_sign(
     shapes: &mut Vec<Shape>,
     frame: Frame,
     ids: &[Id],
-    mark: &Mark,
+    mark: &TimelineMark,
 ) -> Result<(), AllocError>
     ensures { OnOk result (shapes.new.items
         ≡ shapes.old.items ++ sign_of frame ids.now mark.now mark.now.what) }
@@ -226,7 +226,7 @@ fn add_signs(
     shapes: &mut Vec<Shape>,
     frame: Frame,
     ids: &[Id],
-    marks: &[Mark],
+    marks: &[TimelineMark],
 ) -> Result<(), AllocError>
     ensures { OnOk result (shapes.new.items ≡ shapes.old.items ++ signs frame ids.now marks.now) }
 {
@@ -244,7 +244,7 @@ pub(crate) fn shapes_of(
     alloc: Global,
     frame: Frame,
     ids: &[Id],
-    marks: &[Mark],
+    marks: &[TimelineMark],
 ) -> Result<Vec<Shape>, AllocError>
     ensures { IfOk result (λ shapes. shapes.items ≡ shapes_of frame ids.now marks.now) }
 {

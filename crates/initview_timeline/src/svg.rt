@@ -11,7 +11,7 @@ use crate::looks::{
     BELOW, DONE, DRAWING, FAILED, GAP, HEAD, HELD, KILL, KILLED, LEGEND, LETTER_ROOM, MARGINS,
     NAME, ROW, ROWS, RUNS, SETTLED, STAGE, STYLE, TERM, TICK, UNBORN, WORDS_ROOM,
 };
-use crate::marks::{Mark, Shown};
+use crate::marks::{Shown, TimelineMark};
 use crate::pictures::{Drawn, Shape, shapes_of};
 use init_words::{Id, SignalKind, Stage, Status};
 use initview_lines::{add_level, add_number, add_stage, add_status, put};
@@ -122,7 +122,7 @@ fn add_said(text: &mut Vec<u8>, what: Shown, end: Option<Ending>) -> Result<(), 
 }
 
 /// Begins a bar or a sign: what is said of it, and when it began.
-fn add_tip(text: &mut Vec<u8>, mark: &Mark, end: Option<Ending>) -> Result<(), AllocError>
+fn add_tip(text: &mut Vec<u8>, mark: &TimelineMark, end: Option<Ending>) -> Result<(), AllocError>
     ensures { OnOk result (text.new.items ≡ text.old.items ++ tip mark.now end) }
 {
     put(text, b"<title>")?;
@@ -159,7 +159,7 @@ fn add_label(text: &mut Vec<u8>, room: u64, what: Shown) -> Result<(), AllocErro
 fn add_bar(
     text: &mut Vec<u8>,
     width: u64,
-    mark: &Mark,
+    mark: &TimelineMark,
     to: u64,
     end: Option<Ending>,
 ) -> Result<(), AllocError>
@@ -262,7 +262,7 @@ fn bottom_of(count: u64) -> u64
 /// are stages and lives of children, signs are signals, holds and failed starts, and each says by a tooltip what it is. The
 /// document is 1,030 wide and 104 higher than its rows, of 24 each; a browser shows it by itself, on a light or a dark
 /// ground.
-pub fn svg_text(alloc: Global, marks: &[Mark], time: u64) -> Result<Vec<u8>, AllocError>
+pub fn svg_text(alloc: Global, marks: &[TimelineMark], time: u64) -> Result<Vec<u8>, AllocError>
     ensures { IfOk result (λ text. text.items ≡ svg_of marks.now time) }
 {
     let mut text = Vec::new(alloc);

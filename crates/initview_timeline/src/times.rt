@@ -5,7 +5,7 @@ ghost use Rattle.trace_laws.specs.Plans.{boot_before, critical_path, is_on_path,
 ghost use Rattle.initview_timeline.specs.Times.{end_took, first_of, life_took, longest_from, seconds_of, seconds_to, sum_from, time_line, time_lines, timed_of, times_by, times_text, took_words, whole_line};
 
 use crate::lives::{Life, lives_of, marks_for};
-use crate::marks::Mark;
+use crate::marks::TimelineMark;
 use init_words::{Act, Entry, Id, Level, Stage};
 use inittab_text::Table;
 use initview_lines::{add_number, add_padded, is_on_path, put};
@@ -32,7 +32,7 @@ fn first_of(lives: &[Life]) -> Option<Life>
 fn add_timed(
     timed: &mut Vec<Timed>,
     alloc: Global,
-    marks: &[Mark],
+    marks: &[TimelineMark],
     entry: &Entry,
 ) -> Result<(), AllocError>
     ensures { OnOk result (timed.new.items
@@ -53,7 +53,7 @@ fn add_where_on_path(
     timed: &mut Vec<Timed>,
     alloc: Global,
     stage: Stage,
-    marks: &[Mark],
+    marks: &[TimelineMark],
     entry: &Entry,
 ) -> Result<(), AllocError>
     ensures { OnOk result (timed.new.items ≡ timed.old.items
@@ -69,7 +69,7 @@ fn add_path(
     timed: &mut Vec<Timed>,
     alloc: Global,
     stage: Stage,
-    marks: &[Mark],
+    marks: &[TimelineMark],
     entries: &[Entry],
 ) -> Result<(), AllocError>
     ensures { OnOk result (timed.new.items ≡ timed.old.items
@@ -88,7 +88,7 @@ fn add_boot_path(
     timed: &mut Vec<Timed>,
     alloc: Global,
     level: Level,
-    marks: &[Mark],
+    marks: &[TimelineMark],
     entries: &[Entry],
 ) -> Result<(), AllocError>
     ensures { OnOk result (timed.new.items ≡ timed.old.items
@@ -103,7 +103,7 @@ fn add_boot_path(
 fn timed_path(
     alloc: Global,
     level: Level,
-    marks: &[Mark],
+    marks: &[TimelineMark],
     entries: &[Entry],
 ) -> Result<Vec<Timed>, AllocError>
     ensures { IfOk result (λ timed.
@@ -235,7 +235,7 @@ pub fn add_path_times<A: Allocator>(
     alloc: Global,
     level: Level,
     table: &Table<A>,
-    marks: &[Mark],
+    marks: &[TimelineMark],
 ) -> Result<(), AllocError>
     ensures { OnOk result (text.new.items
         ≡ text.old.items ++ times_text level table.now marks.now) }

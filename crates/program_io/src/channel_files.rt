@@ -21,7 +21,7 @@ const LOCK_TRIES: u32 = 100;
 
 /// A channel that is open to append to it.
 #[derive(Drop)]
-pub struct Channel {
+pub struct OpenChannel {
     file: File,
     /// It was missing, and was made.
     pub was_made: bool,
@@ -29,10 +29,10 @@ pub struct Channel {
     pub length: u64,
 }
 
-impl Channel {
+impl OpenChannel {
     /// Opens a channel, and makes an empty one of mode 0600 where it is missing. What is no plain file is not opened,
     /// since a FIFO would wait for its reader; it is an error, `InvalidInput`.
-    pub fn open<R: Files<File = File>>(rt: &R, path: &str) -> io::Result<Channel>
+    pub fn open<R: Files<File = File>>(rt: &R, path: &str) -> io::Result<OpenChannel>
         ensures made { IfOk result (λ channel. channel.was_made ≡ true → channel.length ≡ 0) }
     {
         if is_there(rt, path)? {
@@ -44,7 +44,7 @@ impl Channel {
             .mode(MODE)
             .open(rt, path)
         {
-            Ok(file) => Ok(Channel {
+            Ok(file) => Ok(OpenChannel {
                 file,
                 was_made: true,
                 length: 0,
@@ -76,7 +76,7 @@ impl Channel {
 #[derive(Drop)]
 pub struct ChannelLock {
     /// It stays open, so that no other file gets its number.
-    channel: Channel,
+    channel: OpenChannel,
     /// The device and the number of the file.
     file: (u64, u64),
 }
@@ -93,10 +93,10 @@ impl ChannelLock {
     }
 }
 
-/// Takes the lock of a channel, which is made where it is missing, as `Channel::open` does. There is none where another
+/// Takes the lock of a channel, which is made where it is missing, as `OpenChannel::open` does. There is none where another
 /// holds it.
 pub fn lock_channel<R: Files<File = File>>(rt: &R, path: &str) -> io::Result<Option<ChannelLock>> {
-    let channel = Channel::open(rt, path)?;
+    let channel = OpenChannel::open(rt, path)?;
     for _ in 0..LOCK_TRIES {
         match channel.file.try_lock() {
             Ok(()) => return Ok(Some(locked(channel)?)),
@@ -108,7 +108,7 @@ pub fn lock_channel<R: Files<File = File>>(rt: &R, path: &str) -> io::Result<Opt
 }
 
 /// A channel whose lock was taken.
-fn locked(channel: Channel) -> io::Result<ChannelLock> {
+fn locked(channel: OpenChannel) -> io::Result<ChannelLock> {
     let found = channel.file.metadata()?;
     Ok(ChannelLock {
         channel,
@@ -136,7 +136,7 @@ fn is_there<R: Files>(rt: &R, path: &str) -> io::Result<bool> {
 
 /// Opens a channel at whose path something stands: it was made meanwhile, or is a link. Where a link leads to a missing
 /// file that is made.
-fn open_linked<R: Files<File = File>>(rt: &R, path: &str) -> io::Result<Channel>
+fn open_linked<R: Files<File = File>>(rt: &R, path: &str) -> io::Result<OpenChannel>
     ensures made { IfOk result (λ channel. channel.was_made ≡ true → channel.length ≡ 0) }
 {
     let file = OpenOptions::new()
@@ -145,7 +145,7 @@ fn open_linked<R: Files<File = File>>(rt: &R, path: &str) -> io::Result<Channel>
         .mode(MODE)
         .open(rt, path)?;
     let length = file.metadata()?.len();
-    Ok(Channel {
+    Ok(OpenChannel {
         file,
         was_made: length == 0,
         length,
@@ -153,12 +153,12 @@ fn open_linked<R: Files<File = File>>(rt: &R, path: &str) -> io::Result<Channel>
 }
 
 /// Opens a channel that is there.
-fn open_old<R: Files<File = File>>(rt: &R, path: &str) -> io::Result<Channel>
+fn open_old<R: Files<File = File>>(rt: &R, path: &str) -> io::Result<OpenChannel>
     ensures old { IfOk result (λ channel. channel.was_made ≡ false) }
 {
     let file = OpenOptions::new().append(true).open(rt, path)?;
     let length = file.metadata()?.len();
-    Ok(Channel {
+    Ok(OpenChannel {
         file,
         was_made: false,
         length,

@@ -15,7 +15,7 @@ mod writing;
 pub use arguments::{
     only_byte, report_no_memory, report_unread_words, report_usage, unread_status, words,
 };
-pub use channel_files::{Channel, ChannelLock, REQUEST, is_read, lock_channel};
+pub use channel_files::{ChannelLock, OpenChannel, REQUEST, is_read, lock_channel};
 pub use files::{READS_LIMIT, are_one_file, open_plain, read_all, read_file, refuse_special};
 pub use holders::lock_holder;
 pub use kept_texts::KeptTexts;

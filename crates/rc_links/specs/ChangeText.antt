@@ -1,10 +1,10 @@
 -- A change of a runlevel's folder.
 use Rattle.init_words.specs.declared.levels.Level.{Level}
 use Rattle.rc_links.specs.EntryText.{EntryText}
-use Rattle.rc_links.specs.declared.folders.Act.{Act}
+use Rattle.rc_links.specs.declared.folders.LinkAction.{LinkAction}
 
 -- an entry is taken away, or made
 pub record ChangeText : Type 0 where
-  pub act : Act
+  pub act : LinkAction
   pub level : Level
   pub entry : EntryText

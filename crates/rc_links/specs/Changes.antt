@@ -9,7 +9,7 @@ use Rattle.rc_links.specs.Entries.{has_name, same_entry}
 use Rattle.rc_links.specs.EntryText.{EntryText}
 use Rattle.rc_links.specs.FolderText.{FolderText}
 use Rattle.rc_links.specs.Folders.{change_of}
-use Rattle.rc_links.specs.declared.folders.Act.TheVariants.{Make, Remove}
+use Rattle.rc_links.specs.declared.folders.LinkAction.TheVariants.{Make, Remove}
 
 abbrev pub targets_of : {A : Type 0} → List (Vec ℕ A) → List (List ℕ)
 targets_of targets = map (λ target. target.items) targets

@@ -6,7 +6,7 @@ ghost use Rattle.std.specs.Str.{bytes_eq};
 ghost use Rattle.rc_links.specs.Changes.{changes_of, is_missing, is_numbered, is_ours, is_stale, is_taken, making, removal, targets_of};
 
 use crate::folder_entries::{FolderEntry, has_entry, has_name};
-use crate::folders::{Act, Change, Folder};
+use crate::folders::{Folder, LinkAction, LinkChange};
 use init_words::Memory;
 use std::alloc::Allocator;
 
@@ -58,13 +58,13 @@ fn add_removal<A: Allocator + Copy>(
     targets: &[Vec<u8, A>],
     folder: &Folder<A>,
     entry: &FolderEntry<A>,
-    changes: &mut Vec<Change<A>, A>,
+    changes: &mut Vec<LinkChange<A>, A>,
 ) -> Result<(), Memory>
     ensures { OnOk result (changes.new.items ≡ changes.old.items ++ map (removal folder.now.level)
         (filter (is_stale (targets_of targets.now) folder.now.planned) (entry.now ∷ []))) }
 {
     if is_ours(targets, entry) && !has_entry(folder.planned(), entry) {
-        changes.push(Change::new(Act::Remove, folder.level(), entry.copy(alloc)?))?;
+        changes.push(LinkChange::new(LinkAction::Remove, folder.level(), entry.copy(alloc)?))?;
     }
     Ok(())
 }
@@ -74,13 +74,13 @@ fn add_making<A: Allocator + Copy>(
     alloc: A,
     folder: &Folder<A>,
     link: &FolderEntry<A>,
-    changes: &mut Vec<Change<A>, A>,
+    changes: &mut Vec<LinkChange<A>, A>,
 ) -> Result<(), Memory>
     ensures { OnOk result (changes.new.items ≡ changes.old.items ++ map (making folder.now.level)
         (filter (is_missing folder.now.held) (link.now ∷ []))) }
 {
     if !has_entry(folder.held(), link) {
-        changes.push(Change::new(Act::Make, folder.level(), link.copy(alloc)?))?;
+        changes.push(LinkChange::new(LinkAction::Make, folder.level(), link.copy(alloc)?))?;
     }
     Ok(())
 }
@@ -89,7 +89,7 @@ fn add_removals<A: Allocator + Copy>(
     alloc: A,
     targets: &[Vec<u8, A>],
     folder: &Folder<A>,
-    changes: &mut Vec<Change<A>, A>,
+    changes: &mut Vec<LinkChange<A>, A>,
 ) -> Result<(), Memory>
     ensures { OnOk result (changes.new.items ≡ changes.old.items ++ map (removal folder.now.level)
         (filter (is_stale (targets_of targets.now) folder.now.planned) folder.now.held)) }
@@ -103,7 +103,7 @@ fn add_removals<A: Allocator + Copy>(
 fn add_makings<A: Allocator + Copy>(
     alloc: A,
     folder: &Folder<A>,
-    changes: &mut Vec<Change<A>, A>,
+    changes: &mut Vec<LinkChange<A>, A>,
 ) -> Result<(), Memory>
     ensures { OnOk result (changes.new.items ≡ changes.old.items ++ map (making folder.now.level)
         (filter (is_missing folder.now.held) folder.now.planned)) }
@@ -119,7 +119,7 @@ fn add_folder<A: Allocator + Copy>(
     alloc: A,
     targets: &[Vec<u8, A>],
     folder: &Folder<A>,
-    changes: &mut Vec<Change<A>, A>,
+    changes: &mut Vec<LinkChange<A>, A>,
 ) -> Result<(), Memory>
     ensures { OnOk result (changes.new.items
         ≡ changes.old.items ++ changes_of (targets_of targets.now) folder.now) }
@@ -135,7 +135,7 @@ pub fn changes<A: Allocator + Copy>(
     alloc: A,
     targets: &[Vec<u8, A>],
     folders: &[Folder<A>],
-) -> Result<Vec<Change<A>, A>, Memory>
+) -> Result<Vec<LinkChange<A>, A>, Memory>
     ensures { IfOk result (λ found.
         found.items ≡ flat_map (changes_of (targets_of targets.now)) folders.now) }
 {

@@ -68,7 +68,7 @@ impl<A: Allocator> Folder<A> {
 
 /// What is done with an entry.
 #[derive(Clone, Copy, PartialEq, Eq, Debug)]
-pub enum Act {
+pub enum LinkAction {
     /// It is taken away.
     Remove,
     /// It is made.
@@ -77,13 +77,13 @@ pub enum Act {
 
 /// A change of a runlevel's folder.
 #[derive(Drop)]
-pub struct Change<A: Allocator = Global> {
-    act: Act,
+pub struct LinkChange<A: Allocator = Global> {
+    act: LinkAction,
     level: Level,
     entry: FolderEntry<A>,
 }
 
-impl<A: Allocator> Model for Change<A> {
+impl<A: Allocator> Model for LinkChange<A> {
     ghost use Rattle.rc_links.specs.ChangeText.{ChangeText};
 
     ghost Value = { ChangeText };
@@ -91,16 +91,16 @@ impl<A: Allocator> Model for Change<A> {
     ghost view = { λ c. record { act = c.act; level = c.level; entry = c.entry } };
 }
 
-impl<A: Allocator> Change<A> {
+impl<A: Allocator> LinkChange<A> {
     /// A change of the folder of a runlevel.
-    pub(crate) fn new(act: Act, level: Level, entry: FolderEntry<A>) -> Change<A>
+    pub(crate) fn new(act: LinkAction, level: Level, entry: FolderEntry<A>) -> LinkChange<A>
         ensures { result ≡ change_of act level entry }
     {
-        Change { act, level, entry }
+        LinkChange { act, level, entry }
     }
 
     /// What is done.
-    pub fn act(&self) -> Act
+    pub fn act(&self) -> LinkAction
         ensures { result ≡ self.now.act }
     {
         self.act

@@ -18,7 +18,7 @@ mod tables;
 pub use changing::{changes, is_taken};
 pub use faults::PlanFault;
 pub use folder_entries::{FolderEntry, is_same};
-pub use folders::{Act, Change, Folder};
+pub use folders::{Folder, LinkAction, LinkChange};
 pub use kept::is_gone;
 pub use names::{is_name, is_name_byte};
 pub use planning::plan;

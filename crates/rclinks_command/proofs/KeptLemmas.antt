@@ -9,7 +9,7 @@ use Rattle.init_words.specs.Levels.{same_level}
 use Rattle.init_words.proofs.Same.{same_level-is, same_level-self}
 use Rattle.rc_links.specs.ChangeText.{ChangeText}
 use Rattle.rc_links.specs.Entries.{same_entry}
-use Rattle.rc_links.specs.declared.folders.Act.TheVariants.{Remove}
+use Rattle.rc_links.specs.declared.folders.LinkAction.TheVariants.{Remove}
 use Rattle.rclinks_command.specs.Folders.{changed, changed_in}
 use Rattle.rc_links.specs.EntryText.{EntryText}
 use Rattle.rclinks_command.specs.KeptLinks.{entries_in, is_kept_at, is_removed}

@@ -14,8 +14,8 @@ use Rattle.rc_links.specs.Entries.{same_entry}
 use Rattle.rc_links.specs.EntryText.{EntryText}
 use Rattle.rc_links.specs.FolderText.{FolderText}
 use Rattle.rc_links.specs.Folders.{change_of}
-use Rattle.rc_links.specs.declared.folders.Act.{Act}
-use Rattle.rc_links.specs.declared.folders.Act.TheVariants.{Make, Remove}
+use Rattle.rc_links.specs.declared.folders.LinkAction.{LinkAction}
+use Rattle.rc_links.specs.declared.folders.LinkAction.TheVariants.{Make, Remove}
 use Rattle.rc_links.specs.PlannedText.{PlannedText}
 use Rattle.rclinks_command.specs.Folders.{KnownFolders, changed, changed_by, changed_in}
 use Rattle.rclinks_command.specs.Writing.{AreFolders, IsFolder, all_levels, changes_in, planned_at, settled_in}
@@ -28,7 +28,7 @@ changed_by-append dir [] b other level es = refl
 changed_by-append dir (c ∷ a) b other level es = changed_by-append dir a b other level (changed_in dir c other level es)
 
 -- changes of another folder
-away : (dir other : List ℕ) (level k : Level) (act : Act) (xs es : List EntryText) → (bytes_eq dir other && same_level k level) ≡ false
+away : (dir other : List ℕ) (level k : Level) (act : LinkAction) (xs es : List EntryText) → (bytes_eq dir other && same_level k level) ≡ false
     → changed_by dir (map (λ e. change_of act k e) xs) other level es ≡ es
 away dir other level k act [] es differs = refl
 away dir other level k act (x ∷ xs) es differs =

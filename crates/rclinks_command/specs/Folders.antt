@@ -7,8 +7,8 @@ use Rattle.init_words.specs.Levels.{same_level}
 use Rattle.rc_links.specs.ChangeText.{ChangeText}
 use Rattle.rc_links.specs.Entries.{same_entry}
 use Rattle.rc_links.specs.EntryText.{EntryText}
-use Rattle.rc_links.specs.declared.folders.Act.{Act}
-use Rattle.rc_links.specs.declared.folders.Act.TheVariants.{Make, Remove}
+use Rattle.rc_links.specs.declared.folders.LinkAction.{LinkAction}
+use Rattle.rc_links.specs.declared.folders.LinkAction.TheVariants.{Make, Remove}
 
 -- the entries of each runlevel's folder in each directory, where they are known
 abbrev pub KnownFolders : Type 0
@@ -28,7 +28,7 @@ abbrev pub Stays : KnownFolders → KnownFolders → Type 0
 Stays old new = Becomes old new (λ dir level es. es)
 
 -- the entries without this one, or with it
-abbrev pub changed : Act → EntryText → List EntryText → List EntryText
+abbrev pub changed : LinkAction → EntryText → List EntryText → List EntryText
 changed Remove e es = filter (λ other. not (same_entry e other)) es
 changed Make e es = es ++ e ∷ []
 

@@ -11,8 +11,8 @@ use Rattle.rc_links.specs.Entries.{entry_of}
 use Rattle.rc_links.specs.EntryText.{EntryText}
 use Rattle.rc_links.specs.FolderText.{FolderText}
 use Rattle.rc_links.specs.Kept.{is_gone, kept_plan}
-use Rattle.rc_links.specs.declared.folders.Act.{Act}
-use Rattle.rc_links.specs.declared.folders.Act.TheVariants.{Make, Remove}
+use Rattle.rc_links.specs.declared.folders.LinkAction.{LinkAction}
+use Rattle.rc_links.specs.declared.folders.LinkAction.TheVariants.{Make, Remove}
 use Rattle.rc_links.specs.Links.{linked_name, links_at}
 use Rattle.rc_links.specs.PlannedText.{PlannedText}
 use Rattle.rclinks_command.specs.Folders.{Becomes, KnownFolders, KnownScripts, changed_by}
@@ -75,7 +75,7 @@ settled_in dir targets plan other level es =
     if bytes_eq dir other then settled targets (planned_at plan level) es else es
 
 -- a change, as it is printed
-abbrev pub act_word : Act → List ℕ
+abbrev pub act_word : LinkAction → List ℕ
 act_word Remove = codes "remove"
 act_word Make = codes "make"
 

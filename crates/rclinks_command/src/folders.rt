@@ -4,7 +4,7 @@ ghost use Rattle.std.specs.Prelude.{◌≡◌, IfOk, IfSome, OnOk, OnErr, string
 ghost use Rattle.rclinks_command.specs.Folders.{Becomes, KnownFolders, KnownScripts, Stays, changed_in};
 
 use init_words::Level;
-use rc_links::{Act, Change, FolderEntry};
+use rc_links::{FolderEntry, LinkAction, LinkChange};
 use std::alloc::{AllocError, Allocator, Global};
 use std::fs::{DirEntry, read_dir, read_link};
 use std::io::ErrorKind;
@@ -35,7 +35,7 @@ pub trait LinkFolders {
 
     /// Changes a runlevel's folder in a directory. One that isn't there is made with its first link. Where the change
     /// is refused, the folders hold what they held.
-    fn change(&mut self, alloc: Global, dir: &str, change: &Change) -> io::Result<()>
+    fn change(&mut self, alloc: Global, dir: &str, change: &LinkChange) -> io::Result<()>
         ensures done { OnOk result
             (Becomes (held self.old) (held self.new) (changed_in dir.now change.now)) }
         ensures refused { OnErr result (Stays (held self.old) (held self.new)) };
@@ -75,13 +75,13 @@ impl<'r, R: Files + Alloc + Clone + Drop> LinkFolders for OsFolders<'r, R> {
         entries_at(self.rt, alloc, path.as_str())
     }
 
-    fn change(&mut self, alloc: Global, dir: &str, change: &Change) -> io::Result<()> {
+    fn change(&mut self, alloc: Global, dir: &str, change: &LinkChange) -> io::Result<()> {
         let folder = folder_path(alloc, dir, change.level())?;
         let name = text_of(change.entry().name())?;
         let path = format!(in alloc; "{folder}/{name}")?;
         match change.act() {
-            Act::Remove => fs::remove_file(self.rt, path.as_str()),
-            Act::Make => {
+            LinkAction::Remove => fs::remove_file(self.rt, path.as_str()),
+            LinkAction::Make => {
                 make_folder(self.rt, folder.as_str())?;
                 symlink(self.rt, text_of(change.entry().leads())?, path.as_str())
             }

@@ -7,7 +7,7 @@ ghost use Rattle.rclinks_command.specs.KeptLinks.{entries_in, is_kept_at, is_rem
 
 use crate::folders::LinkFolders;
 use init_words::Level;
-use rc_links::{Act, Change, FolderEntry, is_same};
+use rc_links::{FolderEntry, LinkAction, LinkChange, is_same};
 use std::alloc::{AllocError, Global};
 use std::io;
 use std::marker::Model;
@@ -130,11 +130,11 @@ impl LinkFolders for KeptLinks {
         Ok(Vec::new(alloc))
     }
 
-    fn change(&mut self, _alloc: Global, dir: &str, change: &Change) -> io::Result<()> {
+    fn change(&mut self, _alloc: Global, dir: &str, change: &LinkChange) -> io::Result<()> {
         let entry = change.entry();
         match change.act() {
-            Act::Remove => remove(&mut self.entries, dir, change.level(), entry),
-            Act::Make => self.keep(dir, change.level(), entry.name(), entry.leads())?,
+            LinkAction::Remove => remove(&mut self.entries, dir, change.level(), entry),
+            LinkAction::Make => self.keep(dir, change.level(), entry.name(), entry.leads())?,
         }
         Ok(())
     }

@@ -8,23 +8,23 @@ use crate::folders::LinkFolders;
 use crate::planned::{folders_in, targets_for, tell_taken};
 use init_words::Memory;
 use program_io::{DEVICE_FAULT, DONE, REFUSED, report_no_memory, write_text};
-use rc_links::{Act, Change, Plan, changes};
+use rc_links::{LinkAction, LinkChange, Plan, changes};
 use std::alloc::Global;
 use std::io;
 use std::io::Write;
 
 /// The word for what is done with an entry.
-fn act_word(act: Act) -> &'static [u8]
+fn act_word(act: LinkAction) -> &'static [u8]
     ensures { result.now ≡ act_word act }
 {
     match act {
-        Act::Remove => b"remove",
-        Act::Make => b"make",
+        LinkAction::Remove => b"remove",
+        LinkAction::Make => b"make",
     }
 }
 
 /// Appends a change's line.
-fn add_change(text: &mut Vec<u8>, change: &Change) -> Result<(), Memory>
+fn add_change(text: &mut Vec<u8>, change: &LinkChange) -> Result<(), Memory>
     ensures { OnOk result (text.new.items ≡ text.old.items ++ change_line change.now) }
 {
     text.extend_from_slice(act_word(change.act()))?;
@@ -39,7 +39,7 @@ fn add_change(text: &mut Vec<u8>, change: &Change) -> Result<(), Memory>
 }
 
 /// The lines of changes.
-fn changes_text(alloc: Global, changes: &[Change]) -> Result<Vec<u8>, Memory>
+fn changes_text(alloc: Global, changes: &[LinkChange]) -> Result<Vec<u8>, Memory>
     ensures { IfOk result (λ text. text.items ≡ changes_text changes.now) }
 {
     let mut text = Vec::new(alloc);
@@ -50,7 +50,7 @@ fn changes_text(alloc: Global, changes: &[Change]) -> Result<Vec<u8>, Memory>
 }
 
 /// Tells changes, one a line, behind a word.
-fn tell_changes<E: Write>(alloc: Global, word: &str, changes: &[Change], err: &mut E) {
+fn tell_changes<E: Write>(alloc: Global, word: &str, changes: &[LinkChange], err: &mut E) {
     for change in changes {
         let mut text = Vec::new(alloc);
         if add_change(&mut text, change).is_ok() {
@@ -64,7 +64,7 @@ fn tell_changes<E: Write>(alloc: Global, word: &str, changes: &[Change], err: &m
 fn tell_failure<E: Write>(
     alloc: Global,
     dir: &str,
-    changes: &[Change],
+    changes: &[LinkChange],
     place: usize,
     error: &io::Error,
     err: &mut E,
@@ -81,7 +81,7 @@ fn make_changes<F: LinkFolders, E: Write>(
     folders: &mut F,
     alloc: Global,
     dir: &str,
-    changes: &[Change],
+    changes: &[LinkChange],
     err: &mut E,
 ) -> u8
     ensures statuses { (result ≡ DONE) ⊎ (result ≡ DEVICE_FAULT) }
@@ -108,7 +108,7 @@ fn changes_for<F: LinkFolders, E: Write>(
     prunes: bool,
     plan: &Plan,
     err: &mut E,
-) -> Result<Vec<Change>, u8>
+) -> Result<Vec<LinkChange>, u8>
     ensures wanted { IfOk result (λ found. Wants (F.held folders.now) (F.scripts_in folders.now)
         prunes dir.now plan.now found.items) }
     ensures refused { IfErr result (λ status. (status ≡ DEVICE_FAULT) ⊎ (status ≡ REFUSED)

@@ -6,7 +6,7 @@ ghost use Rattle.telinit_command.specs.Channels.{AreSame, HasGained, HasGainedFr
 use crate::bell::ring;
 use crate::removed::is_read_before;
 use initctl_frame::BLOCK;
-use program_io::Channel;
+use program_io::OpenChannel;
 use std::alloc::Global;
 use std::fs::File;
 use std::io;
@@ -15,7 +15,7 @@ use std::rt::Files;
 
 /// What is found of a channel where it is opened.
 #[derive(Drop)]
-pub struct Found {
+pub struct FoundChannel {
     /// It was missing, and was made.
     pub was_made: bool,
     /// Its bytes.
@@ -32,7 +32,7 @@ pub trait Channels {
     ghost bytes_at: { Self → KnownBytes };
 
     /// Opens the channel at a path, and makes an empty one where it is missing.
-    fn open(&mut self, path: &str) -> io::Result<Found>
+    fn open(&mut self, path: &str) -> io::Result<FoundChannel>
         ensures same { AreSame (bytes_at self.old) (bytes_at self.new) }
         ensures length { IfOk result (λ found. IfSome (bytes_at self.old path.now)
             (λ bytes. found.length ≡ length bytes)) };
@@ -51,7 +51,7 @@ pub trait Channels {
 pub struct OsChannels<'a, R> {
     rt: &'a R,
     alloc: Global,
-    opened: Option<Channel>,
+    opened: Option<OpenChannel>,
 }
 
 impl<'a, R> OsChannels<'a, R> {
@@ -68,9 +68,9 @@ impl<'a, R> OsChannels<'a, R> {
 impl<R: Files<File = File> + Alloc + Eprint + Clone + Drop> Channels for OsChannels<'_, R> {
     ghost bytes_at = { λ _ _. None };
 
-    fn open(&mut self, path: &str) -> io::Result<Found> {
-        let channel = Channel::open(self.rt, path)?;
-        let found = Found {
+    fn open(&mut self, path: &str) -> io::Result<FoundChannel> {
+        let channel = OpenChannel::open(self.rt, path)?;
+        let found = FoundChannel {
             was_made: channel.was_made,
             length: channel.length,
             is_read: match channel.is_read() {

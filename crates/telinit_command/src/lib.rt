@@ -10,7 +10,7 @@ mod removed;
 mod run;
 mod seconds;
 
-pub use channels::{Channels, Found, OsChannels};
+pub use channels::{Channels, FoundChannel, OsChannels};
 pub use command::{Words, read_words};
 pub use command_words::WordFault;
 pub use frame::frame_of;

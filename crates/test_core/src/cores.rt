@@ -4,7 +4,7 @@
 
 use crate::runs::{Subject, answer_of, goes_on, happening_of, table_of};
 use core_steps::{Core, Goal, Step};
-use core_waiting::{Awaited, AwaitedChildren, Why};
+use core_waiting::{Awaited, AwaitedChildren, WhyAwaited};
 use init_words::{Level, Memory, Refusal};
 use inittab_text::Table;
 use std::alloc::{Allocator, Global};
@@ -30,11 +30,11 @@ pub(crate) fn core_over<A: Allocator + Copy>(
     Ok(boxed(own, CoreRun { core, stays: None })?)
 }
 
-fn why_text(why: Why) -> &'static str {
+fn why_text(why: WhyAwaited) -> &'static str {
     match why {
-        Why::Excluded => "excluded",
-        Why::WaitedFor => "waited for",
-        Why::InTheWay => "in the way",
+        WhyAwaited::Excluded => "excluded",
+        WhyAwaited::WaitedFor => "waited for",
+        WhyAwaited::InTheWay => "in the way",
     }
 }
 

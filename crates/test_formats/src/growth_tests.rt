@@ -3,7 +3,7 @@
 
 use crate::inittab_tests::part_of;
 use init_words::{Id, Memory, Part};
-use inittab_lint::{Found, LineWarning, Warning, id_lines, lint_parts, warnings};
+use inittab_lint::{Findings, LineWarning, Warning, id_lines, lint_parts, warnings};
 use inittab_text::{Table, TableFault, read_parts};
 use linked_list_allocator::LocalHeap;
 use std::alloc::{Allocator, Global};
@@ -83,7 +83,7 @@ fn is_linted(heap: &LocalHeap, files: &[Part], call: &str) -> Result<bool, Table
     match call {
         "lint_parts" => {
             let lint = lint_parts(heap, files, &MISSING)?;
-            Ok(lint.found == Found::Faults && lint.text.as_slice() == TOLD.as_bytes())
+            Ok(lint.found == Findings::Faults && lint.text.as_slice() == TOLD.as_bytes())
         }
         "warnings" => match warnings(heap, files) {
             Ok(found) => Ok(found.as_slice() == WARNINGS.as_slice()),

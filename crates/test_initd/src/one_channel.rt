@@ -4,7 +4,7 @@ use initctl_frame::BLOCK;
 use std::alloc::{AllocError, Global};
 use std::io;
 use std::io::{Error, ErrorKind};
-use telinit_command::{Channels, Found};
+use telinit_command::{Channels, FoundChannel};
 
 /// A channel at its path. No other one is known.
 #[derive(Drop)]
@@ -46,11 +46,11 @@ impl Channels for OneChannel {
     ghost bytes_at = { λ one at.
         if bytes_eq at (string_bytes one.path) then Some one.bytes.items else None };
 
-    fn open(&mut self, path: &str) -> io::Result<Found> {
+    fn open(&mut self, path: &str) -> io::Result<FoundChannel> {
         if self.path.as_str() != path {
             return Err(Error::from(ErrorKind::NotFound));
         }
-        Ok(Found {
+        Ok(FoundChannel {
             was_made: self.bytes.is_empty(),
             length: self.bytes.len() as u64,
             is_read: Ok(true),

@@ -6,7 +6,7 @@ use init_words::{Level, Memory};
 use linked_list_allocator::LocalHeap;
 use program_io::{KeptTexts, Texts};
 use rc_header::HeaderFault;
-use rc_links::{Change, Folder, FolderEntry, Plan, PlanFault, Script};
+use rc_links::{Folder, FolderEntry, LinkChange, Plan, PlanFault, Script};
 use std::alloc::{Allocator, Global};
 use std::io::ErrorKind;
 use test_support::boxed;
@@ -78,7 +78,7 @@ fn entries_of<A: Allocator + Copy>(alloc: A, name: &[u8]) -> Option<Vec<FolderEn
 }
 
 /// The changes of a folder that needs one removal and one making; None where there is no room for the folder.
-fn changes_on<A: Allocator + Copy>(alloc: A) -> Option<Result<Vec<Change<A>, A>, Memory>> {
+fn changes_on<A: Allocator + Copy>(alloc: A) -> Option<Result<Vec<LinkChange<A>, A>, Memory>> {
     let (planned, held) = (entries_of(alloc, b"S01net")?, entries_of(alloc, b"S20net")?);
     let mut folders = Vec::new(alloc);
     folders.push(Folder::new(Level::L3, planned, held)).ok()?;

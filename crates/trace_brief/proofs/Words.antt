@@ -40,7 +40,7 @@ pub use Rattle.init_words.specs.Entries.{waited_of}
 pub use Rattle.trace_events.specs.declared.steps.Step.{Step}
 pub use Rattle.trace_laws.proofs.Settling.{same_any}
 pub use Rattle.std.proofs.lemmas.Option.{none-some, same_Some}
-pub use Rattle.trace_brief.specs.declared.held.Held.{Held}
+pub use Rattle.trace_brief.specs.declared.held.HeldBack.{HeldBack}
 pub use Rattle.trace_brief.specs.declared.held.HeldLook.{HeldLook}
 pub use Rattle.trace_brief.specs.declared.held.HeldLook.TheVariants.{Ordered, FoundNothing}
 pub use Rattle.trace_brief.specs.Holding.{round_events, reading_events, held_events, is_bare, held_back, held_behind, written_of, is_round_or_reading, ends_look, Settled, Holds, next_by, next_held, newly_by, newly_written}

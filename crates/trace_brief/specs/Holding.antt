@@ -4,7 +4,7 @@ use Rattle.init_words.specs.declared.orders.OrderKind.TheVariants.{Look}
 use Rattle.init_words.specs.Ids.{same_id}
 use Rattle.trace_events.specs.declared.happenings.Happening.TheVariants.{Asked, Still, Told, Clock, Nudge}
 use Rattle.trace_events.specs.Event.{Event}
-use Rattle.trace_brief.specs.declared.held.Held.{Held}
+use Rattle.trace_brief.specs.declared.held.HeldBack.{HeldBack}
 use Rattle.trace_brief.specs.declared.held.HeldLook.{HeldLook}
 use Rattle.trace_brief.specs.declared.held.HeldLook.TheVariants.{Ordered, FoundNothing}
 use Rattle.trace_brief.specs.Brief.{in_look, brief_of}
@@ -23,11 +23,11 @@ abbrev pub reading_events : Option ℕ → List Event
 reading_events None = []
 reading_events (Some reading) = Clock reading ∷ []
 
-abbrev pub held_events : Held → List Event
+abbrev pub held_events : HeldBack → List Event
 held_events held = look_events held.look ++ round_events held.round ++ reading_events held.reading
 
 -- neither a round nor a reading is held
-abbrev pub is_bare : Held → Bool
+abbrev pub is_bare : HeldBack → Bool
 is_bare held = not held.round && is_none held.reading
 
 -- the newest happening is a reading or a round
@@ -44,14 +44,14 @@ ends_look _ = false
 
 -- no later happening changes what was written, the newest first: it ends in no round or reading, and where none is held
 -- either, in no look that may yet be left out; a look is held only where it may be
-pub record Settled (held : Held) (written : List Event) : Type 0 where
+pub record Settled (held : HeldBack) (written : List Event) : Type 0 where
   pub no_round : is_round_or_reading written ≡ false
   pub within : is_bare held ≡ true → held.within ≡ in_look written
   pub no_look : is_bare held ≡ true → ends_look written ≡ false
   pub not_nested : is_some held.look ≡ true → (is_bare held && held.within) ≡ false
 
 -- what is held and what was written are the brief form of the trace
-pub record Holds (held : Held) (written trace : List Event) : Type 0 where
+pub record Holds (held : HeldBack) (written trace : List Event) : Type 0 where
   pub brief : held_events held ++ written ≡ brief_of trace
   pub settled : Settled held written
 
@@ -60,7 +60,7 @@ greater_reading reading None = reading
 greater_reading reading (Some before) = max reading before
 
 -- what is held with a happening that is held back; none where it is not
-abbrev pub held_back_by : Event → Option HeldLook → Held → Option Held
+abbrev pub held_back_by : Event → Option HeldLook → HeldBack → Option HeldBack
 held_back_by (Clock reading) None held = Some (record held { reading = Some (greater_reading reading held.reading) })
 held_back_by Nudge None held = Some (record held { round = true })
 held_back_by (Asked id Look) None held =
@@ -71,11 +71,11 @@ held_back_by (Told id) (Some (FoundNothing i)) held =
     if same_id id i then Some (record held { look = None }) else None
 held_back_by _ _ held = None
 
-abbrev pub held_back : Event → Held → Option Held
+abbrev pub held_back : Event → HeldBack → Option HeldBack
 held_back happening held = held_back_by happening held.look held
 
 -- what is held after a happening that is not: nothing, or it alone where it is a reading or a round
-abbrev pub held_behind : Event → Held
+abbrev pub held_behind : Event → HeldBack
 held_behind (Clock reading) = record { reading = Some reading; round = false; look = None; within = true }
 held_behind Nudge = record { reading = None; round = true; look = None; within = true }
 held_behind happening = record { reading = None; round = false; look = None; within = in_look (happening ∷ []) }
@@ -86,16 +86,16 @@ written_of Nudge = []
 written_of happening = happening ∷ []
 
 -- what is held after each happening, and what is written for it, the newest first
-abbrev pub next_by : Event → Option Held → Held
+abbrev pub next_by : Event → Option HeldBack → HeldBack
 next_by happening None = held_behind happening
 next_by happening (Some held) = held
 
-abbrev pub next_held : Event → Held → Held
+abbrev pub next_held : Event → HeldBack → HeldBack
 next_held happening held = next_by happening (held_back happening held)
 
-abbrev pub newly_by : Event → Held → Option Held → List Event
+abbrev pub newly_by : Event → HeldBack → Option HeldBack → List Event
 newly_by happening held None = written_of happening ++ held_events held
 newly_by happening held (Some next) = []
 
-abbrev pub newly_written : Event → Held → List Event
+abbrev pub newly_written : Event → HeldBack → List Event
 newly_written happening held = newly_by happening held (held_back happening held)

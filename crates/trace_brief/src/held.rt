@@ -20,7 +20,7 @@ pub enum HeldLook {
 /// What is held back of a brief trace, the oldest first: at most a reading of the clock, a round, and a look, whose
 /// order and finding are two happenings.
 #[derive(Clone, Copy)]
-pub struct Held {
+pub struct HeldBack {
     /// The clock's reading, in seconds since 1970.
     pub reading: Option<u64>,
     /// A round began.
@@ -31,12 +31,12 @@ pub struct Held {
     pub within: bool,
 }
 
-impl Held {
+impl HeldBack {
     /// Nothing is held, and nothing was written.
-    pub fn new() -> Held
+    pub fn new() -> HeldBack
         ensures { result ≡ record { reading = None; round = false; look = None; within = false } }
     {
-        Held {
+        HeldBack {
             reading: None,
             round: false,
             look: None,
@@ -53,7 +53,7 @@ impl Held {
 
     /// What is held with a happening that is held back; none where all that is held must be written, and the happening
     /// after it.
-    pub fn hold_back<A: Allocator>(&self, happening: &HappeningIn<A>) -> Option<Held>
+    pub fn hold_back<A: Allocator>(&self, happening: &HappeningIn<A>) -> Option<HeldBack>
         ensures { result ≡ held_back happening.now self.now }
     {
         match &self.look {
@@ -70,15 +70,15 @@ impl Held {
     }
 
     /// The same where no look is held.
-    fn hold_first<A: Allocator>(&self, happening: &HappeningIn<A>) -> Option<Held>
+    fn hold_first<A: Allocator>(&self, happening: &HappeningIn<A>) -> Option<HeldBack>
         ensures { result ≡ held_back_by happening.now None self.now }
     {
         match happening {
-            Happening::Clock(reading) => Some(Held {
+            Happening::Clock(reading) => Some(HeldBack {
                 reading: Some(greater_reading(*reading, self.reading)),
                 ..*self
             }),
-            Happening::Nudge => Some(Held {
+            Happening::Nudge => Some(HeldBack {
                 round: true,
                 ..*self
             }),
@@ -94,7 +94,7 @@ impl Held {
     }
 
     /// With this look in place of the one that is held, where the two ids are one.
-    fn if_same(&self, id: &Id, own: &Id, look: Option<HeldLook>) -> Option<Held>
+    fn if_same(&self, id: &Id, own: &Id, look: Option<HeldLook>) -> Option<HeldBack>
         ensures { result ≡ if same_id id.now own.now
             then Some (record self.now { look = look }) else None }
     {
@@ -105,34 +105,34 @@ impl Held {
         }
     }
 
-    fn with_look(&self, look: Option<HeldLook>) -> Held
+    fn with_look(&self, look: Option<HeldLook>) -> HeldBack
         ensures { result ≡ record self.now { look = look } }
     {
-        Held { look, ..*self }
+        HeldBack { look, ..*self }
     }
 
     /// What is held after a happening that is not held back: it is written, unless it is a reading or a round.
-    pub fn behind<A: Allocator>(happening: &HappeningIn<A>) -> Held
+    pub fn behind<A: Allocator>(happening: &HappeningIn<A>) -> HeldBack
         ensures { result ≡ held_behind happening.now }
     {
         match happening {
-            Happening::Clock(reading) => Held {
+            Happening::Clock(reading) => HeldBack {
                 reading: Some(*reading),
                 round: false,
                 look: None,
                 within: true,
             },
-            Happening::Nudge => Held {
+            Happening::Nudge => HeldBack {
                 reading: None,
                 round: true,
                 look: None,
                 within: true,
             },
-            Happening::Asked(_, OrderKind::Look) | Happening::Still(_) => Held {
+            Happening::Asked(_, OrderKind::Look) | Happening::Still(_) => HeldBack {
                 within: true,
-                ..Held::new()
+                ..HeldBack::new()
             },
-            _ => Held::new(),
+            _ => HeldBack::new(),
         }
     }
 }

@@ -15,10 +15,10 @@ ghost use Rattle.trace_events.specs.Sound.{is_sound};
 ghost use Rattle.trace_events.specs.Lawful.{is_lawful, first_breach};
 ghost use Rattle.trace_brief.specs.Readings.{are_looks_free, lasting_events, first_broken, ReadsSame};
 ghost use Rattle.trace_brief.specs.Brief.{brief_of, IsBrief};
-ghost use Rattle.trace_brief.specs.declared.held.Held.{Held};
+ghost use Rattle.trace_brief.specs.declared.held.HeldBack.{HeldBack};
 ghost use Rattle.trace_brief.specs.Holding.{Holds, next_held, newly_written};
 
-pub use held::{Held, HeldLook};
+pub use held::{HeldBack, HeldLook};
 
 /// The laws of brief traces. It does nothing: its contract says them.
 pub fn law_of_brief()
@@ -61,7 +61,7 @@ pub fn law_of_brief()
 pub fn law_of_held()
     ensures first { Holds
         (record { reading = None; round = false; look = None; within = false }) [] [] }
-    ensures next { (happening : Event) (held : Held) (written trace : List Event)
+    ensures next { (happening : Event) (held : HeldBack) (written trace : List Event)
         → Holds held written trace
         → Holds
         (next_held happening held)

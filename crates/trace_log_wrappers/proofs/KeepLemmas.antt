@@ -3,7 +3,7 @@ use Rattle.std.proofs.Common.{◌≡◌, refl, sym, ◌∙◌, ap, subst, Bool, 
 use Rattle.std.proofs.lemmas.List.{reverse-append}
 use Rattle.std.specs.declared.result.Result.{Result}
 use Rattle.trace_events.specs.Event.{Event}
-use Rattle.trace_brief.specs.declared.held.Held.{Held}
+use Rattle.trace_brief.specs.declared.held.HeldBack.{HeldBack}
 use Rattle.trace_brief.specs.Brief.{brief_of}
 use Rattle.trace_brief.specs.Holding.{Holds, held_events, next_held}
 use Rattle.trace_log.specs.Logs.{LogState}
@@ -15,7 +15,7 @@ use Rattle.trace_log_wrappers.proofs.Writing.{kept_end, kept_front, kept_next, k
 turned : (trace : List Event) (happening : Event) → reverse (trace ++ happening ∷ []) ≡ happening ∷ reverse trace
 turned trace happening = reverse-append trace (happening ∷ [])
 
-module _ {T E : Type 0} (r : Result T E) (Ranged : Type 0) (happening : Event) (old new : LogState) (held next : Held) where
+module _ {T E : Type 0} (r : Result T E) (Ranged : Type 0) (happening : Event) (old new : LogState) (held next : HeldBack) where
   pub took_ok : old.failed ≡ false → new.failed ≡ is_err r → OnOk r (next ≡ next_held happening held) → OnOk r (Ranged → AddsHappenings old new (newly_first happening held))
       → OnOk r (Ranged → (before : List Event) → TookBy old.failed old held before → TookBy new.failed new next (before ++ happening ∷ []))
   took_ok works flag is adds = by r flag is adds
@@ -55,17 +55,17 @@ module _ {T E : Type 0} (r : Result T E) (Ranged : Type 0) (happening : Event) (
           )
 
 -- a log that took nothing yet
-pub took_none : (failed : Bool) (log : LogState) (held : Held) → Holds held [] [] → log.taken [] → TookBy failed log held []
+pub took_none : (failed : Bool) (log : LogState) (held : HeldBack) → Holds held [] [] → log.taken [] → TookBy failed log held []
 took_none false log held holds none = record { written = []; is = none; holds = holds }
 took_none true log held holds none = ([], record { more = []; most = omega arith; rest = reverse (brief_of []); front = refl }, none)
 
 -- ---- at its end
 
 -- one that has failed hands on nothing more
-pub hands_failed : (log : LogState) (held : Held) → log.failed ≡ true → (trace : List Event) → TookBy log.failed log held trace → HandsOn false log.taken trace
+pub hands_failed : (log : LogState) (held : HeldBack) → log.failed ≡ true → (trace : List Event) → TookBy log.failed log held trace → HandsOn false log.taken trace
 hands_failed log held failed trace took = subst (λ b. TookBy b log held trace) failed took
 
-module _ {T E : Type 0} (r : Result T E) (old new : LogState) (held : Held) where
+module _ {T E : Type 0} (r : Result T E) (old new : LogState) (held : HeldBack) where
   pub hands_held : old.failed ≡ false → OnOk r (AddsHappenings old new (held_first held)) → OnErr r (AddsFront old new (held_first held))
       → (handed : Bool) → handed ≡ is_ok r → (trace : List Event) → TookBy old.failed old held trace → HandsOn handed new.taken trace
   hands_held works adds part handed is trace took = subst (λ b. HandsOn b new.taken trace) (sym is) (by r adds part)

@@ -3,7 +3,7 @@ use Rattle.std.proofs.Common.{◌≡◌, refl, sym, ◌∙◌, ap, ap₂, subst,
 use Rattle.std.proofs.lemmas.List.{reverse-append, reverse-reverse}
 use Rattle.trace_events.specs.declared.happenings.Happening.TheVariants.{Clock, Nudge}
 use Rattle.trace_events.specs.Event.{Event}
-use Rattle.trace_brief.specs.declared.held.Held.{Held}
+use Rattle.trace_brief.specs.declared.held.HeldBack.{HeldBack}
 use Rattle.trace_brief.specs.declared.held.HeldLook.{HeldLook}
 use Rattle.trace_brief.specs.declared.held.HeldLook.TheVariants.{Ordered, FoundNothing}
 use Rattle.trace_brief.specs.Brief.{brief_of}
@@ -25,7 +25,7 @@ turned (Some r) true None = refl
 turned (Some r) true (Some (Ordered i)) = refl
 turned (Some r) true (Some (FoundNothing i)) = refl
 
-held_turned : (held : Held) → reverse (held_first held) ≡ held_events held
+held_turned : (held : HeldBack) → reverse (held_first held) ≡ held_events held
 held_turned held = turned held.reading held.round held.look
 
 one_turned : (happening : Event) → reverse (written_of happening) ≡ written_of happening
@@ -33,19 +33,19 @@ one_turned (Clock reading) = refl
 one_turned Nudge = refl
 one_turned _ = refl
 
-firsts_turned : (happening : Event) (held : Held) (o : Option Held) → reverse (newly_first_by happening held o) ≡ newly_by happening held o
+firsts_turned : (happening : Event) (held : HeldBack) (o : Option HeldBack) → reverse (newly_first_by happening held o) ≡ newly_by happening held o
 firsts_turned happening held None = reverse-append (held_first held) (written_of happening) ∙ ap₂ (λ xs ys. xs ++ ys) (one_turned happening) (held_turned held)
 firsts_turned happening held (Some next) = refl
 
-written_turned : (happening : Event) (held : Held) (before : List Event) → reverse (before ++ newly_first happening held) ≡ newly_written happening held ++ reverse before
+written_turned : (happening : Event) (held : HeldBack) (before : List Event) → reverse (before ++ newly_first happening held) ≡ newly_written happening held ++ reverse before
 written_turned happening held before = reverse-append before (newly_first happening held) ∙ ap (λ xs. xs ++ reverse before) (firsts_turned happening held (held_back happening held))
 
-pub kept_next : (happening : Event) (held : Held) (before trace : List Event) → Holds held (reverse before) trace → Holds (next_held happening held) (reverse (before ++ newly_first happening held)) (happening ∷ trace)
+pub kept_next : (happening : Event) (held : HeldBack) (before trace : List Event) → Holds held (reverse before) trace → Holds (next_held happening held) (reverse (before ++ newly_first happening held)) (happening ∷ trace)
 kept_next happening held before trace holds =
     let P : List Event → Type 0 = λ written. Holds (next_held happening held) written (happening ∷ trace) in
     subst P (sym (written_turned happening held before)) (holds_next happening held (reverse before) trace holds)
 
-pub kept_end : (held : Held) (before trace : List Event) → Holds held (reverse before) trace → before ++ held_first held ≡ reverse (brief_of trace)
+pub kept_end : (held : HeldBack) (before trace : List Event) → Holds held (reverse before) trace → before ++ held_first held ≡ reverse (brief_of trace)
 kept_end held before trace holds =
     sym (reverse-reverse (before ++ held_first held))
     ∙ ap reverse (reverse-append before (held_first held) ∙ ap (λ xs. xs ++ reverse before) (held_turned held) ∙ holds.brief)
@@ -55,10 +55,10 @@ module _ (before first rest more trace : List Event) (all : first ++ rest ≡ mo
   joined : (before ++ first) ++ rest ≡ before ++ more
   joined = append_assoc before first rest ∙ ap (λ xs. before ++ xs) all
 
-  pub kept_part : (held : Held) → more ≡ held_first held → Holds held (reverse before) trace → (before ++ first) ++ rest ≡ reverse (brief_of trace)
+  pub kept_part : (held : HeldBack) → more ≡ held_first held → Holds held (reverse before) trace → (before ++ first) ++ rest ≡ reverse (brief_of trace)
   kept_part held is holds = joined ∙ ap (λ xs. before ++ xs) is ∙ kept_end held before trace holds
 
-  pub kept_front : (happening : Event) (held : Held) → more ≡ newly_first happening held → Holds held (reverse before) trace
+  pub kept_front : (happening : Event) (held : HeldBack) → more ≡ newly_first happening held → Holds held (reverse before) trace
       → (before ++ first) ++ (rest ++ reverse (held_events (next_held happening held))) ≡ reverse (brief_of (happening ∷ trace))
   kept_front happening held is holds =
       sym (append_assoc (before ++ first) rest (reverse (held_events (next_held happening held))))

@@ -2,7 +2,7 @@
 use Rattle.std.specs.Prelude.{◌≡◌, List, ◌++◌, reverse, [], Option, Some, None}
 use Rattle.trace_events.specs.Event.{Event}
 use Rattle.trace_log.specs.Logs.{LogState}
-use Rattle.trace_brief.specs.declared.held.Held.{Held}
+use Rattle.trace_brief.specs.declared.held.HeldBack.{HeldBack}
 use Rattle.trace_brief.specs.Holding.{look_events, round_events, reading_events, written_of, held_back}
 
 -- what it took it has taken still, and these behind it
@@ -21,14 +21,14 @@ abbrev pub AddsFront : LogState → LogState → List Event → Type 0
 AddsFront old new more = (before : List Event) → old.taken before → Front new.taken before more
 
 -- the held happenings, the oldest first
-abbrev pub held_first : Held → List Event
+abbrev pub held_first : HeldBack → List Event
 held_first held = reading_events held.reading ++ round_events held.round ++ reverse (look_events held.look)
 
 -- what is written for a happening, the oldest first: nothing where it is held back, else all that was held, and the
 -- happening unless it is a reading or a round
-abbrev pub newly_first_by : Event → Held → Option Held → List Event
+abbrev pub newly_first_by : Event → HeldBack → Option HeldBack → List Event
 newly_first_by happening held None = held_first held ++ written_of happening
 newly_first_by happening held (Some next) = []
 
-abbrev pub newly_first : Event → Held → List Event
+abbrev pub newly_first : Event → HeldBack → List Event
 newly_first happening held = newly_first_by happening held (held_back happening held)

@@ -2,21 +2,21 @@
 use Rattle.std.specs.Prelude.{◌≡◌, ◌≤◌, Bool, true, false, List, ◌++◌, length, reverse, None}
 use Rattle.trace_events.specs.Event.{Event}
 use Rattle.trace_log.specs.Logs.{LogState}
-use Rattle.trace_brief.specs.declared.held.Held.{Held}
+use Rattle.trace_brief.specs.declared.held.HeldBack.{HeldBack}
 use Rattle.trace_brief.specs.Brief.{brief_of}
 use Rattle.trace_brief.specs.Holding.{Holds}
 
 -- a brief log: the log that it hands its happenings, and those that it holds back
 pub record Brief (L : Type 0) : Type 0 where
   pub log : L
-  pub held : Held
+  pub held : HeldBack
 
 -- the brief form of a trace, both the oldest happening first
 abbrev pub brief_first : List Event → List Event
 brief_first trace = reverse (brief_of (reverse trace))
 
 -- what was written, the oldest first, and what is held are the brief form of the trace
-pub record Writes (log : LogState) (held : Held) (trace : List Event) : Type 0 where
+pub record Writes (log : LogState) (held : HeldBack) (trace : List Event) : Type 0 where
   pub written : List Event
   pub is : log.taken written
   pub holds : Holds held (reverse written) (reverse trace)
@@ -32,7 +32,7 @@ abbrev pub HasPart : (List Event → Type 0) → List Event → Type 0
 HasPart taken trace = (written : List Event) × IsPart trace written × taken written
 
 -- a brief log, which has failed or not, took the trace
-abbrev pub TookBy : Bool → LogState → Held → List Event → Type 0
+abbrev pub TookBy : Bool → LogState → HeldBack → List Event → Type 0
 TookBy false log held trace = Writes log held trace
 TookBy true log held trace = HasPart log.taken trace
 

@@ -13,7 +13,7 @@ ghost use Rattle.trace_log_wrappers.specs.Keeping.{HandsOn, TookBy, brief_state}
 use init_words::{Id, OrderKind};
 use std::alloc::{Allocator, Global};
 use std::marker::Model;
-use trace_brief::{Held, HeldLook};
+use trace_brief::{HeldBack, HeldLook};
 use trace_events::{Happening, HappeningIn, law_of_ranges};
 use trace_log::{EndedLog, Log, LogFault};
 
@@ -24,7 +24,7 @@ use trace_log::{EndedLog, Log, LogFault};
 #[derive(Drop)]
 pub struct BriefLog<L> {
     log: L,
-    held: Held,
+    held: HeldBack,
 }
 
 impl<L> Model for BriefLog<L> {
@@ -130,7 +130,7 @@ fn write_look<L: Log>(log: &mut L, look: &Option<HeldLook>) -> Result<(), LogFau
 }
 
 /// Hands the log all that was held.
-fn write_held<L: Log>(log: &mut L, held: &Held) -> Result<(), LogFault>
+fn write_held<L: Log>(log: &mut L, held: &HeldBack) -> Result<(), LogFault>
     requires { (L.state log.old).failed ≡ false }
     ensures flag { (L.state log.new).failed ≡ is_err result }
     ensures ok { OnOk result (AddsHappenings
@@ -163,7 +163,7 @@ fn write_new<L: Log, B: Allocator>(log: &mut L, happening: &HappeningIn<B>) -> R
 /// Hands the log all that was held, and the happening unless it is a reading or a round.
 fn write_all<L: Log, B: Allocator>(
     log: &mut L,
-    held: &Held,
+    held: &HeldBack,
     happening: &HappeningIn<B>,
 ) -> Result<(), LogFault>
     requires { (L.state log.old).failed ≡ false }
@@ -189,7 +189,7 @@ impl<L: Log> BriefLog<L> {
     {
         BriefLog {
             log,
-            held: Held::new(),
+            held: HeldBack::new(),
         }
     }
 
@@ -212,7 +212,7 @@ impl<L: Log> BriefLog<L> {
             }
             None => {
                 write_all(&mut self.log, &self.held, happening)?;
-                self.held = Held::behind(happening);
+                self.held = HeldBack::behind(happening);
                 Ok(())
             }
         }
@@ -254,7 +254,7 @@ impl<L: Log> Log for BriefLog<L> {
 }
 
 /// Hands the log all that was held, unless it has failed; gives whether it took that.
-fn hand_on<L: Log>(log: &mut L, held: &Held) -> bool
+fn hand_on<L: Log>(log: &mut L, held: &HeldBack) -> bool
     ensures failed { (L.state log.old).failed ≡ true → result ≡ false }
     ensures handed { (trace : List Event)
         → TookBy (L.state log.old).failed (L.state log.old) held.now trace

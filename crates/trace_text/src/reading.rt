@@ -53,14 +53,14 @@ impl From<AllocError> for ReadFault {
 }
 
 /// A happening, and the text after it.
-type Found<'a, A> = Option<(HappeningIn<A>, &'a [u8])>;
+type ReadHappening<'a, A> = Option<(HappeningIn<A>, &'a [u8])>;
 
 /// The table of the next given number of lines of a text.
 fn first_table<A: Allocator + Copy>(
     alloc: A,
     count: usize,
     text: &[u8],
-) -> Result<Found<'_, A>, Memory>
+) -> Result<ReadHappening<'_, A>, Memory>
     ensures { IfOk result (λ found.
         option_map (λ parts. (parts.0, parts.1.now)) found ≡ use_begun count text.now) }
 {
@@ -68,7 +68,10 @@ fn first_table<A: Allocator + Copy>(
     Ok(found.map(|(table, rest)| (Happening::NewTable(table), rest)))
 }
 
-fn first_by_words<A: Allocator + Copy>(alloc: A, text: &[u8]) -> Result<Found<'_, A>, Memory>
+fn first_by_words<A: Allocator + Copy>(
+    alloc: A,
+    text: &[u8],
+) -> Result<ReadHappening<'_, A>, Memory>
     ensures { IfOk result (λ found.
         option_map (λ parts. (parts.0, parts.1.now)) found ≡ begun text.now) }
 {

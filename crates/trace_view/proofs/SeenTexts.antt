@@ -20,8 +20,8 @@ use Rattle.trace_verdict.specs.Readers.{Reading, capped, ReadsNext}
 use Rattle.trace_verdict.proofs.Judging.{capped_is, lines_push, lines_within, one_line, past_push}
 use Rattle.trace_verdict.proofs.Fronts.{never_some}
 use Rattle.trace_view.specs.Viewing.{ViewState, Viewed}
-use Rattle.trace_view.specs.declared.text_views.Stop.{Stop}
-use Rattle.trace_view.specs.declared.text_views.Stop.TheVariants.{Breach, Torn, Within}
+use Rattle.trace_view.specs.declared.text_views.ViewEnd.{ViewEnd}
+use Rattle.trace_view.specs.declared.text_views.ViewEnd.TheVariants.{Breach, Torn, Within}
 use Rattle.trace_view.specs.LastLines.{is_table}
 use Rattle.trace_view.specs.Shown.{IsBefore, IsShown, IsUpTo, StopsAt, begins_run}
 use Rattle.trace_view.specs.Views.{TextState, HasSeen, StopsBy, AtBy, IsAt, TakenBy, HasShown, ViewGoesOn, SeesStop, left_of, may_be, seen_by}
@@ -96,13 +96,13 @@ within_here reading new viewing trace text h line seen next is none =
       },
     )
 
-seen_goes : (stop : Option Stop) (reading new : Reading) (viewing later : ViewState) (trace : List Event) (text : List ℕ) (h : Event) (line : ℕ) → stop ≡ None → length text < 2 ^ 64 → ReadsNext reading new (Some h) → SeesStop stop viewing later h line → line ≡ capped (reading.lines + 1) → HasSeen reading viewing trace text → AtBy stop (record { reading = new; viewing = later; stop = stop }) (trace ++ h ∷ []) text
+seen_goes : (stop : Option ViewEnd) (reading new : Reading) (viewing later : ViewState) (trace : List Event) (text : List ℕ) (h : Event) (line : ℕ) → stop ≡ None → length text < 2 ^ 64 → ReadsNext reading new (Some h) → SeesStop stop viewing later h line → line ≡ capped (reading.lines + 1) → HasSeen reading viewing trace text → AtBy stop (record { reading = new; viewing = later; stop = stop }) (trace ++ h ∷ []) text
 seen_goes None reading new viewing later trace text h line is small next sees at seen =
     seen_next reading new viewing later trace text h small seen next (begins_push trace h line (line_of reading new viewing trace text h line small seen next at) sees.0 seen.begins) (sees.1 (reverse trace) seen.seen)
 seen_goes (Some stop) reading new viewing later trace text h line is small next sees at seen = absurd (cc)
 
 -- a happening at which it stops is not seen
-stops_here : (stop : Option Stop) (why : Stop) (reading new : Reading) (viewing later : ViewState) (trace : List Event) (text : List ℕ) (h : Event) (line : ℕ) → stop ≡ Some why → length text < 2 ^ 64 → ReadsNext reading new (Some h) → SeesStop stop viewing later h line → line ≡ capped (reading.lines + 1) → HasSeen reading viewing trace text → TakenBy stop (record { reading = new; viewing = later; stop = stop }) trace text
+stops_here : (stop : Option ViewEnd) (why : ViewEnd) (reading new : Reading) (viewing later : ViewState) (trace : List Event) (text : List ℕ) (h : Event) (line : ℕ) → stop ≡ Some why → length text < 2 ^ 64 → ReadsNext reading new (Some h) → SeesStop stop viewing later h line → line ≡ capped (reading.lines + 1) → HasSeen reading viewing trace text → TakenBy stop (record { reading = new; viewing = later; stop = stop }) trace text
 stops_here None why reading new viewing later trace text h line is small next sees at seen = absurd (cc)
 stops_here (Some (Breach law number)) why reading new viewing later trace text h line is small next sees at seen = record {
   begins = seen.begins;
@@ -117,11 +117,11 @@ stops_here (Some Within) why reading new viewing later trace text h line is smal
 }
 
 -- by cases of whether it stopped
-pub at_none : (stop : Option Stop) (state : TextState) (trace : List Event) (text : List ℕ) → stop ≡ None → AtBy stop state trace text → HasSeen state.reading state.viewing trace text
+pub at_none : (stop : Option ViewEnd) (state : TextState) (trace : List Event) (text : List ℕ) → stop ≡ None → AtBy stop state trace text → HasSeen state.reading state.viewing trace text
 at_none None state trace text is at = at
 at_none (Some stop) state trace text is at = absurd (cc)
 
-pub goes_next : (stop : Option Stop) (old : TextState) (new : Reading) (later : ViewState) (trace : List Event) (text : List ℕ) (h : Event) (line : ℕ) → old.stop ≡ None → length text < 2 ^ 64 → ReadsNext old.reading new (Some h) → SeesStop stop old.viewing later h line → line ≡ capped (old.reading.lines + 1) → ViewGoesOn (seen_by stop h) old (record { reading = new; viewing = later; stop = stop }) trace text
+pub goes_next : (stop : Option ViewEnd) (old : TextState) (new : Reading) (later : ViewState) (trace : List Event) (text : List ℕ) (h : Event) (line : ℕ) → old.stop ≡ None → length text < 2 ^ 64 → ReadsNext old.reading new (Some h) → SeesStop stop old.viewing later h line → line ≡ capped (old.reading.lines + 1) → ViewGoesOn (seen_by stop h) old (record { reading = new; viewing = later; stop = stop }) trace text
 goes_next None old new later trace text h line went small next sees is = λ at. seen_goes None old.reading new old.viewing later trace text h line refl small next sees is (at_none old.stop old trace text went at)
 goes_next (Some stop) old new later trace text h line went small next sees is = λ at. stops_here (Some stop) stop old.reading new old.viewing later trace text h line refl small next sees is (at_none old.stop old trace text went at)
 
@@ -144,7 +144,7 @@ torn_here reading viewing trace text number small is none seen = record {
 }
 
 -- behind the line at which it stopped the text may go on
-pub stops_more : (stop : Stop) (trace : List Event) (text piece : List ℕ) → StopsAt stop trace text → StopsAt stop trace (text ++ piece)
+pub stops_more : (stop : ViewEnd) (trace : List Event) (text piece : List ℕ) → StopsAt stop trace text → StopsAt stop trace (text ++ piece)
 stops_more (Breach law line) trace text piece stops = record {
   happening = stops.happening;
   rest = stops.rest ++ piece;
@@ -175,7 +175,7 @@ stops_more Within trace text piece stops = (
   },
 )
 
-pub still_stopped : (stop : Option Stop) (state : TextState) (trace : List Event) (text piece : List ℕ) (why : Stop) → stop ≡ Some why → TakenBy stop state trace text → AtBy stop state trace (text ++ piece)
+pub still_stopped : (stop : Option ViewEnd) (state : TextState) (trace : List Event) (text piece : List ℕ) (why : ViewEnd) → stop ≡ Some why → TakenBy stop state trace text → AtBy stop state trace (text ++ piece)
 still_stopped (Some stop) state trace text piece why is taken = record {
   begins = taken.begins;
   stops = stops_more stop trace text piece taken.stops;
@@ -184,11 +184,11 @@ still_stopped (Some stop) state trace text piece why is taken = record {
 still_stopped None state trace text piece why is taken = absurd (cc)
 
 -- what it has seen
-pub seen_at : (stop : Option Stop) (state : TextState) (trace : List Event) (text : List ℕ) → AtBy stop state trace text → Viewed state.viewing (reverse trace)
+pub seen_at : (stop : Option ViewEnd) (state : TextState) (trace : List Event) (text : List ℕ) → AtBy stop state trace text → Viewed state.viewing (reverse trace)
 seen_at None state trace text at = at.seen
 seen_at (Some stop) state trace text at = at.seen
 
-pub viewed_at : (stop : Option Stop) (state : TextState) (trace : List Event) (text : List ℕ) → TakenBy stop state trace text → Viewed state.viewing (reverse trace)
+pub viewed_at : (stop : Option ViewEnd) (state : TextState) (trace : List Event) (text : List ℕ) → TakenBy stop state trace text → Viewed state.viewing (reverse trace)
 viewed_at None state trace text taken = taken.0.seen
 viewed_at (Some stop) state trace text taken = taken.seen
 
@@ -197,7 +197,7 @@ left_is : (reading : Reading) (viewing : ViewState) (trace : List Event) (text o
 left_is reading viewing trace text [] small seen is = refl
 left_is reading viewing trace text (byte ∷ over) small seen is = ap Some (next_line reading viewing trace text small seen (omega (arith, ap length is)))
 
-pub shown : (stop : Option Stop) (state : TextState) (trace : List Event) (text : List ℕ) (left : Option ℕ) → length text < 2 ^ 64 → TakenBy stop state trace text → left ≡ left_of stop (option_map capped (line_left state.reading.lines state.reading.over)) → IsShown text stop left trace × Viewed state.viewing (reverse trace)
+pub shown : (stop : Option ViewEnd) (state : TextState) (trace : List Event) (text : List ℕ) (left : Option ℕ) → length text < 2 ^ 64 → TakenBy stop state trace text → left ≡ left_of stop (option_map capped (line_left state.reading.lines state.reading.over)) → IsShown text stop left trace × Viewed state.viewing (reverse trace)
 shown None state trace text left small taken is = (
   (
     taken.0.begins,

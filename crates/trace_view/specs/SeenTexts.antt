@@ -2,7 +2,7 @@
 use Rattle.std.specs.Prelude.{ℕ, Bool, true, false, List, reverse, Option}
 use Rattle.trace_events.specs.Event.{Event}
 use Rattle.trace_view.specs.Viewing.{ViewState, Viewed}
-use Rattle.trace_view.specs.declared.text_views.Stop.{Stop}
+use Rattle.trace_view.specs.declared.text_views.ViewEnd.{ViewEnd}
 use Rattle.trace_view.specs.Shown.{IsShown}
 use Rattle.trace_view.specs.Views.{TextState, HasShown, IsAt}
 
@@ -24,6 +24,6 @@ SeesOn has true old new text = IsSeeing has old text → IsSeeing has new text
 SeesOn has false old new text = IsSeeing has old text → HasSeenText has new text
 
 -- what is shown of a text: one trace, which both have seen
-abbrev pub IsSeen : {S : Type 0} → (S → List Event → Type 0) → List ℕ → Option Stop → Option ℕ → ViewState → S → Type 0
+abbrev pub IsSeen : {S : Type 0} → (S → List Event → Type 0) → List ℕ → Option ViewEnd → Option ℕ → ViewState → S → Type 0
 IsSeen has text stop left viewing seen =
     (trace : List Event) × IsShown text stop left trace × Viewed viewing (reverse trace) × has seen (reverse trace)

@@ -10,8 +10,8 @@ use Rattle.trace_check.specs.Laws.{law_number}
 use Rattle.trace_text.specs.Lines.{event_text, trace_text}
 use Rattle.trace_verdict.specs.Fronts.{IsFront, IsTorn}
 use Rattle.trace_view.specs.LastLines.{is_table}
-use Rattle.trace_view.specs.declared.text_views.Stop.{Stop}
-use Rattle.trace_view.specs.declared.text_views.Stop.TheVariants.{Breach, Torn, Within}
+use Rattle.trace_view.specs.declared.text_views.ViewEnd.{ViewEnd}
+use Rattle.trace_view.specs.declared.text_views.ViewEnd.TheVariants.{Breach, Torn, Within}
 
 -- behind the trace stands a happening, at the line of this number from 1, that breaks this law and no lesser one
 pub record IsBefore (trace : List Event) (law : Law) (line : ℕ) (text : List ℕ) : Type 0 where
@@ -39,15 +39,15 @@ begins_run [] = true
 begins_run (happening ∷ trace) = is_table happening
 
 -- why a view that has seen this trace goes no further in the text
-abbrev pub StopsAt : Stop → List Event → List ℕ → Type 0
+abbrev pub StopsAt : ViewEnd → List Event → List ℕ → Type 0
 StopsAt (Breach law line) trace text = IsBefore trace law line text
 StopsAt (Torn number) trace text = IsUpTo trace number text
 StopsAt Within trace text = (trace ≡ []) × BeginsWithin text
 
-abbrev pub ShownBy : Option Stop → Option ℕ → List Event → List ℕ → Type 0
+abbrev pub ShownBy : Option ViewEnd → Option ℕ → List Event → List ℕ → Type 0
 ShownBy None left trace text = IsFront trace left text
 ShownBy (Some stop) left trace text = StopsAt stop trace text × (left ≡ None)
 
 -- what a view shows of a text, by why it goes no further and by the line at which a happening isn't finished
-abbrev pub IsShown : List ℕ → Option Stop → Option ℕ → List Event → Type 0
+abbrev pub IsShown : List ℕ → Option ViewEnd → Option ℕ → List Event → Type 0
 IsShown text stop left trace = (begins_run trace ≡ true) × ShownBy stop left trace text

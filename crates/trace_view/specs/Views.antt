@@ -9,8 +9,8 @@ use Rattle.trace_text.specs.Lines.{trace_text}
 use Rattle.trace_verdict.specs.Fronts.{is_open}
 use Rattle.trace_verdict.specs.Readers.{Reading}
 use Rattle.trace_view.specs.Viewing.{ViewState, Viewed}
-use Rattle.trace_view.specs.declared.text_views.Stop.{Stop}
-use Rattle.trace_view.specs.declared.text_views.Stop.TheVariants.{Breach, Torn, Within}
+use Rattle.trace_view.specs.declared.text_views.ViewEnd.{ViewEnd}
+use Rattle.trace_view.specs.declared.text_views.ViewEnd.TheVariants.{Breach, Torn, Within}
 use Rattle.trace_view.specs.LastLines.{is_table}
 use Rattle.trace_view.specs.Shown.{StopsAt, begins_run}
 
@@ -18,7 +18,7 @@ use Rattle.trace_view.specs.Shown.{StopsAt, begins_run}
 pub record TextState : Type 0 where
   pub reading : Reading
   pub viewing : ViewState
-  pub stop : Option Stop
+  pub stop : Option ViewEnd
 
 -- the trace is what it has read of the text, and has seen
 pub record HasSeen (reading : Reading) (viewing : ViewState) (trace : List Event) (text : List ℕ) : Type 0 where
@@ -29,13 +29,13 @@ pub record HasSeen (reading : Reading) (viewing : ViewState) (trace : List Event
   pub seen : Viewed viewing (reverse trace)
 
 -- it goes no further in the text, and has seen this trace, which stands before
-pub record StopsBy (stop : Stop) (viewing : ViewState) (trace : List Event) (text : List ℕ) : Type 0 where
+pub record StopsBy (stop : ViewEnd) (viewing : ViewState) (trace : List Event) (text : List ℕ) : Type 0 where
   pub begins : begins_run trace ≡ true
   pub stops : StopsAt stop trace text
   pub seen : Viewed viewing (reverse trace)
 
 -- it is at work on the text, of which it has seen this trace
-abbrev pub AtBy : Option Stop → TextState → List Event → List ℕ → Type 0
+abbrev pub AtBy : Option ViewEnd → TextState → List Event → List ℕ → Type 0
 AtBy None state trace text = HasSeen state.reading state.viewing trace text
 AtBy (Some stop) state trace text = StopsBy stop state.viewing trace text
 
@@ -43,7 +43,7 @@ abbrev pub IsAt : TextState → List Event → List ℕ → Type 0
 IsAt state trace text = AtBy state.stop state trace text
 
 -- it has taken the text, and seen this trace: besides, what it has not read ends within a happening
-abbrev pub TakenBy : Option Stop → TextState → List Event → List ℕ → Type 0
+abbrev pub TakenBy : Option ViewEnd → TextState → List Event → List ℕ → Type 0
 TakenBy None state trace text = HasSeen state.reading state.viewing trace text × (is_open state.reading.over ≡ true)
 TakenBy (Some stop) state trace text = StopsBy stop state.viewing trace text
 
@@ -60,7 +60,7 @@ abbrev pub may_be : ℕ → Event → Bool
 may_be line happening = not (line == 1) || is_table happening
 
 -- what a happening at this line makes of a view
-abbrev pub SeesStop : Option Stop → ViewState → ViewState → Event → ℕ → Type 0
+abbrev pub SeesStop : Option ViewEnd → ViewState → ViewState → Event → ℕ → Type 0
 SeesStop None old new happening line =
     (may_be line happening ≡ true) × ((past : List Event) → Viewed old past → Viewed new (happening ∷ past))
 SeesStop (Some (Breach law at)) old new happening line = (new ≡ old) × (at ≡ line)
@@ -69,11 +69,11 @@ SeesStop (Some (Torn number)) old new happening line = ⊥
 SeesStop (Some Within) old new happening line = (new ≡ old) × (may_be line happening ≡ false)
 
 -- the happening, where it is seen: nothing stops the view there
-abbrev pub seen_by : Option Stop → Event → Option Event
+abbrev pub seen_by : Option ViewEnd → Event → Option Event
 seen_by (Some stop) happening = None
 seen_by None happening = Some happening
 
 -- the line at which it holds a happening that isn't finished
-abbrev pub left_of : Option Stop → Option ℕ → Option ℕ
+abbrev pub left_of : Option ViewEnd → Option ℕ → Option ℕ
 left_of (Some stop) left = None
 left_of None left = left

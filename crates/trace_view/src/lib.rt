@@ -21,7 +21,7 @@ pub use laws::law_of_reasons;
 pub use rows::{Births, Ending, Row};
 pub use seen_texts::{SeenText, Sees};
 pub use standings::{Excluded, Standing};
-pub use text_views::{Stop, TextView};
+pub use text_views::{TextView, ViewEnd};
 pub use views::TraceView;
 pub use whys::{Why, why_by};
 pub use wishes::Wish;

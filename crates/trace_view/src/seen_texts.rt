@@ -9,7 +9,7 @@ ghost use Rattle.trace_view.specs.LastLines.{line_behind};
 ghost use Rattle.trace_view.specs.SeenTexts.{HasSeenText, IsSeeing, IsSeen, SeesOn};
 ghost use Rattle.trace_view.specs.Viewing.{SeesNext, Viewed};
 
-use crate::text_views::{Stop, TextView};
+use crate::text_views::{TextView, ViewEnd};
 use crate::views::TraceView;
 use init_words::{Memory, Stage};
 use std::alloc::{Allocator, Global};
@@ -133,7 +133,7 @@ impl<S: Sees<A> + Drop, A: Allocator + Copy> SeenText<S, A> {
 
     /// Why the view goes no further, and the number of the line, from 1, at which the last happening begins where that
     /// isn't finished.
-    pub fn end(&self) -> (Option<Stop>, Option<u64>)
+    pub fn end(&self) -> (Option<ViewEnd>, Option<u64>)
         ensures { (text : List ℕ) → length text < 2 ^ 64 → HasSeenText S.has_seen self.now text
             → IsSeen S.has_seen text result.0 result.1 self.now.viewing.viewing self.now.seen }
     {

@@ -22,7 +22,7 @@ use trace_verdict::TextReader;
 
 /// Why a view goes no further.
 #[derive(Clone, Copy)]
-pub enum Stop {
+pub enum ViewEnd {
     /// The happening at the line of this number, from 1, breaks this law, and no lesser one.
     Breach(Law, u64),
     /// The line of this number, from 1, begins no happening.
@@ -39,7 +39,7 @@ pub enum Stop {
 pub struct TextView<A: Allocator = Global> {
     reader: TextReader<A>,
     view: TraceView<A>,
-    stop: Option<Stop>,
+    stop: Option<ViewEnd>,
 }
 
 impl<A: Allocator> Model for TextView<A> {
@@ -62,20 +62,20 @@ fn see_next<A: Allocator + Copy, B: Allocator>(
     view: &mut TraceView<A>,
     line: u64,
     happening: &HappeningIn<B>,
-) -> Result<Option<Stop>, Memory>
+) -> Result<Option<ViewEnd>, Memory>
     ensures { IfOk result (λ stop. SeesStop stop view.old view.new happening.now line) }
 {
     if !may_be(line, happening) {
-        return Ok(Some(Stop::Within));
+        return Ok(Some(ViewEnd::Within));
     }
     match view.take(happening)? {
-        Some(law) => Ok(Some(Stop::Breach(law, line))),
+        Some(law) => Ok(Some(ViewEnd::Breach(law, line))),
         None => Ok(None),
     }
 }
 
 /// The happening, where it is seen: nothing stops the view there.
-fn seen_by<A: Allocator>(stop: Option<Stop>, happening: HappeningIn<A>) -> Option<HappeningIn<A>>
+fn seen_by<A: Allocator>(stop: Option<ViewEnd>, happening: HappeningIn<A>) -> Option<HappeningIn<A>>
     ensures { result ≡ seen_by stop happening }
 {
     match stop {
@@ -129,7 +129,7 @@ impl<A: Allocator + Copy> TextView<A> {
             }
             Ok(None) => Ok(None),
             Err(ReadFault::Line(number)) => {
-                self.stop = Some(Stop::Torn(number));
+                self.stop = Some(ViewEnd::Torn(number));
                 Ok(None)
             }
             Err(ReadFault::Memory) => Err(Memory),
@@ -176,7 +176,7 @@ impl<A: Allocator + Copy> TextView<A> {
 
     /// The view of what was taken, why it went no further, and the number of the line, from 1, at which the last
     /// happening begins where that isn't finished: it isn't seen.
-    pub fn answer(&self) -> (&TraceView<A>, Option<Stop>, Option<u64>)
+    pub fn answer(&self) -> (&TraceView<A>, Option<ViewEnd>, Option<u64>)
         ensures { (trace : List Event) (text : List ℕ) → length text < 2 ^ 64
             → HasShown self.now trace text
             → IsShown text result.1 result.2 trace × Viewed result.0.now (reverse trace) }

@@ -10,12 +10,12 @@ returns-clause-makes g c =
     let next = c.hand_over.new.core in
     let is : c.in-Ok.text.items ≡ c.deref.result.now = search rules in
     let log = g.E.Edge.log c.args.edge.now in
-    let now = g.E.Edge.log c.say.new.edge in
-    Makes-carried g.E.Edge.state (g.E.Edge.told c.args.edge.now) (g.E.Edge.told c.carry-how.new.edge) (g.E.Edge.told c.say.new.edge) log now
-    c.args.core.now next c.carry-how.new.core c.carry-how.result c.deref.result.now back adds c.say.ensures.said
+    let now = g.E.Edge.log c.tell.new.edge in
+    Makes-carried g.E.Edge.state (g.E.Edge.told c.args.edge.now) (g.E.Edge.told c.carry-how.new.edge) (g.E.Edge.told c.tell.new.edge) log now
+    c.args.core.now next c.carry-how.new.core c.carry-how.result c.deref.result.now back adds c.tell.ensures.said
     c.in-Ok.ensures.state c.in-Ok.ensures.fits
     (λ short. subst (λ text. IsTextIn V2 text (state_of next) × IsFit next) is (c.in-Ok.ensures.said short)) comes
-    (subst (λ l. (so_far : List Event) → Logs (g.E.Edge.state l) (g.E.Edge.state now) so_far (Handed c.carry-how.result ∷ so_far)) c.carry-how.ensures.log c.say.ensures.log)
+    (subst (λ l. (so_far : List Event) → Logs (g.E.Edge.state l) (g.E.Edge.state now) so_far (Handed c.carry-how.result ∷ so_far)) c.carry-how.ensures.log c.tell.ensures.log)
 
 -- no text was made, and nothing was changed
 pub returns-in_default-clause-makes : goal.returns-in_default-clause-makes
@@ -26,9 +26,9 @@ returns-in_default-clause-makes g c =
 pub returns-clause-grows : goal.returns-clause-grows
 returns-clause-grows g c =
     let old = g.E.Edge.state (g.E.Edge.log c.args.edge.now) in
-    let now = g.E.Edge.state (g.E.Edge.log c.say.new.edge) in
+    let now = g.E.Edge.state (g.E.Edge.log c.tell.new.edge) in
     GrowsBy-call g.E.Edge.state c.args.core.now c.carry-how.new.core old now (g.E.Edge.log c.args.edge.now) (g.E.Edge.log c.carry-how.new.edge) c.carry-how.ensures.log (Grows-none old)
-    (GrowsBy-one c.args.core.now c.carry-how.new.core (g.E.Edge.state (g.E.Edge.log c.carry-how.new.edge)) now (λ short. c.carry-how.ensures.short (ap has_short_seconds c.in-Ok.ensures.state ∙ short)) c.say.ensures.grows)
+    (GrowsBy-one c.args.core.now c.carry-how.new.core (g.E.Edge.state (g.E.Edge.log c.carry-how.new.edge)) now (λ short. c.carry-how.ensures.short (ap has_short_seconds c.in-Ok.ensures.state ∙ short)) c.tell.ensures.grows)
 
 pub returns-in_default-clause-grows : goal.returns-in_default-clause-grows
 returns-in_default-clause-grows g c =

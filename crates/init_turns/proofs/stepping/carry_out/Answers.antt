@@ -7,32 +7,32 @@ use Rattle.init_turns.proofs.stepping.carry_out.Goals as goal
 pub returns-in-Enter-clause-makes : goal.returns-in-Enter-clause-makes
 returns-in-Enter-clause-makes g c =
     let is : c.args.step.now ≡ step.Enter c.in-Enter.stage c.in-Enter.grace = search rules in
-    Makes-said g.E.Edge.state (g.E.Edge.told c.args.edge.now) (g.E.Edge.told c.say.new.edge) (g.E.Edge.state (g.E.Edge.log c.args.edge.now)) (g.E.Edge.state (g.E.Edge.log c.say.new.edge)) c.args.core.now c.args.step.now (step.Enter c.in-Enter.stage c.in-Enter.grace) (past.Enter c.in-Enter.stage c.in-Enter.grace)
-    is refl (record { step = λ so_far. refl; said = refl; place = λ goal earlier so_far due_now. first_is goal so_far (step.Enter c.in-Enter.stage c.in-Enter.grace) due_now }) c.say.ensures.makes
+    Makes-said g.E.Edge.state (g.E.Edge.told c.args.edge.now) (g.E.Edge.told c.tell.new.edge) (g.E.Edge.state (g.E.Edge.log c.args.edge.now)) (g.E.Edge.state (g.E.Edge.log c.tell.new.edge)) c.args.core.now c.args.step.now (step.Enter c.in-Enter.stage c.in-Enter.grace) (past.Enter c.in-Enter.stage c.in-Enter.grace)
+    is refl (record { step = λ so_far. refl; said = refl; place = λ goal earlier so_far due_now. first_is goal so_far (step.Enter c.in-Enter.stage c.in-Enter.grace) due_now }) c.tell.ensures.makes
 
 pub returns-in-Call-clause-makes : goal.returns-in-Call-clause-makes
 returns-in-Call-clause-makes g c =
     let is : c.args.step.now ≡ step.Call c.in-Call.letter = search rules in
-    Makes-said g.E.Edge.state (g.E.Edge.told c.args.edge.now) (g.E.Edge.told c.say-in-Call.new.edge) (g.E.Edge.state (g.E.Edge.log c.args.edge.now)) (g.E.Edge.state (g.E.Edge.log c.say-in-Call.new.edge)) c.args.core.now c.args.step.now (step.Call c.in-Call.letter) (past.Call c.in-Call.letter)
-    is refl (record { step = λ so_far. refl; said = refl; place = λ goal earlier so_far due_now. first_is goal so_far (step.Call c.in-Call.letter) due_now }) c.say-in-Call.ensures.makes
+    Makes-said g.E.Edge.state (g.E.Edge.told c.args.edge.now) (g.E.Edge.told c.tell-in-Call.new.edge) (g.E.Edge.state (g.E.Edge.log c.args.edge.now)) (g.E.Edge.state (g.E.Edge.log c.tell-in-Call.new.edge)) c.args.core.now c.args.step.now (step.Call c.in-Call.letter) (past.Call c.in-Call.letter)
+    is refl (record { step = λ so_far. refl; said = refl; place = λ goal earlier so_far due_now. first_is goal so_far (step.Call c.in-Call.letter) due_now }) c.tell-in-Call.ensures.makes
 
 pub returns-in-Power-clause-makes : goal.returns-in-Power-clause-makes
 returns-in-Power-clause-makes g c =
     let is : c.args.step.now ≡ step.Power c.in-Power.kind = search rules in
-    Makes-said g.E.Edge.state (g.E.Edge.told c.args.edge.now) (g.E.Edge.told c.say-in-Power.new.edge) (g.E.Edge.state (g.E.Edge.log c.args.edge.now)) (g.E.Edge.state (g.E.Edge.log c.say-in-Power.new.edge)) c.args.core.now c.args.step.now (step.Power c.in-Power.kind) (past.Power c.in-Power.kind)
-    is refl (record { step = λ so_far. refl; said = refl; place = λ goal earlier so_far due_now. first_is goal so_far (step.Power c.in-Power.kind) due_now }) c.say-in-Power.ensures.makes
+    Makes-said g.E.Edge.state (g.E.Edge.told c.args.edge.now) (g.E.Edge.told c.tell-in-Power.new.edge) (g.E.Edge.state (g.E.Edge.log c.args.edge.now)) (g.E.Edge.state (g.E.Edge.log c.tell-in-Power.new.edge)) c.args.core.now c.args.step.now (step.Power c.in-Power.kind) (past.Power c.in-Power.kind)
+    is refl (record { step = λ so_far. refl; said = refl; place = λ goal earlier so_far due_now. first_is goal so_far (step.Power c.in-Power.kind) due_now }) c.tell-in-Power.ensures.makes
 
 pub returns-in-Hold-clause-makes : goal.returns-in-Hold-clause-makes
 returns-in-Hold-clause-makes g c =
     let is : c.args.step.now ≡ step.Hold c.in-Hold.id = search rules in
-    Makes-said g.E.Edge.state (g.E.Edge.told c.args.edge.now) (g.E.Edge.told c.say-in-Hold.new.edge) (g.E.Edge.state (g.E.Edge.log c.args.edge.now)) (g.E.Edge.state (g.E.Edge.log c.say-in-Hold.new.edge)) c.args.core.now c.args.step.now (step.Hold c.in-Hold.id) (past.Hold c.in-Hold.id)
-    is refl (record { step = λ so_far. refl; said = refl; place = λ goal earlier so_far due_now. first_is goal so_far (step.Hold c.in-Hold.id) due_now }) c.say-in-Hold.ensures.makes
+    Makes-said g.E.Edge.state (g.E.Edge.told c.args.edge.now) (g.E.Edge.told c.tell-in-Hold.new.edge) (g.E.Edge.state (g.E.Edge.log c.args.edge.now)) (g.E.Edge.state (g.E.Edge.log c.tell-in-Hold.new.edge)) c.args.core.now c.args.step.now (step.Hold c.in-Hold.id) (past.Hold c.in-Hold.id)
+    is refl (record { step = λ so_far. refl; said = refl; place = λ goal earlier so_far due_now. first_is goal so_far (step.Hold c.in-Hold.id) due_now }) c.tell-in-Hold.ensures.makes
 
 pub returns-in-Settle-clause-makes : goal.returns-in-Settle-clause-makes
 returns-in-Settle-clause-makes g c =
     let is : c.args.step.now ≡ step.Settle c.in-Settle.level = search rules in
-    Makes-said g.E.Edge.state (g.E.Edge.told c.args.edge.now) (g.E.Edge.told c.say-in-Settle.new.edge) (g.E.Edge.state (g.E.Edge.log c.args.edge.now)) (g.E.Edge.state (g.E.Edge.log c.say-in-Settle.new.edge)) c.args.core.now c.args.step.now (step.Settle c.in-Settle.level) (past.Settle c.in-Settle.level)
-    is refl (record { step = λ so_far. refl; said = refl; place = λ goal earlier so_far due_now. first_is goal so_far (step.Settle c.in-Settle.level) due_now }) c.say-in-Settle.ensures.makes
+    Makes-said g.E.Edge.state (g.E.Edge.told c.args.edge.now) (g.E.Edge.told c.tell-in-Settle.new.edge) (g.E.Edge.state (g.E.Edge.log c.args.edge.now)) (g.E.Edge.state (g.E.Edge.log c.tell-in-Settle.new.edge)) c.args.core.now c.args.step.now (step.Settle c.in-Settle.level) (past.Settle c.in-Settle.level)
+    is refl (record { step = λ so_far. refl; said = refl; place = λ goal earlier so_far due_now. first_is goal so_far (step.Settle c.in-Settle.level) due_now }) c.tell-in-Settle.ensures.makes
 
 pub returns-in-Idle-clause-makes : goal.returns-in-Idle-clause-makes
 returns-in-Idle-clause-makes g c =
@@ -60,19 +60,19 @@ returns-in-Reexec-clause-makes g c =
 pub returns-in-Enter-clause-grows : goal.returns-in-Enter-clause-grows
 returns-in-Enter-clause-grows g c short =
     let is : c.args.step.now ≡ step.Enter c.in-Enter.stage c.in-Enter.grace = search rules in
-    GrowsBy-one c.args.core.now c.args.core.now (g.E.Edge.state (g.E.Edge.log c.args.edge.now)) (g.E.Edge.state (g.E.Edge.log c.say.new.edge)) (λ seconds. seconds) (c.say.ensures.grows (sym (ap is_short_step is) ∙ short))
+    GrowsBy-one c.args.core.now c.args.core.now (g.E.Edge.state (g.E.Edge.log c.args.edge.now)) (g.E.Edge.state (g.E.Edge.log c.tell.new.edge)) (λ seconds. seconds) (c.tell.ensures.grows (sym (ap is_short_step is) ∙ short))
 
 pub returns-in-Call-clause-grows : goal.returns-in-Call-clause-grows
-returns-in-Call-clause-grows g c short = GrowsBy-one c.args.core.now c.args.core.now (g.E.Edge.state (g.E.Edge.log c.args.edge.now)) (g.E.Edge.state (g.E.Edge.log c.say-in-Call.new.edge)) (λ seconds. seconds) (c.say-in-Call.ensures.grows refl)
+returns-in-Call-clause-grows g c short = GrowsBy-one c.args.core.now c.args.core.now (g.E.Edge.state (g.E.Edge.log c.args.edge.now)) (g.E.Edge.state (g.E.Edge.log c.tell-in-Call.new.edge)) (λ seconds. seconds) (c.tell-in-Call.ensures.grows refl)
 
 pub returns-in-Power-clause-grows : goal.returns-in-Power-clause-grows
-returns-in-Power-clause-grows g c short = GrowsBy-one c.args.core.now c.args.core.now (g.E.Edge.state (g.E.Edge.log c.args.edge.now)) (g.E.Edge.state (g.E.Edge.log c.say-in-Power.new.edge)) (λ seconds. seconds) (c.say-in-Power.ensures.grows refl)
+returns-in-Power-clause-grows g c short = GrowsBy-one c.args.core.now c.args.core.now (g.E.Edge.state (g.E.Edge.log c.args.edge.now)) (g.E.Edge.state (g.E.Edge.log c.tell-in-Power.new.edge)) (λ seconds. seconds) (c.tell-in-Power.ensures.grows refl)
 
 pub returns-in-Hold-clause-grows : goal.returns-in-Hold-clause-grows
-returns-in-Hold-clause-grows g c short = GrowsBy-one c.args.core.now c.args.core.now (g.E.Edge.state (g.E.Edge.log c.args.edge.now)) (g.E.Edge.state (g.E.Edge.log c.say-in-Hold.new.edge)) (λ seconds. seconds) (c.say-in-Hold.ensures.grows refl)
+returns-in-Hold-clause-grows g c short = GrowsBy-one c.args.core.now c.args.core.now (g.E.Edge.state (g.E.Edge.log c.args.edge.now)) (g.E.Edge.state (g.E.Edge.log c.tell-in-Hold.new.edge)) (λ seconds. seconds) (c.tell-in-Hold.ensures.grows refl)
 
 pub returns-in-Settle-clause-grows : goal.returns-in-Settle-clause-grows
-returns-in-Settle-clause-grows g c short = GrowsBy-one c.args.core.now c.args.core.now (g.E.Edge.state (g.E.Edge.log c.args.edge.now)) (g.E.Edge.state (g.E.Edge.log c.say-in-Settle.new.edge)) (λ seconds. seconds) (c.say-in-Settle.ensures.grows refl)
+returns-in-Settle-clause-grows g c short = GrowsBy-one c.args.core.now c.args.core.now (g.E.Edge.state (g.E.Edge.log c.args.edge.now)) (g.E.Edge.state (g.E.Edge.log c.tell-in-Settle.new.edge)) (λ seconds. seconds) (c.tell-in-Settle.ensures.grows refl)
 
 pub returns-in-Idle-clause-grows : goal.returns-in-Idle-clause-grows
 returns-in-Idle-clause-grows g c short = GrowsBy-none c.args.core.now (g.E.Edge.state (g.E.Edge.log c.args.edge.now))

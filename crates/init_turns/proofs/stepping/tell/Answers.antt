@@ -1,7 +1,7 @@
 use Rattle.init_turns.proofs.Words.{refl, sym, subst, ◌∷◌, [], Announce, Gave, Grows, Leads, Tracks, AddsMade-same, IsStep, MakesOver, kept_led}
 use Rattle.init_turns.proofs.Carried.{Leads-said}
 use Rattle.init_turns.proofs.Parts.{Makes-one}
-use Rattle.init_turns.proofs.stepping.say.Goals as goal
+use Rattle.init_turns.proofs.stepping.tell.Goals as goal
 
 pub returns-clause-makes : goal.returns-clause-makes
 returns-clause-makes g c core made says =
