@@ -3,7 +3,7 @@ use Rattle.trace_brief.proofs.Words.{◌≡◌, refl, sym, ◌∙◌, ap, ap₂,
 use Rattle.trace_events.specs.declared.steps.Step.TheVariants as step
 use Rattle.trace_brief.proofs.Lasting.{dead_lasting}
 use Rattle.trace_brief.proofs.Alike.{Alike, alike_self, alike_then, alike_cons, same_by, same_unreaped}
-use Rattle.trace_brief.proofs.Shorter.{alike_look, alike_readings, alike_early, alike_rounds}
+use Rattle.trace_brief.proofs.Shorter.{alike_look, alike_readings, alike_early}
 use Rattle.trace_brief.proofs.SameDues.{quiet_same, due_alike}
 
 dead_same : (past brief : List Event) → Alike past brief → (id : List ℕ) (n : ℕ) → is_dead id n past ≡ is_dead id n brief
@@ -68,8 +68,7 @@ early_stands goal reading (Nudge ∷ brief) h =
 early_stands goal reading brief h = read_stands goal reading brief h
 
 round_stands : (goal : Goal) (brief : List Event) → is_sound goal (Nudge ∷ brief) ≡ true → Stands goal (Nudge ∷ brief) (with_round brief)
-round_stands goal (Nudge ∷ brief) h = (h, alike_rounds brief)
-round_stands goal brief h = (h, alike_self (Nudge ∷ brief))
+round_stands goal brief h = grind arith
 
 then_stands : (goal : Goal) (happening : Event) (brief : List Event) → is_sound goal (happening ∷ brief) ≡ true → Stands goal (happening ∷ brief) (with_event happening brief)
 then_stands goal (Told i) brief h = tell_stands goal i brief h
@@ -88,30 +87,8 @@ brief_stands goal past h = sound_ind goal (λ before. Stands goal before (brief_
       let last = then_stands goal happening (brief_of before) whole in
       (last.0, alike_then (happening ∷ before) (happening ∷ brief_of before) (with_event happening (brief_of before)) (alike_cons happening before (brief_of before) rest.1) last.1)
 
--- what no soundness is asked for: the lasting happenings, the clock, the times of starts and holds
-same_tell : {X : Type 0} (f : List Event → X) → ((i j k : List ℕ) (past : List Event) → f (Told i ∷ Still j ∷ Asked k Look ∷ past) ≡ f past) → (i : List ℕ) (brief : List Event) → f (Told i ∷ brief) ≡ f (with_telling i brief)
-same_tell f look i (Still j ∷ Asked k Look ∷ brief) = split (same_id i j && same_id i k && not (in_look brief)) where
-  split : (b : Bool) → f (Told i ∷ Still j ∷ Asked k Look ∷ brief) ≡ f (cond b brief (Told i ∷ Still j ∷ Asked k Look ∷ brief))
-  split b = grind arith
-same_tell f look i brief = refl
-
-said_read : (reading : ℕ) (brief : List Event) → lasting_events brief ≡ lasting_events (with_reading reading brief)
-said_read reading (Clock before ∷ brief) = refl
-said_read reading brief = refl
-
-said_early : (reading : ℕ) (brief : List Event) → lasting_events brief ≡ lasting_events (with_early_reading reading brief)
-said_early reading (Nudge ∷ brief) = said_read reading brief
-said_early reading brief = said_read reading brief
-
-said_round : (brief : List Event) → lasting_events brief ≡ lasting_events (with_round brief)
-said_round (Nudge ∷ brief) = refl
-said_round brief = refl
-
 said_then : (happening : Event) (brief : List Event) → lasting_events (happening ∷ brief) ≡ lasting_events (with_event happening brief)
-said_then (Told i) brief = same_tell lasting_events (λ i j k past. refl) i brief
-said_then (Clock reading) brief = said_early reading brief
-said_then Nudge brief = said_round brief
-said_then _ brief = refl
+said_then happening brief = grind arith
 
 pub brief_said : (past : List Event) → lasting_events past ≡ lasting_events (brief_of past)
 brief_said [] = refl

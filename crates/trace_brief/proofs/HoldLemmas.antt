@@ -1,16 +1,12 @@
 -- What is held and what was written are the brief form, behind each happening.
-use Rattle.trace_brief.proofs.Words.{◌≡◌, refl, sym, ◌∙◌, ap, subst, ℕ, Bool, true, false, not, ◌&&◌, cond, List, [], ◌∷◌, ◌++◌, Option, Some, None, arith, false≢true, none-some, same_Some, Look, same_id, Asked, Still, Told, Clock, Nudge, Event, same_id-is, same_id-from, HeldBack, HeldLook, Ordered, FoundNothing, in_look, with_telling, with_event, round_events, reading_events, held_events, is_bare, held_back, held_behind, written_of, is_round_or_reading, ends_look, Settled, Holds, next_by, next_held, newly_by, newly_written}
+use Rattle.trace_brief.proofs.Words.{◌≡◌, refl, sym, ◌∙◌, ap, subst, ℕ, Bool, true, false, ◌&&◌, cond, List, [], ◌∷◌, ◌++◌, Option, Some, None, arith, false≢true, none-some, same_Some, Look, same_id, Asked, Still, Told, Clock, Nudge, Event, same_id-is, same_id-from, HeldBack, HeldLook, Ordered, FoundNothing, in_look, with_telling, with_event, round_events, reading_events, held_events, is_bare, held_back, held_behind, written_of, is_round_or_reading, ends_look, Settled, Holds, next_by, next_held, newly_by, newly_written}
 
 abbrev held_by : Option ℕ → Bool → Option HeldLook → Bool → HeldBack
 held_by reading round look within = record { reading = reading; round = round; look = look; within = within }
 
 tell_settled : (id : List ℕ) (written : List Event) → ends_look written ≡ false → with_telling id written ≡ Told id ∷ written
-tell_settled id (Still i ∷ Asked j Look ∷ written) h = split (same_id id i) (same_id id j) refl refl where
-  split : (b c : Bool) → same_id id i ≡ b → same_id id j ≡ c → cond (b && c && not (in_look written)) written (Told id ∷ Still i ∷ Asked j Look ∷ written) ≡ Told id ∷ Still i ∷ Asked j Look ∷ written
-  split true true first second = grind (arith, same_id-from, same_id-is)
-  split true false first second = refl
-  split false c first second = refl
-tell_settled id written h = refl
+tell_settled id written h =
+    grind (arith, Still, Asked, Look, same_id, Bool, in_look, Told, arith, same_id-from, same_id-is)
 
 -- a happening for which nothing is written
 pub record Absorbs (happening : Event) (held next : HeldBack) (written : List Event) : Type 0 where

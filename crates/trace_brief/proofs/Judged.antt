@@ -128,30 +128,8 @@ kill_same id past brief a = grind (arith, any_same, same_excluded, same_by, grac
 pub broken_same : (happening : Event) (past brief : List Event) → Alike past brief → broken happening past ≡ broken happening brief
 broken_same happening past brief a = grind (arith, same_unreaped, placed_same, turn_same, gone_same, level_settled, free_same, hold_same, term_same, kill_same)
 
--- what is left out breaks no law
-tell_lawful : (i : List ℕ) (brief : List Event) → is_lawful (Told i ∷ brief) ≡ is_lawful (with_telling i brief)
-tell_lawful i (Still j ∷ Asked k Look ∷ brief) = split (same_id i j && same_id i k && not (in_look brief)) where
-  split : (b : Bool) → is_lawful brief ≡ is_lawful (cond b brief (Told i ∷ Still j ∷ Asked k Look ∷ brief))
-  split b = grind arith
-tell_lawful i brief = refl
-
-read_lawful : (reading : ℕ) (brief : List Event) → is_lawful brief ≡ is_lawful (with_reading reading brief)
-read_lawful reading (Clock before ∷ brief) = refl
-read_lawful reading brief = refl
-
-early_lawful : (reading : ℕ) (brief : List Event) → is_lawful brief ≡ is_lawful (with_early_reading reading brief)
-early_lawful reading (Nudge ∷ brief) = read_lawful reading brief
-early_lawful reading brief = read_lawful reading brief
-
-round_lawful : (brief : List Event) → is_lawful brief ≡ is_lawful (with_round brief)
-round_lawful (Nudge ∷ brief) = refl
-round_lawful brief = refl
-
 then_lawful : (happening : Event) (brief : List Event) → is_lawful (happening ∷ brief) ≡ is_lawful (with_event happening brief)
-then_lawful (Told i) brief = tell_lawful i brief
-then_lawful (Clock reading) brief = early_lawful reading brief
-then_lawful Nudge brief = round_lawful brief
-then_lawful happening brief = refl
+then_lawful happening brief = grind arith
 
 pub brief_judged : (past : List Event) → are_looks_free past ≡ true → is_lawful past ≡ is_lawful (brief_of past)
 brief_judged [] h = refl
@@ -162,9 +140,7 @@ sooner None later = later
 sooner (Some law) later = Some law
 
 law_step : (o : Option Fault) (place : ℕ) (law : Option ℕ) → law_broken_by (earlier o (breach_at place law)) ≡ sooner (law_broken_by o) law
-law_step None place None = refl
-law_step None place (Some law) = refl
-law_step (Some fault) place law = refl
+law_step o place law = grind arith
 
 law_cons : (happening : Event) (past : List Event) → law_broken_by (first_breach (happening ∷ past)) ≡ sooner (law_broken_by (first_breach past)) (broken happening past)
 law_cons happening past = law_step (first_breach past) (length past) (broken happening past)
@@ -173,10 +149,7 @@ law_same : (happening : Event) (past brief : List Event) → broken happening pa
 law_same happening past brief law rest = law_cons happening past ∙ ap₂ sooner rest law ∙ sym (law_cons happening brief)
 
 tell_law : (i : List ℕ) (brief : List Event) → law_broken_by (first_breach (Told i ∷ brief)) ≡ law_broken_by (first_breach (with_telling i brief))
-tell_law i (Still j ∷ Asked k Look ∷ brief) = split (same_id i j && same_id i k && not (in_look brief)) where
-  split : (b : Bool) → law_broken_by (first_breach (Told i ∷ Still j ∷ Asked k Look ∷ brief)) ≡ law_broken_by (first_breach (cond b brief (Told i ∷ Still j ∷ Asked k Look ∷ brief)))
-  split b = grind arith
-tell_law i brief = refl
+tell_law i brief = grind arith
 
 then_law : (happening : Event) (brief : List Event) → law_broken_by (first_breach (happening ∷ brief)) ≡ law_broken_by (first_breach (with_event happening brief))
 then_law happening brief = grind (arith, tell_law)

@@ -1,38 +1,27 @@
 -- What is read off the happenings other than looks, tellings, readings of the clock and rounds alone.
-use Rattle.trace_brief.proofs.Words.{◌≡◌, refl, ◌∙◌, ap, ℕ, ◌==◌, not, ◌&&◌, ◌||◌, List, [], ◌∷◌, filter, arith, Entry, Letter, OnCall, Boot, Start, Look, PowerKind, same_id, is_called_by, is_ondemand, stays_called, names, same_letter, same_power, NewTable, NotRead, Enter, Call, Power, Asked, Settle, Birth, Death, Reaped, Got, Handed, Goal, Event, table_of, stage_of, grace_of, is_child, unreaped_children, is_dead, brings, is_asked, is_called, starts_in, is_level, goal_of, wants_reexec, wants_reread, heard_level, keeps_power, keeps_letter, was_booted, left_ids, is_announced, lasting_events}
+use Rattle.trace_brief.proofs.Words.{◌≡◌, refl, ◌∙◌, ap, ℕ, not, ◌&&◌, ◌||◌, List, [], ◌∷◌, filter, arith, Entry, Letter, OnCall, Boot, Start, Look, PowerKind, same_id, is_called_by, is_ondemand, stays_called, names, same_letter, same_power, NewTable, NotRead, Enter, Call, Power, Asked, Settle, Birth, Reaped, Got, Handed, Goal, Event, table_of, stage_of, grace_of, is_child, unreaped_children, is_dead, brings, is_asked, is_called, starts_in, is_level, goal_of, wants_reexec, wants_reread, heard_level, keeps_power, keeps_letter, was_booted, left_ids, is_announced, lasting_events}
 use Rattle.initctl_frame.specs.declared.requests.HeardRequest.TheVariants as got
 
 pub table_lasting : (past : List Event) → table_of past ≡ table_of (lasting_events past)
-table_lasting [] = refl
-table_lasting (NewTable table ∷ past) = refl
-table_lasting (Asked i Look ∷ past) = table_lasting past
-table_lasting (_ ∷ past) = table_lasting past
+table_lasting [] = grind arith
+table_lasting (happening ∷ past) = grind (arith, table_lasting past)
 
 pub stage_lasting : (past : List Event) → stage_of past ≡ stage_of (lasting_events past)
-stage_lasting [] = refl
-stage_lasting (Enter stage grace ∷ past) = refl
-stage_lasting (Asked i Look ∷ past) = stage_lasting past
-stage_lasting (_ ∷ past) = stage_lasting past
+stage_lasting [] = grind arith
+stage_lasting (happening ∷ past) = grind (arith, stage_lasting past)
 
 pub grace_lasting : (past : List Event) → grace_of past ≡ grace_of (lasting_events past)
-grace_lasting [] = refl
-grace_lasting (Enter stage grace ∷ past) = refl
-grace_lasting (Asked i Look ∷ past) = grace_lasting past
-grace_lasting (_ ∷ past) = grace_lasting past
+grace_lasting [] = grind arith
+grace_lasting (happening ∷ past) = grind (arith, grace_lasting past)
 
 pub unreaped_lasting : (past : List Event) → unreaped_children past ≡ unreaped_children (lasting_events past)
-unreaped_lasting [] = refl
-unreaped_lasting (Birth i n ∷ past) = rw (table_lasting past, unreaped_lasting past) refl
-unreaped_lasting (Reaped i n status ∷ past) = ap (filter (λ child. not (is_child i n child))) (unreaped_lasting past)
-unreaped_lasting (Asked i Look ∷ past) = unreaped_lasting past
-unreaped_lasting (_ ∷ past) = unreaped_lasting past
+unreaped_lasting [] = grind (arith, Birth, table_lasting, Reaped, filter, is_child, Asked, Look)
+unreaped_lasting (happening ∷ past) =
+    grind (arith, unreaped_lasting past, Birth, table_lasting, Reaped, filter, is_child, Asked, Look)
 
 pub dead_lasting : (id : List ℕ) (n : ℕ) (past : List Event) → is_dead id n past ≡ is_dead id n (lasting_events past)
-dead_lasting id n [] = refl
-dead_lasting id n (Death m ∷ past) = ap (λ b. n == m || b) (dead_lasting id n past)
-dead_lasting id n (Birth i m ∷ past) = ap (λ b. not (same_id id i && n == m) && b) (dead_lasting id n past)
-dead_lasting id n (Asked i Look ∷ past) = dead_lasting id n past
-dead_lasting id n (_ ∷ past) = dead_lasting id n past
+dead_lasting id n [] = grind arith
+dead_lasting id n (happening ∷ past) = grind (arith, dead_lasting id n past)
 
 pub asked_lasting : (id : List ℕ) (past : List Event) → is_asked id past ≡ is_asked id (lasting_events past)
 asked_lasting id [] = refl

@@ -1,16 +1,14 @@
 -- What is due behind a trace is due behind one that is alike.
-use Rattle.trace_brief.proofs.Words.{◌≡◌, refl, sym, ◌∙◌, ap, ap₂, ℕ, ◌+◌, ◌-◌, Bool, true, not, ◌&&◌, cond, nat_lt, nat_le, List, [], ◌∷◌, ◌++◌, filter, length, Option, Some, None, arith, list_any, list_all, list_any-append, HOLD, STARTS, WINDOW, Entry, Level, Letter, Stage, Sysinit, Run, Look, PowerKind, same_ask, waited_of, Step, Goal, Event, table_of, stage_of, Child, is_of, has_child, kept_children, known_children, Open, is_quiet, is_idle, is_wanted, is_owed, is_excluded, stop_due, is_held, is_full, is_level, in_run, goal_of, wants_reexec, wants_reread, heard_level, other_than, level_wish, keeps_power, keeps_letter, powers, letters, wish_stands, step_if, steps_if, none_excluded, due_first, due_reexec, due_reread, due_level, power_steps, letter_steps, due_news, record_ids, stop_step, stops_of, stops_among, due_stops, can_start, start_steps, starts_among, due_starts, due_stage, is_served, is_settled, settle_step, due_settle, can_look, looks_among, due_looks, same_step, is_due, same_tests, any_same, same_has, same_any}
+use Rattle.trace_brief.proofs.Words.{◌≡◌, refl, sym, ◌∙◌, ap, ap₂, ℕ, ◌+◌, ◌-◌, Bool, true, not, ◌&&◌, nat_lt, nat_le, List, [], ◌∷◌, ◌++◌, filter, length, Option, arith, list_any, list_all, list_any-append, HOLD, STARTS, WINDOW, Entry, Level, Letter, Stage, Sysinit, Run, Look, PowerKind, same_ask, waited_of, Step, Goal, Event, table_of, stage_of, Child, is_of, has_child, kept_children, known_children, Open, is_quiet, is_idle, is_wanted, is_owed, is_excluded, stop_due, is_held, is_full, is_level, in_run, goal_of, wants_reexec, wants_reread, heard_level, other_than, level_wish, keeps_power, keeps_letter, powers, letters, wish_stands, step_if, steps_if, none_excluded, due_first, due_reexec, due_reread, due_level, power_steps, letter_steps, due_news, record_ids, stop_step, stops_of, stops_among, due_stops, can_start, start_steps, starts_among, due_starts, due_stage, is_served, is_settled, settle_step, due_settle, can_look, looks_among, due_looks, same_step, is_due, same_tests, any_same, same_has, same_any}
 use Rattle.trace_events.specs.declared.steps.Step.TheVariants as step
 use Rattle.trace_brief.proofs.Lasting.{grace_lasting, asked_lasting, called_lasting, goal_lasting, reexec_lasting, reread_lasting, heard_lasting, power_lasting, letter_lasting, booted_lasting, announced_lasting, left_lasting}
 use Rattle.trace_brief.proofs.Alike.{Alike, same_by, same_table, same_stage, same_excluded}
 
 pub all_same : {X : Type 0} (p q : X → Bool) → ((x : X) → p x ≡ q x) → (xs : List X) → list_all p xs ≡ list_all q xs
-all_same p q same [] = refl
-all_same p q same (x ∷ xs) = ap₂ (λ a b. a && b) (same x) (all_same p q same xs)
+all_same p q same xs = grind arith
 
 filter_alike : {X : Type 0} (p q : X → Bool) → ((x : X) → p x ≡ q x) → (xs : List X) → filter p xs ≡ filter q xs
-filter_alike p q same [] = refl
-filter_alike p q same (x ∷ xs) = ap₂ (λ b rest. cond b (x ∷ rest) rest) (same x) (filter_alike p q same xs)
+filter_alike p q same xs = grind arith
 
 has_kept : (past brief : List Event) → Alike past brief → (id : List ℕ) → has_child id (kept_children past) ≡ has_child id (kept_children brief)
 has_kept past brief a id = same_has id (kept_children past) (kept_children brief) (a.kept id)
@@ -54,8 +52,7 @@ goal_same past brief a opening = same_by (goal_of opening) (goal_lasting opening
 
 -- 1
 first_by : (goal : Goal) (o : Option Stage) (past brief : List Event) → Alike past brief → due_first goal o past ≡ due_first goal o brief
-first_by goal None past brief a = ap (λ (g : Goal). step.Enter Sysinit g.grace ∷ []) (goal_same past brief a goal)
-first_by goal (Some stage) past brief a = refl
+first_by goal o past brief a = grind (arith, Goal, Sysinit, goal_same)
 
 first_same : (goal : Goal) (past brief : List Event) → Alike past brief → due_first goal (stage_of past) past ≡ due_first goal (stage_of brief) brief
 first_same goal past brief a = ap (λ now. due_first goal now past) (same_stage past brief a.said) ∙ first_by goal (stage_of brief) past brief a
@@ -144,9 +141,7 @@ settled_same level past brief a =
     ∙ ap (λ served. is_level level (stage_of brief) && not (list_any (is_excluded brief) (known_children brief)) && served) (all_same (is_served level (known_children past) past) (is_served level (known_children brief) brief) (served_same level past brief a) (table_of brief))
 
 settle_by : (o : Option Stage) (past brief : List Event) → Alike past brief → settle_step o past ≡ settle_step o brief
-settle_by None past brief a = refl
-settle_by (Some (Run level)) past brief a = ap (λ settled. step_if settled (step.Settle level)) (settled_same level past brief a)
-settle_by (Some _) past brief a = refl
+settle_by o past brief a = grind (arith, Run, step_if, settled_same)
 
 settle_same : (past brief : List Event) → Alike past brief → due_settle past ≡ due_settle brief
 settle_same past brief a = grind (arith, stands_same, idle_same, same_by, announced_lasting, same_stage, settle_by)

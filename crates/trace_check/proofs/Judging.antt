@@ -127,5 +127,16 @@ module _ (s : JudgeState) (past : List Event) (r : Reads s past) (lone : (id : L
   -- the flaw is the law that is broken
   pub flaw_reads : (happening : Event) → flaw_in (table_of past) s happening ≡ broken happening past
   flaw_reads happening =
-      grind (arith, alive, placed, in_turn, any_excluded, not_not, settled, free, due_hold, may_be_termed,
-          may_be_killed)
+      grind (
+        arith,
+        alive,
+        placed,
+        in_turn,
+        any_excluded,
+        not_not,
+        settled,
+        free,
+        due_hold,
+        may_be_termed,
+        may_be_killed,
+      )
