@@ -8,13 +8,12 @@ ghost use Rattle.initview_timeline.specs.Marks.{marks_of};
 ghost use Rattle.initview_timeline.specs.Svg.{svg_text};
 ghost use Rattle.initview_command.specs.Charting.{drawing, lines_of};
 
-use crate::growing::Writer;
-use crate::showing::{Asks, stop_status};
+use crate::showing::{Answer, Asks, Shown, stop_status};
 use init_words::Memory;
 use initview_timeline::{Marks, TimelineMark, chart_lines, svg_text};
 use std::alloc::{AllocError, Global};
 use text_lines::read_below;
-use trace_view::{SeenText, TraceView, ViewEnd};
+use trace_view::{SeenText, TraceView};
 
 /// How many columns lines have where none are named, at least, and at most.
 pub const WIDTH: u64 = 80;
@@ -96,12 +95,10 @@ impl Asks for Form {
     fn answer(
         &self,
         alloc: Global,
-        _path: &str,
         text: &mut SeenText<Marks>,
-        _writer: Writer,
-        stop: Option<ViewEnd>,
-    ) -> Result<(Vec<u8>, u8), Memory> {
+        shown: &Shown,
+    ) -> Result<Answer, Memory> {
         let drawn = draw(alloc, *self, text.seen().as_slice(), text.view())?;
-        Ok((drawn, stop_status(stop)))
+        Ok((drawn, stop_status(shown.stop)))
     }
 }

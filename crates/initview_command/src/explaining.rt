@@ -8,9 +8,8 @@ ghost use Rattle.trace_view.specs.Why.{why};
 ghost use Rattle.initview_command.specs.Explaining.{explanation, files_text, line_by};
 ghost use Rattle.initview_command.specs.Tables.{AreNone, FailsBy};
 
-use crate::growing::Writer;
 use crate::presence::show_present;
-use crate::showing::{Asks, stop_status};
+use crate::showing::{Answer, Asks, Shown, stop_status};
 use crate::with_files::NeedsFiles;
 use init_words::{Id, Memory, Part};
 use inittab_lint::id_lines;
@@ -18,7 +17,7 @@ use inittab_text::TableFault;
 use initview_lines::why_lines;
 use std::alloc::{AllocError, Global};
 use std::io::Write;
-use trace_view::{LastLines, SeenText, TraceView, ViewEnd, Why};
+use trace_view::{LastLines, SeenText, TraceView, Why};
 
 /// Why the id isn't started is asked, with what the files have of it.
 #[derive(Drop)]
@@ -84,15 +83,13 @@ impl Asks for Reason {
     fn answer(
         &self,
         alloc: Global,
-        path: &str,
         text: &mut SeenText<LastLines>,
-        writer: Writer,
-        stop: Option<ViewEnd>,
-    ) -> Result<(Vec<u8>, u8), Memory> {
+        shown: &Shown,
+    ) -> Result<Answer, Memory> {
         let line = fault_line(&self.id, text.view(), text.seen());
-        show_present(text, writer, stop)?;
-        let said = explanation(alloc, path, self, text.view(), line)?;
-        Ok((said, stop_status(stop)))
+        show_present(text, shown.writer, shown.stop)?;
+        let said = explanation(alloc, shown.path, self, text.view(), line)?;
+        Ok((said, stop_status(shown.stop)))
     }
 }
 

@@ -5,8 +5,7 @@ ghost use Rattle.trace_events.specs.Event.{Event};
 ghost use Rattle.initview_timeline.specs.Marks.{marks_of};
 ghost use Rattle.initview_command.specs.Planning.{timing_said};
 
-use crate::growing::Writer;
-use crate::showing::{Asks, stop_status};
+use crate::showing::{Answer, Asks, Shown, stop_status};
 use crate::tables::{level_asked, plan_of, table_in};
 use crate::with_files::NeedsFiles;
 use init_words::{Level, Memory, Part};
@@ -14,7 +13,7 @@ use inittab_text::{Table, TableFault};
 use initview_timeline::{Marks, TimelineMark, add_path_times};
 use std::alloc::{AllocError, Global};
 use std::io::Write;
-use trace_view::{SeenText, ViewEnd};
+use trace_view::SeenText;
 
 /// The plan of an inittab is asked, and the times of its critical path.
 #[derive(Drop)]
@@ -55,13 +54,11 @@ impl Asks for Timing {
     fn answer(
         &self,
         alloc: Global,
-        _path: &str,
         text: &mut SeenText<Marks>,
-        _writer: Writer,
-        stop: Option<ViewEnd>,
-    ) -> Result<(Vec<u8>, u8), Memory> {
+        shown: &Shown,
+    ) -> Result<Answer, Memory> {
         let said = timed_plan(alloc, self.level, &self.table, text.seen().as_slice())?;
-        Ok((said, stop_status(stop)))
+        Ok((said, stop_status(shown.stop)))
     }
 }
 

@@ -6,8 +6,7 @@ ghost use Rattle.trace_events.specs.Event.{Event};
 ghost use Rattle.trace_view.specs.Viewing.{Viewed};
 ghost use Rattle.initview_lines.specs.Reloads.{gone_on, reloaded, with_request};
 
-use crate::growing::Writer;
-use crate::showing::{Asks, stop_status};
+use crate::showing::{Answer, Asks, Shown, stop_status};
 use crate::tables::old_and_new;
 use crate::with_files::NeedsFiles;
 use init_words::{Level, Memory, Part};
@@ -17,7 +16,7 @@ use initview_lines::reload_lines;
 use std::alloc::Global;
 use std::io::Write;
 use trace_events::{Happening, HappeningIn};
-use trace_view::{SeenText, ViewEnd};
+use trace_view::SeenText;
 
 /// What becomes of what runs is asked, where init reads the second of two inittabs in the place of the first, and goes to
 /// the level.
@@ -98,14 +97,12 @@ impl Asks for Reload {
     fn answer(
         &self,
         alloc: Global,
-        _path: &str,
         text: &mut SeenText<()>,
-        _writer: Writer,
-        stop: Option<ViewEnd>,
-    ) -> Result<(Vec<u8>, u8), Memory> {
+        shown: &Shown,
+    ) -> Result<Answer, Memory> {
         read_anew(alloc, text, &self.new, self.level)?;
         let said = reload_lines(alloc, &self.old, text.view())?;
-        Ok((said, stop_status(stop)))
+        Ok((said, stop_status(shown.stop)))
     }
 }
 

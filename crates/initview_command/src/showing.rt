@@ -19,6 +19,16 @@ use std::alloc::{AllocError, Global};
 use std::io::Write;
 use trace_view::{Row, SeenText, Sees, TraceView, ViewEnd};
 
+/// The trace of a path that was shown, who writes it, and why it is shown no further.
+pub(crate) struct Shown<'a> {
+    pub(crate) path: &'a str,
+    pub(crate) writer: Writer,
+    pub(crate) stop: Option<ViewEnd>,
+}
+
+/// What is written, and the exit status.
+pub(crate) type Answer = (Vec<u8>, u8);
+
 /// What is asked of a trace.
 pub(crate) trait Asks {
     /// What sees the happenings for it.
@@ -37,15 +47,15 @@ pub(crate) trait Asks {
     fn answer(
         &self,
         alloc: Global,
-        path: &str,
         text: &mut SeenText<Self::Seen>,
-        writer: Writer,
-        stop: Option<ViewEnd>,
-    ) -> Result<(Vec<u8>, u8), Memory>
+        shown: &Shown,
+    ) -> Result<Answer, Memory>
         ensures { IfOk result (λ given. (past : List Event) → Viewed text.old.viewing.viewing past
             → Self.Seen.has_seen text.old.seen past
-            → (given.0.items ≡ (gives self.now path.now writer stop past).0)
-            × (given.1 ≡ (gives self.now path.now writer stop past).1)) };
+            → (given.0.items
+            ≡ (gives self.now shown.now.path.now shown.now.writer shown.now.stop past).0)
+            × (given.1
+            ≡ (gives self.now shown.now.path.now shown.now.writer shown.now.stop past).1)) };
 }
 
 /// The text of a trace that is read in pieces.
@@ -171,14 +181,12 @@ impl Asks for Question {
     fn answer(
         &self,
         alloc: Global,
-        _path: &str,
         text: &mut SeenText<()>,
-        writer: Writer,
-        stop: Option<ViewEnd>,
-    ) -> Result<(Vec<u8>, u8), Memory> {
-        show_present(text, writer, stop)?;
+        shown: &Shown,
+    ) -> Result<Answer, Memory> {
+        show_present(text, shown.writer, shown.stop)?;
         let said = lines(alloc, text.view(), self)?;
-        let status = status_of(text.view(), self, writer, stop);
+        let status = status_of(text.view(), self, shown.writer, shown.stop);
         Ok((said, status))
     }
 }
@@ -220,26 +228,23 @@ fn show_text<T: Texts, G: GrowingTexts, Q: Asks, W: Write, E: Write>(
     match texts.read_pieces(path, file) {
         Ok(()) => {
             let (stop, left) = file.text.end();
-            let writer = growing.writer(path);
-            tell_end(path, asked, writer, stop, left, err);
-            show_seen(alloc, path, asked, &mut file.text, writer, stop, out, err)
+            let shown = Shown {
+                path,
+                writer: growing.writer(path),
+                stop,
+            };
+            tell_end(asked, &shown, left, err);
+            show_seen(alloc, asked, &mut file.text, &shown, out, err)
         }
         Err(error) => report_unread(path, &error, err),
     }
 }
 
 /// Tells how a trace ends.
-fn tell_end<Q: Asks, E: Write>(
-    path: &str,
-    asked: &Q,
-    writer: Writer,
-    stop: Option<ViewEnd>,
-    left: Option<u64>,
-    err: &mut E,
-) {
-    tell_stop(path, stop, left, err);
+fn tell_end<Q: Asks, E: Write>(asked: &Q, shown: &Shown, left: Option<u64>, err: &mut E) {
+    tell_stop(shown.path, shown.stop, left, err);
     if asked.asks_writer() {
-        tell_writer(path, writer, stop, err);
+        tell_writer(shown.path, shown.writer, shown.stop, err);
     }
 }
 
@@ -256,23 +261,22 @@ fn is_within(stop: Option<ViewEnd>) -> bool
 /// Writes what is asked of a text, unless that begins within a run, and gives the exit status.
 fn show_seen<Q: Asks, W: Write, E: Write>(
     alloc: Global,
-    path: &str,
     asked: &Q,
     text: &mut SeenText<Q::Seen>,
-    writer: Writer,
-    stop: Option<ViewEnd>,
+    shown: &Shown,
     out: &mut W,
     err: &mut E,
 ) -> u8
     ensures { (past : List Event) → Viewed text.old.viewing.viewing past
         → Q.Seen.has_seen text.old.seen past
-        → ShowsOf stop (Q.gives asked.now path.now writer stop past) result
+        → ShowsOf shown.now.stop
+        (Q.gives asked.now shown.now.path.now shown.now.writer shown.now.stop past) result
         (W.contents out.old) (W.contents out.new) }
 {
-    if is_within(stop) {
+    if is_within(shown.stop) {
         return REFUSED;
     }
-    match asked.answer(alloc, path, text, writer, stop) {
+    match asked.answer(alloc, text, shown) {
         Ok((said, status)) => write_answer(&said, status, out, err),
         Err(_) => report_memory(err),
     }

@@ -24,7 +24,8 @@ pub(crate) trait NeedsFiles {
 
     /// What is written and the exit status, by the path of the trace, the files, who writes it, why it is shown no
     /// further, and its past.
-    ghost gives: { Self → List ℕ → List NamedText → Writer → Option ViewEnd → List Event → List ℕ × ℕ };
+    ghost gives: { Self → List ℕ → List NamedText → Writer → Option ViewEnd
+        → List Event → List ℕ × ℕ };
 
     /// Files that are refused: they are no inittab.
     ghost AreRefused: { List NamedText → Type 0 };

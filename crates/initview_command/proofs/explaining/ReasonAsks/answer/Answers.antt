@@ -7,9 +7,9 @@ use Rattle.initview_command.proofs.explaining.ReasonAsks.answer.Goals as goal
 
 pub returns : goal.returns
 returns c = λ past seen has.
-    let now = present c.args.writer c.args.stop past in
+    let now = present c.args.shown.now.writer c.args.shown.now.stop past in
     let line = c.fault_line-line.ensures past (subst (λ (v : ViewState). Viewed v past) (sym c.view.ensures) seen) (subst (λ (l : LinesState). Lined l past) (sym c.seen.ensures) has) in (
       c.in_ok-said.ensures now (subst (λ (v : ViewState). Viewed v now) (sym c.view-2.ensures) (c.in_ok-show_present.ensures past seen))
-          ∙ ap (λ l. explanation c.args.path.now c.args.self.now.id c.args.self.now.told.items l now) line,
+          ∙ ap (λ l. explanation c.args.shown.now.path.now c.args.self.now.id c.args.self.now.told.items l now) line,
       c.stop_status.ensures,
     )
