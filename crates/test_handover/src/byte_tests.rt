@@ -223,17 +223,13 @@ fn wanted(part: &Part, line: usize, column: usize, byte: u8) -> Option<StateFaul
 
 /// Whether the changed text is answered so, and where it is taken over, handed over again as it stands.
 fn is_right(own: Global, part: &Part, text: &[u8], want: Option<StateFault>) -> bool {
-    match taken(own, own, text, 1) {
-        Ok(mut core) => want.is_none() && is_handed_again(own, part, text, &mut core),
-        Err(why) => want == Some(why),
-    }
-}
-
-fn is_handed_again(own: Global, part: &Part, text: &[u8], core: &mut Core) -> bool {
     let front = text.len().saturating_sub(part.lines.len());
-    match str::from_utf8(text.get(front..).unwrap_or(b"")) {
-        Ok(lines) => handed(own, core, 2, lines, part.behind).is_some(),
-        Err(_) => false,
+    match taken(own, own, text, 1) {
+        Ok(mut core) => match str::from_utf8(text.get(front..).unwrap_or(b"")) {
+            Ok(lines) => want.is_none() && handed(own, &mut core, 2, lines, part.behind).is_some(),
+            Err(_) => false,
+        },
+        Err(why) => want == Some(why),
     }
 }
 
@@ -260,19 +256,6 @@ fn wrong_byte(
     None
 }
 
-/// The line, counted from 1, and the column, counted from 0, of the byte behind a front.
-fn place_behind(front: &[u8]) -> (usize, usize) {
-    let (mut line, mut column) = (1usize, 0usize);
-    for byte in front {
-        column = column.wrapping_add(1);
-        if *byte == b'\n' {
-            line = line.wrapping_add(1);
-            column = 0;
-        }
-    }
-    (line, column)
-}
-
 /// The first place of these lines at which the text is answered otherwise than the rows say, and the byte there, or
 /// none where the front before it isn't cut.
 fn wrong_in(
@@ -282,17 +265,21 @@ fn wrong_in(
     first: usize,
     last: usize,
 ) -> Option<(usize, Option<u8>)> {
-    for at in 0..text.len() {
-        let front = text.get(..at)?;
-        let (line, column) = place_behind(front);
+    let (mut line, mut column) = (1usize, 0usize);
+    for (at, byte) in text.iter().enumerate() {
         if first <= line && line <= last {
-            if !is_answered(own, front, 1, Some(Cut)) {
+            if !is_answered(own, text.get(..at)?, 1, Some(Cut)) {
                 return Some((at, None));
             }
-            let byte = wrong_byte(own, part, text, at, (line, column));
-            if byte.is_some() {
-                return Some((at, byte));
+            let wrong = wrong_byte(own, part, text, at, (line, column));
+            if wrong.is_some() {
+                return Some((at, wrong));
             }
+        }
+        column = column.wrapping_add(1);
+        if *byte == b'\n' {
+            line = line.wrapping_add(1);
+            column = 0;
         }
     }
     None

@@ -57,25 +57,6 @@ pub(crate) fn is_answered(
         && taken(own, own, text, generation).err() == want
 }
 
-/// Whether these are the lines, each record with this behind it.
-fn are_lines(got: &str, lines: &str, behind: &str) -> bool {
-    let mut news = got.split('\n');
-    for line in lines.split('\n') {
-        let end = if line.starts_with("slot ") {
-            behind
-        } else {
-            ""
-        };
-        let Some(new) = news.next() else {
-            return false;
-        };
-        if new.strip_prefix(line) != Some(end) {
-            return false;
-        }
-    }
-    news.next().is_none()
-}
-
 /// Whether a text is of a generation and has these lines, each record with this behind it.
 pub(crate) fn is_text(
     own: Global,
@@ -85,8 +66,21 @@ pub(crate) fn is_text(
     behind: &str,
 ) -> Option<bool> {
     let front = text_of(own, 2, generation, "").ok()?;
-    let rest = str::from_utf8(text).ok()?.strip_prefix(front.as_str())?;
-    Some(are_lines(rest, lines, behind))
+    let mut news = str::from_utf8(text)
+        .ok()?
+        .strip_prefix(front.as_str())?
+        .split('\n');
+    for line in lines.split('\n') {
+        let end = if line.starts_with("slot ") {
+            behind
+        } else {
+            ""
+        };
+        if news.next()?.strip_prefix(line)? != end {
+            return Some(false);
+        }
+    }
+    Some(news.next().is_none())
 }
 
 /// The text that the core hands over, where it is of this generation and has these lines, each record with this behind

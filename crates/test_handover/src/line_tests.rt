@@ -5,7 +5,7 @@ use crate::cores::is_answered;
 use crate::texts::{ENDED, OPENING, SETTLED, STARTED, STARTED_OLD, text_of};
 use core_text::StateFault::{self, Cut, Generation, Line, Unfit, Version};
 use core_text::generation_of;
-use std::alloc::{AllocError, Global};
+use std::alloc::Global;
 use std::fmt::Write;
 use std::test::Fail;
 
@@ -185,30 +185,18 @@ const CHANGES: &[(u64, &str, &str)] = &[
     (1, OPENING, OF_OPENING),
 ];
 
-fn add_line(text: &mut String, line: &str) -> Result<(), AllocError> {
-    text.push_str(line)?;
-    text.push('\n')
-}
-
 /// The text with these lines in place of its own, from a first to a last.
-fn replaced(
-    own: Global,
-    whole: &str,
-    places: (usize, usize),
-    lines: &str,
-) -> Result<String, AllocError> {
+fn replaced(own: Global, whole: &str, places: (usize, usize), lines: &str) -> Option<String> {
     let mut text = String::new(own);
     for (at, line) in whole.lines().enumerate() {
         if at + 1 == places.0 && !lines.is_empty() {
-            for line in lines.split('/') {
-                add_line(&mut text, line)?;
-            }
+            writeln!(text, "{}", lines.replace(own, "/", "\n").ok()?).ok()?;
         }
         if at + 1 < places.0 || places.1 < at + 1 {
-            add_line(&mut text, line)?;
+            writeln!(text, "{line}").ok()?;
         }
     }
-    Ok(text)
+    Some(text)
 }
 
 /// What is answered by the word for it, nothing where a text is taken over.
@@ -229,7 +217,7 @@ fn is_row(own: Global, whole: &str, row: &str) -> Option<bool> {
     let (first, last) = places.split_once('-').unwrap_or((places, places));
     let places = (first.parse::<usize>().ok()?, last.parse::<usize>().ok()?);
     for lines in items.split('|') {
-        let text = replaced(own, whole, places, lines).ok()?;
+        let text = replaced(own, whole, places, lines)?;
         if !is_answered(own, text.as_bytes(), 1, answer_of(word)) {
             return Some(false);
         }
@@ -278,17 +266,6 @@ const TEXTS: &[(&str, u64, Option<StateFault>, Option<u64>)] = &[
     ("generation 7\n", 7, Some(Cut), None),
 ];
 
-#[test]
-fn whole_texts(rt: HostRuntime) {
-    for (text, generation, want, named) in TEXTS {
-        let is_answered = is_answered(rt.alloc(), text.as_bytes(), *generation, *want);
-        assert!(rt;
-            is_answered && generation_of(text.as_bytes()) == *named,
-            "{text}"
-        );
-    }
-}
-
 /// A version and lines, the generation that is asked for of a text of generation 1, and what is answered.
 const ASKED: &[(u64, &str, u64, Option<StateFault>)] = &[
     (1, STARTED_OLD, 1, None),
@@ -322,7 +299,14 @@ const LARGEST: &[(u64, u64, Option<StateFault>)] = &[
 ];
 
 #[test]
-fn generations_and_tables(rt: HostRuntime) -> Result<(), Fail> {
+fn whole_texts(rt: HostRuntime) -> Result<(), Fail> {
+    for (text, generation, want, named) in TEXTS {
+        let is_answered = is_answered(rt.alloc(), text.as_bytes(), *generation, *want);
+        assert!(rt;
+            is_answered && generation_of(text.as_bytes()) == *named,
+            "{text}"
+        );
+    }
     for (version, lines, generation, want) in ASKED {
         let text = text_of(rt.alloc(), *version, 1, lines)?;
         assert!(rt;

@@ -51,14 +51,6 @@ fn hand_over_on(own: Global, heap: &LocalHeap, text: &[u8]) -> Option<Outcome> {
     }
 }
 
-fn take_over_on(own: Global, heap: &LocalHeap, text: &[u8]) -> Option<Outcome> {
-    match taken(own, heap, text, 1) {
-        Ok(_) => Some(Done),
-        Err(StateFault::Memory) => Some(Refused),
-        Err(_) => None,
-    }
-}
-
 fn rebuilt<'h>(
     own: Global,
     heap: &'h LocalHeap,
@@ -99,9 +91,13 @@ fn adopt_on(own: Global, heap: &LocalHeap, text: &[u8]) -> Option<Outcome> {
 fn outcome_on(own: Global, heap: &LocalHeap, what: &str, text: &[u8]) -> Option<Outcome> {
     match what {
         "hand over" => hand_over_on(own, heap, text),
-        "take over" => take_over_on(own, heap, text),
         "rebuild" => rebuild_on(own, heap, text),
-        _ => adopt_on(own, heap, text),
+        "adopt" => adopt_on(own, heap, text),
+        _ => match taken(own, heap, text, 1) {
+            Ok(_) => Some(Done),
+            Err(StateFault::Memory) => Some(Refused),
+            Err(_) => None,
+        },
     }
 }
 

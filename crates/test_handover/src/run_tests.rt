@@ -147,16 +147,6 @@ const RUNS: &[Run] = &[
     },
 ];
 
-fn order_of(text: &str) -> Option<Step> {
-    let (id, kind) = text.strip_prefix("ask ")?.split_once(' ')?;
-    let kind = if kind == "start" {
-        OrderKind::Start
-    } else {
-        OrderKind::Look
-    };
-    Some(Step::Order(Id::read(id.as_bytes())?, kind))
-}
-
 fn step_of(text: &str) -> Option<Step> {
     match text {
         "enter sysinit 5" => Some(Step::Enter(Stage::Sysinit, 5)),
@@ -166,7 +156,14 @@ fn step_of(text: &str) -> Option<Step> {
         "call A" => Some(Step::Call(Letter::A)),
         "reexec" => Some(Step::Reexec),
         "idle" => Some(Step::Idle),
-        _ => order_of(text),
+        _ => {
+            let (id, kind) = text.strip_prefix("ask ")?.split_once(' ')?;
+            let kind = match kind {
+                "start" => OrderKind::Start,
+                _ => OrderKind::Look,
+            };
+            Some(Step::Order(Id::read(id.as_bytes())?, kind))
+        }
     }
 }
 
@@ -211,20 +208,16 @@ pub(crate) fn does(core: &mut Core, text: &str) -> bool {
     true
 }
 
-fn begun(own: Global, run: &Run) -> Option<Box<Core>> {
-    match run.version {
-        None => opened(own, run.from, run.level),
-        Some(version) => {
-            let text = text_of(own, version, 1, run.from).ok()?;
-            taken(own, own, text.as_bytes(), 1).ok()
-        }
-    }
-}
-
 /// The run is as it says. Its generation is the first behind an inittab, and else the second.
 fn is_made(own: Global, run: &Run) -> Option<bool> {
     let generation = if run.version.is_none() { 1 } else { 2 };
-    let mut core = begun(own, run)?;
+    let mut core = match run.version {
+        None => opened(own, run.from, run.level)?,
+        Some(version) => {
+            let text = text_of(own, version, 1, run.from).ok()?;
+            taken(own, own, text.as_bytes(), 1).ok()?
+        }
+    };
     if !does(&mut core, run.before) {
         return None;
     }
@@ -237,6 +230,14 @@ fn is_made(own: Global, run: &Run) -> Option<bool> {
     )
 }
 
+/// Whether the core of the last generation that there is hands nothing over, and stays as it is.
+fn is_worn(own: Global) -> Option<bool> {
+    let text = text_of(own, 2, u64::MAX, SETTLED).ok()?;
+    let mut core = taken(own, own, text.as_bytes(), u64::MAX).ok()?;
+    let is_refused = hand_over(own, &mut core) == Err(StateFault::Worn);
+    Some(is_refused && core.generation() == u64::MAX)
+}
+
 #[test]
 fn states_are_handed_on(rt: HostRuntime) {
     for run in RUNS {
@@ -247,17 +248,5 @@ fn states_are_handed_on(rt: HostRuntime) {
             run.after
         );
     }
-}
-
-/// Whether the core of the last generation that there is hands nothing over, and stays as it is.
-fn is_worn(own: Global) -> Option<bool> {
-    let text = text_of(own, 2, u64::MAX, SETTLED).ok()?;
-    let mut core = taken(own, own, text.as_bytes(), u64::MAX).ok()?;
-    let is_refused = hand_over(own, &mut core) == Err(StateFault::Worn);
-    Some(is_refused && core.generation() == u64::MAX)
-}
-
-#[test]
-fn the_last_generation_is_not_handed_on(rt: HostRuntime) {
     assert!(rt; is_worn(rt.alloc()) == Some(true));
 }

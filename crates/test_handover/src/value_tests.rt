@@ -5,11 +5,9 @@ use crate::run_tests::{STARTED_TABLE, STARTS, does};
 use crate::texts::{STARTED_OLD, text_of};
 use core_model::{CoreFields, News, Parts, PlainRecord};
 use core_records::Stop;
-use core_steps::Core;
 use core_text::{StateFault, write_state};
-use init_words::{Act, ChildNumber, Level, Memory, OrderKind, Stage, Status};
+use init_words::{Act, ChildNumber, Level, OrderKind, Stage, Status};
 use std::alloc::Global;
-use std::test::Fail;
 use trace_events::Goal;
 
 /// A record, its flags in the order asked, called, look, missed.
@@ -204,34 +202,48 @@ fn is_said(own: Global, said: &Said) -> Result<bool, StateFault> {
     Ok(are_parts(&parts, heads, kept) && written.as_slice() == table.as_bytes())
 }
 
+/// An inittab, what a core over it does, whether it is at these heads then, and the lines that are written of it with them,
+/// with this behind each record.
+type Written = (
+    &'static str,
+    &'static str,
+    bool,
+    CoreFields,
+    &'static str,
+    &'static str,
+);
+
+const WRITTEN: &[Written] = &[
+    (
+        STARTED_TABLE,
+        STARTS,
+        true,
+        STARTED_HEADS,
+        STARTED_OLD,
+        " -",
+    ),
+    ("", "", false, BUSY_HEADS, BUSY_ALONE, ""),
+];
+
+fn is_written(own: Global, written: &Written) -> Option<bool> {
+    let (inittab, steps, is_there, heads, lines, behind) = written;
+    let mut core = opened(own, inittab, None)?;
+    let is_done = does(&mut core, steps);
+    let is_at = (core.time(), core.stage(), core.goal()) == (heads.time, heads.stage, heads.goal);
+    let text = write_state(own, heads, core.table(), core.slots().as_slice()).ok()?;
+    Some(is_done && is_at == *is_there && is_text(own, &text, heads.generation, lines, behind)?)
+}
+
 #[test]
-fn each_word_is_read(rt: HostRuntime) {
+fn values_are_read_and_written(rt: HostRuntime) {
     for said in SAID {
         assert!(rt; is_said(rt.alloc(), said) == Ok(true), "{}", said.1);
     }
-}
-
-fn text_with(own: Global, heads: &CoreFields, core: &Core) -> Result<Vec<u8>, Memory> {
-    write_state(own, heads, core.table(), core.slots().as_slice())
-}
-
-#[test]
-fn a_core_is_written(rt: HostRuntime) -> Result<(), Fail> {
-    let mut core = opened(rt.alloc(), STARTED_TABLE, None).ok_or("no core")?;
-    assert!(rt; does(&mut core, STARTS));
-    assert!(rt;
-        (core.time(), core.stage(), core.goal()) == (0, STARTED_HEADS.stage, STARTED_HEADS.goal)
-    );
-    let text = text_with(rt.alloc(), &STARTED_HEADS, &core)?;
-    assert!(rt; is_text(rt.alloc(), &text, 1, STARTED_OLD, " -") == Some(true));
-    Ok(())
-}
-
-#[test]
-fn each_head_is_written(rt: HostRuntime) -> Result<(), Fail> {
-    let core = opened(rt.alloc(), "", None).ok_or("no core")?;
-    let text = text_with(rt.alloc(), &BUSY_HEADS, &core)?;
-    let want = text_of(rt.alloc(), 2, u64::MAX, BUSY_ALONE)?;
-    assert!(rt; text.as_slice() == want.as_bytes());
-    Ok(())
+    for written in WRITTEN {
+        assert!(rt;
+            is_written(rt.alloc(), written) == Some(true),
+            "{}",
+            written.4
+        );
+    }
 }

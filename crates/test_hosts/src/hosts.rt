@@ -1,83 +1,197 @@
-//! Hosts over the operating system, each on the heap of the tests, whatever its own memory is.
+//! Hosts over the operating system, on the heap of the tests, whatever their own memory is, and what they are asked for
+//! as text.
+//!
+//! A step is a call and, behind ` = `, what it answers, where that is not what it is to do; a call that reads `fails` or
+//! `lacks` memory, and counts a fault just then. All orders are about one id.
 
+use host_calls::{Host, HostFault, Reply};
 use host_system::OsHost;
-use init_words::{Id, Memory};
-use std::alloc::{Allocator, Global};
-use std::test::Fail;
+use init_words::{Answer, Id, Memory, Part, SignalKind, Stage};
+use std::alloc::Allocator;
+use std::fs;
 use test_support::boxed;
-
-pub(crate) fn id_of(text: &[u8]) -> Result<Id, Fail> {
-    Ok(Id::read(text).ok_or("no id")?)
-}
+use trace_events::Happening;
 
 /// The paths of an inittab, a channel of requests and a text of init's state, and the folder of the inittab.
-pub(crate) struct Paths {
-    pub(crate) inittab: &'static str,
-    pub(crate) channel: &'static str,
-    pub(crate) state: &'static str,
-    pub(crate) folder: Option<&'static str>,
-}
+pub(crate) type Paths = (
+    &'static str,
+    &'static str,
+    &'static str,
+    Option<&'static str>,
+);
 
 /// A host over the system that the tests run on.
-pub(crate) type SystemHost<A = Global> = OsHost<HostRuntime, A>;
+pub(crate) type SystemHost<A> = OsHost<HostRuntime, A>;
 
-fn plain<A: Allocator + Copy>(
-    rt: &HostRuntime,
-    alloc: A,
-    paths: &Paths,
-) -> Result<SystemHost<A>, Memory> {
-    OsHost::new(
-        *rt,
-        alloc,
-        "initd",
-        paths.inittab,
-        paths.channel,
-        paths.state,
-        paths.folder,
-    )
-}
-
-/// A host of these paths.
+/// A host of these paths: that passes over what stands in its channel, tells of its children, has logs, or pauses of this
+/// length; none of these where nothing is said.
 pub(crate) fn host_of<A: Allocator + Copy>(
     rt: &HostRuntime,
     alloc: A,
-    paths: &Paths,
+    paths: Paths,
+    kind: &str,
 ) -> Result<Box<SystemHost<A>>, Memory> {
-    Ok(boxed(rt.alloc(), plain(rt, alloc, paths)?)?)
+    let (inittab, channel, state, folder) = paths;
+    let host = OsHost::new(*rt, alloc, "initd", inittab, channel, state, folder)?;
+    let host = match kind {
+        "" => host,
+        "fresh" => host.fresh(),
+        "verbose" => host.verbose(),
+        "logs" => host.with_logs("a folder of a long enough name")?,
+        length => host.with_pause(length, true)?,
+    };
+    Ok(boxed(rt.alloc(), host)?)
 }
 
-/// The same with pauses of this length.
-pub(crate) fn pausing(
-    rt: &HostRuntime,
-    paths: &Paths,
-    length: &str,
-) -> Result<Box<SystemHost>, Memory> {
-    Ok(boxed(
-        rt.alloc(),
-        plain(rt, rt.alloc(), paths)?.with_pause(length, true)?,
-    )?)
+fn word_of(reply: Reply) -> &'static str {
+    match reply {
+        Reply::Now(Answer::Born(_)) => "birth",
+        Reply::Now(Answer::NotBorn) => "nobirth",
+        Reply::Now(Answer::Ended(_)) => "end",
+        Reply::Now(Answer::Alive) => "still",
+        Reply::Now(Answer::NoLook) => "nolook",
+        Reply::Now(Answer::Hit) => "hit",
+        Reply::Now(Answer::Miss) => "miss",
+        Reply::Later => "later",
+    }
 }
 
-/// One that passes over what stands in its channel.
-pub(crate) fn fresh(rt: &HostRuntime, paths: &Paths) -> Result<Box<SystemHost>, Memory> {
-    Ok(boxed(rt.alloc(), plain(rt, rt.alloc(), paths)?.fresh())?)
+fn right(is_right: bool) -> &'static str {
+    if is_right { "yes" } else { "no" }
 }
 
-/// One that tells of its children.
-pub(crate) fn verbose<A: Allocator + Copy>(
+/// A text of an inittab, and of init's state.
+pub(crate) const TEXT: &str = "id:3:initdefault:\nr:3:respawn:/bin/serv with its words\n";
+
+/// The files have these names, and the first the text that it has.
+fn are_files<A: Allocator>(rt: &HostRuntime, parts: &[Part<A>], names: &str) -> bool {
+    let mut names = names.split(' ');
+    for part in parts {
+        if names.next() != Some(part.name.as_str()) {
+            return false;
+        }
+    }
+    match (names.next(), parts) {
+        (None, [own, ..]) => match fs::read_to_string(rt, own.name.as_str()) {
+            Ok(text) => own.bytes.as_slice() == text.as_bytes(),
+            Err(_) => false,
+        },
+        _ => false,
+    }
+}
+
+/// Whether a call that reads gives what it is to give.
+fn is_read<A: Allocator + Copy, B: Allocator + Copy>(
     rt: &HostRuntime,
     alloc: A,
-    paths: &Paths,
-) -> Result<Box<SystemHost<A>>, Memory> {
-    Ok(boxed(rt.alloc(), plain(rt, alloc, paths)?.verbose())?)
+    host: &mut SystemHost<B>,
+    word: &str,
+    what: &str,
+) -> Result<bool, HostFault> {
+    Ok(match word {
+        "tables" => are_files(rt, &host.read_tables(alloc)?, what),
+        "carry" => host.carry(alloc, TEXT.as_bytes())?.as_slice() == TEXT.as_bytes(),
+        "clock" => host.clock().map(|_| true)?,
+        _ => what.parse::<usize>().ok() == Some(host.take_bytes(&mut [0; 1000])?),
+    })
 }
 
-/// One with logs in a folder.
-pub(crate) fn logging<A: Allocator + Copy>(
+fn reads<A: Allocator + Copy, B: Allocator + Copy>(
     rt: &HostRuntime,
     alloc: A,
-    paths: &Paths,
-    folder: &str,
-) -> Result<Box<SystemHost<A>>, Memory> {
-    Ok(boxed(rt.alloc(), plain(rt, alloc, paths)?.with_logs(folder)?)?)
+    host: &mut SystemHost<B>,
+    word: &str,
+    what: &str,
+) -> &'static str {
+    let before = host.faults();
+    let given = is_read(rt, alloc, host, word, what);
+    match (given, host.faults() > before) {
+        (Ok(is_read), false) => right(is_read),
+        (Err(HostFault::Device), true) => "fails",
+        (Err(HostFault::Memory), true) => "lacks",
+        _ => "no",
+    }
+}
+
+const ZEROS: &[u8] = &[0; 800];
+
+/// An inittab of more than one read's bytes.
+const LONG: &[u8] = &[b'#'; 20_000];
+
+/// Does this to a file.
+fn change(rt: &HostRuntime, word: &str, what: &str) -> Option<()> {
+    match word {
+        "zeros" => fs::write(rt, "k.ctl", ZEROS.get(..what.parse::<usize>().ok()?)?).ok(),
+        "long" => fs::write(rt, what, LONG).ok(),
+        "folder" => fs::create_dir(rt, what).ok(),
+        "no-folder" => fs::remove_dir(rt, what).ok(),
+        _ => fs::remove_file(rt, what).ok(),
+    }
+}
+
+/// The child of the id has ended within a while.
+fn is_ended<B: Allocator + Copy>(host: &mut SystemHost<B>, id: Id) -> bool {
+    for _ in 0..10_000usize {
+        if host.look(id) != Reply::Now(Answer::Alive) {
+            return true;
+        }
+        host.pause();
+    }
+    false
+}
+
+/// Announces a stage, and what is not announced.
+fn announce<B: Allocator + Copy>(host: &mut SystemHost<B>) -> &'static str {
+    let boot: Happening = Happening::Enter(Stage::Boot, 5);
+    let unsaid: Happening = Happening::Nudge;
+    host.announce(&boot);
+    host.announce(&unsaid);
+    "yes"
+}
+
+/// What a call answers, which takes memory of this allocator.
+pub(crate) fn said<A: Allocator + Copy, B: Allocator + Copy>(
+    rt: &HostRuntime,
+    alloc: A,
+    host: &mut SystemHost<B>,
+    call: &str,
+) -> &'static str {
+    let Some(id) = Id::read(b"m") else {
+        return "no id";
+    };
+    let (word, what) = call.split_once(' ').unwrap_or((call, ""));
+    match word {
+        "start" => word_of(host.start(alloc, id, what.as_bytes())),
+        "unread" => word_of(host.start(alloc, id, b"echo \xff")),
+        "look" => word_of(host.look(id)),
+        "term" => word_of(host.signal(id, SignalKind::Term)),
+        "kill" => word_of(host.signal(id, SignalKind::Kill)),
+        "there" => right(host.look(id) != Reply::Now(Answer::NoLook)),
+        "ended" => right(is_ended(host, id)),
+        "late" => right(host.late().is_none()),
+        "announce" => announce(host),
+        "faults" => right(what.parse::<u64>().ok() == Some(host.faults())),
+        "pause" => {
+            host.pause();
+            "yes"
+        }
+        "tables" | "carry" | "clock" | "take" => reads(rt, alloc, host, word, what),
+        _ => right(change(rt, word, what).is_some()),
+    }
+}
+
+/// The steps go as they say.
+pub(crate) fn all_go<A: Allocator + Copy, B: Allocator + Copy>(
+    rt: &HostRuntime,
+    alloc: A,
+    host: &mut SystemHost<B>,
+    steps: &str,
+) -> bool {
+    for step in steps.split(" / ") {
+        let (call, want) = step.split_once(" = ").unwrap_or((step, "yes"));
+        if !step.is_empty() && said(rt, alloc, host, call) != want {
+            return false;
+        }
+    }
+    true
 }

@@ -3,18 +3,8 @@
 #![tactic(auto)]
 
 #[cfg(test)]
-mod answer_tests;
-#[cfg(test)]
-mod growth_tests;
-#[cfg(test)]
 mod hosts;
 #[cfg(test)]
+mod life_tests;
+#[cfg(test)]
 mod room_tests;
-#[cfg(test)]
-mod scripted;
-#[cfg(test)]
-mod scripted_room_tests;
-#[cfg(test)]
-mod scripted_tests;
-#[cfg(test)]
-mod told_tests;

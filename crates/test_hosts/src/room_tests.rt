@@ -1,180 +1,134 @@
-//! Hosts on heaps of more and more room, until they are made and do what they are asked for.
+//! Hosts on heaps of more and more room, until they are made and do what they are asked for; and a host that reads texts
+//! into such heaps: where there is no room that is answered, and counted, and the files are as they were.
 
-use crate::hosts::{Paths, SystemHost, host_of, id_of, logging};
-use host_calls::{Host, Reply};
-use init_words::{Answer, Id, SignalKind, Stage};
+use crate::hosts::{Paths, SystemHost, TEXT, all_go, host_of, said};
 use linked_list_allocator::LocalHeap;
+use std::alloc::{Allocator, Global};
+use std::fs;
 use std::process::Abort;
 use std::test::Fail;
-use trace_events::Happening;
 
-const PATHS: &Paths = &Paths {
-    inittab: "r.tab",
-    channel: "r.ctl",
-    state: "r.state",
-    folder: None,
-};
+/// What a host is, or one in ample memory that reads into a heap; its steps, of which the last is what it is asked for, and
+/// without the others there is nothing to ask for; what is answered, and goes on, where that is done, and where it is
+/// refused; and how many heaps at least there are before it is done.
+type Asked = (
+    &'static str,
+    &'static str,
+    &'static str,
+    &'static str,
+    usize,
+);
+
+const ASKED: &[Asked] = &[
+    (
+        "",
+        "start true",
+        "birth / faults 0 / there",
+        "nobirth / faults 1 / look = nolook",
+        8,
+    ),
+    // Where there is room for a host and not for its logs, one with logs is refused.
+    ("logs", "faults 0", "yes", "", 2),
+    // Where TERM is refused the child lives on.
+    (
+        "",
+        "start sleep 1000 = birth / term",
+        "hit / faults 0",
+        "miss / faults 1 / look = still / kill = hit / ended",
+        8,
+    ),
+    ("", "announce / faults 0", "yes", "no / faults 1", 2),
+    ("ample", "tables g.tab 10-a.tab 20-b.tab", "yes", "lacks", 1),
+    ("ample", "carry", "yes", "lacks", 1),
+];
 
 /// What came of a host on a heap.
-#[derive(Clone, Copy, PartialEq, Eq)]
+#[derive(Clone, Copy)]
 enum Made {
     Nothing,
+    /// The host, which refuses what it is asked for.
     Host,
-    /// The host, and what it was asked for.
     All,
-    /// A child whose start is refused, or another number of faults.
-    Wrong,
 }
 
-/// Starts a child: where that is refused there is none, and it is a fault.
-fn bear(host: &mut SystemHost<&LocalHeap>, heap: &LocalHeap, id: Id) -> Made {
-    let reply = host.start(heap, id, b"true");
-    let is_born = matches!(reply, Reply::Now(Answer::Born(_)));
-    let is_sound = host.faults() == u64::from(!is_born);
-    let is_there = host.look(id) != Reply::Now(Answer::NoLook);
-    match (is_born, is_sound && is_there == is_born) {
-        (true, true) => Made::All,
-        (false, true) => Made::Host,
-        _ => Made::Wrong,
+fn made_of<A: Allocator + Copy>(
+    rt: &HostRuntime,
+    heap: &LocalHeap,
+    host: &mut SystemHost<A>,
+    asked: &Asked,
+) -> Option<Made> {
+    let (_, steps, done, refused, _) = *asked;
+    let (before, call) = steps.rsplit_once(" / ").unwrap_or(("", steps));
+    if !all_go(rt, heap, host, before) {
+        return Some(Made::Nothing);
+    }
+    let answer = said(rt, heap, host, call);
+    match done.strip_prefix(answer) {
+        Some(rest) => all_go(rt, heap, host, rest).then_some(Made::All),
+        None => all_go(rt, heap, host, refused.strip_prefix(answer)?).then_some(Made::Host),
     }
 }
 
-fn with_child(rt: &HostRuntime, heap: &LocalHeap, id: Id) -> Made {
-    match host_of(rt, heap, PATHS) {
-        Ok(mut host) => bear(&mut host, heap, id),
-        Err(_) => Made::Nothing,
+const PATHS: Paths = ("r.tab", "r.ctl", "r.state", None);
+
+fn made_in(
+    rt: &HostRuntime,
+    ample: &mut SystemHost<Global>,
+    room: usize,
+    asked: &Asked,
+) -> Option<Made> {
+    let heap = LocalHeap::new(rt.alloc(), room).ok()?;
+    if asked.0 == "ample" {
+        return made_of(rt, &heap, ample, asked);
+    }
+    match host_of(rt, &heap, PATHS, asked.0) {
+        Ok(mut host) => made_of(rt, &heap, &mut host, asked),
+        Err(_) if host_of(rt, &heap, PATHS, "").is_ok() => Some(Made::Host),
+        Err(_) => Some(Made::Nothing),
     }
 }
 
-/// Where there is room for a host and not for its logs, one with logs is refused.
-fn with_logs(rt: &HostRuntime, heap: &LocalHeap) -> Made {
-    if logging(rt, heap, PATHS, "a folder of a long enough name").is_ok() {
-        return Made::All;
-    }
-    match host_of(rt, heap, PATHS) {
-        Ok(_) => Made::Host,
-        Err(_) => Made::Nothing,
-    }
-}
-
-/// The child of the id is ended.
-fn is_killed(host: &mut SystemHost<&LocalHeap>, id: Id) -> bool {
-    if host.signal(id, SignalKind::Kill) != Reply::Now(Answer::Hit) {
-        return false;
-    }
-    for _ in 0..10_000usize {
-        if host.look(id) != Reply::Now(Answer::Alive) {
-            return true;
-        }
-        host.pause();
-    }
-    false
-}
-
-/// Sends the id's child TERM: where that is refused it is a fault, and the child lives on.
-fn term(host: &mut SystemHost<&LocalHeap>, id: Id) -> Made {
-    let faults = host.faults();
-    match host.signal(id, SignalKind::Term) {
-        Reply::Now(Answer::Hit) if host.faults() == faults => Made::All,
-        Reply::Now(Answer::Miss)
-            if host.faults() == faults.wrapping_add(1)
-                && host.look(id) == Reply::Now(Answer::Alive) => { Made::Host }
-        _ => Made::Wrong,
-    }
-}
-
-fn with_term(rt: &HostRuntime, heap: &LocalHeap, id: Id) -> Made {
-    let Ok(mut host) = host_of(rt, heap, PATHS) else {
-        return Made::Nothing;
-    };
-    let Reply::Now(Answer::Born(_)) = host.start(heap, id, b"sleep 1000") else {
-        return Made::Nothing;
-    };
-    let made = term(&mut host, id);
-    if made == Made::All || is_killed(&mut host, id) {
-        made
-    } else {
-        Made::Wrong
-    }
-}
-
-/// Announces a stage: where that is refused, it is a fault.
-fn with_announcement(rt: &HostRuntime, heap: &LocalHeap) -> Made {
-    let Ok(mut host) = host_of(rt, heap, PATHS) else {
-        return Made::Nothing;
-    };
-    let boot: Happening = Happening::Enter(Stage::Boot, 5);
-    host.announce(&boot);
-    match host.faults() {
-        0 => Made::All,
-        1 => Made::Host,
-        _ => Made::Wrong,
-    }
-}
-
-/// What a host is asked for.
-#[derive(Clone, Copy)]
-enum Asked {
-    Child,
-    Logs,
-    Term,
-    Announcement,
-}
-
-/// What comes of a host on a heap, and of its child of this id, or its logs, or what it announces.
-fn made_on(rt: &HostRuntime, heap: &LocalHeap, id: Id, asked: Asked) -> Made {
-    match asked {
-        Asked::Child => with_child(rt, heap, id),
-        Asked::Logs => with_logs(rt, heap),
-        Asked::Term => with_term(rt, heap, id),
-        Asked::Announcement => with_announcement(rt, heap),
-    }
-}
-
-fn made_in(rt: &HostRuntime, room: usize, id: Id, asked: Asked) -> Made {
-    match LocalHeap::new(rt.alloc(), room) {
-        Ok(heap) => made_on(rt, &heap, id, asked),
-        Err(_) => Made::Wrong,
-    }
-}
-
-/// In steps of 16 bytes first no host is made, then one that refuses what it is asked for, and at last, past so many
-/// steps, one that does it.
-fn comes_of_room(rt: &HostRuntime, id: Id, asked: Asked, least: usize) -> bool {
+/// In steps of 16 bytes, less than the least growth takes, first no host is made, then one that refuses what it is asked
+/// for, and at last, past so many steps, one that does it.
+fn comes_of_room(rt: &HostRuntime, ample: &mut SystemHost<Global>, asked: &Asked) -> Option<bool> {
     let mut is_host = false;
-    for step in 0..1024usize {
-        match made_in(rt, 16 * step, id, asked) {
+    for step in 0..8192usize {
+        match made_in(rt, ample, 16 * step, asked)? {
             Made::Nothing => {
                 if is_host {
-                    return false;
+                    return None;
                 }
             }
             Made::Host => {
-                if step < 2 {
-                    return false;
+                if step < 2 && asked.0 != "ample" {
+                    return None;
                 }
                 is_host = true;
             }
-            Made::All => return is_host && step > least,
-            Made::Wrong => return false,
+            Made::All => return Some(is_host && step > asked.4),
         }
     }
-    false
+    None
 }
-
-/// What hosts are asked for, and how many steps at least refuse it.
-const ROWS: &[(Asked, usize, &str)] = &[
-    (Asked::Child, 8, "a child"),
-    (Asked::Logs, 2, "logs"),
-    (Asked::Term, 8, "TERM"),
-    (Asked::Announcement, 2, "an announcement"),
-];
 
 #[test]
 fn a_host_and_what_it_does_need_room(rt: HostRuntime) -> Result<(), Fail> {
-    let id = id_of(b"m")?;
-    for (asked, least, name) in ROWS {
-        assert!(rt; comes_of_room(&rt, id, *asked, *least), "{name}");
+    fs::write(&rt, "g.tab", TEXT)?;
+    fs::create_dir(&rt, "g.d")?;
+    fs::write(&rt, "g.d/10-a.tab", "a:3:once:x\n")?;
+    fs::write(&rt, "g.d/20-b.tab", "")?;
+    let mut ample = host_of(
+        &rt,
+        rt.alloc(),
+        ("g.tab", "g.ctl", "g.state", Some("g.d")),
+        "",
+    )?;
+    for asked in ASKED {
+        assert!(rt;
+            comes_of_room(&rt, &mut ample, asked) == Some(true),
+            "{}",
+            asked.1
+        );
     }
     Ok(())
 }

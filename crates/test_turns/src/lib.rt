@@ -1,4 +1,5 @@
-//! Tests of init's turns over a scripted host: worked runs, requests in pieces, late answers, and each call that fails.
+//! Tests of a scripted host, and of init's turns over it: worked runs, requests in pieces, late answers, and each call that
+//! fails.
 #![tactic(auto)]
 
 #[cfg(test)]
@@ -13,3 +14,5 @@ mod room_tests;
 mod run_tests;
 #[cfg(test)]
 mod runs;
+#[cfg(test)]
+mod scripted_tests;

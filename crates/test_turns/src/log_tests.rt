@@ -9,7 +9,7 @@ use linked_list_allocator::LocalHeap;
 use std::alloc::{Allocator, Global};
 use test_support::Slow;
 use trace_log::{ListLog, Log, StreamLog};
-use trace_log_wrappers::{NotedLog, RunNotes};
+use trace_log_wrappers::NotedLog;
 
 const INITTAB: &str = "id:3:initdefault:|r:3:respawn:serv";
 
@@ -67,18 +67,6 @@ fn listed(own: Global, heap: &LocalHeap) -> Option<usize> {
     taken(text.as_slice(), served)
 }
 
-/// Whether notes are complete; None where they say anything false.
-fn are_complete(notes: &RunNotes<&LocalHeap>) -> Option<bool> {
-    if notes.last() != Some(Status::Killed) {
-        return None;
-    }
-    match notes.running() {
-        None => Some(false),
-        Some(running) if running.len() == 0 => Some(true),
-        Some(_) => None,
-    }
-}
-
 /// Whether notes on a heap in front of a log are complete; None where they say anything false, or the log behind them has
 /// not the whole trace.
 fn noted(own: Global, heap: &LocalHeap) -> Option<bool> {
@@ -90,7 +78,11 @@ fn noted(own: Global, heap: &LocalHeap) -> Option<bool> {
     if taken(text.as_slice(), served) != Some(TRACE.len()) {
         return None;
     }
-    are_complete(&notes)
+    match (notes.last(), notes.running()) {
+        (Some(Status::Killed), None) => Some(false),
+        (Some(Status::Killed), Some(running)) if running.len() == 0 => Some(true),
+        _ => None,
+    }
 }
 
 /// Whether a log has room on a heap: a list of happenings, notes in front of one, or one that writes. None where something

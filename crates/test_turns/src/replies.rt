@@ -3,9 +3,10 @@
 //!
 //! `start`, `look` and `signal` have a reply: an answer, or `later`. `late` has the id before the answer, or nothing
 //! for the end of a round; `lates` has a number of answers that nobody asked for. `clock` has a reading, `table` the
-//! files of an inittab parted by ` + `, the lines of each parted by `|`, or `none`, or `long` for one file that is a
-//! byte too long, or `many` for 257 files. `carry` has the lines of what comes back of a state text, and `bytes` the
-//! requests of a piece. A reading, a piece, a table and what comes back can be `fails`.
+//! files of an inittab parted by ` + `, the lines of each parted by `|` and its name before an `@`, or `none`, or `long`
+//! for one file that is a byte too long, or `many` for 257 files. `carry` has the lines of what comes back of a state
+//! text, and `bytes` the requests of a piece. A text behind a `=` stands as it is. A reading, a piece, a table and what
+//! comes back can be `fails`, or `lacks` where there is no memory.
 
 use crate::runs::lines_of;
 use host_calls::{Bytes, HostFault, PartList, Reply};
@@ -14,45 +15,28 @@ use init_words::{Answer, ChildNumber, Id, Memory, Part, Status};
 use initctl_frame::{BLOCK, Request, Sign, encode};
 use std::alloc::{Allocator, Global};
 
-fn numbered_of(text: &str) -> Option<Answer> {
-    match text.split_once(' ')? {
-        ("birth", number) => Some(Answer::Born(ChildNumber(number.parse::<u32>().ok()?))),
-        (_, code) => Some(Answer::Ended(Status::Exit(code.parse::<u8>().ok()?))),
-    }
-}
-
 fn answer_of(text: &str) -> Option<Answer> {
-    match text {
-        "nobirth" => Some(Answer::NotBorn),
-        "killed" => Some(Answer::Ended(Status::Killed)),
-        "still" => Some(Answer::Alive),
-        "nolook" => Some(Answer::NoLook),
-        "hit" => Some(Answer::Hit),
-        "miss" => Some(Answer::Miss),
-        _ => numbered_of(text),
+    match text.split_once(' ').unwrap_or((text, "")) {
+        ("birth", number) => Some(Answer::Born(ChildNumber(number.parse::<u32>().ok()?))),
+        ("exit", code) => Some(Answer::Ended(Status::Exit(code.parse::<u8>().ok()?))),
+        ("nobirth", "") => Some(Answer::NotBorn),
+        ("killed", "") => Some(Answer::Ended(Status::Killed)),
+        ("still", "") => Some(Answer::Alive),
+        ("nolook", "") => Some(Answer::NoLook),
+        ("hit", "") => Some(Answer::Hit),
+        ("miss", "") => Some(Answer::Miss),
+        _ => None,
     }
 }
 
-fn reply_of(text: &str) -> Option<Reply> {
+pub(crate) fn reply_of(text: &str) -> Option<Reply> {
     if text == "later" {
         return Some(Reply::Later);
     }
     Some(Reply::Now(answer_of(text)?))
 }
 
-fn give_reply<A: Allocator + Copy>(
-    host: &mut MemoryHost<A>,
-    queue: &str,
-    reply: Reply,
-) -> Result<(), Memory> {
-    match queue {
-        "start" => host.give_start(reply),
-        "look" => host.give_look(reply),
-        _ => host.give_signal(reply),
-    }
-}
-
-fn late_of(text: &str) -> Option<Option<(Id, Answer)>> {
+pub(crate) fn late_of(text: &str) -> Option<Option<(Id, Answer)>> {
     if text.is_empty() {
         return Some(None);
     }
@@ -60,100 +44,108 @@ fn late_of(text: &str) -> Option<Option<(Id, Answer)>> {
     Some(Some((Id::read(id.as_bytes())?, answer_of(answer)?)))
 }
 
-fn give_lates<A: Allocator + Copy>(
-    host: &mut MemoryHost<A>,
-    id: Id,
-    number: u32,
-) -> Result<(), Memory> {
-    for _ in 0..number {
-        host.give_late(Some((id, Answer::Alive)))?;
+/// What an item that can be a fault gives, where it is none what was made of it.
+pub(crate) fn given<T: Drop>(item: &str, made: Option<T>) -> Option<Result<T, HostFault>> {
+    match item {
+        "fails" => Some(Err(HostFault::Device)),
+        "lacks" => Some(Err(HostFault::Memory)),
+        _ => Some(Ok(made?)),
     }
-    Ok(())
 }
 
-/// Adds the block of a request by a character of telinit(8), or a block of zeros. A `-` behind the character leaves of it
-/// its first 200 bytes, and one before it the others.
-fn add_block(bytes: &mut Vec<u8>, word: &str) -> Option<()> {
-    let (code, from, to) = match word.as_bytes() {
-        [code] => (*code, 0, BLOCK),
-        [code, b'-'] => (*code, 0, 200),
-        [b'-', code] => (*code, 200, BLOCK),
-        _ => return bytes.extend_from_slice(&[0; BLOCK]).ok(),
-    };
-    let block = encode(&Request::Runlvl(Sign::read(code)?, 5));
-    bytes.extend_from_slice(block.get(from..to)?).ok()
-}
-
-/// The bytes of requests.
+/// The bytes of requests, by their characters of telinit(8), or of zeros. A `-` behind a character leaves of its block the
+/// first 200 bytes, and one before it the others.
 pub(crate) fn blocks_of(alloc: Global, words: &str) -> Option<Vec<u8>> {
     let mut bytes = Vec::new(alloc);
     for word in words.split_ascii_whitespace() {
-        add_block(&mut bytes, word)?;
+        let (code, from, to) = match word.as_bytes() {
+            [code] => (*code, 0, BLOCK),
+            [code, b'-'] => (*code, 0, 200),
+            [b'-', code] => (*code, 200, BLOCK),
+            _ => {
+                bytes.extend_from_slice(&[0; BLOCK]).ok()?;
+                continue;
+            }
+        };
+        let block = encode(&Request::Runlvl(Sign::read(code)?, 5));
+        bytes.extend_from_slice(block.get(from..to)?).ok()?;
     }
     Some(bytes)
 }
 
-/// What a call gives that is made so of an item, where it is no fault.
-fn bytes_of<A: Allocator + Copy>(
-    alloc: A,
-    item: &str,
-    made: Option<Vec<u8>>,
-) -> Option<Result<Bytes<A>, HostFault>> {
-    if item == "fails" {
-        return Some(Err(HostFault::Device));
+fn text_of(own: Global, queue: &str, item: &str) -> Option<Vec<u8>> {
+    match (item.strip_prefix('='), queue) {
+        (Some(text), _) => Vec::from_slice(own, text.as_bytes()).ok(),
+        (None, "bytes") => blocks_of(own, item),
+        (None, _) => lines_of(own, item, "|").ok(),
     }
-    Some(Ok(Bytes::copy_of(alloc, made?.as_slice()).ok()?))
 }
 
-/// Adds a file of this text.
+pub(crate) fn bytes_of<A: Allocator + Copy>(
+    own: Global,
+    alloc: A,
+    queue: &str,
+    item: &str,
+) -> Option<Result<Bytes<A>, HostFault>> {
+    let text = text_of(own, queue, item)?;
+    given(item, Bytes::copy_of(alloc, text.as_slice()).ok())
+}
+
+/// Adds a file of this name and text.
 fn add_part<A: Allocator + Copy>(
     alloc: A,
     parts: &mut Vec<Part<A>, A>,
+    name: &str,
     text: &[u8],
 ) -> Result<(), Memory> {
-    let name = String::from_str(alloc, "part")?;
+    let name = String::from_str(alloc, name)?;
     let bytes = Vec::from_slice(alloc, text)?;
     parts.push(Part { name, bytes })?;
     Ok(())
 }
 
-fn add_parts<A: Allocator + Copy>(
-    own: Global,
-    alloc: A,
-    parts: &mut Vec<Part<A>, A>,
-    text: &str,
-) -> Result<(), Memory> {
+fn parts_of<A: Allocator + Copy>(own: Global, alloc: A, text: &str) -> Option<PartList<A>> {
+    let mut parts = Vec::new(alloc);
     match text {
         "none" => {}
-        "long" => add_part(alloc, parts, vec![in own; b'#'; 1_048_577]?.as_slice())?,
+        "long" => {
+            let text = vec![in own; b'#'; 1_048_577].ok()?;
+            add_part(alloc, &mut parts, "part", text.as_slice()).ok()?;
+        }
         "many" => {
             for _ in 0..257u32 {
-                add_part(alloc, parts, b"")?;
+                add_part(alloc, &mut parts, "part", b"").ok()?;
             }
         }
         _ => {
-            for lines in text.split(" + ") {
-                add_part(alloc, parts, lines_of(own, lines, "|")?.as_slice())?;
+            for part in text.split(" + ") {
+                let (name, lines) = part.split_once('@').unwrap_or(("part", part));
+                let text = text_of(own, "table", lines)?;
+                add_part(alloc, &mut parts, name, text.as_slice()).ok()?;
             }
         }
     }
-    Ok(())
+    Some(PartList::of(parts))
 }
 
-fn table_of<A: Allocator + Copy>(
+pub(crate) fn table_of<A: Allocator + Copy>(
     own: Global,
     alloc: A,
-    text: &str,
+    item: &str,
 ) -> Option<Result<PartList<A>, HostFault>> {
-    if text == "fails" {
-        return Some(Err(HostFault::Device));
-    }
-    let mut parts = Vec::new(alloc);
-    add_parts(own, alloc, &mut parts, text).ok()?;
-    Some(Ok(PartList::of(parts)))
+    given(item, parts_of(own, alloc, item))
 }
 
-fn give<A: Allocator + Copy>(
+fn give_lates<A: Allocator + Copy>(host: &mut MemoryHost<A>, number: u32) -> Option<()> {
+    let id = Id::read(b"none")?;
+    for _ in 0..number {
+        host.give_late(Some((id, Answer::Alive))).ok()?;
+    }
+    Some(())
+}
+
+/// Gives a host an item.
+pub(crate) fn give<A: Allocator + Copy>(
     own: Global,
     alloc: A,
     host: &mut MemoryHost<A>,
@@ -161,13 +153,15 @@ fn give<A: Allocator + Copy>(
 ) -> Option<()> {
     let (queue, item) = reply.split_once(' ').unwrap_or((reply, ""));
     let given = match queue {
+        "start" => host.give_start(reply_of(item)?),
+        "look" => host.give_look(reply_of(item)?),
+        "signal" => host.give_signal(reply_of(item)?),
         "late" => host.give_late(late_of(item)?),
-        "lates" => give_lates(host, Id::read(b"none")?, item.parse::<u32>().ok()?),
-        "clock" => host.give_clock(item.parse::<u64>().map_err(|_| HostFault::Device)),
-        "bytes" => host.give_bytes(bytes_of(alloc, item, blocks_of(own, item))?),
-        "carry" => host.give_carry(bytes_of(alloc, item, lines_of(own, item, "|").ok())?),
+        "lates" => return give_lates(host, item.parse::<u32>().ok()?),
+        "clock" => host.give_clock(given(item, item.parse::<u64>().ok())?),
         "table" => host.give_table(table_of(own, alloc, item)?),
-        _ => give_reply(host, queue, reply_of(item)?),
+        "bytes" => host.give_bytes(bytes_of(own, alloc, queue, item)?),
+        _ => host.give_carry(bytes_of(own, alloc, queue, item)?),
     };
     given.ok()
 }

@@ -67,43 +67,25 @@ fn hears_whole_blocks(
         && (heard >= BLOCK || list.len() == 5)
 }
 
-/// All requests are heard in the given number of turns; where none is given, in two turns, of which the first hears the
-/// blocks that came whole.
-fn hears(
-    own: Global,
-    bench: &mut Bench<Global, Global, ListLog>,
-    place: usize,
-    turns: Option<u64>,
-) -> bool {
-    match turns {
-        Some(turns) => {
-            serve_on(own, bench, turns, false);
-            has_requests(bench.edge.log.list(), 3)
-        }
-        None => {
-            let mut blocks = Blocks::new();
-            hears_whole_blocks(own, bench, &mut blocks, place)
-                && hears_whole_blocks(own, bench, &mut blocks, 1152)
-        }
-    }
-}
-
-/// The requests are heard where the bytes up to a place come first, and the others in pieces of this length.
+/// All requests are heard in the given number of turns, where the bytes up to a place come first, and the others in pieces
+/// of this length; where no turns are given, in two, of which the first hears the blocks that came whole.
 fn are_heard(own: Global, place: usize, length: usize, turns: Option<u64>) -> Option<bool> {
     let bytes = blocks_of(own, "q bad 2")?;
     let (front, rest) = bytes.split_at_checked(place)?;
     let mut bench = bench_of(own, own, own, "# none", ListLog::new(own))?;
     give_pieces(own, &mut bench.edge.host, front, rest, length).ok()?;
-    Some(hears(own, &mut bench, place, turns))
-}
-
-#[test]
-fn a_turn_hears_the_blocks_that_came_whole(rt: HostRuntime) {
-    for place in 0..1152usize {
-        assert!(rt;
-            are_heard(rt.alloc(), place, 1152, None) == Some(true),
-            "at {place}"
-        );
+    match turns {
+        Some(turns) => {
+            serve_on(own, &mut bench, turns, false);
+            Some(has_requests(bench.edge.log.list(), 3))
+        }
+        None => {
+            let mut blocks = Blocks::new();
+            Some(
+                hears_whole_blocks(own, &mut bench, &mut blocks, place)
+                    && hears_whole_blocks(own, &mut bench, &mut blocks, 1152),
+            )
+        }
     }
 }
 
@@ -112,6 +94,12 @@ const LENGTHS: &[(usize, u64)] = &[(1, 1152), (7, 165), (255, 5), (256, 5), (257
 
 #[test]
 fn requests_are_those_of_all_bytes(rt: HostRuntime) {
+    for place in 0..1152usize {
+        assert!(rt;
+            are_heard(rt.alloc(), place, 1152, None) == Some(true),
+            "at {place}"
+        );
+    }
     for (length, turns) in LENGTHS {
         assert!(rt;
             are_heard(rt.alloc(), *length, *length, Some(*turns)) == Some(true),

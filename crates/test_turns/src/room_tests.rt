@@ -4,6 +4,7 @@ use crate::log_tests::is_whole;
 use crate::replies::give_all;
 use crate::run_tests::STOPPED;
 use crate::runs::{Bench, bench_of, is_run, letters_of, lines_of, serve_on};
+use crate::scripted_tests::has_room;
 use host_calls::Host;
 use init_turns::Opening;
 use init_words::Memory;
@@ -16,7 +17,11 @@ use trace_log::ListLog;
 const SIZES: &[usize] = &[4096, 256, 64, 16];
 
 /// Takes what a heap has left but the given number of bytes, in blocks of falling sizes, up to 64 of each.
-fn fill<'a>(own: Global, heap: &'a LocalHeap, room: usize) -> Option<Vec<Vec<u8, &'a LocalHeap>>> {
+pub(crate) fn fill<'a>(
+    own: Global,
+    heap: &'a LocalHeap,
+    room: usize,
+) -> Option<Vec<Vec<u8, &'a LocalHeap>>> {
     let _kept = Vec::<u8, &LocalHeap>::with_capacity(heap, room).ok()?;
     let mut fillers = Vec::new(own);
     for size in SIZES {
@@ -31,25 +36,12 @@ fn fill<'a>(own: Global, heap: &'a LocalHeap, room: usize) -> Option<Vec<Vec<u8,
 }
 
 /// The run is as it says where the host has no room left to tell a call.
-fn is_untold<'a>(
-    own: Global,
-    heap: &'a LocalHeap,
-    bench: &mut Bench<&'a LocalHeap, Global, ListLog>,
-) -> Option<bool> {
-    give_all(own, heap, &mut bench.edge.host, STOPPED.replies)?;
-    let _fillers = fill(own, heap, 0)?;
-    Some(is_run(own, bench, &STOPPED) && bench.edge.host.calls().is_none())
-}
-
-fn tells_nothing(own: Global) -> Option<bool> {
+fn is_untold(own: Global) -> Option<bool> {
     let heap = LocalHeap::new(own, 16_384).ok()?;
     let mut bench = bench_of(own, &heap, own, STOPPED.inittab, ListLog::new(own))?;
-    is_untold(own, &heap, &mut bench)
-}
-
-#[test]
-fn a_host_without_room_to_tell_makes_no_difference(rt: HostRuntime) {
-    assert!(rt; tells_nothing(rt.alloc()) == Some(true));
+    give_all(own, &heap, &mut bench.edge.host, STOPPED.replies)?;
+    let _fillers = fill(own, &heap, 0)?;
+    Some(is_run(own, &mut bench, &STOPPED) && bench.edge.host.calls().is_none())
 }
 
 /// What a turn does that is asked for something for which there may be too little room: what the host is given for two
@@ -113,17 +105,6 @@ fn begins<'a>(
     give_all(own, own, &mut bench.edge.host, scarce.replies)
 }
 
-/// Makes a turn with so much room left, and gives the text of its trace.
-fn text_in<'a>(
-    own: Global,
-    heap: &'a LocalHeap,
-    bench: &mut Scene<'a>,
-    room: usize,
-) -> Option<Vec<u8>> {
-    let _fillers = fill(own, heap, room)?;
-    turn_text(own, heap, bench)
-}
-
 /// The trace of the turn is this, and the entries behind it are so many, each with its record.
 fn is_made(own: Global, bench: &Scene, text: &[u8], want: (&str, usize)) -> Option<bool> {
     let trace = lines_of(own, want.0, " / ").ok()?;
@@ -159,55 +140,38 @@ fn outcome_of(own: Global, bench: &Scene, text: &[u8], scarce: &Scarce) -> Optio
 }
 
 /// What becomes of it with so much room left; with all of it, in the next turn, it is done.
-fn outcome_in<'a>(
-    own: Global,
-    heap: &'a LocalHeap,
-    bench: &mut Scene<'a>,
-    scarce: &Scarce,
-    room: usize,
-) -> Option<Outcome> {
-    begins(own, heap, bench, scarce)?;
-    let text = text_in(own, heap, bench, room)?;
-    let outcome = outcome_of(own, bench, text.as_slice(), scarce)?;
-    let text = turn_text(own, heap, bench)?;
-    is_made(own, bench, text.as_slice(), scarce.done)?.then_some(outcome)
-}
-
 fn tried(own: Global, scarce: &Scarce, room: usize) -> Option<Outcome> {
     let heap = LocalHeap::new(own, 32_768).ok()?;
     let mut bench = bench_of(own, own, &heap, STOPPED.inittab, ListLog::new(own))?;
-    outcome_in(own, &heap, &mut bench, scarce, room)
+    begins(own, &heap, &mut bench, scarce)?;
+    let fillers = fill(own, &heap, room)?;
+    let text = turn_text(own, &heap, &mut bench)?;
+    drop(fillers);
+    let outcome = outcome_of(own, &bench, text.as_slice(), scarce)?;
+    let text = turn_text(own, &heap, &mut bench)?;
+    is_made(own, &bench, text.as_slice(), scarce.done)?.then_some(outcome)
 }
 
 /// What has no room first of what a reading takes, one after another: the text of inittab, its table, the table's copy, the
 /// records of its entries, and nothing; the place in that.
-fn first_of<'a>(
-    own: Global,
-    heap: &'a LocalHeap,
-    bench: &mut Scene<'a>,
-    room: usize,
-) -> Option<usize> {
-    begins(own, heap, bench, READING)?;
-    let _fillers = fill(own, heap, room)?;
-    let Ok(parts) = bench.edge.host.read_tables(heap) else {
+fn first(own: Global, room: usize) -> Option<usize> {
+    let heap = LocalHeap::new(own, 32_768).ok()?;
+    let mut bench = bench_of(own, own, &heap, STOPPED.inittab, ListLog::new(own))?;
+    begins(own, &heap, &mut bench, READING)?;
+    let _fillers = fill(own, &heap, room)?;
+    let Ok(parts) = bench.edge.host.read_tables(&heap) else {
         return Some(0);
     };
-    let Ok((table, _)) = inittab_text::read_parts(heap, &parts) else {
+    let Ok((table, _)) = inittab_text::read_parts(&heap, &parts) else {
         return Some(1);
     };
-    let Ok(copy) = table.copy(heap) else {
+    let Ok(copy) = table.copy(&heap) else {
         return Some(2);
     };
     if bench.core.adopt(table).is_err() || copy.len() != 5 {
         return Some(3);
     }
     Some(4)
-}
-
-fn first(own: Global, room: usize) -> Option<usize> {
-    let heap = LocalHeap::new(own, 32_768).ok()?;
-    let mut bench = bench_of(own, own, &heap, STOPPED.inittab, ListLog::new(own))?;
-    first_of(own, &heap, &mut bench, room)
 }
 
 /// What a turn does that reads inittab, by what has no room first.
@@ -278,6 +242,7 @@ fn refusals(own: Global, what: &str) -> Option<usize> {
         let heap = LocalHeap::new(own, 16 * step).ok()?;
         let is_whole = match what {
             "opening" => opens(own, &heap)?,
+            "table lacks" | "carry lacks" => has_room(own, &heap, what)?,
             _ => is_whole(own, &heap, what)?,
         };
         if is_whole {
@@ -289,7 +254,14 @@ fn refusals(own: Global, what: &str) -> Option<usize> {
 
 /// What needs room, and how many heaps at least have none for it. Notes that can't grow say so, and keep nothing from the
 /// log behind them; a happening whose text has no room isn't taken, and none after it.
-const REFUSED: &[(&str, usize)] = &[("opening", 3), ("list", 8), ("notes", 8), ("texts", 2)];
+const REFUSED: &[(&str, usize)] = &[
+    ("opening", 3),
+    ("list", 8),
+    ("notes", 8),
+    ("texts", 2),
+    ("table lacks", 8),
+    ("carry lacks", 0),
+];
 
 #[test]
 fn what_has_no_room_is_refused(rt: HostRuntime) {
@@ -297,4 +269,5 @@ fn what_has_no_room_is_refused(rt: HostRuntime) {
         let refused = refusals(rt.alloc(), what);
         assert!(rt; refused > Some(*least), "{what}: {refused:?}");
     }
+    assert!(rt; is_untold(rt.alloc()) == Some(true), "calls");
 }

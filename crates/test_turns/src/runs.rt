@@ -2,7 +2,7 @@
 
 use crate::replies::give_all;
 use core_steps::Core;
-use host_calls::{Call, CallIn, Host};
+use host_calls::{Call, Host};
 use host_scripted::MemoryHost;
 use host_trace::Joined;
 use init_turns::{Served, Unwatched};
@@ -137,55 +137,40 @@ pub(crate) fn is_run<A: Allocator + Copy>(
         && is_logged(own, bench.edge.log.list(), row.trace) == Some(true)
 }
 
-/// A call's letter: `C`lock, `B`ytes, `L`ate answer, `T`able or none (`t`), `S`tart, l`O`ok, si`G`nal, carry `H`,
-/// a`N`nouncement, `P`ause.
-fn letter_of<A: Allocator>(call: &CallIn<A>) -> u8 {
-    match call {
-        Call::Clock(_) => b'C',
-        Call::TakeBytes(_, _) => b'B',
-        Call::Late(_) => b'L',
-        Call::ReadTables(Ok(_)) => b'T',
-        Call::ReadTables(Err(_)) => b't',
-        Call::Start(_, _, _) => b'S',
-        Call::Look(_, _) => b'O',
-        Call::Signal(_, _, _) => b'G',
-        Call::Carry(_, _) => b'H',
-        Call::Announce(_) => b'N',
-        Call::Pause => b'P',
-    }
-}
-
-/// The letters of the calls that a host tells, each start's after its command.
+/// The letters of the calls that a host tells: `C`lock, `B`ytes, `L`ate answer, `T`able or none (`t`), `S`tart behind its
+/// command, l`O`ok, si`G`nal, carry `H`, a`N`nouncement, `P`ause.
 pub(crate) fn letters_of(own: Global, host: &MemoryHost) -> Option<Vec<u8>> {
     let mut letters = Vec::new(own);
     for call in host.calls()? {
         if let Call::Start(_, command, _) = call {
             letters.extend_from_slice(command.as_slice()).ok()?;
         }
-        letters.push(letter_of(call)).ok()?;
+        letters
+            .push(match call {
+                Call::Clock(_) => b'C',
+                Call::TakeBytes(_, _) => b'B',
+                Call::Late(_) => b'L',
+                Call::ReadTables(Ok(_)) => b'T',
+                Call::ReadTables(Err(_)) => b't',
+                Call::Start(_, _, _) => b'S',
+                Call::Look(_, _) => b'O',
+                Call::Signal(_, _, _) => b'G',
+                Call::Carry(_, _) => b'H',
+                Call::Announce(_) => b'N',
+                Call::Pause => b'P',
+            })
+            .ok()?;
     }
     Some(letters)
 }
 
-/// The run of a row is as it says, and its calls have these letters, where they are asked.
-fn has_calls(
-    own: Global,
-    bench: &mut Bench<Global, Global, ListLog>,
-    row: &Row,
-    calls: Option<&str>,
-) -> Option<bool> {
+/// Makes the run of a row, and gives whether it is as it says, and its calls have these letters, where they are asked.
+pub(crate) fn passes(own: Global, row: &Row, calls: Option<&str>) -> Option<bool> {
+    let mut bench = bench_of(own, own, own, row.inittab, ListLog::new(own))?;
     give_all(own, own, &mut bench.edge.host, row.replies)?;
-    if !is_run(own, bench, row) {
+    if !is_run(own, &mut bench, row) {
         return None;
     }
     let letters = letters_of(own, &bench.edge.host)?;
     Some(calls.is_none_or(|calls| letters.as_slice() == calls.as_bytes()))
-}
-
-/// Makes the run of a row, and gives whether it is as it says, and its calls have these letters, where they are asked.
-pub(crate) fn passes(own: Global, row: &Row, calls: Option<&str>) -> bool {
-    match bench_of(own, own, own, row.inittab, ListLog::new(own)) {
-        Some(mut bench) => has_calls(own, &mut bench, row, calls) == Some(true),
-        None => false,
-    }
 }

@@ -1,0 +1,305 @@
+//! Calls of a scripted host, as text: each takes the first of its queue, and has an answer of its own where the queue is
+//! empty; and a host without room.
+
+use crate::replies::{bytes_of, give, give_all, given, late_of, reply_of, table_of};
+use crate::room_tests::fill;
+use host_calls::{Bytes, Host, HostFault, PartList};
+use host_scripted::MemoryHost;
+use init_words::{Id, Level, Part, SignalKind};
+use linked_list_allocator::LocalHeap;
+use std::alloc::{Allocator, Global};
+use test_support::boxed;
+use trace_events::Happening;
+
+const TABLES: &str = "table inittab@id:3:initdefault: + 10-b.tab@=b:3:once:y + 20-a.tab@";
+
+/// What is carried.
+const STATE: &[u8] = &[b'x'; 64];
+
+/// What a host is given, the calls that are made then, with the item that each is to give, and how many are faults. A call
+/// `take` has room for so many bytes, and one that `lacks` memory has none for its text.
+const ROWS: &[(&str, &str, u64)] = &[
+    // Orders.
+    ("", "start nobirth", 1),
+    (
+        "start birth 7 / start nobirth / start later",
+        "start birth 7 / start nobirth / start later / start nobirth",
+        2,
+    ),
+    ("", "look still", 0),
+    (
+        "look nolook / look exit 3 / look later",
+        "look nolook / look exit 3 / look later / look still",
+        1,
+    ),
+    ("", "signal hit", 0),
+    (
+        "signal miss / signal hit / signal miss / signal later",
+        "kill miss / kill hit / kill miss / kill later / kill hit",
+        2,
+    ),
+    // Late answers: a hit, the end of a round, and a miss, which is a fault. None follows.
+    (
+        "late r hit / late / late r miss",
+        "late r hit / late / late r miss / late",
+        1,
+    ),
+    // Readings of the clock.
+    (
+        "clock 5 / clock fails / clock 4 / clock lacks",
+        "clock 5 / clock fails / clock 4 / clock lacks / clock 0",
+        2,
+    ),
+    // Bytes that don't fit stay.
+    ("", "take 4", 0),
+    (
+        "bytes =abcde / bytes / bytes =fg",
+        "take 2 =ab / take 0 / take 2 =cd / take 8 =e / take 8 / take 2 =fg / take 8",
+        0,
+    ),
+    (
+        "bytes =abc / bytes fails / bytes =d",
+        "take 1 =a / take 8 =bc / take 8 fails / take 8 =d",
+        1,
+    ),
+    // The inittab.
+    (
+        "table inittab@id:3:initdefault: + 10-b.tab@=b:3:once:y + 20-a.tab@ / table fails / table x@=x",
+        "table inittab@id:3:initdefault: + 10-b.tab@=b:3:once:y + 20-a.tab@ / table fails / table x@=x / table none",
+        1,
+    ),
+    // A text that is carried.
+    (
+        "carry id:3:initdefault: / carry fails / carry =x",
+        "carry id:3:initdefault: / carry fails / carry =x / carry",
+        1,
+    ),
+    // There is no room for the inittab's text, nor for the one that is carried.
+    (TABLES, "table lacks / carry lacks", 2),
+];
+
+fn is_text<A: Allocator>(
+    given: Result<Vec<u8, A>, HostFault>,
+    want: Result<Bytes, HostFault>,
+) -> bool {
+    match (given, want) {
+        (Ok(text), Ok(want)) => text.as_slice() == want.as_slice(),
+        (Err(fault), Err(want)) => fault == want,
+        _ => false,
+    }
+}
+
+fn are_files<A: Allocator>(
+    given: Result<Vec<Part<A>, A>, HostFault>,
+    want: Result<PartList, HostFault>,
+) -> bool {
+    let (parts, files) = match (given, want) {
+        (Ok(parts), Ok(files)) => (parts, files),
+        (Err(fault), Err(want)) => return fault == want,
+        _ => return false,
+    };
+    for (part, file) in parts.iter().zip(files.as_slice()) {
+        if part.name.as_str() != file.name.as_str()
+            || part.bytes.as_slice() != file.bytes.as_slice()
+        {
+            return false;
+        }
+    }
+    parts.len() == files.as_slice().len()
+}
+
+/// What a call gives that takes bytes with so much room.
+fn taken<B: Allocator + Copy>(
+    own: Global,
+    host: &mut MemoryHost<B>,
+    room: usize,
+) -> Result<Vec<u8>, HostFault> {
+    let mut buffer = [0; 8];
+    let count = host.take_bytes(&mut buffer[..room.min(8)])?;
+    Vec::from_slice(own, &buffer[..count.min(8)]).map_err(|_| HostFault::Memory)
+}
+
+/// Whether a call, in memory of an allocator, gives this item.
+fn gives<A: Allocator + Copy, B: Allocator + Copy>(
+    own: Global,
+    alloc: A,
+    host: &mut MemoryHost<B>,
+    call: &str,
+) -> Option<bool> {
+    let (word, item) = call.split_once(' ').unwrap_or((call, ""));
+    let id = Id::read(b"r")?;
+    Some(match word {
+        "start" => host.start(alloc, id, b"/bin/serv") == reply_of(item)?,
+        "look" => host.look(id) == reply_of(item)?,
+        "signal" => host.signal(id, SignalKind::Term) == reply_of(item)?,
+        "kill" => host.signal(id, SignalKind::Kill) == reply_of(item)?,
+        "late" => host.late() == late_of(item)?,
+        "clock" => host.clock() == given(item, item.parse::<u64>().ok())?,
+        "bytes" => is_text(taken(own, host, 4), bytes_of(own, own, "bytes", item)?),
+        "take" => {
+            let (room, item) = item.split_once(' ').unwrap_or((item, "="));
+            let want = bytes_of(own, own, "bytes", item)?;
+            is_text(taken(own, host, room.parse::<usize>().ok()?), want)
+        }
+        "table" => are_files(host.read_tables(alloc), table_of(own, own, item)?),
+        "carry" => {
+            let want = match item {
+                "" => Ok(Bytes::copy_of(own, STATE).ok()?),
+                _ => bytes_of(own, own, word, item)?,
+            };
+            is_text(host.carry(alloc, STATE), want)
+        }
+        "announce" => {
+            let settled: Happening = Happening::Settle(Level::L3);
+            host.announce(&settled);
+            true
+        }
+        _ => {
+            host.pause();
+            true
+        }
+    })
+}
+
+fn host_over<A: Allocator + Copy>(own: Global, alloc: A) -> Option<Box<MemoryHost<A>>> {
+    boxed(own, MemoryHost::new(alloc)).ok()
+}
+
+/// Whether a host that is given so much gives what the calls say, so many of them faults, and tells each.
+fn is_followed(own: Global, replies: &str, calls: &str, faults: u64) -> Option<bool> {
+    let mut host = host_over(own, own)?;
+    give_all(own, own, &mut host, replies)?;
+    let full = LocalHeap::new(own, 0).ok()?;
+    let mut count = 0usize;
+    for call in calls.split(" / ") {
+        let is_given = if call.ends_with("lacks") {
+            gives(own, &full, &mut host, call)?
+        } else {
+            gives(own, own, &mut host, call)?
+        };
+        if !is_given {
+            return None;
+        }
+        count = count.wrapping_add(1);
+    }
+    Some(host.faults() == faults && host.calls()?.len() == count)
+}
+
+#[test]
+fn calls_take_the_first_of_their_queue(rt: HostRuntime) {
+    for (replies, calls, faults) in ROWS {
+        assert!(rt;
+            is_followed(rt.alloc(), replies, calls, *faults) == Some(true),
+            "{calls}"
+        );
+    }
+}
+
+/// Whether a text has room on a heap; None where the call that lacks it counts and tells something else.
+pub(crate) fn has_room(own: Global, heap: &LocalHeap, call: &str) -> Option<bool> {
+    let mut host = host_over(own, own)?;
+    give_all(own, own, &mut host, TABLES)?;
+    let is_lacking = gives(own, heap, &mut host, call)?;
+    match (is_lacking, host.faults(), host.calls()?.len()) {
+        (false, 0, 1) => Some(true),
+        (true, 1, 1) => Some(false),
+        _ => None,
+    }
+}
+
+/// How many times, at most so many, the host is given the item, or gives it.
+fn times<'a>(
+    own: Global,
+    heap: &'a LocalHeap,
+    host: &mut MemoryHost<&'a LocalHeap>,
+    item: &str,
+    is_call: bool,
+    most: usize,
+) -> usize {
+    for count in 0..most {
+        let is_done = if is_call {
+            gives(own, own, host, item) == Some(true)
+        } else {
+            give(own, heap, host, item).is_some()
+        };
+        if !is_done {
+            return count;
+        }
+    }
+    most
+}
+
+/// The same while the heap is full.
+fn times_full<'a>(
+    own: Global,
+    heap: &'a LocalHeap,
+    host: &mut MemoryHost<&'a LocalHeap>,
+    item: &str,
+    is_call: bool,
+) -> Option<usize> {
+    let _fillers = fill(own, heap, 0)?;
+    Some(times(own, heap, host, item, is_call, 100))
+}
+
+/// Items of which each is another queue's.
+const ITEMS: &[&str] = &[
+    "start later",
+    "look later",
+    "signal later",
+    "late r hit",
+    "clock 5",
+    "bytes fails",
+    "table fails",
+    "carry fails",
+];
+
+/// A queue that has had so many of the items is given more while the heap is full, and one where there is room again: it
+/// has all that it took, and no more.
+fn refuses(own: Global, item: &str, before: usize) -> Option<bool> {
+    let heap = LocalHeap::new(own, 4096).ok()?;
+    let mut host = host_over(own, &heap)?;
+    let had = times(own, &heap, &mut host, item, false, before);
+    let more = times_full(own, &heap, &mut host, item, false)?;
+    give(own, &heap, &mut host, item)?;
+    let all = times(own, &heap, &mut host, item, true, 200);
+    Some(had == before && more < 100 && all == before.wrapping_add(more).wrapping_add(1))
+}
+
+/// Calls of each kind, with what they give of queues that are empty.
+const CALLS: &[&str] = &[
+    "pause",
+    "start nobirth",
+    "table none",
+    "carry",
+    "look still",
+    "signal hit",
+    "late",
+    "clock 0",
+    "bytes",
+    "announce",
+];
+
+/// A call that there is no room to keep is not told, and none after it, although there is room again.
+fn is_last(own: Global, call: &str) -> Option<bool> {
+    let heap = LocalHeap::new(own, 4096).ok()?;
+    let mut host = host_over(own, &heap)?;
+    let is_first = gives(own, own, &mut host, call)? && host.calls().is_some();
+    let made = times_full(own, &heap, &mut host, call, true)?;
+    let is_untold = made == 100 && host.calls().is_none();
+    Some(is_first && is_untold && gives(own, own, &mut host, call)? && host.calls().is_none())
+}
+
+#[test]
+fn a_host_without_room_refuses_and_tells_no_more(rt: HostRuntime) {
+    for item in ITEMS {
+        for before in [0, 1, 4, 5usize] {
+            assert!(rt;
+                refuses(rt.alloc(), item, before) == Some(true),
+                "{item}: {before}"
+            );
+        }
+    }
+    for call in CALLS {
+        assert!(rt; is_last(rt.alloc(), call) == Some(true), "{call}");
+    }
+}
