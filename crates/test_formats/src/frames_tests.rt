@@ -68,44 +68,32 @@ const WRITTEN: &[(Option<u8>, &[u8; 16], HeardRequest)] = &[
     (None, &POWER_BACK, HeardRequest::Power(PowerKind::Ok)),
 ];
 
-/// The request of a character, for 5 seconds; of none, that the power is back.
-fn request_of(code: Option<u8>) -> Option<Request> {
-    let Some(code) = code else {
-        return Some(Request::Power(PowerKind::Ok));
+/// The request of a character, for 5 seconds, or that the power is back, has this block and asks for this.
+fn is_written(code: Option<u8>, ints: &[u8; 16], want: HeardRequest) -> Option<bool> {
+    let request = match code {
+        Some(code) => Request::Runlvl(Sign::read(code)?, 5),
+        None => Request::Power(PowerKind::Ok),
     };
-    let sign = Sign::read(code)?;
-    (sign.code() == code).then_some(Request::Runlvl(sign, 5))
-}
-
-fn is_written(code: Option<u8>, ints: &[u8; 16], want: HeardRequest) -> bool {
-    match request_of(code) {
-        Some(request) => encode(&request) == block_of(ints) && meaning(&request) == want,
-        None => false,
-    }
+    let is_same = match request {
+        Request::Runlvl(sign, _) => Some(sign.code()) == code,
+        Request::Power(_) => true,
+    };
+    Some(is_same && encode(&request) == block_of(ints) && meaning(&request) == want)
 }
 
 #[test]
 fn requests_are_written(rt: HostRuntime) {
     for (code, ints, want) in WRITTEN {
-        assert!(rt; is_written(*code, ints, *want), "{code:?}");
+        assert!(rt; is_written(*code, ints, *want) == Some(true), "{code:?}");
     }
     assert!(rt; Sign::read(b'x').is_none());
 }
 
-/// Whether of the piece the given number of bytes are taken, this is got, and the given number of bytes of a block are
-/// kept then.
-fn is_fed(
-    blocks: &mut Blocks,
-    piece: &[u8],
-    want: (usize, Option<HeardRequest>),
-    rest: usize,
-) -> bool {
-    let fed = blocks.feed(piece);
-    fed == want && blocks.rest() == rest
-}
+/// A piece, how many of its bytes are taken and what is got, and how many bytes of a block are kept then.
+type Piece<'a> = (&'a [u8], (usize, Option<HeardRequest>), usize);
 
 /// What a reader takes of these pieces, one after the other; its copy goes on after the third.
-const PIECES: &[(&[u8], (usize, Option<HeardRequest>), usize)] = &[
+const PIECES: &[Piece<'static>] = &[
     (&[], (0, None), 0),
     (&RELOAD, (16, None), 16),
     (&[0; 367], (367, None), 383),
@@ -118,18 +106,23 @@ const PIECES: &[(&[u8], (usize, Option<HeardRequest>), usize)] = &[
 ];
 
 /// What the reader's copy takes next.
-const NEXT_OF_COPY: &[(&[u8], (usize, Option<HeardRequest>), usize)] = &[
+const NEXT_OF_COPY: &[Piece<'static>] = &[
     (&[], (0, None), 383),
     (&[0; 384], (1, Some(HeardRequest::Reload)), 0),
 ];
 
-fn are_fed(blocks: &mut Blocks, pieces: &[(&[u8], (usize, Option<HeardRequest>), usize)]) -> bool {
+fn are_fed(blocks: &mut Blocks, pieces: &[Piece]) -> bool {
     for (piece, want, rest) in pieces {
-        if !is_fed(blocks, piece, *want, *rest) {
+        if blocks.feed(piece) != *want || blocks.rest() != *rest {
             return false;
         }
     }
     true
+}
+
+/// The block is one request, whatever its bytes are, and nothing of it is kept.
+fn is_one(blocks: &mut Blocks, block: &[u8; BLOCK], want: HeardRequest) -> bool {
+    are_fed(blocks, &[(block.as_slice(), (BLOCK, Some(want)), 0)])
 }
 
 #[test]
@@ -138,14 +131,7 @@ fn a_block_comes_in_pieces(rt: HostRuntime) -> Result<(), Fail> {
     assert!(rt; are_fed(&mut blocks, &PIECES[..3]));
     let mut copy = blocks.clone()?;
     assert!(rt; are_fed(&mut blocks, &PIECES[3..]));
-    assert!(rt;
-        is_fed(
-            &mut blocks,
-            &block_of(&RELOAD),
-            (384, Some(HeardRequest::Reload)),
-            0
-        )
-    );
+    assert!(rt; is_one(&mut blocks, &block_of(&RELOAD), HeardRequest::Reload));
     assert!(rt; are_fed(&mut copy, NEXT_OF_COPY));
     Ok(())
 }
@@ -167,16 +153,13 @@ const THREE_GOT: [HeardRequest; 4] = [
     HeardRequest::Reexec,
 ];
 
-fn are_got(pieces: &[&[u8]]) -> bool {
-    let mut room = [HeardRequest::Reexec; 4];
-    read_pieces(pieces, &mut room) == 3 && room == THREE_GOT
-}
-
 /// Whether the blocks are got however they are cut in three.
 fn are_heard_of_cuts(bytes: &[u8; 1152]) -> bool {
     for first in 0..1153 {
         for second in first..1153 {
-            if !are_got(&[&bytes[..first], &bytes[first..second], &bytes[second..]]) {
+            let pieces = [&bytes[..first], &bytes[first..second], &bytes[second..]];
+            let mut room = [HeardRequest::Reexec; 4];
+            if read_pieces(&pieces, &mut room) != 3 || room != THREE_GOT {
                 return false;
             }
         }
@@ -184,40 +167,29 @@ fn are_heard_of_cuts(bytes: &[u8; 1152]) -> bool {
     true
 }
 
-/// What is past the room is left out.
-fn is_first_alone(block: &[u8; BLOCK]) -> bool {
-    let mut room = [HeardRequest::Reexec];
-    read_pieces(&[block, block], &mut room) == 1 && room == [HeardRequest::Reload]
-}
-
 #[test]
 fn cuts_change_nothing(rt: HostRuntime) {
-    assert!(rt; are_heard_of_cuts(&three_blocks()) && is_first_alone(&block_of(&RELOAD)));
-}
-
-/// The block is one request, whatever its bytes are, and nothing of it is kept.
-fn is_one(block: &[u8; BLOCK], want: HeardRequest) -> bool {
-    is_fed(&mut Blocks::new(), block, (BLOCK, Some(want)), 0)
-}
-
-/// The request to read inittab again, with this byte at a place.
-fn changed(place: usize, byte: u8) -> [u8; BLOCK] {
-    let mut block = block_of(&RELOAD);
-    if let Some(found) = block.get_mut(place) {
-        *found = byte;
-    }
-    block
+    assert!(rt; are_heard_of_cuts(&three_blocks()));
+    // What is past the room is left out.
+    let block = block_of(&RELOAD);
+    let mut room = [HeardRequest::Reexec];
+    assert!(rt; read_pieces(&[&block, &block], &mut room) == 1 && room == [HeardRequest::Reload]);
 }
 
 /// A block of this byte alone has no magic number, and each block with this byte in it is what its own bytes ask for.
 fn are_ones(byte: u8) -> bool {
     for place in 0..BLOCK {
-        let block = changed(place, byte);
-        if !is_one(&block, decode(&block)) {
+        let mut block = block_of(&RELOAD);
+        block[place] = byte;
+        if !is_one(&mut Blocks::new(), &block, decode(&block)) {
             return false;
         }
     }
-    is_one(&[byte; BLOCK], HeardRequest::Nothing(Cause::Magic))
+    is_one(
+        &mut Blocks::new(),
+        &[byte; BLOCK],
+        HeardRequest::Nothing(Cause::Magic),
+    )
 }
 
 #[test]

@@ -301,16 +301,13 @@ fn is_read(alloc: Global, text: &[u8], row: &Row) -> Result<bool, Fail> {
     Ok(report.as_str() == want.as_str() && is_table(alloc, &table, row)?)
 }
 
-/// What is written of a table's copy.
-fn copy_text(alloc: Global, table: &Table) -> Result<Vec<u8>, Memory> {
-    let copy = table.copy(alloc)?;
-    inittab_text::write(alloc, &copy)
-}
-
 /// The text is one that is written, and is written again of the copy of its table.
 fn is_written(alloc: Global, text: &[u8]) -> Result<bool, Memory> {
     match read_written(alloc, text)? {
-        Some(table) => Ok(copy_text(alloc, &table)?.as_slice() == text),
+        Some(table) => {
+            let copy = table.copy(alloc)?;
+            Ok(inittab_text::write(alloc, &copy)?.as_slice() == text)
+        }
         None => Ok(false),
     }
 }
@@ -344,24 +341,19 @@ const FOUND: &[(&[u8], Option<Act>)] = &[
 ];
 
 /// Its entries are found, by place and by id.
-fn are_found(table: &Table) -> bool {
+#[test]
+fn entries_are_found(rt: HostRuntime) -> Result<(), Fail> {
+    let (table, _) = inittab_text::read(rt.alloc(), FIVE)?;
     for (place, (id, act)) in FOUND.iter().enumerate() {
-        let at = table.at(place).map(|entry| entry.act);
         let of_id = match Id::read(id) {
             Some(id) => table.get(&id).map(|entry| entry.act),
             None => None,
         };
-        if at != *act || of_id != *act {
-            return false;
-        }
+        assert!(rt;
+            table.at(place).map(|entry| entry.act) == *act && of_id == *act,
+            "{place}"
+        );
     }
-    true
-}
-
-#[test]
-fn entries_are_found(rt: HostRuntime) -> Result<(), Fail> {
-    let (table, _) = inittab_text::read(rt.alloc(), FIVE)?;
-    assert!(rt; are_found(&table));
     Ok(())
 }
 

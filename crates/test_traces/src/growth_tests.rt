@@ -2,15 +2,15 @@
 //! of memory, and what was written is a front of the trace. A writer that is full ends a log in the same way.
 
 use crate::texts::{lines, trace_of};
-use crate::verdicts::{finished, hand_over, is_found, is_printed, judge_over};
+use crate::verdicts::{finished, found, hand_over, judge_over};
 use init_words::{Id, Memory};
 use initview_timeline::Marks;
 use linked_list_allocator::LocalHeap;
 use simulator::{SimFault, Untold, simulate};
-use std::alloc::{AllocError, Allocator, Global};
+use std::alloc::{AllocError, Global};
 use test_support::{Slow, boxed};
 use trace_check::{Law, Verdict};
-use trace_events::{HappeningIn, happening_copy};
+use trace_events::happening_copy;
 use trace_log::{ListLog, StreamLog};
 use trace_text::ReadFault;
 use trace_view::{LastLines, SeenText, Sees};
@@ -55,18 +55,15 @@ fn prints(own: Global, heap: &LocalHeap) -> Option<bool> {
     }
 }
 
-/// The trace begins with the happening.
-fn begins_with<A: Allocator>(own: Global, happening: &HappeningIn<A>) -> Option<bool> {
-    let text = lines(own, TRACE).ok()?;
-    let printed = trace_text::print_one(own, happening).ok()?;
-    Some(text.as_bytes().starts_with(&printed))
-}
-
 /// Whether the first happening of a trace, a table, is copied on a heap.
 fn copies(own: Global, heap: &LocalHeap) -> Option<bool> {
     let trace = trace_of(own, TRACE)?;
     match happening_copy(heap, trace.first()?) {
-        Ok(copy) => begins_with(own, &copy)?.then_some(true),
+        Ok(copy) => {
+            let printed = trace_text::print_one(own, &copy).ok()?;
+            let text = lines(own, TRACE).ok()?;
+            text.as_bytes().starts_with(&printed).then_some(true)
+        }
         Err(Memory) => Some(false),
     }
 }
@@ -98,7 +95,8 @@ fn judges(own: Global, heap: &LocalHeap) -> Option<bool> {
     if hand_over(&mut judge, text.as_bytes(), 7).is_err() {
         return Some(false);
     }
-    is_found(own, &judge, ("7:4 line 10: birth b 11\n", 0))?.then_some(true)
+    let is_found = found(own, &judge)?.as_str() == "7:4 line 10: birth b 11\n";
+    (is_found && judge.answer().1.is_none()).then_some(true)
 }
 
 const SEEN: &[u8] =
@@ -160,26 +158,23 @@ fn lists(own: Global, heap: &LocalHeap) -> Option<bool> {
     (BRIEF.starts_with(&text) && all == (text.len() == BRIEF.len())).then_some(all)
 }
 
-fn has_room(own: Global, heap: &LocalHeap, what: &str) -> Option<bool> {
-    match what {
-        "run" => is_run(own, heap),
-        "print" => prints(own, heap),
-        "copy" => copies(own, heap),
-        "read" => reads(own, heap),
-        "check" => checks(own, heap),
-        "judge" => judges(own, heap),
-        "lines" => are_lines_seen(own, heap),
-        "marks" => are_marks_seen(own, heap),
-        _ => lists(own, heap),
-    }
-}
-
 /// How many heaps, each with less more room than the least growth takes, have none for this until one has; None where
 /// something else is answered on one.
 fn refusals(own: Global, what: &str) -> Option<usize> {
     for refused in 0..8192usize {
         let heap = LocalHeap::new(own, 16 * refused).ok()?;
-        if has_room(own, &heap, what)? {
+        let has_room = match what {
+            "run" => is_run(own, &heap),
+            "print" => prints(own, &heap),
+            "copy" => copies(own, &heap),
+            "read" => reads(own, &heap),
+            "check" => checks(own, &heap),
+            "judge" => judges(own, &heap),
+            "lines" => are_lines_seen(own, &heap),
+            "marks" => are_marks_seen(own, &heap),
+            _ => lists(own, &heap),
+        };
+        if has_room? {
             return Some(refused);
         }
     }

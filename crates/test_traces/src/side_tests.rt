@@ -62,36 +62,19 @@ fn is_refused(
     Some(!side.allows(happening) && told.as_str() == text)
 }
 
-/// The happening is an order or allowed, and is taken.
-fn is_taken(side: &mut SimulatedSystem, happening: &HappeningIn<Global>) -> bool {
-    let may_come = matches!(happening, Happening::Asked(_, _)) || side.allows(happening);
-    may_come && side.take(happening).is_ok()
-}
-
-/// The happening goes so: its answer is under way, it is taken, or this is objected to it.
-fn happens(
-    own: Global,
-    side: &mut SimulatedSystem,
-    happening: &HappeningIn<Global>,
-    is_owed: bool,
-    why: &str,
-) -> Option<bool> {
-    if is_owed {
-        let (id, answer) = answer_of(happening)?;
+/// The line goes as it says: its answer is under way, it is objected to, or it is an order or allowed, and taken.
+fn goes(own: Global, side: &mut SimulatedSystem, line: &str) -> Option<bool> {
+    if let Some(owed) = line.strip_prefix("owes ") {
+        let (id, answer) = answer_of(&first_line(own, owed)?)?;
         return Some(side.answer(&id) == Some(answer));
     }
-    if why.is_empty() {
-        return Some(is_taken(side, happening));
-    }
-    is_refused(own, side, happening, why)
-}
-
-/// The line goes as it says.
-fn goes(own: Global, side: &mut SimulatedSystem, line: &str) -> Option<bool> {
     let (said, why) = line.split_once(" ! ").unwrap_or((line, ""));
-    let owed = said.strip_prefix("owes ");
-    let happening = first_line(own, owed.unwrap_or(said))?;
-    happens(own, side, &happening, owed.is_some(), why)
+    let happening = first_line(own, said)?;
+    if !why.is_empty() {
+        return is_refused(own, side, &happening, why);
+    }
+    let may_come = matches!(happening, Happening::Asked(_, _)) || side.allows(&happening);
+    Some(may_come && side.take(&happening).is_ok())
 }
 
 fn all_go(own: Global, run: &str) -> Option<bool> {

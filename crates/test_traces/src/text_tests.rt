@@ -1,7 +1,6 @@
 use crate::verdicts::is_printed;
-use init_words::Memory;
 use std::alloc::Global;
-use trace_events::{Happening, HappeningIn};
+use trace_events::Happening;
 use trace_text::{ReadFault, print_one, print_table};
 
 /// Texts of traces, and texts that are none with the number of the line at which no happening begins.
@@ -88,29 +87,24 @@ const TEXTS: &[(&str, u64)] = &[
     ("use 1\na:3:once:x\nb:3:once:y\n", 3),
 ];
 
-/// The happenings of a trace, each printed by itself, are its text.
-fn are_printed(own: Global, trace: &[HappeningIn<Global>], text: &str) -> Result<bool, Memory> {
-    let mut printed = Vec::new(own);
-    for happening in trace {
-        let lines = match happening {
-            Happening::NewTable(table) => print_table(own, table)?,
-            _ => print_one(own, happening)?,
-        };
-        printed.extend_from_slice(lines.as_slice())?;
-    }
-    Ok(printed.as_slice() == text.as_bytes())
-}
-
-/// The number of the line at which the text is no trace's, 0 where it is one's, which is printed again.
+/// The number of the line at which the text is no trace's, 0 where it is one's, which is printed again, whole and each
+/// happening by itself.
 fn fault_in(own: Global, text: &str) -> Option<u64> {
-    match trace_text::read(own, text.as_bytes()) {
-        Ok(trace) => {
-            let is_so = is_printed(own, &trace, text).ok()? && are_printed(own, &trace, text).ok()?;
-            is_so.then_some(0)
-        }
-        Err(ReadFault::Line(number)) => Some(number),
-        Err(ReadFault::Memory) => None,
+    let trace = match trace_text::read(own, text.as_bytes()) {
+        Ok(trace) => trace,
+        Err(ReadFault::Line(number)) => return Some(number),
+        Err(ReadFault::Memory) => return None,
+    };
+    let mut printed = Vec::new(own);
+    for happening in trace.as_slice() {
+        let lines = match happening {
+            Happening::NewTable(table) => print_table(own, table),
+            _ => print_one(own, happening),
+        };
+        printed.extend_from_slice(lines.ok()?.as_slice()).ok()?;
     }
+    let is_so = is_printed(own, &trace, text).ok()? && printed.as_slice() == text.as_bytes();
+    is_so.then_some(0)
 }
 
 #[test]

@@ -2,16 +2,6 @@ use std::alloc::{AllocError, Global};
 use trace_events::HappeningIn;
 use trace_text::first_happening;
 
-fn add_lines(text: &mut String, count: u32, group: &str) -> Result<(), AllocError> {
-    for _ in 0..count {
-        for line in group.split(", ") {
-            text.push_str(line)?;
-            text.push('\n')?;
-        }
-    }
-    Ok(())
-}
-
 /// The lines of a row, which ` / ` parts, each ended by a newline; none of an empty row. A part `N x LINE, LINE` has its
 /// lines so often.
 pub(crate) fn lines(own: Global, row: &str) -> Result<String, AllocError> {
@@ -21,7 +11,12 @@ pub(crate) fn lines(own: Global, row: &str) -> Result<String, AllocError> {
     }
     for part in row.split(" / ") {
         let (count, group) = part.split_once(" x ").unwrap_or(("1", part));
-        add_lines(&mut text, count.parse::<u32>().unwrap_or(0), group)?;
+        for _ in 0..count.parse::<u32>().unwrap_or(0) {
+            for line in group.split(", ") {
+                text.push_str(line)?;
+                text.push('\n')?;
+            }
+        }
     }
     Ok(text)
 }

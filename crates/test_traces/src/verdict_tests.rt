@@ -1,7 +1,7 @@
 //! Verdicts on traces, worked out from the definitions of the laws: on each as it is, with its lines changed in turn, cut
 //! in pieces, and in its brief form.
 
-use crate::verdicts::{are_judged, is_cut, is_shortened};
+use crate::verdicts::{are_judged, found_of, is_shortened};
 
 /// Traces and their verdicts, and those on them with each of their lines dropped, doubled, and exchanged with the next one
 /// in turn, where they are there. A verdict is `.` where the trace is lawful, else the place of the first breach from 0 and
@@ -382,8 +382,11 @@ const SIZES: [usize; 7] = [1, 2, 3, 4, 7, 20, 1000];
 fn a_text_is_judged_however_it_is_cut(rt: HostRuntime) {
     for (text, said, left) in TEXTS {
         for size in SIZES {
-            let is_so = is_cut(rt.alloc(), text, size, (said, *left));
-            assert!(rt; is_so == Some(true), "pieces of {size} of {text:?}");
+            let is_so = match found_of(rt.alloc(), text, size) {
+                Some((found, at)) => found.as_str() == *said && at == *left,
+                None => false,
+            };
+            assert!(rt; is_so, "pieces of {size} of {text:?}");
         }
     }
 }

@@ -11,46 +11,29 @@ use trace_log_wrappers::BriefLog;
 use trace_text::ReadFault;
 use trace_verdict::{Finding, TextJudge};
 
-/// What is done to a line of a trace.
-#[derive(Clone, Copy, PartialEq, Eq)]
-enum Change {
-    None,
-    Dropped,
-    Doubled,
-    /// With the next one.
-    Exchanged,
-}
-
-const CHANGES: [Change; 4] = [
-    Change::None,
-    Change::Dropped,
-    Change::Doubled,
-    Change::Exchanged,
-];
-
-fn add_changed(text: &mut String, line: &str, change: Change) -> Result<(), AllocError> {
-    if change != Change::Dropped {
-        text.push_str(line)?;
-    }
-    if change == Change::Doubled {
-        text.push_str(line)?;
-    }
-    Ok(())
-}
+/// How often a line of a trace is there in place of once; with none it is exchanged with the next one.
+const CHANGES: [Option<usize>; 4] = [Some(1), Some(0), Some(2), None];
 
 /// A text with its line at a place changed.
-fn changed(own: Global, text: &str, place: usize, change: Change) -> Result<String, AllocError> {
+fn changed(
+    own: Global,
+    text: &str,
+    place: usize,
+    change: Option<usize>,
+) -> Result<String, AllocError> {
     let mut made = String::new(own);
-    let mut held = None;
+    let mut held = "";
     for (at, line) in text.split_inclusive('\n').enumerate() {
-        if at == place && change == Change::Exchanged {
-            held = Some(line);
-            continue;
-        }
-        let here = if at == place { change } else { Change::None };
-        add_changed(&mut made, line, here)?;
-        if let Some(first) = held.take() {
-            made.push_str(first)?;
+        let times = if at == place { change } else { Some(1) };
+        match times {
+            Some(times) => {
+                for _ in 0..times {
+                    made.push_str(line)?;
+                }
+                made.push_str(held)?;
+                held = "";
+            }
+            None => held = line,
         }
     }
     Ok(made)
@@ -92,17 +75,11 @@ fn verdict_on(own: Global, trace: &[HappeningIn<Global>]) -> Result<String, Memo
     }
 }
 
-/// The law of a verdict; none of a lawful trace.
-fn law_of(verdict: &str) -> Option<&str> {
-    let (_, law) = verdict.split_once(':')?;
-    Some(law)
-}
-
 /// The brief form of a trace breaks the same law first as the trace itself, of which this is the verdict, or none.
 fn is_alike(own: Global, trace: &[HappeningIn<Global>], verdict: &str) -> Result<bool, Memory> {
     let (brief, all) = finished(ListLog::new(own), trace);
     let given = verdict_on(own, brief.as_slice())?;
-    Ok(all && brief.len() <= trace.len() && law_of(given.as_str()) == law_of(verdict))
+    Ok(all && brief.len() <= trace.len() && given.split(':').last() == verdict.split(':').last())
 }
 
 /// The trace prints as the text.
@@ -114,24 +91,15 @@ pub(crate) fn is_printed(
     Ok(trace_text::print(own, trace)?.as_slice() == text.as_bytes())
 }
 
-/// The trace prints as the text, has this verdict, and has a brief form like it.
-fn is_said(
-    own: Global,
-    trace: &[HappeningIn<Global>],
-    text: &str,
-    want: &str,
-) -> Result<bool, Memory> {
-    Ok(
-        is_printed(own, trace, text)?
-            && verdict_on(own, trace)?.as_str() == want
-            && is_alike(own, trace, want)?,
-    )
-}
-
-/// The verdict on a text is this; `?` and the number of a line that is none.
+/// The verdict on a text is this, its trace prints as the text, and has a brief form like it; `?` and the number of a line
+/// that is none.
 fn is_judged(own: Global, text: &str, want: &str) -> Result<bool, Memory> {
     match trace_text::read(own, text.as_bytes()) {
-        Ok(trace) => is_said(own, &trace, text, want),
+        Ok(trace) => Ok(
+            is_printed(own, &trace, text)?
+                && verdict_on(own, &trace)?.as_str() == want
+                && is_alike(own, &trace, want)?,
+        ),
         Err(ReadFault::Line(number)) => Ok(format!(in own; "?{number}")?.as_str() == want),
         Err(ReadFault::Memory) => Err(Memory),
     }
@@ -158,7 +126,7 @@ pub(crate) fn hand_over<A: Allocator + Copy>(
 }
 
 /// What a judge found: `.`, the place of the first breach, its law, its line and its text, or `?` and a line.
-fn found<A: Allocator + Copy>(own: Global, judge: &TextJudge<A>) -> Option<String> {
+pub(crate) fn found<A: Allocator + Copy>(own: Global, judge: &TextJudge<A>) -> Option<String> {
     match judge.answer().0 {
         Finding::Lawful => String::from_str(own, ".").ok(),
         Finding::Breach(breach) => {
@@ -170,52 +138,26 @@ fn found<A: Allocator + Copy>(own: Global, judge: &TextJudge<A>) -> Option<Strin
     }
 }
 
-/// A judge found this, and the happening at this line isn't finished, 0 for none.
-pub(crate) fn is_found<A: Allocator + Copy>(
-    own: Global,
-    judge: &TextJudge<A>,
-    said: (&str, u64),
-) -> Option<bool> {
-    let (want, left) = said;
-    Some(found(own, judge)?.as_str() == want && judge.answer().1.unwrap_or(0) == left)
-}
-
-/// This is found of a text in pieces of a size.
-pub(crate) fn is_cut(own: Global, text: &str, size: usize, said: (&str, u64)) -> Option<bool> {
+/// What is found of a text in pieces of a size, and the line at which its last happening isn't finished, 0 for none.
+pub(crate) fn found_of(own: Global, text: &str, size: usize) -> Option<(String, u64)> {
     let mut judge = judge_over(own, own).ok()?;
     hand_over(&mut judge, text.as_bytes(), size).ok()?;
-    is_found(own, &judge, said)
+    Some((found(own, &judge)?, judge.answer().1.unwrap_or(0)))
 }
 
-/// The verdict on a text in pieces of five bytes is this.
-fn is_cut_so(own: Global, text: &str, want: &str) -> Option<bool> {
-    let mut judge = judge_over(own, own).ok()?;
-    hand_over(&mut judge, text.as_bytes(), 5).ok()?;
-    let found = found(own, &judge)?;
-    let (verdict, _) = found.split_once(' ').unwrap_or((found.as_str(), ""));
-    Some(verdict == want)
-}
-
-/// With its line at each place changed so in turn a text has these verdicts.
-fn are_so(own: Global, text: &str, change: Change, verdicts: &str) -> Option<bool> {
-    for (place, want) in verdicts.split(' ').enumerate() {
-        let text = changed(own, text, place, change).ok()?;
-        if is_judged(own, text.as_str(), want) != Ok(true)
-            || !is_cut_so(own, text.as_str(), want)?
-        {
-            return Some(false);
-        }
-    }
-    Some(true)
-}
-
-/// The trace of a row has its verdict, and its others with each of its lines changed.
+/// The trace of a row has its verdict, and its others with each of its lines changed so in turn, read whole and in pieces.
 pub(crate) fn are_judged(own: Global, row: &str) -> Option<bool> {
     let (trace, verdicts) = row.split_once("| ")?;
     let text = lines(own, trace.trim_ascii_end()).ok()?;
     for (change, said) in CHANGES.iter().zip(verdicts.split(" | ")) {
-        if !are_so(own, text.as_str(), *change, said)? {
-            return Some(false);
+        for (place, want) in said.split(' ').enumerate() {
+            let text = changed(own, text.as_str(), place, *change).ok()?;
+            let (found, _) = found_of(own, text.as_str(), 5)?;
+            if is_judged(own, text.as_str(), want) != Ok(true)
+                || found.split(' ').next() != Some(want)
+            {
+                return Some(false);
+            }
         }
     }
     Some(true)
