@@ -1,6 +1,7 @@
 //! Names of init scripts and facilities.
 
 ghost use Rattle.std.specs.Prelude.{◌≡◌};
+ghost use Rattle.std.specs.List.{list_all};
 ghost use Rattle.rc_links.specs.Names.{is_name, is_name_byte};
 
 /// A byte of a name that a link may have: one of `A-Z a-z 0-9 . _ -`.
@@ -10,9 +11,15 @@ pub fn is_name_byte(byte: u8) -> bool
     byte.is_ascii_alphanumeric() || byte == b'.' || byte == b'_' || byte == b'-'
 }
 
+fn has_name_bytes(name: &[u8]) -> bool
+    ensures { result ≡ list_all is_name_byte name.now }
+{
+    name.iter().all(|byte| is_name_byte(*byte))
+}
+
 /// A name that a link may have after its digits: one or more such bytes.
 pub fn is_name(name: &[u8]) -> bool
     ensures { result ≡ is_name name.now }
 {
-    !name.is_empty() && name.iter().all(|byte| is_name_byte(*byte))
+    !name.is_empty() && has_name_bytes(name)
 }

@@ -1,4 +1,3 @@
-pub mod KeptLemmas
 pub mod PathLemmas
 pub mod ReadingLemmas
 pub mod RunLemmas

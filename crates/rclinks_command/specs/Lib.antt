@@ -2,8 +2,6 @@ pub mod Command
 pub mod Facilities
 pub mod Files
 pub mod Folders
-pub mod KeptLinks
-pub mod KeptText
 pub mod Reading
 pub mod Said
 pub mod Skipping

@@ -8,6 +8,7 @@ use core_records::{Record, Records};
 use init_words::{Act, Id, Level, Refusal};
 use linked_list_allocator::LocalHeap;
 use std::alloc::Global;
+use test_support::fill;
 
 /// A run up to an adoption, what is so where that is refused, and what comes of it where it is made.
 struct Scarce<'a> {
@@ -51,23 +52,6 @@ const SCARCE: &[Scarce] = &[
                child 701 b / starts a none / held a none / last a 3 / termed 7",
     },
 ];
-
-const SIZES: &[usize] = &[4096, 256, 64, 16];
-
-/// Takes what a heap has left but the given number of bytes, in blocks of falling sizes, up to 64 of each.
-fn fill<'a>(own: Global, heap: &'a LocalHeap, room: usize) -> Option<Vec<Vec<u8, &'a LocalHeap>>> {
-    let _kept = Vec::<u8, &LocalHeap>::with_capacity(heap, room).ok()?;
-    let mut fillers = Vec::new(own);
-    for size in SIZES {
-        for _ in 0..64 {
-            let Ok(filler) = Vec::with_capacity(heap, *size) else {
-                break;
-            };
-            fillers.push(filler).ok()?;
-        }
-    }
-    Some(fillers)
-}
 
 /// Two heaps: of the first so much is left, the other has ample room.
 #[derive(Drop)]

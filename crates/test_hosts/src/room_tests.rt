@@ -91,21 +91,18 @@ fn made_in(
 /// In steps of 16 bytes, less than the least growth takes, first no host is made, then one that refuses what it is asked
 /// for, and at last, past so many steps, one that does it.
 fn comes_of_room(rt: &HostRuntime, ample: &mut SystemHost<Global>, asked: &Asked) -> Option<bool> {
+    let (first, most) = if asked.0 == "ample" {
+        (0, 8192usize)
+    } else {
+        (2, 1024)
+    };
     let mut is_host = false;
-    for step in 0..8192usize {
-        match made_in(rt, ample, 16 * step, asked)? {
-            Made::Nothing => {
-                if is_host {
-                    return None;
-                }
-            }
-            Made::Host => {
-                if step < 2 && asked.0 != "ample" {
-                    return None;
-                }
-                is_host = true;
-            }
+    for step in 0..most {
+        match made_in(rt, ample, step.saturating_mul(16), asked)? {
+            Made::Nothing if !is_host => {}
+            Made::Host if step >= first => is_host = true,
             Made::All => return Some(is_host && step > asked.4),
+            _ => return None,
         }
     }
     None

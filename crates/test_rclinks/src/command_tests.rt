@@ -5,8 +5,10 @@ use crate::texts::NET;
 use command_words::{KIT, VERSION};
 use init_words::Level;
 use program_io::KeptTexts;
-use rclinks_command::{KeptLinks, LinkFolders, run_words};
+use rc_links::{FolderEntry, LinkAction, LinkChange, is_same};
+use rclinks_command::{LinkFolders, run_words};
 use std::alloc::{AllocError, Global};
+use std::io;
 use std::test::Fail;
 use test_support::{Slow, line_words};
 
@@ -100,26 +102,90 @@ fn kept_texts(own: Global) -> Result<KeptTexts, AllocError> {
     Ok(kept)
 }
 
-fn kept_links(own: Global, words: &str) -> Result<KeptLinks, AllocError> {
-    let mut kept = KeptLinks::new(own);
+/// An entry of a runlevel's folder in a directory.
+#[derive(Drop)]
+struct Link {
+    dir: String,
+    level: Level,
+    entry: FolderEntry,
+}
+
+impl Link {
+    fn is_in(&self, dir: &str, level: Level) -> bool {
+        self.dir.as_str() == dir && self.level == level
+    }
+}
+
+/// The folders of the runlevels in memory, without `init.d`. Nothing is known of them.
+#[derive(Drop)]
+struct Links {
+    links: Vec<Link>,
+}
+
+impl Links {
+    fn add(
+        &mut self,
+        own: Global,
+        dir: &str,
+        level: Level,
+        name: &[u8],
+        leads: &[u8],
+    ) -> Result<(), AllocError> {
+        let dir = String::from_str(own, dir)?;
+        let entry = FolderEntry::new(Vec::from_slice(own, name)?, Vec::from_slice(own, leads)?);
+        self.links.push(Link { dir, level, entry })?;
+        Ok(())
+    }
+}
+
+impl LinkFolders for Links {
+    ghost use Rattle.std.specs.Prelude.{None};
+
+    ghost held = { λ _ _ _. None };
+
+    ghost scripts_in = { λ _ _. None };
+
+    fn entries(&self, alloc: Global, dir: &str, level: Level) -> io::Result<Vec<FolderEntry>> {
+        let mut found = Vec::new(alloc);
+        for link in &self.links {
+            if link.is_in(dir, level) {
+                found.push(link.entry.copy(alloc)?)?;
+            }
+        }
+        Ok(found)
+    }
+
+    fn scripts(&self, alloc: Global, _dir: &str) -> io::Result<Vec<FolderEntry>> {
+        Ok(Vec::new(alloc))
+    }
+
+    fn change(&mut self, alloc: Global, dir: &str, change: &LinkChange) -> io::Result<()> {
+        let (level, entry) = (change.level(), change.entry());
+        match change.act() {
+            LinkAction::Remove => self.links.retain(|link: &Link| !(link.is_in(dir, level)
+                && is_same(entry, &link.entry))),
+            LinkAction::Make => self.add(alloc, dir, level, entry.name(), entry.leads())?,
+        }
+        Ok(())
+    }
+}
+
+fn links_of(own: Global, words: &str) -> Result<Links, AllocError> {
+    let mut links = Links {
+        links: Vec::new(own),
+    };
     for word in words.split_ascii_whitespace() {
         for (name, dir, level, link, leads) in ENTRIES {
             if *name == word {
-                kept.keep(dir, *level, link.as_bytes(), leads.as_bytes())?;
+                links.add(own, dir, *level, link.as_bytes(), leads.as_bytes())?;
             }
         }
     }
-    Ok(kept)
+    Ok(links)
 }
 
 /// The folder of a runlevel in a directory holds just those of these entries that are its own, in order.
-fn holds(
-    own: Global,
-    links: &KeptLinks,
-    words: &str,
-    dir: &'static str,
-    level: Level,
-) -> Option<bool> {
+fn holds(own: Global, links: &Links, words: &str, dir: &'static str, level: Level) -> Option<bool> {
     let found = links.entries(own, dir, level).ok()?;
     let mut place = 0usize;
     for word in words.split_ascii_whitespace() {
@@ -136,7 +202,7 @@ fn holds(
     Some(place == found.len())
 }
 
-fn hold(own: Global, links: &KeptLinks, words: &str) -> bool {
+fn hold(own: Global, links: &Links, words: &str) -> bool {
     for level in [Level::L0, Level::L2, Level::L3] {
         for dir in ["etc", "old"] {
             if holds(own, links, words, dir, level) != Some(true) {
@@ -161,7 +227,7 @@ fn is_row(own: Global, texts: &KeptTexts, row: &str, version: &str) -> Option<bo
     let [before, line, room, status, out, err, after] = fields.as_slice() else {
         return None;
     };
-    let mut links = kept_links(own, before).ok()?;
+    let mut links = links_of(own, before).ok()?;
     let words = line_words(own, line).ok()?;
     let is_stuck = room.starts_with("stuck ");
     let room = room.trim_start_matches("stuck ").parse::<usize>().ok()?;

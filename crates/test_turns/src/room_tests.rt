@@ -11,29 +11,8 @@ use init_words::Memory;
 use inittab_text::Table;
 use linked_list_allocator::LocalHeap;
 use std::alloc::Global;
-use test_support::boxed;
+use test_support::{boxed, fill};
 use trace_log::ListLog;
-
-const SIZES: &[usize] = &[4096, 256, 64, 16];
-
-/// Takes what a heap has left but the given number of bytes, in blocks of falling sizes, up to 64 of each.
-pub(crate) fn fill<'a>(
-    own: Global,
-    heap: &'a LocalHeap,
-    room: usize,
-) -> Option<Vec<Vec<u8, &'a LocalHeap>>> {
-    let _kept = Vec::<u8, &LocalHeap>::with_capacity(heap, room).ok()?;
-    let mut fillers = Vec::new(own);
-    for size in SIZES {
-        for _ in 0..64 {
-            let Ok(filler) = Vec::with_capacity(heap, *size) else {
-                break;
-            };
-            fillers.push(filler).ok()?;
-        }
-    }
-    Some(fillers)
-}
 
 /// The run is as it says where the host has no room left to tell a call.
 fn is_untold(own: Global) -> Option<bool> {

@@ -2,13 +2,12 @@
 //! empty; and a host without room.
 
 use crate::replies::{bytes_of, give, give_all, given, late_of, reply_of, table_of};
-use crate::room_tests::fill;
 use host_calls::{Bytes, Host, HostFault, PartList};
 use host_scripted::MemoryHost;
 use init_words::{Id, Level, Part, SignalKind};
 use linked_list_allocator::LocalHeap;
 use std::alloc::{Allocator, Global};
-use test_support::boxed;
+use test_support::{boxed, fill};
 use trace_events::Happening;
 
 const TABLES: &str = "table inittab@id:3:initdefault: + 10-b.tab@=b:3:once:y + 20-a.tab@";
