@@ -1,7 +1,5 @@
 -- The folders of the runlevels, and the names in them, as far as they are known.
-use Rattle.std.specs.Prelude.{◌≡◌, ℕ, List, [], ◌∷◌, ◌++◌, map, codes, Option, Some, None, IfSome}
-use Rattle.std.specs.List.{filter}
-use Rattle.std.specs.Str.{bytes_eq}
+use Rattle.std.specs.Prelude.{◌≡◌, ℕ, List, [], ◌∷◌, ◌++◌, codes, Option, Some, None, IfSome}
 use Rattle.init_words.specs.declared.levels.Level.{Level}
 use Rattle.init_words.specs.Levels.{level_code}
 
@@ -21,15 +19,3 @@ folder_of dir level = dir ++ (codes "/rc" ++ level_code level ∷ codes ".d")
 abbrev pub ArePrevious : KnownNames → List ℕ → Option Level → List (List ℕ) → Type 0
 ArePrevious names_at dir None names = names ≡ []
 ArePrevious names_at dir (Some level) names = AreNamesAt names_at (folder_of dir level) names
-
--- a name that is kept, and the path of the folder in which it stands
-pub record KeptName : Type 0 where
-  pub path : List ℕ
-  pub name : List ℕ
-
-abbrev pub kept_in : List ℕ → List ℕ → KeptName
-kept_in path name = record { path = path; name = name }
-
--- the names that are kept in the folder at the path
-abbrev pub names_in : List KeptName → List ℕ → List (List ℕ)
-names_in kept path = map (λ (k : KeptName). k.name) (filter (λ (k : KeptName). bytes_eq k.path path) kept)

@@ -42,11 +42,3 @@ abbrev pub KeepsIn : Bool → Option (List ℕ) → Level → KnownFiles → Kno
 KeepsIn true file new before after = AreSame before after
 KeepsIn false None new before after = AreSame before after
 KeepsIn false (Some path) new before after = HasText path (level_text new) before after
-
--- a file that is kept, or its want
-pub record KeptFile : Type 0 where
-  pub path : List ℕ
-  pub text : Option (List ℕ)
-
-abbrev pub kept_at : KeptFile → KnownFiles
-kept_at kept at = if bytes_eq kept.path at then Some kept.text else None

@@ -5,8 +5,6 @@
 mod command;
 mod folders;
 mod hosts;
-mod kept_folders;
-mod kept_level;
 mod level_files;
 mod running;
 
@@ -14,7 +12,5 @@ pub use command::{RunOptions, Words, read_words};
 pub use command_words::WordFault;
 pub use folders::Folders;
 pub use hosts::os_host;
-pub use kept_folders::KeptFolders;
-pub use kept_level::KeptLevel;
 pub use level_files::{LevelFiles, OsFiles};
 pub use running::{PAUSES_LIMIT, SCRIPT_FAILED, SHORT_USAGE, USAGE, run_names, run_words};

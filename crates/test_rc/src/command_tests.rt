@@ -1,13 +1,67 @@
-//! Whole command lines of rc over a scripted host and folders in memory: which calls a run makes of its host, and what
+//! Whole command lines of rc over a scripted host and the folders of a row: which calls a run makes of its host, and what
 //! can't be written.
 
 use crate::hosts::{fields_of, given_host, has_calls};
 use command_words::{KIT, VERSION};
 use host_scripted::MemoryHost;
-use rc_command::{Folders, KeptFolders, KeptLevel, LevelFiles, run_words};
+use rc_command::{Folders, LevelFiles, run_words};
 use std::alloc::Global;
+use std::io;
+use std::io::ErrorKind;
 use std::test::Fail;
 use test_support::{Slow, line_words};
+
+/// The scripts in the folders `k/rc3.d` and so on, each behind its level. Nothing is known of them.
+#[derive(Drop)]
+struct RowFolders<'r> {
+    scripts: &'r str,
+}
+
+impl<'r> Folders for RowFolders<'r> {
+    ghost use Rattle.std.specs.Prelude.{None};
+
+    ghost names_at = { λ _ _. None };
+
+    fn names(&self, alloc: Global, path: &str) -> io::Result<Vec<String>> {
+        let mut names = Vec::new(alloc);
+        for script in self.scripts.split_ascii_whitespace() {
+            if let Some((level, name)) = script.split_once('/') {
+                let folder = format!(in alloc; "k/rc{level}.d")?;
+                if folder.as_str() == path {
+                    names.push(String::from_str(alloc, name)?)?;
+                }
+            }
+        }
+        Ok(names)
+    }
+}
+
+/// The file `level`, or its want. Nothing is known of it.
+#[derive(Drop)]
+struct LevelFile {
+    text: Option<Vec<u8>>,
+}
+
+impl LevelFiles for LevelFile {
+    ghost use Rattle.std.specs.Prelude.{None};
+
+    ghost file_at = { λ _ _. None };
+
+    fn read(&self, alloc: Global, _path: &str) -> io::Result<Option<Vec<u8>>> {
+        match &self.text {
+            Some(text) => Ok(Some(Vec::from_slice(alloc, text.as_slice())?)),
+            None => Ok(None),
+        }
+    }
+
+    fn put(&mut self, alloc: Global, path: &str, text: &[u8]) -> io::Result<()> {
+        if path != "level" {
+            return Err(io::Error::from(ErrorKind::NotFound));
+        }
+        self.text = Some(Vec::from_slice(alloc, text)?);
+        Ok(())
+    }
+}
 
 /// Parted by `|`: a command line; the scripts in the folders `k/rc3.d` and so on; what the host is given; the room of
 /// the writer; the status; what is written, VERSION for the version's line, as far as there is room; what is told; the
@@ -32,17 +86,6 @@ const ROWS: &[&str] = &[
     "--level-file level k 3||///|0|0||||3\n",
 ];
 
-/// Folders that have these scripts, each behind its level.
-fn folders_of(own: Global, scripts: &str) -> Option<KeptFolders> {
-    let mut folders = KeptFolders::new(own);
-    for script in scripts.split_ascii_whitespace() {
-        let (level, name) = script.split_once('/')?;
-        let path = format!(in own; "k/rc{level}.d").ok()?;
-        folders.keep(&path, name).ok()?;
-    }
-    Some(folders)
-}
-
 /// What is told is this, or begins with what stands before a star.
 fn is_told(err: &[u8], want: &str) -> bool {
     match want.split_once('*') {
@@ -52,11 +95,10 @@ fn is_told(err: &[u8], want: &str) -> bool {
 }
 
 /// The file has this text, or isn't there.
-fn has_level(own: Global, level: &KeptLevel, want: &str) -> bool {
-    match level.read(own, "level") {
-        Ok(Some(text)) => text.as_slice() == want.as_bytes(),
-        Ok(None) => want.is_empty(),
-        Err(_) => false,
+fn has_level(level: &LevelFile, want: &str) -> bool {
+    match &level.text {
+        Some(text) => text.as_slice() == want.as_bytes(),
+        None => want.is_empty(),
     }
 }
 
@@ -64,14 +106,14 @@ fn has_level(own: Global, level: &KeptLevel, want: &str) -> bool {
 fn is_run(
     own: Global,
     host: &mut MemoryHost,
-    level: &mut KeptLevel,
+    level: &mut LevelFile,
     row: &[&str],
     version: &str,
 ) -> Option<bool> {
     let [line, scripts, _, room, status, out, err, _, _] = row else {
         return None;
     };
-    let folders = folders_of(own, scripts)?;
+    let folders = RowFolders { scripts };
     let words = line_words(own, line).ok()?;
     let mut lines = Slow::new(own, room.parse::<usize>().ok()?, true, false);
     let mut told: Vec<u8> = Vec::new(own);
@@ -87,9 +129,9 @@ fn is_row(own: Global, row: &str, version: &str) -> Option<bool> {
         return None;
     };
     let mut host = given_host(own, given)?;
-    let mut level = KeptLevel::new(own, "level").ok()?;
+    let mut level = LevelFile { text: None };
     let is_run = is_run(own, &mut host, &mut level, fields.as_slice(), version)?;
-    Some(is_run && has_calls(&host, calls) && has_level(own, &level, kept))
+    Some(is_run && has_calls(&host, calls) && has_level(&level, kept))
 }
 
 #[test]
@@ -98,14 +140,5 @@ fn lines_are_answered(rt: HostRuntime) -> Result<(), Fail> {
     for row in ROWS {
         assert!(rt; is_row(rt.alloc(), row, &version) == Some(true), "{row}");
     }
-    Ok(())
-}
-
-#[test]
-fn the_names_of_a_folder_are_those_kept_in_it(rt: HostRuntime) -> Result<(), Fail> {
-    let folders = folders_of(rt.alloc(), "3/README 2/S10a 3/S1").ok_or("no folders")?;
-    let names = folders.names(rt.alloc(), "k/rc3.d")?;
-    let others = folders.names(rt.alloc(), "k/rc4.d")?;
-    assert!(&rt; names.len() == 2 && names[0].as_str() == "README" && others.is_empty());
     Ok(())
 }
