@@ -1,2 +1,2 @@
-pub mod CommandLines
 pub mod KnownLines
+pub mod Refusals

@@ -27,10 +27,12 @@ reason_in text = without_front (codes "error: ") (first_line text)
 abbrev pub reason_line : Text → Text → Text
 reason_line name reason = name ++ (codes ": " ++ (reason ++ codes "\n"))
 
--- what is reported of words that are no command line: the reason in a line, where one is given, and the usage
-abbrev pub usage_report : Text → Text → Text → Text
-usage_report name reason usage = if length reason == 0 then usage else reason_line name reason ++ usage
+-- what is reported of words that are no command line: the reason in a line and the usage in a line; the whole usage
+-- where no reason is given, since help is asked for
+abbrev pub usage_report : Text → Text → Text → Text → Text
+usage_report name reason whole short = if length reason == 0 then whole else reason_line name reason ++ short
 
 -- a writer gained why a program's words are refused and its usage, as much of it as it took
-abbrev pub ReportsUsage : Text → Text → Option Text → Option Text → Type 0
-ReportsUsage name usage old new = (reason : Text) × AppendsPrefix old new (usage_report name reason usage)
+abbrev pub ReportsUsage : Text → Text → Text → Option Text → Option Text → Type 0
+ReportsUsage name whole short old new =
+    (reason : Text) × AppendsPrefix old new (usage_report name reason whole short)

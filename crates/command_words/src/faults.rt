@@ -104,31 +104,44 @@ fn first_line(text: &str) -> &str
 
 /// Reports why words were not read, by as much of the text as `err` takes, and gives the status: for words that are no
 /// command line as `report_refused_words`, for want of memory as `report_no_memory`.
-pub fn report_word_fault<E: Write>(name: &str, fault: &WordFault, usage: &str, err: &mut E) -> u8
+pub fn report_word_fault<E: Write>(
+    name: &str,
+    fault: &WordFault,
+    whole: &str,
+    short: &str,
+    err: &mut E,
+) -> u8
     ensures usage { IfSome (reason_of fault.now) (λ reason. (result ≡ REFUSED)
         × AppendsPrefix (E.contents err.old) (E.contents err.new)
-        (usage_report name.now reason usage.now)) }
+        (usage_report name.now reason whole.now short.now)) }
     ensures memory { fault.now ≡ Memory → (result ≡ DEVICE_FAULT)
         × AppendsPrefix (E.contents err.old) (E.contents err.new) (no_memory_text name.now) }
 {
     match fault {
-        WordFault::Usage(reason) => report_refused_words(name, reason.as_str(), usage, err),
+        WordFault::Usage(reason) => report_refused_words(name, reason.as_str(), whole, short, err),
         WordFault::Memory => report_no_memory(name, err),
     }
 }
 
 /// Reports that words are no command line, by as much of the text as `err` takes, and gives the status: a line of the
-/// program's name and the reason, where it is not empty, and the usage.
-pub fn report_refused_words<E: Write>(name: &str, reason: &str, usage: &str, err: &mut E) -> u8
+/// program's name and the reason, with the usage in a line; or the whole usage where the reason is empty, since help is
+/// asked for.
+pub fn report_refused_words<E: Write>(
+    name: &str,
+    reason: &str,
+    whole: &str,
+    short: &str,
+    err: &mut E,
+) -> u8
     ensures status { result ≡ REFUSED }
     ensures report { AppendsPrefix (E.contents err.old) (E.contents err.new)
-        (usage_report name.now reason.now usage.now) }
+        (usage_report name.now reason.now whole.now short.now) }
 {
     if reason.is_empty() {
-        return report_usage(usage, err);
+        return report_usage(whole, err);
     }
     match write_reason(name, reason, err) {
-        Ok(()) => report_usage(usage, err),
+        Ok(()) => report_usage(short, err),
         Err(_) => REFUSED,
     }
 }

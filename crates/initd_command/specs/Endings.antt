@@ -1,5 +1,5 @@
 -- How a command line of initd ends: its exit status, what was written, and what is reported of it.
-use Rattle.std.specs.Prelude.{◌≡◌, ℕ, Bool, true, false, ◌==◌, if◌then◌else◌, List, [], ◌++◌, length, codes, decimal, Option, Some, None}
+use Rattle.std.specs.Prelude.{◌≡◌, ℕ, Bool, true, false, if◌then◌else◌, List, [], ◌++◌, codes, decimal, Option, Some, None}
 use Rattle.std.specs.Io.KnownBytes.{Keeps}
 use Rattle.program_io.specs.Writing.{AppendsPrefix}
 use Rattle.program_io.specs.declared.statuses.TheConstants.{DONE, REFUSED, UNLAWFUL, DEVICE_FAULT}
@@ -174,10 +174,6 @@ ReportsJudged judged old new =
     (first : Option (List ℕ)) × ReportsWithin judged.within old first
     × (mid : Option (List ℕ)) × ReportsText (count_message judged.count) first mid × ReportsLeft judged.left mid new
 
--- the usage that stands behind a reason: the whole where none is told, else a line
-abbrev pub usage_told : List ℕ → List ℕ
-usage_told reason = if length reason == 0 then USAGE.now else SHORT_USAGE.now
-
 abbrev pub ReportsObstacle : Obstacle → Option (List ℕ) → Option (List ℕ) → Type 0
 ReportsObstacle (unread path why) old new = ReportsText (cannot_message (codes "read") path why) old new
 ReportsObstacle no_memory old new = AppendsPrefix old new NO_MEMORY.now
@@ -193,7 +189,7 @@ ReportsObstacle (uncreated path why) old new = ReportsText (cannot_message (code
 -- what is reported of an ending
 abbrev pub Reports : Ending → Option (List ℕ) → Option (List ℕ) → Type 0
 Reports done old new = Keeps old new
-Reports (usage reason) old new = AppendsPrefix old new (usage_report (codes "initd") reason (usage_told reason))
+Reports (usage reason) old new = AppendsPrefix old new (usage_report (codes "initd") reason USAGE.now SHORT_USAGE.now)
 Reports (refused why) old new = ReportsObstacle why old new
 Reports (stopped script f) old new = ReportsText (fault_message script f) old new
 Reports unflushed old new = ReportsText (fault_message [] fault.Write) old new

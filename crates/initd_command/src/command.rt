@@ -1,7 +1,7 @@
 //! The words of `initd`, and which work they ask for.
 
 ghost use Rattle.std.specs.Prelude.{◌≡◌, map, string_bytes};
-ghost use Rattle.initd_command.specs.Endings.{Ending, Reports, status_of, usage_told};
+ghost use Rattle.initd_command.specs.Endings.{Ending, Reports, status_of};
 ghost use Rattle.initd_command.specs.Ran.{AsksBy};
 ghost use Rattle.initd_command.specs.Runs.{EndsBy, EndsVersion};
 
@@ -107,21 +107,9 @@ where
         Ok(Words::Check(said)) => check_file(texts, alloc, &said, out, err),
         Ok(Words::Run(said)) => run_files(rt, texts, hosts, alloc, &said, out, err),
         Err(WordFault::Usage(reason)) => {
-            let reason = reason.as_str();
-            report_refused_words("initd", reason, usage_for(reason), err)
+            report_refused_words("initd", reason.as_str(), USAGE, SHORT_USAGE, err)
         }
         Err(WordFault::Memory) => report_memory(err),
-    }
-}
-
-/// The usage that stands behind a reason: the whole where none is told, since help is asked for.
-fn usage_for(reason: &str) -> &'static str
-    ensures { result.now ≡ usage_told reason.now }
-{
-    if reason.is_empty() {
-        USAGE
-    } else {
-        SHORT_USAGE
     }
 }
 

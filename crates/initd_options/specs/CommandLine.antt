@@ -1,31 +1,28 @@
 -- The command lines `initd simulate [--level L] TABLE SCRIPT`, `initd check [--growing] TRACE` and `initd run ..`, and
 -- `initd --version`. What they take is said by clap's own words; they are opaque, since a goal that sees them sees the whole
 -- parser.
-use Rattle.std.specs.Prelude.{Bool, true, if◌then◌else◌, List, [], ◌∷◌, codes, Option, Some, None, option_map, length, ◌==◌, string_bytes}
+use Rattle.std.specs.Prelude.{Bool, true, if◌then◌else◌, List, [], codes, Option, Some, None, option_map, length, ◌==◌, string_bytes}
 use Rattle.std.specs.Str.{bytes_eq}
-use Rattle.clap.specs.Words.{App, Row, Text, fault_of, new_app, subcommand_of, with_subcommand}
-use Rattle.command_words.specs.CommandLines.{asks_version, program_app, switch_rule, value_rule, with_rules, word_rule}
+use Rattle.clap.specs.Words.{App, Row, Text, fault_of, subcommand_of, with_subcommand}
+use Rattle.command_words.specs.CommandLines.{asks_version, is_set, line_of, value_said, written}
 use Rattle.init_words.specs.declared.levels.Level.{Level}
-use Rattle.initd_options.specs.Options.{RunSaid, run_line, run_of, run_said}
-use Rattle.initd_options.specs.Values.{is_set, level_said, value_said}
+use Rattle.initd_options.specs.Options.{RunSaid, run_of, run_said}
+use Rattle.initd_options.specs.Levels.{level_said}
+use Rattle.initd_options.specs.declared.command.TheConstants.{CHECK, SIMULATE}
+use Rattle.initd_options.specs.declared.options.TheConstants.{OPTIONS}
 use Rattle.initd_options.specs.declared.command.CheckWords.{CheckWords}
 use Rattle.initd_options.specs.declared.command.SimulateWords.{SimulateWords}
 use Rattle.initd_options.specs.declared.command.Words.{Words}
 use Rattle.initd_options.specs.declared.command.Words.TheVariants.{Version, Simulate, Check, Run as Serve}
 
-unfoldable pub simulate_line : App
-simulate_line = with_rules (new_app (codes "simulate")) (
-    value_rule (codes "level") ∷ word_rule (codes "table") ∷ word_rule (codes "script") ∷ [])
-
-unfoldable pub check_line : App
-check_line = with_rules (new_app (codes "check")) (switch_rule (codes "growing") ∷ word_rule (codes "trace") ∷ [])
-
--- the words name a subcommand; of an option that is given again the last counts
+-- the words name a subcommand
 unfoldable pub command_line : App
 command_line =
-    let program = program_app (codes "initd") in
-    let required = record program { top = record program.top { subcommand_required = true; args_override_self = true } } in
-    with_subcommand (with_subcommand (with_subcommand required simulate_line.top) check_line.top) run_line.top
+    let program = line_of (codes "initd") [] in
+    let required = record program { top = record program.top { subcommand_required = true } } in
+    let simulate = with_subcommand required (line_of (codes "simulate") (written SIMULATE.now)).top in
+    let check = with_subcommand simulate (line_of (codes "check") (written CHECK.now)).top in
+    with_subcommand check (line_of (codes "run") (written OPTIONS.now)).top
 
 -- the level to go to, if one is given, and the paths of the inittab and the script
 pub record SimulateSaid : Type 0 where
@@ -62,14 +59,14 @@ abbrev pub simulation_said : List Row → Option SimulateSaid
 simulation_said rows =
     option_map (λ level. record {
       level = level;
-      table = value_said (codes "table") rows;
-      script = value_said (codes "script") rows;
+      table = value_said (codes "TABLE") rows;
+      script = value_said (codes "SCRIPT") rows;
     })
     (level_said rows)
 
 -- what the words after `check` say
 abbrev pub check_said : List Row → CheckSaid
-check_said rows = record { growing = is_set (codes "growing") rows; trace = value_said (codes "trace") rows }
+check_said rows = record { growing = is_set (codes "--growing") rows; trace = value_said (codes "TRACE") rows }
 
 abbrev pub run_said_by : Option (Text × List Row) → Option InitdSaid
 run_said_by None = None

@@ -1,3 +1,3 @@
 pub mod CommandLine
+pub mod Levels
 pub mod Options
-pub mod Values

@@ -1,61 +1,15 @@
--- The options of `initd run`, by clap's own words, and what they say.
-use Rattle.std.specs.Prelude.{◌≡◌, ℕ, Bool, true, false, ◌+◌, ◌-◌, ◌*◌, ◌==◌, ◌&&◌, if◌then◌else◌, nat_lt, nat_le, List, [], ◌∷◌, ◌++◌, map, codes, Option, Some, None, option_and_then, option_map, string_bytes}
-use Rattle.std.specs.Borrow.{Bor}
+-- What the options of `initd run` say.
+use Rattle.std.specs.Prelude.{ℕ, Bool, true, false, ◌+◌, ◌-◌, ◌*◌, ◌==◌, ◌&&◌, if◌then◌else◌, nat_lt, nat_le, List, [], ◌∷◌, ◌++◌, map, codes, Option, Some, None, option_and_then, option_map, string_bytes}
 use Rattle.std.specs.Char.{is_ascii_digit}
-use Rattle.clap.specs.declared.builder.command.Command.{Command, out-Command}
-use Rattle.clap.specs.Words.{App, Row, Rule, Text, app_of, first_of, new_app}
-use Rattle.command_words.specs.CommandLines.{default_rule, switch_rule, value_rule, with_rules}
+use Rattle.clap.specs.Words.{Row, Text, first_of}
+use Rattle.command_words.specs.CommandLines.{is_set, value_said}
 use Rattle.init_words.specs.declared.levels.Level.{Level}
 use Rattle.init_words.specs.Ids.{id_read}
 use Rattle.text_lines.specs.Lines.{cut}
 use Rattle.text_lines.specs.Numbers.{number_read}
 use Rattle.initd_options.specs.declared.options.RunWords.{RunWords}
-use Rattle.initd_options.specs.declared.options.Takes.{Takes}
-use Rattle.initd_options.specs.declared.options.Takes.TheVariants.{Nothing, Value, Default}
 use Rattle.initd_options.specs.declared.options.TheConstants.{FOREVER, PAUSE_LIMIT, PAUSE_SECONDS, TURNS_DEFAULT, TURNS_LIMIT}
-use Rattle.initd_options.specs.Values.{is_set, level_said, value_said}
-
--- the argument of an option
-abbrev pub rule_of : Text → Takes → Rule
-rule_of name Nothing = switch_rule name
-rule_of name Value = value_rule name
-rule_of name (Default value) = default_rule name value.now
-
--- the arguments of options, by their names and what they take
-abbrev pub rules_of : List (Bor Text × Takes) → List Rule
-rules_of = map (λ option. rule_of option.0.now option.1)
-
--- `new` is `old` with these arguments after all that it has
-pub record AddsAll (old : Command) (rules : List Rule) (new : Command) : Type 0 where
-  pub whole : app_of new ≡ with_rules (app_of old) rules
-  pub local : (out-Command new).has_globals ≡ (out-Command old).has_globals
-
--- the options of `initd run`
-abbrev pub run_rules : List Rule
-run_rules =
-    default_rule (codes "inittab") (codes "inittab")
-    ∷ default_rule (codes "initctl") (codes "initctl")
-    ∷ switch_rule (codes "fresh")
-    ∷ default_rule (codes "state") (codes "initd.state")
-    ∷ value_rule (codes "trace")
-    ∷ value_rule (codes "level")
-    ∷ value_rule (codes "turns")
-    ∷ switch_rule (codes "forever")
-    ∷ switch_rule (codes "drain")
-    ∷ default_rule (codes "pause") (codes "1")
-    ∷ value_rule (codes "result")
-    ∷ switch_rule (codes "verbose")
-    ∷ value_rule (codes "logs")
-    ∷ value_rule (codes "inittab-dir")
-    ∷ switch_rule (codes "brief")
-    ∷ switch_rule (codes "judge")
-    ∷ switch_rule (codes "strict")
-    ∷ switch_rule (codes "stamp")
-    ∷ switch_rule (codes "bell")
-    ∷ []
-
-unfoldable pub run_line : App
-run_line = with_rules (new_app (codes "run")) run_rules
+use Rattle.initd_options.specs.Levels.{level_said}
 
 -- a word without the zeros in front of it
 abbrev pub without_zeros : Text → Text
@@ -75,7 +29,7 @@ turns_in true None = Some FOREVER
 turns_in true (Some word) = None
 
 abbrev pub turns_said : List Row → Option ℕ
-turns_said rows = turns_in (is_set (codes "forever") rows) (first_of (codes "turns") rows)
+turns_said rows = turns_in (is_set (codes "--forever") rows) (first_of (codes "--turns") rows)
 
 -- the number of a digit
 abbrev pub digit_read : ℕ → Option ℕ
@@ -118,7 +72,7 @@ with_whole word = if begins_with_point word then codes "0" ++ word else word
 
 abbrev pub pause_said : List Row → Option Text
 pause_said rows =
-    let word = with_whole (value_said (codes "pause") rows) in
+    let word = with_whole (value_said (codes "--pause") rows) in
     if is_pause word then Some word else None
 
 -- the entry whose last status is the run's, if one is given; nothing where it is no id
@@ -127,7 +81,7 @@ result_in None = Some None
 result_in (Some word) = option_map Some (id_read word)
 
 abbrev pub result_said : List Row → Option (Option (List ℕ))
-result_said rows = result_in (first_of (codes "result") rows)
+result_said rows = result_in (first_of (codes "--result") rows)
 
 -- whether the trace is brief, which is said of a trace alone
 abbrev pub brief_in : Bool → Option Text → Option Bool
@@ -135,7 +89,7 @@ brief_in true None = None
 brief_in brief trace = Some brief
 
 abbrev pub brief_said : List Row → Option Bool
-brief_said rows = brief_in (is_set (codes "brief") rows) (first_of (codes "trace") rows)
+brief_said rows = brief_in (is_set (codes "--brief") rows) (first_of (codes "--trace") rows)
 
 -- The paths of the inittab, of the folder of its further files, if it is given, of the channel of requests and of the
 -- text of init's state; whether the requests that the channel has already are left out; the path of the trace, if
@@ -189,24 +143,24 @@ run_of said = record {
 -- what the words say, with these values of the options that may be refused
 abbrev pub service_with : List Row → Option Level → ℕ → Text → Option (List ℕ) → Bool → RunSaid
 service_with rows level turns pause result brief = record {
-  inittab = value_said (codes "inittab") rows;
-  inittab_dir = first_of (codes "inittab-dir") rows;
-  initctl = value_said (codes "initctl") rows;
-  fresh = is_set (codes "fresh") rows;
-  state = value_said (codes "state") rows;
-  trace = first_of (codes "trace") rows;
+  inittab = value_said (codes "--inittab") rows;
+  inittab_dir = first_of (codes "--inittab-dir") rows;
+  initctl = value_said (codes "--initctl") rows;
+  fresh = is_set (codes "--fresh") rows;
+  state = value_said (codes "--state") rows;
+  trace = first_of (codes "--trace") rows;
   brief = brief;
-  judge = is_set (codes "judge") rows;
+  judge = is_set (codes "--judge") rows;
   level = level;
   turns = turns;
-  drain = is_set (codes "drain") rows;
+  drain = is_set (codes "--drain") rows;
   pause = pause;
   result = result;
-  verbose = is_set (codes "verbose") rows;
-  logs = first_of (codes "logs") rows;
-  strict = is_set (codes "strict") rows;
-  stamp = is_set (codes "stamp") rows;
-  bell = is_set (codes "bell") rows;
+  verbose = is_set (codes "--verbose") rows;
+  logs = first_of (codes "--logs") rows;
+  strict = is_set (codes "--strict") rows;
+  stamp = is_set (codes "--stamp") rows;
+  bell = is_set (codes "--bell") rows;
 }
 
 -- what the words after `run` say; nothing where the level, the turns, the pause or the entry are none, or a brief trace

@@ -2,16 +2,13 @@
 
 ghost use Rattle.std.specs.Prelude.{◌≡◌, map, string_bytes, IfErr, IfOk, IsSome, None, Some};
 ghost use Rattle.clap.specs.Words.{FailsBy, app_of, fault_of, found_of, rows_of, subcommand_of, subcommand_rows_of};
-ghost use Rattle.command_words.specs.CommandLines.{IsLine};
 ghost use Rattle.command_words.specs.Faults.{reason_of};
-ghost use Rattle.initd_options.specs.CommandLine.{check_line, command_line, judged_by, line_said, initd_read_of, run_said_by, initd_said_by, said_of, simulate_line, simulation_of, simulation_said, check_of, check_said};
+ghost use Rattle.initd_options.specs.CommandLine.{command_line, judged_by, line_said, initd_read_of, run_said_by, initd_said_by, said_of, simulation_of, simulation_said, check_of, check_said};
 
-use crate::options::{RunWords, read_run, run_line};
-use crate::values::{is_set, read_level_option};
+use crate::levels::read_level_option;
+use crate::options::{OPTIONS, RunWords, read_run};
 use clap::{ArgMatches, Command, Error};
-use command_words::{
-    WordFault, is_version, program_line, value_of, with_switch, with_value, with_word, word_fault,
-};
+use command_words::{Row, WordFault, is_set, is_version, table_line, value_of, word_fault};
 use init_words::Level;
 use std::alloc::{AllocError, Global};
 
@@ -74,34 +71,21 @@ fn read_line(alloc: Global, words: &[String]) -> Result<Words, WordFault>
     }
 }
 
-/// The command line after `initd simulate`.
-fn simulate_line<'a>(alloc: Global) -> Result<Command<'a>, AllocError>
-    ensures { IfOk result (IsLine simulate_line) }
-{
-    let line = Command::new(alloc, "simulate");
-    let line = with_value(alloc, line, "level")?;
-    let line = with_word(alloc, line, "table")?;
-    with_word(alloc, line, "script")
-}
+/// The option and the words of `initd simulate`.
+const SIMULATE: &[Row] = &[("--level", "L", ""), ("TABLE", "", ""), ("SCRIPT", "", "")];
 
-/// The command line after `initd check`.
-fn check_line<'a>(alloc: Global) -> Result<Command<'a>, AllocError>
-    ensures { IfOk result (IsLine check_line) }
-{
-    let line = with_switch(alloc, Command::new(alloc, "check"), "growing")?;
-    with_word(alloc, line, "trace")
-}
+/// The option and the word of `initd check`.
+const CHECK: &[Row] = &[("--growing", "", ""), ("TRACE", "", "")];
 
 /// The command line of `initd`.
 fn command<'a>(alloc: Global) -> Result<Command<'a>, AllocError>
     ensures { IfOk result (λ made. app_of made ≡ command_line) }
 {
-    let simulate = simulate_line(alloc)?;
-    let check = check_line(alloc)?;
-    let serving = run_line(alloc)?;
-    program_line(alloc, "initd")
+    let simulate = table_line(alloc, "simulate", SIMULATE)?;
+    let check = table_line(alloc, "check", CHECK)?;
+    let serving = table_line(alloc, "run", OPTIONS)?;
+    table_line(alloc, "initd", &[])?
         .subcommand_required(true)
-        .args_override_self(true)
         .subcommand(simulate)?
         .subcommand(check)?
         .subcommand(serving)
@@ -150,15 +134,7 @@ fn read_serving(alloc: Global, matches: &ArgMatches) -> Result<Words, WordFault>
 {
     match matches.subcommand_matches("run") {
         Some(run) => Ok(Words::Run(read_run(alloc, run)?)),
-        None => Err(no_subcommand(alloc)),
-    }
-}
-
-/// The fault of words that name no subcommand.
-fn no_subcommand(alloc: Global) -> WordFault {
-    match String::from_str(alloc, "a subcommand is missing") {
-        Ok(reason) => WordFault::Usage(reason),
-        Err(AllocError) => WordFault::Memory,
+        None => Err(WordFault::Usage(String::from_str(alloc, "a subcommand is missing")?)),
     }
 }
 
@@ -166,8 +142,8 @@ fn read_trace(alloc: Global, matches: &ArgMatches) -> Result<CheckWords, AllocEr
     ensures { IfOk result (λ said. check_of said ≡ check_said (rows_of (found_of matches.now))) }
 {
     Ok(CheckWords {
-        growing: is_set(matches, "growing"),
-        trace: String::from_str(alloc, value_of(matches, "trace"))?,
+        growing: is_set(matches, "--growing"),
+        trace: String::from_str(alloc, value_of(matches, "TRACE"))?,
     })
 }
 
@@ -180,7 +156,7 @@ fn read_simulate(alloc: Global, matches: &ArgMatches) -> Result<SimulateWords, W
     let level = read_level_option(alloc, matches)?;
     Ok(SimulateWords {
         level,
-        table: String::from_str(alloc, value_of(matches, "table"))?,
-        script: String::from_str(alloc, value_of(matches, "script"))?,
+        table: String::from_str(alloc, value_of(matches, "TABLE"))?,
+        script: String::from_str(alloc, value_of(matches, "SCRIPT"))?,
     })
 }

@@ -2,8 +2,8 @@
 #![tactic(auto)]
 
 mod command;
+mod levels;
 mod options;
-mod values;
 
 pub use command::{CheckWords, SimulateWords, Words, read_words};
 pub use command_words::WordFault;

@@ -1,15 +1,13 @@
 //! The options of `initd run`, and what their words may be.
 
-ghost use Rattle.std.specs.Prelude.{◌≡◌, ◌<◌, codes, option_map, string_bytes, IfErr, IfOk, IfSome, IsSome, None, Some};
-ghost use Rattle.clap.specs.Words.{first_of, found_of, rows_of};
-ghost use Rattle.command_words.specs.CommandLines.{AddsArgument, IsLine};
+ghost use Rattle.std.specs.Prelude.{◌≡◌, ◌<◌, string_bytes, IfErr, IfOk, IfSome, IsSome, None, Some};
+ghost use Rattle.clap.specs.Words.{found_of, rows_of};
 ghost use Rattle.command_words.specs.Faults.{reason_of};
-ghost use Rattle.initd_options.specs.Options.{AddsAll, begins_with_point, brief_said, digit_read, hundredths_read, is_pause, part_read, pause_said, result_said, rule_of, rules_of, run_line, run_of, run_said, turns_read, turns_said, with_whole, without_zeros};
-ghost use Rattle.initd_options.specs.Values.{is_set};
+ghost use Rattle.initd_options.specs.Options.{begins_with_point, brief_said, digit_read, hundredths_read, is_pause, part_read, pause_said, result_said, run_of, run_said, turns_read, turns_said, with_whole, without_zeros};
 
-use crate::values::{is_set, read_level_option, refused, word_of};
-use clap::{ArgMatches, Command};
-use command_words::{WordFault, value_of, with_default, with_switch, with_value};
+use crate::levels::read_level_option;
+use clap::ArgMatches;
+use command_words::{Row, WordFault, is_set, read_path, refused, value_of, word_of};
 use init_words::{Id, Level};
 use std::alloc::{AllocError, Global};
 use text_lines::{cut, read_below};
@@ -70,77 +68,28 @@ const PAUSE_SECONDS: u64 = 60;
 /// The longest pause, in hundredths of a second.
 const PAUSE_LIMIT: u64 = 6_000;
 
-/// What an option takes.
-#[derive(Clone, Copy)]
-pub(crate) enum Takes {
-    /// Nothing.
-    Nothing,
-    /// A value.
-    Value,
-    /// A value, which is this one where the option is left out.
-    Default(&'static str),
-}
-
 /// The options of `initd run`.
-const OPTIONS: &[(&str, Takes)] = &[
-    ("inittab", Takes::Default("inittab")),
-    ("initctl", Takes::Default("initctl")),
-    ("fresh", Takes::Nothing),
-    ("state", Takes::Default("initd.state")),
-    ("trace", Takes::Value),
-    ("level", Takes::Value),
-    ("turns", Takes::Value),
-    ("forever", Takes::Nothing),
-    ("drain", Takes::Nothing),
-    ("pause", Takes::Default("1")),
-    ("result", Takes::Value),
-    ("verbose", Takes::Nothing),
-    ("logs", Takes::Value),
-    ("inittab-dir", Takes::Value),
-    ("brief", Takes::Nothing),
-    ("judge", Takes::Nothing),
-    ("strict", Takes::Nothing),
-    ("stamp", Takes::Nothing),
-    ("bell", Takes::Nothing),
+pub(crate) const OPTIONS: &[Row] = &[
+    ("--inittab", "P", "inittab"),
+    ("--inittab-dir", "DIR", ""),
+    ("--initctl", "P", "initctl"),
+    ("--fresh", "", ""),
+    ("--state", "P", "initd.state"),
+    ("--trace", "P", ""),
+    ("--brief", "", ""),
+    ("--judge", "", ""),
+    ("--level", "L", ""),
+    ("--turns", "N", ""),
+    ("--forever", "", ""),
+    ("--drain", "", ""),
+    ("--pause", "SEC", "1"),
+    ("--result", "ID", ""),
+    ("--verbose", "", ""),
+    ("--logs", "DIR", ""),
+    ("--strict", "", ""),
+    ("--stamp", "", ""),
+    ("--bell", "", ""),
 ];
-
-/// A command line with an option of this name behind its other arguments.
-fn with_option<'a>(
-    alloc: Global,
-    line: Command<'a>,
-    name: &'static str,
-    takes: Takes,
-) -> Result<Command<'a>, AllocError>
-    ensures { IfOk result (AddsArgument line.entry (rule_of name.now takes)) }
-{
-    match takes {
-        Takes::Nothing => with_switch(alloc, line, name),
-        Takes::Value => with_value(alloc, line, name),
-        Takes::Default(value) => with_default(alloc, line, name, value),
-    }
-}
-
-/// A command line with these options behind its other arguments.
-fn with_options<'a>(
-    alloc: Global,
-    line: Command<'a>,
-    options: &[(&'static str, Takes)],
-) -> Result<Command<'a>, AllocError>
-    ensures { IfOk result (AddsAll line.entry (rules_of options.now)) }
-{
-    let mut line = line;
-    for (name, takes) in options {
-        line = with_option(alloc, line, *name, *takes)?;
-    }
-    Ok(line)
-}
-
-/// The command line after `initd run`.
-pub(crate) fn run_line<'a>(alloc: Global) -> Result<Command<'a>, AllocError>
-    ensures { IfOk result (IsLine run_line) }
-{
-    with_options(alloc, Command::new(alloc, "run"), OPTIONS)
-}
 
 /// What the words after `run` say.
 pub(crate) fn read_run(alloc: Global, matches: &ArgMatches) -> Result<RunWords, WordFault>
@@ -155,36 +104,25 @@ pub(crate) fn read_run(alloc: Global, matches: &ArgMatches) -> Result<RunWords, 
     let result = read_result(alloc, matches)?;
     let brief = read_brief(alloc, matches)?;
     Ok(RunWords {
-        inittab: String::from_str(alloc, value_of(matches, "inittab"))?,
-        inittab_dir: read_path(alloc, matches, "inittab-dir")?,
-        initctl: String::from_str(alloc, value_of(matches, "initctl"))?,
-        fresh: is_set(matches, "fresh"),
-        state: String::from_str(alloc, value_of(matches, "state"))?,
-        trace: read_path(alloc, matches, "trace")?,
+        inittab: String::from_str(alloc, value_of(matches, "--inittab"))?,
+        inittab_dir: read_path(alloc, matches, "--inittab-dir")?,
+        initctl: String::from_str(alloc, value_of(matches, "--initctl"))?,
+        fresh: is_set(matches, "--fresh"),
+        state: String::from_str(alloc, value_of(matches, "--state"))?,
+        trace: read_path(alloc, matches, "--trace")?,
         brief,
-        judge: is_set(matches, "judge"),
+        judge: is_set(matches, "--judge"),
         level,
         turns,
-        drain: is_set(matches, "drain"),
+        drain: is_set(matches, "--drain"),
         pause,
         result,
-        verbose: is_set(matches, "verbose"),
-        logs: read_path(alloc, matches, "logs")?,
-        strict: is_set(matches, "strict"),
-        stamp: is_set(matches, "stamp"),
-        bell: is_set(matches, "bell"),
+        verbose: is_set(matches, "--verbose"),
+        logs: read_path(alloc, matches, "--logs")?,
+        strict: is_set(matches, "--strict"),
+        stamp: is_set(matches, "--stamp"),
+        bell: is_set(matches, "--bell"),
     })
-}
-
-/// The path that is given for an option, where one is.
-fn read_path(alloc: Global, matches: &ArgMatches, id: &str) -> Result<Option<String>, AllocError>
-    ensures { IfOk result (λ path. option_map (λ (text : _). string_bytes text) path
-        ≡ first_of id.now (rows_of (found_of matches.now))) }
-{
-    match word_of(matches, id) {
-        Some(path) => Ok(Some(String::from_str(alloc, path)?)),
-        None => Ok(None),
-    }
 }
 
 /// The greatest number of turns, by `--turns` or `--forever`, of which one may be given.
@@ -194,13 +132,13 @@ fn read_turns_option(alloc: Global, matches: &ArgMatches) -> Result<u64, WordFau
     ensures usage { IfErr result (λ fault. IsSome (reason_of fault)
         → turns_said (rows_of (found_of matches.now)) ≡ None) }
 {
-    let forever = is_set(matches, "forever");
-    match word_of(matches, "turns") {
+    let forever = is_set(matches, "--forever");
+    match word_of(matches, "--turns") {
         None => Ok(if forever { FOREVER } else { TURNS_DEFAULT }),
-        Some(word) if forever => Err(refused(alloc, "turns", word, "not with --forever")),
+        Some(word) if forever => Err(refused(alloc, "--turns", word, "not with --forever")),
         Some(word) => match read_turns(word) {
             Some(turns) => Ok(turns),
-            None => Err(refused(alloc, "turns", word, "not 1 to 1000000000")),
+            None => Err(refused(alloc, "--turns", word, "not 1 to 1000000000")),
         },
     }
 }
@@ -231,10 +169,10 @@ fn read_pause(alloc: Global, matches: &ArgMatches) -> Result<String, WordFault>
     ensures usage { IfErr result (λ fault. IsSome (reason_of fault)
         → pause_said (rows_of (found_of matches.now)) ≡ None) }
 {
-    let given = value_of(matches, "pause");
+    let given = value_of(matches, "--pause");
     let word = with_whole(alloc, given)?;
     if !is_pause(word.as_str()) {
-        return Err(refused(alloc, "pause", given, "not 0.01 to 60 seconds"));
+        return Err(refused(alloc, "--pause", given, "not 0.01 to 60 seconds"));
     }
     Ok(word)
 }
@@ -311,8 +249,8 @@ fn read_brief(alloc: Global, matches: &ArgMatches) -> Result<bool, WordFault>
     ensures usage { IfErr result (λ fault. IsSome (reason_of fault)
         → brief_said (rows_of (found_of matches.now)) ≡ None) }
 {
-    let brief = is_set(matches, "brief");
-    if brief && word_of(matches, "trace").is_none() {
+    let brief = is_set(matches, "--brief");
+    if brief && word_of(matches, "--trace").is_none() {
         let reason = String::from_str(alloc, "--brief: not without --trace")?;
         return Err(WordFault::Usage(reason));
     }
@@ -326,11 +264,11 @@ fn read_result(alloc: Global, matches: &ArgMatches) -> Result<Option<Id>, WordFa
     ensures usage { IfErr result (λ fault. IsSome (reason_of fault)
         → result_said (rows_of (found_of matches.now)) ≡ None) }
 {
-    let Some(word) = word_of(matches, "result") else {
+    let Some(word) = word_of(matches, "--result") else {
         return Ok(None);
     };
     match Id::read(word.as_bytes()) {
         Some(id) => Ok(Some(id)),
-        None => Err(refused(alloc, "result", word, "no id")),
+        None => Err(refused(alloc, "--result", word, "no id")),
     }
 }

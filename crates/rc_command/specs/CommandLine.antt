@@ -1,38 +1,22 @@
 -- The command line `rc [-n] [-v] [--strict] [--direct] [--as-sysv] [--timeout SEC] DIR PREV NEW`, or with
--- `--level-file F` and without PREV. What it takes is said by clap's own words; they are opaque, since a goal that sees
--- them sees the whole parser.
-use Rattle.std.specs.Prelude.{ℕ, ◌+◌, nat_lt, Bool, if◌then◌else◌, List, [], ◌∷◌, codes, Option, Some, None, unwrap_or, option_and_then, option_map, length, ◌==◌, ◌||◌, string_bytes}
+-- `--level-file F` and without PREV.
+use Rattle.std.specs.Prelude.{ℕ, ◌+◌, nat_lt, Bool, if◌then◌else◌, List, codes, Option, Some, None, option_and_then, option_map, ◌==◌, ◌||◌, string_bytes}
 use Rattle.std.specs.List.{list_all}
 use Rattle.std.specs.Str.{byte, bytes_eq}
-use Rattle.clap.specs.Words.{App, Row, Rule, Text, fault_of, first_of, matches_of, new_rule}
-use Rattle.command_words.specs.CommandLines.{letter_rule, program_app, switch_rule, value_rule, with_rules, word_rule}
+use Rattle.clap.specs.Words.{App, Row, Text, first_of}
+use Rattle.command_words.specs.CommandLines.{given_by, is_set, line_of, value_said, written}
 use Rattle.init_words.specs.declared.levels.Level.{Level}
 use Rattle.init_words.specs.Levels.{level_read}
 use Rattle.program_io.specs.Arguments.{only_byte}
 use Rattle.rc_command.specs.declared.command.RunOptions.{RunOptions}
-use Rattle.rc_command.specs.declared.command.TheConstants.{SECONDS_LIMIT}
+use Rattle.rc_command.specs.declared.command.TheConstants.{OPTIONS, SECONDS_LIMIT}
 use Rattle.rc_driver.specs.declared.runs.Passage.{Passage}
 use Rattle.text_lines.specs.Numbers.{number_read}
 use Rattle.rc_command.specs.declared.command.Words.{Words}
 use Rattle.rc_links.specs.Names.{is_name_byte}
 
--- a word that may be left out
-unfoldable pub last_rule : Text → Rule
-last_rule name = new_rule name
-
-unfoldable pub command_line : App
-command_line = with_rules (program_app (codes "rc")) (
-    letter_rule (codes "dry") 110
-    ∷ letter_rule (codes "verbose") 118
-    ∷ switch_rule (codes "strict")
-    ∷ switch_rule (codes "direct")
-    ∷ switch_rule (codes "as-sysv")
-    ∷ value_rule (codes "timeout")
-    ∷ value_rule (codes "level-file")
-    ∷ word_rule (codes "dir")
-    ∷ word_rule (codes "first")
-    ∷ last_rule (codes "second")
-    ∷ [])
+abbrev pub command_line : App
+command_line = line_of (codes "rc") (written OPTIONS.now)
 
 -- what is run: the folder that holds those of the runlevels, the level before, if there was one, the new level, and the
 -- options
@@ -73,14 +57,6 @@ level_of word = if bytes_eq word (codes "s") then None else option_and_then leve
 abbrev pub previous_of : Text → Option (Option Level)
 previous_of word = if bytes_eq word (codes "N") then Some None else option_map Some (level_of word)
 
--- the value that is given to an argument
-abbrev pub rc_value_in : Text → List Row → Text
-rc_value_in id rows = unwrap_or (first_of id rows) []
-
--- the option without a value is given
-abbrev pub is_set : Text → List Row → Bool
-is_set id rows = bytes_eq (rc_value_in id rows) (codes "true")
-
 -- a number of seconds: 1 to the limit
 abbrev pub seconds_read : Text → Option ℕ
 seconds_read word =
@@ -92,16 +68,16 @@ seconds_in None = Some None
 seconds_in (Some word) = option_map Some (seconds_read word)
 
 abbrev pub seconds_said : List Row → Option (Option ℕ)
-seconds_said rows = seconds_in (first_of (codes "timeout") rows)
+seconds_said rows = seconds_in (first_of (codes "--timeout") rows)
 
 -- the options, with these seconds
 abbrev pub options_said : Option ℕ → List Row → RunOptions
 options_said seconds rows = record {
-  dry = is_set (codes "dry") rows;
-  strict = is_set (codes "strict") rows;
+  dry = is_set (codes "-n") rows;
+  strict = is_set (codes "--strict") rows;
   way = record {
-    direct = is_set (codes "direct") rows || is_set (codes "as-sysv") rows;
-    verbose = is_set (codes "verbose") rows;
+    direct = is_set (codes "--direct") rows || is_set (codes "--as-sysv") rows;
+    verbose = is_set (codes "-v") rows;
     seconds = seconds;
     levels = None;
   };
@@ -140,17 +116,17 @@ levels_in (Some file) first (Some second) = None
 
 abbrev pub levels_said : List Row → Option Passage
 levels_said rows =
-    levels_in (first_of (codes "level-file") rows) (rc_value_in (codes "first") rows) (first_of (codes "second") rows)
+    levels_in (first_of (codes "--level-file") rows) (value_said (codes "PREV") rows) (first_of (codes "NEW") rows)
 
 -- what words and the options say
 abbrev pub rc_said_by : List Row → Bool → RunOptions → Option Asked
 rc_said_by rows sysv options =
-    if is_dir (rc_value_in (codes "dir") rows) then
+    if is_dir (value_said (codes "DIR") rows) then
     option_map
     (λ (levels : Passage). record {
-      dir = rc_value_in (codes "dir") rows;
+      dir = value_said (codes "DIR") rows;
       previous = levels.before;
-      file = first_of (codes "level-file") rows;
+      file = first_of (codes "--level-file") rows;
       new = levels.new;
       sysv = sysv;
       options = options;
@@ -161,8 +137,8 @@ rc_said_by rows sysv options =
 abbrev pub rows_said : List Row → Option Asked
 rows_said rows =
     option_and_then
-    (λ seconds. rc_said_by rows (is_set (codes "as-sysv") rows) (options_said seconds rows)) (seconds_said rows)
+    (λ seconds. rc_said_by rows (is_set (codes "--as-sysv") rows) (options_said seconds rows)) (seconds_said rows)
 
 -- what words say; where the command line has a fault in them, nothing
 abbrev pub rc_read_of : List Text → Option Asked
-rc_read_of words = if length (fault_of command_line words) == 0 then rows_said (matches_of command_line words) else None
+rc_read_of words = option_and_then rows_said (given_by command_line words)

@@ -3,7 +3,6 @@ use Rattle.std.specs.Prelude.{◌≡◌, ◌⊎◌, ℕ, Bool, true, false, ◌=
 use Rattle.std.specs.List.{list_any}
 use Rattle.std.specs.Io.KnownBytes.{Appends}
 use Rattle.program_io.specs.Writing.{AppendsPrefix}
-use Rattle.command_words.specs.Faults.{usage_report}
 use Rattle.program_io.specs.declared.statuses.TheConstants.{DEVICE_FAULT, DONE, LIMIT_REACHED}
 use Rattle.host_calls.specs.Calls.{HostCall}
 use Rattle.host_calls.specs.Record.{Since}
@@ -153,12 +152,3 @@ RunsAsked file_at names_at asked old new before told status after tells = AsksFo
     (said.options.dry ≡ true → new ≡ old)
     × (said.options.dry ≡ false → (inner : ℕ) × (between : Option (List ℕ))
     × RunsSaid names_at said old new before told inner after between × IsStatusOf asked.file inner between status tells))
-
--- the usage that stands behind a reason, of a whole one and one in a line: the whole where no reason is told
-abbrev pub usage_told : List ℕ → List ℕ → List ℕ → List ℕ
-usage_told whole short reason = if length reason == 0 then whole else short
-
--- a writer gained why words are refused, and the usage, as much of it as it took
-abbrev pub TellsUsage : List ℕ → List ℕ → Option (List ℕ) → Option (List ℕ) → Type 0
-TellsUsage whole short old new =
-    (reason : List ℕ) × AppendsPrefix old new (usage_report (codes "rc") reason (usage_told whole short reason))

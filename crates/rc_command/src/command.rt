@@ -1,16 +1,13 @@
 //! The command line of rc.
 
-ghost use Rattle.std.specs.Prelude.{◌≡◌, map, option_map, string_bytes, IfErr, IfOk, IsSome};
-ghost use Rattle.clap.specs.Words.{FailsBy, fault_of, first_of, found_of, matches_of, rows_of};
-ghost use Rattle.command_words.specs.CommandLines.{AddsArgument, IsLine};
+ghost use Rattle.std.specs.Prelude.{◌≡◌, map, string_bytes, IfErr, IfOk, IsSome, None, Some};
+ghost use Rattle.clap.specs.Words.{found_of, rows_of};
 ghost use Rattle.command_words.specs.Faults.{reason_of};
-ghost use Rattle.rc_command.specs.CommandLine.{command_line, entering, is_dir, is_set, last_rule, level_of, levels_of, levels_said, new_of, options_said};
-ghost use Rattle.rc_command.specs.CommandLine.{previous_of, rc_read_of, rows_said, rc_said_by, said_of, seconds_read, seconds_said};
+ghost use Rattle.rc_command.specs.CommandLine.{entering, is_dir, level_of, levels_of, levels_said, new_of, options_said, previous_of};
+ghost use Rattle.rc_command.specs.CommandLine.{rc_read_of, rows_said, rc_said_by, said_of, seconds_read, seconds_said};
 
-use clap::{Arg, ArgMatches, Command, Error};
-use command_words::{
-    WordFault, program_line, value_of, with_letter, with_switch, with_value, with_word, word_fault,
-};
+use clap::ArgMatches;
+use command_words::{Row, WordFault, is_set, read_line, read_path, refused, value_of, word_of};
 use init_words::Level;
 use program_io::only_byte;
 use rc_driver::{Passage, RunWay};
@@ -20,6 +17,20 @@ use text_lines::read_below;
 
 /// The greatest number of seconds that a script may be given.
 const SECONDS_LIMIT: u64 = 86_400;
+
+/// The options and the words of a command line.
+const OPTIONS: &[Row] = &[
+    ("-n", "", ""),
+    ("-v", "", ""),
+    ("--strict", "", ""),
+    ("--direct", "", ""),
+    ("--as-sysv", "", ""),
+    ("--timeout", "SEC", ""),
+    ("--level-file", "F", ""),
+    ("DIR", "", ""),
+    ("PREV", "", ""),
+    ("NEW", "?", ""),
+];
 
 /// What a command line says.
 #[derive(Drop)]
@@ -50,48 +61,15 @@ pub struct RunOptions {
 }
 
 /// Reads a command line, without the program's name in front.
+#[tactic(auto, using(crate::proofs::ReadWords::is_free_line))]
 pub fn read_words(alloc: Global, words: &[String]) -> Result<Words, WordFault>
     ensures ok { IfOk result (λ said.
         rc_read_of (map string_bytes words.now) ≡ Some (said_of said)) }
     ensures usage { IfErr result (λ fault. IsSome (reason_of fault)
         → rc_read_of (map string_bytes words.now) ≡ None) }
 {
-    match parsed(alloc, words) {
-        Ok(matches) => read_matches(alloc, &matches),
-        Err(error) => Err(word_fault(alloc, &error)),
-    }
-}
-
-/// The command line of `rc`.
-fn command<'a>(alloc: Global) -> Result<Command<'a>, AllocError>
-    ensures { IfOk result (IsLine command_line) }
-{
-    let line = program_line(alloc, "rc");
-    let line = with_letter(alloc, line, "dry", 'n')?;
-    let line = with_letter(alloc, line, "verbose", 'v')?;
-    let line = with_switch(alloc, line, "strict")?;
-    let line = with_switch(alloc, line, "direct")?;
-    let line = with_switch(alloc, line, "as-sysv")?;
-    let line = with_value(alloc, line, "timeout")?;
-    let line = with_value(alloc, line, "level-file")?;
-    let line = with_word(alloc, line, "dir")?;
-    let line = with_word(alloc, line, "first")?;
-    with_last(alloc, line, "second")
-}
-
-/// A command line with a word that may be left out, behind its other arguments. It fails for want of memory alone.
-fn with_last<'a>(alloc: Global, line: Command<'a>, name: &'a str) -> Result<Command<'a>, AllocError>
-    ensures { IfOk result (AddsArgument line.entry (last_rule name.entry.now)) }
-{
-    line.arg(Arg::new(alloc, name))
-}
-
-fn parsed<'a>(alloc: Global, words: &'a [String]) -> Result<ArgMatches<'a>, Error>
-    ensures rows { IfOk result (λ found. rows_of (found_of found)
-        ≡ matches_of command_line (map string_bytes words.entry.now)) }
-    ensures faults { FailsBy (fault_of command_line (map string_bytes words.entry.now)) result }
-{
-    command(alloc)?.try_get_matches_from(words)
+    let matches = read_line(alloc, "rc", OPTIONS, words)?;
+    read_matches(alloc, &matches)
 }
 
 /// What matches say.
@@ -105,7 +83,7 @@ fn read_matches(alloc: Global, matches: &ArgMatches) -> Result<Words, WordFault>
     words_of(
         alloc,
         matches,
-        is_set(matches, "as-sysv"),
+        is_set(matches, "--as-sysv"),
         read_options(matches, seconds),
     )
 }
@@ -117,28 +95,14 @@ fn read_levels(alloc: Global, matches: &ArgMatches) -> Result<Passage, WordFault
     ensures usage { IfErr result (λ fault. IsSome (reason_of fault)
         → levels_said (rows_of (found_of matches.now)) ≡ None) }
 {
-    let first = value_of(matches, "first");
-    match (word_of(matches, "level-file"), word_of(matches, "second")) {
+    let first = value_of(matches, "PREV");
+    match (word_of(matches, "--level-file"), word_of(matches, "NEW")) {
         (None, Some(second)) => read_both(alloc, first, second),
-        (None, None) => Err(missing(alloc)),
+        (None, None) => Err(WordFault::Usage(String::from_str(alloc, "a word is missing")?)),
         (Some(_), None) => read_new(alloc, first),
-        (Some(_), Some(second)) => Err(refused_word(alloc, second)),
-    }
-}
-
-/// The fault of a word that is missing.
-fn missing(alloc: Global) -> WordFault {
-    match String::from_str(alloc, "a word is missing") {
-        Ok(reason) => WordFault::Usage(reason),
-        Err(AllocError) => WordFault::Memory,
-    }
-}
-
-/// The fault of a word behind NEW.
-fn refused_word(alloc: Global, word: &str) -> WordFault {
-    match format!(in alloc; "{word}: a word too much: with --level-file PREV is left out") {
-        Ok(reason) => WordFault::Usage(reason),
-        Err(AllocError) => WordFault::Memory,
+        (Some(_), Some(second)) => Err(WordFault::Usage(format!(in alloc;
+            "{second}: a word too much: with --level-file PREV is left out"
+        )?)),
     }
 }
 
@@ -176,11 +140,11 @@ fn read_options(matches: &ArgMatches, seconds: Option<u32>) -> RunOptions
     ensures { result ≡ options_said seconds (rows_of (found_of matches.now)) }
 {
     RunOptions {
-        dry: is_set(matches, "dry"),
-        strict: is_set(matches, "strict"),
+        dry: is_set(matches, "-n"),
+        strict: is_set(matches, "--strict"),
         way: RunWay {
-            direct: is_set(matches, "direct") || is_set(matches, "as-sysv"),
-            verbose: is_set(matches, "verbose"),
+            direct: is_set(matches, "--direct") || is_set(matches, "--as-sysv"),
+            verbose: is_set(matches, "-v"),
             seconds,
             levels: None,
         },
@@ -194,24 +158,13 @@ fn read_seconds_option(alloc: Global, matches: &ArgMatches) -> Result<Option<u32
     ensures usage { IfErr result (λ fault. IsSome (reason_of fault)
         → seconds_said (rows_of (found_of matches.now)) ≡ None) }
 {
-    let Some(word) = word_of(matches, "timeout") else {
+    let Some(word) = word_of(matches, "--timeout") else {
         return Ok(None);
     };
     match read_seconds(word) {
         Some(seconds) => Ok(Some(seconds)),
-        None => {
-            let reason = format!(in alloc; "--timeout {word}: not 1 to {SECONDS_LIMIT} seconds")?;
-            Err(WordFault::Usage(reason))
-        }
+        None => Err(refused(alloc, "--timeout", word, "not 1 to 86400 seconds")),
     }
-}
-
-/// The word that is given for an option.
-fn word_of<'a>(matches: &ArgMatches<'a>, id: &str) -> Option<&'a str>
-    ensures { option_map (λ word. word.now) result
-        ≡ first_of id.now (rows_of (found_of matches.now)) }
-{
-    matches.get_str(id)
 }
 
 /// The seconds of a word, 1 to 86,400.
@@ -226,13 +179,6 @@ fn read_seconds(word: &str) -> Option<u32>
     }
 }
 
-/// The option without a value is given.
-fn is_set(matches: &ArgMatches, id: &str) -> bool
-    ensures { result ≡ is_set id.now (rows_of (found_of matches.now)) }
-{
-    value_of(matches, id) == "true"
-}
-
 /// What words say; a usage fault where one is no path or no level.
 fn words_of(
     alloc: Global,
@@ -245,7 +191,7 @@ fn words_of(
     ensures usage { IfErr result (λ fault. IsSome (reason_of fault)
         → rc_said_by (rows_of (found_of matches.now)) sysv options ≡ None) }
 {
-    let dir = value_of(matches, "dir");
+    let dir = value_of(matches, "DIR");
     if !is_dir(dir) {
         let reason = format!(in alloc; "{dir}: DIR has bytes of A-Z a-z 0-9 . _ - / alone")?;
         return Err(WordFault::Usage(reason));
@@ -254,22 +200,11 @@ fn words_of(
     Ok(Words {
         dir: String::from_str(alloc, dir)?,
         previous: levels.before,
-        level_file: path_copy(alloc, word_of(matches, "level-file"))?,
+        level_file: read_path(alloc, matches, "--level-file")?,
         new: levels.new,
         sysv,
         options,
     })
-}
-
-/// A copy of a path, where there is one.
-fn path_copy(alloc: Global, path: Option<&str>) -> Result<Option<String>, AllocError>
-    ensures { IfOk result (λ copy. option_map (λ (text : _). string_bytes text) copy
-        ≡ option_map (λ word. word.now) path.entry) }
-{
-    match path {
-        Some(path) => Ok(Some(String::from_str(alloc, path)?)),
-        None => Ok(None),
-    }
 }
 
 /// The options with the change of level, where scripts are run as sysv-rc runs them.

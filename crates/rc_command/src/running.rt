@@ -4,7 +4,7 @@ ghost use Rattle.std.specs.Prelude.{◌≡◌, ◌≢◌, ◌⊎◌, ◌↔◌, 
 ghost use Rattle.host_calls.specs.Calls.{HostCall};
 ghost use Rattle.host_calls.specs.Record.{Since};
 ghost use Rattle.command_words.specs.CommandLines.{asks_version};
-ghost use Rattle.command_words.specs.Faults.{reason_of};
+ghost use Rattle.command_words.specs.Faults.{ReportsUsage};
 ghost use Rattle.program_io.specs.Writing.{AppendsPrefix};
 ghost use Rattle.command_words.specs.VersionLine.{PrintsVersion};
 ghost use Rattle.rc_command.specs.CommandLine.{rc_read_of, said_at, said_of};
@@ -12,12 +12,12 @@ ghost use Rattle.rc_command.specs.Endings.{Asks, AsksFor, IsBefore, IsStatusOf, 
 ghost use Rattle.rc_command.specs.LevelFiles.{AreSame};
 ghost use Rattle.std.specs.Io.KnownBytes.{Appends};
 ghost use Rattle.rc_driver.specs.Printing.{command_lines};
-ghost use Rattle.rc_command.specs.Endings.{IsSilent, RunsNames, RunsSaid, RunsScripts, TellsUsage, ended_text, limit_text, rc_of, status_of, usage_told};
+ghost use Rattle.rc_command.specs.Endings.{IsSilent, RunsNames, RunsSaid, RunsScripts, ended_text, limit_text, rc_of, status_of};
 
 use crate::command::{RunOptions, Words, entering, read_words};
 use crate::folders::{Folders, folder_of, previous_names};
 use crate::level_files::{LevelFiles, level_in};
-use command_words::{WordFault, is_version, print_version, report_word_fault};
+use command_words::{is_version, print_version, report_word_fault};
 use host_calls::Host;
 use init_words::{Level, Memory};
 use program_io::{DEVICE_FAULT, DONE, LIMIT_REACHED, REFUSED, report_no_memory, write_text};
@@ -109,25 +109,15 @@ where
     ensures unkept { (asks_version (map string_bytes words.items) ≡ true) ⊎ (IsWhole result → ⊥)
         → AreSame (L.file_at levels.old) (L.file_at levels.new) }
     ensures report { result ≡ REFUSED
-        → TellsUsage USAGE.now SHORT_USAGE.now (E.contents err.old) (E.contents err.new) }
+        → ReportsUsage (codes "rc") USAGE.now SHORT_USAGE.now
+        (E.contents err.old) (E.contents err.new) }
 {
     if is_version(words.as_slice()) {
         return print_version("rc", out, err);
     }
     match read_words(alloc, words.as_slice()) {
         Ok(said) => run_asked(host, folders, levels, alloc, &said, out, err),
-        Err(fault) => report_word_fault("rc", &fault, usage_for(&fault), err),
-    }
-}
-
-/// The usage that stands behind a fault of words: the whole where help is asked for.
-fn usage_for(fault: &WordFault) -> &'static str
-    ensures { IfSome (reason_of fault.now) (λ reason.
-        result.now ≡ usage_told USAGE.now SHORT_USAGE.now reason) }
-{
-    match fault {
-        WordFault::Usage(reason) if reason.is_empty() => USAGE,
-        _ => SHORT_USAGE,
+        Err(fault) => report_word_fault("rc", &fault, USAGE, SHORT_USAGE, err),
     }
 }
 

@@ -3,5 +3,5 @@ pub mod ReadingLemmas
 pub mod RunLemmas
 pub mod SettledLemmas
 pub mod SkippingLemmas
-pub mod VersionWords
+pub mod FreeLine
 pub mod WritingLemmas

@@ -1,41 +1,26 @@
 -- Runs of rclinks over the paths of init scripts.
-use Rattle.std.specs.Prelude.{◌≡◌, ◌⊎◌, ℕ, Bool, true, false, not, ◌||◌, ◌&&◌, if◌then◌else◌, List, [], ◌∷◌, ◌++◌, Option, Some, None, codes}
+use Rattle.std.specs.Prelude.{◌≡◌, ◌⊎◌, ℕ, Bool, true, false, not, ◌||◌, ◌&&◌, if◌then◌else◌, List, [], ◌∷◌, ◌++◌, Option, Some, None, codes, option_map, unwrap_or}
 use Rattle.std.specs.Option.{is_some}
-use Rattle.std.specs.List.{list_any}
-use Rattle.std.specs.Str.{bytes_eq}
 use Rattle.std.specs.Io.KnownBytes.{Appends}
 use Rattle.std.specs.declared.alloc.Global.{Global}
 use Rattle.program_io.specs.Writing.{AppendsPrefix}
 use Rattle.program_io.specs.Known.{KnownTexts}
-use Rattle.rc_header.specs.Forms.{is_empty}
 use Rattle.rc_links.specs.Links.{plan_text}
 use Rattle.rc_links.specs.PlannedText.{PlannedText}
 use Rattle.rc_links.specs.Plans.{IsPlan, IsRefused}
 use Rattle.rc_links.specs.ScriptText.{ScriptText}
 use Rattle.rc_links.specs.declared.faults.PlanFault.{PlanFault}
 use Rattle.rc_links.specs.declared.faults.PlanFault.TheVariants as plan_fault
-use Rattle.command_words.specs.Faults.{usage_report}
+use Rattle.clap.specs.Words.{App, Row, all_of, first_of}
+use Rattle.command_words.specs.CommandLines.{given_by, is_set, line_of, written}
 use Rattle.rclinks_command.specs.Facilities.{files_with}
 use Rattle.rclinks_command.specs.Files.{IsNoScriptAt, IsScriptAt, file_status}
 use Rattle.rclinks_command.specs.Folders.{KnownFolders, KnownScripts}
 use Rattle.rclinks_command.specs.Reading.{Reads}
 use Rattle.rclinks_command.specs.Skipping.{LeavesSome}
 use Rattle.rclinks_command.specs.Writing.{InFolders, IsTaken, IsWritten, IsWrittenPart, Previews}
+use Rattle.rclinks_command.specs.declared.command.TheConstants.{OPTIONS}
 use Rattle.rclinks_command.specs.declared.files.FileFault.{FileFault}
-
--- a word that asks for the usage
-abbrev pub is_help : List ℕ → Bool
-is_help word = bytes_eq word (codes "--help") || bytes_eq word (codes "-h")
-
--- there are no words, or one of them asks for the usage
-abbrev pub wants_usage : List (List ℕ) → Bool
-wants_usage words = is_empty words || list_any is_help words
-
--- what is told where the usage is: that no file is given, and its line; the whole of it of a request for help
-abbrev pub words_report : List ℕ → List ℕ → List (List ℕ) → List ℕ
-words_report whole short words =
-    if is_empty words then usage_report (codes "rclinks") (codes "no file is given") short
-    else usage_report (codes "rclinks") [] whole
 
 -- a script for each path, in order
 abbrev pub AreScripts : KnownTexts → List (List ℕ) → List ScriptText → Type 0
@@ -80,32 +65,29 @@ pub record Line : Type 0 where
 abbrev pub goes_on : Line → Bool
 goes_on line = line.skips || line.all
 
--- options, and then files; behind --write stands the directory
-abbrev pub line_from : Bool → Line → List (List ℕ) → Line
-line_from awaits line [] = record line { files = [] }
-line_from true line (word ∷ words) = line_from false (record line { dir = Some word }) words
-line_from false line (word ∷ words) =
-    if bytes_eq word (codes "--all") then line_from false (record line { all = true }) words
-    else if bytes_eq word (codes "--skip") then line_from false (record line { skips = true }) words
-    else if bytes_eq word (codes "-n") then line_from false (record line { dry = true }) words
-    else if bytes_eq word (codes "--no-facilities") then line_from false (record line { bare = true }) words
-    else if bytes_eq word (codes "--keep") then line_from false (record line { keeps = true }) words
-    else if bytes_eq word (codes "--prune") then line_from false (record line { prunes = true }) words
-    else if bytes_eq word (codes "--write") then line_from true line words
-    else record line { files = word ∷ words }
+abbrev pub command_line : App
+command_line = line_of (codes "rclinks") (written OPTIONS.now)
 
-abbrev pub line_of : List (List ℕ) → Line
-line_of words =
-    line_from false (record {
-      all = false;
-      skips = false;
-      dry = false;
-      bare = false;
-      keeps = false;
-      prunes = false;
-      dir = None;
-      files = [];
-    }) words
+-- what the rows of a command line ask for
+abbrev pub asked_by : List Row → Line
+asked_by rows = record {
+  all = is_set (codes "--all") rows;
+  skips = is_set (codes "--skip") rows;
+  dry = is_set (codes "-n") rows;
+  bare = is_set (codes "--no-facilities") rows;
+  keeps = is_set (codes "--keep") rows;
+  prunes = is_set (codes "--prune") rows;
+  dir = first_of (codes "--write") rows;
+  files = unwrap_or (all_of (codes "FILE") rows) [];
+}
+
+-- what words ask for; where the command line has a fault in them, nothing
+abbrev pub rclinks_read_of : List (List ℕ) → Option Line
+rclinks_read_of words = option_map asked_by (given_by command_line words)
+
+-- words ask for something that has this
+abbrev pub Says : List (List ℕ) → (Line → Type 0) → Type 0
+Says words P = (line : Line) × (rclinks_read_of words ≡ Some line) × P line
 
 -- The same with these facility files in front of the files, where links are made, or their changes printed.
 abbrev pub line_with : List (List ℕ) → Line → Line
@@ -127,6 +109,10 @@ PlanOf text_at line P =
 -- the folders of a directory are written
 abbrev pub writes : Line → Bool
 writes line = is_some line.dir && not line.dry
+
+abbrev pub writes_by : Option Line → Bool
+writes_by None = false
+writes_by (Some line) = writes line
 
 -- what is done in the folders of a directory: the changes by which they hold a plan's links are printed, or made
 abbrev pub DoesIn : Bool → Bool → KnownScripts → KnownFolders → List ℕ → KnownFolders → Option (List ℕ)
@@ -181,8 +167,3 @@ IsRefusedFor text_at skips paths = HasRefused text_at paths ⊎ ScriptsOf text_a
 abbrev pub IsRefusedBy : KnownTexts → Line → KnownScripts → KnownFolders → Type 0
 IsRefusedBy text_at line scripts before =
     IsRefusedFor text_at line.skips line.files ⊎ PlanOf text_at line (TakenBy line.dir line scripts before)
-
--- why a run on what words ask for, with these facility files, is refused: the usage is wanted, or that on the files is
-abbrev pub IsRefusedRun : KnownTexts → List (List ℕ) → Line → KnownScripts → KnownFolders → Type 0
-IsRefusedRun text_at facilities line scripts before =
-    (wants_usage line.files ≡ true) ⊎ IsRefusedBy text_at (line_with facilities line) scripts before

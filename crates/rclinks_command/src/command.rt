@@ -1,15 +1,16 @@
 //! The command line of rclinks, and what it prints.
 
-ghost use Rattle.std.specs.Prelude.{◌≡◌, ◌⊎◌, true, false, codes, map, string_bytes, IfOk, IfErr, Some, None};
-ghost use Rattle.std.specs.List.{list_any};
+ghost use Rattle.std.specs.Prelude.{◌≡◌, ◌⊎◌, true, false, codes, map, string_bytes, IfOk, IfErr, IsSome, Some, None};
 ghost use Rattle.std.specs.Io.KnownBytes.{Appends};
+ghost use Rattle.clap.specs.Words.{found_of, rows_of};
 ghost use Rattle.program_io.specs.Writing.{AppendsPrefix};
+ghost use Rattle.command_words.specs.CommandLines.{asks_version, given_by};
+ghost use Rattle.command_words.specs.Faults.{ReportsUsage, reason_of};
 ghost use Rattle.command_words.specs.VersionLine.{PrintsVersion};
-ghost use Rattle.command_words.specs.CommandLines.{asks_version};
 ghost use Rattle.rc_links.specs.Links.{plan_text};
 ghost use Rattle.rc_links.specs.Plans.{IsPlan};
 ghost use Rattle.rclinks_command.specs.Said.{line_said};
-ghost use Rattle.rclinks_command.specs.Command.{goes_on, Does, DoesBy, DoesIn, DoesPart, HasNoPlan, IsRefusedBy, IsRefusedFor, IsRefusedRun, PartBy, PartIn, ScriptsOf, TakenBy, is_help, line_from, line_of, line_with, plan_status, wants_usage, words_report, writes};
+ghost use Rattle.rclinks_command.specs.Command.{goes_on, Does, DoesBy, DoesIn, DoesPart, HasNoPlan, IsRefusedBy, IsRefusedFor, PartBy, PartIn, Says, ScriptsOf, TakenBy, asked_by, command_line, line_with, plan_status, rclinks_read_of, writes, writes_by};
 ghost use Rattle.rclinks_command.specs.Skipping.{LeavesSome};
 ghost use Rattle.rclinks_command.specs.Writing.{InFolders, IsTaken};
 
@@ -21,7 +22,11 @@ use crate::reading::read_files;
 use crate::skipping::{plan_rest, tell_first};
 use crate::telling::tell_system_names;
 use crate::writing::{preview, write_folders};
-use command_words::{is_version, print_version, report_refused_words};
+use clap::ArgMatches;
+use command_words::{
+    Row, WordFault, is_set, is_version, print_version, read_line, report_word_fault, word_of,
+    words_of,
+};
 use program_io::{DEVICE_FAULT, DONE, REFUSED, Texts, report_no_memory, write_text};
 use rc_links::{Plan, PlanFault, Script, plan};
 use std::alloc::{AllocError, Global};
@@ -76,86 +81,61 @@ impl<'w> Line<'w> {
     }
 }
 
-/// What more words ask for: options, and then files.
-fn line_from<'w>(line: Line<'w>, words: &'w [String]) -> Line<'w>
-    ensures { line_said result
-        ≡ line_from false (line_said line.entry) (map string_bytes words.entry.now) }
+/// The options and the words of a command line.
+const OPTIONS: &[Row] = &[
+    ("--all", "", ""),
+    ("--skip", "", ""),
+    ("--write", "DIR", ""),
+    ("-n", "", ""),
+    ("--keep", "", ""),
+    ("--prune", "", ""),
+    ("--no-facilities", "", ""),
+    ("FILE", "..", ""),
+];
+
+/// What words give the rows of the table.
+#[tactic(auto, using(crate::proofs::FreeLine::is_free_line))]
+fn matched(alloc: Global, words: &[String]) -> Result<ArgMatches<'_>, WordFault>
+    ensures ok { IfOk result (λ found. given_by command_line (map string_bytes words.now)
+        ≡ Some (rows_of (found_of found))) }
+    ensures usage { IfErr result (λ fault. IsSome (reason_of fault)
+        → given_by command_line (map string_bytes words.now) ≡ None) }
 {
-    match words {
-        [] => Line {
-            files: words,
-            ..line
-        },
-        [word, rest @ ..] if word.as_str() == "--skip" => {
-            line_from(
-                Line {
-                    skips: true,
-                    ..line
-                },
-                rest,
-            )
-        }
-        [word, rest @ ..] if word.as_str() == "--all" => line_from(
-            Line { all: true, ..line },
-            rest,
-        ),
-        [word, rest @ ..] if word.as_str() == "-n" => line_from(Line { dry: true, ..line }, rest),
-        [word, rest @ ..] if word.as_str() == "--no-facilities" => {
-            line_from(Line { bare: true, ..line }, rest)
-        }
-        [word, rest @ ..] if word.as_str() == "--keep" => {
-            line_from(
-                Line {
-                    keeps: true,
-                    ..line
-                },
-                rest,
-            )
-        }
-        [word, rest @ ..] if word.as_str() == "--prune" => {
-            line_from(
-                Line {
-                    prunes: true,
-                    ..line
-                },
-                rest,
-            )
-        }
-        [word, dir, rest @ ..] if word.as_str() == "--write" => line_from(
-            Line {
-                dir: Some(dir.as_str()),
-                ..line
-            },
-            rest,
-        ),
-        [word, rest @ ..] if word.as_str() == "--write" => Line {
-            files: rest,
-            ..line
-        },
-        _ => Line {
-            files: words,
-            ..line
-        },
+    read_line(alloc, "rclinks", OPTIONS, words)
+}
+
+/// What is asked for, over these files.
+fn line_of<'w>(matches: &'w ArgMatches, files: &'w [String]) -> Line<'w>
+    ensures { line_said result ≡ record (asked_by (rows_of (found_of matches.entry.now)))
+        { files = map string_bytes files.entry.now } }
+{
+    Line {
+        all: is_set(matches, "--all"),
+        skips: is_set(matches, "--skip"),
+        dry: is_set(matches, "-n"),
+        bare: is_set(matches, "--no-facilities"),
+        keeps: is_set(matches, "--keep"),
+        prunes: is_set(matches, "--prune"),
+        dir: word_of(matches, "--write"),
+        files,
     }
 }
 
-/// What words ask for.
-fn line_of(words: &[String]) -> Line<'_>
-    ensures { line_said result ≡ line_of (map string_bytes words.now) }
+/// The files that are read, with the facility files in front where those are taken.
+fn files_of(
+    alloc: Global,
+    facilities: &[String],
+    matches: &ArgMatches,
+) -> Result<Vec<String>, AllocError>
+    ensures { IfOk result (λ files. map string_bytes files.items
+        ≡ (line_with (map string_bytes facilities.now)
+        (asked_by (rows_of (found_of matches.now)))).files) }
 {
-    line_from(
-        Line {
-            all: false,
-            skips: false,
-            dry: false,
-            bare: false,
-            keeps: false,
-            prunes: false,
-            dir: None,
-            files: &[],
-        },
-        words,
-    )
+    let takes = word_of(matches, "--write").is_some() && !is_set(matches, "--no-facilities");
+    match words_of(matches, "FILE") {
+        Some(files) => files_with(alloc, facilities, takes, files),
+        None => files_with(alloc, facilities, takes, &[]),
+    }
 }
 
 /// The exit status of a fault of the plan.
@@ -248,48 +228,6 @@ fn plan_left<'w, E: Write>(
     match plan_rest(alloc, scripts, paths, true, err) {
         Ok(plan) => Ok(plan),
         Err(fault) => Err(status_of(&fault)),
-    }
-}
-
-/// The word asks for the usage.
-fn is_help(word: &str) -> bool
-    ensures { result ≡ is_help word.now }
-{
-    word == "--help" || word == "-h"
-}
-
-/// One of the words asks for the usage.
-fn asks_help(words: &[String]) -> bool
-    ensures { result ≡ list_any is_help (map string_bytes words.now) }
-{
-    for word in words {
-        if is_help(word.as_str()) {
-            return true;
-        }
-    }
-    false
-}
-
-/// There are no words, or one of them asks for the usage.
-fn wants_usage(words: &[String]) -> bool
-    ensures { result ≡ wants_usage (map string_bytes words.now) }
-{
-    match words {
-        [] => true,
-        [_, ..] => asks_help(words),
-    }
-}
-
-/// Reports that no file is given, or the usage where it is asked for, and gives the exit status.
-fn report_words<E: Write>(words: &[String], err: &mut E) -> u8
-    ensures status { result ≡ REFUSED }
-    ensures report { AppendsPrefix (E.contents err.old) (E.contents err.new)
-        (words_report USAGE.now SHORT_USAGE.now (map string_bytes words.now)) }
-{
-    if words.is_empty() {
-        report_refused_words("rclinks", "no file is given", SHORT_USAGE, err)
-    } else {
-        report_refused_words("rclinks", "", USAGE, err)
     }
 }
 
@@ -485,62 +423,55 @@ fn run_line<T: Texts, F: LinkFolders, W: Write, E: Write>(
     }
 }
 
-/// The same line with other files.
-fn over<'w>(line: Line<'w>, files: &'w [String]) -> Line<'w>
-    ensures { line_said result
-        ≡ record (line_said line.entry) { files = map string_bytes files.entry.now } }
-{
-    Line { files, ..line }
-}
-
-/// Runs rclinks on what words ask for, with facility files, and gives its exit status.
-fn run_with<T: Texts, F: LinkFolders, W: Write, E: Write>(
+/// Runs rclinks on what words give, with facility files, and gives its exit status.
+fn run_matches<T: Texts, F: LinkFolders, W: Write, E: Write>(
     texts: &T,
     folders: &mut F,
     alloc: Global,
     facilities: &[String],
-    line: Line,
+    matches: &ArgMatches,
     out: &mut W,
     err: &mut E,
 ) -> u8
     ensures statuses { (result ≡ DONE) ⊎ (result ≡ REFUSED) ⊎ (result ≡ DEVICE_FAULT) }
     ensures done { result ≡ DONE → Does (T.text_at texts.now)
-        (line_with (map string_bytes facilities.now) (line_said line.entry))
+        (line_with (map string_bytes facilities.now) (asked_by (rows_of (found_of matches.now))))
         (F.scripts_in folders.old) (F.held folders.old) (F.held folders.new) (W.contents out.old)
         (W.contents out.new) }
     ensures refused { result ≡ REFUSED → IsRefusedBy (T.text_at texts.now)
-        (line_with (map string_bytes facilities.now) (line_said line.entry))
+        (line_with (map string_bytes facilities.now) (asked_by (rows_of (found_of matches.now))))
         (F.scripts_in folders.old) (F.held folders.old) }
     ensures quiet { result ≡ REFUSED → (out.new ≡ out.old) × (folders.new ≡ folders.old) }
-    ensures kept { writes (line_said line.entry) ≡ false → folders.new ≡ folders.old }
-    ensures silent { writes (line_said line.entry) ≡ true → out.new ≡ out.old }
+    ensures kept { writes (asked_by (rows_of (found_of matches.now))) ≡ false
+        → folders.new ≡ folders.old }
+    ensures silent { writes (asked_by (rows_of (found_of matches.now))) ≡ true
+        → out.new ≡ out.old }
     ensures part { (out.new ≡ out.old) × (folders.new ≡ folders.old)
         ⊎ DoesPart (T.text_at texts.now)
-        (line_with (map string_bytes facilities.now) (line_said line.entry))
+        (line_with (map string_bytes facilities.now) (asked_by (rows_of (found_of matches.now))))
         (F.scripts_in folders.old) (F.held folders.old) (F.held folders.new) (W.contents out.old)
         (W.contents out.new) }
 {
-    let takes = line.dir.is_some() && !line.bare;
-    match files_with(alloc, facilities, takes, line.files) {
+    match files_of(alloc, facilities, matches) {
         Ok(files) => {
-            let whole = over(line, files.as_slice());
-            run_line(texts, folders, alloc, &whole, out, err)
+            let line = line_of(matches, files.as_slice());
+            run_line(texts, folders, alloc, &line, out, err)
         }
         Err(AllocError) => report_no_memory("rclinks", err),
     }
 }
 
-/// Runs rclinks on its words, options and then the paths of init scripts, and gives its exit status: 0 where their
-/// links were printed on `out`, or the version, where the one word is `--version`; 1 where there are no files or one is
-/// `--help` or `-h`, where a script's name or header or the plan is refused, or where a name of a link is taken; 4 where
-/// a file can't be read, a folder can't be listed or changed, the output fails or memory runs out. The first fault ends
-/// the run, and is told on `err`; with `--all` all faults are told there, and the status is that of the first. With
-/// `--skip` a script that can't be read or planned is left out. With `--write DIR` the links are not printed but made in
-/// the folders of a directory, and numbered links of the scripts that the plan doesn't have are taken away; with `-n`
-/// besides what would be changed is printed, and nothing is changed. With `--keep` besides a script that has numbered
-/// links there stays in their runlevels, and with `--prune` those are taken away whose script `init.d` of the directory
-/// hasn't. With `--write`, and without `--no-facilities`, the facility files are read in front of the scripts, but for
-/// those whose name a script has. What is odd in a header is told on `err` too, whatever the status.
+/// Runs rclinks on its words, options and the paths of init scripts, and gives its exit status: 0 where their links were
+/// printed on `out`, or the version, where the one word is `--version`; 1 where the words are no command line, where a
+/// script's name or header or the plan is refused, or where a name of a link is taken; 4 where a file can't be read, a
+/// folder can't be listed or changed, the output fails or memory runs out. The first fault ends the run, and is told on
+/// `err`; with `--all` all faults are told there, and the status is that of the first. With `--skip` a script that can't
+/// be read or planned is left out. With `--write DIR` the links are not printed but made in the folders of a directory,
+/// and numbered links of the scripts that the plan doesn't have are taken away; with `-n` besides what would be changed
+/// is printed, and nothing is changed. With `--keep` besides a script that has numbered links there stays in their
+/// runlevels, and with `--prune` those are taken away whose script `init.d` of the directory hasn't. With `--write`, and
+/// without `--no-facilities`, the facility files are read in front of the scripts, but for those whose name a script
+/// has. What is odd in a header is told on `err` too, whatever the status.
 pub fn run_words<T: Texts, F: LinkFolders, W: Write, E: Write>(
     texts: &T,
     folders: &mut F,
@@ -551,39 +482,40 @@ pub fn run_words<T: Texts, F: LinkFolders, W: Write, E: Write>(
     err: &mut E,
 ) -> u8
     ensures statuses { (result ≡ DONE) ⊎ (result ≡ REFUSED) ⊎ (result ≡ DEVICE_FAULT) }
-    ensures usage { wants_usage (line_of (map string_bytes words.now)).files ≡ true
-        → (result ≡ REFUSED) × AppendsPrefix (E.contents err.old) (E.contents err.new) (words_report
-        USAGE.now SHORT_USAGE.now (line_of (map string_bytes words.now)).files) }
+    ensures usage { asks_version (map string_bytes words.now) ≡ false
+        → rclinks_read_of (map string_bytes words.now) ≡ None
+        → (result ≡ DEVICE_FAULT) ⊎ (result ≡ REFUSED) × ReportsUsage (codes "rclinks") USAGE.now
+        SHORT_USAGE.now (E.contents err.old) (E.contents err.new) }
     ensures version { asks_version (map string_bytes words.now) ≡ true
         → PrintsVersion (codes "rclinks") result (W.contents out.old) (W.contents out.new) }
     // The links of all of the files, or of those that are not left out, were printed or made, or the changes printed.
     ensures done { asks_version (map string_bytes words.now) ≡ false → result ≡ DONE →
-        Does (T.text_at texts.now) (line_with (map string_bytes facilities.now)
-        (line_of (map string_bytes words.now))) (F.scripts_in folders.old) (F.held folders.old)
-        (F.held folders.new) (W.contents out.old) (W.contents out.new) }
-    // The usage was wanted, a file was refused, the scripts have no plan, or a name of a link is taken.
-    ensures refused { result ≡ REFUSED → IsRefusedRun (T.text_at texts.now)
-        (map string_bytes facilities.now) (line_of (map string_bytes words.now))
-        (F.scripts_in folders.old) (F.held folders.old) }
+        Says (map string_bytes words.now) (λ line. Does (T.text_at texts.now)
+        (line_with (map string_bytes facilities.now) line) (F.scripts_in folders.old)
+        (F.held folders.old) (F.held folders.new) (W.contents out.old) (W.contents out.new)) }
+    // The words are no command line, a file was refused, the scripts have no plan, or a name of a link is taken.
+    ensures refused { result ≡ REFUSED → (rclinks_read_of (map string_bytes words.now) ≡ None)
+        ⊎ Says (map string_bytes words.now) (λ line. IsRefusedBy (T.text_at texts.now)
+        (line_with (map string_bytes facilities.now) line) (F.scripts_in folders.old)
+        (F.held folders.old)) }
     ensures quiet { result ≡ REFUSED → (out.new ≡ out.old) × (folders.new ≡ folders.old) }
     // Nothing is changed but by `--write` without `-n`, and then nothing is printed.
-    ensures kept { writes (line_of (map string_bytes words.now)) ≡ false
+    ensures kept { writes_by (rclinks_read_of (map string_bytes words.now)) ≡ false
         → folders.new ≡ folders.old }
     ensures silent { asks_version (map string_bytes words.now) ≡ false
-        → writes (line_of (map string_bytes words.now)) ≡ true → out.new ≡ out.old }
+        → writes_by (rclinks_read_of (map string_bytes words.now)) ≡ true → out.new ≡ out.old }
     // Nothing was written, or a prefix of the text, which may be the whole, or the first of the changes were made.
     ensures part { asks_version (map string_bytes words.now) ≡ false
         → (out.new ≡ out.old) × (folders.new ≡ folders.old)
-        ⊎ DoesPart (T.text_at texts.now) (line_with (map string_bytes facilities.now)
-        (line_of (map string_bytes words.now))) (F.scripts_in folders.old) (F.held folders.old)
-        (F.held folders.new) (W.contents out.old) (W.contents out.new) }
+        ⊎ Says (map string_bytes words.now) (λ line. DoesPart (T.text_at texts.now)
+        (line_with (map string_bytes facilities.now) line) (F.scripts_in folders.old)
+        (F.held folders.old) (F.held folders.new) (W.contents out.old) (W.contents out.new)) }
 {
     if is_version(words) {
         return print_version("rclinks", out, err);
     }
-    let line = line_of(words);
-    if wants_usage(line.files) {
-        return report_words(line.files, err);
+    match matched(alloc, words) {
+        Ok(matches) => run_matches(texts, folders, alloc, facilities, &matches, out, err),
+        Err(fault) => report_word_fault("rclinks", &fault, USAGE, SHORT_USAGE, err),
     }
-    run_with(texts, folders, alloc, facilities, line, out, err)
 }

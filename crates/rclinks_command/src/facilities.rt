@@ -8,8 +8,8 @@ use crate::files::last_part;
 use std::alloc::{AllocError, Global};
 
 /// None of the files has the name of the facility's.
-fn is_unnamed(files: &[String], facility: &str) -> bool
-    ensures { result ≡ is_unnamed (map string_bytes files.now) facility.now }
+fn is_unnamed(files: &[&str], facility: &str) -> bool
+    ensures { result ≡ is_unnamed (map (λ file. file.now) files.now) facility.now }
 {
     for file in files {
         if last_part(file.as_bytes()) == last_part(facility.as_bytes()) {
@@ -22,12 +22,12 @@ fn is_unnamed(files: &[String], facility: &str) -> bool
 /// Adds a facility file, where none of the files has its name.
 fn add_facility(
     alloc: Global,
-    files: &[String],
+    files: &[&str],
     facility: &str,
     all: &mut Vec<String>,
 ) -> Result<(), AllocError>
     ensures { OnOk result (map string_bytes all.new.items ≡ map string_bytes all.old.items
-        ++ filter (is_unnamed (map string_bytes files.now)) (facility.now ∷ [])) }
+        ++ filter (is_unnamed (map (λ file. file.now) files.now)) (facility.now ∷ [])) }
 {
     if is_unnamed(files, facility) {
         all.push(String::from_str(alloc, facility)?)?;
@@ -38,12 +38,13 @@ fn add_facility(
 /// Adds the facility files whose name none of the files has.
 fn add_facilities(
     alloc: Global,
-    files: &[String],
+    files: &[&str],
     facilities: &[String],
     all: &mut Vec<String>,
 ) -> Result<(), AllocError>
     ensures { OnOk result (map string_bytes all.new.items ≡ map string_bytes all.old.items
-        ++ filter (is_unnamed (map string_bytes files.now)) (map string_bytes facilities.now)) }
+        ++ filter (is_unnamed (map (λ file. file.now) files.now))
+        (map string_bytes facilities.now)) }
 {
     for facility in facilities {
         add_facility(alloc, files, facility.as_str(), all)?;
@@ -52,12 +53,12 @@ fn add_facilities(
 }
 
 /// Adds files.
-fn add_files(alloc: Global, files: &[String], all: &mut Vec<String>) -> Result<(), AllocError>
+fn add_files(alloc: Global, files: &[&str], all: &mut Vec<String>) -> Result<(), AllocError>
     ensures { OnOk result (map string_bytes all.new.items
-        ≡ map string_bytes all.old.items ++ map string_bytes files.now) }
+        ≡ map string_bytes all.old.items ++ map (λ file. file.now) files.now) }
 {
     for file in files {
-        all.push(String::from_str(alloc, file.as_str())?)?;
+        all.push(String::from_str(alloc, *file)?)?;
     }
     Ok(())
 }
@@ -67,10 +68,10 @@ pub(crate) fn files_with(
     alloc: Global,
     facilities: &[String],
     takes: bool,
-    files: &[String],
+    files: &[&str],
 ) -> Result<Vec<String>, AllocError>
     ensures { IfOk result (λ all. map string_bytes all.items
-        ≡ files_with (map string_bytes facilities.now) takes (map string_bytes files.now)) }
+        ≡ files_with (map string_bytes facilities.now) takes (map (λ file. file.now) files.now)) }
 {
     let mut all = Vec::new(alloc);
     if takes {

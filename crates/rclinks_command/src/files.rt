@@ -6,7 +6,6 @@ ghost use Rattle.rc_links.specs.Names.{is_name};
 ghost use Rattle.rclinks_command.specs.Files.{IsNoScript, IsNoScriptAt, IsScriptAt, IsScriptOf, file_status, last_part, refusal_of};
 
 use crate::remarks::{behind_end, tell_odd_lines};
-use command_words::meant_of;
 use init_words::Memory;
 use program_io::{DEVICE_FAULT, REFUSED, Texts};
 use rc_header::{HeaderFault, second_line};
@@ -121,32 +120,6 @@ pub fn script_in(alloc: Global, name: &[u8], text: &[u8]) -> Result<Script, File
     }
 }
 
-/// The options that a path may have been meant to be.
-const OPTIONS: &[&str] = &[
-    "--all",
-    "--skip",
-    "--write",
-    "--keep",
-    "--prune",
-    "--no-facilities",
-];
-
-/// The option that the path of a file that can't be read was probably meant to be.
-fn option_meant(path: &str, fault: &FileFault) -> Option<&'static str> {
-    match fault {
-        FileFault::Unread(_) => meant_of(OPTIONS, path).filter(|option| *option != path),
-        _ => None,
-    }
-}
-
-/// Tells a fault of a file.
-fn tell_fault<E: Write>(path: &str, fault: &FileFault, err: &mut E) {
-    let _ = match option_meant(path, fault) {
-        Some(option) => writeln!(err, "rclinks: {path}: {fault}: {option}?"),
-        None => writeln!(err, "rclinks: {path}: {fault}"),
-    };
-}
-
 /// Writes why a file of this text gives no script: a line that is always the same, and one that says the reason, the
 /// line of the file that it is about, and what to write in its place; and that it is left out, where it is.
 fn tell_refusal<E: Write>(path: &str, text: &[u8], fault: &FileFault, skips: bool, err: &mut E) {
@@ -163,7 +136,9 @@ fn tell_refusal<E: Write>(path: &str, text: &[u8], fault: &FileFault, skips: boo
                 "rclinks: {path}: line {number}: \"{more}\" stands behind \"### END INIT INFO\", which ends no header then"
             );
         }
-        None => tell_fault(path, fault, err),
+        None => {
+            let _ = writeln!(err, "rclinks: {path}: {fault}");
+        }
     }
     if skips {
         let _ = writeln!(err, "rclinks: {path}: left out");

@@ -1,30 +1,17 @@
--- The command line `telinit [-t SEC] [-d DIR] [--initctl P] CHAR`, or `--power KIND` in place of CHAR (telinit(8)). What
--- it takes is said by clap's own words; they are opaque, since a goal that sees them sees the whole parser.
-use Rattle.std.specs.Prelude.{ℕ, true, if◌then◌else◌, List, [], ◌∷◌, ◌++◌, codes, Option, Some, None, unwrap_or, option_and_then, option_map, length, ◌==◌}
+-- The command line `telinit [-t SEC] [-d DIR] [--initctl P] CHAR`, or `--power KIND` in place of CHAR (telinit(8)).
+use Rattle.std.specs.Prelude.{ℕ, if◌then◌else◌, List, [], ◌++◌, codes, Option, Some, None, option_and_then, option_map, length, string_bytes, ◌==◌}
 use Rattle.std.specs.Str.{bytes_eq}
-use Rattle.clap.specs.Words.{App, Text, fault_of, first_of, matches_of, new_rule}
-use Rattle.command_words.specs.CommandLines.{program_app, short_rule, value_rule, with_rules}
+use Rattle.clap.specs.Words.{App, Row, Text, first_of}
+use Rattle.command_words.specs.CommandLines.{given_by, line_of, value_said, written}
 use Rattle.init_words.specs.declared.orders.PowerKind.{PowerKind}
 use Rattle.init_words.specs.declared.orders.PowerKind.TheVariants as power
+use Rattle.telinit_command.specs.declared.command.TheConstants.{OPTIONS}
+use Rattle.telinit_command.specs.declared.command.Words.{Words}
 use Rattle.telinit_command.specs.Frames.{frame_for}
 use Rattle.telinit_command.specs.Seconds.{seconds_read}
 
--- of an option that is given again the last counts
-abbrev pub repeatable : App → App
-repeatable app = record app { top = record app.top { args_override_self = true } }
-
-unfoldable pub command_line : App
-command_line = with_rules (repeatable (program_app (codes "telinit"))) (
-    short_rule (codes "secs") 116 (codes "5")
-    ∷ short_rule (codes "folder") 100 []
-    ∷ value_rule (codes "initctl")
-    ∷ value_rule (codes "power")
-    ∷ new_rule (codes "sign")
-    ∷ [])
-
--- the value that the words give an argument, if it has one
-abbrev pub telinit_given : List Text → Text → Option Text
-telinit_given words id = first_of id (matches_of command_line words)
+abbrev pub command_line : App
+command_line = line_of (codes "telinit") (written OPTIONS.now)
 
 -- the news of a word
 abbrev pub power_read : Text → Option PowerKind
@@ -50,9 +37,8 @@ abbrev pub path_in : Option Text → Text → Text → Text
 path_in (Some path) folder home = path
 path_in None folder home = in_folder (if length folder == 0 then home else folder) (codes "initctl")
 
-abbrev pub path_said : Text → List Text → Text
-path_said home words =
-    path_in (telinit_given words (codes "initctl")) (unwrap_or (telinit_given words (codes "folder")) []) home
+abbrev pub path_said : Text → List Row → Text
+path_said home rows = path_in (first_of (codes "--initctl") rows) (value_said (codes "-d") rows) home
 
 -- seconds, path, and the sign or the news of the power
 pub record TelinitSaid : Type 0 where
@@ -61,27 +47,34 @@ pub record TelinitSaid : Type 0 where
   pub sign : Text
   pub power : Option PowerKind
 
-abbrev pub asked_said : List Text → Option (Text × Option PowerKind)
-asked_said words = asked_in (telinit_given words (codes "sign")) (telinit_given words (codes "power"))
+abbrev pub said_of : Words → TelinitSaid
+said_of words = record {
+  secs = words.secs;
+  path = string_bytes words.path;
+  sign = string_bytes words.sign;
+  power = words.power;
+}
 
--- what words say that the command line takes, where the environment names this folder: their values or the defaults,
--- where the seconds are 0 to 3,600
-abbrev pub telinit_said_by : Text → List Text → Option TelinitSaid
-telinit_said_by home words =
+abbrev pub asked_said : List Row → Option (Text × Option PowerKind)
+asked_said rows = asked_in (first_of (codes "CHAR") rows) (first_of (codes "--power") rows)
+
+-- what is said where the environment names this folder: the values that are given or the defaults, where the seconds
+-- are 0 to 3,600
+abbrev pub telinit_said_by : Text → List Row → Option TelinitSaid
+telinit_said_by home rows =
     option_and_then
     (λ secs. option_map (λ asked. record {
       secs = secs;
-      path = path_said home words;
+      path = path_said home rows;
       sign = asked.0;
       power = asked.1;
     })
-    (asked_said words))
-    (seconds_read (unwrap_or (telinit_given words (codes "secs")) []))
+    (asked_said rows))
+    (seconds_read (value_said (codes "-t") rows))
 
 -- what words say; where the command line has a fault in them, nothing
 abbrev pub telinit_read_of : Text → List Text → Option TelinitSaid
-telinit_read_of home words =
-    if length (fault_of command_line words) == 0 then telinit_said_by home words else None
+telinit_read_of home words = option_and_then (telinit_said_by home) (given_by command_line words)
 
 -- the request block that words ask for
 abbrev pub block_said : Text → List Text → Option (List ℕ)

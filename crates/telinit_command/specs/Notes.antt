@@ -1,7 +1,6 @@
--- What telinit tells of its channel, where it appended, and of words that are none.
-use Rattle.std.specs.Prelude.{ℕ, Bool, if◌then◌else◌, List, [], ◌++◌, codes, Option, length, ◌==◌}
+-- What telinit tells of its channel, where it appended.
+use Rattle.std.specs.Prelude.{ℕ, Bool, if◌then◌else◌, List, [], ◌++◌, codes, Option}
 use Rattle.program_io.specs.Writing.{AppendsPrefix}
-use Rattle.command_words.specs.Faults.{usage_report}
 
 -- an init reads the channel, or none does, or it can't be told, for this reason
 pub data Reading : Type 0 where
@@ -28,12 +27,3 @@ reading_note path (unknown reason) = unknown_note path reason
 abbrev pub IsTold : List ℕ → Option (List ℕ) → Option (List ℕ) → Type 0
 IsTold path old new =
     (was_made : Bool) × (reading : Reading) × AppendsPrefix old new (made_note path was_made ++ reading_note path reading)
-
--- the usage that stands behind a reason, of a whole one and one in a line: the whole where no reason is told
-abbrev pub usage_told : List ℕ → List ℕ → List ℕ → List ℕ
-usage_told whole short reason = if length reason == 0 then whole else short
-
--- a writer gained why words are refused, and the usage, as much of it as it took
-abbrev pub TellsUsage : List ℕ → List ℕ → Option (List ℕ) → Option (List ℕ) → Type 0
-TellsUsage whole short old new =
-    (reason : List ℕ) × AppendsPrefix old new (usage_report (codes "telinit") reason (usage_told whole short reason))

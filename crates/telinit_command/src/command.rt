@@ -1,16 +1,24 @@
 //! The words of `telinit`, read.
 
-ghost use Rattle.std.specs.Prelude.{◌≡◌, [], codes, map, option_map, unwrap_or, string_bytes, IfErr, IfOk, IsSome, None, Some};
-ghost use Rattle.clap.specs.Words.{FailsBy, fault_of, first_of, found_of, matches_of, new_rule, rows_of};
-ghost use Rattle.command_words.specs.CommandLines.{AddsArgument, IsLine};
+ghost use Rattle.std.specs.Prelude.{◌≡◌, map, option_map, string_bytes, IfErr, IfOk, IsSome, None, Some};
+ghost use Rattle.clap.specs.Words.{found_of, rows_of};
 ghost use Rattle.command_words.specs.Faults.{reason_of};
-ghost use Rattle.telinit_command.specs.CommandLine.{asked_in, command_line, in_folder, path_in, power_read, telinit_read_of};
+ghost use Rattle.telinit_command.specs.CommandLine.{asked_in, in_folder, path_said, power_read, said_of, telinit_read_of, telinit_said_by};
 
 use crate::seconds::read_grace;
-use clap::{Arg, ArgMatches, Command, Error};
-use command_words::{WordFault, program_line, value_of, with_short, with_value, word_fault};
-use init_words::{GRACE_LIMIT, PowerKind};
+use clap::ArgMatches;
+use command_words::{Row, WordFault, read_line, refused, value_of, word_of};
+use init_words::PowerKind;
 use std::alloc::{AllocError, Global};
+
+/// The options and the word of a command line.
+const OPTIONS: &[Row] = &[
+    ("-t", "SEC", "5"),
+    ("-d", "DIR", ""),
+    ("--initctl", "P", ""),
+    ("--power", "KIND", ""),
+    ("CHAR", "?", ""),
+];
 
 /// What a command line says.
 #[derive(Drop)]
@@ -27,42 +35,36 @@ pub struct Words {
 
 /// Reads a command line, without the program's name in front. The channel that it doesn't name is `initctl` in the
 /// folder that it names by `-d`, else in `home`; where that is empty too, in this one.
+#[tactic(auto, using(crate::proofs::FreeLine::is_free_line))]
 pub fn read_words(alloc: Global, home: &str, words: Vec<String>) -> Result<Words, WordFault>
     // What it reads is what the words say, with the defaults for what they leave out.
     ensures ok { IfOk result (λ said. telinit_read_of home.now (map string_bytes words.items)
-        ≡ Some (record {
-          secs = said.secs;
-          path = string_bytes said.path;
-          sign = string_bytes said.sign;
-          power = said.power;
-        })) }
+        ≡ Some (said_of said)) }
     ensures usage { IfErr result (λ fault. IsSome (reason_of fault)
         → telinit_read_of home.now (map string_bytes words.items) ≡ None) }
 {
-    let matches = match parsed(alloc, words.as_slice()) {
-        Ok(matches) => matches,
-        Err(error) => return Err(word_fault(alloc, &error)),
-    };
-    let word = value_of(&matches, "secs");
+    let matches = read_line(alloc, "telinit", OPTIONS, words.as_slice())?;
+    read_matches(alloc, &matches, home)
+}
+
+/// What matches say.
+fn read_matches(alloc: Global, matches: &ArgMatches, home: &str) -> Result<Words, WordFault>
+    ensures ok { IfOk result (λ said. telinit_said_by home.now (rows_of (found_of matches.now))
+        ≡ Some (said_of said)) }
+    ensures usage { IfErr result (λ fault. IsSome (reason_of fault)
+        → telinit_said_by home.now (rows_of (found_of matches.now)) ≡ None) }
+{
+    let word = value_of(matches, "-t");
     let Some(secs) = read_grace(word) else {
-        let reason = format!(in alloc; "-t {word}: not 0 to {GRACE_LIMIT} seconds")?;
-        return Err(WordFault::Usage(reason));
+        return Err(refused(alloc, "-t", word, "not 0 to 3600 seconds"));
     };
-    let (sign, power) = read_asked(alloc, given(&matches, "sign"), given(&matches, "power"))?;
+    let (sign, power) = read_asked(alloc, word_of(matches, "CHAR"), word_of(matches, "--power"))?;
     Ok(Words {
         secs,
-        path: path_of(alloc, &matches, home)?,
+        path: path_of(alloc, matches, home)?,
         sign,
         power,
     })
-}
-
-/// The word that is given for an argument.
-fn given<'a>(matches: &ArgMatches<'a>, id: &str) -> Option<&'a str>
-    ensures { option_map (λ word. word.now) result
-        ≡ first_of id.now (rows_of (found_of matches.now)) }
-{
-    matches.get_str(id)
 }
 
 /// What is asked for: a sign, or news of the power.
@@ -81,9 +83,7 @@ fn read_asked(
         (Some(sign), None) => Ok((String::from_str(alloc, sign)?, None)),
         (None, Some(word)) => match read_power(word) {
             Some(kind) => Ok((String::new(alloc), Some(kind))),
-            None => Err(WordFault::Usage(format!(in alloc;
-                "--power {word}: not fail, failnow or ok"
-            )?)),
+            None => Err(refused(alloc, "--power", word, "not fail, failnow or ok")),
         },
         (Some(sign), Some(word)) => Err(WordFault::Usage(format!(in alloc;
             "--power {word}: not beside {sign}"
@@ -107,13 +107,12 @@ fn read_power(word: &str) -> Option<PowerKind>
 /// The channel that words name.
 fn path_of(alloc: Global, matches: &ArgMatches, home: &str) -> Result<String, AllocError>
     ensures { IfOk result (λ path. string_bytes path
-        ≡ path_in (first_of (codes "initctl") (rows_of (found_of matches.now)))
-        (unwrap_or (first_of (codes "folder") (rows_of (found_of matches.now))) []) home.now) }
+        ≡ path_said home.now (rows_of (found_of matches.now))) }
 {
-    if let Some(path) = given(matches, "initctl") {
+    if let Some(path) = word_of(matches, "--initctl") {
         return String::from_str(alloc, path);
     }
-    let folder = value_of(matches, "folder");
+    let folder = value_of(matches, "-d");
     in_folder(
         alloc,
         if folder.is_empty() { home } else { folder },
@@ -130,35 +129,4 @@ fn in_folder(alloc: Global, folder: &str, name: &str) -> Result<String, AllocErr
     } else {
         format!(in alloc; "{folder}/{name}")
     }
-}
-
-/// The command line of `telinit`.
-fn command<'a>(alloc: Global) -> Result<Command<'a>, AllocError>
-    ensures { IfOk result (IsLine command_line) }
-{
-    let line = program_line(alloc, "telinit").args_override_self(true);
-    let line = with_short(alloc, line, "secs", 't', "5")?;
-    let line = with_short(alloc, line, "folder", 'd', "")?;
-    let line = with_value(alloc, line, "initctl")?;
-    let line = with_value(alloc, line, "power")?;
-    with_last_word(alloc, line, "sign")
-}
-
-/// A command line with a word behind its options that may be left out.
-fn with_last_word<'a>(
-    alloc: Global,
-    line: Command<'a>,
-    name: &'a str,
-) -> Result<Command<'a>, AllocError>
-    ensures { IfOk result (AddsArgument line.entry (new_rule name.entry.now)) }
-{
-    line.arg(Arg::new(alloc, name))
-}
-
-fn parsed<'a>(alloc: Global, words: &'a [String]) -> Result<ArgMatches<'a>, Error>
-    ensures rows { IfOk result (λ found. rows_of (found_of found)
-        ≡ matches_of command_line (map string_bytes words.entry.now)) }
-    ensures faults { FailsBy (fault_of command_line (map string_bytes words.entry.now)) result }
-{
-    command(alloc)?.try_get_matches_from(words)
 }

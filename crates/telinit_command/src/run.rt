@@ -2,19 +2,17 @@
 
 ghost use Rattle.std.specs.Prelude.{◌≡◌, ◌⊎◌, true, false, codes, map, string_bytes, IfSome, IsSome, IsNone};
 ghost use Rattle.command_words.specs.CommandLines.{asks_version};
-ghost use Rattle.command_words.specs.Faults.{reason_of};
+ghost use Rattle.command_words.specs.Faults.{ReportsUsage};
 ghost use Rattle.command_words.specs.VersionLine.{PrintsVersion};
 ghost use Rattle.telinit_command.specs.Channels.{AreSame, Asks, AsksPartly, HasGained, HasGainedFront, IsWholeAt};
 ghost use Rattle.telinit_command.specs.CommandLine.{block_said, telinit_read_of};
-ghost use Rattle.telinit_command.specs.Notes.{IsTold, TellsUsage, usage_told};
+ghost use Rattle.telinit_command.specs.Notes.{IsTold};
 
 use crate::channel::{ChannelFault, append_block};
 use crate::channels::Channels;
 use crate::command::read_words;
 use crate::frame::frame_of;
-use command_words::{
-    WordFault, is_version, print_version, report_refused_words, report_word_fault,
-};
+use command_words::{is_version, print_version, report_refused_words, report_word_fault};
 use initctl_frame::BLOCK;
 use program_io::{DEVICE_FAULT, DONE, REFUSED, report_no_memory};
 use std::alloc::{AllocError, Global};
@@ -72,14 +70,15 @@ pub fn run_words<C: Channels, W: Write, E: Write>(
         ⊎ IfSome (telinit_read_of home.now (map string_bytes words.items))
         (λ said. IsTold said.path (E.contents err.old) (E.contents err.new)) }
     ensures report { result ≡ REFUSED
-        → TellsUsage USAGE.now SHORT_USAGE.now (E.contents err.old) (E.contents err.new) }
+        → ReportsUsage (codes "telinit") USAGE.now SHORT_USAGE.now
+        (E.contents err.old) (E.contents err.new) }
 {
     if is_version(words.as_slice()) {
         return print_version("telinit", out, err);
     }
     let words = match read_words(alloc, home, words) {
         Ok(words) => words,
-        Err(fault) => return report_word_fault("telinit", &fault, usage_for(&fault), err),
+        Err(fault) => return report_word_fault("telinit", &fault, USAGE, SHORT_USAGE, err),
     };
     match frame_of(&words) {
         Some(block) => ask(channels, alloc, words.path.as_str(), &block, err),
@@ -87,25 +86,15 @@ pub fn run_words<C: Channels, W: Write, E: Write>(
     }
 }
 
-/// The usage that stands behind a fault of words: the whole where help is asked for.
-fn usage_for(fault: &WordFault) -> &'static str
-    ensures { IfSome (reason_of fault.now) (λ reason.
-        result.now ≡ usage_told USAGE.now SHORT_USAGE.now reason) }
-{
-    match fault {
-        WordFault::Usage(reason) if reason.is_empty() => USAGE,
-        _ => SHORT_USAGE,
-    }
-}
-
 /// Reports that a word is none that telinit takes for CHAR.
 fn refuse_sign<E: Write>(alloc: Global, sign: &str, err: &mut E) -> u8
     ensures statuses { (result ≡ REFUSED) ⊎ (result ≡ DEVICE_FAULT) }
     ensures report { result ≡ REFUSED
-        → TellsUsage USAGE.now SHORT_USAGE.now (E.contents err.old) (E.contents err.new) }
+        → ReportsUsage (codes "telinit") USAGE.now SHORT_USAGE.now
+        (E.contents err.old) (E.contents err.new) }
 {
     match format!(in alloc; "{sign}: not a runlevel, a letter, q or u") {
-        Ok(reason) => report_refused_words("telinit", reason.as_str(), SHORT_USAGE, err),
+        Ok(reason) => report_refused_words("telinit", reason.as_str(), USAGE, SHORT_USAGE, err),
         Err(AllocError) => report_no_memory("telinit", err),
     }
 }

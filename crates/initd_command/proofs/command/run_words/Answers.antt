@@ -59,11 +59,11 @@ returns-in-Ok-Version g c =
 pub returns-in-Err-Usage : goal.returns-in-Err-Usage
 returns-in-Err-Usage g c =
     let none : initd_read_of (map string_bytes c.args.words.items) ≡ None = search rules in
-    let reason = c.as_str-reason.result.now in
+    let reason = c.as_str.result.now in
     let now = told (g.S.Hosts.opened c.args.hosts.now) (g.S.Hosts.told c.args.hosts.now) (g.W.Write.contents c.args.out.now) in
     let so = by_words (g.T.Texts.text_at c.args.texts.now) (map string_bytes c.args.words.items) None g.S.Hosts.own (usage reason) now now none
     (reason, refl, Keeps-refl (g.W.Write.contents c.args.out.now)) refl in
-    (usage reason, c.report_refused_words.ensures.status, so.0, (rw c.usage_for.ensures at c.report_refused_words.ensures.report), so.1)
+    (usage reason, c.report_refused_words.ensures.status, so.0, c.report_refused_words.ensures.report, so.1)
 
 pub returns : goal.returns
 returns g c =

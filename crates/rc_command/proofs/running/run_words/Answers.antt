@@ -1,5 +1,5 @@
 use Rattle.std.proofs.Common.{inl, inr, refl, sym, subst, IsSome}
-use Rattle.rc_command.proofs.ReadWords.{refused_by}
+use Rattle.command_words.proofs.Refusals.{refused_by}
 use Rattle.rc_command.proofs.running.run_words.Goals as goal
 
 pub returns-in-Ok-clause-done : goal.returns-in-Ok-clause-done

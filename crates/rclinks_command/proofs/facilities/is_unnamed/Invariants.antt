@@ -1,4 +1,4 @@
-use Rattle.std.proofs.Common.{string_bytes, ◌≡◌, map, drop}
+use Rattle.std.proofs.Common.{◌≡◌, map, drop}
 use Rattle.std.specs.List.{list_any}
 use Rattle.std.specs.Str.{bytes_eq}
 use Rattle.rclinks_command.specs.Files.{last_part}
@@ -6,5 +6,5 @@ use Rattle.rclinks_command.proofs.facilities.is_unnamed.Given as goal
 
 abbrev pub invariant-loop-file : goal.invariant-loop-file
 invariant-loop-file l =
-    list_any (λ file. bytes_eq (last_part file) (last_part l.facility)) (map string_bytes (drop l.file-index l.files))
-    ≡ list_any (λ file. bytes_eq (last_part file) (last_part l.facility)) (map string_bytes l.files)
+    list_any (λ file. bytes_eq (last_part file) (last_part l.facility)) (map (λ file. file.now) (drop l.file-index l.files))
+    ≡ list_any (λ file. bytes_eq (last_part file) (last_part l.facility)) (map (λ file. file.now) l.files)

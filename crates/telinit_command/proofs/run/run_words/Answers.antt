@@ -13,3 +13,6 @@ right f (inr b) = inr (f b)
 pub returns-in-Some-clause-unappended : goal.returns-in-Some-clause-unappended
 returns-in-Some-clause-unappended g c = λ failed.
     right (λ front. (_, _, (_, c.in-Ok.ensures.ok, c.as_str.ensures.value, search rules), front)) (c.ask.ensures.refused failed)
+
+pub returns-in-Some-clause-appended : goal.returns-in-Some-clause-appended
+returns-in-Some-clause-appended g c = λ done _. (_, _, (_, c.in-Ok.ensures.ok, c.as_str.ensures.value, search rules), c.ask.ensures.whole done, c.ask.ensures.gained done)

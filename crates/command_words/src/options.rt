@@ -1,0 +1,214 @@
+//! A command line by a table of its options and words, and what is read by it.
+
+ghost use Rattle.std.specs.Prelude.{◌≡◌, ◌∷◌, [], false, map, option_map, string_bytes, true, unwrap_or, IfErr, IfOk, IfSome, IsSome, None, Some};
+ghost use Rattle.clap.specs.Words.{FailsBy, all_of, fault_of, first_of, found_of, is_simple_and_free, matches_of, rows_of, rule_of};
+ghost use Rattle.command_words.specs.CommandLines.{AddsAll, IsLine, bare_line, given_by, is_set, letter_of, line_of, refusal_text, long_of, row_rule, standing, taking, text_of, texts_of, value_said};
+ghost use Rattle.command_words.specs.Faults.{reason_of};
+
+use crate::faults::{WordFault, word_fault};
+use clap::{Arg, ArgAction, ArgMatches, Command, Error};
+use std::alloc::{AllocError, Global};
+
+/// An option or a word of a command line. An option, `--NAME` or `-C`, has what stands for its value in the usage, which
+/// is empty where it takes none, and the value that it has where it is left out, if any. A word has nothing, where it has
+/// to be there, `?`, where it may be left out, or `..`, where it is one or more.
+pub type Row = (&'static str, &'static str, &'static str);
+
+/// The name of `--NAME`.
+fn long_of(name: &'static str) -> Option<&'static str>
+    ensures { option_map (λ long. long.now) result ≡ long_of name.now }
+{
+    name.strip_prefix("--")
+}
+
+/// The character of `-C`.
+fn letter_of(name: &str) -> Option<char>
+    ensures { result ≡ letter_of name.now }
+{
+    match name.as_bytes() {
+        [b'-', letter] => Some(*letter as char),
+        _ => None,
+    }
+}
+
+/// An option, with a value or without.
+fn taking<'a>(arg: Arg<'a>, value: &str, default: &'static str) -> Arg<'a>
+    ensures rule { rule_of result ≡ taking value.now default.now (rule_of arg.entry) }
+    ensures local { result.global ≡ arg.entry.global }
+{
+    if value.is_empty() {
+        return arg.action(ArgAction::SetTrue);
+    }
+    if default.is_empty() {
+        return arg;
+    }
+    arg.default_value(default)
+}
+
+/// A word.
+fn standing<'a>(arg: Arg<'a>, count: &str) -> Arg<'a>
+    ensures rule { rule_of result ≡ standing count.now (rule_of arg.entry) }
+    ensures local { result.global ≡ arg.entry.global }
+{
+    match count {
+        "?" => arg,
+        ".." => arg.required(true).action(ArgAction::Append),
+        _ => arg.required(true),
+    }
+}
+
+/// The argument of a row.
+fn argument<'a>(alloc: Global, row: Row) -> Arg<'a>
+    ensures rule { rule_of result ≡ row_rule (text_of row.entry) }
+    ensures local { result.global ≡ false }
+{
+    let (name, value, default) = row;
+    let arg = Arg::new(alloc, name);
+    match (long_of(name), letter_of(name)) {
+        (Some(long), _) => taking(arg.long(long), value, default),
+        (None, Some(letter)) => taking(arg.short(letter), value, default),
+        (None, None) => standing(arg, value),
+    }
+}
+
+/// A command line with the row behind its other arguments.
+fn with_row<'a>(alloc: Global, line: Command<'a>, row: Row) -> Result<Command<'a>, AllocError>
+    ensures { IfOk result (AddsAll line.entry (row_rule (text_of row.entry) ∷ [])) }
+{
+    line.arg(argument(alloc, row))
+}
+
+/// A command line without any argument. Its words have no program's name in front, and of an option that is given again
+/// the last counts.
+fn bare_line<'a>(alloc: Global, name: &'static str) -> Command<'a>
+    ensures { IsLine (bare_line name.now) result }
+{
+    Command::new(alloc, name)
+        .no_binary_name(true)
+        .args_override_self(true)
+}
+
+/// A command line with these rows behind its other arguments. It fails for want of memory alone.
+fn with_rows<'a>(alloc: Global, line: Command<'a>, table: &[Row]) -> Result<Command<'a>, AllocError>
+    ensures { IfOk result (AddsAll line.entry (map row_rule (texts_of table.now))) }
+{
+    let mut line = line;
+    for row in table {
+        line = with_row(alloc, line, *row)?;
+    }
+    Ok(line)
+}
+
+/// The command line of a table, of a program or one of its subcommands. It fails for want of memory alone.
+pub fn table_line<'a>(
+    alloc: Global,
+    name: &'static str,
+    table: &[Row],
+) -> Result<Command<'a>, AllocError>
+    ensures { IfOk result (IsLine (line_of name.now (texts_of table.now))) }
+{
+    with_rows(alloc, bare_line(alloc, name), table)
+}
+
+fn parsed<'a>(
+    alloc: Global,
+    name: &'static str,
+    table: &[Row],
+    words: &'a [String],
+) -> Result<ArgMatches<'a>, Error>
+    ensures rows { is_simple_and_free (line_of name.now (texts_of table.now)) ≡ true
+        → IfOk result (λ found. rows_of (found_of found)
+        ≡ matches_of (line_of name.now (texts_of table.now)) (map string_bytes words.entry.now)) }
+    ensures faults { is_simple_and_free (line_of name.now (texts_of table.now)) ≡ true
+        → FailsBy (fault_of (line_of name.now (texts_of table.now))
+        (map string_bytes words.entry.now)) result }
+{
+    table_line(alloc, name, table)?.try_get_matches_from(words)
+}
+
+/// What words give the rows of a program's table. `Usage` says why they are no command line.
+pub fn read_line<'a>(
+    alloc: Global,
+    name: &'static str,
+    table: &[Row],
+    words: &'a [String],
+) -> Result<ArgMatches<'a>, WordFault>
+    ensures ok { is_simple_and_free (line_of name.now (texts_of table.now)) ≡ true
+        → IfOk result (λ found. given_by (line_of name.now (texts_of table.now))
+        (map string_bytes words.entry.now) ≡ Some (rows_of (found_of found))) }
+    ensures usage { is_simple_and_free (line_of name.now (texts_of table.now)) ≡ true
+        → IfErr result (λ fault. IsSome (reason_of fault)
+        → given_by (line_of name.now (texts_of table.now)) (map string_bytes words.entry.now)
+        ≡ None) }
+{
+    match parsed(alloc, name, table, words) {
+        Ok(matches) => Ok(matches),
+        Err(error) => Err(word_fault(alloc, &error)),
+    }
+}
+
+/// The word that is given for a row, or is its default.
+pub fn word_of<'a>(matches: &ArgMatches<'a>, id: &str) -> Option<&'a str>
+    ensures { option_map (λ word. word.now) result
+        ≡ first_of id.now (rows_of (found_of matches.now)) }
+{
+    matches.get_str(id)
+}
+
+/// The same; nothing where none is.
+pub fn value_of<'a>(matches: &ArgMatches<'a>, id: &str) -> &'a str
+    ensures { result.now ≡ value_said id.now (rows_of (found_of matches.now)) }
+{
+    match word_of(matches, id) {
+        Some(value) => value,
+        None => "",
+    }
+}
+
+/// The words that are given for a row.
+pub fn words_of<'m, 'a>(matches: &'m ArgMatches<'a>, id: &str) -> Option<&'m [&'a str]>
+    ensures { option_map (λ words. map (λ word. word.now) words.now) result
+        ≡ all_of id.now (rows_of (found_of matches.now)) }
+{
+    matches.get_strs(id)
+}
+
+/// The option without a value is given.
+pub fn is_set(matches: &ArgMatches, id: &str) -> bool
+    ensures { result ≡ is_set id.now (rows_of (found_of matches.now)) }
+{
+    value_of(matches, id) == "true"
+}
+
+/// A copy of the path that is given for a row, where one is.
+pub fn read_path(
+    alloc: Global,
+    matches: &ArgMatches,
+    id: &str,
+) -> Result<Option<String>, AllocError>
+    ensures { IfOk result (λ path. option_map (λ (text : _). string_bytes text) path
+        ≡ first_of id.now (rows_of (found_of matches.now))) }
+{
+    match word_of(matches, id) {
+        Some(path) => Ok(Some(String::from_str(alloc, path)?)),
+        None => Ok(None),
+    }
+}
+
+/// The fault of an option whose value is none of its kind.
+pub fn refused(alloc: Global, id: &str, value: &str, why: &str) -> WordFault
+    ensures { IfSome (reason_of result) (λ reason.
+        reason ≡ refusal_text id.now value.now why.now) }
+{
+    match refusal_text(alloc, id, value, why) {
+        Ok(text) => WordFault::Usage(text),
+        Err(AllocError) => WordFault::Memory,
+    }
+}
+
+fn refusal_text(alloc: Global, id: &str, value: &str, why: &str) -> Result<String, AllocError>
+    ensures { IfOk result (λ text.
+        string_bytes text ≡ refusal_text id.now value.now why.now) }
+{
+    format!(in alloc; "{id} {value}: {why}")
+}
