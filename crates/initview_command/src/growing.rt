@@ -7,10 +7,10 @@ ghost use Rattle.initview_command.specs.Writers.{IsWriterAt, KnownWriters};
 
 use host_files::{FolderFault, PassedNames, with_folder};
 use init_words::Part;
-use program_io::{KeptTexts, Texts, open_plain};
-use std::alloc::{AllocError, Allocator, Global};
+use program_io::open_plain;
+use std::alloc::{AllocError, Global};
 use std::fs::{File, Metadata, TryLockError};
-use std::io::{Cursor, Error, ErrorKind, Read};
+use std::io::{Error, ErrorKind, Read};
 use std::os::unix::fs::MetadataExt;
 use std::rt::{Clock, Files};
 use std::time::Duration;
@@ -61,48 +61,6 @@ pub trait GrowingTexts {
     /// Whether a program is found: in one of the folders, between which stand colons, or at its path, where that begins
     /// with `/`. One with another path is another thing for each folder that init is started in, and taken for found.
     fn has_program(&self, alloc: Global, folders: &str, program: &str) -> Result<bool, AllocError>;
-}
-
-/// A text in memory is whole, and has no lock.
-impl<A: Allocator> GrowingTexts for KeptTexts<A> {
-    ghost use Rattle.std.specs.Prelude.{List, Some};
-    ghost use Rattle.program_io.specs.Known.{Kept, text_in};
-    ghost use Rattle.initview_command.specs.declared.growing.Writer.TheVariants as writer;
-
-    ghost text_at = { λ (kept : List Kept) path. text_in kept path };
-
-    ghost writer_at = { λ (kept : List Kept) path. Some writer.Unknown };
-
-    type Growing = Cursor<Vec<u8>>;
-
-    fn open(&self, alloc: Global, path: &str) -> io::Result<Cursor<Vec<u8>>> {
-        Ok(Cursor::new(self.read(alloc, path)?))
-    }
-
-    fn writer(&self, _path: &str) -> Writer {
-        Writer::Unknown
-    }
-
-    /// No folder is kept.
-    fn add_folder(
-        &self,
-        alloc: Global,
-        folder: &str,
-        _parts: &mut Vec<Part>,
-    ) -> Result<(), FolderFault> {
-        let path = String::from_str(alloc, folder)?;
-        Err(FolderFault::Unread(path, Error::from(ErrorKind::NotFound)))
-    }
-
-    /// No program is kept.
-    fn has_program(
-        &self,
-        _alloc: Global,
-        _folders: &str,
-        _program: &str,
-    ) -> Result<bool, AllocError> {
-        Ok(false)
-    }
 }
 
 /// The files of the operating system, which may be written to while they are followed. Nothing is known of their texts,

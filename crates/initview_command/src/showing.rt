@@ -20,6 +20,7 @@ use std::io::Write;
 use trace_view::{Row, SeenText, Sees, TraceView, ViewEnd};
 
 /// The trace of a path that was shown, who writes it, and why it is shown no further.
+#[derive(Clone, Copy)]
 pub(crate) struct Shown<'a> {
     pub(crate) path: &'a str,
     pub(crate) writer: Writer,

@@ -1,10 +1,15 @@
 -- The links of a runlevel's folder, and which of them are run (LSB Core 5.0, System Initialization).
 use Rattle.std.specs.Prelude.{ℕ, Bool, false, not, ◌==◌, ◌&&◌, List, [], ◌∷◌, drop}
 use Rattle.std.specs.Char.{is_ascii_digit}
-use Rattle.std.specs.List.{dedup, filter, list_any}
+use Rattle.std.specs.List.{dedup, filter, list_all, list_any}
 use Rattle.std.specs.Str.{byte, bytes_eq}
 use Rattle.rc_links.specs.Links.{in_byte_order}
-use Rattle.rc_links.specs.Names.{is_name}
+use Rattle.rc_links.specs.Names.{is_name_byte}
+
+-- one or more such bytes
+abbrev pub is_name : List ℕ → Bool
+is_name [] = false
+is_name (b ∷ name) = list_all is_name_byte (b ∷ name)
 
 -- the letter, two digits and a name
 abbrev pub is_link : ℕ → List ℕ → Bool

@@ -11,29 +11,46 @@ use trace_log_wrappers::BriefLog;
 use trace_text::ReadFault;
 use trace_verdict::{Finding, TextJudge};
 
-/// How often a line of a trace is there in place of once; with none it is exchanged with the next one.
-const CHANGES: [Option<usize>; 4] = [Some(1), Some(0), Some(2), None];
+/// What is done to a line of a trace.
+#[derive(Clone, Copy, PartialEq, Eq)]
+enum Change {
+    None,
+    Dropped,
+    Doubled,
+    /// With the next one.
+    Exchanged,
+}
+
+const CHANGES: [Change; 4] = [
+    Change::None,
+    Change::Dropped,
+    Change::Doubled,
+    Change::Exchanged,
+];
+
+fn add_changed(text: &mut String, line: &str, change: Change) -> Result<(), AllocError> {
+    if change != Change::Dropped {
+        text.push_str(line)?;
+    }
+    if change == Change::Doubled {
+        text.push_str(line)?;
+    }
+    Ok(())
+}
 
 /// A text with its line at a place changed.
-fn changed(
-    own: Global,
-    text: &str,
-    place: usize,
-    change: Option<usize>,
-) -> Result<String, AllocError> {
+fn changed(own: Global, text: &str, place: usize, change: Change) -> Result<String, AllocError> {
     let mut made = String::new(own);
-    let mut held = "";
+    let mut held = None;
     for (at, line) in text.split_inclusive('\n').enumerate() {
-        let times = if at == place { change } else { Some(1) };
-        match times {
-            Some(times) => {
-                for _ in 0..times {
-                    made.push_str(line)?;
-                }
-                made.push_str(held)?;
-                held = "";
-            }
-            None => held = line,
+        if at == place && change == Change::Exchanged {
+            held = Some(line);
+            continue;
+        }
+        let here = if at == place { change } else { Change::None };
+        add_changed(&mut made, line, here)?;
+        if let Some(first) = held.take() {
+            made.push_str(first)?;
         }
     }
     Ok(made)
