@@ -33,12 +33,12 @@ abbrev pub letter_of : Text → Option ℕ
 letter_of (dash ∷ letter ∷ []) = if dash == 45 then Some letter else None
 letter_of _ = None
 
--- an option takes no value, or one that it may have where it is left out
+-- an option takes no value, or one, which it may have where it is left out
 abbrev pub taking : Text → Text → Rule → Rule
 taking value default rule =
     if length value == 0 then record rule { action = Some SetTrue }
-    else if length default == 0 then rule
-    else record rule { defaults = default ∷ [] }
+    else if length default == 0 then record rule { value_names = 1 }
+    else record rule { value_names = 1; defaults = default ∷ [] }
 
 -- a word may be left out, is one or more, or has to be there
 abbrev pub standing : Text → Rule → Rule

@@ -32,13 +32,14 @@ fn letter_of(name: &str) -> Option<char>
 }
 
 /// An option, with a value or without.
-fn taking<'a>(arg: Arg<'a>, value: &str, default: &'static str) -> Arg<'a>
+fn taking<'a>(arg: Arg<'a>, value: &'static str, default: &'static str) -> Arg<'a>
     ensures rule { rule_of result ≡ taking value.now default.now (rule_of arg.entry) }
     ensures local { result.global ≡ arg.entry.global }
 {
     if value.is_empty() {
         return arg.action(ArgAction::SetTrue);
     }
+    let arg = arg.value_name(value);
     if default.is_empty() {
         return arg;
     }
