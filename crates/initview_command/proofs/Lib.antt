@@ -1,8 +1,7 @@
-pub mod Done
+pub mod Asked
 pub mod Drawn
 pub mod Explained
 pub mod Files
 pub mod Followed
-pub mod Picked
 pub mod Reloads
 pub mod Shown

@@ -1,16 +1,19 @@
--- What the words of a command line ask: options with their values stand anywhere, and the other words in their order.
-use Rattle.std.specs.Prelude.{ℕ, Bool, true, false, not, ◌&&◌, ◌||◌, ◌==◌, if◌then◌else◌, List, [], ◌∷◌, ◌++◌, codes, Option, Some, None}
-use Rattle.std.specs.Option.{option_map}
+-- What a command line asks: options with their values stand anywhere, and the first of the other words is the command.
+use Rattle.std.specs.Prelude.{Bool, true, false, not, ◌&&◌, ◌||◌, ◌==◌, if◌then◌else◌, List, [], ◌∷◌, codes, length, Option, Some, None, option_and_then, unwrap_or}
+use Rattle.std.specs.List.{list_all}
+use Rattle.std.specs.Option.{is_some, option_map}
 use Rattle.std.specs.Str.{bytes_eq}
+use Rattle.clap.specs.Words.{App, Row, Text, all_of, first_of}
+use Rattle.command_words.specs.CommandLines.{Line, is_set, line_of, value_said, written}
 use Rattle.init_words.specs.declared.levels.Level.{Level}
 use Rattle.init_words.specs.Ids.{id_read}
 use Rattle.init_words.specs.Levels.{level_read}
 use Rattle.initview_lines.specs.declared.rows.RowFormat.{RowFormat}
 use Rattle.initview_lines.specs.declared.rows.RowFormat.TheVariants as shape
-use Rattle.initview_command.specs.declared.asking.Question.TheVariants.{Status, Row, Left}
+use Rattle.initview_command.specs.declared.asking.Question.TheVariants as question
+use Rattle.initview_command.specs.declared.asking.TableQuestion.{TableQuestion}
 use Rattle.initview_command.specs.declared.asking.TableQuestion.TheVariants as table
-use Rattle.initview_command.specs.declared.asking.Kind.{Kind}
-use Rattle.initview_command.specs.declared.asking.Kind.TheVariants as kind
+use Rattle.initview_command.specs.declared.asking.TheConstants.{OPTIONS}
 use Rattle.initview_command.specs.declared.asking.What.{What}
 use Rattle.initview_command.specs.declared.asking.What.TheVariants.{Show, Draw, Follow, Explain, Reload, Timing, Tables}
 use Rattle.initview_command.specs.declared.charting.Form.{Form}
@@ -18,49 +21,18 @@ use Rattle.initview_command.specs.declared.charting.Form.TheVariants.{Lines, Svg
 use Rattle.initview_command.specs.declared.charting.TheConstants.{WIDTH}
 use Rattle.initview_command.specs.Charting.{lines_of}
 
-abbrev pub Text : Type 0
-Text = List ℕ
+abbrev pub command_line : App
+command_line = line_of (codes "initview") (written OPTIONS.now)
 
--- an option begins with -, which is standard input where it stands alone; some have a value behind them, which is of
--- their kind
-abbrev pub is_option : Text → Bool
-is_option (first ∷ second ∷ word) = first == 45
-is_option _ = false
+-- the other words
+abbrev pub words_said : List Row → List Text
+words_said rows = unwrap_or (all_of (codes "WORD") rows) []
 
-abbrev pub takes_value : Text → Bool
-takes_value word =
-    bytes_eq word (codes "--level") || bytes_eq word (codes "--trace") || bytes_eq word (codes "--width")
-    || bytes_eq word (codes "--inittab-dir") || bytes_eq word (codes "--programs")
-
-abbrev pub own_kind : Text → Kind
-own_kind word =
-    if bytes_eq word (codes "--inittab-dir") then kind.Folder else if is_option word then kind.Option else kind.Word
-
-abbrev pub kind_of : Option Kind → Text → Kind
-kind_of (Some kind) word = kind
-kind_of None word = own_kind word
-
-abbrev pub same_kind : Kind → Kind → Bool
-same_kind kind.Word kind.Word = true
-same_kind kind.Option kind.Option = true
-same_kind kind.Folder kind.Folder = true
-same_kind _ _ = false
-
--- the words of a kind; the first may be the value of an option before it
-abbrev pub is_picked : Kind → Option Kind → Text → Bool
-is_picked kind value word = same_kind kind (kind_of value word)
-
-abbrev pub value_next : Option Kind → Text → Option Kind
-value_next (Some kind) word = None
-value_next None word = if takes_value word then Some (own_kind word) else None
-
-abbrev pub given_by : Bool → Text → List Text
-given_by so word = if so then word ∷ [] else []
-
-abbrev pub picked : Kind → Option Kind → List Text → List Text
-picked kind value [] = []
-picked kind value (word ∷ words) =
-    given_by (is_picked kind value word) word ++ picked kind (value_next value word) words
+-- a row of the table is an option that is given
+abbrev pub is_given : List Row → Line → Bool
+is_given rows row =
+    if length row.1 == 0 then is_set row.0 rows
+    else not (bytes_eq row.1 (codes "..")) && is_some (first_of row.0 rows)
 
 -- a level is a character
 abbrev pub level_in : Text → Option Level
@@ -69,171 +41,134 @@ level_in (code ∷ []) = level_read code
 level_in (code ∷ more ∷ word) = None
 
 -- [--level LEVEL]
-abbrev pub level_of : List Text → Option (Option Level)
-level_of [] = Some None
-level_of (option ∷ level ∷ []) =
-    if bytes_eq option (codes "--level") then option_map Some (level_in level) else None
-level_of _ = None
+abbrev pub level_given : Option Text → Option (Option Level)
+level_given None = Some None
+level_given (Some word) = option_map Some (level_in word)
+
+abbrev pub level_said : List Row → Option (Option Level)
+level_said rows = level_given (first_of (codes "--level") rows)
 
 -- [--json]
-abbrev pub shape_of : List Text → Option RowFormat
-shape_of [] = Some shape.Lines
-shape_of (option ∷ []) = if bytes_eq option (codes "--json") then Some shape.Json else None
-shape_of _ = None
+abbrev pub shape_said : List Row → RowFormat
+shape_said rows = if is_set (codes "--json") rows then shape.Json else shape.Lines
 
 -- [--svg | --width N]
-abbrev pub form_of : List Text → Option Form
-form_of [] = Some (Lines WIDTH)
-form_of (option ∷ []) = if bytes_eq option (codes "--svg") then Some Svg else None
-form_of (option ∷ width ∷ []) = if bytes_eq option (codes "--width") then lines_of width else None
-form_of _ = None
+abbrev pub form_given : Bool → Option Text → Option Form
+form_given false None = Some (Lines WIDTH)
+form_given false (Some width) = lines_of width
+form_given true None = Some Svg
+form_given true (Some width) = None
+
+abbrev pub form_said : List Row → Option Form
+form_said rows = form_given (is_set (codes "--svg") rows) (first_of (codes "--width") rows)
 
 -- status TRACE [ID]
-abbrev pub show_by : RowFormat → List Text → Option What
-show_by shape (trace ∷ []) = Some (Show (Status shape))
-show_by shape (trace ∷ id ∷ []) = option_map (λ i. Show (Row i shape)) (id_read id)
-show_by shape _ = None
-
-abbrev pub show_in : Option RowFormat → List Text → Option What
-show_in None words = None
-show_in (Some shape) words = show_by shape words
-
-abbrev pub show_of : List Text → List Text → Option What
-show_of options words = show_in (shape_of options) words
+abbrev pub show_of : List Row → List Text → Option What
+show_of rows (trace ∷ []) = Some (Show (question.Status (shape_said rows)))
+show_of rows (trace ∷ id ∷ []) = option_map (λ i. Show (question.Row i (shape_said rows))) (id_read id)
+show_of rows _ = None
 
 -- timeline TRACE
-abbrev pub draw_of : List Text → List Text → Option What
-draw_of options (trace ∷ []) = option_map Draw (form_of options)
-draw_of options _ = None
+abbrev pub draw_of : List Row → List Text → Option What
+draw_of rows (trace ∷ []) = option_map Draw (form_said rows)
+draw_of rows _ = None
 
 -- why ID TRACE [TABLE..]
-abbrev pub is_nil : List Text → Bool
-is_nil [] = true
-is_nil _ = false
+abbrev pub explained : Text → Option What
+explained id = option_map Explain (id_read id)
 
-abbrev pub explain_by : List Text → Option What
-explain_by (id ∷ trace ∷ tables) = option_map Explain (id_read id)
-explain_by _ = None
-
-abbrev pub explain_of : List Text → List Text → Option What
-explain_of options words = if not (is_nil options) then None else explain_by words
-
--- the other options, where these name a trace, and its path
-abbrev pub traced_behind : Text → Text → List Text → Option (List Text)
-traced_behind first value (option ∷ trace ∷ []) =
-    if bytes_eq option (codes "--trace") then Some (first ∷ value ∷ []) else None
-traced_behind first value _ = None
-
-abbrev pub traced : List Text → Option (List Text)
-traced (option ∷ value ∷ rest) =
-    if bytes_eq option (codes "--trace") then Some rest else traced_behind option value rest
-traced _ = None
-
-abbrev pub trace_behind : List Text → Text
-trace_behind (option ∷ trace ∷ []) = trace
-trace_behind _ = []
-
-abbrev pub trace_given : List Text → Text
-trace_given (option ∷ value ∷ rest) = if bytes_eq option (codes "--trace") then value else trace_behind rest
-trace_given _ = []
+abbrev pub explain_of : List Text → Option What
+explain_of (id ∷ trace ∷ tables) = explained id
+explain_of _ = None
 
 -- diff [--trace TRACE] [--level LEVEL] OLD NEW
-abbrev pub reload_of : List Text → Option What
-reload_of rest = option_map Reload (level_of rest)
+abbrev pub diff_by : Bool → Option Level → What
+diff_by traced level = if traced then Reload level else Tables (table.Diff level)
 
-abbrev pub diff_in : List Text → Option (List Text) → Option What
-diff_in options (Some rest) = reload_of rest
-diff_in options None = option_map (λ level. Tables (table.Diff level)) (level_of options)
+abbrev pub diff_of : List Row → List Text → Option What
+diff_of rows (old ∷ new ∷ []) = option_map (diff_by (is_some (first_of (codes "--trace") rows))) (level_said rows)
+diff_of rows _ = None
 
-abbrev pub diff_by : List Text → Option What
-diff_by options = diff_in options (traced options)
+-- plan [--trace TRACE] [--level LEVEL] TABLE [FILE..]
+abbrev pub plan_by : Bool → Option Level → What
+plan_by traced level = if traced then Timing level else Tables (table.Plan level)
 
-abbrev pub is_two : List Text → Bool
-is_two (old ∷ new ∷ []) = true
-is_two _ = false
+abbrev pub plan_of : List Row → List Text → Option What
+plan_of rows [] = None
+plan_of rows words = option_map (plan_by (is_some (first_of (codes "--trace") rows))) (level_said rows)
 
-abbrev pub diff_of : List Text → List Text → Option What
-diff_of options words = if is_two words then diff_by options else None
+-- lint [--programs FOLDERS] TABLE [FILE..]
+abbrev pub lint_of : List Row → List Text → Option What
+lint_of rows [] = None
+lint_of rows words =
+    Some (Tables (if is_some (first_of (codes "--programs") rows) then table.Programs else table.Lint))
 
--- plan [--trace TRACE] [--level LEVEL]
-abbrev pub timing_of : List Text → Option What
-timing_of rest = option_map Timing (level_of rest)
-
-abbrev pub plan_in : List Text → Option (List Text) → Option What
-plan_in options (Some rest) = timing_of rest
-plan_in options None = option_map (λ level. Tables (table.Plan level)) (level_of options)
-
-abbrev pub plan_of : List Text → Option What
-plan_of options = plan_in options (traced options)
-
--- [--programs FOLDERS]
-abbrev pub lint_of : List Text → Option What
-lint_of [] = Some (Tables table.Lint)
-lint_of (option ∷ folders ∷ []) =
-    if bytes_eq option (codes "--programs") then Some (Tables table.Programs) else None
-lint_of _ = None
-
--- plan OPTIONS TABLE [FILE..], lint [--programs FOLDERS] TABLE [FILE..]
-abbrev pub tables_of : Text → List Text → List Text → Option What
-tables_of verb options words =
-    if bytes_eq verb (codes "diff") then diff_of options words
-    else if is_nil words then None
-    else if bytes_eq verb (codes "plan") then plan_of options
-    else if bytes_eq verb (codes "lint") then lint_of options
+abbrev pub tables_of : List Row → Text → List Text → Option What
+tables_of rows verb words =
+    if bytes_eq verb (codes "diff") then diff_of rows words
+    else if bytes_eq verb (codes "plan") then plan_of rows words
+    else if bytes_eq verb (codes "lint") then lint_of rows words
     else None
 
 -- left TRACE, follow TRACE
-abbrev pub is_one : List Text → Bool
-is_one (trace ∷ []) = true
-is_one _ = false
-
-abbrev pub is_plain : List Text → List Text → Bool
-is_plain options words = is_nil options && is_one words
-
-abbrev pub plain_of : Text → Bool → Option What
-plain_of verb plain =
-    if plain && bytes_eq verb (codes "left") then Some (Show Left)
-    else if plain && bytes_eq verb (codes "follow") then Some Follow
+abbrev pub plain_of : Text → List Text → Option What
+plain_of verb (trace ∷ []) =
+    if bytes_eq verb (codes "left") then Some (Show question.Left)
+    else if bytes_eq verb (codes "follow") then Some Follow
     else None
+plain_of verb _ = None
 
 abbrev pub or_tables : Option What → Option What → Option What
 or_tables (Some what) other = Some what
 or_tables None other = other
 
-abbrev pub asked_by : Text → List Text → List Text → Option What
-asked_by verb options words =
-    if bytes_eq verb (codes "status") then show_of options words
-    else if bytes_eq verb (codes "timeline") then draw_of options words
-    else if bytes_eq verb (codes "why") then explain_of options words
-    else or_tables (plain_of verb (is_plain options words)) (tables_of verb options words)
+abbrev pub asked_by : List Row → Text → List Text → Option What
+asked_by rows verb words =
+    if bytes_eq verb (codes "status") then show_of rows words
+    else if bytes_eq verb (codes "timeline") then draw_of rows words
+    else if bytes_eq verb (codes "why") then explain_of words
+    else or_tables (plain_of verb words) (tables_of rows verb words)
 
--- what options and words ask; the first of the words is the command
-abbrev pub what_of : List Text → List Text → Option What
-what_of options [] = None
-what_of options (verb ∷ words) = asked_by verb options words
+-- what options and words ask, whatever other options are given
+abbrev pub asked : List Row → List Text → Option What
+asked rows [] = None
+asked rows (verb ∷ words) = asked_by rows verb words
 
--- [--inittab-dir DIR] beside what is asked of files of inittabs
-abbrev pub reads_files : What → Bool
-reads_files (Explain id) = true
-reads_files (Reload level) = true
-reads_files (Timing level) = true
-reads_files (Tables question) = true
-reads_files _ = false
+-- the options that belong to what is asked: of files of inittabs also [--inittab-dir DIR]
+abbrev pub table_takes : TableQuestion → Text → Bool
+table_takes table.Lint option = bytes_eq option (codes "--programs")
+table_takes table.Programs option = bytes_eq option (codes "--programs")
+table_takes (table.Diff level) option = bytes_eq option (codes "--trace") || bytes_eq option (codes "--level")
+table_takes (table.Plan level) option = bytes_eq option (codes "--trace") || bytes_eq option (codes "--level")
 
-abbrev pub where_reads : Option What → Option What
-where_reads (Some what) = if reads_files what then Some what else None
-where_reads None = None
+abbrev pub goes_by_level : Text → Bool
+goes_by_level option =
+    bytes_eq option (codes "--inittab-dir") || (bytes_eq option (codes "--trace") || bytes_eq option (codes "--level"))
 
-abbrev pub where_named : List Text → Option What → Option What
-where_named (option ∷ path ∷ []) what = where_reads what
-where_named _ what = None
+abbrev pub takes : What → Text → Bool
+takes (Show question.Left) option = false
+takes (Show (question.Status shape)) option = bytes_eq option (codes "--json")
+takes (Show (question.Row id shape)) option = bytes_eq option (codes "--json")
+takes (Draw form) option = bytes_eq option (codes "--svg") || bytes_eq option (codes "--width")
+takes Follow option = false
+takes (Explain id) option = bytes_eq option (codes "--inittab-dir")
+takes (Reload level) option = goes_by_level option
+takes (Timing level) option = goes_by_level option
+takes (Tables question) option = bytes_eq option (codes "--inittab-dir") || table_takes question option
 
-abbrev pub with_folder : List Text → Option What → Option What
-with_folder folder what = if is_nil folder then what else where_named folder what
+-- all that are given do
+abbrev pub belongs : List Row → What → Line → Bool
+belongs rows what row = not (is_given rows row) || takes what row.0
 
-abbrev pub folder_of : List Text → Option Text
-folder_of (option ∷ path ∷ []) = Some path
-folder_of _ = None
+abbrev pub has_only : List Row → What → Bool
+has_only rows what = list_all (belongs rows what) (written OPTIONS.now)
+
+-- what options and words ask
+abbrev pub where_only : List Row → What → Option What
+where_only rows what = if has_only rows what then Some what else None
+
+abbrev pub what_of : List Row → List Text → Option What
+what_of rows words = option_and_then (where_only rows) (asked rows words)
 
 -- the path of the trace, or the folders of programs; and the paths of the files of inittabs
 abbrev pub second_of : List Text → Text
@@ -252,13 +187,17 @@ abbrev pub behind_one : List Text → List Text
 behind_one (first ∷ words) = words
 behind_one [] = []
 
-abbrev pub trace_of : What → List Text → List Text → Text
-trace_of (Reload level) options words = trace_given options
-trace_of (Timing level) options words = trace_given options
-trace_of (Explain id) options words = third_of words
-trace_of (Tables question) options words = second_of options
-trace_of _ options words = second_of words
+abbrev pub path_of : What → List Row → List Text → Text
+path_of (Reload level) rows words = value_said (codes "--trace") rows
+path_of (Timing level) rows words = value_said (codes "--trace") rows
+path_of (Tables question) rows words = value_said (codes "--programs") rows
+path_of (Explain id) rows words = third_of words
+path_of _ rows words = second_of words
 
 abbrev pub files_of : What → List Text → List Text
 files_of (Explain id) words = behind_three words
 files_of _ words = behind_one words
+
+-- the folder of an inittab's further files
+abbrev pub folder_of : List Row → Option Text
+folder_of rows = first_of (codes "--inittab-dir") rows

@@ -3,12 +3,12 @@ use Rattle.std.specs.Prelude.{◌≡◌, ◌⊎◌, ℕ, Bool, true, false, List
 use Rattle.std.specs.Io.KnownBytes.{Keeps}
 use Rattle.program_io.specs.declared.statuses.TheConstants.{REFUSED, DEVICE_FAULT}
 use Rattle.program_io.specs.Known.{KnownTexts}
-use Rattle.command_words.specs.CommandLines.{asks_version}
+use Rattle.clap.specs.Words.{Row}
+use Rattle.command_words.specs.CommandLines.{asks_version, given_by}
 use Rattle.command_words.specs.VersionLine.{PrintsVersion}
-use Rattle.initview_command.specs.declared.asking.Kind.TheVariants as kind
 use Rattle.initview_command.specs.declared.asking.What.{What}
 use Rattle.initview_command.specs.declared.asking.What.TheVariants.{Show, Draw, Follow, Explain, Reload, Timing, Tables}
-use Rattle.initview_command.specs.Asking.{files_of, folder_of, picked, trace_of, what_of, with_folder}
+use Rattle.initview_command.specs.Asking.{command_line, files_of, folder_of, path_of, what_of, words_said}
 use Rattle.initview_command.specs.Charting.{drawing}
 use Rattle.initview_command.specs.Explaining.{explained_with}
 use Rattle.initview_command.specs.Following.{Follows}
@@ -36,27 +36,42 @@ Does text_at growing_at writers path files folder (Timing level) status old new 
 Does text_at growing_at writers path files folder (Tables question) status old new =
     Answers text_at files folder question status old new
 
--- so of options and other words; where they ask nothing they are refused, and nothing was written
-abbrev pub EndsOf : KnownTexts → KnownTexts → KnownWriters → Option (List ℕ) → List (List ℕ) → List (List ℕ)
-    → Option What → ℕ → Option (List ℕ) → Option (List ℕ) → Type 0
-EndsOf text_at growing_at writers folder options words (Some what) status old new =
-    Does text_at growing_at writers (trace_of what options words) (files_of what words) folder what status old new
-EndsOf text_at growing_at writers folder options words None status old new = (status ≡ REFUSED) × Keeps old new
-
--- so of words that don't ask for the version; or memory ran out, and nothing was written
-abbrev pub EndsOn : KnownTexts → KnownTexts → KnownWriters → List (List ℕ) → List (List ℕ) → List (List ℕ) → ℕ
+-- so of what a command line gives, by its options and words; where they ask nothing it is refused, and nothing was
+-- written
+abbrev pub EndsFor : KnownTexts → KnownTexts → KnownWriters → List Row → List (List ℕ) → Option What → ℕ
     → Option (List ℕ) → Option (List ℕ) → Type 0
-EndsOn text_at growing_at writers folder options words status old new =
-    EndsOf text_at growing_at writers (folder_of folder) options words (with_folder folder (what_of options words))
-    status old new
+EndsFor text_at growing_at writers rows words (Some what) status old new =
+    Does text_at growing_at writers (path_of what rows words) (files_of what words) (folder_of rows) what status old new
+EndsFor text_at growing_at writers rows words None status old new = (status ≡ REFUSED) × Keeps old new
+
+abbrev pub EndsGiven : KnownTexts → KnownTexts → KnownWriters → List Row → List (List ℕ) → ℕ → Option (List ℕ)
+    → Option (List ℕ) → Type 0
+EndsGiven text_at growing_at writers rows words status old new =
+    EndsFor text_at growing_at writers rows words (what_of rows words) status old new
+
+abbrev pub EndsOf : KnownTexts → KnownTexts → KnownWriters → List Row → ℕ → Option (List ℕ) → Option (List ℕ)
+    → Type 0
+EndsOf text_at growing_at writers rows status old new =
+    EndsGiven text_at growing_at writers rows (words_said rows) status old new
+
+-- so of words that don't ask for the version; words that are no command line are refused
+abbrev pub EndsWhere : KnownTexts → KnownTexts → KnownWriters → Option (List Row) → ℕ → Option (List ℕ)
+    → Option (List ℕ) → Type 0
+EndsWhere text_at growing_at writers (Some rows) status old new = EndsOf text_at growing_at writers rows status old new
+EndsWhere text_at growing_at writers None status old new = (status ≡ REFUSED) × Keeps old new
+
+-- or memory ran out, and nothing was written
+abbrev pub EndsOn : KnownTexts → KnownTexts → KnownWriters → List (List ℕ) → ℕ → Option (List ℕ) → Option (List ℕ)
+    → Type 0
+EndsOn text_at growing_at writers words status old new =
+    EndsWhere text_at growing_at writers (given_by command_line words) status old new
     ⊎ ((status ≡ DEVICE_FAULT) × Keeps old new)
 
 abbrev pub EndsAs : Bool → KnownTexts → KnownTexts → KnownWriters → List (List ℕ) → ℕ → Option (List ℕ)
     → Option (List ℕ) → Type 0
 EndsAs true text_at growing_at writers words status old new = PrintsVersion (codes "initview") status old new
 EndsAs false text_at growing_at writers words status old new =
-    EndsOn text_at growing_at writers (picked kind.Folder None words) (picked kind.Option None words)
-    (picked kind.Word None words) status old new
+    EndsOn text_at growing_at writers words status old new
 
 abbrev pub EndsBy : KnownTexts → KnownTexts → KnownWriters → List (List ℕ) → ℕ → Option (List ℕ) → Option (List ℕ)
     → Type 0

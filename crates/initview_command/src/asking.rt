@@ -1,12 +1,19 @@
-//! What the words of a command line ask: the options, which may stand anywhere, and the other words.
+//! What a command line asks: by the options that are given, which may stand anywhere, and by its words, of which the first
+//! is the command.
 
-ghost use Rattle.std.specs.Prelude.{◌≡◌, ◌++◌, None, map, option_map, string_bytes, IfOk, OnOk};
-ghost use Rattle.initview_command.specs.Asking.{asked_by, behind_one, behind_three, diff_by, diff_of, draw_of, explain_of, files_of, folder_of, form_of, given_by, is_nil, is_one, is_option, is_picked, is_plain, is_two, kind_of, level_in, level_of, lint_of, own_kind, picked, plain_of, plan_of, reads_files, reload_of, same_kind, second_of, shape_of, show_of, tables_of, takes_value, third_of, timing_of, trace_given, trace_of, traced, value_next, what_of, where_named, where_reads, with_folder};
+ghost use Rattle.std.specs.Prelude.{◌≡◌, map, string_bytes, IfErr, IfOk, IsSome, None, Some};
+ghost use Rattle.std.specs.List.{list_all};
+ghost use Rattle.clap.specs.Words.{found_of, rows_of};
+ghost use Rattle.command_words.specs.CommandLines.{given_by, text_of};
+ghost use Rattle.command_words.specs.Faults.{reason_of};
+ghost use Rattle.initview_command.specs.Asking.{asked, asked_by, behind_one, behind_three, belongs, command_line, diff_of, draw_of, explain_of, explained, files_of, form_said, is_given, level_in, level_said, lint_of, path_of, plain_of, plan_of, second_of, shape_said, show_of, table_takes, tables_of, takes, third_of, what_of};
 
 use crate::charting::{Form, WIDTH, lines_of};
+use clap::ArgMatches;
+use command_words::{Row, WordFault, is_set, read_line, value_of, word_of};
 use init_words::{Id, Level};
 use initview_lines::RowFormat;
-use std::alloc::{AllocError, Global};
+use std::alloc::Global;
 
 /// What is asked of a trace.
 #[derive(Clone, Copy)]
@@ -47,117 +54,85 @@ pub enum What {
     Tables(TableQuestion),
 }
 
-/// What words of a command line are: the command and what it is about, options with their values, or the option that names
-/// the folder of an inittab, with its value.
-#[derive(Clone, Copy)]
-pub enum Kind {
-    Word,
-    Option,
-    Folder,
+/// The options of all commands, and the words.
+pub(crate) const OPTIONS: &[Row] = &[
+    ("--json", "", ""),
+    ("--svg", "", ""),
+    ("--width", "N", ""),
+    ("--programs", "FOLDERS", ""),
+    ("--trace", "TRACE", ""),
+    ("--level", "LEVEL", ""),
+    ("--inittab-dir", "DIR", ""),
+    ("WORD", "..", ""),
+];
+
+/// What words give the rows of the table.
+#[tactic(auto, using(crate::proofs::Asked::is_free_line))]
+pub(crate) fn matched(alloc: Global, words: &[String]) -> Result<ArgMatches<'_>, WordFault>
+    ensures ok { IfOk result (λ found. given_by command_line (map string_bytes words.now)
+        ≡ Some (rows_of (found_of found))) }
+    ensures usage { IfErr result (λ fault. IsSome (reason_of fault)
+        → given_by command_line (map string_bytes words.now) ≡ None) }
+{
+    read_line(alloc, "initview", OPTIONS, words)
 }
 
-/// The word is an option: it begins with `-`, and isn't `-` alone, which is standard input.
-pub(crate) fn is_option(word: &str) -> bool
-    ensures { result ≡ is_option word.now }
+/// A row of the table is an option that is given.
+fn is_given(matches: &ArgMatches, row: Row) -> bool
+    ensures { result ≡ is_given (rows_of (found_of matches.now)) (text_of row.entry) }
 {
-    match word.as_bytes() {
-        [first, _, ..] => *first == b'-',
-        _ => false,
-    }
-}
-
-/// A value follows the option.
-pub(crate) fn takes_value(word: &str) -> bool
-    ensures { result ≡ takes_value word.now }
-{
-    word == "--level"
-        || word == "--trace"
-        || word == "--width"
-        || word == "--inittab-dir"
-        || word == "--programs"
-}
-
-/// The kind of a word by itself.
-fn own_kind(word: &str) -> Kind
-    ensures { result ≡ own_kind word.now }
-{
-    if word == "--inittab-dir" {
-        Kind::Folder
-    } else if is_option(word) {
-        Kind::Option
+    let (name, value, _) = row;
+    if value.is_empty() {
+        is_set(matches, name)
     } else {
-        Kind::Word
+        value != ".." && word_of(matches, name).is_some()
     }
 }
 
-/// The kind of a word, which may be the value of an option of some kind.
-fn kind_of(value: Option<Kind>, word: &str) -> Kind
-    ensures { result ≡ kind_of value word.now }
+fn table_takes(question: &TableQuestion, option: &str) -> bool
+    ensures { result ≡ table_takes question.now option.now }
 {
-    match value {
-        Some(kind) => kind,
-        None => own_kind(word),
+    match question {
+        TableQuestion::Lint | TableQuestion::Programs => option == "--programs",
+        TableQuestion::Diff(_) | TableQuestion::Plan(_) => {
+            option == "--trace" || option == "--level"
+        }
     }
 }
 
-fn same_kind(one: Kind, other: Kind) -> bool
-    ensures { result ≡ same_kind one other }
+/// The option belongs to what is asked.
+fn takes(what: &What, option: &str) -> bool
+    ensures { result ≡ takes what.now option.now }
 {
-    match (one, other) {
-        (Kind::Word, Kind::Word) => true,
-        (Kind::Option, Kind::Option) => true,
-        (Kind::Folder, Kind::Folder) => true,
-        _ => false,
+    match what {
+        What::Show(Question::Left) => false,
+        What::Show(_) => option == "--json",
+        What::Draw(_) => option == "--svg" || option == "--width",
+        What::Follow => false,
+        What::Explain(_) => option == "--inittab-dir",
+        What::Reload(_) | What::Timing(_) => {
+            option == "--inittab-dir" || option == "--trace" || option == "--level"
+        }
+        What::Tables(question) => option == "--inittab-dir" || table_takes(question, option),
     }
 }
 
-/// The word is of the kind that is picked.
-fn is_picked(kind: Kind, value: Option<Kind>, word: &str) -> bool
-    ensures { result ≡ is_picked kind value word.now }
+/// A row of the table is none of an option that is given, or one of what is asked.
+pub(crate) fn belongs(matches: &ArgMatches, what: &What, row: Row) -> bool
+    ensures { result ≡ belongs (rows_of (found_of matches.now)) what.now (text_of row.entry) }
 {
-    same_kind(kind, kind_of(value, word))
+    !is_given(matches, row) || takes(what, row.0)
 }
 
-/// The word behind this one is the value of an option of this kind.
-fn value_next(value: Option<Kind>, word: &str) -> Option<Kind>
-    ensures { result ≡ value_next value word.now }
+/// All options of a table that are given belong to what is asked.
+fn has_only(matches: &ArgMatches, what: &What, table: &[Row]) -> bool
+    ensures { result ≡ list_all
+        (λ row. belongs (rows_of (found_of matches.now)) what.now (text_of row)) table.now }
 {
-    match value {
-        None if takes_value(word) => Some(own_kind(word)),
-        _ => None,
-    }
+    table.iter().all(|row| belongs(matches, what, *row))
 }
 
-#[tactic(auto, using(crate::proofs::Picked::map_push))]
-fn add_if(words: &mut Vec<String>, alloc: Global, so: bool, word: &str) -> Result<(), AllocError>
-    ensures { OnOk result (map string_bytes words.new.items
-        ≡ map string_bytes words.old.items ++ given_by so word.now) }
-{
-    if so {
-        words.push(String::from_str(alloc, word)?)?;
-    }
-    Ok(())
-}
-
-/// The words of a kind, in their order.
-#[tactic(auto, using(crate::proofs::Picked::one_picked))]
-pub(crate) fn picked(alloc: Global, kind: Kind, words: &[String]) -> Result<Vec<String>, AllocError>
-    ensures { IfOk result (λ found. map string_bytes found.items
-        ≡ picked kind None (map string_bytes words.now)) }
-{
-    let mut found = Vec::new(alloc);
-    let mut value = None;
-    let mut rest = words;
-    while let Some((text, others)) = rest.split_first() {
-        let word = text.as_str();
-        add_if(&mut found, alloc, is_picked(kind, value, word), word)?;
-        value = value_next(value, word);
-        rest = others;
-    }
-    Ok(found)
-}
-
-fn level_in(word: &str) -> Option<Level>
+pub(crate) fn level_in(word: &str) -> Option<Level>
     ensures { result ≡ level_in word.now }
 {
     match word.as_bytes() {
@@ -166,45 +141,42 @@ fn level_in(word: &str) -> Option<Level>
     }
 }
 
-/// The level that options name, which may be none; nothing where they are others.
-fn level_of(options: &[String]) -> Option<Option<Level>>
-    ensures { result ≡ level_of (map string_bytes options.now) }
+/// The level that is named, if one is; nothing where it is none.
+fn level_said(matches: &ArgMatches) -> Option<Option<Level>>
+    ensures { result ≡ level_said (rows_of (found_of matches.now)) }
 {
-    match options {
-        [] => Some(None),
-        [option, level] if option.as_str() == "--level" => match level_in(level.as_str()) {
-            Some(level) => Some(Some(level)),
-            None => None,
-        },
-        _ => None,
+    match word_of(matches, "--level") {
+        None => Some(None),
+        Some(word) => Some(Some(level_in(word)?)),
     }
 }
 
-fn shape_of(options: &[String]) -> Option<RowFormat>
-    ensures { result ≡ shape_of (map string_bytes options.now) }
+fn shape_said(matches: &ArgMatches) -> RowFormat
+    ensures { result ≡ shape_said (rows_of (found_of matches.now)) }
 {
-    match options {
-        [] => Some(RowFormat::Lines),
-        [option] if option.as_str() == "--json" => Some(RowFormat::Json),
-        _ => None,
+    if is_set(matches, "--json") {
+        RowFormat::Json
+    } else {
+        RowFormat::Lines
     }
 }
 
-fn form_of(options: &[String]) -> Option<Form>
-    ensures { result ≡ form_of (map string_bytes options.now) }
+fn form_said(matches: &ArgMatches) -> Option<Form>
+    ensures { result ≡ form_said (rows_of (found_of matches.now)) }
 {
-    match options {
-        [] => Some(Form::Lines(WIDTH)),
-        [option] if option.as_str() == "--svg" => Some(Form::Svg),
-        [option, width] if option.as_str() == "--width" => lines_of(width.as_str()),
-        _ => None,
+    match (is_set(matches, "--svg"), word_of(matches, "--width")) {
+        (false, None) => Some(Form::Lines(WIDTH)),
+        (false, Some(width)) => lines_of(width),
+        (true, None) => Some(Form::Svg),
+        (true, Some(_)) => None,
     }
 }
 
-fn show_of(options: &[String], words: &[String]) -> Option<What>
-    ensures { result ≡ show_of (map string_bytes options.now) (map string_bytes words.now) }
+fn show_of(matches: &ArgMatches, words: &[&str]) -> Option<What>
+    ensures { result
+        ≡ show_of (rows_of (found_of matches.now)) (map (λ word. word.now) words.now) }
 {
-    let shape = shape_of(options)?;
+    let shape = shape_said(matches);
     match words {
         [_] => Some(What::Show(Question::Status(shape))),
         [_, id] => Some(What::Show(Question::Row(Id::read(id.as_bytes())?, shape))),
@@ -212,218 +184,165 @@ fn show_of(options: &[String], words: &[String]) -> Option<What>
     }
 }
 
-fn draw_of(options: &[String], words: &[String]) -> Option<What>
-    ensures { result ≡ draw_of (map string_bytes options.now) (map string_bytes words.now) }
+fn draw_of(matches: &ArgMatches, words: &[&str]) -> Option<What>
+    ensures { result
+        ≡ draw_of (rows_of (found_of matches.now)) (map (λ word. word.now) words.now) }
 {
     match words {
-        [_] => Some(What::Draw(form_of(options)?)),
+        [_] => Some(What::Draw(form_said(matches)?)),
         _ => None,
     }
 }
 
-fn explain_of(options: &[String], words: &[String]) -> Option<What>
-    ensures { result ≡ explain_of (map string_bytes options.now) (map string_bytes words.now) }
+fn explained(id: &str) -> Option<What>
+    ensures { result ≡ explained id.now }
 {
-    if !is_nil(options) {
-        return None;
-    }
+    Some(What::Explain(Id::read(id.as_bytes())?))
+}
+
+fn explain_of(words: &[&str]) -> Option<What>
+    ensures { result ≡ explain_of (map (λ word. word.now) words.now) }
+{
     match words {
-        [id, _, ..] => Some(What::Explain(Id::read(id.as_bytes())?)),
+        [id, _, ..] => explained(*id),
         _ => None,
     }
 }
 
-/// The other options, where these name a trace.
-fn traced(options: &[String]) -> Option<&[String]>
-    ensures { option_map (λ rest. map string_bytes rest.now) result
-        ≡ traced (map string_bytes options.now) }
-{
-    match options {
-        [option, _, rest @ ..] if option.as_str() == "--trace" => Some(rest),
-        [_, _, option, _] if option.as_str() == "--trace" => Some(&options[..2]),
-        _ => None,
-    }
-}
-
-/// The path of the trace that options name.
-fn trace_given(options: &[String]) -> &str
-    ensures { result.now ≡ trace_given (map string_bytes options.now) }
-{
-    match options {
-        [option, trace, ..] if option.as_str() == "--trace" => trace.as_str(),
-        [_, _, _, trace] => trace.as_str(),
-        _ => "",
-    }
-}
-
-fn reload_of(rest: &[String]) -> Option<What>
-    ensures { result ≡ reload_of (map string_bytes rest.now) }
-{
-    Some(What::Reload(level_of(rest)?))
-}
-
-fn diff_by(options: &[String]) -> Option<What>
-    ensures { result ≡ diff_by (map string_bytes options.now) }
-{
-    match traced(options) {
-        Some(rest) => reload_of(rest),
-        None => Some(What::Tables(TableQuestion::Diff(level_of(options)?))),
-    }
-}
-
-fn timing_of(rest: &[String]) -> Option<What>
-    ensures { result ≡ timing_of (map string_bytes rest.now) }
-{
-    Some(What::Timing(level_of(rest)?))
-}
-
-fn plan_of(options: &[String]) -> Option<What>
-    ensures { result ≡ plan_of (map string_bytes options.now) }
-{
-    match traced(options) {
-        Some(rest) => timing_of(rest),
-        None => Some(What::Tables(TableQuestion::Plan(level_of(options)?))),
-    }
-}
-
-fn is_two(words: &[String]) -> bool
-    ensures { result ≡ is_two (map string_bytes words.now) }
+fn diff_of(matches: &ArgMatches, words: &[&str]) -> Option<What>
+    ensures { result
+        ≡ diff_of (rows_of (found_of matches.now)) (map (λ word. word.now) words.now) }
 {
     match words {
-        [_, _] => true,
-        _ => false,
-    }
-}
-
-fn diff_of(options: &[String], words: &[String]) -> Option<What>
-    ensures { result ≡ diff_of (map string_bytes options.now) (map string_bytes words.now) }
-{
-    if is_two(words) {
-        diff_by(options)
-    } else {
-        None
-    }
-}
-
-fn lint_of(options: &[String]) -> Option<What>
-    ensures { result ≡ lint_of (map string_bytes options.now) }
-{
-    match options {
-        [] => Some(What::Tables(TableQuestion::Lint)),
-        [option, _] if option.as_str() == "--programs" => {
-            Some(What::Tables(TableQuestion::Programs))
+        [_, _] => {
+            let level = level_said(matches)?;
+            match word_of(matches, "--trace") {
+                Some(_) => Some(What::Reload(level)),
+                None => Some(What::Tables(TableQuestion::Diff(level))),
+            }
         }
         _ => None,
     }
 }
 
-/// What a command for inittabs asks.
-fn tables_of(verb: &str, options: &[String], words: &[String]) -> Option<What>
+fn plan_of(matches: &ArgMatches, words: &[&str]) -> Option<What>
     ensures { result
-        ≡ tables_of verb.now (map string_bytes options.now) (map string_bytes words.now) }
-{
-    if verb == "diff" {
-        return diff_of(options, words);
-    }
-    if is_nil(words) {
-        return None;
-    }
-    if verb == "plan" {
-        return plan_of(options);
-    }
-    if verb == "lint" {
-        lint_of(options)
-    } else {
-        None
-    }
-}
-
-/// What is asked of a trace without options, by a command of one word.
-fn plain_of(verb: &str, plain: bool) -> Option<What>
-    ensures { result ≡ plain_of verb.now plain }
-{
-    if plain && verb == "left" {
-        Some(What::Show(Question::Left))
-    } else if plain && verb == "follow" {
-        Some(What::Follow)
-    } else {
-        None
-    }
-}
-
-fn is_one(words: &[String]) -> bool
-    ensures { result ≡ is_one (map string_bytes words.now) }
-{
-    match words {
-        [_] => true,
-        _ => false,
-    }
-}
-
-fn is_nil(words: &[String]) -> bool
-    ensures { result ≡ is_nil (map string_bytes words.now) }
-{
-    match words {
-        [] => true,
-        _ => false,
-    }
-}
-
-fn is_plain(options: &[String], words: &[String]) -> bool
-    ensures { result ≡ is_plain (map string_bytes options.now) (map string_bytes words.now) }
-{
-    is_nil(options) && is_one(words)
-}
-
-fn asked_by(verb: &str, options: &[String], words: &[String]) -> Option<What>
-    ensures { result
-        ≡ asked_by verb.now (map string_bytes options.now) (map string_bytes words.now) }
-{
-    if verb == "status" {
-        return show_of(options, words);
-    }
-    if verb == "timeline" {
-        return draw_of(options, words);
-    }
-    if verb == "why" {
-        return explain_of(options, words);
-    }
-    match plain_of(verb, is_plain(options, words)) {
-        Some(what) => Some(what),
-        None => tables_of(verb, options, words),
-    }
-}
-
-/// What options and words ask, of which the first word is the command; nothing where they are no command line.
-pub(crate) fn what_of(options: &[String], words: &[String]) -> Option<What>
-    ensures { result ≡ what_of (map string_bytes options.now) (map string_bytes words.now) }
+        ≡ plan_of (rows_of (found_of matches.now)) (map (λ word. word.now) words.now) }
 {
     match words {
         [] => None,
-        [verb, rest @ ..] => asked_by(verb.as_str(), options, rest),
+        _ => {
+            let level = level_said(matches)?;
+            match word_of(matches, "--trace") {
+                Some(_) => Some(What::Timing(level)),
+                None => Some(What::Tables(TableQuestion::Plan(level))),
+            }
+        }
     }
 }
 
-fn second_of(words: &[String]) -> &str
-    ensures { result.now ≡ second_of (map string_bytes words.now) }
+fn lint_of(matches: &ArgMatches, words: &[&str]) -> Option<What>
+    ensures { result
+        ≡ lint_of (rows_of (found_of matches.now)) (map (λ word. word.now) words.now) }
+{
+    match (words, word_of(matches, "--programs")) {
+        ([], _) => None,
+        (_, Some(_)) => Some(What::Tables(TableQuestion::Programs)),
+        (_, None) => Some(What::Tables(TableQuestion::Lint)),
+    }
+}
+
+/// What a command for inittabs asks.
+fn tables_of(matches: &ArgMatches, verb: &str, words: &[&str]) -> Option<What>
+    ensures { result ≡ tables_of (rows_of (found_of matches.now)) verb.now
+        (map (λ word. word.now) words.now) }
+{
+    match verb {
+        "diff" => diff_of(matches, words),
+        "plan" => plan_of(matches, words),
+        "lint" => lint_of(matches, words),
+        _ => None,
+    }
+}
+
+/// What a command asks that has the path of a trace alone.
+fn plain_of(verb: &str, words: &[&str]) -> Option<What>
+    ensures { result ≡ plain_of verb.now (map (λ word. word.now) words.now) }
 {
     match words {
-        [_, second, ..] => second.as_str(),
+        [_] => match verb {
+            "left" => Some(What::Show(Question::Left)),
+            "follow" => Some(What::Follow),
+            _ => None,
+        },
+        _ => None,
+    }
+}
+
+fn asked_by(matches: &ArgMatches, verb: &str, words: &[&str]) -> Option<What>
+    ensures { result ≡ asked_by (rows_of (found_of matches.now)) verb.now
+        (map (λ word. word.now) words.now) }
+{
+    if verb == "status" {
+        return show_of(matches, words);
+    }
+    if verb == "timeline" {
+        return draw_of(matches, words);
+    }
+    if verb == "why" {
+        return explain_of(words);
+    }
+    match plain_of(verb, words) {
+        Some(what) => Some(what),
+        None => tables_of(matches, verb, words),
+    }
+}
+
+/// What options and words ask, whatever other options are given; nothing where the words are no command's.
+pub(crate) fn asked(matches: &ArgMatches, words: &[&str]) -> Option<What>
+    ensures { result
+        ≡ asked (rows_of (found_of matches.now)) (map (λ word. word.now) words.now) }
+{
+    match words {
+        [] => None,
+        [verb, rest @ ..] => asked_by(matches, *verb, rest),
+    }
+}
+
+/// What options and words ask; nothing where they are no command's.
+pub(crate) fn what_of(matches: &ArgMatches, words: &[&str]) -> Option<What>
+    ensures { result
+        ≡ what_of (rows_of (found_of matches.now)) (map (λ word. word.now) words.now) }
+{
+    let what = asked(matches, words)?;
+    if has_only(matches, &what, OPTIONS) {
+        Some(what)
+    } else {
+        None
+    }
+}
+
+fn second_of<'a>(words: &[&'a str]) -> &'a str
+    ensures { result.now ≡ second_of (map (λ word. word.now) words.now) }
+{
+    match words {
+        [_, second, ..] => *second,
         _ => "",
     }
 }
 
-fn third_of(words: &[String]) -> &str
-    ensures { result.now ≡ third_of (map string_bytes words.now) }
+fn third_of<'a>(words: &[&'a str]) -> &'a str
+    ensures { result.now ≡ third_of (map (λ word. word.now) words.now) }
 {
     match words {
-        [_, _, third, ..] => third.as_str(),
+        [_, _, third, ..] => *third,
         _ => "",
     }
 }
 
-fn behind_one(words: &[String]) -> &[String]
-    ensures { map string_bytes result.now ≡ behind_one (map string_bytes words.now) }
+fn behind_one<'m, 'a>(words: &'m [&'a str]) -> &'m [&'a str]
+    ensures { map (λ word. word.now) result.now
+        ≡ behind_one (map (λ word. word.now) words.now) }
 {
     match words {
         [_, rest @ ..] => rest,
@@ -431,8 +350,9 @@ fn behind_one(words: &[String]) -> &[String]
     }
 }
 
-fn behind_three(words: &[String]) -> &[String]
-    ensures { map string_bytes result.now ≡ behind_three (map string_bytes words.now) }
+fn behind_three<'m, 'a>(words: &'m [&'a str]) -> &'m [&'a str]
+    ensures { map (λ word. word.now) result.now
+        ≡ behind_three (map (λ word. word.now) words.now) }
 {
     match words {
         [_, _, _, rest @ ..] => rest,
@@ -440,87 +360,29 @@ fn behind_three(words: &[String]) -> &[String]
     }
 }
 
-/// It is asked of files of inittabs too.
-fn reads_files(what: &What) -> bool
-    ensures { result ≡ reads_files what.now }
-{
-    match what {
-        What::Explain(_) => true,
-        What::Reload(_) => true,
-        What::Timing(_) => true,
-        What::Tables(_) => true,
-        What::Show(_) => false,
-        What::Draw(_) => false,
-        What::Follow => false,
-    }
-}
-
-/// What is asked, where words may name a folder for it as these do.
-pub(crate) fn with_folder(folder: &[String], what: Option<What>) -> Option<What>
-    ensures { result ≡ with_folder (map string_bytes folder.now) what }
-{
-    if is_nil(folder) {
-        what
-    } else {
-        where_named(folder, what)
-    }
-}
-
-fn where_reads(what: Option<What>) -> Option<What>
-    ensures { result ≡ where_reads what }
-{
-    match what {
-        Some(what) if reads_files(&what) => Some(what),
-        _ => None,
-    }
-}
-
-fn where_named(folder: &[String], what: Option<What>) -> Option<What>
-    ensures { result ≡ where_named (map string_bytes folder.now) what }
-{
-    match folder {
-        [_, _] => where_reads(what),
-        _ => None,
-    }
-}
-
-/// The folder that words name.
-pub(crate) fn folder_of(folder: &[String]) -> Option<&str>
-    ensures { option_map (λ path. path.now) result ≡ folder_of (map string_bytes folder.now) }
-{
-    match folder {
-        [_, path] => Some(path.as_str()),
-        _ => None,
-    }
-}
-
 /// The path of the trace, or the folders of programs.
-pub(crate) fn trace_of<'a>(what: &What, options: &'a [String], words: &'a [String]) -> &'a str
-    ensures { result.now
-        ≡ trace_of what.now (map string_bytes options.now) (map string_bytes words.now) }
+pub(crate) fn path_of<'a>(what: &What, matches: &ArgMatches<'a>, words: &[&'a str]) -> &'a str
+    ensures { result.now ≡ path_of what.now (rows_of (found_of matches.now))
+        (map (λ word. word.now) words.now) }
 {
     match what {
-        What::Reload(_) => trace_given(options),
-        What::Timing(_) => trace_given(options),
+        What::Reload(_) => value_of(matches, "--trace"),
+        What::Timing(_) => value_of(matches, "--trace"),
+        What::Tables(_) => value_of(matches, "--programs"),
         What::Explain(_) => third_of(words),
         What::Show(_) => second_of(words),
         What::Draw(_) => second_of(words),
         What::Follow => second_of(words),
-        What::Tables(_) => second_of(options),
     }
 }
 
 /// The paths of the files of inittabs.
-pub(crate) fn files_of<'a>(what: &What, words: &'a [String]) -> &'a [String]
-    ensures { map string_bytes result.now ≡ files_of what.now (map string_bytes words.now) }
+pub(crate) fn files_of<'m, 'a>(what: &What, words: &'m [&'a str]) -> &'m [&'a str]
+    ensures { map (λ word. word.now) result.now
+        ≡ files_of what.now (map (λ word. word.now) words.now) }
 {
     match what {
         What::Explain(_) => behind_three(words),
-        What::Show(_) => behind_one(words),
-        What::Draw(_) => behind_one(words),
-        What::Follow => behind_one(words),
-        What::Reload(_) => behind_one(words),
-        What::Timing(_) => behind_one(words),
-        What::Tables(_) => behind_one(words),
+        _ => behind_one(words),
     }
 }

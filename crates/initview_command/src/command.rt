@@ -1,24 +1,23 @@
 //! The words of `initview`, and what it does for them.
 
-ghost use Rattle.std.specs.Prelude.{◌≡◌, None, map, option_map, string_bytes, IfOk};
-ghost use Rattle.initview_command.specs.Asking.{folder_of, picked, what_of, with_folder};
-ghost use Rattle.initview_command.specs.declared.asking.Kind.TheVariants as kind;
-ghost use Rattle.initview_command.specs.Endings.{Does, EndsBy, EndsOf};
+ghost use Rattle.std.specs.Prelude.{◌≡◌, map, option_map, string_bytes};
+ghost use Rattle.clap.specs.Words.{found_of, rows_of};
+ghost use Rattle.initview_command.specs.Endings.{Does, EndsBy, EndsGiven, EndsOf};
 
-use crate::asking::{Kind, What, files_of, folder_of, picked, trace_of, what_of, with_folder};
+use crate::asking::{What, files_of, matched, path_of, what_of};
 use crate::explaining::ReasonOf;
 use crate::following::follow_file;
 use crate::growing::GrowingTexts;
 use crate::planning::TimingTo;
-use crate::refusals::report_refusal;
+use crate::refusals::{report_fault, report_refusal};
 use crate::reloading::ReloadTo;
 use crate::showing::show_file;
 use crate::tables::show_files;
-use crate::telling::report_memory;
 use crate::with_files::show_with_files;
-use command_words::{is_version, print_version};
+use clap::ArgMatches;
+use command_words::{is_version, print_version, word_of, words_of};
 use program_io::Texts;
-use std::alloc::{AllocError, Global};
+use std::alloc::Global;
 use std::io::Write;
 
 /// What is told where help is asked for, and of words that are not read. Its lines up to the last that begins with
@@ -81,56 +80,52 @@ pub fn run_words<T: Texts, G: GrowingTexts, W: Write, E: Write>(
     if is_version(words) {
         return print_version("initview", out, err);
     }
-    match cut(alloc, words) {
-        Ok((folder, options, others)) => {
-            run_cut(texts, growing, alloc, &folder, &options, &others, out, err)
-        }
-        Err(_) => report_memory(err),
+    match matched(alloc, words) {
+        Ok(matches) => run_matches(texts, growing, alloc, &matches, out, err),
+        Err(fault) => report_fault(&fault, words, err),
     }
 }
 
-/// Words by their kinds: the folder, the options, and the others.
-type Cut = (Vec<String>, Vec<String>, Vec<String>);
-
-fn cut(alloc: Global, words: &[String]) -> Result<Cut, AllocError>
-    ensures { IfOk result (λ all.
-        (map string_bytes all.0.items ≡ picked kind.Folder None (map string_bytes words.now))
-        × (map string_bytes all.1.items ≡ picked kind.Option None (map string_bytes words.now))
-        × (map string_bytes all.2.items ≡ picked kind.Word None (map string_bytes words.now))) }
-{
-    Ok((
-        picked(alloc, Kind::Folder, words)?,
-        picked(alloc, Kind::Option, words)?,
-        picked(alloc, Kind::Word, words)?,
-    ))
-}
-
-/// Runs initview on words by their kinds.
-fn run_cut<T: Texts, G: GrowingTexts, W: Write, E: Write>(
+/// Runs initview on what its words give.
+fn run_matches<T: Texts, G: GrowingTexts, W: Write, E: Write>(
     texts: &T,
     growing: &G,
     alloc: Global,
-    folder: &[String],
-    options: &[String],
-    words: &[String],
+    matches: &ArgMatches,
     out: &mut W,
     err: &mut E,
 ) -> u8
     ensures { EndsOf (T.text_at texts.now) (G.text_at growing.now) (G.writer_at growing.now)
-        (folder_of (map string_bytes folder.now))
-        (map string_bytes options.now) (map string_bytes words.now)
-        (with_folder (map string_bytes folder.now)
-        (what_of (map string_bytes options.now) (map string_bytes words.now)))
+        (rows_of (found_of matches.now)) result (W.contents out.old) (W.contents out.new) }
+{
+    match words_of(matches, "WORD") {
+        Some(words) => run_given(texts, growing, alloc, matches, words, out, err),
+        None => run_given(texts, growing, alloc, matches, &[], out, err),
+    }
+}
+
+/// The same, by the words that are no options.
+fn run_given<'a, T: Texts, G: GrowingTexts, W: Write, E: Write>(
+    texts: &T,
+    growing: &G,
+    alloc: Global,
+    matches: &ArgMatches<'a>,
+    words: &[&'a str],
+    out: &mut W,
+    err: &mut E,
+) -> u8
+    ensures { EndsGiven (T.text_at texts.now) (G.text_at growing.now) (G.writer_at growing.now)
+        (rows_of (found_of matches.now)) (map (λ word. word.now) words.now)
         result (W.contents out.old) (W.contents out.new) }
 {
-    match with_folder(folder, what_of(options, words)) {
+    match what_of(matches, words) {
         Some(what) => {
-            let path = trace_of(&what, options, words);
+            let path = path_of(&what, matches, words);
             let files = files_of(&what, words);
-            let folder = folder_of(folder);
+            let folder = word_of(matches, "--inittab-dir");
             run_asked(texts, growing, alloc, &what, path, files, folder, out, err)
         }
-        None => report_refusal(folder, options, words, err),
+        None => report_refusal(matches, words, err),
     }
 }
 
@@ -141,14 +136,14 @@ fn run_asked<T: Texts, G: GrowingTexts, W: Write, E: Write>(
     alloc: Global,
     what: &What,
     path: &str,
-    files: &[String],
+    files: &[&str],
     folder: Option<&str>,
     out: &mut W,
     err: &mut E,
 ) -> u8
     ensures { Does (T.text_at texts.now) (G.text_at growing.now)
         (G.writer_at growing.now) path.now
-        (map string_bytes files.now) (option_map (λ path. path.now) folder.entry) what.now
+        (map (λ file. file.now) files.now) (option_map (λ path. path.now) folder.entry) what.now
         result (W.contents out.old) (W.contents out.new) }
 {
     match what {

@@ -1,67 +1,46 @@
 //! Why words are no command line: the reason, what was probably meant, and the command's line of usage.
 
-ghost use Rattle.std.specs.Prelude.{◌≡◌};
-ghost use Rattle.program_io.specs.declared.statuses.TheConstants.{REFUSED};
+ghost use Rattle.std.specs.Prelude.{◌≡◌, IsSome};
+ghost use Rattle.command_words.specs.Faults.{reason_of};
+ghost use Rattle.command_words.specs.declared.faults.WordFault.TheVariants.{Memory};
+ghost use Rattle.program_io.specs.declared.statuses.TheConstants.{DEVICE_FAULT, REFUSED};
 
-use crate::asking::takes_value;
+use crate::asking::{OPTIONS, What, asked, belongs, level_in};
 use crate::charting::lines_of;
 use crate::command::USAGE;
-use command_words::is_slip;
-use init_words::{Id, Level};
+use crate::telling::report_memory;
+use clap::ArgMatches;
+use command_words::{WordFault, is_slip, word_of};
+use init_words::Id;
 use program_io::{REFUSED, report_usage};
 use std::io::Write;
 
-/// A command's options, and how many words stand behind it at least and at most. One with files of inittabs takes a folder.
-type Command = (&'static [&'static str], usize, usize);
+/// A command, and how many words stand behind it at least and at most.
+type Command = (&'static str, usize, usize);
 
-const COMMANDS: &[(&str, Command)] = &[
-    ("why", (&["--inittab-dir"], 2, usize::MAX)),
-    ("status", (&["--json"], 1, 2)),
-    ("left", (&[], 1, 1)),
-    ("timeline", (&["--svg", "--width"], 1, 1)),
-    ("follow", (&[], 1, 1)),
-    ("lint", (&["--programs", "--inittab-dir"], 1, usize::MAX)),
-    ("diff", (&["--trace", "--level", "--inittab-dir"], 2, 2)),
-    (
-        "plan",
-        (&["--trace", "--level", "--inittab-dir"], 1, usize::MAX),
-    ),
+const COMMANDS: &[Command] = &[
+    ("why", 2, usize::MAX),
+    ("status", 1, 2),
+    ("left", 1, 1),
+    ("timeline", 1, 1),
+    ("follow", 1, 1),
+    ("lint", 1, usize::MAX),
+    ("diff", 2, 2),
+    ("plan", 1, usize::MAX),
 ];
 
 fn command_of(name: &str) -> Option<Command> {
-    for (known, command) in COMMANDS {
-        if name == *known {
+    for command in COMMANDS {
+        if name == command.0 {
             return Some(*command);
         }
     }
     None
 }
 
-/// Tells what a word isn't, and which was probably meant.
-fn tell_meant<E: Write>(what: &str, word: &str, meant: Option<&str>, err: &mut E) {
-    let _ = match meant {
-        Some(meant) => writeln!(err, "initview: {what}: {word}: {meant}?"),
-        None => writeln!(err, "initview: {what}: {word}"),
-    };
-}
-
-fn is_meant(word: &str, known: &str) -> bool {
-    is_slip(word.as_bytes(), known.as_bytes())
-}
-
 fn command_meant(name: &str) -> Option<&'static str> {
-    for (known, _) in COMMANDS {
-        if is_meant(name, *known) {
-            return Some(*known);
-        }
-    }
-    None
-}
-
-/// The option of some that this one is, or was probably meant to be.
-fn option_meant(options: &[&'static str], option: &str) -> Option<&'static str> {
-    for known in options {
-        if is_meant(option, *known) {
+    for (known, _, _) in COMMANDS {
+        if is_slip(name.as_bytes(), known.as_bytes()) {
             return Some(*known);
         }
     }
@@ -79,129 +58,119 @@ fn usage_of(name: &str) -> &'static str {
             }
         }
     }
-    "initview COMMAND .."
+    "initview why | status | left | timeline | follow | lint | diff | plan ..; initview --help says more"
 }
 
-/// Why the value of an option is refused.
-fn value_reason(option: &str, value: &str) -> Option<&'static str> {
-    match (option, value.as_bytes()) {
-        ("--level", [code]) if Level::read(*code).is_some() => None,
-        ("--level", _) => Some("a LEVEL is one of 0 to 9 and S"),
-        ("--width", _) if lines_of(value).is_none() => Some("a width N is 20 to 1000 columns"),
+fn tell_usage<E: Write>(name: &str, err: &mut E) {
+    let usage = usage_of(name);
+    let _ = writeln!(err, "usage: {usage}");
+}
+
+/// Why the value of an option is refused, and which it is.
+fn value_reason<'a>(matches: &ArgMatches<'a>) -> Option<(&'static str, &'a str, &'static str)> {
+    match (word_of(matches, "--level"), word_of(matches, "--width")) {
+        (Some(level), _) if level_in(level).is_none() => {
+            Some(("--level", level, "a LEVEL is one of 0 to 9 and S"))
+        }
+        (_, Some(width)) if lines_of(width).is_none() => {
+            Some(("--width", width, "a width N is 20 to 1000 columns"))
+        }
         _ => None,
     }
-}
-
-/// Tells what is wrong with options, and whether something is.
-fn tell_options<E: Write>(known: &[&'static str], options: &[String], err: &mut E) -> bool {
-    let mut option = "";
-    for word in options {
-        let word = word.as_str();
-        if option.is_empty() {
-            let meant = option_meant(known, word);
-            if meant != Some(word) {
-                tell_meant("no such option", word, meant, err);
-                return true;
-            }
-            if takes_value(word) {
-                option = word;
-            }
-        } else {
-            if let Some(reason) = value_reason(option, word) {
-                let _ = writeln!(err, "initview: {option} {word}: {reason}");
-                return true;
-            }
-            option = "";
-        }
-    }
-    if option.is_empty() {
-        return false;
-    }
-    let _ = writeln!(err, "initview: {option} has no value");
-    true
 }
 
 /// The word that is to be an id.
-fn id_in<'a>(name: &str, words: &'a [String]) -> Option<&'a String> {
-    match name {
-        "why" => words.first(),
-        "status" => words.get(1),
+fn id_in<'a>(name: &str, words: &[&'a str]) -> Option<&'a str> {
+    match (name, words) {
+        ("why", [id, ..]) => Some(*id),
+        ("status", [_, id, ..]) => Some(*id),
         _ => None,
     }
 }
 
-/// Tells what is wrong with the words behind a command.
-fn tell_words<E: Write>(name: &str, least: usize, most: usize, words: &[String], err: &mut E) {
-    let _ = match (words.get(most), id_in(name, words)) {
+/// Tells what is wrong with the words behind a command, and with the values of options.
+fn tell_words<E: Write>(matches: &ArgMatches, command: Command, words: &[&str], err: &mut E) {
+    let (name, least, most) = command;
+    let _ = match (value_reason(matches), words.get(most), id_in(name, words)) {
+        (Some((option, value, reason)), _, _) => {
+            writeln!(err, "initview: {option} {value}: {reason}")
+        }
         _ if words.len() < least => writeln!(err, "initview: {name}: a word is missing"),
-        (Some(word), _) => writeln!(err, "initview: {name}: one word is too many: {word}"),
-        (None, Some(word)) if Id::read(word.as_bytes()).is_none() => {
+        (None, Some(word), _) => writeln!(err, "initview: {name}: one word is too many: {word}"),
+        (None, None, Some(word)) if Id::read(word.as_bytes()).is_none() => {
             writeln!(
                 err,
                 "initview: {word}: an ID is 1 to 8 characters of those that inittab(5) allows"
             )
         }
-        _ => {
-            writeln!(
-                err,
-                "initview: {name}: an option is given twice, or beside one that rules it out"
-            )
-        }
+        _ => writeln!(
+            err,
+            "initview: {name}: an option is given beside one that rules it out"
+        ),
     };
+}
+
+/// Tells the options that are not those of what is asked.
+fn tell_options<E: Write>(matches: &ArgMatches, name: &str, what: &What, err: &mut E) {
+    for row in OPTIONS {
+        if !belongs(matches, what, *row) {
+            let option = row.0;
+            let _ = writeln!(err, "initview: {name}: no such option: {option}");
+        }
+    }
 }
 
 /// Tells why options and words, of which the first is the command, are no command line, and gives the exit status.
-pub(crate) fn report_refusal<E: Write>(
-    folder: &[String],
-    options: &[String],
-    words: &[String],
-    err: &mut E,
-) -> u8
+pub(crate) fn report_refusal<E: Write>(matches: &ArgMatches, words: &[&str], err: &mut E) -> u8
     ensures { result ≡ REFUSED }
 {
-    if let [option, ..] = options {
-        if option.as_str() == "--help" || option.as_str() == "-h" {
-            return report_usage(USAGE, err);
+    if let [name, rest @ ..] = words {
+        match (command_of(*name), asked(matches, words)) {
+            (Some(_), Some(what)) => tell_options(matches, *name, &what, err),
+            (Some(command), None) => tell_words(matches, command, rest, err),
+            (None, _) => tell_command(*name, err),
+        }
+        tell_usage(*name, err);
+    }
+    REFUSED
+}
+
+/// Tells that there is no such command, and which was probably meant.
+fn tell_command<E: Write>(name: &str, err: &mut E) {
+    let _ = match command_meant(name) {
+        Some(meant) => writeln!(err, "initview: no such command: {name}: {meant}?"),
+        None => writeln!(err, "initview: no such command: {name}"),
+    };
+}
+
+/// Tells why words weren't read, and gives the exit status.
+pub(crate) fn report_fault<E: Write>(fault: &WordFault, words: &[String], err: &mut E) -> u8
+    ensures usage { IsSome (reason_of fault.now) → result ≡ REFUSED }
+    ensures memory { fault.now ≡ Memory → result ≡ DEVICE_FAULT }
+{
+    match fault {
+        WordFault::Usage(reason) => report_reason(reason.as_str(), words, err),
+        WordFault::Memory => report_memory(err),
+    }
+}
+
+/// Tells a reason, and the usage of the command that is among the words; or the whole usage where help is asked for.
+fn report_reason<E: Write>(reason: &str, words: &[String], err: &mut E) -> u8
+    ensures { result ≡ REFUSED }
+{
+    if reason.is_empty() {
+        return report_usage(USAGE, err);
+    }
+    let _ = writeln!(err, "initview: {reason}");
+    tell_usage(command_among(words), err);
+    REFUSED
+}
+
+fn command_among(words: &[String]) -> &str {
+    for word in words {
+        if command_of(word.as_str()).is_some() {
+            return word.as_str();
         }
     }
-    match words {
-        [] => report_commands("no command is given", "", None, err),
-        [name, rest @ ..] => report_words(name.as_str(), folder, options, rest, err),
-    }
-}
-
-fn report_words<E: Write>(
-    name: &str,
-    folder: &[String],
-    options: &[String],
-    words: &[String],
-    err: &mut E,
-) -> u8
-    ensures { result ≡ REFUSED }
-{
-    let Some((known, least, most)) = command_of(name) else {
-        return report_commands("no such command", name, command_meant(name), err);
-    };
-    if !tell_options(known, options, err) && !tell_options(known, folder, err) {
-        tell_words(name, least, most, words, err);
-    }
-    let usage = usage_of(name);
-    let _ = writeln!(err, "usage: {usage}");
-    REFUSED
-}
-
-/// Tells what is wrong with the command, and which there are.
-fn report_commands<E: Write>(what: &str, name: &str, meant: Option<&str>, err: &mut E) -> u8
-    ensures { result ≡ REFUSED }
-{
-    if name.is_empty() {
-        let _ = writeln!(err, "initview: {what}");
-    } else {
-        tell_meant(what, name, meant, err);
-    }
-    let _ = writeln!(
-        err,
-        "usage: initview why | status | left | timeline | follow | lint | diff | plan ..; initview --help says more"
-    );
-    REFUSED
+    ""
 }

@@ -1,6 +1,6 @@
 //! What is asked of inittabs, written.
 
-ghost use Rattle.std.specs.Prelude.{◌≡◌, ◌++◌, ◌∷◌, [], map, option_map, drop, string_bytes, ℕ, List, IfSome, IfOk, IfErr, OnOk};
+ghost use Rattle.std.specs.Prelude.{◌≡◌, ◌++◌, ◌∷◌, [], map, option_map, drop, ℕ, List, IfSome, IfOk, IfErr, OnOk};
 ghost use Rattle.program_io.specs.Known.{IsTextAt};
 ghost use Rattle.init_words.specs.Parts.{NamedText};
 ghost use Rattle.initview_command.specs.declared.asking.TableQuestion.TheVariants as table_question;
@@ -36,20 +36,18 @@ fn add_file<T: Texts>(texts: &T, alloc: Global, path: &str, parts: &mut Vec<Part
 fn read_named<T: Texts, E: Write>(
     texts: &T,
     alloc: Global,
-    paths: &[String],
+    paths: &[&str],
     err: &mut E,
 ) -> Option<Vec<Part>>
     ensures { IfSome result (λ parts.
-        AreFilesAt (T.text_at texts.now) (map string_bytes paths.now) parts.items) }
+        AreFilesAt (T.text_at texts.now) (map (λ path. path.now) paths.now) parts.items) }
 {
     let mut parts = Vec::new(alloc);
-    let mut rest = paths;
-    while let Some((path, others)) = rest.split_first() {
-        if let Err(error) = add_file(texts, alloc, path.as_str(), &mut parts) {
-            let _ = report_unread(path.as_str(), &error, err);
+    for path in paths {
+        if let Err(error) = add_file(texts, alloc, *path, &mut parts) {
+            let _ = report_unread(*path, &error, err);
             return None;
         }
-        rest = others;
     }
     Some(parts)
 }
@@ -83,11 +81,11 @@ pub(crate) fn read_files<T: Texts, G: GrowingTexts, E: Write>(
     texts: &T,
     growing: &G,
     alloc: Global,
-    paths: &[String],
+    paths: &[&str],
     folder: Option<&str>,
     err: &mut E,
 ) -> Option<Vec<Part>>
-    ensures { IfSome result (λ parts. AreFiles (T.text_at texts.now) (map string_bytes paths.now)
+    ensures { IfSome result (λ parts. AreFiles (T.text_at texts.now) (map (λ path. path.now) paths.now)
         (option_map (λ path. path.now) folder.entry) parts.items) }
 {
     let parts = read_named(texts, alloc, paths, err)?;
@@ -354,13 +352,13 @@ pub(crate) fn show_files<T: Texts, G: GrowingTexts, W: Write, E: Write>(
     growing: &G,
     alloc: Global,
     folders: &str,
-    paths: &[String],
+    paths: &[&str],
     folder: Option<&str>,
     question: TableQuestion,
     out: &mut W,
     err: &mut E,
 ) -> u8
-    ensures { Answers (T.text_at texts.now) (map string_bytes paths.now)
+    ensures { Answers (T.text_at texts.now) (map (λ path. path.now) paths.now)
         (option_map (λ path. path.now) folder.entry) question result
         (W.contents out.old) (W.contents out.new) }
 {

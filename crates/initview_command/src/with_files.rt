@@ -1,6 +1,6 @@
 //! What is asked of a trace with files of inittabs, answered and written.
 
-ghost use Rattle.std.specs.Prelude.{◌≡◌, List, ℕ, Option, map, option_map, string_bytes, IfOk, IfErr};
+ghost use Rattle.std.specs.Prelude.{◌≡◌, List, ℕ, Option, map, option_map, IfOk, IfErr};
 ghost use Rattle.init_words.specs.Parts.{NamedText};
 ghost use Rattle.trace_events.specs.Event.{Event};
 ghost use Rattle.trace_view.specs.declared.text_views.ViewEnd.{ViewEnd};
@@ -48,14 +48,14 @@ pub(crate) fn show_with_files<T: Texts, G: GrowingTexts, Q: NeedsFiles, W: Write
     growing: &G,
     alloc: Global,
     path: &str,
-    paths: &[String],
+    paths: &[&str],
     folder: Option<&str>,
     asked: &Q,
     out: &mut W,
     err: &mut E,
 ) -> u8
     ensures { ShowsWithFiles (T.text_at texts.now) (G.writer_at growing.now) path.now
-        (map string_bytes paths.now) (option_map (λ path. path.now) folder.entry)
+        (map (λ path. path.now) paths.now) (option_map (λ path. path.now) folder.entry)
         (Q.gives asked.now path.now) Q.AreRefused result
         (W.contents out.old) (W.contents out.new) }
 {

@@ -1,4 +1,4 @@
-use Rattle.std.proofs.Common.{◌++◌, List, length, map, string_bytes}
+use Rattle.std.proofs.Common.{◌++◌, List, drop, map}
 use Rattle.init_words.specs.Parts.{NamedText}
 use Rattle.initview_command.specs.Tables.{AreFilesAt}
 use Rattle.initview_command.proofs.tables.read_named.Given as goal
@@ -7,8 +7,5 @@ use Rattle.initview_command.proofs.tables.read_named.Given as goal
 abbrev pub invariant-loop-path : goal.invariant-loop-path
 invariant-loop-path g l =
     let text_at = g.T.Texts.text_at l.texts in
-    (more : List NamedText) → AreFilesAt text_at (map string_bytes l.rest) more
-    → AreFilesAt text_at (map string_bytes l.paths) (l.parts.items ++ more)
-
-abbrev pub decreases-loop-path : goal.decreases-loop-path
-decreases-loop-path g l = length l.rest
+    (more : List NamedText) → AreFilesAt text_at (map (λ path. path.now) (drop l.path-index l.paths)) more
+    → AreFilesAt text_at (map (λ path. path.now) l.paths) (l.parts.items ++ more)

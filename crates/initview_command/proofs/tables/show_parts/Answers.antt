@@ -1,4 +1,4 @@
-use Rattle.std.proofs.Common.{◌≡◌, ◌∙◌, inl, inr, refl, List, []}
+use Rattle.std.proofs.Common.{◌∙◌, inl, inr, refl, []}
 use Rattle.std.proofs.KnownBytes.{Appends-nil}
 use Rattle.initview_command.specs.declared.asking.TableQuestion.{TableQuestion}
 use Rattle.initview_command.specs.declared.asking.TableQuestion.TheVariants as table

@@ -1,0 +1,59 @@
+-- The command line, and what its words ask is done.
+use Rattle.std.proofs.Common.{◌≡◌, ◌∙◌, [], ap, inl, inr, refl, sym, true, false, ℕ, Bool, codes, List, Option, Some, None, subst, unwrap_or, IsSome}
+use Rattle.std.proofs.KnownBytes.{Keeps-refl}
+use Rattle.clap.specs.Words.{Row, all_of, is_simple_and_free}
+use Rattle.clap.proofs.OnLiterals.{clap_on_literals}
+use Rattle.program_io.specs.declared.statuses.TheConstants.{DEVICE_FAULT, REFUSED}
+use Rattle.program_io.specs.Known.{KnownTexts}
+use Rattle.command_words.specs.CommandLines.{bare_line, given_by, line_of}
+use Rattle.command_words.specs.Faults.{reason_of}
+use Rattle.command_words.specs.declared.faults.WordFault.{WordFault}
+use Rattle.command_words.specs.declared.faults.WordFault.TheVariants.{Usage, Memory}
+use Rattle.command_words.specs.VersionLine.{PrintsVersion}
+use Rattle.initview_command.specs.declared.asking.What.{What}
+use Rattle.initview_command.specs.Asking.{command_line, files_of, folder_of, path_of}
+use Rattle.initview_command.specs.Writers.{KnownWriters}
+use Rattle.initview_command.specs.Endings.{Does, EndsAs, EndsFor, EndsGiven, EndsOf, EndsOn, EndsWhere}
+
+-- the command line uses no more of clap than what is known of it
+pub is_free_line : is_simple_and_free command_line ≡ true
+unfolding bare_line line_of clap_on_literals
+is_free_line = refl
+
+module _ (text_at growing_at : KnownTexts) (writers : KnownWriters) (status : ℕ) (old new : Option (List ℕ)) where
+  pub so_done : (rows : List Row) (words : List (List ℕ)) (path : List ℕ) (files : List (List ℕ)) (folder : Option (List ℕ)) (what : What) (asked : Option What)
+      → path ≡ path_of what rows words → files ≡ files_of what words → folder ≡ folder_of rows → Some what ≡ asked
+      → Does text_at growing_at writers path files folder what status old new → EndsFor text_at growing_at writers rows words asked status old new
+  so_done rows words path files folder what asked e1 e2 e3 e4 done =
+      subst (λ a. EndsFor text_at growing_at writers rows words a status old new) e4
+      (subst (λ p. Does text_at growing_at writers p (files_of what words) (folder_of rows) what status old new) e1
+      (subst (λ fs. Does text_at growing_at writers path fs (folder_of rows) what status old new) e2
+      (subst (λ f. Does text_at growing_at writers path files f what status old new) e3 done)))
+
+  pub words_given : (rows : List Row) (words : List (List ℕ)) (given : Option (List (List ℕ))) → given ≡ all_of (codes "WORD") rows → unwrap_or given [] ≡ words
+      → EndsGiven text_at growing_at writers rows words status old new → EndsOf text_at growing_at writers rows status old new
+  words_given rows words given all are ends =
+      subst (λ ws. EndsGiven text_at growing_at writers rows ws status old new) (sym are ∙ ap (λ ws. unwrap_or ws []) all) ends
+
+  -- by whether the version is asked for
+  pub version_done : (words : List (List ℕ)) (asks : Bool) → asks ≡ true → PrintsVersion (codes "initview") status old new
+      → EndsAs asks text_at growing_at writers words status old new
+  version_done words true is printed = printed
+  version_done words false is printed = absurd (cc)
+
+  pub words_done : (words : List (List ℕ)) (asks : Bool) → asks ≡ false → EndsOn text_at growing_at writers words status old new
+      → EndsAs asks text_at growing_at writers words status old new
+  words_done words true is done = absurd (cc)
+  words_done words false is done = done
+
+  -- words that give rows, and words that give none
+  pub given_done : (words : List (List ℕ)) (rows : List Row) → given_by command_line words ≡ Some rows → EndsOf text_at growing_at writers rows status old new
+      → EndsOn text_at growing_at writers words status old new
+  given_done words rows is done = inl (subst (λ r. EndsWhere text_at growing_at writers r status old new) (sym is) done)
+
+pub fault_done : (text_at growing_at : KnownTexts) (writers : KnownWriters) (status : ℕ) (now : Option (List ℕ)) (words : List (List ℕ)) (fault : WordFault)
+    → (IsSome (reason_of fault) → given_by command_line words ≡ None) → (IsSome (reason_of fault) → status ≡ REFUSED) → (fault ≡ Memory → status ≡ DEVICE_FAULT)
+    → EndsOn text_at growing_at writers words status now now
+fault_done text_at growing_at writers status now words (Usage reason) none refused memory =
+    inl (subst (λ r. EndsWhere text_at growing_at writers r status now now) (sym (none refl)) (refused refl, Keeps-refl now))
+fault_done text_at growing_at writers status now words Memory none refused memory = inr (memory refl, Keeps-refl now)
