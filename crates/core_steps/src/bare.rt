@@ -111,7 +111,7 @@ impl<A: Allocator> BareCore<A> {
     ghost use Rattle.trace_events.specs.Run.{is_rest};
     ghost use Rattle.core_records.specs.Order.{IsInOrder};
     ghost use Rattle.core_records.specs.Lists.{are_distinct, can_ask, order_in, refusal_of};
-    ghost use Rattle.core_model.specs.Decide.{decide, first_step, or_idle, wished_step, wish_step, stands, stop_among, calm_step, work_step, is_drained};
+    ghost use Rattle.core_model.specs.Decide.{decide, first_step, or_idle, wish_step, stands, stop_among, calm_step, work_step, is_drained};
     ghost use Rattle.core_model.specs.Decide as core;
     ghost use Rattle.core_model.specs.Steps as steps;
     ghost use Rattle.trace_events.specs.declared.happenings.Handed.{Handed};
@@ -201,10 +201,23 @@ impl<A: Allocator> BareCore<A> {
         }
     }
 
-    /// What is wished, where no start and no signal is open.
-    fn wished_step(&self, stage: Stage) -> Option<Step>
-        ensures { result ≡ wished_step stage self.now }
+    fn news_step(&self, stage: Stage) -> Option<Step>
+        ensures { result ≡ core.news_step stage self.now }
     {
+        match stage {
+            Stage::Run(_) => self.heads.news.first_step(),
+            Stage::Sysinit | Stage::Boot => None,
+        }
+    }
+
+    /// What is wished, where no start and no signal is open.
+    fn wish_step(&self, stage: Stage) -> Option<Step>
+        ensures { result ≡ wish_step stage self.now }
+    {
+        let is_quiet = self.slots.quiet();
+        if !is_quiet {
+            return None;
+        }
         if self.heads.reexec {
             return Some(Step::Reexec);
         }
@@ -215,25 +228,6 @@ impl<A: Allocator> BareCore<A> {
             return Some(step);
         }
         self.news_step(stage)
-    }
-
-    fn news_step(&self, stage: Stage) -> Option<Step>
-        ensures { result ≡ core.news_step stage self.now }
-    {
-        match stage {
-            Stage::Run(_) => self.heads.news.first_step(),
-            Stage::Sysinit | Stage::Boot => None,
-        }
-    }
-
-    fn wish_step(&self, stage: Stage) -> Option<Step>
-        ensures { result ≡ wish_step stage self.now }
-    {
-        if self.slots.quiet() {
-            self.wished_step(stage)
-        } else {
-            None
-        }
     }
 
     /// A wish stands.

@@ -164,22 +164,16 @@ impl<A: Allocator + Copy> Channel<A> {
             if !self.has_request(rt)? {
                 return Ok(0);
             }
-            self.read_request(rt)?;
+            let mut channel = File::open(rt, self.path.as_str())?;
+            channel.seek(SeekFrom::Start(self.heard))?;
+            channel.read_exact(&mut self.request)?;
+            self.heard = self.heard.saturating_add(REQUEST as u64);
+            self.handed = 0;
         }
         let mut rest = self.request.get(self.handed..).unwrap_or(&[]);
         let taken = rest.read(buffer)?;
         self.handed = self.handed.saturating_add(taken);
         Ok(taken)
-    }
-
-    /// Reads the next request, of which all bytes are there.
-    fn read_request<R: Files + Eprint>(&mut self, rt: &R) -> io::Result<()> {
-        let mut channel = File::open(rt, self.path.as_str())?;
-        channel.seek(SeekFrom::Start(self.heard))?;
-        channel.read_exact(&mut self.request)?;
-        self.heard = self.heard.saturating_add(REQUEST as u64);
-        self.handed = 0;
-        Ok(())
     }
 
     /// Tells why init passes over the request that was read last.

@@ -1,7 +1,7 @@
 //! What init says of what it did.
 
 ghost use Rattle.std.specs.Prelude.{◌≡◌, ◌++◌, IfOk};
-ghost use Rattle.host_messages.specs.Announced.{announcement, entered, handed_over};
+ghost use Rattle.host_messages.specs.Announced.{announcement, handed_over};
 
 use init_words::{Memory, Stage};
 use std::alloc::Allocator;
@@ -15,7 +15,15 @@ pub fn announcement_text<A: Allocator, B: Allocator>(
     ensures { IfOk result (λ text. text.items ≡ announcement happening.now) }
 {
     match happening {
-        Happening::Enter(stage, _) => entered(alloc, *stage),
+        Happening::Enter(Stage::Sysinit, _) => {
+            joined(alloc, b"INIT: Entering stage sysinit\n", b"", b"")
+        }
+        Happening::Enter(Stage::Boot, _) => {
+            joined(alloc, b"INIT: Entering stage boot\n", b"", b"")
+        }
+        Happening::Enter(Stage::Run(level), _) => {
+            joined(alloc, b"INIT: Entering runlevel: ", &[level.code()], b"\n")
+        }
         Happening::Settle(level) => {
             joined(alloc, b"INIT: Runlevel ", &[level.code()], b" settled\n")
         }
@@ -28,16 +36,6 @@ pub fn announcement_text<A: Allocator, B: Allocator>(
         Happening::NotRead => joined(alloc, b"initd: inittab not read\n", b"", b""),
         Happening::Handed(how) => handed_over(alloc, *how),
         _ => Ok(Vec::new(alloc)),
-    }
-}
-
-fn entered<A: Allocator>(alloc: A, stage: Stage) -> Result<Vec<u8, A>, Memory>
-    ensures { IfOk result (λ text. text.items ≡ entered stage) }
-{
-    match stage {
-        Stage::Sysinit => joined(alloc, b"INIT: Entering stage sysinit\n", b"", b""),
-        Stage::Boot => joined(alloc, b"INIT: Entering stage boot\n", b"", b""),
-        Stage::Run(level) => joined(alloc, b"INIT: Entering runlevel: ", &[level.code()], b"\n"),
     }
 }
 

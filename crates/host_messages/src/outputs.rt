@@ -34,7 +34,10 @@ impl<A: Allocator + Copy> Output<A> {
         rt: &R,
         happening: &HappeningIn<B>,
     ) -> bool {
-        let said = print_announcement(rt, self.alloc, happening);
+        let said = match announcement_text(self.alloc, happening) {
+            Ok(text) => rt.write_all(text.as_slice()).map(|()| text.len()),
+            Err(_) => Err(io::Error::from(ErrorKind::OutOfMemory)),
+        };
         self.tell(rt, &said)
     }
 
@@ -62,17 +65,4 @@ impl<A: Allocator + Copy> Output<A> {
         }
         printed.is_ok()
     }
-}
-
-/// Prints what init says of the happening, and gives how many bytes that are.
-fn print_announcement<A: Allocator, B: Allocator>(
-    rt: &impl Print,
-    alloc: A,
-    happening: &HappeningIn<B>,
-) -> io::Result<usize> {
-    let Ok(text) = announcement_text(alloc, happening) else {
-        return Err(io::Error::from(ErrorKind::OutOfMemory));
-    };
-    rt.write_all(text.as_slice())?;
-    Ok(text.len())
 }
