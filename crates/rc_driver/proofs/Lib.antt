@@ -1,5 +1,6 @@
 pub mod CallLemmas
 pub mod OrderLemmas
+pub mod PlannedLemmas
 pub mod PrintLemmas
 pub mod RunLemmas
 pub mod ToldLemmas

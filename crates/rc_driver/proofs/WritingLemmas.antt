@@ -1,8 +1,14 @@
 -- What is written where texts are written one behind the other.
-use Rattle.std.proofs.Common.{Result, Ok, Err, OnErr, OnOk, Option, List, ℕ}
+use Rattle.std.proofs.Common.{◌++◌, Result, Ok, Err, OnErr, OnOk, Option, List, ℕ}
 use Rattle.std.specs.Io.KnownBytes.{Appends}
 use Rattle.program_io.specs.Writing.{AppendsPrefix}
-use Rattle.program_io.proofs.WritingLemmas.{AppendsPrefix-whole}
+use Rattle.program_io.proofs.WritingLemmas.{AppendsPrefix-first, AppendsPrefix-whole, on_err}
+pub use Rattle.program_io.proofs.WritingLemmas.{last_err, last_ok}
+
+-- the first of the writes failed
+pub first_err : {T E : Type 0} (ended : Result T E) (old new : Option (List ℕ)) (first rest : List ℕ)
+    → AppendsPrefix old new first → OnErr ended (AppendsPrefix old new (first ++ rest))
+first_err ended old new first rest part = on_err ended _ (AppendsPrefix-first old new first rest part)
 
 -- what follows from what holds after an error holds after it
 pub after_error : {T E : Type 0} (ended : Result T E) (P Q : Type 0) → (P → Q) → OnErr ended P → OnErr ended Q

@@ -1,5 +1,6 @@
 pub mod Links
 pub mod Parts
+pub mod Planned
 pub mod Printing
 pub mod Progress
 pub mod Report

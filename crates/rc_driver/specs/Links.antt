@@ -1,15 +1,10 @@
 -- The links of a runlevel's folder, and which of them are run (LSB Core 5.0, System Initialization).
-use Rattle.std.specs.Prelude.{ℕ, Bool, false, not, ◌==◌, ◌&&◌, List, [], ◌∷◌, drop}
+use Rattle.std.specs.Prelude.{ℕ, Bool, false, not, ◌==◌, ◌&&◌, List, ◌∷◌}
 use Rattle.std.specs.Char.{is_ascii_digit}
-use Rattle.std.specs.List.{dedup, filter, list_all, list_any}
+use Rattle.std.specs.List.{dedup, filter, list_any}
 use Rattle.std.specs.Str.{byte, bytes_eq}
-use Rattle.rc_links.specs.Links.{in_byte_order}
-use Rattle.rc_links.specs.Names.{is_name_byte}
-
--- one or more such bytes
-abbrev pub is_name : List ℕ → Bool
-is_name [] = false
-is_name (b ∷ name) = list_all is_name_byte (b ∷ name)
+use Rattle.rc_links.specs.Links.{in_byte_order, linked_name}
+use Rattle.rc_links.specs.Names.{is_name}
 
 -- the letter, two digits and a name
 abbrev pub is_link : ℕ → List ℕ → Bool
@@ -19,7 +14,7 @@ is_link letter _ = false
 
 -- the other name is a link with the letter, and has the same part as this one after the digits
 abbrev pub is_link_like : ℕ → List ℕ → List ℕ → Bool
-is_link_like letter link other = is_link letter other && bytes_eq (drop 3 other) (drop 3 link)
+is_link_like letter link other = is_link letter other && bytes_eq (linked_name other) (linked_name link)
 
 -- one of the names is
 abbrev pub has_link : ℕ → List ℕ → List (List ℕ) → Bool

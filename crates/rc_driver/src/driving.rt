@@ -39,6 +39,7 @@ fn done_end(failed: bool) -> RunEnd<'static>
 }
 
 /// Runs the script that the command starts, and writes its line at its end.
+#[tactic(auto, using(crate::proofs::ToldLemmas::ends_early, crate::proofs::ToldLemmas::ends_unwritten))]
 fn run_command<'n, A: Allocator + Copy, H: Host, W: Write, E: Write>(
     alloc: A,
     host: &mut H,

@@ -1,32 +1,15 @@
 //! Which links of a runlevel's folder are run, and in which order.
 
-ghost use Rattle.std.specs.Prelude.{◌≡◌, ◌++◌, ◌∷◌, [], map, string_bytes, drop, IfOk, OnOk};
-ghost use Rattle.std.specs.List.{filter, list_all};
-ghost use Rattle.rc_driver.specs.Links.{has_link, is_link, is_link_like, is_name};
-ghost use Rattle.rc_links.specs.Names.{is_name_byte};
+ghost use Rattle.std.specs.Prelude.{◌≡◌, ◌++◌, ◌∷◌, [], map, string_bytes, IfOk, OnOk};
+ghost use Rattle.std.specs.List.{filter};
+ghost use Rattle.rc_driver.specs.Links.{has_link, is_link, is_link_like};
 ghost use Rattle.rc_driver.specs.Links.{is_started, ordered, start_links, stop_links};
 ghost use Rattle.rc_driver.specs.Runs.{texts_of};
 ghost use Rattle.rc_driver.specs.Sysv.{is_halt, is_stopping, stopping_links, was_stopped};
 
 use init_words::{Level, Memory};
-use rc_links::is_name_byte;
+use rc_links::{is_name, linked_name};
 use std::alloc::Allocator;
-
-fn has_name_bytes(name: &[u8]) -> bool
-    ensures { result ≡ list_all is_name_byte name.now }
-{
-    name.iter().all(|byte| is_name_byte(*byte))
-}
-
-/// One or more of `A-Z a-z 0-9 . _ -`.
-fn is_name(name: &[u8]) -> bool
-    ensures { result ≡ is_name name.now }
-{
-    match name {
-        [] => false,
-        [_, ..] => has_name_bytes(name),
-    }
-}
 
 /// The letter, two digits and a name.
 fn is_link(letter: u8, link: &[u8]) -> bool
@@ -40,18 +23,11 @@ fn is_link(letter: u8, link: &[u8]) -> bool
     }
 }
 
-/// The text after the letter and the digits of a link.
-fn service(link: &[u8]) -> &[u8]
-    ensures { result.now ≡ drop 3 link.now }
-{
-    link.get(3..).unwrap_or(&[])
-}
-
 /// The other name is a link with the letter, and of the same service.
 fn is_link_like(letter: u8, link: &[u8], other: &[u8]) -> bool
     ensures { result ≡ is_link_like letter link.now other.now }
 {
-    is_link(letter, other) && service(other) == service(link)
+    is_link(letter, other) && linked_name(other) == linked_name(link)
 }
 
 /// One of the names is a link with the letter, and of the same service.

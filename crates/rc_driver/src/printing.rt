@@ -41,6 +41,7 @@ fn print_next<'n, A: Allocator + Copy, B: Allocator, W: Write>(
 }
 
 /// Writes the text that would start a script, as a line.
+#[tactic(auto, using(crate::proofs::PrintLemmas::line_stopped, crate::proofs::PrintLemmas::line_written))]
 fn print_link<A: Allocator + Copy, W: Write>(
     alloc: A,
     way: RunWay,

@@ -1,6 +1,7 @@
 //! The scripts of a change of runlevel, one after another.
 
 ghost use Rattle.std.specs.Prelude.{◌≡◌, ◌++◌, ◌||◌, false, true, map, string_bytes, IfOk, OnOk, OnErr};
+ghost use Rattle.rc_driver.specs.Planned.{RunsPlans};
 ghost use Rattle.rc_driver.specs.Runs.{is_failure, rc_run, scripts_of, texts_of, with_arg};
 ghost use Rattle.rc_driver.specs.Steps.{Steps};
 ghost use Rattle.rc_driver.specs.Sysv.{is_halt, sysv_run, sysv_starts, sysv_stops};
@@ -124,11 +125,17 @@ impl<'n, A: Allocator + Copy> Rc<'n, A> {
     /// over. The K links of the new folder are stopped in byte order, then its S links are started in byte order, but
     /// not those that run already: the previous folder has an S link with the same part after the digits, and the new
     /// one no such K link.
+    #[tactic(auto, using(crate::proofs::PlannedLemmas::plans_run))]
     pub fn new(alloc: A, previous: &[String], new: &'n [String]) -> Result<Rc<'n, A>, Memory>
-        ensures { IfOk result (λ rc. rc ≡ record {
+        ensures run { IfOk result (λ rc. rc ≡ record {
           left = rc_run (map string_bytes previous.now) (map string_bytes new.now);
           waits = false;
         }) }
+        // What rclinks makes and prints is what is run: where a folder holds just the links of a plan, in any order, and
+        // its scripts have names that links may have, each that stops, and then each that starts, but not those that
+        // run already.
+        ensures planned { IfOk result (λ rc.
+            RunsPlans (map string_bytes previous.now) (map string_bytes new.now) rc.left) }
     {
         let mut left = VecDeque::new(alloc);
         add_scripts(&mut left, stop_links(alloc, new)?.as_slice(), Arg::Stop)?;

@@ -37,6 +37,7 @@ fn write_one<W: Write>(out: &mut W, text: &[u8]) -> io::Result<()>
 }
 
 /// Writes two texts, one after the other.
+#[tactic(auto, using(crate::proofs::WritingLemmas::first_err, crate::proofs::WritingLemmas::last_ok, crate::proofs::WritingLemmas::last_err))]
 fn write_two<W: Write>(out: &mut W, first: &[u8], second: &[u8]) -> io::Result<()>
     ensures ok { OnOk result
         (Appends (W.contents out.old) (W.contents out.new) (first.now ++ second.now)) }
@@ -44,11 +45,11 @@ fn write_two<W: Write>(out: &mut W, first: &[u8], second: &[u8]) -> io::Result<(
         (AppendsPrefix (W.contents out.old) (W.contents out.new) (first.now ++ second.now)) }
 {
     write_one(out, first)?;
-    write_one(out, second)?;
-    Ok(())
+    write_one(out, second)
 }
 
 /// Writes three texts, one after the other.
+#[tactic(auto, using(crate::proofs::WritingLemmas::first_err, crate::proofs::WritingLemmas::last_ok, crate::proofs::WritingLemmas::last_err))]
 fn write_three<W: Write>(out: &mut W, first: &[u8], second: &[u8], third: &[u8]) -> io::Result<()>
     ensures ok { OnOk result (Appends (W.contents out.old) (W.contents out.new)
         (first.now ++ (second.now ++ third.now))) }
@@ -56,8 +57,7 @@ fn write_three<W: Write>(out: &mut W, first: &[u8], second: &[u8], third: &[u8])
         (first.now ++ (second.now ++ third.now))) }
 {
     write_one(out, first)?;
-    write_two(out, second, third)?;
-    Ok(())
+    write_two(out, second, third)
 }
 
 fn write_exit<W: Write>(out: &mut W, code: u8) -> io::Result<()>
@@ -105,6 +105,7 @@ fn write_script<W: Write>(out: &mut W, link: &str, arg: Arg) -> io::Result<()>
 }
 
 /// Writes the line of a script that came to its end.
+#[tactic(auto, using(crate::proofs::WritingLemmas::first_err, crate::proofs::WritingLemmas::last_ok, crate::proofs::WritingLemmas::last_err))]
 fn write_line<W: Write>(out: &mut W, link: &str, arg: Arg, answer: &RcAnswer) -> io::Result<()>
     ensures ok { OnOk result (Appends (W.contents out.old) (W.contents out.new)
         (line_of (link.now, arg) answer.now)) }
@@ -112,8 +113,7 @@ fn write_line<W: Write>(out: &mut W, link: &str, arg: Arg, answer: &RcAnswer) ->
         (line_of (link.now, arg) answer.now)) }
 {
     write_script(out, link, arg)?;
-    write_end(out, answer)?;
-    Ok(())
+    write_end(out, answer)
 }
 
 /// Writes the line of a script's start, and sees that it is out.
@@ -130,6 +130,7 @@ fn tell_begin<W: Write>(out: &mut W, link: &str, arg: Arg) -> Result<(), RunEnd<
 }
 
 /// Writes the line of a script's start.
+#[tactic(auto, using(crate::proofs::WritingLemmas::first_err, crate::proofs::WritingLemmas::last_ok, crate::proofs::WritingLemmas::last_err))]
 fn write_begin<W: Write>(out: &mut W, link: &str, arg: Arg) -> io::Result<()>
     ensures ok { OnOk result (Appends (W.contents out.old) (W.contents out.new)
         (begin_line (link.now, arg))) }
@@ -137,8 +138,7 @@ fn write_begin<W: Write>(out: &mut W, link: &str, arg: Arg) -> io::Result<()>
         (begin_line (link.now, arg))) }
 {
     write_script(out, link, arg)?;
-    write_one(out, b" begins\n")?;
-    Ok(())
+    write_one(out, b" begins\n")
 }
 
 /// Writes the line of a script's start, where starts are told.
@@ -297,6 +297,7 @@ fn write_signal<E: Write>(
 }
 
 /// Tells that a script was sent a signal, by as much of the line as `err` takes.
+#[tactic(auto, using(crate::proofs::WritingLemmas::prefix_of))]
 fn tell_late<E: Write>(err: &mut E, dir: &str, link: &str, seconds: u32, signal: SignalKind)
     ensures { AppendsPrefix (E.contents err.old) (E.contents err.new)
         (late_line dir.now link.now seconds signal) }

@@ -11,7 +11,7 @@ use Rattle.std.specs.Str.{bytes_eq}
 use Rattle.std.proofs.lemmas.Bool.{false_from_ne_true, true≢false}
 use Rattle.std.proofs.lemmas.Cmp.{nat_list_cmp_total}
 use Rattle.std.proofs.lemmas.List.Recursion.{is_sum_by}
-use Rattle.std.proofs.lemmas.List.Sorted.{IsPermutation-map, ranks_by, sorted_far, sum_by-IsPermutation}
+use Rattle.std.proofs.lemmas.List.Sorted.{IsPermutation-cons, IsPermutation-map, IsPermutation-middle, IsPermutation-refl, IsPermutation-trans, ranks_by, sorted_far, sum_by-IsPermutation}
 use Rattle.std.proofs.lemmas.Map.Text.{is_eq-slice_cmp}
 use Rattle.std.proofs.lemmas.Slice.Eq.{bytes_eq-Decides}
 use Rattle.rc_links.specs.Links.{in_byte_order, is_before, placed}
@@ -85,26 +85,43 @@ abbrev times : List ℕ → List (List ℕ) → ℕ
 times z [] = 0
 times z (x ∷ xs) = cond (bytes_eq z x) 1 0 + times z xs
 
-other_way : (a b c d : ℕ) → c ≡ b + d → a + c ≡ b + (a + d)
-other_way a b c d h = omega arith
-
-times-placed_by : (z x y : List ℕ) (xs rest : List (List ℕ)) (b : Bool) → times z rest ≡ times z (x ∷ xs) → times z (cond b (y ∷ rest) (x ∷ y ∷ xs)) ≡ times z (x ∷ y ∷ xs)
-times-placed_by z x y xs rest true h = other_way (cond (bytes_eq z y) 1 0) (cond (bytes_eq z x) 1 0) (times z rest) (times z xs) h
-times-placed_by z x y xs rest false h = refl
-
-times-placed : (z x : List ℕ) (xs : List (List ℕ)) → times z (placed x xs) ≡ times z (x ∷ xs)
-times-placed z x [] = refl
-times-placed z x (y ∷ xs) = times-placed_by z x y xs (placed x xs) (is_before y x) (times-placed z x xs)
-
-times-in_byte_order : (z : List ℕ) (xs : List (List ℕ)) → times z (in_byte_order xs) ≡ times z xs
-times-in_byte_order z [] = refl
-times-in_byte_order z (x ∷ xs) = times-placed z x (in_byte_order xs) ∙ ap (λ n. cond (bytes_eq z x) 1 0 + n) (times-in_byte_order z xs)
+times-kept : (z : List ℕ) (p : List ℕ → Bool) (xs ys : List (List ℕ)) → IsPermutation xs ys
+    → times z (filter p ys) ≡ times z (filter p xs)
+times-kept z p xs ys moved =
+    let f : List ℕ → ℕ = λ x. cond (p x) (cond (bytes_eq z x) 1 0) 0 in
+    let is : (zs : List (List ℕ)) → times z (filter p zs) ≡ sum_by f zs =
+    is_sum_by (λ zs. times z (filter p zs)) f refl (λ x zs. one_kept x (filter p zs) (p x)) in
+    is ys ∙ sum_by-IsPermutation f xs ys moved ∙ sym (is xs)
+  where
+    one_kept : (x : List ℕ) (kept : List (List ℕ)) (b : Bool)
+        → times z (cond b (x ∷ kept) kept) ≡ cond b (cond (bytes_eq z x) 1 0) 0 + times z kept
+    one_kept x kept true = refl
+    one_kept x kept false = omega arith
 
 times-IsPermutation : (z : List ℕ) (xs ys : List (List ℕ)) → IsPermutation xs ys → times z ys ≡ times z xs
 times-IsPermutation z xs ys moved =
     let f : List ℕ → ℕ = λ x. cond (bytes_eq z x) 1 0 in
     let is : (zs : List (List ℕ)) → times z zs ≡ sum_by f zs = is_sum_by (times z) f refl (λ _ _. refl) in
     is ys ∙ sum_by-IsPermutation f xs ys moved ∙ sym (is xs)
+
+placed_by : (x y : List ℕ) (xs rest : List (List ℕ)) (b : Bool) → IsPermutation (x ∷ xs) rest
+    → IsPermutation (x ∷ y ∷ xs) (cond b (y ∷ rest) (x ∷ y ∷ xs))
+placed_by x y xs rest true moved =
+    IsPermutation-trans _ _ _ (IsPermutation-middle (x ∷ []) y xs) (IsPermutation-cons y _ _ moved)
+placed_by x y xs rest false moved = IsPermutation-refl _
+
+placed-moves : (x : List ℕ) (xs : List (List ℕ)) → IsPermutation (x ∷ xs) (placed x xs)
+placed-moves x [] = IsPermutation-refl _
+placed-moves x (y ∷ xs) = placed_by x y xs (placed x xs) (is_before y x) (placed-moves x xs)
+
+-- byte order moves texts, and does no more
+pub in_byte_order-moves : (xs : List (List ℕ)) → IsPermutation xs (in_byte_order xs)
+in_byte_order-moves [] = IsPermutation-refl _
+in_byte_order-moves (x ∷ xs) =
+    IsPermutation-trans _ _ _ (IsPermutation-cons x _ _ (in_byte_order-moves xs)) (placed-moves x (in_byte_order xs))
+
+times-in_byte_order : (z : List ℕ) (xs : List (List ℕ)) → times z (in_byte_order xs) ≡ times z xs
+times-in_byte_order z xs = times-IsPermutation z xs (in_byte_order xs) (in_byte_order-moves xs)
 
 -- what holds of each text holds of one that is among them
 held_by : (P : List ℕ → Type 0) (z x : List ℕ) (n : ℕ) (b : Bool) → bytes_eq z x ≡ b → P x → (0 < n → P z) → 0 < cond b 1 0 + n → P z
@@ -132,6 +149,14 @@ one_list (x ∷ xs) (y ∷ ys) up also same =
     let first : x ≡ y = one_text x y soon late in
     let rest : xs ≡ ys = one_list xs ys up.1 also.1 (λ z. rest_of _ _ _ _ (same z) (ap (λ w. cond (bytes_eq z w) 1 0) first)) in
     λ i. first i ∷ rest i
+
+-- in byte order, what is kept of some texts is the same in whatever order they stood
+pub one_order : (p : List ℕ → Bool) (xs ys : List (List ℕ)) → IsPermutation xs ys
+    → in_byte_order (filter p ys) ≡ in_byte_order (filter p xs)
+one_order p xs ys moved =
+    one_list (in_byte_order (filter p ys)) (in_byte_order (filter p xs))
+    (Ascends-in_byte_order (filter p ys)) (Ascends-in_byte_order (filter p xs))
+    (λ z. times-in_byte_order z (filter p ys) ∙ times-kept z p xs ys moved ∙ sym (times-in_byte_order z (filter p xs)))
 
 all_at : {V : Type 0} (key : V → List ℕ) (P : List ℕ → Type 0) (d : V) (vs : List V) → ((k : ℕ) → k < length vs → P (key (get_or vs k d))) → AllByRecursion P (map key vs)
 all_at key P d [] h = tt

@@ -5,7 +5,7 @@ use Rattle.rc_links.specs.declared.needs.Phase.{Phase}
 use Rattle.rc_links.specs.declared.needs.Phase.TheVariants as phase
 use Rattle.rc_links.specs.declared.faults.PlanFault.{PlanFault}
 use Rattle.rc_links.specs.declared.faults.PlanFault.TheVariants as fault
-use Rattle.rc_links.specs.Faults.{Wrong, Missing, Round, IsAnyDeep, IsRound, IsTooDeep, Says}
+use Rattle.rc_links.specs.Faults.{Wrong, Round, IsAnyDeep, IsRound, IsTooDeep, Says}
 use Rattle.rc_numbers.specs.Numbering.{HasNoNumbering, IsCycle, IsLeast}
 use Rattle.rc_links.specs.ScriptText.{ScriptText}
 use Rattle.rc_links.specs.PlannedText.{PlannedText}

@@ -1,9 +1,8 @@
 -- The names that a link may have after its digits.
-use Rattle.std.specs.Prelude.{ℕ, Bool, not, ◌==◌, ◌||◌, ◌&&◌, List}
+use Rattle.std.specs.Prelude.{ℕ, Bool, false, ◌==◌, ◌||◌, List, [], ◌∷◌}
 use Rattle.std.specs.Str.{byte}
 use Rattle.std.specs.List.{list_all}
 use Rattle.std.specs.Char.{is_ascii_alphanumeric}
-use Rattle.rc_header.specs.Forms.{is_empty}
 
 -- a letter, a digit, '.', '_' or '-'
 abbrev pub is_name_byte : ℕ → Bool
@@ -11,4 +10,5 @@ is_name_byte b = is_ascii_alphanumeric b || b == byte "." || b == byte "_" || b 
 
 -- one or more such bytes
 abbrev pub is_name : List ℕ → Bool
-is_name name = not (is_empty name) && list_all is_name_byte name
+is_name [] = false
+is_name (b ∷ name) = list_all is_name_byte (b ∷ name)

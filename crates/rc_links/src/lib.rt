@@ -23,5 +23,5 @@ pub use kept::is_gone;
 pub use names::{is_name, is_name_byte};
 pub use planning::plan;
 pub use plans::Plan;
-pub use printing::LEVELS;
+pub use printing::{LEVELS, linked_name};
 pub use scripts::Script;

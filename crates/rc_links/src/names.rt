@@ -21,5 +21,8 @@ fn has_name_bytes(name: &[u8]) -> bool
 pub fn is_name(name: &[u8]) -> bool
     ensures { result ≡ is_name name.now }
 {
-    !name.is_empty() && has_name_bytes(name)
+    match name {
+        [] => false,
+        [_, ..] => has_name_bytes(name),
+    }
 }

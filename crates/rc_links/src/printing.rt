@@ -139,7 +139,7 @@ fn start_links<A: Allocator + Copy>(
 }
 
 /// The script's name in a link.
-fn linked_name(link: &[u8]) -> &[u8]
+pub fn linked_name(link: &[u8]) -> &[u8]
     ensures { result.now ≡ linked_name link.now }
 {
     link.get(3..).unwrap_or(&[])

@@ -1,12 +1,11 @@
 -- The last part of a path, and names.
-use Rattle.std.proofs.Common.{◌≡◌, ◌≢◌, inl, inr, ℕ, zero, suc, ◌+◌, ◌<◌, Bool, true, false, not, ◌&&◌, sym, List, [], ◌∷◌, length, drop, get_or, refl, arith, add-one, drop-cons}
+use Rattle.std.proofs.Common.{◌≡◌, ◌≢◌, inl, inr, ℕ, zero, suc, ◌+◌, ◌<◌, Bool, true, false, ◌&&◌, sym, List, [], ◌∷◌, length, drop, get_or, refl, arith, add-one, drop-cons}
 use Rattle.std.specs.List.{list_all, list_any}
 use Rattle.std.specs.Str.{IsAscii, IsUtf8}
 use Rattle.std.proofs.lemmas.Bool.Decides.{eqb_tells, nat_tests}
 use Rattle.std.proofs.lemmas.List.Folds.{list_any_at}
 use Rattle.std.proofs.lemmas.Bool.{true≢false}
 use Rattle.std.proofs.lemmas.Str.{IsUtf8-from_ascii}
-use Rattle.rc_header.specs.Forms.{is_empty}
 use Rattle.rc_links.specs.Names.{is_name, is_name_byte}
 use Rattle.rclinks_command.specs.Files.{is_slash, last_part}
 
@@ -49,4 +48,5 @@ all_low (b ∷ name) all (suc i) = all_low name (and_both (is_name_byte b) (list
 
 -- a name that a link may have is UTF-8
 pub name-utf8 : (name : List ℕ) → is_name name ≡ true → IsUtf8 name
-name-utf8 name is = IsUtf8-from_ascii name (all_low name (and_both (not (is_empty name)) (list_all is_name_byte name) is).1)
+name-utf8 [] is = absurd (true≢false (sym is))
+name-utf8 (b ∷ name) is = IsUtf8-from_ascii (b ∷ name) (all_low (b ∷ name) is)
