@@ -2,6 +2,7 @@
 
 ghost use Rattle.std.specs.Prelude.{◌≡◌, ◌≤◌, ◌<◌, List, Option, not, true, IfOk};
 ghost use Rattle.core_model.specs.Decide.{is_drained};
+ghost use Rattle.core_model.specs.State.{opening_goal, opening_state};
 ghost use Rattle.init_words.specs.declared.entries.Entry.{Entry};
 ghost use Rattle.init_words.specs.declared.levels.Level.{Level};
 ghost use Rattle.init_turns.specs.Arriving.{ServesTurns};
@@ -17,10 +18,11 @@ use std::alloc::{Allocator, Global};
 use std::marker::Model;
 use trace_events::{Happening, HappeningIn};
 
-/// Init at its opening: its core, and the table in force as the log is told of it.
+/// Init at its opening: its core, and the table in force as the log is told of it. The core is on the heap: so an opening
+/// costs little to whoever owns it.
 #[derive(Drop)]
 pub struct Opening<A: Allocator = Global> {
-    core: Core<A>,
+    core: Box<Core<A>, A>,
     told: HappeningIn<A>,
 }
 
@@ -29,7 +31,7 @@ impl<A: Allocator> Model for Opening<A> {
 
     ghost Value = { OpeningState };
 
-    ghost view = { λ o. record { core = o.core; told = o.told } };
+    ghost view = { λ o. record { core = o.core.value; told = o.told } };
 }
 
 impl<A: Allocator + Copy> Opening<A> {
@@ -40,7 +42,7 @@ impl<A: Allocator + Copy> Opening<A> {
     {
         let _entries = table.len();
         let told: HappeningIn<A> = Happening::NewTable(table.copy(alloc)?);
-        let core = Core::new(alloc, table, level)?;
+        let core = core_over(alloc, table, level)?;
         Ok(Opening { core, told })
     }
 
@@ -53,7 +55,7 @@ impl<A: Allocator + Copy> Opening<A> {
         turns: u64,
         drain: bool,
         watch: &mut W,
-    ) -> (Served, Core<A>)
+    ) -> (Served, Box<Core<A>, A>)
         // the calls made are those of so many turns from the opening on; up to each call their trace is sound and lawful, as
         // far as the answers until then were possible; the core that is seen after each turn, and given back, tracks it;
         // the log took it, and had taken all of it until then when each call was made; and a level is settled in as many
@@ -61,17 +63,29 @@ impl<A: Allocator + Copy> Opening<A> {
         ensures trace { (level : Option Level) (table : List Entry) → IsOpeningOf level table self
             → Opens E.state E.told E.log edge.old edge.new
             level table (ServesTurns drain level table result.0.turns (W.seen watch.old)
-            (W.seen watch.new)) result.1 }
+            (W.seen watch.new)) result.1.value }
         // it makes the turns that were asked for; fewer only where it was to end drained, and is
         ensures most { result.0.turns ≤ turns }
         ensures fewer { result.0.turns < turns → (drain ≡ true) × (result.0.drained ≡ true) }
-        ensures drained { result.0.drained ≡ is_drained result.1 }
+        ensures drained { result.0.drained ≡ is_drained result.1.value }
         ensures logged { result.0.logged ≡ not (E.state (E.log edge.new)).failed }
     {
         let Opening { mut core, told } = self;
         write(edge, &told);
         drop(told);
-        let served = serve(alloc, &mut core, edge, turns, drain, watch);
+        let served = serve(alloc, &mut *core, edge, turns, drain, watch);
         (served, core)
     }
+}
+
+/// The core of an opening, on the heap.
+fn core_over<A: Allocator + Copy>(
+    alloc: A,
+    table: Table<A>,
+    level: Option<Level>,
+) -> Result<Box<Core<A>, A>, Memory>
+    ensures { IfOk result (λ core.
+        core.value ≡ opening_state table (opening_goal level table)) }
+{
+    Ok(Box::new(alloc, Core::new(alloc, table, level)?)?)
 }

@@ -15,6 +15,7 @@ use initd_options::CheckWords;
 use itoa::Buffer;
 use program_io::{DEVICE_FAULT, DONE, PieceTaker, REFUSED, Texts, UNLAWFUL};
 use std::alloc::{AllocError, Global};
+use std::io;
 use std::io::Write;
 use trace_verdict::{Breach, Finding, TextJudge};
 
@@ -58,6 +59,25 @@ impl PieceTaker for FileJudge {
     }
 }
 
+impl FileJudge {
+    /// A judge that has taken none.
+    fn new(alloc: Global) -> FileJudge
+        ensures { IsJudge result.judge result.first [] }
+    {
+        FileJudge {
+            judge: TextJudge::new(alloc),
+            first: None,
+        }
+    }
+}
+
+/// The same on the heap: a function that has one in its frame is dear to prove.
+fn file_judge(alloc: Global) -> Result<Box<FileJudge>, AllocError>
+    ensures { IfOk result (λ file. IsJudge file.value.judge file.value.first []) }
+{
+    Ok(Box::new(alloc, FileJudge::new(alloc))?)
+}
+
 /// Reads a trace and judges it.
 pub(crate) fn check_file<T: Texts, W: Write, E: Write>(
     texts: &T,
@@ -71,11 +91,13 @@ pub(crate) fn check_file<T: Texts, W: Write, E: Write>(
         (W.contents out.old) (W.contents out.new)
         × Reports ending (E.contents err.old) (E.contents err.new) }
 {
-    let mut file = FileJudge {
-        judge: TextJudge::new(alloc),
-        first: None,
-    };
-    judge_text(texts, alloc, said, &mut file, out, err)
+    match file_judge(alloc) {
+        Ok(mut file) => judge_text(texts, alloc, said, &mut file, out, err),
+        Err(error) => {
+            let path = said.trace.as_str();
+            report_cannot(alloc, "read", path, &io::Error::from(error), err)
+        }
+    }
 }
 
 /// Hands a trace to a judge that has taken none, and tells what it found.

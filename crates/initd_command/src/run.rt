@@ -1,14 +1,17 @@
 //! `initd run`: what it stands on, and its turns.
 
-ghost use Rattle.std.specs.Prelude.{◌≡◌, ◌∷◌, ◌&&◌, true, ℕ, List, Option, None, Some, [], option_map, unwrap_or, IfErr, IfOk, IfSome, OnErr, OnOk, ⊤};
+ghost use Rattle.std.specs.Prelude.{◌≡◌, ◌≤◌, ◌<◌, ◌∷◌, ◌&&◌, not, true, ℕ, List, Option, None, Some, [], option_map, unwrap_or, IfErr, IfOk, IfSome, OnErr, OnOk, ⊤};
 ghost use Rattle.program_io.specs.Known.{KnownTexts};
 ghost use Rattle.init_words.specs.Parts.{NamedText};
 ghost use Rattle.initd_command.specs.Endings.{Ending, Reports, ReportsObstacle, ReportsUnled, obstacle_status, status_of};
 ghost use Rattle.initd_command.specs.Ran.{MakesLogged, MakesTurns, RanBy, RanOver};
 ghost use Rattle.initd_command.specs.Turned.{End, ReportsEnd, end_status};
 ghost use Rattle.init_words.specs.declared.entries.Entry.{Entry};
+ghost use Rattle.init_words.specs.declared.levels.Level.{Level};
+ghost use Rattle.core_model.specs.Decide.{is_drained};
 ghost use Rattle.host_calls.specs.Record.{Since};
-ghost use Rattle.init_turns.specs.Opening.{IsOpeningOf};
+ghost use Rattle.init_turns.specs.Arriving.{ServesTurns};
+ghost use Rattle.init_turns.specs.Opening.{IsOpeningOf, Opens};
 ghost use Rattle.initd_options.specs.Options.{RunSaid, run_of};
 ghost use Rattle.initd_command.specs.Services.{AreFiles, EndsRun, EndsServed, EndsTold, HasInittab, Hinders, IsInittab, IsReadOf, TakesParts, has_result, is_taken, is_unled, judgement_for, obstacle_of, table_in, told_ending, told_of};
 
@@ -21,10 +24,11 @@ use crate::reports::{
     report_too_many, report_unlisted, tell,
 };
 use crate::watchers::Watcher;
+use core_steps::Core;
 use host_calls::Host;
 use host_files::{FolderFault, PassedNames, with_folder};
 use host_messages::{StampedRuntime, faults_text};
-use host_trace::Joined;
+use host_trace::{Edge, Joined};
 use init_turns::{Opening, Served};
 use init_words::{Id, Level, Memory, Part};
 use initd_options::RunWords;
@@ -563,16 +567,35 @@ where
         → Since (H.told host) (H.told result.1) (MakesTurns ⊤ (run_of said.now) table end)) }
 {
     let Some(file) = trace else {
-        let log = AskedLog::new(rt, NoLog {});
-        let (status, host, _) = make_turns(rt, alloc, said, opening, host, log, err);
-        return (status, host);
+        return make_over(rt, alloc, said, opening, host, NoLog {}, err);
     };
     let log = FileLog::new(rt, alloc, trace_of(said), file);
     if said.brief {
-        let log = AskedLog::new(rt, BriefLog::new(log));
-        let (status, host, _) = make_turns(rt, alloc, said, opening, host, log, err);
-        return (status, host);
+        let log = BriefLog::new(log);
+        return make_over(rt, alloc, said, opening, host, log, err);
     }
+    make_over(rt, alloc, said, opening, host, log, err)
+}
+
+/// Makes the turns over a log, and says of level changes which are passed over.
+fn make_over<R: Files + Eprint, H: Host, L: EndedLog, E: Write>(
+    rt: &R,
+    alloc: Global,
+    said: &RunWords,
+    opening: Opening,
+    host: H,
+    log: L,
+    err: &mut E,
+) -> (u8, H)
+where
+    L: Drop,
+    L::Left: Drop,
+    ensures { (end : End) × (result.0 ≡ end_status end) × EndsServed (run_of said.now) end
+        × ReportsEnd end (E.contents err.old) (E.contents err.new)
+        × ((L.state log).taken [] → (table : List Entry)
+        → IsOpeningOf (run_of said.now).level table opening
+        → Since (H.told host) (H.told result.1) (MakesTurns ⊤ (run_of said.now) table end)) }
+{
     let log = AskedLog::new(rt, log);
     let (status, host, _) = make_turns(rt, alloc, said, opening, host, log, err);
     (status, host)
@@ -613,8 +636,7 @@ where
     let judged = JudgedLog::new(rt, alloc, log, said.judge);
     let noted = NotedLog::new(alloc, judged, said.result);
     let mut edge = Joined { host, log: noted };
-    let mut watch = Watcher::new(rt, alloc, said.verbose, said.initctl.as_str());
-    let (served, core) = opening.serve(alloc, &mut edge, said.turns, said.drain, &mut watch);
+    let (served, core) = serve_watched(rt, alloc, said, opening, &mut edge);
     let Joined { host, log: noted } = edge;
     let (judged, notes) = noted.into_parts();
     let found = judged.judgement();
@@ -623,6 +645,28 @@ where
     let judgement = judgement_for(said, found);
     let status = report_end(alloc, said, &served, &notes, &core, judgement, err);
     (status, host, left)
+}
+
+/// Makes the turns of a run, from its opening on, with a watcher who says between them what there is to say.
+fn serve_watched<R: Files + Eprint, E: Edge>(
+    rt: &R,
+    alloc: Global,
+    said: &RunWords,
+    opening: Opening,
+    edge: &mut E,
+) -> (Served, Box<Core>)
+    ensures trace { (level : Option Level) (table : List Entry) → IsOpeningOf level table opening
+        → Opens E.state E.told E.log edge.old edge.new level table
+        (ServesTurns (run_of said.now).drain level table result.0.turns None None)
+        result.1.value }
+    ensures most { result.0.turns ≤ (run_of said.now).turns }
+    ensures fewer { result.0.turns < (run_of said.now).turns
+        → ((run_of said.now).drain ≡ true) × (result.0.drained ≡ true) }
+    ensures drained { result.0.drained ≡ is_drained result.1.value }
+    ensures logged { result.0.logged ≡ not (E.state (E.log edge.new)).failed }
+{
+    let mut watch = Watcher::new(rt, alloc, said.verbose, said.initctl.as_str());
+    opening.serve(alloc, edge, said.turns, said.drain, &mut watch)
 }
 
 /// Turns whose log was ended, with all that it took or not.

@@ -34,9 +34,9 @@ fn run_of(alloc: Global) -> Result<Box<RunWords>, Fail> {
     }
 }
 
-fn opening_of(alloc: Global) -> Result<Box<Opening>, Fail> {
+fn opening_of(alloc: Global) -> Result<Opening, Fail> {
     let (table, _) = inittab_text::read(alloc, INITTAB)?;
-    Ok(boxed(alloc, Opening::new(alloc, table, Some(Level::L3))?)?)
+    Ok(Opening::new(alloc, table, Some(Level::L3))?)
 }
 
 /// The child lives where nothing else is answered.
@@ -57,7 +57,7 @@ fn left_of<L: EndedLog + Drop>(rt: &HostRuntime, log: L) -> Result<L::Left, Fail
         rt,
         alloc,
         &said,
-        Box::into_inner(opening),
+        opening,
         Box::into_inner(host),
         log,
         &mut err,

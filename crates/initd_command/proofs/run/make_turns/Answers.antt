@@ -19,32 +19,32 @@ returns g c =
     let judged = c.into_parts-judged.result.0 in
     let notes = c.into_parts-judged.result.1 in
     let first = noted_state (judged_state state) c.new-noted.result in
-    let noted = noted_of notes (waiting_text c.serve-core.result.1) c.judgement_for-judgement.result in
-    let most = is_served service c.serve-core.result.0 c.ended_with-served.result _ c.ended_with-served.ensures (c.serve-core.ensures.most, c.serve-core.ensures.fewer) in
+    let noted = noted_of notes (waiting_text c.serve_watched-core.result.1.value) c.judgement_for-judgement.result in
+    let most = is_served service c.serve_watched-core.result.0 c.ended_with-served.result _ c.ended_with-served.ensures (c.serve_watched-core.ensures.most, c.serve_watched-core.ensures.fewer) in
     let asked = judged_still service c.judgement-found.result c.judgement_for-judgement.result c.judgement_for-judgement.ensures in
-    let logged = subst (λ (parts : JudgedBy _ × Notes). c.serve-core.result.0.logged ≡ not (state parts.0.log).failed) (sym c.into_parts-judged.ensures) c.serve-core.ensures.logged in (
+    let logged = subst (λ (parts : JudgedBy _ × Notes). c.serve_watched-core.result.0.logged ≡ not (state parts.0.log).failed) (sym c.into_parts-judged.ensures) c.serve_watched-core.ensures.logged in (
       end_of service noted c.ended_with-served.result,
-      c.report_end-status.ensures.status,
+      (rw c.deref.ensures at c.report_end-status.ensures.status),
       (c.ended_with-served.result, noted, refl, most, asked),
-      c.report_end-status.ensures.reported,
-      λ table opens. Since-untimed _ _ _ _ (Since-map _ _ _ _ (c.serve-core.ensures.trace service.level table opens) (λ mades made.
+      (rw c.deref.ensures at c.report_end-status.ensures.reported),
+      λ table opens. Since-untimed _ _ _ _ (Since-map _ _ _ _ (c.serve_watched-core.ensures.trace service.level table opens) (λ mades made.
           let calls = calls_of mades in
           let leads = subst
-          (λ (parts : JudgedBy _ × Notes). LedFrom service.level table c.serve-core.result.1 first (record { taken = λ trace. NotesOf parts.1 (reverse trace) × (judged_state state parts.0).taken trace; failed = (state parts.0.log).failed; noted = parts.1.wanted }) calls)
+          (λ (parts : JudgedBy _ × Notes). LedFrom service.level table c.serve_watched-core.result.1.value first (record { taken = λ trace. NotesOf parts.1 (reverse trace) × (judged_state state parts.0).taken trace; failed = (state parts.0.log).failed; noted = parts.1.wanted }) calls)
           (sym c.into_parts-judged.ensures) made.1 in
           let over : (state c.args.log).taken [] → TurnsFrom service.level table calls (λ past. (c.ended_with-served.result.logged ≡ true → IsNoted service.result noted past) × LogEnds (g.L.EndedLog.has_ended c.end-left.result.0) c.ended_with-served.result.logged (reverse past)) =
           λ none. noted_over (g.L.EndedLog.has_ended c.end-left.result.0) (FindsBy judged.judge judged.judgement) (state judged.log).taken notes c.judgement-found.result (state judged.log).failed c.end-left.result.1
-          c.serve-core.result.1 first service service.level table c.serve-core.result.0 c.ended_with-served.result c.judgement_for-judgement.result calls
+          c.serve_watched-core.result.1.value first service service.level table c.serve_watched-core.result.0 c.ended_with-served.result c.judgement_for-judgement.result calls
           c.ended_with-served.ensures c.judgement_for-judgement.ensures (c.new-noted.ensures.nothing (c.new-judged.ensures.nothing none)) c.new-noted.ensures.wanted logged
           c.judgement-found.ensures.found (λ trace took. c.end-left.ensures.ended trace (subst (λ log. (state log).taken trace) (sym c.into_log.ensures) took)) opens.distinct leads in (
             record {
               served = c.ended_with-served.result;
               noted = noted;
-              turns = served_still (λ (turns : ℕ) (drained : Bool). ServesTurns service.drain service.level table turns None None calls) c.serve-core.result.0 c.ended_with-served.result _ c.ended_with-served.ensures made.0;
+              turns = served_still (λ (turns : ℕ) (drained : Bool). ServesTurns service.drain service.level table turns None None calls) c.serve_watched-core.result.0 c.ended_with-served.result _ c.ended_with-served.ensures made.0;
               fronts = λ later earlier next call is apart goal p sound opening allowed.
                   let led = made.2 later earlier next call is apart goal p sound opening allowed in
                   (led.0, λ carried. (led.1 carried).0);
-              drains = λ is allowed carried. (c.serve-core.result.1, led_fits service.level table c.serve-core.result.1 first _ calls opens.distinct leads allowed carried, sym c.serve-core.ensures.drained ∙ (sym (ap (λ (s : Served). s.drained) c.ended_with-served.ensures) ∙ is));
+              drains = λ is allowed carried. (c.serve_watched-core.result.1.value, led_fits service.level table c.serve_watched-core.result.1.value first _ calls opens.distinct leads allowed carried, sym c.serve_watched-core.ensures.drained ∙ (sym (ap (λ (s : Served). s.drained) c.ended_with-served.ensures) ∙ is));
               notes = λ none whole allowed carried. (over none allowed carried).0 whole;
               most = most;
               asked = asked;
