@@ -1,5 +1,5 @@
 -- The entries of a table are called one by one.
-use Rattle.core_steps.proofs.Words.{◌≡◌, suc, zero, refl, sym, ◌∙◌, ap, ℕ, ◌+◌, ◌<◌, arith, Bool, true, false, ◌&&◌, ◌||◌, cond, List, [], ◌∷◌, ◌++◌, length, take, slice_get, Some, None, is_some, list_any, Entry, has_id, RecordState, after_call, record_by_id, has_record_of, changed, with_changed, IsInOrder, called_if, with_called, called_id}
+use Rattle.core_steps.proofs.Words.{◌≡◌, suc, zero, refl, ◌∙◌, ap, ℕ, ◌+◌, ◌<◌, arith, Bool, true, false, ◌&&◌, ◌||◌, cond, List, [], ◌∷◌, ◌++◌, length, take, slice_get, Some, None, is_some, list_any, Entry, has_id, RecordState, after_call, record_by_id, has_record_of, changed, with_changed, IsInOrder, called_if, with_called, called_id}
 use Rattle.init_words.specs.Ids.{same_id}
 use Rattle.init_words.proofs.Same.{same_id-self, same_id-sym}
 
@@ -14,27 +14,14 @@ entry_record (x ∷ table) [] place e order at = absurd order
 entry_record (x ∷ table) (slot ∷ slots) zero e order at = let same : x ≡ e = cc in ap (λ (b : Bool). is_some (cond b (Some slot) (record_by_id e.id slots))) (ap (same_id e.id) (order.0 ∙ ap (λ (y : Entry). y.id) same) ∙ same_id-self e.id)
 entry_record (x ∷ table) (slot ∷ slots) (suc place) e order at = found e.id slot slots (same_id e.id slot.id) (entry_record table slots place e order.2 at)
 
-still_one : (id : List ℕ) (slot next : RecordState) (slots more : List RecordState) (b : Bool) → has_record_of id more ≡ has_record_of id slots → is_some (cond b (Some next) (record_by_id id more)) ≡ is_some (cond b (Some slot) (record_by_id id slots))
-still_one id slot next slots more true h = refl
-still_one id slot next slots more false h = h
-
 pub still_record : (named : Entry → Bool) (table : List Entry) (id : List ℕ) (slots : List RecordState) → has_record_of id (with_called named table slots) ≡ has_record_of id slots
-still_record named table id [] = refl
-still_record named table id (slot ∷ slots) =
-    let next : RecordState = called_if (list_any (λ e. has_id slot.id e && named e) table) slot in
-    ap (λ x. is_some (cond (same_id id x) (Some next) (record_by_id id (with_called named table slots)))) (called_id (list_any (λ e. has_id slot.id e && named e) table) slot)
-    ∙ still_one id slot next slots (with_called named table slots) (same_id id slot.id) (still_record named table id slots)
+still_record named table id [] = grind arith
+still_record named table id (slot ∷ slots) = grind (arith, still_record named table id slots)
 
 -- one entry more: its record is called, where it is named
 any_more : {X : Type 0} (p : X → Bool) (x : X) (xs : List X) → list_any p (xs ++ x ∷ []) ≡ (p x || list_any p xs)
-any_more p x [] = refl
-any_more p x (y ∷ ys) = ap (λ b. p y || b) (any_more p x ys) ∙ swap (p y) (p x) (list_any p ys)
-  where
-    swap : (a b c : Bool) → (a || (b || c)) ≡ (b || (a || c))
-    swap true true c = refl
-    swap true false c = refl
-    swap false true c = refl
-    swap false false c = refl
+any_more p x [] = grind arith
+any_more p x (y ∷ ys) = grind (arith, any_more p x ys)
 
 call_again : (same before : Bool) (slot : RecordState) → called_if (same && true || before) slot ≡ cond same (after_call (called_if before slot)) (called_if before slot)
 call_again true true slot = refl
@@ -51,8 +38,7 @@ module _ (named : Entry → Bool) (e : Entry) (es : List Entry) where
   before slot = list_any (λ x. has_id slot.id x && named x) es
 
   one_called : named e ≡ true → (slot : RecordState) → called_if (list_any (λ x. has_id slot.id x && named x) (es ++ e ∷ [])) slot ≡ changed e.id after_call (called_if (before slot) slot)
-  one_called is slot = ap (λ b. called_if b slot) (any_more (λ x. has_id slot.id x && named x) e es) ∙ ap (λ n. called_if (same_id slot.id e.id && n || before slot) slot) is ∙ call_again (same_id slot.id e.id) (before slot) slot
-      ∙ ap (λ b. cond b (after_call (called_if (before slot) slot)) (called_if (before slot) slot)) (same_id-sym slot.id e.id ∙ ap (same_id e.id) (sym (called_id (before slot) slot)))
+  one_called is slot = grind (arith, called_if, any_more, has_id, call_again, after_call, same_id-sym, called_id)
 
   one_left : named e ≡ false → (slot : RecordState) → called_if (list_any (λ x. has_id slot.id x && named x) (es ++ e ∷ [])) slot ≡ called_if (before slot) slot
   one_left is slot = ap (λ b. called_if b slot) (any_more (λ x. has_id slot.id x && named x) e es) ∙ ap (λ n. called_if (same_id slot.id e.id && n || before slot) slot) is ∙ not_again (same_id slot.id e.id) (before slot) slot
@@ -62,15 +48,10 @@ module _ (named : Entry → Bool) (e : Entry) (es : List Entry) where
   all_called is (slot ∷ slots) = λ i. one_called is slot i ∷ all_called is slots i
 
   all_left : named e ≡ false → (slots : List RecordState) → with_called named (es ++ e ∷ []) slots ≡ with_called named es slots
-  all_left is [] = refl
-  all_left is (slot ∷ slots) = λ i. one_left is slot i ∷ all_left is slots i
+  all_left is slots = grind (arith, one_left)
 
   pub one_more : (slots : List RecordState) → cond (named e) (with_changed e.id after_call (with_called named es slots)) (with_called named es slots) ≡ with_called named (es ++ e ∷ []) slots
-  one_more slots = at (named e) refl
-    where
-      at : (b : Bool) → named e ≡ b → cond b (with_changed e.id after_call (with_called named es slots)) (with_called named es slots) ≡ with_called named (es ++ e ∷ []) slots
-      at true is = sym (all_called is slots)
-      at false is = sym (all_left is slots)
+  one_more slots = grind (arith, Bool, with_changed, after_call, with_called, all_called, all_left)
 
 pub none_called : (named : Entry → Bool) (slots : List RecordState) → slots ≡ with_called named [] slots
 none_called named [] = refl

@@ -1,44 +1,22 @@
 -- Signals are due to excluded children alone: SIGTERM where a stop is due, SIGKILL where the grace has passed since SIGTERM.
-use Rattle.core_steps.proofs.Words.{◌≡◌, refl, sym, ℕ, ◌+◌, ◌≤◌, Bool, true, false, cond, nat_le, List, [], ◌∷◌, Option, Some, None, is_some, is_none, not, ◌&&◌, arith, list_any, or_parts, ltb-false, leb-true, le-leb, both_ways, Stage, RecordState, is_stop_due, is_termed, is_termed_before, IsFirstTermed, Order, Kill, signal_step, stop_among, has_excluded, stands, calm_step, work_step, CoreState, is_past}
+use Rattle.core_steps.proofs.Words.{◌≡◌, refl, sym, ℕ, ◌+◌, Bool, false, nat_le, List, [], ◌∷◌, Option, Some, None, is_some, not, arith, list_any, Stage, RecordState, is_stop_due, is_termed, is_termed_before, IsFirstTermed, signal_step, stop_among, has_excluded, stands, calm_step, work_step, CoreState, is_past}
 use Rattle.core_records.specs.declared.children.Stop.{Stop}
-use Rattle.core_records.specs.declared.children.Stop.TheVariants.{Due, Termed, Killed}
 
 module _ (grace now : ℕ) where
   -- where no record passes either test, and no signal is due to one that passes neither, none is due at all
   none_among : (p q : Option Stop → Bool) → ((id : List ℕ) (stop : Option Stop) → p stop ≡ false → q stop ≡ false → signal_step grace now id stop ≡ None)
       → (slots : List RecordState) → list_any (λ (slot : RecordState). p slot.stop) slots ≡ false → list_any (λ (slot : RecordState). q slot.stop) slots ≡ false → stop_among grace now slots ≡ None
-  none_among p q none [] ps qs = refl
-  none_among p q none (slot ∷ slots) ps qs =
-      let here = or_parts (p slot.stop) (list_any (λ (s : RecordState). p s.stop) slots) ps in
-      let there = or_parts (q slot.stop) (list_any (λ (s : RecordState). q s.stop) slots) qs in
-      rw (silent (is_some slot.child && is_none slot.order && not slot.missed) slot.id slot.stop (none slot.id slot.stop here.0 there.0), none_among p q none slots here.1 there.1) refl
-    where
-      silent : (b : Bool) (id : List ℕ) (stop : Option Stop) → signal_step grace now id stop ≡ None → cond b (signal_step grace now id stop) None ≡ None
-      silent true id stop h = h
-      silent false id stop h = refl
+  none_among p q none [] ps qs = grind arith
+  none_among p q none (slot ∷ slots) ps qs = grind (arith, none_among p q none slots)
 
   no_stop : (id : List ℕ) (stop : Option Stop) → is_some stop ≡ false → is_some stop ≡ false → signal_step grace now id stop ≡ None
-  no_stop id None h k = refl
-  no_stop id (Some stop) h k = absurd (cc)
+  no_stop id stop h k = grind arith
 
   no_term : (id : List ℕ) (stop : Option Stop) → is_stop_due stop ≡ false → is_termed stop ≡ false → signal_step grace now id stop ≡ None
-  no_term id None h k = refl
-  no_term id (Some Due) h k = absurd (cc)
-  no_term id (Some (Termed time)) h k = absurd (cc)
-  no_term id (Some (Killed time)) h k = refl
+  no_term id stop h k = grind arith
 
   early : (first : ℕ) → nat_le (first + grace) now ≡ false → (id : List ℕ) (stop : Option Stop) → is_stop_due stop ≡ false → is_termed_before first stop ≡ false → signal_step grace now id stop ≡ None
-  early first short id None h k = refl
-  early first short id (Some Due) h k = absurd (cc)
-  early first short id (Some (Termed time)) h k = at (nat_le (time + grace) now) refl
-    where
-      at : (b : Bool) → nat_le (time + grace) now ≡ b → cond b (Some (Order id Kill)) None ≡ None
-      at true is =
-          let least : first ≤ time = ltb-false time first k in
-          let past : time + grace ≤ now = leb-true (time + grace) now is in
-          absurd (both_ways (nat_le (first + grace) now) short (le-leb (first + grace) now (omega arith)))
-      at false is = refl
-  early first short id (Some (Killed time)) h k = refl
+  early first short id stop h k = grind arith
 
   -- no signal is due where no stop is, and the grace of the first SIGTERM has not passed
   pub none_near : (slots : List RecordState) (first : Option ℕ) → IsFirstTermed slots first → list_any (λ (slot : RecordState). is_stop_due slot.stop) slots ≡ false → is_past grace now first ≡ false → stop_among grace now slots ≡ None

@@ -1,9 +1,8 @@
 -- Orders, answers, calls and rounds leave seen what was seen, and passed what was passed.
-use Rattle.core_steps.proofs.Words.{◌≡◌, ◌≢◌, refl, sym, ap, ◌∙◌, subst, Bool, true, false, not, ◌&&◌, ◌||◌, ◌==◌, ◌-◌, arith, cond, ℕ, zero, suc, List, [], ◌∷◌, map, zip, take-nil, slice_get, Option, Some, None, is_some, is_none, list_any, and_parts, and_from, or_parts, or_left, or_right, true≢false, false≢true, Entry, Stage, Start, Look, Term, Kill, Answer, has_id, RecordState, IsInOrder, after_order, after_hold, after_begin_round, after_answer, is_record_of, are_distinct, record_by_id, has_record_of, can_ask_of, can_ask, is_over_of, changed, with_changed, after_told, called_if, with_called, each_always, is_seen_record, are_seen, is_passed_in, is_passed_at, ArePassed, AllBut, Places}
+use Rattle.core_steps.proofs.Words.{◌≡◌, ◌≢◌, refl, sym, ap, ◌∙◌, Bool, true, false, not, ◌&&◌, ◌||◌, ◌==◌, ◌-◌, arith, cond, ℕ, zero, suc, List, [], ◌∷◌, map, zip, take-nil, slice_get, Option, Some, None, is_some, is_none, list_any, and_parts, and_from, or_left, or_right, true≢false, false≢true, Entry, Stage, Start, Look, Term, Kill, Answer, has_id, RecordState, IsInOrder, after_order, after_hold, after_begin_round, after_answer, is_record_of, are_distinct, record_by_id, has_record_of, can_ask, is_over_of, changed, with_changed, after_told, called_if, with_called, each_always, is_seen_record, are_seen, is_passed_in, is_passed_at, ArePassed, AllBut, Places}
 use Rattle.std.specs.Option.{option_map_or}
 use Rattle.init_words.specs.declared.orders.OrderKind.{OrderKind}
 use Rattle.init_words.specs.declared.orders.Answer.TheVariants.{Born, NotBorn, Ended, Alive, NoLook, Hit, Miss}
-use Rattle.core_records.specs.Changes.{is_over}
 use Rattle.core_records.specs.Lists.{is_over_in, without}
 use Rattle.core_records.proofs.Found.{is_listed, others, rest_distinct, unchanged, without_none}
 use Rattle.core_records.proofs.Ordered.{over_none}
@@ -40,10 +39,8 @@ call_seen true slot h = h
 call_seen false slot h = h
 
 pub seen_called : (named : Entry → Bool) (table : List Entry) (slots : List RecordState) (i : ℕ) → are_seen i slots ≡ true → are_seen i (with_called named table slots) ≡ true
-seen_called named table slots i seen = seen_map call slots i (each_always (KeepsSeen call) (λ slot. call_seen (list_any (λ e. has_id slot.id e && named e) table) slot) slots) seen
-  where
-    call : RecordState → RecordState
-    call slot = called_if (list_any (λ e. has_id slot.id e && named e) table) slot
+seen_called named table slots i seen =
+    grind (arith, seen_map, each_always, KeepsSeen, call_seen, list_any, has_id, RecordState, called_if)
 
 -- an order
 unlooked : (child : Bool) → not (child && false) ≡ true
@@ -66,11 +63,7 @@ listed_at id (slot ∷ slots) zero at = or_left (is_record_of id slot) (is_liste
 listed_at id (slot ∷ slots) (suc i) at = or_right (is_record_of id slot) (is_listed id slots) (listed_at id slots i at)
 
 other_before : (id : List ℕ) (slot : RecordState) (slots : List RecordState) (i : ℕ) → are_distinct (slot ∷ slots) ≡ true → is_place id i slots ≡ true → is_record_of id slot ≡ false
-other_before id slot slots i distinct at = by (is_record_of id slot) refl
-  where
-    by : (b : Bool) → is_record_of id slot ≡ b → b ≡ false
-    by true is = absurd (false≢true (sym (others id slot slots distinct is) ∙ listed_at id slots i at))
-    by false is = refl
+other_before id slot slots i distinct at = grind (arith, is_record_of, Bool, others, listed_at)
 
 module _ (stage : Option Stage) (id : List ℕ) where
   elsewhere : (change : RecordState → RecordState) (table : List Entry) (slots : List RecordState) (i place : ℕ) → are_distinct slots ≡ true → is_place id place slots ≡ true → i ≢ place → is_passed_at stage (zip table (with_changed id change slots)) i ≡ is_passed_at stage (zip table slots) i
@@ -86,13 +79,12 @@ module _ (stage : Option Stage) (id : List ℕ) where
   passed_ordered ask now table slots places place distinct at passed = all_but (is_passed_at stage (zip table slots)) (is_passed_at stage (zip table (with_changed id (after_order ask now) slots))) places place (λ i other. elsewhere (after_order ask now) table slots i place distinct at other) passed
 
   pairs_left : (answer : Answer) (table : List Entry) (slots : List RecordState) → IsInOrder table slots → is_over_in id answer slots ≡ true → zip table (without id slots) ≡ zip table slots
-  pairs_left answer [] slots order over = refl
-  pairs_left answer (e ∷ table) [] order over = absurd order
   pairs_left answer (e ∷ table) (slot ∷ slots) order over = by (is_record_of id slot) over (pairs_left answer table slots order.2)
     where
       by : (b : Bool) → is_over_of answer (cond b (Some slot) (record_by_id id slots)) ≡ true → (is_over_in id answer slots ≡ true → zip table (without id slots) ≡ zip table slots) → zip (e ∷ table) (cond (not b) (slot ∷ without id slots) (without id slots)) ≡ (e, slot) ∷ zip table slots
       by true gone rest = absurd (false≢true (ap is_none (sym order.1) ∙ over_none answer slot gone))
       by false later rest = ap (λ ps. (e, slot) ∷ ps) (rest later)
+  pairs_left answer table slots order over = grind arith
 
   pub passed_told : (answer : Answer) (now : ℕ) (table : List Entry) (slots : List RecordState) (places : Places) (place : ℕ) → IsInOrder table slots → are_distinct slots ≡ true → is_place id place slots ≡ true → ArePassed stage places table slots
       → AllBut (λ i. i == place || is_passed_at stage (zip table (after_told id answer now slots)) i) places
@@ -113,11 +105,10 @@ answer_seen Hit now slot h = h
 answer_seen Miss now slot h = h
 
 seen_less : (slots : List RecordState) (i : ℕ) → are_seen (suc i) slots ≡ true → are_seen i slots ≡ true
-seen_less [] i seen = rw (take-nil i) refl
-seen_less (slot ∷ slots) zero seen = refl
 seen_less (slot ∷ slots) (suc i) seen =
     let parts = and_parts (is_seen_record slot) (are_seen (suc i) slots) seen in
     and_from (is_seen_record slot) (are_seen i slots) parts.0 (seen_less slots i parts.1)
+seen_less slots i seen = grind (arith, take-nil, zero)
 
 seen_without : (id : List ℕ) (slots : List RecordState) (i : ℕ) → are_distinct slots ≡ true → are_seen (suc i) slots ≡ true → are_seen i (without id slots) ≡ true
 seen_without id [] i distinct seen = rw (take-nil i) refl
@@ -140,24 +131,13 @@ seen_told id answer now slots (suc i) distinct seen = let less : suc i - 1 ≡ i
 
 -- the place that was found is that of the id
 found_own : (id : List ℕ) (slots : List RecordState) (slot : RecordState) → record_by_id id slots ≡ Some slot → is_record_of id slot ≡ true
-found_own id [] slot is = absurd (cc)
-found_own id (first ∷ slots) slot is = by (is_record_of id first) refl is (found_own id slots slot)
-  where
-    by : (b : Bool) → is_record_of id first ≡ b → cond b (Some first) (record_by_id id slots) ≡ Some slot → (record_by_id id slots ≡ Some slot → is_record_of id slot ≡ true) → is_record_of id slot ≡ true
-    by true own is later = let same : first ≡ slot = cc in subst (λ s. is_record_of id s ≡ true) same own
-    by false own is later = later is
+found_own id [] slot is = grind arith
+found_own id (first ∷ slots) slot is = grind (arith, found_own id slots slot)
 
 pub at_place : (id : List ℕ) (slots : List RecordState) (place : ℕ) → slice_get slots place ≡ record_by_id id slots → true ≡ has_record_of id slots → is_place id place slots ≡ true
-at_place id slots place is has = by (record_by_id id slots) refl has
-  where
-    by : (found : Option RecordState) → record_by_id id slots ≡ found → true ≡ is_some found → is_place id place slots ≡ true
-    by None found has = absurd (true≢false has)
-    by (Some slot) found has = ap (λ o. option_map_or (is_record_of id) o false) (is ∙ found) ∙ found_own id slots slot found
+at_place id slots place is has =
+    grind (arith, record_by_id, Option, RecordState, is_some, true≢false, is_record_of, found_own)
 
 -- a start that may be ordered is of an id that has a record
 pub can_found : (id : List ℕ) (ask : OrderKind) (now : ℕ) (slots : List RecordState) → can_ask id ask now slots ≡ true → false ≡ has_record_of id slots → ⊥
-can_found id ask now slots can none = by (record_by_id id slots) can none
-  where
-    by : (found : Option RecordState) → can_ask_of ask now found ≡ true → false ≡ is_some found → ⊥
-    by None can none = false≢true can
-    by (Some slot) can none = false≢true none
+can_found id ask now slots can none = grind arith

@@ -1,13 +1,9 @@
 -- Places up to which records are seen and entries passed: a walk begins there, and changes keep them.
-use Rattle.core_steps.proofs.Words.{◌≡◌, ◌≢◌, refl, Bool, true, false, not, ◌&&◌, ◌||◌, ◌==◌, cond, ℕ, zero, suc, ◌+◌, ◌<◌, ◌≤◌, arith, List, [], ◌∷◌, drop, zip, map, Option, Some, is_some, is_none, drop-nil, and_parts, and_from, false≢true, eqb-true, eq-eqb, nat_lt, ltb-true, ltb-false, subst, sym, ◌∙◌, Entry, Stage, RecordState, is_record_of, changed, with_changed, is_wanted_record, is_owed_record, start_along, look_among, Each, each_always, is_seen_record, are_seen, is_passed_in, is_passed_at, ArePassedFrom, ArePassed, AllBut, Places}
+use Rattle.core_steps.proofs.Words.{◌≡◌, ◌≢◌, refl, Bool, true, false, not, ◌&&◌, ◌||◌, ◌==◌, ℕ, zero, suc, ◌+◌, ◌<◌, ◌≤◌, arith, List, [], ◌∷◌, drop, zip, map, Option, Some, is_some, is_none, drop-nil, and_parts, and_from, false≢true, eqb-true, eq-eqb, nat_lt, ltb-true, ltb-false, subst, sym, ◌∙◌, Entry, Stage, RecordState, is_record_of, changed, with_changed, is_wanted_record, is_owed_record, start_along, look_among, Each, each_always, is_seen_record, are_seen, is_passed_in, is_passed_at, ArePassedFrom, ArePassed, AllBut, Places}
 
 -- all before the next place, but for that at the first and that at a place
 but : (i place : ℕ) (b : Bool) → i ≢ place → (i == place || b) ≡ true → b ≡ true
-but i place b other h = by (i == place) refl h
-  where
-    by : (same : Bool) → (i == place) ≡ same → (same || b) ≡ true → b ≡ true
-    by true is h = absurd (other (eqb-true i place is))
-    by false is h = h
+but i place b other h = grind arith
 
 pub narrower : (passed : ℕ → Bool) (old new : Places) (place : ℕ) → new.first ≤ new.next
     → ((i : ℕ) → i < new.next → i ≢ new.first → (i < old.next) × (i ≢ old.first) × (i ≢ place))
@@ -29,14 +25,7 @@ none_behind = (omega arith, λ i lt other. absurd (omega arith))
 -- a test that holds from a place on, of one more, and of all before it
 pub one_further : (test : ℕ → Bool) (from to : ℕ) → ((i : ℕ) → from ≤ i → i < to → test i ≡ true) → true ≡ test to
     → (i : ℕ) → from ≤ i → i < to + 1 → test i ≡ true
-one_further test from to so_far one i least most = by (i == to) refl
-  where
-    below : (i to : ℕ) → (i == to) ≡ false → i < to + 1 → i < to
-    below i to other most = let apart : i ≢ to = λ e. false≢true (sym other ∙ eq-eqb i to e) in omega arith
-
-    by : (b : Bool) → (i == to) ≡ b → test i ≡ true
-    by true is = subst (λ n. test n ≡ true) (sym (eqb-true i to is)) (sym one)
-    by false is = so_far i least (below i to is most)
+one_further test from to so_far one i least most = grind arith
 
 pub further : (test : ℕ → Bool) (places : Places) (to : ℕ) → places.next ≤ to
     → ((i : ℕ) → places.next ≤ i → i < to → test i ≡ true) → AllBut test places
@@ -69,11 +58,10 @@ no_look true false look h = refl
 no_look false order look h = refl
 
 pub look_from : (slots : List RecordState) (i : ℕ) → are_seen i slots ≡ true → look_among slots ≡ look_among (drop i slots)
-look_from [] i seen = rw (drop-nil i) refl
-look_from (slot ∷ slots) zero seen = refl
 look_from (slot ∷ slots) (suc i) seen =
     let parts = and_parts (is_seen_record slot) (are_seen i slots) seen in
     rw (no_look (is_some slot.child) (is_none slot.order) slot.look parts.0) (look_from slots i parts.1)
+look_from slots i seen = grind (arith, drop-nil, zero)
 
 no_start : (wanted child order : Bool) → not (wanted && child) ≡ true → (wanted && child && order) ≡ false
 no_start true true order h = absurd (false≢true h)
@@ -112,11 +100,10 @@ abbrev pub KeepsPassed : Option Stage → (RecordState → RecordState) → Reco
 KeepsPassed stage change slot = (e : Entry) → is_passed_in stage e slot ≡ true → is_passed_in stage e (change slot) ≡ true
 
 pub seen_map : (change : RecordState → RecordState) (slots : List RecordState) (i : ℕ) → Each (KeepsSeen change) slots → are_seen i slots ≡ true → are_seen i (map change slots) ≡ true
-seen_map change [] i each seen = seen
-seen_map change (slot ∷ slots) zero each seen = refl
 seen_map change (slot ∷ slots) (suc i) each seen =
     let parts = and_parts (is_seen_record slot) (are_seen i slots) seen in
     and_from (is_seen_record (change slot)) (are_seen i (map change slots)) (each.0 parts.0) (seen_map change slots i each.1 parts.1)
+seen_map change slots i each seen = grind (arith, zero)
 
 pub passed_map : (stage : Option Stage) (change : RecordState → RecordState) (table : List Entry) (slots : List RecordState) (i : ℕ) → Each (KeepsPassed stage change) slots → is_passed_at stage (zip table slots) i ≡ true → is_passed_at stage (zip table (map change slots)) i ≡ true
 passed_map stage change [] slots i each passed = passed
@@ -129,9 +116,5 @@ all_passed_map stage change table slots places keeps passed = (passed.0, λ i lt
 
 -- a change of one id's records alone
 pub seen_changed : (id : List ℕ) (change : RecordState → RecordState) (slots : List RecordState) (i : ℕ) → ((slot : RecordState) → KeepsSeen change slot) → are_seen i slots ≡ true → are_seen i (with_changed id change slots) ≡ true
-seen_changed id change slots i keeps seen = seen_map (changed id change) slots i (each_always (KeepsSeen (changed id change)) (λ slot. at slot (is_record_of id slot)) slots) seen
-  where
-    at : (slot : RecordState) (b : Bool) → is_seen_record slot ≡ true
-        → is_seen_record (cond b (change slot) slot) ≡ true
-    at slot true h = keeps slot h
-    at slot false h = h
+seen_changed id change slots i keeps seen =
+    grind (arith, seen_map, changed, each_always, is_record_of, RecordState, Bool, is_seen_record)

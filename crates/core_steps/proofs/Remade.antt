@@ -3,12 +3,11 @@ use Rattle.core_steps.proofs.Words.{◌≡◌, ◌≤◌, ◌<◌, ◌+◌, refl
 use Rattle.inittab_text.proofs.Entries.{drop-slice_get}
 
 past_end : {X : Type 0} (xs : List X) (i : ℕ) → slice_get xs i ≡ None → (drop i xs ≡ []) × (drop (i + 1) xs ≡ [])
-past_end [] i none = (drop-nil i, drop-nil (i + 1))
-past_end (x ∷ xs) zero none = absurd (cc)
 past_end (x ∷ xs) (suc i) none =
     let more : suc i + 1 ≡ suc (i + 1) = omega arith in
     let later = past_end xs i none in
     (later.0, rw more later.1)
+past_end xs i none = grind (arith, drop-nil, zero)
 
 none_from : {X : Type 0} (xs : List X) (i : ℕ) → length xs ≤ i → drop i xs ≡ []
 none_from [] i past = drop-nil i
@@ -39,13 +38,12 @@ read_some true slot made is = (refl, cc)
 read_some false slot made is = absurd (cc)
 
 pub too_few : (table : List Entry) (records : List PlainRecord) → length records < length table → are_whole table records ≡ false
-too_few [] records few = absurd (omega arith)
-too_few (e ∷ table) [] few = refl
 too_few (e ∷ table) (r ∷ records) few = ends (is_for (Some e) r && is_whole r) (too_few table records (omega arith))
   where
     ends : (b : Bool) → are_whole table records ≡ false → (b && are_whole table records) ≡ false
     ends true h = h
     ends false h = refl
+too_few table records few = grind arith
 
 -- the records so far are whole, and made anew
 pub record AreMade (table : List Entry) (records : List PlainRecord) (made : List RecordState) (i : ℕ) : Type 0 where

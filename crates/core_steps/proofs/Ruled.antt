@@ -1,5 +1,5 @@
 -- The rules of what init keeps, tested along the records.
-use Rattle.core_steps.proofs.Words.{◌≡◌, ◌≤◌, ◌<◌, ◌+◌, refl, cond, ℕ, Bool, true, false, not, ◌||◌, List, [], ◌∷◌, length, drop, get_or, zip, Some, None, slice_get, list_any, IsNonDecreasing, le-leb, false≢true, true≢false, Entry, Stage, STARTS, RecordState, is_owed_record, is_started, is_start_allowed, are_starts_along, is_hold_of, is_limit_kept, never_from_ordered}
+use Rattle.core_steps.proofs.Words.{◌≡◌, ◌≤◌, ◌<◌, ◌+◌, refl, cond, ℕ, Bool, true, false, not, ◌||◌, List, [], ◌∷◌, length, drop, get_or, zip, Some, None, slice_get, list_any, IsNonDecreasing, le-leb, Entry, Stage, STARTS, RecordState, is_owed_record, is_started, is_start_allowed, are_starts_along, is_hold_of, is_limit_kept, never_from_ordered, arith}
 use Rattle.respawn_limit.specs.State.{LimiterState}
 use Rattle.core_steps.proofs.Pairs.{pair_at, no_pair_at, no_pair_past}
 
@@ -16,24 +16,12 @@ none_left true stage = refl
 none_left false stage = refl
 
 refused : (owed : Bool) (stage : Stage) (e : Entry) (slot : RecordState) (ps : List (Entry × RecordState)) → cond owed (not (is_started slot)) (is_start_allowed stage e slot) ≡ false → false ≡ starts_from owed stage ((e, slot) ∷ ps)
-refused true stage e slot ps fault = at (is_started slot) fault
-  where
-    at : (b : Bool) → not b ≡ false → false ≡ not (b || list_any (λ (q : Entry × RecordState). is_started q.1) ps)
-    at true h = refl
-    at false h = absurd (true≢false h)
+refused true stage e slot ps fault = grind arith
 refused false stage e slot ps fault = rw fault refl
 
 in_turn : (owed : Bool) (stage : Stage) (e : Entry) (slot : RecordState) (ps : List (Entry × RecordState)) → cond owed (not (is_started slot)) (is_start_allowed stage e slot) ≡ true → starts_from owed stage ((e, slot) ∷ ps) ≡ starts_from (owed || is_owed_record stage e slot) stage ps
-in_turn true stage e slot ps pass = at (is_started slot) pass
-  where
-    at : (b : Bool) → not b ≡ true → not (b || list_any (λ (q : Entry × RecordState). is_started q.1) ps) ≡ not (list_any (λ (q : Entry × RecordState). is_started q.1) ps)
-    at true h = absurd (false≢true h)
-    at false h = refl
-in_turn false stage e slot ps pass = rw pass (at (is_owed_record stage e slot))
-  where
-    at : (b : Bool) → cond b (not (list_any (λ (q : Entry × RecordState). is_started q.1) ps)) (are_starts_along stage ps) ≡ starts_from b stage ps
-    at true = refl
-    at false = refl
+in_turn true stage e slot ps pass = grind arith
+in_turn false stage e slot ps pass = grind arith
 
 module _ (stage : Stage) (table : List Entry) (slots : List RecordState) (i : ℕ) (owed : Bool)
     (so_far : are_starts_along stage (zip table slots) ≡ starts_from owed stage (drop i (zip table slots))) where

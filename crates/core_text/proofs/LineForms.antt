@@ -1,5 +1,5 @@
 -- Each line of a state text is read exactly, and so are the heads, a record, and a table.
-use Rattle.core_text.proofs.CommonWords.{◌≡◌, ◌⊎◌, inl, inr, ℕ, ◌<◌, Bool, true, false, not, ◌&&◌, ◌==◌, List, [], ◌∷◌, ◌++◌, nat_le, append-nil, codes, decimal, Option, Some, None, is_none, subst, refl, sym, ap, ◌∙◌, arith, lit<, and_parts, and_from, append_assoc, has_byte, Act, Status, OrderKind, Stage, act_read, word_of, is_id, option_map_some, level_word, order_word, stage_word, is_status, child_of_word, order_of_word, stage_of_word, CoreFields, PlainRecord, Version, V1, V2, holds_id, bit, clock_line, flags_line, generation_line, goal_line, goal_word, head_lines, or_dash, or_word, slot_line, stage_line, starts_word, status_word, stop_word, text_of_lines, version_line, wish_line, are_heads, are_starts, is_child, is_generation, is_goal, is_last_status, is_record, is_seconds, is_stage, is_stop, is_time, passes, EndWords, FlagWords, LimitWords, MarkWords, PlaceWords, SlotWords, TimeWords, WishWords, clock_line_read, dash_read, ends_read, without_status, status_read, starts_read, flags_line_read, flags_read, four_bits, generation_line_read, generation_read, goal_line_read, goal_made, goal_read, heads_made, heads_read, limits_read, marks_read, named_read, one_bit, places_read, reread_read, slot_line_read, slot_made, slot_words_read, stage_line_read, stage_pair_read, line_read, then_read, stop_read, table_line_read, end_line_read, three_bits, time_read, times_read, two_bits, version_of_line, version_read, wish_line_read, wishes_read, list_all, is_line}
+use Rattle.core_text.proofs.CommonWords.{◌≡◌, ◌⊎◌, inl, inr, ℕ, ◌<◌, Bool, true, false, not, ◌&&◌, ◌==◌, List, [], ◌∷◌, ◌++◌, nat_le, append-nil, codes, decimal, Option, Some, None, is_none, subst, refl, ap, ◌∙◌, arith, lit<, and_parts, and_from, append_assoc, has_byte, Act, Status, OrderKind, Stage, act_read, word_of, is_id, option_map_some, level_word, order_word, stage_word, is_status, child_of_word, order_of_word, stage_of_word, CoreFields, PlainRecord, Version, V1, V2, holds_id, bit, clock_line, flags_line, generation_line, goal_line, goal_word, head_lines, or_dash, or_word, slot_line, stage_line, starts_word, status_word, stop_word, text_of_lines, version_line, wish_line, are_heads, are_starts, is_child, is_generation, is_goal, is_last_status, is_record, is_seconds, is_stage, is_stop, is_time, passes, EndWords, FlagWords, LimitWords, MarkWords, PlaceWords, SlotWords, TimeWords, WishWords, clock_line_read, dash_read, ends_read, without_status, status_read, starts_read, flags_line_read, flags_read, four_bits, generation_line_read, generation_read, goal_line_read, goal_made, goal_read, heads_made, heads_read, limits_read, marks_read, named_read, one_bit, places_read, reread_read, slot_line_read, slot_made, slot_words_read, stage_line_read, stage_pair_read, line_read, then_read, stop_read, table_line_read, end_line_read, three_bits, time_read, times_read, two_bits, version_of_line, version_read, wish_line_read, wishes_read, list_all, is_line}
 use Rattle.std.proofs.Common.{option_map}
 use Rattle.trace_events.specs.declared.steps.Goal.{Goal}
 use Rattle.core_text.proofs.Forms.{Form, Front, Lacks, checked_form, first_bit_form, first_bit_lacks, line_front, made_form, made_front, named_form, or_form, or_lacks, pair_form, pair_lacks, retested, then_front}
@@ -172,8 +172,7 @@ six_tests true true true true true false = refl
 six_tests true true true true true true = refl
 
 six_lines : (a b c d e f : List ℕ) → (a ++ b) ++ ((c ++ d) ++ (e ++ f)) ≡ a ++ (b ++ (c ++ (d ++ (e ++ (f ++ [])))))
-six_lines a b c d e f =
-    append_assoc a b ((c ++ d) ++ (e ++ f)) ∙ ap (λ t. a ++ (b ++ t)) (append_assoc c d (e ++ f) ∙ ap (λ t. c ++ (d ++ (e ++ t))) (sym (append-nil f)))
+six_lines a b c d e f = grind (arith, append_assoc, append-nil)
 
 pub heads_front : Front are_heads (λ h. text_of_lines (head_lines h)) heads_read
 heads_front =

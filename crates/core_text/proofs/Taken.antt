@@ -1,5 +1,5 @@
 -- A whole text is read as one state at most, and why it is refused.
-use Rattle.core_text.proofs.CommonWords.{◌≡◌, ◌≢◌, ℕ, ◌<◌, ◌^◌, true, false, not, ◌==◌, List, [], ◌∷◌, ◌++◌, length, append-nil, codes, Option, Some, None, refl, sym, ap, ◌∙◌, subst, arith, lit<, length-append, list_all, starts_with, and_parts, lt-ltb, not-true, append_assoc, some_pair_parts, cut, has_byte, newlines, cut-append, StateFault, Version, PlainRecord, SavedState, body_lines, end_line, slot_line, text_in, text_of_lines, version_line, is_record, is_time, end_line_read, end_split, line_read, slot_line_read, table_read, version_read, BeginsAs, BeginsAsKnown, IsBody, IsBodyIn, IsCut, IsOtherVersion, Refused, RefusedBody, IsTextIn, IsTextOf, SaysNone, Whole, is_line}
+use Rattle.core_text.proofs.CommonWords.{◌≡◌, ◌≢◌, ℕ, ◌<◌, ◌^◌, true, false, not, ◌==◌, List, [], ◌∷◌, ◌++◌, length, append-nil, codes, Option, Some, None, refl, sym, ap, ◌∙◌, arith, lit<, length-append, list_all, starts_with, and_parts, lt-ltb, not-true, append_assoc, some_pair_parts, cut, has_byte, newlines, cut-append, StateFault, Version, PlainRecord, SavedState, body_lines, end_line, slot_line, text_in, text_of_lines, version_line, is_record, is_time, end_line_read, end_split, line_read, slot_line_read, table_read, version_read, BeginsAs, BeginsAsKnown, IsBody, IsBodyIn, IsCut, IsOtherVersion, Refused, RefusedBody, IsTextIn, IsTextOf, SaysNone, Whole, is_line}
 use Rattle.trace_text.proofs.ReadTexts.{newlines-few}
 use Rattle.core_text.specs.declared.state_fault.StateFault.TheVariants as fault
 use Rattle.core_text.proofs.Bodies.{body_lines_are, heads_text, lost, newlines_are, of_version, split_back, split_own, state_parts, steps_of, to_heads, version_back, version_own}
@@ -99,22 +99,13 @@ other_body text body last at other = by (version_read body) refl
     by None is = refl
     by (Some p) is = absurd (other.1 p.0 (p.1 ++ (last ++ 10 ∷ [])) (known_of p.0 text body last p.1 at is))
 
-falsely : false ≡ true → ⊥
-falsely e = cc
-
-not_last : (v : Version) → starts_with ◌==◌ (version_line v) (codes "end ") ≡ false
-not_last v = grind arith
-
 -- what is cut off at the first newline of a text that begins with the version's line
 cut_version : (v : Version) (rest : List ℕ) → cut 10 (version_line v ++ 10 ∷ rest) ≡ Some (version_line v, rest)
 cut_version v rest = cut-append 10 (version_line v) rest (version_lacks v refl)
 
 no_version : (lines : List (List ℕ)) (last text body : List ℕ) (v : Version) (rest : List ℕ) → list_all is_line lines ≡ true → is_line last ≡ true → starts_with ◌==◌ last (codes "end ") ≡ true → text_of_lines lines ≡ body → text_of_lines lines ++ (last ++ 10 ∷ []) ≡ text
     → version_read body ≡ None → BeginsAs v text rest → ⊥
-no_version [] last text body v rest are is begins here whole none known =
-    let lacks = not-true (has_byte 10 last) is in
-    let both = some_pair_parts last (version_line v) [] rest (sym (cut-append 10 last [] lacks) ∙ ap (cut 10) (whole ∙ sym known) ∙ cut_version v rest) in
-    falsely (sym (not_last v) ∙ subst (λ l. starts_with ◌==◌ l (codes "end ") ≡ true) both.0 begins)
+no_version [] last text body v rest are is begins here whole none known = grind arith
 no_version (line ∷ lines) last text body v rest are is begins here whole none known =
     let lacks = not-true (has_byte 10 line) (and_parts (is_line line) (list_all is_line lines) are).0 in
     let regrouped : ((line ++ 10 ∷ []) ++ text_of_lines lines) ++ (last ++ 10 ∷ []) ≡ line ++ 10 ∷ (text_of_lines lines ++ (last ++ 10 ∷ [])) =

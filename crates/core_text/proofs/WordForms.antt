@@ -261,11 +261,10 @@ no_commas byte [] low are = grind (arith, time_lacks)
 no_commas byte (time ∷ times) low are = grind (arith, no_commas byte times, time_lacks)
 
 joined_lacks : (byte : ℕ) (times : List ℕ) → byte < 48 → (44 == byte) ≡ false → list_all is_time times ≡ true → has_byte byte (join_with_byte 44 (map decimal times)) ≡ false
-joined_lacks byte [] low other are = refl
-joined_lacks byte (time ∷ []) low other are = time_lacks byte low time (and_parts (is_time time) true are).0
 joined_lacks byte (time ∷ next ∷ times) low other are =
     let parts = and_parts (is_time time) (list_all is_time (next ∷ times)) are in
     has_byte-append byte (decimal time) (44 ∷ join_with_byte 44 (map decimal (next ∷ times))) (time_lacks byte low time parts.0) (or_from (44 == byte) _ other (joined_lacks byte (next ∷ times) low other parts.1))
+joined_lacks byte times low other are = grind (arith, time_lacks, is_time)
 
 starts_back : (times : List ℕ) → are_starts times ≡ true → starts_read (starts_word times) ≡ Some times
 starts_back [] are = refl

@@ -36,5 +36,4 @@ table_part old new count table is =
 
 -- how many lines stand before the last
 pub body_length : (v : Version) (state : SavedState) → length (body_lines v state) ≡ 8 + length state.table + length state.records
-body_length v state =
-    omega (arith, length-append (map fields_written state.table) (map (slot_line v) state.records), length-map state.table fields_written, length-map state.records (slot_line v))
+body_length v state = grind (arith, length-append, map, fields_written, slot_line, length-map)

@@ -21,39 +21,49 @@ unfolding bare_line line_of clap_on_literals
 is_free_line = refl
 
 module _ (text_at growing_at : KnownTexts) (writers : KnownWriters) (status : ℕ) (old new : Option (List ℕ)) where
-  pub so_done : (rows : List Row) (words : List (List ℕ)) (path : List ℕ) (files : List (List ℕ)) (folder : Option (List ℕ)) (what : What) (asked : Option What)
+  pub so_done : (rows : List Row) (words : List (List ℕ)) (path : List ℕ) (files : List (List ℕ))
+      (folder : Option (List ℕ)) (what : What) (asked : Option What)
       → path ≡ path_of what rows words → files ≡ files_of what words → folder ≡ folder_of rows → Some what ≡ asked
-      → Does text_at growing_at writers path files folder what status old new → EndsFor text_at growing_at writers rows words asked status old new
+      → Does text_at growing_at writers path files folder what status old new
+      → EndsFor text_at growing_at writers rows words asked status old new
   so_done rows words path files folder what asked e1 e2 e3 e4 done =
+      let Done : List ℕ → List (List ℕ) → Option (List ℕ) → Type 0 = λ p fs f.
+      Does text_at growing_at writers p fs f what status old new in
       subst (λ a. EndsFor text_at growing_at writers rows words a status old new) e4
-      (subst (λ p. Does text_at growing_at writers p (files_of what words) (folder_of rows) what status old new) e1
-      (subst (λ fs. Does text_at growing_at writers path fs (folder_of rows) what status old new) e2
-      (subst (λ f. Does text_at growing_at writers path files f what status old new) e3 done)))
+      (subst (λ p. Done p (files_of what words) (folder_of rows)) e1
+      (subst (λ fs. Done path fs (folder_of rows)) e2 (subst (λ f. Done path files f) e3 done)))
 
-  pub words_given : (rows : List Row) (words : List (List ℕ)) (given : Option (List (List ℕ))) → given ≡ all_of (codes "WORD") rows → unwrap_or given [] ≡ words
-      → EndsGiven text_at growing_at writers rows words status old new → EndsOf text_at growing_at writers rows status old new
+  pub words_given : (rows : List Row) (words : List (List ℕ)) (given : Option (List (List ℕ)))
+      → given ≡ all_of (codes "WORD") rows → unwrap_or given [] ≡ words
+      → EndsGiven text_at growing_at writers rows words status old new
+      → EndsOf text_at growing_at writers rows status old new
   words_given rows words given all are ends =
-      subst (λ ws. EndsGiven text_at growing_at writers rows ws status old new) (sym are ∙ ap (λ ws. unwrap_or ws []) all) ends
+      subst (λ ws. EndsGiven text_at growing_at writers rows ws status old new)
+      (sym are ∙ ap (λ ws. unwrap_or ws []) all) ends
 
   -- by whether the version is asked for
-  pub version_done : (words : List (List ℕ)) (asks : Bool) → asks ≡ true → PrintsVersion (codes "initview") status old new
-      → EndsAs asks text_at growing_at writers words status old new
+  pub version_done : (words : List (List ℕ)) (asks : Bool) → asks ≡ true
+      → PrintsVersion (codes "initview") status old new → EndsAs asks text_at growing_at writers words status old new
   version_done words true is printed = printed
   version_done words false is printed = absurd (cc)
 
-  pub words_done : (words : List (List ℕ)) (asks : Bool) → asks ≡ false → EndsOn text_at growing_at writers words status old new
+  pub words_done : (words : List (List ℕ)) (asks : Bool) → asks ≡ false
+      → EndsOn text_at growing_at writers words status old new
       → EndsAs asks text_at growing_at writers words status old new
   words_done words true is done = absurd (cc)
   words_done words false is done = done
 
   -- words that give rows, and words that give none
-  pub given_done : (words : List (List ℕ)) (rows : List Row) → given_by command_line words ≡ Some rows → EndsOf text_at growing_at writers rows status old new
-      → EndsOn text_at growing_at writers words status old new
-  given_done words rows is done = inl (subst (λ r. EndsWhere text_at growing_at writers r status old new) (sym is) done)
+  pub given_done : (words : List (List ℕ)) (rows : List Row) → given_by command_line words ≡ Some rows
+      → EndsOf text_at growing_at writers rows status old new → EndsOn text_at growing_at writers words status old new
+  given_done words rows is done =
+      inl (subst (λ r. EndsWhere text_at growing_at writers r status old new) (sym is) done)
 
-pub fault_done : (text_at growing_at : KnownTexts) (writers : KnownWriters) (status : ℕ) (now : Option (List ℕ)) (words : List (List ℕ)) (fault : WordFault)
-    → (IsSome (reason_of fault) → given_by command_line words ≡ None) → (IsSome (reason_of fault) → status ≡ REFUSED) → (fault ≡ Memory → status ≡ DEVICE_FAULT)
+pub fault_done : (text_at growing_at : KnownTexts) (writers : KnownWriters) (status : ℕ) (now : Option (List ℕ))
+    (words : List (List ℕ)) (fault : WordFault) → (IsSome (reason_of fault) → given_by command_line words ≡ None)
+    → (IsSome (reason_of fault) → status ≡ REFUSED) → (fault ≡ Memory → status ≡ DEVICE_FAULT)
     → EndsOn text_at growing_at writers words status now now
 fault_done text_at growing_at writers status now words (Usage reason) none refused memory =
-    inl (subst (λ r. EndsWhere text_at growing_at writers r status now now) (sym (none refl)) (refused refl, Keeps-refl now))
+    inl (subst (λ r. EndsWhere text_at growing_at writers r status now now) (sym (none refl))
+    (refused refl, Keeps-refl now))
 fault_done text_at growing_at writers status now words Memory none refused memory = inr (memory refl, Keeps-refl now)

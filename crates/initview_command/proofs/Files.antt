@@ -19,10 +19,16 @@ one_more text_at path text paths all old new at is so more files =
     rw (is, append_assoc old (file_of path text ∷ []) more) (so (file_of path text ∷ more) (one_before text_at path text paths more at files))
 
 -- the same of the paths behind one of many
-pub next_file : (text_at : KnownTexts) (paths : List (Bor (List ℕ))) (i : ℕ) (d : Bor (List ℕ)) (text : List ℕ) (all : List (List ℕ)) (old new : List NamedText) → i < length paths → IsTextAt text_at (get_or paths i d).now text → new ≡ old ++ file_of (get_or paths i d).now text ∷ []
-    → ((more : List NamedText) → AreFilesAt text_at (map (λ path. path.now) (drop i paths)) more → AreFilesAt text_at all (old ++ more)) → (more : List NamedText) → AreFilesAt text_at (map (λ path. path.now) (drop (i + 1) paths)) more → AreFilesAt text_at all (new ++ more)
-next_file text_at paths i d text all old new inside at is so more files =
-    one_more text_at (get_or paths i d).now text (map (λ path. path.now) (drop (i + 1) paths)) all old new at is (λ those read. so those (rw (drop_more paths i d inside) read)) more files
+pub next_file : (text_at : KnownTexts) (paths : List (Bor (List ℕ))) (i : ℕ) (d : Bor (List ℕ)) (text : List ℕ)
+    (all : List (List ℕ)) (old new : List NamedText) → i < length paths → IsTextAt text_at (get_or paths i d).now text
+    → new ≡ old ++ file_of (get_or paths i d).now text ∷ []
+    → ((more : List NamedText) → AreFilesAt text_at (map (λ path. path.now) (drop i paths)) more
+    → AreFilesAt text_at all (old ++ more))
+    → (more : List NamedText) → AreFilesAt text_at (map (λ path. path.now) (drop (i + 1) paths)) more
+    → AreFilesAt text_at all (new ++ more)
+next_file text_at paths i d text all old new inside at is so =
+    one_more text_at (get_or paths i d).now text (map (λ path. path.now) (drop (i + 1) paths)) all old new at is
+    (λ those read. so those (rw (drop_more paths i d inside) read))
 
 -- the old inittab of a diff
 pub old_short : (parts : List NamedText) → length parts < 2 → parts ≡ old_of parts

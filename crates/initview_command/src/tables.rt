@@ -85,8 +85,9 @@ pub(crate) fn read_files<T: Texts, G: GrowingTexts, E: Write>(
     folder: Option<&str>,
     err: &mut E,
 ) -> Option<Vec<Part>>
-    ensures { IfSome result (λ parts. AreFiles (T.text_at texts.now) (map (λ path. path.now) paths.now)
-        (option_map (λ path. path.now) folder.entry) parts.items) }
+    ensures { IfSome result (λ parts. AreFiles (T.text_at texts.now)
+        (map (λ path. path.now) paths.now) (option_map (λ path. path.now) folder.entry)
+        parts.items) }
 {
     let parts = read_named(texts, alloc, paths, err)?;
     with_those_of(growing, alloc, parts, folder, err)

@@ -1,5 +1,5 @@
 -- One happening more: its line, and what is kept of the lines.
-use Rattle.std.proofs.Common.{◌≡◌, ℕ, ◌+◌, ◌^◌, ◌<◌, ◌≤◌, List, [], ◌∷◌, ◌++◌, length, reverse, Option, Some, None, refl, sym, ap, ◌∙◌, subst, arith}
+use Rattle.std.proofs.Common.{◌≡◌, ℕ, ◌+◌, ◌^◌, ◌<◌, ◌≤◌, List, ◌∷◌, length, reverse, Option, None, refl, sym, ap, ◌∙◌, arith}
 use Rattle.std.proofs.lemmas.List.{reverse-reverse}
 use Rattle.text_lines.specs.Lines.{newlines}
 use Rattle.init_words.specs.declared.stages.Stage.{Stage}
@@ -17,8 +17,7 @@ kinds_more : (happening : Event) (past : List Event) → kinds_after (stage_of p
 kinds_more happening past = refl
 
 one_more : (about : Event → Option (List ℕ)) (happening : Event) (past : List Event) (line : ℕ) (id : List ℕ) (before after : Option ℕ) → line ≡ line_behind past → before ≡ last_of about id past → after ≡ line_after (names id (about happening)) line before → after ≡ last_of about id (happening ∷ past)
-one_more about happening past line id before after at so is =
-    is ∙ ap (λ l. line_after (names id (about happening)) l before) at ∙ ap (line_after (names id (about happening)) (line_behind past)) so
+one_more about happening past line id before after at so is = grind arith
 
 pub lined_more : (happening : Event) (past : List Event) (old new : LinesState) (stage : Option Stage) (line : ℕ) → new.kinds ≡ kinds_after stage line happening old.kinds → ((id : List ℕ) → at id new.births ≡ line_after (names id (born_in happening)) line (at id old.births)) → ((id : List ℕ) → at id new.failures ≡ line_after (names id (unborn_in happening)) line (at id old.failures)) → ((id : List ℕ) → at id new.reapings ≡ line_after (names id (reaped_in happening)) line (at id old.reapings)) → ((id : List ℕ) → at id new.orders ≡ line_after (names id (ordered_in happening)) line (at id old.orders)) → ((id : List ℕ) → at id new.holds ≡ line_after (names id (held_in happening)) line (at id old.holds)) → stage ≡ stage_of past → line ≡ line_behind past → Lined old past → Lined new (happening ∷ past)
 lined_more happening past old new stage line kinds births failures reapings orders holds on is lined = record {

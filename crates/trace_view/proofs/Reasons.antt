@@ -1,15 +1,14 @@
 -- Nothing keeps an entry back exactly where its start is due.
-use Rattle.std.proofs.Common.{◌≡◌, refl, sym, ◌∙◌, ap, ℕ, Bool, true, false, not, ◌&&◌, ◌||◌, cond, List, [], ◌∷◌, find, Option, Some, None, is_none, is_some}
+use Rattle.std.proofs.Common.{arith, ◌≡◌, refl, sym, ◌∙◌, ap, ℕ, Bool, true, false, not, ◌&&◌, ◌||◌, cond, List, [], ◌∷◌, Option, Some, None, is_none, is_some}
 use Rattle.std.specs.List.{list_any}
-use Rattle.std.specs.Option.{option_map, option_map_or}
-use Rattle.std.proofs.lemmas.Bool.{false≢true, and_parts, not-true}
+use Rattle.std.specs.Option.{option_map_or}
+use Rattle.std.proofs.lemmas.Bool.{and_parts, not-true}
 use Rattle.std.proofs.lemmas.List.Folds.{list_any-append}
 use Rattle.init_words.specs.declared.actions.Act.{Act}
 use Rattle.init_words.specs.declared.entries.Entry.{Entry}
 use Rattle.init_words.specs.declared.orders.OrderKind.{OrderKind}
 use Rattle.init_words.specs.declared.orders.OrderKind.TheVariants.{Start}
 use Rattle.init_words.specs.declared.stages.Stage.{Stage}
-use Rattle.init_words.specs.declared.stages.Stage.TheVariants.{Sysinit, Boot, Run}
 use Rattle.init_words.specs.Actions.{wanted_by, is_limited}
 use Rattle.init_words.specs.Ids.{same_id}
 use Rattle.init_words.proofs.Same.{same_id-is}
@@ -19,8 +18,8 @@ use Rattle.trace_events.specs.declared.steps.Step.{Step}
 use Rattle.trace_events.specs.declared.steps.Step.TheVariants.{Order, Hold}
 use Rattle.trace_events.specs.declared.steps.Goal.{Goal}
 use Rattle.trace_events.specs.Event.{Event}
-use Rattle.trace_events.specs.Past.{table_of, stage_of, has_child, is_of, open_of, kept_children}
-use Rattle.trace_events.specs.Wanted.{starts_now, nothing_runs, is_asked, is_called, is_owed, is_excluded, entries_before}
+use Rattle.trace_events.specs.Past.{table_of, stage_of, has_child, open_of, kept_children}
+use Rattle.trace_events.specs.Wanted.{starts_now, nothing_runs, is_asked, is_called, is_owed, entries_before}
 use Rattle.trace_events.specs.Timing.{hold_times, is_held, is_full}
 use Rattle.trace_events.specs.Wishes.{wants_reexec, wants_reread, level_wish, in_run, keeps_news, wish_stands}
 use Rattle.trace_events.specs.Due.{steps_if, none_excluded, can_start, start_steps, starts_among, due_starts, same_step}
@@ -29,9 +28,9 @@ use Rattle.trace_check.proofs.Lone.{found_passes}
 use Rattle.trace_view.specs.declared.standings.Excluded.{Excluded}
 use Rattle.trace_view.specs.declared.standings.Standing.{Standing}
 use Rattle.trace_view.specs.declared.wishes.Wish.{Wish}
-use Rattle.trace_view.specs.declared.whys.Why.TheVariants.{NoEntry, NeverStarts, RanBefore, StageOver, WasStarted, NotCalled, WindowFull, Nothing}
+use Rattle.trace_view.specs.declared.whys.Why.TheVariants.{NoEntry, WindowFull, Nothing}
 use Rattle.trace_view.specs.Wishes.{first_of, first_wish}
-use Rattle.trace_view.specs.Why.{number_of, entry_id, excluded_as, standing_of, is_past, by_awaited, by_child, elsewhere, not_here, not_wanted, why_by, why_entry, why, is_nothing}
+use Rattle.trace_view.specs.Why.{standing_of, not_here, not_wanted, why_by, why_entry, why, is_nothing}
 
 module _ (id : List ℕ) (past : List Event) where
   abbrev start : Step
@@ -83,10 +82,7 @@ module _ (id : List ℕ) (past : List Event) where
   not_or can false later = refl
 
   further : (e : Entry) (es : List Entry) (o : Option Entry) → same_id id e.id ≡ false → cond (is_owed e past) false (option_map_or (may_start es) o false) ≡ option_map_or (may_start (e ∷ es)) o false
-  further e es None differ = cond_none (is_owed e past)
-  further e es (Some x) differ =
-      not_or (can_start x past && is_let x) (is_owed e past) (list_any (λ y. is_owed y past) (entries_before id es))
-      ∙ sym (ap (λ b. can_start x past && is_let x && b) (first_other e es differ))
+  further e es o differ = grind (arith, cond_none, not_or, first_other)
 
   cond_any : (owed : Bool) (steps : List Step) → list_any (same_step start) (cond owed [] steps) ≡ cond owed false (list_any (same_step start) steps)
   cond_any true steps = refl
@@ -111,40 +107,16 @@ module _ (id : List ℕ) (past : List Event) where
     rest_is rest = cond_any (is_owed e past) (starts_among es past) ∙ ap (λ b. cond (is_owed e past) false b) rest
 
     split : (b : Bool) → same_id id e.id ≡ b → list_any (same_step start) (starts_among es past) ≡ option_map_or (may_start es) (entry_of id es) false → (first || later) ≡ option_map_or (may_start (e ∷ es)) (cond b (Some e) (entry_of id es)) false
-    split true same rest =
-        let none : later ≡ false = rest_is rest ∙ ap (λ o. cond (is_owed e past) false (option_map_or (may_start es) o false)) (absent same) ∙ cond_none (is_owed e past) in
-        ap (λ b. b || later) (of_entry e true (can_start e past) same) ∙ here e es (can_start e past) later none same
+    split true same rest = grind (arith, later, rest_is, absent, cond_none, of_entry, here)
     split false differ rest =
         ap (λ b. b || later) (of_entry e false (can_start e past) differ ∙ and_false (can_start e past))
         ∙ rest_is rest ∙ further e es (entry_of id es) differ
 
--- nothing is the first reason exactly where none of them is there
-nobody_waits : (stage : Stage) (awaited : Option (List ℕ)) → is_nothing (by_awaited stage awaited) ≡ false
-nobody_waits (Run level) awaited = refl
-nobody_waits Sysinit (Some id) = refl
-nobody_waits Sysinit None = refl
-nobody_waits Boot (Some id) = refl
-nobody_waits Boot None = refl
-
-nobody_elsewhere : (over ran : Bool) (stage : Stage) (awaited : Option (List ℕ)) → is_nothing (cond over (cond ran RanBefore StageOver) (by_awaited stage awaited)) ≡ false
-nobody_elsewhere true true stage awaited = refl
-nobody_elsewhere true false stage awaited = refl
-nobody_elsewhere false ran stage awaited = nobody_waits stage awaited
-
 nobody_here : (action : Act) (stage : Option Stage) (s : Standing) → is_nothing (not_here action stage s) ≡ false
-nobody_here action None s = refl
-nobody_here action (Some stage) s = split (wanted_by action true true true) s.stops s.child where
-  split : (starts stops : Bool) (child : Option ℕ) → is_nothing (cond (not starts) NeverStarts (cond stops (elsewhere action stage s) (by_child child (elsewhere action stage s)))) ≡ false
-  split false stops child = refl
-  split true true child = nobody_elsewhere (is_past action stage) s.ran stage s.awaited
-  split true false (Some child) = refl
-  split true false None = nobody_elsewhere (is_past action stage) s.ran stage s.awaited
+nobody_here action stage s = grind arith
 
 nobody_asks : (action : Act) → is_nothing (not_wanted action) ≡ false
-nobody_asks action = split (wanted_by action true true false) where
-  split : (b : Bool) → is_nothing (cond b WasStarted NotCalled) ≡ false
-  split true = refl
-  split false = refl
+nobody_asks action = grind arith
 
 last_of_all : (full : Bool) → is_nothing (cond full WindowFull Nothing) ≡ not full
 last_of_all true = refl
@@ -173,8 +145,7 @@ first_stands past = split (wants_reexec past) (wants_reread past) (level_wish pa
 
 -- a hold in force has a time
 held_some : (p : ℕ → Bool) (ts : List ℕ) → list_any p ts ≡ true → is_none (newest ts) ≡ false
-held_some p [] h = absurd (false≢true h)
-held_some p (t ∷ ts) h = refl
+held_some p ts h = grind arith
 
 hold_none : (id : List ℕ) (past : List Event) (limited held : Bool) → is_held id past ≡ held → is_none (cond (limited && held) (newest (hold_times id past)) None) ≡ not (limited && held)
 hold_none id past false held is = refl
@@ -248,16 +219,7 @@ module _ (past : List Event) (e : Entry) where
   s = standing_of e past
 
   by_entry : is_nothing (why_entry e past) ≡ (calm && spared && may_start e.id past (table_of past) e)
-  by_entry =
-      nothing_by e.act (stage_of past) s.starts s.child s.stops s.ran s.awaited s.order s.wanted s.owed s.excluded s.wish s.hold s.full
-      ∙ ap (λ b. starts && b && unasked && (starts && asks) && is_none s.owed && is_none s.excluded && is_none s.wish && is_none s.hold && not s.full) (none_found number_of (is_of e.id) (kept_children past))
-      ∙ ap (λ b. starts && childless && unasked && (starts && asks) && b && is_none s.excluded && is_none s.wish && is_none s.hold && not s.full) (none_found entry_id (λ x. is_owed x past) (entries_before e.id (table_of past)))
-      ∙ ap (λ b. starts && childless && unasked && (starts && asks) && ahead && b && is_none s.wish && is_none s.hold && not s.full) (none_found excluded_as (is_excluded past) (kept_children past))
-      ∙ ap (λ b. starts && childless && unasked && (starts && asks) && ahead && spared && b && is_none s.hold && not s.full) (first_stands past)
-      ∙ ap (λ b. starts && childless && unasked && (starts && asks) && ahead && spared && calm && b && not s.full) (hold_none e.id past limited held refl)
-      ∙ last_two (starts && childless && unasked && (starts && asks) && ahead && spared && calm) (not (limited && held)) (not (limited && full))
-      ∙ ap (λ b. starts && childless && unasked && (starts && asks) && ahead && spared && calm && b) (limit_tests limited held full)
-      ∙ turned starts asks childless unasked ahead spared calm (not limited || not held && not full)
+  by_entry = grind (arith, nothing_by, none_found, first_stands, hold_none, last_two, limit_tests, turned)
 
 pub nothing_due : (id : List ℕ) (past : List Event) → is_distinct (table_of past) ≡ true → is_nothing (why id past) ≡ list_any (same_step (Order id Start)) (due_starts past)
 nothing_due id past distinct = split (entry_of id (table_of past)) refl ∙ sym (if_any (same_step (Order id Start)) (not (wish_stands past) && none_excluded past) (starts_among (table_of past) past) ∙ ap (λ b. not (wish_stands past) && none_excluded past && b) (among id past (table_of past) distinct)) where

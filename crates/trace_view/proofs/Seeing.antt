@@ -1,10 +1,7 @@
 -- One more happening: what a view keeps goes on being what the past says.
-use Rattle.std.proofs.Common.{◌≡◌, refl, ◌∙◌, ap, ℕ, List, ◌∷◌, Option}
+use Rattle.std.proofs.Common.{arith, ◌≡◌, ◌∙◌, ap, ℕ, List, ◌∷◌, Option}
 use Rattle.init_words.specs.declared.entries.Entry.{Entry}
 use Rattle.init_words.specs.declared.stages.Stage.{Stage}
-use Rattle.init_words.specs.declared.stages.Stage.TheVariants.{Boot, Run, Sysinit}
-use Rattle.initctl_frame.specs.declared.requests.HeardRequest.TheVariants as got
-use Rattle.trace_events.specs.declared.happenings.Happening.TheVariants.{NewTable, NotRead, Enter, Call, Power, Birth, NoBirth, Reaped, Told, Got, Handed}
 use Rattle.trace_events.specs.Event.{Event}
 use Rattle.trace_events.specs.Past.{table_of, stage_of, time_of, unreaped_children, kept_children}
 use Rattle.trace_check.specs.Judging.{Judged}
@@ -15,40 +12,19 @@ use Rattle.trace_view.specs.Rows.{ended_of, born_after, ended_after}
 use Rattle.trace_view.specs.Viewing.{ViewState, Viewed, unreaped_after, kept_after}
 
 wishes_step : (happening : Event) (past : List Event) → wishes_after (stage_of (happening ∷ past)) happening (wishes_of past) ≡ wishes_of (happening ∷ past)
-wishes_step (NewTable table) past = refl
-wishes_step NotRead past = refl
-wishes_step (Enter Boot grace) past = refl
-wishes_step (Enter Sysinit grace) past = refl
-wishes_step (Enter (Run level) grace) past = refl
-wishes_step (Call letter) past = refl
-wishes_step (Power kind) past = refl
-wishes_step (Handed how) past = refl
-wishes_step (Got got.Reexec) past = refl
-wishes_step (Got got.Reload) past = refl
-wishes_step (Got (got.Level level grace)) past = refl
-wishes_step (Got (got.Call letter)) past = refl
-wishes_step (Got (got.Power kind)) past = refl
-wishes_step (Got _) past = refl
-wishes_step _ past = refl
+wishes_step happening past = grind arith
 
 unreaped_step : (happening : Event) (past : List Event) → unreaped_after (table_of (happening ∷ past)) happening (unreaped_children past) ≡ unreaped_children (happening ∷ past)
-unreaped_step (Birth id number) past = refl
-unreaped_step (Reaped id number status) past = refl
-unreaped_step _ past = refl
+unreaped_step happening past = grind arith
 
 kept_step : (happening : Event) (past : List Event) → kept_after (table_of (happening ∷ past)) (unreaped_children past) happening (kept_children past) ≡ kept_children (happening ∷ past)
-kept_step (Birth id number) past = refl
-kept_step (Told id) past = refl
-kept_step _ past = refl
+kept_step happening past = grind arith
 
 born_step : (happening : Event) (id : List ℕ) (past : List Event) → born_after (time_of (happening ∷ past)) happening id (births_of id past) ≡ births_of id (happening ∷ past)
-born_step (Birth i number) id past = refl
-born_step _ id past = refl
+born_step happening id past = grind arith
 
 ended_step : (happening : Event) (id : List ℕ) (past : List Event) → ended_after (time_of (happening ∷ past)) happening id (ended_of id past) ≡ ended_of id (happening ∷ past)
-ended_step (NoBirth i) id past = refl
-ended_step (Reaped i number status) id past = refl
-ended_step _ id past = refl
+ended_step happening id past = grind arith
 
 pub seen_more : (happening : Event) (past : List Event) (old new : ViewState) (table : List Entry) (stage : Option Stage) (time : ℕ) → ((so_far : List Event) → Judged old.judging so_far → Judged new.judging (happening ∷ so_far)) → ((so_far : List Event) → Judged new.judging so_far → table ≡ table_of so_far) → ((so_far : List Event) → Judged new.judging so_far → stage ≡ stage_of so_far) → ((so_far : List Event) → Judged new.judging so_far → time ≡ time_of so_far) → new.unreaped ≡ unreaped_after table happening old.unreaped → new.kept ≡ kept_after table old.unreaped happening old.kept → new.wishes ≡ wishes_after stage happening old.wishes → ((id : List ℕ) → at id new.births ≡ born_after time happening id (at id old.births)) → ((id : List ℕ) → at id new.ends ≡ ended_after time happening id (at id old.ends)) → Viewed old past → Viewed new (happening ∷ past)
 seen_more happening past old new table stage time judges tables stages times unreaped kept wishes births ends seen =

@@ -1,14 +1,13 @@
 -- One happening more, and a piece more.
-use Rattle.std.proofs.Common.{◌≡◌, ◌==◌, ◌||◌, not, ℕ, ◌+◌, ◌^◌, ◌<◌, ◌≤◌, Bool, true, false, is_some, List, [], ◌∷◌, ◌++◌, length, reverse, Option, Some, None, append-nil, refl, sym, ap, ◌∙◌, subst, arith, lit≤}
+use Rattle.std.proofs.Common.{◌≡◌, ◌==◌, ◌||◌, not, ℕ, ◌+◌, ◌^◌, ◌<◌, ◌≤◌, Bool, true, false, List, [], ◌∷◌, ◌++◌, length, reverse, Option, Some, None, append-nil, refl, sym, ap, ◌∙◌, subst, arith}
 use Rattle.std.specs.Option.{option_map}
-use Rattle.std.proofs.lemmas.Bool.{and_parts, eqb-true}
+use Rattle.std.proofs.lemmas.Bool.{eqb-true}
 use Rattle.std.proofs.lemmas.List.{append_assoc}
 use Rattle.text_lines.specs.Lines.{newlines}
 use Rattle.text_lines.proofs.PieceLemmas.{newlines-append}
-use Rattle.trace_events.specs.declared.happenings.Happening.TheVariants.{NewTable}
 use Rattle.trace_events.specs.Event.{Event}
 use Rattle.trace_events.specs.Lawful.{broken}
-use Rattle.trace_events.specs.Range.{is_in_range, are_in_range}
+use Rattle.trace_events.specs.Range.{are_in_range}
 use Rattle.trace_text.specs.Lines.{event_text, trace_text}
 use Rattle.trace_text.specs.Texts.{line_count}
 use Rattle.trace_text.proofs.LineTexts.{newlines-event}
@@ -23,8 +22,8 @@ use Rattle.trace_view.specs.Viewing.{ViewState, Viewed}
 use Rattle.trace_view.specs.declared.text_views.ViewEnd.{ViewEnd}
 use Rattle.trace_view.specs.declared.text_views.ViewEnd.TheVariants.{Breach, Torn, Within}
 use Rattle.trace_view.specs.LastLines.{is_table}
-use Rattle.trace_view.specs.Shown.{IsBefore, IsShown, IsUpTo, StopsAt, begins_run}
-use Rattle.trace_view.specs.Views.{TextState, HasSeen, StopsBy, AtBy, IsAt, TakenBy, HasShown, ViewGoesOn, SeesStop, left_of, may_be, seen_by}
+use Rattle.trace_view.specs.Shown.{IsBefore, IsShown, StopsAt, begins_run}
+use Rattle.trace_view.specs.Views.{TextState, HasSeen, StopsBy, AtBy, TakenBy, ViewGoesOn, SeesStop, left_of, may_be, seen_by}
 
 -- the text of a trace with one happening more
 whole_next : (reading new : Reading) (viewing : ViewState) (trace : List Event) (text : List ℕ) (h : Event) → HasSeen reading viewing trace text → ReadsNext reading new (Some h) → trace_text (trace ++ h ∷ []) ++ new.over ≡ text
@@ -32,18 +31,15 @@ whole_next reading new viewing trace text h seen next = ap (λ t. t ++ new.over)
 
 -- a run goes on, or begins with an inittab
 begins_push : (trace : List Event) (h : Event) (line : ℕ) → line ≡ newlines (trace_text trace) + 1 → may_be line h ≡ true → begins_run trace ≡ true → begins_run (trace ++ h ∷ []) ≡ true
-begins_push [] h line is may begins = ap (λ n. may_be n h) (sym is) ∙ may
-begins_push (x ∷ trace) h line is may begins = begins
+begins_push trace h line is may begins = grind arith
 
 both_false : (a b : Bool) → (not a || b) ≡ false → (a ≡ true) × (b ≡ false)
 both_false true b is = (refl, is)
 both_false false b is = absurd (cc)
 
 none_before : (trace : List Event) → are_in_range trace ≡ true → newlines (trace_text trace) ≡ 0 → trace ≡ []
-none_before [] are none = refl
-none_before (h ∷ trace) are none =
-    let parts = and_parts (is_in_range h) (are_in_range trace) are in
-    absurd (omega (arith, none, newlines-append (event_text h) (trace_text trace), newlines-event h parts.0, one_line h))
+none_before [] are none = grind (arith, newlines-append, newlines-event, one_line)
+none_before (h ∷ trace) are none = grind (arith, none_before trace, newlines-append, newlines-event, one_line)
 
 seen_next : (reading new : Reading) (viewing later : ViewState) (trace : List Event) (text : List ℕ) (h : Event) → length text < 2 ^ 64 → HasSeen reading viewing trace text → ReadsNext reading new (Some h) → begins_run (trace ++ h ∷ []) ≡ true → Viewed later (h ∷ reverse trace) → HasSeen new later (trace ++ h ∷ []) text
 seen_next reading new viewing later trace text h small seen next begins viewed = record {
@@ -64,9 +60,7 @@ seen_next reading new viewing later trace text h small seen next begins viewed =
 
 -- the number of the line of the next happening
 pub next_line : (reading : Reading) (viewing : ViewState) (trace : List Event) (text : List ℕ) → length text < 2 ^ 64 → HasSeen reading viewing trace text → 1 ≤ length reading.over → capped (reading.lines + 1) ≡ newlines (trace_text trace) + 1
-next_line reading viewing trace text small seen some =
-    ap (λ n. capped (n + 1)) seen.lines
-    ∙ capped_is (newlines (trace_text trace) + 1) (omega (arith, small, some, lines_within trace reading.over text seen.whole))
+next_line reading viewing trace text small seen some = grind (arith, capped_is, lines_within)
 
 breach_here : (reading new : Reading) (viewing : ViewState) (trace : List Event) (text : List ℕ) (h : Event) (law : Law) (line : ℕ) → length text < 2 ^ 64 → HasSeen reading viewing trace text → ReadsNext reading new (Some h) → line ≡ capped (reading.lines + 1) → broken h (reverse trace) ≡ Some (law_number law) → IsBefore trace law line text
 breach_here reading new viewing trace text h law line small seen next is broke = record {
@@ -118,8 +112,7 @@ stops_here (Some Within) why reading new viewing later trace text h line is smal
 
 -- by cases of whether it stopped
 pub at_none : (stop : Option ViewEnd) (state : TextState) (trace : List Event) (text : List ℕ) → stop ≡ None → AtBy stop state trace text → HasSeen state.reading state.viewing trace text
-at_none None state trace text is at = at
-at_none (Some stop) state trace text is at = absurd (cc)
+at_none stop state trace text is at = grind arith
 
 pub goes_next : (stop : Option ViewEnd) (old : TextState) (new : Reading) (later : ViewState) (trace : List Event) (text : List ℕ) (h : Event) (line : ℕ) → old.stop ≡ None → length text < 2 ^ 64 → ReadsNext old.reading new (Some h) → SeesStop stop old.viewing later h line → line ≡ capped (old.reading.lines + 1) → ViewGoesOn (seen_by stop h) old (record { reading = new; viewing = later; stop = stop }) trace text
 goes_next None old new later trace text h line went small next sees is = λ at. seen_goes None old.reading new old.viewing later trace text h line refl small next sees is (at_none old.stop old trace text went at)
@@ -185,12 +178,10 @@ still_stopped None state trace text piece why is taken = absurd (cc)
 
 -- what it has seen
 pub seen_at : (stop : Option ViewEnd) (state : TextState) (trace : List Event) (text : List ℕ) → AtBy stop state trace text → Viewed state.viewing (reverse trace)
-seen_at None state trace text at = at.seen
-seen_at (Some stop) state trace text at = at.seen
+seen_at stop state trace text at = grind arith
 
 pub viewed_at : (stop : Option ViewEnd) (state : TextState) (trace : List Event) (text : List ℕ) → TakenBy stop state trace text → Viewed state.viewing (reverse trace)
-viewed_at None state trace text taken = taken.0.seen
-viewed_at (Some stop) state trace text taken = taken.seen
+viewed_at stop state trace text taken = grind arith
 
 -- what is shown of the text
 left_is : (reading : Reading) (viewing : ViewState) (trace : List Event) (text over : List ℕ) → length text < 2 ^ 64 → HasSeen reading viewing trace text → reading.over ≡ over → option_map capped (line_left reading.lines over) ≡ line_left (newlines (trace_text trace)) over

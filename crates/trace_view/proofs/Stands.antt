@@ -1,19 +1,17 @@
 -- What a view says of an entry is what the past says.
-use Rattle.std.proofs.Common.{◌≡◌, refl, sym, ◌∙◌, ap, ℕ, Bool, true, false, ◌||◌, ◌&&◌, cond, is_some, List, [], ◌∷◌, ◌++◌, find, Option, Some, None}
+use Rattle.std.proofs.Common.{arith, ◌≡◌, refl, sym, ◌∙◌, ap, ℕ, Bool, true, false, ◌||◌, ◌&&◌, cond, is_some, List, find, Option, Some, None}
 use Rattle.std.specs.Option.{option_map, option_map_or}
 use Rattle.init_words.specs.declared.actions.Act.{Act}
 use Rattle.init_words.specs.declared.entries.Entry.{Entry}
 use Rattle.init_words.specs.declared.orders.OrderKind.{OrderKind}
 use Rattle.init_words.specs.declared.stages.Stage.{Stage}
 use Rattle.init_words.specs.Actions.{is_limited}
-use Rattle.init_words.specs.Ids.{same_id}
 use Rattle.inittab_text.specs.Tables.{entry_of, has_id, act_of}
 use Rattle.init_words.proofs.Same.{same_id-is}
 use Rattle.trace_events.specs.Event.{Event}
-use Rattle.trace_events.specs.Past.{table_of, stage_of, Child, is_of, unreaped_children, kept_children, open_of}
+use Rattle.trace_events.specs.Past.{table_of, stage_of, Child, is_of, kept_children, open_of}
 use Rattle.trace_events.specs.Wanted.{starts_now, is_wanted, is_excluded}
 use Rattle.trace_events.specs.Timing.{hold_times, is_held, is_full}
-use Rattle.trace_events.specs.Wishes.{in_run, other_than}
 use Rattle.trace_check.specs.Reading.{newest, child_of, term_of}
 use Rattle.trace_check.proofs.Lone.{found_passes}
 use Rattle.trace_view.specs.declared.rows.Births.{Births}
@@ -28,7 +26,7 @@ use Rattle.trace_view.specs.declared.wishes.Wish.{Wish}
 use Rattle.trace_view.specs.declared.wishes.Wishes.{Wishes}
 use Rattle.trace_view.specs.Viewing.{is_excluded_by}
 use Rattle.trace_view.specs.Why.{number_of, entry_id, excluded_as, first_awaited, first_owed, standing_of, stops_now, why_by, why_entry, why}
-use Rattle.trace_view.specs.Wishes.{wishes_of, first_of, first_wish, first_wish_in}
+use Rattle.trace_view.specs.Wishes.{wishes_of, first_wish, first_wish_in}
 
 -- six tests in a row
 six : (fail fail_now ok a b c : Bool) → (fail || fail_now || ok || a || b || c) ≡ ((fail || (fail_now || (ok || false))) || (a || (b || (c || false))))
@@ -41,10 +39,7 @@ six false false false false false true = refl
 six false false false false false false = refl
 
 pub first_is : (w : Wishes) (past : List Event) → w ≡ wishes_of past → first_wish_in (stage_of past) w ≡ first_wish past
-first_is w past is =
-    let v : Wishes = wishes_of past in
-    ap (first_wish_in (stage_of past)) is
-    ∙ ap (λ news. first_of v.reexec v.reread (other_than (stage_of past) v.heard) (in_run (stage_of past) && news)) (six v.fail v.fail_now v.ok v.a v.b v.c)
+first_is w past is = grind arith
 
 -- the entry of an id is found for its own id
 pub found_own : (id : List ℕ) (table : List Entry) (e : Entry) → entry_of id table ≡ Some e → entry_of e.id table ≡ Some e
@@ -56,18 +51,13 @@ stands e past starts child stops ran awaited order wanted owed excluded wish hol
 
 -- the child that may not live, by a table and a stage that are in force
 pub excluded_is : (table : List Entry) (stage : Option Stage) (kept : List Child) (past : List Event) → table ≡ table_of past → stage ≡ stage_of past → kept ≡ kept_children past → option_map excluded_as (find (is_excluded_by table stage) kept) ≡ option_map excluded_as (find (is_excluded past) (kept_children past))
-excluded_is table stage kept past tables stages is =
-    ap (λ t. option_map excluded_as (find (is_excluded_by t stage) kept)) tables
-    ∙ ap (λ s. option_map excluded_as (find (is_excluded_by (table_of past) s) kept)) stages
-    ∙ ap (λ xs. option_map excluded_as (find (is_excluded past) xs)) is
+excluded_is table stage kept past tables stages is = grind arith
 
 pub wish_is : (stage : Option Stage) (w : Wishes) (past : List Event) → stage ≡ stage_of past → w ≡ wishes_of past → first_wish_in stage w ≡ first_wish past
 wish_is stage w past stages is = ap (λ s. first_wish_in s w) stages ∙ first_is w past is
 
 pub held_is : (limited held : Bool) (since : Option ℕ) (e : Entry) (past : List Event) → limited ≡ is_limited e.act → held ≡ is_held e.id past → since ≡ newest (hold_times e.id past) → cond (limited && held) since None ≡ cond (is_limited e.act && is_held e.id past) (newest (hold_times e.id past)) None
-held_is limited held since e past limits holds times =
-    ap (λ b. cond (b && held) since None) limits ∙ ap (λ b. cond (is_limited e.act && b) since None) holds
-    ∙ ap (λ t. cond (is_limited e.act && is_held e.id past) t None) times
+held_is limited held since e past limits holds times = grind arith
 
 pub full_is : (limited full : Bool) (e : Entry) (past : List Event) → limited ≡ is_limited e.act → full ≡ is_full e.id past → (limited && full) ≡ (is_limited e.act && is_full e.id past)
 full_is limited full e past limits fulls = ap (λ b. b && full) limits ∙ ap (λ b. is_limited e.act && b) fulls
@@ -81,10 +71,7 @@ why_none id past none = sym (ap (λ o. option_map_or (λ x. why_entry x past) o 
 
 -- whether a child may not live, by a table and a stage that are in force
 pub lives_not : (id : List ℕ) (table : List Entry) (stage : Option Stage) (some children : List Child) (past : List Event) → table ≡ table_of past → stage ≡ stage_of past → some ≡ children → option_map_or (is_excluded_by table stage) (find (is_of id) some) false ≡ option_map_or (is_excluded past) (find (is_of id) children) false
-lives_not id table stage some children past tables stages is =
-    ap (λ t. option_map_or (is_excluded_by t stage) (find (is_of id) some) false) tables
-    ∙ ap (λ s. option_map_or (is_excluded_by (table_of past) s) (find (is_of id) some) false) stages
-    ∙ ap (λ xs. option_map_or (is_excluded past) (find (is_of id) xs) false) is
+lives_not id table stage some children past tables stages is = grind arith
 
 -- what is told of an id by its parts
 pub rows : (id : List ℕ) (past : List Event) (act : Option Act) (why_not : Why) (child : Option ℕ) (excluded : Bool) (births : Option Births) (order : Option OrderKind) (term : Option ℕ) (last : Option Ending) → act ≡ act_of id (table_of past) → why_not ≡ why id past → child ≡ option_map number_of (child_of id past) → excluded ≡ option_map_or (is_excluded past) (child_of id past) false → births ≡ births_of id past → order ≡ open_of id past → term ≡ term_of past (child_of id past) → last ≡ ended_of id past → record { act = act; why = why_not; child = child; excluded = excluded; births = births; order = order; term = term; last = last } ≡ row_of id past

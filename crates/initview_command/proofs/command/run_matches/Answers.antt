@@ -5,8 +5,22 @@ use Rattle.initview_command.proofs.command.run_matches.Goals as goal
 
 pub returns-in-Some : goal.returns-in-Some
 returns-in-Some g c =
-    words_given (g.T.Texts.text_at c.args.texts.now) (g.G.GrowingTexts.text_at c.args.growing.now) (g.G.GrowingTexts.writer_at c.args.growing.now) c.run_given.result (g.W.Write.contents c.args.out.now) (g.W.Write.contents c.run_given.new.out) (rows_of (found_of c.args.matches.now)) (map (λ word. word.now) c.in-Some.words.now) _ c.in-Some.ensures refl c.run_given.ensures
+    let text_at = g.T.Texts.text_at c.args.texts.now in
+    let growing_at = g.G.GrowingTexts.text_at c.args.growing.now in
+    let writers = g.G.GrowingTexts.writer_at c.args.growing.now in
+    let old = g.W.Write.contents c.args.out.now in
+    let new = g.W.Write.contents c.run_given.new.out in
+    let rows = rows_of (found_of c.args.matches.now) in
+    words_given text_at growing_at writers c.run_given.result old new rows (map (λ word. word.now) c.in-Some.words.now) _
+    c.in-Some.ensures refl c.run_given.ensures
 
 pub returns-in-None : goal.returns-in-None
 returns-in-None g c =
-    words_given (g.T.Texts.text_at c.args.texts.now) (g.G.GrowingTexts.text_at c.args.growing.now) (g.G.GrowingTexts.writer_at c.args.growing.now) c.run_given-in-None.result (g.W.Write.contents c.args.out.now) (g.W.Write.contents c.run_given-in-None.new.out) (rows_of (found_of c.args.matches.now)) _ _ c.in-None.ensures refl c.run_given-in-None.ensures
+    let text_at = g.T.Texts.text_at c.args.texts.now in
+    let growing_at = g.G.GrowingTexts.text_at c.args.growing.now in
+    let writers = g.G.GrowingTexts.writer_at c.args.growing.now in
+    let old = g.W.Write.contents c.args.out.now in
+    let new = g.W.Write.contents c.run_given-in-None.new.out in
+    let rows = rows_of (found_of c.args.matches.now) in
+    words_given text_at growing_at writers c.run_given-in-None.result old new rows _ _ c.in-None.ensures refl
+    c.run_given-in-None.ensures
