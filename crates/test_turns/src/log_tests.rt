@@ -1,15 +1,15 @@
 //! A log that fails at each place: it has a prefix of the trace, and init goes on.
 
-use crate::runs::{Bench, bench_of, serve_on};
+use crate::replies::give_all;
+use crate::runs::{Bench, bench_of, log_of, serve_on};
 use host_calls::Host;
 use init_turns::Served;
 use init_words::{Id, Status};
 use linked_list_allocator::LocalHeap;
-use std::alloc::{AllocError, Allocator, Global};
-use std::mem;
-use test_support::{Slow, boxed};
+use std::alloc::{Allocator, Global};
+use test_support::Slow;
 use trace_log::{ListLog, Log, StreamLog};
-use trace_log_wrappers::{NotedLog, RunNotes};
+use trace_log_wrappers::NotedLog;
 
 const INITTAB: &str = "id:3:initdefault:|r:3:respawn:serv";
 
@@ -24,8 +24,8 @@ ask r look\nstill r\ntold r\nclock 106\nnudge\nask r kill\nhit r\ntold r\nask r 
 clock 107\nnudge\nask r look\ndeath 10\nreaped r 10 killed\ntold r\nsettle 1\n";
 
 /// Makes the run, of four turns and 31 calls, one of which fails, and gives how it ended.
-fn served<L: Log + Drop>(own: Global, bench: &mut Bench<Global, Global, L>) -> Option<Served> {
-    bench.give(own, own, GIFTS)?;
+fn served<L: Log>(own: Global, bench: &mut Bench<Global, Global, L>) -> Option<Served> {
+    give_all(own, own, &mut bench.edge.host, GIFTS)?;
     let served = serve_on(own, bench, 9, true);
     let calls = bench.edge.host.calls()?;
     (bench.edge.host.faults() == 1 && calls.len() == 31).then_some(served)
@@ -67,37 +67,17 @@ fn listed(own: Global, heap: &LocalHeap) -> Option<usize> {
     taken(text.as_slice(), served)
 }
 
-/// Notes of nothing on a heap, in front of a log that took nothing.
-fn notes_over<'a>(own: Global, heap: &'a LocalHeap) -> NotedLog<ListLog, &'a LocalHeap> {
-    NotedLog::new(heap, ListLog::new(own), Id::read(b"r"))
-}
-
-/// What a log with notes was behind a run: the log behind the notes, and the notes.
-fn taken_apart<'a>(
-    own: Global,
-    heap: &'a LocalHeap,
-    bench: &mut Bench<Global, Global, NotedLog<ListLog, &'a LocalHeap>>,
-) -> Result<(Box<ListLog>, Box<RunNotes<&'a LocalHeap>>), AllocError> {
-    let log = mem::replace(&mut bench.edge.log, notes_over(own, heap));
-    let (log, notes) = log.into_parts();
-    Ok((boxed(own, log)?, boxed(own, notes)?))
-}
-
 /// Whether notes on a heap in front of a log are complete; None where they say anything false, or the log behind them has
 /// not the whole trace.
 fn noted(own: Global, heap: &LocalHeap) -> Option<bool> {
-    let mut bench = bench_of(own, own, own, INITTAB, notes_over(own, heap))?;
+    let log = NotedLog::new(heap, ListLog::new(own), Id::read(b"r"));
+    let mut bench = bench_of(own, own, own, INITTAB, log)?;
     let served = served(own, &mut bench)?;
-    let (log, notes) = taken_apart(own, heap, &mut bench).ok()?;
+    let (log, notes) = log_of(bench).into_parts();
     let text = trace_text::print(own, log.list()).ok()?;
     if taken(text.as_slice(), served) != Some(TRACE.len()) {
         return None;
     }
-    are_complete(&notes)
-}
-
-/// Whether notes of the whole run are complete; None where they say anything false.
-fn are_complete(notes: &RunNotes<&LocalHeap>) -> Option<bool> {
     match (notes.last(), notes.running()) {
         (Some(Status::Killed), None) => Some(false),
         (Some(Status::Killed), Some(running)) if running.len() == 0 => Some(true),

@@ -144,35 +144,6 @@ fn give_lates<A: Allocator + Copy>(host: &mut MemoryHost<A>, number: u32) -> Opt
     Some(())
 }
 
-/// Adds a reply to the queue of one kind of order.
-fn give_reply<A: Allocator + Copy>(
-    host: &mut MemoryHost<A>,
-    queue: &str,
-    reply: Reply,
-) -> Result<(), Memory> {
-    match queue {
-        "start" => host.give_start(reply),
-        "look" => host.give_look(reply),
-        _ => host.give_signal(reply),
-    }
-}
-
-/// Adds an item that is a text, or a table.
-fn give_text<A: Allocator + Copy>(
-    own: Global,
-    alloc: A,
-    host: &mut MemoryHost<A>,
-    queue: &str,
-    item: &str,
-) -> Option<()> {
-    let given = match queue {
-        "table" => host.give_table(table_of(own, alloc, item)?),
-        "bytes" => host.give_bytes(bytes_of(own, alloc, queue, item)?),
-        _ => host.give_carry(bytes_of(own, alloc, queue, item)?),
-    };
-    given.ok()
-}
-
 /// Gives a host an item.
 pub(crate) fn give<A: Allocator + Copy>(
     own: Global,
@@ -182,11 +153,15 @@ pub(crate) fn give<A: Allocator + Copy>(
 ) -> Option<()> {
     let (queue, item) = reply.split_once(' ').unwrap_or((reply, ""));
     let given = match queue {
-        "start" | "look" | "signal" => give_reply(host, queue, reply_of(item)?),
+        "start" => host.give_start(reply_of(item)?),
+        "look" => host.give_look(reply_of(item)?),
+        "signal" => host.give_signal(reply_of(item)?),
         "late" => host.give_late(late_of(item)?),
         "lates" => return give_lates(host, item.parse::<u32>().ok()?),
         "clock" => host.give_clock(given(item, item.parse::<u64>().ok())?),
-        _ => return give_text(own, alloc, host, queue, item),
+        "table" => host.give_table(table_of(own, alloc, item)?),
+        "bytes" => host.give_bytes(bytes_of(own, alloc, queue, item)?),
+        _ => host.give_carry(bytes_of(own, alloc, queue, item)?),
     };
     given.ok()
 }

@@ -1,23 +1,24 @@
 //! Lack of memory within a turn, in an opening and in a log.
 
 use crate::log_tests::is_whole;
+use crate::replies::give_all;
 use crate::run_tests::STOPPED;
 use crate::runs::{Bench, bench_of, is_run, letters_of, lines_of, serve_on};
 use crate::scripted_tests::has_room;
-use core_steps::Core;
 use host_calls::Host;
 use init_turns::Opening;
+use init_words::Memory;
 use inittab_text::Table;
 use linked_list_allocator::LocalHeap;
 use std::alloc::Global;
-use test_support::fill;
+use test_support::{boxed, fill};
 use trace_log::ListLog;
 
 /// The run is as it says where the host has no room left to tell a call.
 fn is_untold(own: Global) -> Option<bool> {
     let heap = LocalHeap::new(own, 16_384).ok()?;
     let mut bench = bench_of(own, &heap, own, STOPPED.inittab, ListLog::new(own))?;
-    bench.give(own, &heap, STOPPED.replies)?;
+    give_all(own, &heap, &mut bench.edge.host, STOPPED.replies)?;
     let _fillers = fill(own, &heap, 0)?;
     Some(is_run(own, &mut bench, &STOPPED) && bench.edge.host.calls().is_none())
 }
@@ -78,9 +79,9 @@ fn begins<'a>(
     bench: &mut Scene<'a>,
     scarce: &Scarce,
 ) -> Option<()> {
-    bench.give(own, own, "start birth 10 / bytes")?;
+    give_all(own, own, &mut bench.edge.host, "start birth 10 / bytes")?;
     turn_text(own, heap, bench)?;
-    bench.give(own, own, scarce.replies)
+    give_all(own, own, &mut bench.edge.host, scarce.replies)
 }
 
 /// The trace of the turn is this, and the entries behind it are so many, each with its record.
@@ -130,32 +131,6 @@ fn tried(own: Global, scarce: &Scarce, room: usize) -> Option<Outcome> {
     is_made(own, &bench, text.as_slice(), scarce.done)?.then_some(outcome)
 }
 
-/// The place of what has no room first: the table's copy, the records of its entries, or nothing.
-fn first_over<'a>(
-    heap: &'a LocalHeap,
-    core: &mut Core<&'a LocalHeap>,
-    table: Table<&'a LocalHeap>,
-) -> usize {
-    let Ok(copy) = table.copy(heap) else {
-        return 2;
-    };
-    if core.adopt(table).is_err() || copy.len() != 5 {
-        return 3;
-    }
-    4
-}
-
-/// The place of what has no room first: the text of inittab, its table, or what the table wants.
-fn first_read<'a>(heap: &'a LocalHeap, bench: &mut Scene<'a>) -> usize {
-    let Ok(parts) = bench.edge.host.read_tables(heap) else {
-        return 0;
-    };
-    match inittab_text::read_parts(heap, &parts) {
-        Ok((table, _)) => first_over(heap, &mut bench.core, table),
-        Err(_) => 1,
-    }
-}
-
 /// What has no room first of what a reading takes, one after another: the text of inittab, its table, the table's copy, the
 /// records of its entries, and nothing; the place in that.
 fn first(own: Global, room: usize) -> Option<usize> {
@@ -163,7 +138,19 @@ fn first(own: Global, room: usize) -> Option<usize> {
     let mut bench = bench_of(own, own, &heap, STOPPED.inittab, ListLog::new(own))?;
     begins(own, &heap, &mut bench, READING)?;
     let _fillers = fill(own, &heap, room)?;
-    Some(first_read(&heap, &mut bench))
+    let Ok(parts) = bench.edge.host.read_tables(&heap) else {
+        return Some(0);
+    };
+    let Ok((table, _)) = inittab_text::read_parts(&heap, &parts) else {
+        return Some(1);
+    };
+    let Ok(copy) = table.copy(&heap) else {
+        return Some(2);
+    };
+    if bench.core.adopt(table).is_err() || copy.len() != 5 {
+        return Some(3);
+    }
+    Some(4)
 }
 
 /// What a turn does that reads inittab, by what has no room first.
@@ -208,6 +195,14 @@ fn init_without_room_is_not_re_executed(rt: HostRuntime) {
     assert!(rt; unmade > 0 && refused > 3 && done > 0);
 }
 
+fn opening_of<'a>(
+    own: Global,
+    heap: &'a LocalHeap,
+    table: Table<&'a LocalHeap>,
+) -> Result<Box<Opening<&'a LocalHeap>>, Memory> {
+    Ok(boxed(own, Opening::new(heap, table, None)?)?)
+}
+
 /// Whether an opening has room on a heap, over a table that lies in another one.
 fn opens(own: Global, heap: &LocalHeap) -> Option<bool> {
     let ample = LocalHeap::new(own, 16_384).ok()?;
@@ -216,7 +211,7 @@ fn opens(own: Global, heap: &LocalHeap) -> Option<bool> {
         b"id:3:initdefault:\nw:3:wait:prep\nr:3:respawn:serv\n",
     )
     .ok()?;
-    Some(Opening::new(heap, table, None).is_ok())
+    Some(opening_of(own, heap, table).is_ok())
 }
 
 /// How many heaps, each with less more room than the least growth takes, have none for this until one has; None where

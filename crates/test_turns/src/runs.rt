@@ -41,35 +41,24 @@ pub(crate) fn lines_of(alloc: Global, text: &str, parted: &str) -> Result<Vec<u8
     Ok(lines)
 }
 
-/// Init before its first turn: its core, and its host and its log, each on the heap.
+/// Init before its first turn: its core, and its host and its log.
 #[derive(Drop)]
-pub(crate) struct Bench<A: Allocator, B: Allocator, L: Drop> {
-    pub(crate) core: Box<Core<B>>,
-    pub(crate) edge: Box<Joined<MemoryHost<A>, L>>,
+pub(crate) struct Bench<A: Allocator, B: Allocator, L> {
+    pub(crate) core: Core<B>,
+    pub(crate) edge: Joined<MemoryHost<A>, L>,
 }
 
-impl<A: Allocator + Copy, B: Allocator, L: Drop> Bench<A, B, L> {
-    /// Gives the host all items of a text, each in memory of its own.
-    pub(crate) fn give(&mut self, own: Global, alloc: A, replies: &str) -> Option<()> {
-        give_all(own, alloc, &mut self.edge.host, replies)
-    }
-}
-
-fn core_over<B: Allocator + Copy>(
-    own: Global,
-    alloc: B,
-    table: Table<B>,
-) -> Result<Box<Core<B>>, Memory> {
-    Ok(boxed(own, Core::new(alloc, table, None)?)?)
-}
-
-fn edge_over<A: Allocator + Copy, L: Drop>(
+fn bench_over<A: Allocator + Copy, B: Allocator + Copy, L: Drop>(
     own: Global,
     host: A,
+    alloc: B,
+    table: Table<B>,
     log: L,
-) -> Result<Box<Joined<MemoryHost<A>, L>>, AllocError> {
+) -> Result<Box<Bench<A, B, L>>, Memory> {
+    let core = Core::new(alloc, table, None)?;
     let host = MemoryHost::new(host);
-    boxed(own, Joined { host, log })
+    let edge = Joined { host, log };
+    Ok(boxed(own, Bench { core, edge })?)
 }
 
 /// A core over an inittab, with a host that is given nothing, each in memory of its own, and with a log.
@@ -79,16 +68,21 @@ pub(crate) fn bench_of<A: Allocator + Copy, B: Allocator + Copy, L: Drop>(
     alloc: B,
     inittab: &str,
     log: L,
-) -> Option<Bench<A, B, L>> {
-    let edge = edge_over(own, host, log).ok()?;
+) -> Option<Box<Bench<A, B, L>>> {
     let lines = lines_of(own, inittab, "|").ok()?;
     let (table, _) = inittab_text::read(alloc, lines.as_slice()).ok()?;
-    let core = core_over(own, alloc, table).ok()?;
-    Some(Bench { core, edge })
+    bench_over(own, host, alloc, table, log).ok()
+}
+
+/// What is left of it: its log.
+pub(crate) fn log_of<A: Allocator, B: Allocator, L: Drop>(bench: Box<Bench<A, B, L>>) -> L {
+    let Bench { core: _, edge } = Box::into_inner(bench);
+    let Joined { host: _, log } = edge;
+    log
 }
 
 /// Makes the given number of turns; with `drain` it ends where init is drained.
-pub(crate) fn serve_on<A: Allocator + Copy, B: Allocator + Copy, L: Log + Drop>(
+pub(crate) fn serve_on<A: Allocator + Copy, B: Allocator + Copy, L: Log>(
     alloc: B,
     bench: &mut Bench<A, B, L>,
     turns: u64,
@@ -98,7 +92,7 @@ pub(crate) fn serve_on<A: Allocator + Copy, B: Allocator + Copy, L: Log + Drop>(
     let served = init_turns::serve(
         alloc,
         &mut bench.core,
-        &mut *bench.edge,
+        &mut bench.edge,
         turns,
         drain,
         &mut watch,
@@ -173,7 +167,7 @@ pub(crate) fn letters_of(own: Global, host: &MemoryHost) -> Option<Vec<u8>> {
 /// Makes the run of a row, and gives whether it is as it says, and its calls have these letters, where they are asked.
 pub(crate) fn passes(own: Global, row: &Row, calls: Option<&str>) -> Option<bool> {
     let mut bench = bench_of(own, own, own, row.inittab, ListLog::new(own))?;
-    bench.give(own, own, row.replies)?;
+    give_all(own, own, &mut bench.edge.host, row.replies)?;
     if !is_run(own, &mut bench, row) {
         return None;
     }

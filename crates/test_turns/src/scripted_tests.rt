@@ -2,7 +2,7 @@
 //! empty; and a host without room.
 
 use crate::replies::{bytes_of, give, give_all, given, late_of, reply_of, table_of};
-use host_calls::{Bytes, Host, HostFault, PartList, Reply};
+use host_calls::{Bytes, Host, HostFault, PartList};
 use host_scripted::MemoryHost;
 use init_words::{Id, Level, Part, SignalKind};
 use linked_list_allocator::LocalHeap;
@@ -113,64 +113,9 @@ fn taken<B: Allocator + Copy>(
     host: &mut MemoryHost<B>,
     room: usize,
 ) -> Result<Vec<u8>, HostFault> {
-    let Ok(mut buffer) = vec![in own; 0; room] else {
-        return Err(HostFault::Memory);
-    };
-    let count = host.take_bytes(&mut buffer)?;
-    buffer.truncate(count);
-    Ok(buffer)
-}
-
-/// Whether an order, in memory of an allocator, gives this reply.
-fn gives_reply<A: Allocator + Copy, B: Allocator + Copy>(
-    alloc: A,
-    host: &mut MemoryHost<B>,
-    word: &str,
-    want: Reply,
-) -> Option<bool> {
-    let id = Id::read(b"r")?;
-    let reply = match word {
-        "start" => host.start(alloc, id, b"/bin/serv"),
-        "look" => host.look(id),
-        "signal" => host.signal(id, SignalKind::Term),
-        _ => host.signal(id, SignalKind::Kill),
-    };
-    Some(reply == want)
-}
-
-/// Whether a call that takes bytes with so much room gives this item.
-fn gives_bytes<B: Allocator + Copy>(
-    own: Global,
-    host: &mut MemoryHost<B>,
-    room: usize,
-    item: &str,
-) -> Option<bool> {
-    let want = bytes_of(own, own, "bytes", item)?;
-    Some(is_text(taken(own, host, room), want))
-}
-
-/// Whether what is carried, in memory of an allocator, comes back as this item; as it is where there is none.
-fn gives_carry<A: Allocator + Copy, B: Allocator + Copy>(
-    own: Global,
-    alloc: A,
-    host: &mut MemoryHost<B>,
-    item: &str,
-) -> Option<bool> {
-    let want = match item {
-        "" => Ok(Bytes::copy_of(own, STATE).ok()?),
-        _ => bytes_of(own, own, "carry", item)?,
-    };
-    Some(is_text(host.carry(alloc, STATE), want))
-}
-
-/// Makes a call that gives nothing.
-fn makes<B: Allocator + Copy>(host: &mut MemoryHost<B>, word: &str) {
-    if word == "announce" {
-        let settled: Happening = Happening::Settle(Level::L3);
-        host.announce(&settled);
-    } else {
-        host.pause();
-    }
+    let mut buffer = [0; 8];
+    let count = host.take_bytes(&mut buffer[..room.min(8)])?;
+    Vec::from_slice(own, &buffer[..count.min(8)]).map_err(|_| HostFault::Memory)
 }
 
 /// Whether a call, in memory of an allocator, gives this item.
@@ -181,22 +126,38 @@ fn gives<A: Allocator + Copy, B: Allocator + Copy>(
     call: &str,
 ) -> Option<bool> {
     let (word, item) = call.split_once(' ').unwrap_or((call, ""));
-    match word {
-        "start" | "look" | "signal" | "kill" => gives_reply(alloc, host, word, reply_of(item)?),
-        "late" => Some(host.late() == late_of(item)?),
-        "clock" => Some(host.clock() == given(item, item.parse::<u64>().ok())?),
-        "bytes" => gives_bytes(own, host, 4, item),
+    let id = Id::read(b"r")?;
+    Some(match word {
+        "start" => host.start(alloc, id, b"/bin/serv") == reply_of(item)?,
+        "look" => host.look(id) == reply_of(item)?,
+        "signal" => host.signal(id, SignalKind::Term) == reply_of(item)?,
+        "kill" => host.signal(id, SignalKind::Kill) == reply_of(item)?,
+        "late" => host.late() == late_of(item)?,
+        "clock" => host.clock() == given(item, item.parse::<u64>().ok())?,
+        "bytes" => is_text(taken(own, host, 4), bytes_of(own, own, "bytes", item)?),
         "take" => {
             let (room, item) = item.split_once(' ').unwrap_or((item, "="));
-            gives_bytes(own, host, room.parse::<usize>().ok()?, item)
+            let want = bytes_of(own, own, "bytes", item)?;
+            is_text(taken(own, host, room.parse::<usize>().ok()?), want)
         }
-        "table" => Some(are_files(host.read_tables(alloc), table_of(own, own, item)?)),
-        "carry" => gives_carry(own, alloc, host, item),
+        "table" => are_files(host.read_tables(alloc), table_of(own, own, item)?),
+        "carry" => {
+            let want = match item {
+                "" => Ok(Bytes::copy_of(own, STATE).ok()?),
+                _ => bytes_of(own, own, word, item)?,
+            };
+            is_text(host.carry(alloc, STATE), want)
+        }
+        "announce" => {
+            let settled: Happening = Happening::Settle(Level::L3);
+            host.announce(&settled);
+            true
+        }
         _ => {
-            makes(host, word);
-            Some(true)
+            host.pause();
+            true
         }
-    }
+    })
 }
 
 fn host_over<A: Allocator + Copy>(own: Global, alloc: A) -> Option<Box<MemoryHost<A>>> {
