@@ -1,5 +1,5 @@
 -- A request for a level is answered: that level is settled.
-use Rattle.core_waiting.proofs.Words.{arith, ◌≡◌, ◌≤◌, ◌⊎◌, inl, inr, refl, sym, ◌∙◌, ap, ℕ, Bool, true, false, ◌&&◌, not, cond, List, [], ◌∷◌, ◌++◌, length, Option, Some, None, list_any, false≢true, not-true, none-some, same_Some, Level, S, Stage, Sysinit, Boot, Run, same_level, same_level-is, same_level-self, both_ways, Enter, Got, Step, Goal, Event, stage_of, is_idle, is_quiet, goal_of, heard_level, level_wish, other_than, in_run, was_booted, powers, letters, is_due, same_step, due_first, enter_level, is_over, next_stage, power_steps, letter_steps, is_sound, each_append, each_steps_if, step_at, AreUndisturbed, destination, rounds_to_come, AtRest, after_rounds, is_level_announced, is_elsewhere, is_no_level_asked, is_stage_entered}
+use Rattle.core_waiting.proofs.Words.{arith, ◌≡◌, ◌≤◌, ◌⊎◌, inl, inr, refl, sym, ◌∙◌, ap, ℕ, Bool, true, false, ◌&&◌, not, cond, List, [], ◌∷◌, ◌++◌, Option, Some, None, list_any, false≢true, not-true, none-some, same_Some, Level, S, Stage, Sysinit, Boot, Run, same_level, same_level-is, same_level-self, both_ways, Enter, Got, Step, Goal, Event, stage_of, is_idle, is_quiet, goal_of, heard_level, level_wish, other_than, in_run, was_booted, powers, letters, is_due, same_step, due_first, enter_level, is_over, next_stage, power_steps, letter_steps, is_sound, each_append, each_steps_if, step_at, AreUnasked, undisturbed_among, destination, rounds_to_come, AtRest, after_rounds, is_level_announced, is_elsewhere, is_no_level_asked, is_stage_entered}
 use Rattle.std.proofs.lemmas.List.{append_assoc}
 use Rattle.initctl_frame.specs.declared.requests.HeardRequest.TheVariants as got
 use Rattle.trace_events.specs.declared.steps.Step.TheVariants as step
@@ -117,14 +117,14 @@ module _ (goal : Goal) (between before : List Event) (level : Level) (grace : �
     by true some = entered_headed sound some
     by false none = ap (is_headed level) (stage_still between (Got (got.Level level grace) ∷ before) none) ∙ at (stage_of before) refl other none
 
-  pub settles : (later : List Event) (rounds : List (List Event)) → is_sound goal (later ++ after_rounds rounds now_past) ≡ true → is_elsewhere level (stage_of before) ≡ true → AreUndisturbed goal rounds now_past → rounds_to_come goal now_past ≤ length rounds
+  pub settles : (later : List Event) (rounds : List (List Event)) → is_sound goal (later ++ after_rounds rounds now_past) ≡ true → is_elsewhere level (stage_of before) ≡ true → AreUnasked goal rounds now_past → rounds_to_come goal now_past ≤ undisturbed_among rounds now_past
       → (is_level_announced (after_rounds rounds now_past) ≡ true) × (stage_of (after_rounds rounds now_past) ≡ Some (Run level))
   settles later rounds sound other are few = (announced, arrives_there goal later rounds now_past sound are announced ∙ ap (λ l. Some (Run l)) (ap (λ l. destination l (stage_of now_past)) (aimed goal between before level grace unasked) ∙ there (stage_of now_past) headed)) where
     announced : is_level_announced (after_rounds rounds now_past) ≡ true
     announced = arrives goal later rounds now_past sound are few
 
-    first_of : (earlier : List (List Event)) → is_sound goal (after_rounds earlier now_past) ≡ true → AreUndisturbed goal earlier now_past → AtRest goal now_past × (is_idle now_past ≡ true) × (is_sound goal now_past ≡ true)
-    first_of [] ok undisturbed = (undisturbed.0, undisturbed.1, ok)
+    first_of : (earlier : List (List Event)) → is_sound goal (after_rounds earlier now_past) ≡ true → AreUnasked goal earlier now_past → AtRest goal now_past × (is_idle now_past ≡ true) × (is_sound goal now_past ≡ true)
+    first_of [] ok unasked = (unasked.0, unasked.1, ok)
     first_of (round ∷ earlier) ok undisturbed = first_of earlier (sound_rest goal round (after_rounds earlier now_past) ok (last_rest goal earlier now_past undisturbed.0).0) undisturbed.0
 
     first : AtRest goal now_past × (is_idle now_past ≡ true) × (is_sound goal now_past ≡ true)

@@ -1,5 +1,6 @@
--- Worked undisturbed rounds: `refl` computes them. And rounds that lack one of the conditions, in which nothing comes nearer.
-use Rattle.core_waiting.proofs.Words.{◌≡◌, refl, ◌+◌, ℕ, Bool, true, false, not, nat_le, List, [], ◌∷◌, ◌++◌, codes, filter, list_any, list_all, Entry, At, Start, Look, Term, Kill, Exit, NewTable, Enter, Asked, Death, Reaped, Still, Hit, Miss, Told, Clock, Nudge, Got, Step, Event, is_idle, time_of, grace_of, kept_children, is_missed, due, is_sound, is_level_announced, after_rounds, has_to_end, is_found_ended, is_nudge, is_unasked, AreUndisturbed, waits_to_come, rounds_to_come}
+-- Worked rounds: `refl` computes them. Undisturbed ones, with others between them at the default grace and pauses; and
+-- rounds that lack one of the conditions, in which nothing comes nearer.
+use Rattle.core_waiting.proofs.Words.{◌≡◌, refl, ℕ, Bool, true, false, not, List, [], ◌∷◌, ◌++◌, codes, filter, list_any, list_all, Entry, At, Start, Look, Term, Kill, Exit, NewTable, Enter, Asked, Birth, Death, Reaped, Still, Hit, Miss, Told, Clock, Nudge, NotRead, Got, Step, Event, is_idle, kept_children, is_missed, due, is_sound, is_level_announced, after_rounds, has_to_end, is_found_ended, is_nudge, is_unasked, moves_on, AreUnasked, undisturbed_among, waits_to_come, rounds_to_come}
 use Rattle.init_words.specs.declared.actions.Act.TheVariants as act
 use Rattle.init_words.specs.declared.levels.Level.TheVariants as level
 use Rattle.init_words.specs.declared.stages.Stage.TheVariants as stage
@@ -44,8 +45,11 @@ up_third = Settle level.L3 ∷ started (codes "r") 6 ++ ends (codes "w") 9 ++ Nu
 up-is_sound : is_sound (opening level.L3) (after_rounds (up_third ∷ up_second ∷ up_first ∷ []) up) ≡ true
 up-is_sound = refl
 
-up-undisturbed : AreUndisturbed (opening level.L3) (up_third ∷ up_second ∷ up_first ∷ []) up
-up-undisturbed = ((((refl, refl), refl, refl, refl), refl, refl, refl), refl, refl, refl)
+up-unasked : AreUnasked (opening level.L3) (up_third ∷ up_second ∷ up_first ∷ []) up
+up-unasked = ((((refl, refl), refl, refl, refl), refl, refl, refl), refl, refl, refl)
+
+up-undisturbed : undisturbed_among (up_third ∷ up_second ∷ up_first ∷ []) up ≡ 3
+up-undisturbed = refl
 
 up-waits : waits_to_come (opening level.L3) up ≡ 2
 up-waits = refl
@@ -78,8 +82,11 @@ last_third = Settle level.L2 ∷ ends (codes "r") 7 ++ Nudge ∷ Clock 15 ∷ []
 last-is_sound : is_sound (opening level.L3) (after_rounds (last_third ∷ last_second ∷ last_first ∷ []) last_level) ≡ true
 last-is_sound = refl
 
-last-undisturbed : AreUndisturbed (opening level.L3) (last_third ∷ last_second ∷ last_first ∷ []) last_level
-last-undisturbed = ((((refl, refl), refl, refl, refl), refl, refl, refl), refl, refl, refl)
+last-unasked : AreUnasked (opening level.L3) (last_third ∷ last_second ∷ last_first ∷ []) last_level
+last-unasked = ((((refl, refl), refl, refl, refl), refl, refl, refl), refl, refl, refl)
+
+last-undisturbed : undisturbed_among (last_third ∷ last_second ∷ last_first ∷ []) last_level ≡ 3
+last-undisturbed = refl
 
 last-rounds : rounds_to_come (opening level.L3) last_level ≡ 3
 last-rounds = refl
@@ -96,7 +103,7 @@ last_third-told = refl
 -- the tests of which an undisturbed round is made: each can fail alone, and then nothing comes nearer
 abbrev tests : List Event → List Event → List Bool
 tests round past =
-    is_unasked round ∷ list_any is_nudge round ∷ nat_le (time_of past + grace_of past) (time_of (round ++ past))
+    is_unasked round ∷ list_any is_nudge round ∷ moves_on round past
     ∷ list_all (λ child. is_found_ended child.id round) (filter (has_to_end past) (kept_children past))
     ∷ list_all (λ child. not (is_missed child (round ++ past))) (kept_children (round ++ past)) ∷ []
 
@@ -116,6 +123,68 @@ abbrev stands : List Event → List Event → List Bool
 stands round past =
     is_sound (opening level.L3) (round ++ past) ∷ is_none_due past ∷ is_idle past ∷ is_none_due (round ++ past)
     ∷ is_idle (round ++ past) ∷ not (is_level_announced (round ++ past)) ∷ []
+
+-- as `initd run` makes them by default, with a grace of five seconds and pauses of a second: two waited entries, the child
+-- of the first found alive once; the two rounds in which a child is found ended take no time
+abbrev slow_first : List Event
+slow_first = started (codes "w") 7 ++ entered level.L3 ((entry (codes "w") (At level.L3 ∷ []) act.Wait) ∷ (entry (codes "v") (At level.L3 ∷ []) act.Wait) ∷ [])
+
+abbrev alive_yet : List Event
+alive_yet = lives (codes "w") ++ Nudge ∷ Clock 1 ∷ []
+
+abbrev next_starts : List Event
+next_starts = started (codes "v") 8 ++ ends (codes "w") 7 ++ Nudge ∷ Clock 1 ∷ []
+
+abbrev slow_third : List Event
+slow_third = Settle level.L3 ∷ ends (codes "v") 8 ++ Nudge ∷ Clock 1 ∷ []
+
+slow-is_sound : is_sound (opening level.L3) (after_rounds (slow_third ∷ next_starts ∷ alive_yet ∷ []) slow_first) ≡ true
+slow-is_sound = refl
+
+slow-unasked : AreUnasked (opening level.L3) (slow_third ∷ next_starts ∷ alive_yet ∷ []) slow_first
+slow-unasked = ((((refl, refl), refl, refl, refl), refl, refl, refl), refl, refl, refl)
+
+slow-rounds : rounds_to_come (opening level.L3) slow_first ≡ 2
+slow-rounds = refl
+
+slow-undisturbed : undisturbed_among (slow_third ∷ next_starts ∷ alive_yet ∷ []) slow_first ≡ 2
+slow-undisturbed = refl
+
+slow-told : is_level_announced (after_rounds (slow_third ∷ next_starts ∷ alive_yet ∷ []) slow_first) ≡ true
+slow-told = refl
+
+-- and from the level that a child of the last one holds up: its TERM missed, misses once more, and hits; it lives on for
+-- five turns, of which the law makes one round, is sent a KILL in the last, is found alive once, and then ended. So three
+-- of the five rounds are undisturbed, in seven seconds
+abbrev once_more : List Event
+once_more = lives (codes "r") ++ missed (codes "r") ++ Nudge ∷ Clock 1 ∷ []
+
+abbrev hit_then : List Event
+hit_then = lives (codes "r") ++ sent (codes "r") ++ Nudge ∷ Clock 2 ∷ []
+
+abbrev pays_no_heed : List Event
+pays_no_heed = lives (codes "r") ++ killed (codes "r") ++ Nudge ∷ Clock 7 ∷ lives (codes "r") ++ Nudge ∷ Clock 6 ∷ lives (codes "r") ++ Nudge ∷ Clock 5 ∷ lives (codes "r") ++ Nudge ∷ Clock 4 ∷ lives (codes "r") ++ Nudge ∷ Clock 3 ∷ []
+
+abbrev not_dead_yet : List Event
+not_dead_yet = lives (codes "r") ++ Nudge ∷ Clock 7 ∷ []
+
+abbrev dead_then : List Event
+dead_then = Settle level.L2 ∷ ends (codes "r") 7 ++ Nudge ∷ Clock 7 ∷ []
+
+abbrev held_up : List (List Event)
+held_up = dead_then ∷ not_dead_yet ∷ pays_no_heed ∷ hit_then ∷ once_more ∷ []
+
+held_up-is_sound : is_sound (opening level.L3) (after_rounds held_up last_level) ≡ true
+held_up-is_sound = refl
+
+held_up-unasked : AreUnasked (opening level.L3) held_up last_level
+held_up-unasked = ((((((refl, refl), refl, refl, refl), refl, refl, refl), refl, refl, refl), refl, refl, refl), refl, refl, refl)
+
+held_up-undisturbed : undisturbed_among held_up last_level ≡ 3
+held_up-undisturbed = refl
+
+held_up-told : is_level_announced (after_rounds held_up last_level) ≡ true
+held_up-told = refl
 
 -- news of the power waits for the run level: the entry that it calls there is counted before
 abbrev news_table : List Entry
@@ -181,7 +250,32 @@ no_clock-fails = refl
 no_clock-no_nearer : nearer no_clock ignoring ≡ 2 ∷ 2 ∷ []
 no_clock-no_nearer = refl
 
--- nor is it where the clock is at its limit, whatever it reads: the grace is never over
+-- it may stand still where that child is gone, and where none lacks just the second
+abbrev heeds : List Event
+heeds = Settle level.L2 ∷ ends (codes "r") 7 ++ Nudge ∷ []
+
+heeds-is_sound : is_sound (opening level.L3) (heeds ++ ignoring) ≡ true
+heeds-is_sound = refl
+
+heeds-tests : tests heeds ignoring ≡ true ∷ true ∷ true ∷ true ∷ true ∷ []
+heeds-tests = refl
+
+heeds-nearer : nearer heeds ignoring ≡ 2 ∷ 0 ∷ []
+heeds-nearer = refl
+
+abbrev hits_at_once : List Event
+hits_at_once = lives (codes "r") ++ sent (codes "r") ++ Nudge ∷ []
+
+hits_at_once-stands : stands hits_at_once last_level ≡ true ∷ true ∷ true ∷ true ∷ true ∷ true ∷ []
+hits_at_once-stands = refl
+
+hits_at_once-tests : tests hits_at_once last_level ≡ true ∷ true ∷ true ∷ true ∷ true ∷ []
+hits_at_once-tests = refl
+
+hits_at_once-nearer : nearer hits_at_once last_level ≡ 3 ∷ 2 ∷ []
+hits_at_once-nearer = refl
+
+-- but not where the clock is at its limit, whatever it reads: the grace is never over
 abbrev late : List Event
 late = sent (codes "r") ++ goes_to level.L2 ++ Settle level.L3 ∷ Clock 1000000000000 ∷ started (codes "r") 7 ++ entered level.L3 last_table
 
@@ -265,3 +359,39 @@ unanswered-tests = refl
 
 unanswered-nearer : nearer unanswered one_behind ≡ 2 ∷ 0 ∷ []
 unanswered-nearer = refl
+
+-- rounds to come never rise from a rest with no order open while nothing is asked; but they do where inittab is read again,
+abbrev two_more : List Event
+two_more = NewTable ((entry (codes "w") (At level.L3 ∷ []) act.Wait) ∷ (entry (codes "v") (At level.L3 ∷ []) act.Wait) ∷ (entry (codes "u") (At level.L3 ∷ []) act.Wait) ∷ []) ∷ Got got.Reload ∷ []
+
+two_more-is_sound : is_sound (opening level.L3) (two_more ++ waiting) ≡ true
+two_more-is_sound = refl
+
+two_more-farther : nearer two_more waiting ≡ 1 ∷ 3 ∷ []
+two_more-farther = refl
+
+-- behind a moment that is no rest, since another level was asked for,
+abbrev wished : List Event
+wished = NotRead ∷ Got (got.Level level.L2 5) ∷ Settle level.L3 ∷ started (codes "r") 7 ++ entered level.L3 last_table
+
+wished-no_rest : is_none_due wished ≡ false
+wished-no_rest = refl
+
+wished-is_idle : is_idle wished ≡ true
+wished-is_idle = refl
+
+wished-is_sound : is_sound (opening level.L3) (Enter (stage.Run level.L2) 5 ∷ wished) ≡ true
+wished-is_sound = refl
+
+wished-farther : nearer (Enter (stage.Run level.L2) 5 ∷ []) wished ≡ 0 ∷ 3 ∷ []
+wished-farther = refl
+
+-- and behind one at which a start is under way
+abbrev born_then : List Event
+born_then = Told (codes "v") ∷ Birth (codes "v") 8 ∷ []
+
+born_then-is_sound : is_sound (opening level.L3) (born_then ++ unanswered ++ one_behind) ≡ true
+born_then-is_sound = refl
+
+born_then-farther : nearer born_then (unanswered ++ one_behind) ≡ 0 ∷ 1 ∷ []
+born_then-farther = refl

@@ -1,16 +1,17 @@
--- From rests to a settled level: each undisturbed round takes one of the rounds to come.
-use Rattle.core_waiting.proofs.Words.{◌≡◌, ◌≤◌, ◌<◌, ◌+◌, ◌-◌, refl, sym, ◌∙◌, ap, subst, ◌⊎◌, inl, inr, ℕ, zero, suc, ◌==◌, Bool, true, false, not, ◌&&◌, ◌||◌, cond, nat_le, List, [], ◌∷◌, ◌++◌, filter, length, Option, Some, None, arith, list_any, list_all, false≢true, false_from_ne_true, true_from_ne_false, or_left, or_right, and_parts, and_from, le-leb, leb-true, not-true, eq-eqb, Entry, Act, Level, S, Mark, Stage, starts_by, waited_by, wanted_by, same_level, starts_of, waited_of, same_id-self, both_ways, falsely, not_from, all_less, all_fail, any_filter, Passing, passing, Goal, Event, Child, is_of, table_of, stage_of, is_idle, grace_of, time_of, kept_children, starts_in, nothing_runs, is_asked, is_called, is_excluded, spell_hits, is_missed, in_run, goal_of, wants_reexec, wants_reread, level_wish, keeps_news, wish_stands, is_announced, is_sound, AtRest, is_awaited, awaited_children, is_empty, is_calm, is_gone, is_level_announced, to_come, after_rounds, signals_to_come, has_to_end, is_found_ended, is_nudge, is_unasked, is_undisturbed, AreUndisturbed, greatest, stages_ahead, destination, is_ahead, waits_ahead, waits_to_come, rounds_to_come}
+-- From rests to a settled level: each undisturbed round takes one of the rounds to come, and no other one adds any.
+use Rattle.core_waiting.proofs.Words.{◌≡◌, ◌≤◌, ◌<◌, ◌+◌, ◌-◌, refl, sym, ◌∙◌, ap, subst, ◌⊎◌, inl, inr, ℕ, zero, suc, ◌==◌, Bool, true, false, not, ◌&&◌, ◌||◌, cond, nat_le, List, [], ◌∷◌, ◌++◌, filter, length, Option, Some, None, arith, list_any, list_all, false≢true, false_from_ne_true, true_from_ne_false, or_left, or_right, and_parts, and_from, le-leb, leb-true, not-true, eq-eqb, Entry, Act, Level, S, Mark, Stage, starts_by, waited_by, wanted_by, same_level, starts_of, waited_of, same_id-self, both_ways, falsely, not_from, all_less, all_fail, any_less, any_filter, filter_none, or_either, Passing, passing, Goal, Event, Child, is_of, table_of, stage_of, is_quiet, is_idle, grace_of, time_of, kept_children, starts_in, nothing_runs, is_asked, is_called, is_excluded, spell_hits, is_missed, in_run, goal_of, wants_reexec, wants_reread, level_wish, keeps_news, wish_stands, is_announced, is_sound, AtRest, is_awaited, awaited_children, is_empty, is_calm, is_gone, is_waited_start, is_level_announced, to_come, after_rounds, signals_to_come, has_to_end, is_found_ended, is_nudge, is_unasked, is_undisturbed, AreUnasked, undisturbed_among, moves_on, has_kill_to_come, greatest, stages_ahead, destination, is_ahead, waits_ahead, waits_to_come, rounds_to_come}
 use Rattle.std.proofs.Common.{is_some}
 use Rattle.init_words.specs.declared.actions.Act.TheVariants as act
 use Rattle.init_words.specs.declared.stages.Stage.TheVariants as stage
-use Rattle.core_waiting.proofs.Rest.{rest_accounted, rest_heard, idle_quiet}
+use Rattle.trace_laws.proofs.Births.{sound_before}
+use Rattle.core_waiting.proofs.Rest.{rest_accounted, rest_heard, idle_quiet, some_awaited, excluded_awaits}
 use Rattle.core_waiting.proofs.Stops.{all_from}
 use Rattle.core_waiting.proofs.Once.{wanted_before, same_table}
-use Rattle.core_waiting.proofs.Progress.{filtered_none, progress}
+use Rattle.core_waiting.proofs.Progress.{filtered_none, awaited_from, progress}
 use Rattle.core_waiting.proofs.Rounds.{fewer, unlimited, fewer_to_come, still_level, sound_rest}
-use Rattle.core_waiting.proofs.Reached.{Round, lacks, passes_among, fewer_signals}
+use Rattle.core_waiting.proofs.Reached.{Round, lacks, passes_among, fewer_signals, no_more_signals}
 use Rattle.core_waiting.proofs.Ended.{ended_gone}
-use Rattle.core_waiting.proofs.Climbing.{Course, course, Entered, Lower, climbed_lower}
+use Rattle.core_waiting.proofs.Climbing.{Course, course, Entered, Lower, climbed_lower, none_awaited}
 
 -- the greatest of numbers, by a bound of each
 all_at_most : (f : Child → ℕ) (k : ℕ) (xs : List Child) → greatest f xs ≤ k → list_all (λ x. nat_le (f x) k) xs ≡ true
@@ -27,13 +28,13 @@ most past = greatest (signals_to_come past) (kept_children past)
 abbrev one_unless : Bool → ℕ
 one_unless b = cond b 0 1
 
+abbrev one_where : Bool → ℕ
+one_where b = cond b 1 0
+
 abbrev some : List Event → ℕ
 some past = one_unless (is_empty (awaited_children past))
 
 -- what an undisturbed round is
-abbrev moves_on : List Event → List Event → Bool
-moves_on round past = nat_le (time_of past + grace_of past) (time_of (round ++ past))
-
 abbrev found : List Event → List Event → Bool
 found round past = list_all (λ child. is_found_ended child.id round) (filter (has_to_end past) (kept_children past))
 
@@ -63,7 +64,7 @@ round_of goal round past sound rest idle calm it rest_later idle_later = record 
   calm = calm;
   nudged = it.nudged;
   reached = it.all_reached;
-  over = leb-true (time_of past + grace_of past) (time_of (round ++ past)) it.over;
+  over = or_either (nat_le (time_of past + grace_of past) (time_of (round ++ past))) (list_all (is_gone round past) (filter (has_kill_to_come past) (kept_children past))) it.over (λ h. inl (leb-true (time_of past + grace_of past) (time_of (round ++ past)) h)) (λ h. inr h);
   rest = rest_later;
   idle_later = idle_later;
 }
@@ -146,8 +147,8 @@ staged goal past rest = grind arith
 pub unwished : (goal : Goal) (past : List Event) → AtRest goal past → is_idle past ≡ true → is_some (level_wish past) ≡ false
 unwished goal past rest idle = falsely (is_some (level_wish past)) (wish_stands past) (λ wish. or_left (wants_reexec past || wants_reread past || is_some (level_wish past)) (in_run (stage_of past) && keeps_news past) (or_right (wants_reexec past || wants_reread past) (is_some (level_wish past)) wish)) (rest_heard goal past rest idle)
 
-course_of : (goal : Goal) (round past : List Event) → is_sound goal (round ++ past) ≡ true → AtRest goal past → is_idle past ≡ true → Parts round past → Course goal round past
-course_of goal round past sound rest idle it = course goal round past sound it.unasked (staged goal past rest) (unwished goal past rest idle) heard where
+course_of : (goal : Goal) (round past : List Event) → is_sound goal (round ++ past) ≡ true → AtRest goal past → is_idle past ≡ true → is_unasked round ≡ true → Course goal round past
+course_of goal round past sound rest idle unasked = course goal round past sound unasked (staged goal past rest) (unwished goal past rest idle) heard where
   heard : in_run (stage_of past) ≡ true → keeps_news past ≡ false
   heard running = falsely (keeps_news past) (wish_stands past) (λ news. or_right (wants_reexec past || wants_reread past || is_some (level_wish past)) (in_run (stage_of past) && keeps_news past) (and_from (in_run (stage_of past)) (keeps_news past) running news)) (rest_heard goal past rest idle)
 
@@ -164,7 +165,7 @@ falls_at goal round past sound rest idle let_be rest_later idle_later untold = a
   given = parts round past let_be
 
   way : Course goal round past
-  way = course_of goal round past sound rest idle given
+  way = course_of goal round past sound rest idle given.unasked
 
   waits : some past ≡ 1
   waits = one_awaited goal past (sound_rest goal round past sound rest) rest idle (falsely (is_level_announced past) (is_level_announced (round ++ past)) (still_announced goal round past way) untold)
@@ -208,25 +209,113 @@ falls_at goal round past sound rest idle let_be rest_later idle_later untold = a
 pub falls : (goal : Goal) (later round past : List Event) → is_sound goal (later ++ (round ++ past)) ≡ true → AtRest goal past → is_idle past ≡ true → is_undisturbed round past ≡ true → AtRest goal (round ++ past) → is_idle (round ++ past) ≡ true → is_level_announced (round ++ past) ≡ false → rounds_to_come goal (round ++ past) < rounds_to_come goal past
 falls goal later round past sound rest idle let_be rest_later idle_later untold = falls_at goal round past (sound_rest goal later (round ++ past) sound rest_later) rest idle let_be rest_later idle_later untold
 
+-- over a calm stretch no more are to come, with one where a child is awaited
+no_more_awaited : (goal : Goal) (between past : List Event) → is_sound goal (between ++ past) ≡ true → is_calm between ≡ true → is_quiet past ≡ true → to_come (between ++ past) + some (between ++ past) ≤ to_come past + some past
+no_more_awaited goal between past sound calm quiet = at (list_any (is_awaited (between ++ past)) (kept_children (between ++ past))) refl where
+  now : List Event
+  now = between ++ past
+
+  begun : list_any (is_waited_start past) between ≡ true → to_come now + some now ≤ to_come past + some past
+  begun started =
+      let less : to_come now < to_come past = fewer_to_come goal between past sound calm started in
+      let one : some now ≤ 1 = some_few now in
+      omega (arith, less, one)
+
+  before : list_any (λ y. is_awaited past y && not (is_gone between past y)) (kept_children past) ≡ true → to_come now + some now ≤ to_come past + some past
+  before left =
+      let still : to_come now ≤ to_come past = no_more between past calm in
+      let one : some now ≤ 1 = some_few now in
+      let own : some past ≡ 1 = ap one_unless (some_awaited past (any_less (λ y. is_awaited past y && not (is_gone between past y)) (is_awaited past) (λ y both. (and_parts (is_awaited past y) (not (is_gone between past y)) both).0) (kept_children past) left)) in
+      omega (arith, still, one, own)
+
+  at : (b : Bool) → list_any (is_awaited now) (kept_children now) ≡ b → to_come now + some now ≤ to_come past + some past
+  at true there = elim (awaited_from goal between past sound calm quiet there) [ inl started ↦ begun started | inr left ↦ before left ]
+  at false none =
+      let still : to_come now ≤ to_come past = no_more between past calm in
+      let zero : some now ≡ 0 = ap (λ xs. one_unless (is_empty xs)) (filter_none (is_awaited now) (kept_children now) none) in
+      omega (arith, still, zero)
+
+-- and no child lacks more
+no_more_most : (goal : Goal) (between past : List Event) → is_sound goal (between ++ past) ≡ true → is_calm between ≡ true → is_quiet past ≡ true → most (between ++ past) ≤ most past
+no_more_most goal between past sound calm quiet = at_most_all (signals_to_come (between ++ past)) (most past) (kept_children (between ++ past)) (no_more_signals goal between past sound calm quiet (most past) (all_at_most (signals_to_come past) (most past) (kept_children past) (same (most past)))) where
+  same : (n : ℕ) → n ≤ n
+  same n = omega arith
+
+-- what a sound trace ends with behind a rest is sound
+sound_behind : (goal : Goal) (later round past : List Event) → is_sound goal (later ++ (round ++ past)) ≡ true → AtRest goal past → is_sound goal (round ++ past) ≡ true
+sound_behind goal later [] past sound rest = sound_rest goal later past sound rest
+sound_behind goal later (happening ∷ round) past sound rest = sound_before goal later happening (round ++ past) sound
+
+-- so while nothing is asked they never rise, at rest or not
+never_rises : (goal : Goal) (round past : List Event) → is_sound goal (round ++ past) ≡ true → AtRest goal past → is_idle past ≡ true → is_unasked round ≡ true → rounds_to_come goal (round ++ past) ≤ rounds_to_come goal past
+never_rises goal round past sound rest idle unasked = add (waits_ahead (keeps_news (round ++ past)) (table_of (round ++ past)) (stages_ahead (goal_of goal (round ++ past)).level (stage_of (round ++ past)))) (aim_ahead goal past (stage_of (round ++ past))) (to_come (round ++ past)) (some (round ++ past)) (most (round ++ past)) (aim_ahead goal past (stage_of past) + to_come past + some past + most past) (same_ahead goal round past way.table way.aim way.news) (by way.path) where
+  add : (w d a b c z : ℕ) → w ≤ d → d + a + b + c ≤ z → w + a + b + c ≤ z
+  add w d a b c z h i = omega arith
+
+  way : Course goal round past
+  way = course_of goal round past sound rest idle unasked
+
+  calm_stays : is_calm round ≡ true → stage_of (round ++ past) ≡ stage_of past → aim_ahead goal past (stage_of (round ++ past)) + to_come (round ++ past) + some (round ++ past) + most (round ++ past) ≤ aim_ahead goal past (stage_of past) + to_come past + some past + most past
+  calm_stays calm stays = sum (aim_ahead goal past (stage_of (round ++ past))) (to_come (round ++ past)) (some (round ++ past)) (most (round ++ past)) (aim_ahead goal past (stage_of past)) (to_come past) (some past) (most past) (ap (aim_ahead goal past) stays) (no_more_awaited goal round past sound calm (idle_quiet past idle)) (no_more_most goal round past sound calm (idle_quiet past idle)) where
+    sum : (d a b c w x y z : ℕ) → d ≡ w → a + b ≤ x + y → c ≤ z → d + a + b + c ≤ w + x + y + z
+    sum d a b c w x y z h i j = omega arith
+
+  climb_stays : (it : Entered goal past (round ++ past)) → aim_ahead goal past (stage_of (round ++ past)) + to_come (round ++ past) + some (round ++ past) + most (round ++ past) ≤ aim_ahead goal past (stage_of past) + to_come past + some past + most past
+  climb_stays it = sum (aim_ahead goal past (stage_of (round ++ past))) (aim_ahead goal past (Some it.entered)) (length (filter (is_ahead (keeps_news past) it.entered) (table_of past))) (to_come it.start) (some it.start) (to_come (round ++ past)) (some (round ++ past)) (most (round ++ past)) (most it.start) (aim_ahead goal past (stage_of past)) (to_come past) (some past) (most past) (ap (aim_ahead goal past) it.here) it.ahead it.few (ap (λ xs. one_unless (is_empty xs)) (filter_none (is_awaited it.start) (kept_children it.start) none)) waits lacking none_there where
+    none : list_any (is_awaited it.start) (kept_children it.start) ≡ false
+    none = none_awaited goal past (round ++ past) it
+
+    sound_there : is_sound goal (it.after ++ it.start) ≡ true
+    sound_there = subst (λ x. is_sound goal x ≡ true) it.is sound
+
+    waits : to_come (round ++ past) + some (round ++ past) ≤ to_come it.start + some it.start
+    waits = subst (λ x. to_come x + some x ≤ to_come it.start + some it.start) (sym it.is) (no_more_awaited goal it.after it.start sound_there it.calm it.quiet)
+
+    lacking : most (round ++ past) ≤ most it.start
+    lacking = subst (λ x. most x ≤ most it.start) (sym it.is) (no_more_most goal it.after it.start sound_there it.calm it.quiet)
+
+    none_there : most it.start ≤ 0
+    none_there = at_most_all (signals_to_come it.start) 0 (kept_children it.start) (none_lack it.start (falsely (list_any (is_excluded it.start) (kept_children it.start)) (list_any (is_awaited it.start) (kept_children it.start)) (any_less (is_excluded it.start) (is_awaited it.start) (excluded_awaits it.start) (kept_children it.start)) none))
+
+    sum : (d w n t s a b c m v x y z : ℕ) → d ≡ w → n + w ≤ v → t ≤ n → s ≡ 0 → a + b ≤ t + s → c ≤ m → m ≤ 0 → d + a + b + c ≤ v + x + y + z
+    sum d w n t s a b c m v x y z is less few none waits more last = omega arith
+
+  by : ((is_calm round ≡ true) × (stage_of (round ++ past) ≡ stage_of past)) ⊎ Entered goal past (round ++ past) → aim_ahead goal past (stage_of (round ++ past)) + to_come (round ++ past) + some (round ++ past) + most (round ++ past) ≤ aim_ahead goal past (stage_of past) + to_come past + some past + most past
+  by (inl path) = calm_stays path.0 path.1
+  by (inr path) = climb_stays path
+
+pub stays : (goal : Goal) (later round past : List Event) → is_sound goal (later ++ (round ++ past)) ≡ true → AtRest goal past → is_idle past ≡ true → is_unasked round ≡ true → rounds_to_come goal (round ++ past) ≤ rounds_to_come goal past
+stays goal later round past sound rest idle unasked = never_rises goal round past (sound_behind goal later round past sound rest) rest idle unasked
+
 -- over rounds
-pub last_rest : (goal : Goal) (rounds : List (List Event)) (past : List Event) → AreUndisturbed goal rounds past → AtRest goal (after_rounds rounds past) × (is_idle (after_rounds rounds past) ≡ true)
+pub last_rest : (goal : Goal) (rounds : List (List Event)) (past : List Event) → AreUnasked goal rounds past → AtRest goal (after_rounds rounds past) × (is_idle (after_rounds rounds past) ≡ true)
 last_rest goal [] past are = are
 last_rest goal (round ∷ earlier) past are = (are.2, are.3)
 
-count : (goal : Goal) (rounds : List (List Event)) (past : List Event) → is_sound goal (after_rounds rounds past) ≡ true → AreUndisturbed goal rounds past → is_level_announced (after_rounds rounds past) ≡ false → length rounds + rounds_to_come goal (after_rounds rounds past) ≤ rounds_to_come goal past
+count : (goal : Goal) (rounds : List (List Event)) (past : List Event) → is_sound goal (after_rounds rounds past) ≡ true → AreUnasked goal rounds past → is_level_announced (after_rounds rounds past) ≡ false → undisturbed_among rounds past + rounds_to_come goal (after_rounds rounds past) ≤ rounds_to_come goal past
 count goal [] past sound are untold = omega arith
 count goal (round ∷ earlier) past sound are untold =
     let last = last_rest goal earlier past are.0 in
     let sound_before : is_sound goal (after_rounds earlier past) ≡ true = sound_rest goal round (after_rounds earlier past) sound last.0 in
-    let untold_before : is_level_announced (after_rounds earlier past) ≡ false = falsely (is_level_announced (after_rounds earlier past)) (is_level_announced (round ++ after_rounds earlier past)) (still_announced goal round (after_rounds earlier past) (course_of goal round (after_rounds earlier past) sound last.0 last.1 (parts round (after_rounds earlier past) are.1))) untold in
-    add (length earlier) (rounds_to_come goal past) (rounds_to_come goal (after_rounds earlier past)) (rounds_to_come goal (round ++ after_rounds earlier past)) (count goal earlier past sound_before are.0 untold_before) (falls_at goal round (after_rounds earlier past) sound last.0 last.1 are.1 are.2 are.3 untold) where
-      add : (n w b a : ℕ) → n + b ≤ w → a < b → suc n + a ≤ w
-      add n w b a h less = omega arith
+    let untold_before : is_level_announced (after_rounds earlier past) ≡ false = falsely (is_level_announced (after_rounds earlier past)) (is_level_announced (round ++ after_rounds earlier past)) (still_announced goal round (after_rounds earlier past) (course_of goal round (after_rounds earlier past) sound last.0 last.1 are.1)) untold in
+    add (undisturbed_among earlier past) (one_where (is_undisturbed round (after_rounds earlier past))) (rounds_to_come goal past) (rounds_to_come goal (after_rounds earlier past)) (rounds_to_come goal (round ++ after_rounds earlier past)) (count goal earlier past sound_before are.0 untold_before) (at (is_undisturbed round (after_rounds earlier past)) refl last.0 last.1) where
+      add : (n m w b a : ℕ) → n + b ≤ w → m + a ≤ b → m + n + a ≤ w
+      add n m w b a h less = omega arith
+
+      one_less : (a b : ℕ) → a < b → 1 + a ≤ b
+      one_less a b less = omega arith
+
+      no_less : (a b : ℕ) → a ≤ b → 0 + a ≤ b
+      no_less a b less = omega arith
+
+      at : (b : Bool) → is_undisturbed round (after_rounds earlier past) ≡ b → AtRest goal (after_rounds earlier past) → is_idle (after_rounds earlier past) ≡ true → one_where b + rounds_to_come goal (round ++ after_rounds earlier past) ≤ rounds_to_come goal (after_rounds earlier past)
+      at true it rest idle = one_less (rounds_to_come goal (round ++ after_rounds earlier past)) (rounds_to_come goal (after_rounds earlier past)) (falls_at goal round (after_rounds earlier past) sound rest idle it are.2 are.3 untold)
+      at false it rest idle = no_less (rounds_to_come goal (round ++ after_rounds earlier past)) (rounds_to_come goal (after_rounds earlier past)) (never_rises goal round (after_rounds earlier past) sound rest idle are.1)
 
 left_over : (goal : Goal) (past : List Event) → is_sound goal past ≡ true → AtRest goal past → is_idle past ≡ true → is_level_announced past ≡ false → 1 ≤ rounds_to_come goal past
 left_over goal past sound rest idle untold = grind (arith, one_awaited)
 
-pub arrives : (goal : Goal) (later : List Event) (rounds : List (List Event)) (past : List Event) → is_sound goal (later ++ after_rounds rounds past) ≡ true → AreUndisturbed goal rounds past → rounds_to_come goal past ≤ length rounds → is_level_announced (after_rounds rounds past) ≡ true
+pub arrives : (goal : Goal) (later : List Event) (rounds : List (List Event)) (past : List Event) → is_sound goal (later ++ after_rounds rounds past) ≡ true → AreUnasked goal rounds past → rounds_to_come goal past ≤ undisturbed_among rounds past → is_level_announced (after_rounds rounds past) ≡ true
 arrives goal later rounds past sound are enough = true_from_ne_false (is_level_announced (after_rounds rounds past)) wrong where
   last : AtRest goal (after_rounds rounds past) × (is_idle (after_rounds rounds past) ≡ true)
   last = last_rest goal rounds past are
@@ -235,20 +324,20 @@ arrives goal later rounds past sound are enough = true_from_ne_false (is_level_a
   sound_last = sound_rest goal later (after_rounds rounds past) sound last.0
 
   wrong : is_level_announced (after_rounds rounds past) ≡ false → ⊥
-  wrong untold = add (length rounds) (rounds_to_come goal (after_rounds rounds past)) (rounds_to_come goal past) (count goal rounds past sound_last are untold) (left_over goal (after_rounds rounds past) sound_last last.0 last.1 untold) enough where
+  wrong untold = add (undisturbed_among rounds past) (rounds_to_come goal (after_rounds rounds past)) (rounds_to_come goal past) (count goal rounds past sound_last are untold) (left_over goal (after_rounds rounds past) sound_last last.0 last.1 untold) enough where
     add : (n a w : ℕ) → n + a ≤ w → 1 ≤ a → w ≤ n → ⊥
     add n a w h i j = omega arith
 
 -- where it arrives
-bound_for : (goal : Goal) (rounds : List (List Event)) (past : List Event) → is_sound goal (after_rounds rounds past) ≡ true → AreUndisturbed goal rounds past → (goal_of goal (after_rounds rounds past) ≡ goal_of goal past) × (destination (goal_of goal past).level (stage_of (after_rounds rounds past)) ≡ destination (goal_of goal past).level (stage_of past))
+bound_for : (goal : Goal) (rounds : List (List Event)) (past : List Event) → is_sound goal (after_rounds rounds past) ≡ true → AreUnasked goal rounds past → (goal_of goal (after_rounds rounds past) ≡ goal_of goal past) × (destination (goal_of goal past).level (stage_of (after_rounds rounds past)) ≡ destination (goal_of goal past).level (stage_of past))
 bound_for goal [] past sound are = (refl, refl)
 bound_for goal (round ∷ earlier) past sound are =
     let last = last_rest goal earlier past are.0 in
     let before = bound_for goal earlier past (sound_rest goal round (after_rounds earlier past) sound last.0) are.0 in
-    let way : Course goal round (after_rounds earlier past) = course_of goal round (after_rounds earlier past) sound last.0 last.1 (parts round (after_rounds earlier past) are.1) in
+    let way : Course goal round (after_rounds earlier past) = course_of goal round (after_rounds earlier past) sound last.0 last.1 are.1 in
     (way.aim ∙ before.0, ap (λ (aim : Goal). destination aim.level (stage_of (round ++ after_rounds earlier past))) (sym before.0) ∙ way.bound_for ∙ ap (λ (aim : Goal). destination aim.level (stage_of (after_rounds earlier past))) before.0 ∙ before.1)
 
-pub arrives_there : (goal : Goal) (later : List Event) (rounds : List (List Event)) (past : List Event) → is_sound goal (later ++ after_rounds rounds past) ≡ true → AreUndisturbed goal rounds past → is_level_announced (after_rounds rounds past) ≡ true → stage_of (after_rounds rounds past) ≡ Some (stage.Run (destination (goal_of goal past).level (stage_of past)))
+pub arrives_there : (goal : Goal) (later : List Event) (rounds : List (List Event)) (past : List Event) → is_sound goal (later ++ after_rounds rounds past) ≡ true → AreUnasked goal rounds past → is_level_announced (after_rounds rounds past) ≡ true → stage_of (after_rounds rounds past) ≡ Some (stage.Run (destination (goal_of goal past).level (stage_of past)))
 arrives_there goal later rounds past sound are told = there (stage_of (after_rounds rounds past)) refl (and_parts (in_run (stage_of (after_rounds rounds past))) (is_announced (after_rounds rounds past)) told).0 where
   way : (goal_of goal (after_rounds rounds past) ≡ goal_of goal past) × (destination (goal_of goal past).level (stage_of (after_rounds rounds past)) ≡ destination (goal_of goal past).level (stage_of past))
   way = bound_for goal rounds past (sound_rest goal later (after_rounds rounds past) sound (last_rest goal rounds past are).0) are

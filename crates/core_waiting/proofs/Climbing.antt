@@ -517,6 +517,10 @@ course goal (happening ∷ between) past sound unasked staged unwished heard =
     let it = course goal between past two.1 unasked staged unwished heard in
     record { staged = it.staged; unwished = it.unwished; news = it.news; table = it.table; aim = it.aim; bound_for = it.bound_for; ahead = it.ahead; path = longer goal happening between past (λ calm. calm) (λ after calm. calm) refl (λ s after here running news before. before news) it.path }
 
+-- where it was entered, no child is awaited
+pub none_awaited : (goal : Goal) (past now : List Event) (it : Entered goal past now) → list_any (is_awaited it.start) (kept_children it.start) ≡ false
+none_awaited goal past now it = falsely (list_any (is_awaited it.start) (kept_children it.start)) (list_any (λ child. not (stands_by (table_of past) it.entered child)) (kept_children it.start)) (any_less (is_awaited it.start) (λ child. not (stands_by (table_of past) it.entered child)) (λ child own. not_from (stands_by (table_of past) it.entered child) (false_from_ne_true (stands_by (table_of past) it.entered child) (λ by. both_ways (is_awaited it.start child) own (not_awaited it.start it.entered it.stage child (ap (λ es. stands_by es it.entered child) it.table ∙ by))))) (kept_children it.start)) it.bystanders
+
 -- so behind it a waited entry was started, or the level is announced
 abbrev pub Lower : Goal → List Event → List Event → Type 0
 Lower goal past now = (waits_ahead (keeps_news past) (table_of past) (stages_ahead (goal_of goal past).level (stage_of now)) + to_come now < waits_ahead (keeps_news past) (table_of past) (stages_ahead (goal_of goal past).level (stage_of past))) × (list_any (is_excluded now) (kept_children now) ≡ false)
@@ -530,7 +534,7 @@ climbed_lower goal past now it sound rest idle untold = subst (λ x. Lower goal 
   level = (goal_of goal past).level
 
   none : list_any (is_awaited it.start) (kept_children it.start) ≡ false
-  none = falsely (list_any (is_awaited it.start) (kept_children it.start)) (list_any (λ child. not (stands_by (table_of past) it.entered child)) (kept_children it.start)) (any_less (is_awaited it.start) (λ child. not (stands_by (table_of past) it.entered child)) (λ child own. not_from (stands_by (table_of past) it.entered child) (false_from_ne_true (stands_by (table_of past) it.entered child) (λ by. both_ways (is_awaited it.start child) own (not_awaited it.start it.entered it.stage child (ap (λ es. stands_by es it.entered child) it.table ∙ by))))) (kept_children it.start)) it.bystanders
+  none = none_awaited goal past now it
 
   gone : list_all (is_gone it.after start) (awaited_children start) ≡ true
   gone = ap (list_all (is_gone it.after start)) (filter_none (is_awaited start) (kept_children start) none)

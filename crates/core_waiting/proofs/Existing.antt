@@ -1,7 +1,6 @@
--- In a run level each rest has an undisturbed round behind it: every child that is known ends, every signal hits.
-use Rattle.core_waiting.proofs.Words.{◌≡◌, ◌≤◌, ◌<◌, ◌+◌, ◌*◌, refl, sym, ◌∙◌, ap, subst, ◌⊎◌, inl, inr, ℕ, zero, suc, ◌==◌, Bool, true, false, not, ◌&&◌, ◌||◌, cond, nat_le, nat_lt, max, min, List, [], ◌∷◌, ◌++◌, filter, length, Option, Some, None, is_none, arith, list_any, list_all, option_map_or, false≢true, false_from_ne_true, and_parts, and_from, and_right, or_left, or_right, or_parts, or_from, not-true, le-leb, eq-eqb, none-some, same_Some, CLOCK_LIMIT, HOLD, Entry, Level, S, Stage, Exit, OrderKind, Start, Look, same_id, same_level, starts_of, waited_of, is_limited, same_id-is, same_id-self, same_id-sym, same_id-flip, same_id-from, same_level-self, same_stage-self, both_ways, and_false, falsely, or_either, not_from, any_less, filter_none, Passing, passing, entry_of, NewTable, Enter, Asked, Birth, Death, Reaped, Still, NoLook, Miss, Told, Clock, Nudge, Got, Step, Goal, Event, Child, Open, is_of, is_child, has_child, has_number, open_of, undone_of, is_untold, open_orders, is_quiet, is_idle, is_dead, is_living, unreaped_children, kept_children, known_children, table_of, stage_of, grace_of, time_of, may_live, is_order, is_wanted, is_owed, is_excluded, stop_by, stop_due, spell_hits, has_untold_miss, in_spell, tells_miss, is_missed, is_held, hold_times, is_full, in_run, goal_of, wants_reexec, wants_reread, level_wish, other_than, powers, letters, keeps_news, wish_stands, steps_if, none_excluded, enter_level, power_steps, letter_steps, stop_step, stops_of, stops_among, can_start, start_steps, starts_among, is_over, next_stage, is_settled, settle_step, record_ids, due_first, due_reexec, due_reread, due_level, due_news, due_stops, due_starts, due_stage, due_settle, is_announced, wants_look, can_look, looks_among, due_looks, step_if, same_step, is_due, may_come, is_sound, idle_none, told_same, told_other, told_any, told_known, known_kept, same_of, same_has, sound_holds, free_told, each_append, each_steps_if, MayStart, MayHold, due_facts, one_child, same_any, quiet_known, child_in_records, AtRest, after_rounds, has_to_end, is_end_seen, is_vain_look, is_found_ended, is_nudge, is_unasked, is_undisturbed, AreUndisturbed, greatest}
+-- Each rest at which no news waits has an undisturbed round behind it: every child that is known ends, every signal hits.
+use Rattle.core_waiting.proofs.Words.{◌≡◌, ◌≤◌, ◌<◌, ◌+◌, refl, sym, ◌∙◌, ap, subst, ◌⊎◌, inl, inr, ℕ, zero, suc, ◌==◌, Bool, true, false, not, ◌&&◌, ◌||◌, cond, nat_le, nat_lt, List, [], ◌∷◌, ◌++◌, filter, length, Option, Some, None, is_none, arith, list_any, list_all, option_map_or, false≢true, false_from_ne_true, and_parts, and_from, and_right, or_left, or_right, or_parts, or_from, not-true, le-leb, eq-eqb, none-some, same_Some, HOLD, Entry, Level, S, Stage, Exit, OrderKind, Start, Look, same_id, same_level, starts_of, waited_of, is_limited, same_id-is, same_id-self, same_id-sym, same_id-flip, same_id-from, same_level-self, same_stage-self, both_ways, and_false, falsely, or_either, not_from, any_less, filter_none, Passing, passing, entry_of, NewTable, Enter, Asked, Birth, Death, Reaped, Still, NoLook, Miss, Told, Nudge, Got, Step, Goal, Event, Child, Open, is_of, is_child, has_child, has_number, open_of, undone_of, is_untold, open_orders, is_quiet, is_idle, is_dead, is_living, unreaped_children, kept_children, known_children, table_of, stage_of, grace_of, time_of, may_live, is_order, is_wanted, is_owed, is_excluded, stop_by, stop_due, spell_hits, has_untold_miss, in_spell, tells_miss, is_missed, is_held, hold_times, is_full, in_run, goal_of, wants_reexec, wants_reread, level_wish, other_than, powers, letters, keeps_news, wish_stands, steps_if, none_excluded, enter_level, power_steps, letter_steps, stop_step, stops_of, stops_among, can_start, start_steps, starts_among, is_over, next_stage, is_settled, settle_step, record_ids, due_first, due_reexec, due_reread, due_level, due_news, due_stops, due_starts, due_stage, due_settle, is_announced, wants_look, can_look, looks_among, due_looks, step_if, same_step, is_due, may_come, is_sound, idle_none, told_same, told_other, told_any, told_known, known_kept, same_of, same_has, sound_holds, free_told, each_append, each_steps_if, MayStart, MayHold, due_facts, one_child, same_any, quiet_known, child_in_records, AtRest, after_rounds, has_to_end, is_end_seen, is_vain_look, is_found_ended, is_nudge, is_unasked, is_undisturbed, AreUnasked, undisturbed_among, moves_on, is_gone, is_start_of, has_kill_to_come, has_known, quiet_start, greatest}
 use Rattle.std.proofs.Common.{is_some}
-use Rattle.std.proofs.Math.Nat.{suc-mul}
 use Rattle.std.proofs.lemmas.List.Folds.{list_any-append}
 use Rattle.init_words.specs.declared.stages.Stage.TheVariants as stage
 use Rattle.init_words.specs.Orders.{same_stage}
@@ -35,10 +34,7 @@ record Kind (goal : Goal) (round past : List Event) : Type 0 where
   idle : is_idle (round ++ past) ≡ true
   kind : list_all is_kind round ≡ true
   nudged : list_any is_nudge round ≡ true
-  on_time : time_of (round ++ past) ≡ time_of past + grace_of past
   staged : is_some (stage_of (round ++ past)) ≡ true
-  graces : (most : ℕ) → grace_of past ≤ most → (goal_of goal past).grace ≤ most → grace_of (round ++ past) ≤ most
-  aim : goal_of goal (round ++ past) ≡ goal_of goal past
   news : keeps_news (round ++ past) ≡ false
   unwished : wish_stands (round ++ past) ≡ false
 
@@ -94,9 +90,6 @@ record Looked (goal : Goal) (id : List ℕ) (n : ℕ) (pre now : List Event) : T
   known : known_children pre ≡ known_children now
   wishes : wish_stands pre ≡ wish_stands now
   stages : stage_of pre ≡ stage_of now
-  times : time_of pre ≡ time_of now
-  graces : grace_of pre ≡ grace_of now
-  aims : goal_of goal pre ≡ goal_of goal now
   kept : keeps_news pre ≡ keeps_news now
   looks : (i : List ℕ) → wants_look i pre ≡ (not (same_id i id) && wants_look i now)
 
@@ -158,10 +151,7 @@ reap goal round past it child others is wants = by (is_dead id n now) refl where
       idle = ap (λ orders. not (list_any (λ (order : Open). true) (filter (λ (order : Open). not (same_id child.id order.id)) orders))) at.orders ∙ cleared_again child.id Look now it.idle;
       kind = kind;
       nudged = nudged;
-      on_time = at.times ∙ it.on_time;
       staged = ap is_some at.stages ∙ it.staged;
-      graces = λ most here goals. subst (λ g. g ≤ most) (sym at.graces) (it.graces most here goals);
-      aim = at.aims ∙ it.aim;
       news = at.kept ∙ it.news;
       unwished = at.wishes ∙ it.unwished;
     };
@@ -181,8 +171,8 @@ reap goal round past it child others is wants = by (is_dead id n now) refl where
   living alive = any_less (is_child child.id child.number) (λ x. has_number child.number x && not (is_dead x.id child.number now)) (λ x both. let parts = and_parts (same_id child.id x.id) (child.number == x.number) both in and_from (has_number child.number x) (not (is_dead x.id child.number now)) parts.1 (ap (λ i. not (is_dead i child.number now)) (sym (same_id-is child.id x.id parts.0)) ∙ ap not alive)) (unreaped_children now) unreaped
 
   by : (b : Bool) → is_dead child.id child.number now ≡ b → Reaped_one goal others past
-  by true dead = finish (Asked child.id Look ∷ round) (record { sound = asked; undone = undone_again child.id Look now; dead = dead; orders = refl; unreaped = refl; known = refl; wishes = refl; stages = refl; times = refl; graces = refl; aims = refl; kept = refl; looks = λ i. refl }) it.kind it.nudged
-  by false alive = finish (Death child.number ∷ Asked child.id Look ∷ round) (record { sound = and_from (is_living child.number (Asked child.id Look ∷ now)) (is_sound goal (Asked child.id Look ∷ now)) (living alive) asked; undone = undone_again child.id Look now; dead = or_left (child.number == child.number) (is_dead child.id child.number now) (eq-eqb child.number child.number refl); orders = refl; unreaped = refl; known = refl; wishes = refl; stages = refl; times = refl; graces = refl; aims = refl; kept = refl; looks = λ i. refl }) it.kind it.nudged
+  by true dead = finish (Asked child.id Look ∷ round) (record { sound = asked; undone = undone_again child.id Look now; dead = dead; orders = refl; unreaped = refl; known = refl; wishes = refl; stages = refl; kept = refl; looks = λ i. refl }) it.kind it.nudged
+  by false alive = finish (Death child.number ∷ Asked child.id Look ∷ round) (record { sound = and_from (is_living child.number (Asked child.id Look ∷ now)) (is_sound goal (Asked child.id Look ∷ now)) (living alive) asked; undone = undone_again child.id Look now; dead = or_left (child.number == child.number) (is_dead child.id child.number now) (eq-eqb child.number child.number refl); orders = refl; unreaped = refl; known = refl; wishes = refl; stages = refl; kept = refl; looks = λ i. refl }) it.kind it.nudged
 
 record Bare (goal : Goal) (past : List Event) : Type 0 where
   round : List Event
@@ -206,25 +196,19 @@ reap_all goal past (suc k) round it wants few = at (λ (one : List Event) (state
       less a b c h is i = omega arith
 
 -- the round begins
-begun : (goal : Goal) (past : List Event) → is_sound goal past ≡ true → is_idle past ≡ true → wish_stands past ≡ false → is_some (stage_of past) ≡ true → keeps_news past ≡ false → time_of past + grace_of past ≤ CLOCK_LIMIT → Kind goal (Nudge ∷ Clock (time_of past + grace_of past) ∷ []) past × (all_want (Nudge ∷ Clock (time_of past + grace_of past) ∷ past) ≡ true)
-begun goal past sound idle unwished staged news early = (
+begun : (goal : Goal) (past : List Event) → is_sound goal past ≡ true → is_idle past ≡ true → wish_stands past ≡ false → is_some (stage_of past) ≡ true → keeps_news past ≡ false → Kind goal (Nudge ∷ []) past × (all_want (Nudge ∷ past) ≡ true)
+begun goal past sound idle unwished staged news = (
   record {
     sound = sound;
     idle = idle;
     kind = refl;
     nudged = refl;
-    on_time = reads (time_of past) (grace_of past) CLOCK_LIMIT early;
     staged = staged;
-    graces = λ most here goals. here;
-    aim = refl;
     news = news;
     unwished = unwished;
   },
   all_from (λ (child : Child). has_child child.id (known_children past)) (known_children past) (false_from_ne_true (list_any (λ (child : Child). not (has_child child.id (known_children past))) (known_children past)) (λ some. wrong (passing (λ (child : Child). not (has_child child.id (known_children past))) (known_children past) some))),
 ) where
-  reads : (t g limit : ℕ) → t + g ≤ limit → max (min (t + g) limit) t ≡ t + g
-  reads t g limit h = omega arith
-
   wrong : Passing (λ (child : Child). not (has_child child.id (known_children past))) (known_children past) → ⊥
   wrong there = both_ways (has_child there.item.id (known_children past)) (there.within (is_of there.item.id) (same_id-self there.item.id)) (not-true (has_child there.item.id (known_children past)) there.passes)
 
@@ -261,6 +245,7 @@ record Free (goal : Goal) (round past : List Event) : Type 0 where
   kind : Kind goal round past
   bare : list_any (λ (child : Child). wants_look child.id (round ++ past)) (known_children (round ++ past)) ≡ false
   spared : list_any (is_excluded (round ++ past)) (kept_children (round ++ past)) ≡ false
+  gone : (id : List ℕ) → has_child id (kept_children (round ++ past)) ≡ true → list_any (is_start_of id) round ≡ true
 
 record Further (goal : Goal) (past : List Event) (n : ℕ) (o : Option Stage) : Type 0 where
   round : List Event
@@ -294,15 +279,13 @@ starting goal round past it i asks = record {
       idle = cleared_again i Start now it.kind.idle;
       kind = it.kind.kind;
       nudged = it.kind.nudged;
-      on_time = it.kind.on_time;
       staged = it.kind.staged;
-      graces = it.kind.graces;
-      aim = it.kind.aim;
       news = it.kind.news;
       unwished = it.kind.unwished;
     };
     bare = false_from_ne_true (list_any (λ (child : Child). wants_look child.id (Told i ∷ Birth i n ∷ Asked i Start ∷ now)) (known_children (Told i ∷ Birth i n ∷ Asked i Start ∷ now))) (λ some. wanting (told_any (λ (child : Child). wants_look child.id (Told i ∷ Birth i n ∷ Asked i Start ∷ now)) i (unreaped_children (Birth i n ∷ Asked i Start ∷ now)) (known_children now) some));
     spared = spared_step goal (Told i) (Birth i n ∷ Asked i Start ∷ now) (or_left (same_id i i) (is_untold i (Asked i Start ∷ now)) (same_id-self i)) born refl (spared_step goal (Birth i n) (Asked i Start ∷ now) may_birth asked refl it.spared);
+    gone = λ id there. gone_or_begun id (same_id id i) refl there;
   };
   lower = add (total (weight (Told i ∷ Birth i n ∷ Asked i Start ∷ now)) (table_of now)) (total (weight now) (table_of now)) (num (not (is_announced now))) (total_lower (weight (Told i ∷ Birth i n ∷ Asked i Start ∷ now)) (weight now) each i may.run.entry (table_of now) (may.run.found (sound_holds goal now it.kind.sound).distinct) own);
   stays = refl;
@@ -340,6 +323,10 @@ starting goal round past it i asks = record {
   kept_on : (id : List ℕ) (b : Bool) → same_id id i ≡ b → has_child id (kept_children now) ≡ true → has_child id (kept_children (Told i ∷ Birth i n ∷ Asked i Start ∷ now)) ≡ true
   kept_on id true same there = kept_here id same
   kept_on id false differ there = same_has id (kept_children (Told i ∷ Birth i n ∷ Asked i Start ∷ now)) (kept_children (Birth i n ∷ Asked i Start ∷ now)) (told_other id i (unreaped_children (Birth i n ∷ Asked i Start ∷ now)) (kept_children (Birth i n ∷ Asked i Start ∷ now)) differ) ∙ or_right (same_id id i) (has_child id (kept_children now)) there
+
+  gone_or_begun : (id : List ℕ) (b : Bool) → same_id id i ≡ b → has_child id (kept_children (Told i ∷ Birth i n ∷ Asked i Start ∷ now)) ≡ true → list_any (is_start_of id) (Told i ∷ Birth i n ∷ Asked i Start ∷ round) ≡ true
+  gone_or_begun id true same there = or_left (same_id id i) (list_any (is_start_of id) round) same
+  gone_or_begun id false differ there = or_right (same_id id i) (list_any (is_start_of id) round) (or_either (same_id id i) (has_child id (kept_children now)) (sym (same_has id (kept_children (Told i ∷ Birth i n ∷ Asked i Start ∷ now)) (kept_children (Birth i n ∷ Asked i Start ∷ now)) (told_other id i (unreaped_children (Birth i n ∷ Asked i Start ∷ now)) (kept_children (Birth i n ∷ Asked i Start ∷ now)) differ)) ∙ there) (λ same. both_ways (same_id id i) same differ) (it.gone id))
 
   childless_less : (a b : Bool) → (b ≡ true → a ≡ true) → num (not a) ≤ num (not b)
   childless_less true b h = least (num (not b)) where
@@ -382,15 +369,13 @@ holding goal round past it i asks = record {
       idle = it.kind.idle;
       kind = it.kind.kind;
       nudged = it.kind.nudged;
-      on_time = it.kind.on_time;
       staged = it.kind.staged;
-      graces = it.kind.graces;
-      aim = it.kind.aim;
       news = it.kind.news;
       unwished = it.kind.unwished;
     };
     bare = it.bare;
     spared = it.spared;
+    gone = it.gone;
   };
   lower = add (total (weight (Hold i ∷ now)) (table_of now)) (total (weight now) (table_of now)) (num (not (is_announced now))) (total_lower (weight (Hold i ∷ now)) (weight now) each i may.run.entry (table_of now) (may.run.found (sound_holds goal now it.kind.sound).distinct) own);
   stays = refl;
@@ -448,15 +433,13 @@ settling goal round past it level asks untold = record {
       idle = it.kind.idle;
       kind = it.kind.kind;
       nudged = it.kind.nudged;
-      on_time = it.kind.on_time;
       staged = it.kind.staged;
-      graces = it.kind.graces;
-      aim = it.kind.aim;
       news = it.kind.news;
       unwished = it.kind.unwished;
     };
     bare = it.bare;
     spared = it.spared;
+    gone = it.gone;
   };
   lower = add (total (weight (round ++ past)) (table_of (round ++ past))) (num (not (is_announced (round ++ past)))) (ap (λ b. num (not b)) untold);
   stays = refl;
@@ -558,15 +541,13 @@ climbing goal round past it s n over next climbs lower = record {
       idle = it.kind.idle;
       kind = it.kind.kind;
       nudged = it.kind.nudged;
-      on_time = it.kind.on_time;
       unwished = or_from (wants_reexec now || wants_reread now || is_some (other_than (Some s) None)) (in_run (Some s) && keeps_news now) (or_from (wants_reexec now || wants_reread now) (is_some (other_than (Some s) None)) (or_from (wants_reexec now) (wants_reread now) w.reexec w.reread) (no_other s)) (and_right (in_run (Some s)) (keeps_news now) it.kind.news);
       staged = refl;
-      graces = λ most here goals. subst (λ (aim : Goal). aim.grace ≤ most) (sym it.kind.aim) goals;
-      aim = it.kind.aim;
       news = it.kind.news;
     };
     bare = it.bare;
     spared = falsely (list_any (is_excluded (Enter s (goal_of goal now).grace ∷ now)) (kept_children now)) (list_any (λ child. not (stands_by (table_of now) s child)) (kept_children now)) (any_less (is_excluded (Enter s (goal_of goal now).grace ∷ now)) (λ child. not (stands_by (table_of now) s child)) (λ child own. not_from (stands_by (table_of now) s child) (false_from_ne_true (stands_by (table_of now) s child) (λ by. stands child own by (entry_of child.id (table_of now)) refl))) (kept_children now)) (bystanders_at now s over climbs);
+    gone = it.gone;
   };
   higher = lower;
 } where
@@ -728,10 +709,17 @@ all_pass : (p : Child → Bool) → ((x : Child) → p x ≡ true) → (xs : Lis
 all_pass p each [] = refl
 all_pass p each (x ∷ xs) = and_from (p x) (list_all p xs) (each x) (all_pass p each xs)
 
-undisturbed : (goal : Goal) (round past : List Event) → is_sound goal past ≡ true → is_idle past ≡ true → Kind goal round past → is_undisturbed round past ≡ true
-undisturbed goal round past sound idle it = and_from (is_unasked round && list_any is_nudge round && nat_le (time_of past + grace_of past) (time_of (round ++ past)) && list_all (λ child. is_found_ended child.id round) (filter (has_to_end past) (kept_children past))) (list_all (λ child. not (is_missed child (round ++ past))) (kept_children (round ++ past))) (and_from (is_unasked round && list_any is_nudge round && nat_le (time_of past + grace_of past) (time_of (round ++ past))) (list_all (λ child. is_found_ended child.id round) (filter (has_to_end past) (kept_children past))) (and_from (is_unasked round && list_any is_nudge round) (nat_le (time_of past + grace_of past) (time_of (round ++ past))) (and_from (is_unasked round) (list_any is_nudge round) (asks_nothing round it.kind) it.nudged) (le-leb (time_of past + grace_of past) (time_of (round ++ past)) (at_least (time_of past + grace_of past) (time_of (round ++ past)) it.on_time))) (all_pass (λ child. is_found_ended child.id round) (λ child. or_right (list_any (is_end_seen child.id) round) (not (list_any (is_vain_look child.id) round)) (not_from (list_any (is_vain_look child.id) round) (none_vain child.id round it.kind))) (filter (has_to_end past) (kept_children past)))) (all_pass (λ child. not (is_missed child (round ++ past))) (λ child. not_from (is_missed child (round ++ past)) (unmissed child round past it.kind it.nudged (misses_told child.id past (free_told child.id past (sound_holds goal past sound).told (idle_none child.id past idle))))) (kept_children (round ++ past))) where
-  at_least : (a b : ℕ) → b ≡ a → a ≤ b
-  at_least a b is = omega arith
+undisturbed : (goal : Goal) (round past : List Event) → is_sound goal past ≡ true → is_idle past ≡ true → Free goal round past → is_undisturbed round past ≡ true
+undisturbed goal round past sound idle it = and_from (is_unasked round && list_any is_nudge round && moves_on round past && ends) hits (and_from (is_unasked round && list_any is_nudge round && moves_on round past) ends (and_from (is_unasked round && list_any is_nudge round) (moves_on round past) (and_from (is_unasked round) (list_any is_nudge round) (asks_nothing round it.kind.kind) it.kind.nudged) (or_right (nat_le (time_of past + grace_of past) (time_of (round ++ past))) (list_all (is_gone round past) (filter (has_kill_to_come past) (kept_children past))) (all_pass (is_gone round past) (λ child. left child.id (has_child child.id (kept_children (round ++ past))) refl) (filter (has_kill_to_come past) (kept_children past))))) (all_pass (λ child. is_found_ended child.id round) (λ child. or_right (list_any (is_end_seen child.id) round) (not (list_any (is_vain_look child.id) round)) (not_from (list_any (is_vain_look child.id) round) (none_vain child.id round it.kind.kind))) (filter (has_to_end past) (kept_children past)))) (all_pass (λ child. not (is_missed child (round ++ past))) (λ child. not_from (is_missed child (round ++ past)) (unmissed child round past it.kind.kind it.kind.nudged (misses_told child.id past (free_told child.id past (sound_holds goal past sound).told (idle_none child.id past idle))))) (kept_children (round ++ past))) where
+  ends : Bool
+  ends = list_all (λ child. is_found_ended child.id round) (filter (has_to_end past) (kept_children past))
+
+  hits : Bool
+  hits = list_all (λ child. not (is_missed child (round ++ past))) (kept_children (round ++ past))
+
+  left : (id : List ℕ) (b : Bool) → has_child id (kept_children (round ++ past)) ≡ b → (not b || list_any (is_start_of id) round) ≡ true
+  left id true there = it.gone id there
+  left id false none = refl
 
 -- at its beginning no child is left that was known
 first_free : (goal : Goal) (past : List Event) (bare : Bare goal past) → Free goal bare.round past
@@ -739,6 +727,7 @@ first_free goal past it = record {
   kind = it.state;
   bare = ap (list_any (λ (child : Child). wants_look child.id (it.round ++ past))) it.none;
   spared = false_from_ne_true (list_any (is_excluded (it.round ++ past)) (kept_children (it.round ++ past))) (λ some. false≢true (sym (ap (list_any (is_excluded (it.round ++ past))) it.none) ∙ same_any (is_excluded (it.round ++ past)) (kept_children (it.round ++ past)) (known_children (it.round ++ past)) (quiet_known goal (it.round ++ past) it.state.sound (idle_quiet (it.round ++ past) it.state.idle)) some));
+  gone = λ id there. absurd (false≢true (sym (ap (has_child id) it.none) ∙ sym (has_known goal (it.round ++ past) it.state.sound id (quiet_start id (it.round ++ past) (idle_quiet (it.round ++ past) it.state.idle))) ∙ there));
 }
 
 record Behind (goal : Goal) (past : List Event) : Type 0 where
@@ -747,71 +736,52 @@ record Behind (goal : Goal) (past : List Event) : Type 0 where
   quiet : is_undisturbed round past ≡ true
   rest : AtRest goal (round ++ past)
   idle : is_idle (round ++ past) ≡ true
-  on_time : time_of (round ++ past) ≡ time_of past + grace_of past
-  graces : (most : ℕ) → grace_of past ≤ most → (goal_of goal past).grace ≤ most → grace_of (round ++ past) ≤ most
-  aim : goal_of goal (round ++ past) ≡ goal_of goal past
   news : keeps_news (round ++ past) ≡ false
+  unasked : is_unasked round ≡ true
 
-one_behind : (goal : Goal) (past : List Event) → is_sound goal past ≡ true → AtRest goal past → is_idle past ≡ true → keeps_news past ≡ false → time_of past + grace_of past ≤ CLOCK_LIMIT → Behind goal past
-one_behind goal past sound rest idle news early = record { round = it.round; sound = it.state.kind.sound; quiet = undisturbed goal it.round past sound idle it.state.kind; rest = it.rest; idle = it.state.kind.idle; on_time = it.state.kind.on_time; graces = it.state.kind.graces; aim = it.state.kind.aim; news = it.state.kind.news } where
-  first : Kind goal (Nudge ∷ Clock (time_of past + grace_of past) ∷ []) past × (all_want (Nudge ∷ Clock (time_of past + grace_of past) ∷ past) ≡ true)
-  first = begun goal past sound idle (rest_heard goal past rest idle) (at_stage goal past rest) news early
+one_behind : (goal : Goal) (past : List Event) → is_sound goal past ≡ true → AtRest goal past → is_idle past ≡ true → keeps_news past ≡ false → Behind goal past
+one_behind goal past sound rest idle news = record { round = it.round; sound = it.state.kind.sound; quiet = undisturbed goal it.round past sound idle it.state; rest = it.rest; idle = it.state.kind.idle; news = it.state.kind.news; unasked = asks_nothing it.round it.state.kind.kind } where
+  first : Kind goal (Nudge ∷ []) past × (all_want (Nudge ∷ past) ≡ true)
+  first = begun goal past sound idle (rest_heard goal past rest idle) (at_stage goal past rest) news
 
   bare : Bare goal past
-  bare = reap_all goal past (length (known_children past)) (Nudge ∷ Clock (time_of past + grace_of past) ∷ []) first.0 first.1 (same_most (length (known_children past)))
+  bare = reap_all goal past (length (known_children past)) (Nudge ∷ []) first.0 first.1 (same_most (length (known_children past)))
 
   it : Rested goal past
   it = to_rest goal past (above (stage_of (bare.round ++ past))) bare.round (first_free goal past bare) (same_most (above (stage_of (bare.round ++ past))))
 
--- so many of them, as far as the clock's limit lets
-record Chain (goal : Goal) (most k : ℕ) (past : List Event) : Type 0 where
+-- so many of them
+record Chain (goal : Goal) (k : ℕ) (past : List Event) : Type 0 where
   rounds : List (List Event)
   many : length rounds ≡ k
   sound : is_sound goal (after_rounds rounds past) ≡ true
-  quiet : AreUndisturbed goal rounds past
+  quiet : AreUnasked goal rounds past
+  all : undisturbed_among rounds past ≡ k
   rest : AtRest goal (after_rounds rounds past)
   idle : is_idle (after_rounds rounds past) ≡ true
-  in_time : time_of (after_rounds rounds past) ≤ time_of past + k * most
-  grace : grace_of (after_rounds rounds past) ≤ most
-  aim : goal_of goal (after_rounds rounds past) ≡ goal_of goal past
   news : keeps_news (after_rounds rounds past) ≡ false
 
-chain : (goal : Goal) (past : List Event) (most : ℕ) → is_sound goal past ≡ true → AtRest goal past → is_idle past ≡ true → keeps_news past ≡ false → grace_of past ≤ most → (goal_of goal past).grace ≤ most → (k : ℕ) → time_of past + k * most ≤ CLOCK_LIMIT → Chain goal most k past
-chain goal past most sound rest idle news grace goals zero early = record { rounds = []; many = refl; sound = sound; quiet = (rest, idle); rest = rest; idle = idle; in_time = none (time_of past) most; grace = grace; aim = refl; news = news } where
-  none : (t g : ℕ) → t ≤ t + 0 * g
-  none t g = omega arith
-chain goal past most sound rest idle news grace goals (suc k) early = longer_by (chain goal past most sound rest idle news grace goals k (less (time_of past) most CLOCK_LIMIT (suc-mul k most) early)) where
-  less : (t g limit : ℕ) → suc k * g ≡ k * g + g → t + suc k * g ≤ limit → t + k * g ≤ limit
-  less t g limit is h = omega arith
-
-  longer_by : Chain goal most k past → Chain goal most (suc k) past
-  longer_by it = on (one_behind goal (after_rounds it.rounds past) it.sound it.rest it.idle it.news (soon (time_of past) most CLOCK_LIMIT (time_of (after_rounds it.rounds past)) (grace_of (after_rounds it.rounds past)) (suc-mul k most) it.in_time it.grace early)) where
-    soon : (t g limit u h : ℕ) → suc k * g ≡ k * g + g → u ≤ t + k * g → h ≤ g → t + suc k * g ≤ limit → u + h ≤ limit
-    soon t g limit u h is a b c = omega arith
-
-    on : Behind goal (after_rounds it.rounds past) → Chain goal most (suc k) past
+chain : (goal : Goal) (past : List Event) → is_sound goal past ≡ true → AtRest goal past → is_idle past ≡ true → keeps_news past ≡ false → (k : ℕ) → Chain goal k past
+chain goal past sound rest idle news zero = record { rounds = []; many = refl; sound = sound; quiet = (rest, idle); all = refl; rest = rest; idle = idle; news = news }
+chain goal past sound rest idle news (suc k) = longer_by (chain goal past sound rest idle news k) where
+  longer_by : Chain goal k past → Chain goal (suc k) past
+  longer_by it = on (one_behind goal (after_rounds it.rounds past) it.sound it.rest it.idle it.news) where
+    on : Behind goal (after_rounds it.rounds past) → Chain goal (suc k) past
     on one = record {
       rounds = one.round ∷ it.rounds;
       many = ap (λ n. suc n) it.many;
       sound = one.sound;
-      quiet = (it.quiet, one.quiet, one.rest, one.idle);
+      quiet = (it.quiet, one.unasked, one.rest, one.idle);
+      all = one_more (is_undisturbed one.round (after_rounds it.rounds past)) (undisturbed_among it.rounds past) one.quiet it.all;
       rest = one.rest;
       idle = one.idle;
-      in_time = when (time_of past) most (time_of (after_rounds it.rounds past)) (grace_of (after_rounds it.rounds past)) (time_of (one.round ++ after_rounds it.rounds past)) (suc-mul k most) one.on_time it.in_time it.grace;
-      grace = one.graces most it.grace (subst (λ (aim : Goal). aim.grace ≤ most) (sym it.aim) goals);
-      aim = one.aim ∙ it.aim;
       news = one.news;
     } where
-      when : (t g u h v : ℕ) → suc k * g ≡ k * g + g → v ≡ u + h → u ≤ t + k * g → h ≤ g → v ≤ t + suc k * g
-      when t g u h v is a b c = omega arith
+      one_more : (b : Bool) (n : ℕ) → b ≡ true → n ≡ k → cond b 1 0 + n ≡ suc k
+      one_more true n own is = omega (arith, is)
+      one_more false n own is = absurd (false≢true own)
 
-pub rounds_exist : (goal : Goal) (later past : List Event) (k : ℕ) → is_sound goal (later ++ past) ≡ true → AtRest goal past → is_idle past ≡ true → keeps_news past ≡ false → time_of past + k * max (grace_of past) (goal_of goal past).grace ≤ CLOCK_LIMIT → (rounds : List (List Event)) × (length rounds ≡ k) × (is_sound goal (after_rounds rounds past) ≡ true) × AreUndisturbed goal rounds past
-rounds_exist goal later past k sound rest idle news early = read (chain goal past (max (grace_of past) (goal_of goal past).grace) (sound_rest goal later past sound rest) rest idle news (one (grace_of past) (goal_of goal past).grace) (other (grace_of past) (goal_of goal past).grace) k early) where
-  one : (a b : ℕ) → a ≤ max a b
-  one a b = omega arith
-
-  other : (a b : ℕ) → b ≤ max a b
-  other a b = omega arith
-
-  read : Chain goal (max (grace_of past) (goal_of goal past).grace) k past → (rounds : List (List Event)) × (length rounds ≡ k) × (is_sound goal (after_rounds rounds past) ≡ true) × AreUndisturbed goal rounds past
-  read it = (it.rounds, it.many, it.sound, it.quiet)
+pub rounds_exist : (goal : Goal) (later past : List Event) (k : ℕ) → is_sound goal (later ++ past) ≡ true → AtRest goal past → is_idle past ≡ true → keeps_news past ≡ false → (rounds : List (List Event)) × (length rounds ≡ k) × (is_sound goal (after_rounds rounds past) ≡ true) × AreUnasked goal rounds past × (undisturbed_among rounds past ≡ k)
+rounds_exist goal later past k sound rest idle news = read (chain goal past (sound_rest goal later past sound rest) rest idle news k) where
+  read : Chain goal k past → (rounds : List (List Event)) × (length rounds ≡ k) × (is_sound goal (after_rounds rounds past) ≡ true) × AreUnasked goal rounds past × (undisturbed_among rounds past ≡ k)
+  read it = (it.rounds, it.many, it.sound, it.quiet, it.all)

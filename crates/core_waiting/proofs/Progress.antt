@@ -1,6 +1,6 @@
 -- Between two rests, where what was awaited at the first is gone at the second, a waited entry was started, or the
 -- level is announced.
-use Rattle.core_waiting.proofs.Words.{arith, ◌≡◌, refl, sym, ◌∙◌, ap, ℕ, Bool, true, false, not, ◌&&◌, ◌||◌, cond, List, [], ◌∷◌, ◌++◌, filter, Option, Some, None, list_any, list_all, option_map_or, false≢true, false_from_ne_true, true_from_ne_false, and_parts, and_from, or_left, or_right, or_parts, or_from, Entry, Act, OrderKind, Start, Look, Term, Kill, same_id, wanted_by, is_limited, waited_of, same_id-is, same_id-self, both_ways, falsely, or_either, not_from, any_less, Passing, passing, entry_of, NewTable, Enter, Asked, Birth, Told, Goal, Event, table_of, stage_of, Child, is_of, has_child, open_of, is_quiet, is_idle, newborn, kept_children, starts_now, is_order, nothing_runs, is_asked, is_called, is_wanted, may_live, is_excluded, may_come, is_sound, kept_before_told, undone_is_open, is_order-is, due_facts, sound_holds, start_undone, born_ready, placed_spared, quiet_start, is_table, at_moment, sound_step, Excluded, WaitedFor, InTheWay, AtRest, why_of_entry, is_awaited, awaited_children, is_level_announced, is_calm, is_waited_id, is_start_of, is_waited_start, is_gone}
+use Rattle.core_waiting.proofs.Words.{arith, ◌≡◌, refl, sym, ◌∙◌, ap, ℕ, Bool, true, false, not, ◌&&◌, ◌||◌, cond, List, [], ◌∷◌, ◌++◌, filter, ◌⊎◌, inl, inr, Option, Some, None, list_any, list_all, option_map_or, false≢true, false_from_ne_true, true_from_ne_false, and_parts, and_from, or_left, or_right, or_parts, or_from, Entry, Act, OrderKind, Start, Look, Term, Kill, same_id, wanted_by, is_limited, waited_of, same_id-is, same_id-self, both_ways, falsely, or_either, not_from, any_less, Passing, passing, entry_of, NewTable, Enter, Asked, Birth, Told, Goal, Event, table_of, stage_of, Child, is_of, has_child, open_of, is_quiet, is_idle, newborn, kept_children, starts_now, is_order, nothing_runs, is_asked, is_called, is_wanted, may_live, is_excluded, may_come, is_sound, kept_before_told, undone_is_open, is_order-is, due_facts, sound_holds, start_undone, born_ready, placed_spared, quiet_start, is_table, at_moment, sound_step, Excluded, WaitedFor, InTheWay, AtRest, why_of_entry, is_awaited, awaited_children, is_level_announced, is_calm, is_waited_id, is_start_of, is_waited_start, is_gone}
 use Rattle.std.proofs.Common.{is_some}
 use Rattle.trace_events.specs.declared.happenings.Happening.TheVariants.{Call, Power}
 use Rattle.trace_events.specs.declared.steps.Step.TheVariants as step
@@ -154,9 +154,10 @@ is_waited_at : (past : List Event) (id : List ℕ) → is_waited_id id past ≡ 
 is_waited_at past id waited (Asked i Start) own = ap (λ x. is_waited_id x past) (sym (same_id-is id i own)) ∙ waited
 is_waited_at past id waited _ own = absurd (false≢true own)
 
-pub progress : (goal : Goal) (between past : List Event) → is_sound goal (between ++ past) ≡ true → is_calm between ≡ true → is_quiet past ≡ true → AtRest goal (between ++ past) → is_idle (between ++ past) ≡ true → list_all (is_gone between past) (awaited_children past) ≡ true → is_level_announced (between ++ past) ≡ false → list_any (is_waited_start past) between ≡ true
-progress goal between past sound calm quiet rest idle_later gone untold = by (passing (is_awaited (between ++ past)) (kept_children (between ++ past)) (true_from_ne_false (list_any (is_awaited (between ++ past)) (kept_children (between ++ past))) (λ none. false≢true (sym untold ∙ announced_or_awaited goal (between ++ past) sound rest idle_later none)))) where
-  by : Passing (is_awaited (between ++ past)) (kept_children (between ++ past)) → list_any (is_waited_start past) between ≡ true
+-- what is awaited behind a calm stretch was awaited before it and isn't gone, or a waited entry was started in it
+pub awaited_from : (goal : Goal) (between past : List Event) → is_sound goal (between ++ past) ≡ true → is_calm between ≡ true → is_quiet past ≡ true → list_any (is_awaited (between ++ past)) (kept_children (between ++ past)) ≡ true → (list_any (is_waited_start past) between ≡ true) ⊎ (list_any (λ y. is_awaited past y && not (is_gone between past y)) (kept_children past) ≡ true)
+awaited_from goal between past sound calm quiet some = by (passing (is_awaited (between ++ past)) (kept_children (between ++ past)) some) where
+  by : Passing (is_awaited (between ++ past)) (kept_children (between ++ past)) → (list_any (is_waited_start past) between ≡ true) ⊎ (list_any (λ y. is_awaited past y && not (is_gone between past y)) (kept_children past) ≡ true)
   by there = at (list_any (is_start_of there.item.id) between) refl where
     id : List ℕ
     id = there.item.id
@@ -173,8 +174,8 @@ progress goal between past sound calm quiet rest idle_later gone untold = by (pa
             entry_id : there.item.id ≡ wants.entry.id
             entry_id = found_id there.item.id (table_of (between ++ past)) wants.entry wants.found
 
-    left : list_any (is_start_of there.item.id) between ≡ false → Passing (λ x. is_of there.item.id x && is_awaited (between ++ past) x) (kept_children past) → list_any (is_waited_start past) between ≡ true
-    left none x = both_ways (list_any (λ y. is_awaited past y && not (is_gone between past y)) (kept_children past)) (x.within (λ y. is_awaited past y && not (is_gone between past y)) (and_from (is_awaited past x.item) (not (is_gone between past x.item)) (was_awaited between past calm x.item kept parts.1) (not_from (is_gone between past x.item) (or_from (not (has_child x.item.id (kept_children (between ++ past)))) (list_any (is_start_of x.item.id) between) (ap not kept) (ap (λ i. list_any (is_start_of i) between) (sym same) ∙ none))))) (filtered_none (is_gone between past) (is_awaited past) (kept_children past) gone) where
+    left : list_any (is_start_of there.item.id) between ≡ false → Passing (λ x. is_of there.item.id x && is_awaited (between ++ past) x) (kept_children past) → list_any (λ y. is_awaited past y && not (is_gone between past y)) (kept_children past) ≡ true
+    left none x = x.within (λ y. is_awaited past y && not (is_gone between past y)) (and_from (is_awaited past x.item) (not (is_gone between past x.item)) (was_awaited between past calm x.item kept parts.1) (not_from (is_gone between past x.item) (or_from (not (has_child x.item.id (kept_children (between ++ past)))) (list_any (is_start_of x.item.id) between) (ap not kept) (ap (λ i. list_any (is_start_of i) between) (sym same) ∙ none)))) where
       parts : (is_of there.item.id x.item ≡ true) × (is_awaited (between ++ past) x.item ≡ true)
       parts = and_parts (is_of there.item.id x.item) (is_awaited (between ++ past) x.item) x.passes
 
@@ -184,9 +185,15 @@ progress goal between past sound calm quiet rest idle_later gone untold = by (pa
       kept : has_child x.item.id (kept_children (between ++ past)) ≡ true
       kept = ap (λ i. has_child i (kept_children (between ++ past))) (sym same) ∙ own
 
-    at : (b : Bool) → list_any (is_start_of there.item.id) between ≡ b → list_any (is_waited_start past) between ≡ true
-    at true some = started some (quit_at goal there.item.id between past sound calm some)
-    at false none = left none (passing (λ x. is_of there.item.id x && is_awaited (between ++ past) x) (kept_children past) (kept_back goal there.item.id (is_awaited (between ++ past)) between past sound calm (quiet_start there.item.id past quiet) none (there.within (λ x. is_of there.item.id x && is_awaited (between ++ past) x) (and_from (is_of there.item.id there.item) (is_awaited (between ++ past) there.item) (same_id-self there.item.id) there.passes))))
+    at : (b : Bool) → list_any (is_start_of there.item.id) between ≡ b → (list_any (is_waited_start past) between ≡ true) ⊎ (list_any (λ y. is_awaited past y && not (is_gone between past y)) (kept_children past) ≡ true)
+    at true begun = inl (started begun (quit_at goal there.item.id between past sound calm begun))
+    at false none = inr (left none (passing (λ x. is_of there.item.id x && is_awaited (between ++ past) x) (kept_children past) (kept_back goal there.item.id (is_awaited (between ++ past)) between past sound calm (quiet_start there.item.id past quiet) none (there.within (λ x. is_of there.item.id x && is_awaited (between ++ past) x) (and_from (is_of there.item.id there.item) (is_awaited (between ++ past) there.item) (same_id-self there.item.id) there.passes)))))
+
+pub progress : (goal : Goal) (between past : List Event) → is_sound goal (between ++ past) ≡ true → is_calm between ≡ true → is_quiet past ≡ true → AtRest goal (between ++ past) → is_idle (between ++ past) ≡ true → list_all (is_gone between past) (awaited_children past) ≡ true → is_level_announced (between ++ past) ≡ false → list_any (is_waited_start past) between ≡ true
+progress goal between past sound calm quiet rest idle_later gone untold = elim (awaited_from goal between past sound calm quiet (true_from_ne_false (list_any (is_awaited (between ++ past)) (kept_children (between ++ past))) (λ none. false≢true (sym untold ∙ announced_or_awaited goal (between ++ past) sound rest idle_later none)))) [
+  | inl begun ↦ begun
+  | inr left ↦ both_ways (list_any (λ y. is_awaited past y && not (is_gone between past y)) (kept_children past)) left (filtered_none (is_gone between past) (is_awaited past) (kept_children past) gone)
+]
 
 pub rests_progress : (goal : Goal) (later between past : List Event) → is_sound goal (later ++ (between ++ past)) ≡ true → is_calm between ≡ true → AtRest goal past → is_idle past ≡ true → AtRest goal (between ++ past) → is_idle (between ++ past) ≡ true → list_all (is_gone between past) (awaited_children past) ≡ true → is_level_announced (between ++ past) ≡ false → list_any (is_waited_start past) between ≡ true
 rests_progress goal later between past sound calm rest idle rest_later idle_later gone untold = progress goal between past (at_moment goal (λ x. AtRest goal x → is_sound goal x ≡ true) (λ h. absurd (not_first goal h)) (λ x ok h. ok) later (between ++ past) sound rest_later) calm (idle_quiet past idle) rest_later idle_later gone untold

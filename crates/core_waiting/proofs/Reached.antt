@@ -1,8 +1,8 @@
 -- Over an undisturbed round a child that lacks a signal is sent one.
-use Rattle.core_waiting.proofs.Words.{◌≡◌, ◌≤◌, ◌+◌, ◌-◌, refl, sym, ◌∙◌, ap, subst, ℕ, suc, Bool, true, false, not, ◌&&◌, cond, nat_le, max, min, List, [], ◌∷◌, ◌++◌, map, length, Option, length-append, arith, list_any, list_all, false≢true, false_from_ne_true, and_parts, and_from, or_parts, le-leb, leb-true, not-true, CLOCK_LIMIT, OrderKind, Start, Term, same_id, same_id-is, same_id-self, both_ways, not_from, Passing, passing, Birth, Told, Clock, Goal, Event, Child, is_of, open_of, is_idle, grace_of, time_of, kept_children, is_order, is_excluded, Signal, told_at, untold_hits, is_birth_of, in_spell, tells_hits, spell_hits, is_missed, is_ripe, is_sound, is_order-is, idle_none, undone_is_open, start_undone, AtRest, are_in_force, is_stopping, is_calm, is_start_of, signals_to_come, is_nudge}
+use Rattle.core_waiting.proofs.Words.{◌≡◌, ◌≤◌, ◌+◌, ◌-◌, refl, sym, ◌∙◌, ap, subst, ◌⊎◌, inl, inr, ℕ, suc, ◌==◌, Bool, true, false, not, ◌&&◌, cond, nat_le, max, min, List, [], ◌∷◌, ◌++◌, filter, map, length, Option, length-append, arith, list_any, list_all, false≢true, false_from_ne_true, and_parts, and_from, or_parts, or_from, le-leb, leb-true, not-true, CLOCK_LIMIT, OrderKind, Start, Term, same_id, same_id-is, same_id-self, both_ways, not_from, Passing, passing, Birth, Told, Clock, Goal, Event, Child, is_of, has_child, open_of, is_quiet, is_idle, grace_of, time_of, kept_children, is_order, is_excluded, Signal, told_at, untold_hits, is_birth_of, in_spell, tells_hits, spell_hits, is_missed, is_ripe, is_sound, is_order-is, idle_none, undone_is_open, start_undone, quiet_start, AtRest, are_in_force, is_stopping, is_calm, is_gone, is_start_of, signals_to_come, has_kill_to_come, is_nudge}
 use Rattle.std.proofs.Common.{append_assoc}
 use Rattle.core_waiting.proofs.Stops.{all_from, stops_at}
-use Rattle.core_waiting.proofs.Progress.{Next, next_of, excluded_still, no_start, kept_back, quit_at}
+use Rattle.core_waiting.proofs.Progress.{Next, next_of, excluded_still, filtered_none, no_start, kept_back, quit_at}
 
 -- lists
 joined : (p : Signal → Bool) (xs ys : List Signal) → list_all p xs ≡ true → list_all p ys ≡ true → list_all p (xs ++ ys) ≡ true
@@ -120,6 +120,13 @@ of_lacks k past child own less = ap (λ b. nat_le (cond b (2 - length (spell_hit
 stopped_force : (past : List Event) (child : Child) → is_excluded past child ≡ true → is_missed child past ≡ false → is_stopping past child ≡ true → are_in_force (grace_of past) (time_of past) (spell_hits child past) ≡ true
 stopped_force past child own hit h = grind arith
 
+-- one that doesn't lack just the KILL is sent one at once, or lacks none
+sent_at_once : (grace now k : ℕ) (hits new : List Signal) → (2 - length hits == 1) ≡ false → are_in_force grace now (new ++ hits) ≡ true → 2 - length hits ≤ suc k → 2 - length (new ++ hits) ≤ k
+sent_at_once grace now k [] [] other force lacks = absurd (false≢true force)
+sent_at_once grace now k [] (signal ∷ new) other force lacks = omega arith
+sent_at_once grace now k (signal ∷ []) new other force lacks = absurd (false≢true (sym other))
+sent_at_once grace now k (signal ∷ first ∷ hits) new other force lacks = let n = length-append new (signal ∷ first ∷ hits) in omega (arith, n)
+
 -- what of a round is known here
 pub record Round (goal : Goal) (round past : List Event) : Type 0 where
   pub sound : is_sound goal (round ++ past) ≡ true
@@ -128,7 +135,7 @@ pub record Round (goal : Goal) (round past : List Event) : Type 0 where
   pub calm : is_calm round ≡ true
   pub nudged : list_any is_nudge round ≡ true
   pub reached : list_all (λ child. not (is_missed child (round ++ past))) (kept_children (round ++ past)) ≡ true
-  pub over : time_of past + grace_of past ≤ time_of (round ++ past)
+  pub over : (time_of past + grace_of past ≤ time_of (round ++ past)) ⊎ (list_all (is_gone round past) (filter (has_kill_to_come past) (kept_children past)) ≡ true)
   pub rest : AtRest goal (round ++ past)
   pub idle_later : is_idle (round ++ past) ≡ true
 
@@ -148,8 +155,8 @@ fewer_signals goal round past it k all = all_from (lacks k now) (kept_children n
   stays child = fails child && (is_stopping now child && not (is_missed child now))
 
   -- it was there before
-  was : (id : List ℕ) → list_any (is_start_of id) round ≡ false → Passing (λ x. is_of id x && stays x) (kept_children past) → ⊥
-  was id none there = both_ways (lacks k now child) (of_lacks k now child own (subst (λ hits. 2 - length hits ≤ k) (sym more.is) fewer)) (not-true (lacks k now child) two.0) where
+  was : (id : List ℕ) → list_any (is_start_of id) round ≡ false → has_child id (kept_children now) ≡ true → Passing (λ x. is_of id x && stays x) (kept_children past) → ⊥
+  was id none here there = both_ways (lacks k now child) (of_lacks k now child own (subst (λ hits. 2 - length hits ≤ k) (sym more.is) fewer)) (not-true (lacks k now child) two.0) where
     child : Child
     child = there.item
 
@@ -174,8 +181,24 @@ fewer_signals goal round past it k all = all_from (lacks k now) (kept_children n
     force : are_in_force (grace_of now) (time_of now) (spell_hits child now) ≡ true
     force = stopped_force now child own (not-true (is_missed child now) stop.1) stop.0
 
+    not_gone : is_gone round past child ≡ false
+    not_gone = or_from (not (has_child child.id (kept_children now))) (list_any (is_start_of child.id) round) (ap not (ap (λ i. has_child i (kept_children now)) (sym same) ∙ here)) (ap (λ i. list_any (is_start_of i) round) (sym same) ∙ none)
+
+    in_force : are_in_force (grace_of past) (time_of now) (more.new ++ spell_hits child past) ≡ true
+    in_force = subst (λ hits. are_in_force (grace_of past) (time_of now) hits ≡ true) more.is (ap (λ grace. are_in_force grace (time_of now) (spell_hits child now)) (sym (same_grace round past it.calm)) ∙ force)
+
+    lacked : 2 - length (spell_hits child past) ≤ suc k
+    lacked = lacks_of (suc k) past child own_before (passes_among (lacks (suc k) past) (λ x. is_of id x && stays x) (kept_children past) all there)
+
+    others : list_all (is_gone round past) (filter (has_kill_to_come past) (kept_children past)) ≡ true → (b : Bool) → has_kill_to_come past child ≡ b → 2 - length (more.new ++ spell_hits child past) ≤ k
+    others left true last = both_ways (list_any (λ x. has_kill_to_come past x && not (is_gone round past x)) (kept_children past)) (there.within (λ x. has_kill_to_come past x && not (is_gone round past x)) (and_from (has_kill_to_come past child) (not (is_gone round past child)) last (not_from (is_gone round past child) not_gone))) (filtered_none (is_gone round past) (has_kill_to_come past) (kept_children past) left)
+    others left false other = sent_at_once (grace_of past) (time_of now) k (spell_hits child past) more.new (ap (λ b. cond b (2 - length (spell_hits child past)) 0 == 1) (sym own_before) ∙ other) in_force lacked
+
     fewer : 2 - length (more.new ++ spell_hits child past) ≤ k
-    fewer = sent (grace_of past) (time_of now) (time_of past) k (spell_hits child past) more.new (told_by_now child past) it.over (subst (λ hits. are_in_force (grace_of past) (time_of now) hits ≡ true) more.is (ap (λ grace. are_in_force grace (time_of now) (spell_hits child now)) (sym (same_grace round past it.calm)) ∙ force)) (lacks_of (suc k) past child own_before (passes_among (lacks (suc k) past) (λ x. is_of id x && stays x) (kept_children past) all there))
+    fewer = elim it.over [
+      | inl over ↦ sent (grace_of past) (time_of now) (time_of past) k (spell_hits child past) more.new (told_by_now child past) over in_force lacked
+      | inr left ↦ others left (has_kill_to_come past child) refl
+    ]
 
   wrong : Passing fails (kept_children now) → ⊥
   wrong there = at (list_any (is_start_of there.item.id) round) refl where
@@ -184,4 +207,39 @@ fewer_signals goal round past it k all = all_from (lacks k now) (kept_children n
 
     at : (b : Bool) → list_any (is_start_of there.item.id) round ≡ b → ⊥
     at true some = both_ways (list_any (is_excluded now) (kept_children now)) (there.within (is_excluded now) (excluded there.item there.passes)) (quit_at goal there.item.id round past it.sound it.calm some).spared
-    at false none = was there.item.id none (passing (λ x. is_of there.item.id x && stays x) (kept_children past) (kept_back goal there.item.id stays round past it.sound it.calm (none_open there.item.id past it.idle) none (there.within (λ x. is_of there.item.id x && stays x) (and_from (is_of there.item.id there.item) (stays there.item) (same_id-self there.item.id) (and_from (fails there.item) (is_stopping now there.item && not (is_missed there.item now)) there.passes (and_from (is_stopping now there.item) (not (is_missed there.item now)) (passes_among (is_stopping now) fails (kept_children now) (stops_at goal now it.sound it.rest it.idle_later) there) (passes_among (λ child. not (is_missed child now)) fails (kept_children now) it.reached there)))))))
+    at false none = was there.item.id none (there.within (is_of there.item.id) (same_id-self there.item.id)) (passing (λ x. is_of there.item.id x && stays x) (kept_children past) (kept_back goal there.item.id stays round past it.sound it.calm (none_open there.item.id past it.idle) none (there.within (λ x. is_of there.item.id x && stays x) (and_from (is_of there.item.id there.item) (stays there.item) (same_id-self there.item.id) (and_from (fails there.item) (is_stopping now there.item && not (is_missed there.item now)) there.passes (and_from (is_stopping now there.item) (not (is_missed there.item now)) (passes_among (is_stopping now) fails (kept_children now) (stops_at goal now it.sound it.rest it.idle_later) there) (passes_among (λ child. not (is_missed child now)) fails (kept_children now) it.reached there)))))))
+
+-- over a calm stretch no child comes to lack more
+pub no_more_signals : (goal : Goal) (between past : List Event) → is_sound goal (between ++ past) ≡ true → is_calm between ≡ true → is_quiet past ≡ true → (k : ℕ) → list_all (lacks k past) (kept_children past) ≡ true → list_all (lacks k (between ++ past)) (kept_children (between ++ past)) ≡ true
+no_more_signals goal between past sound calm quiet k all = all_from (lacks k now) (kept_children now) (false_from_ne_true (list_any fails (kept_children now)) (λ some. wrong (passing fails (kept_children now) some))) where
+  now : List Event
+  now = between ++ past
+
+  fails : Child → Bool
+  fails child = not (lacks k now child)
+
+  was : (id : List ℕ) → list_any (is_start_of id) between ≡ false → Passing (λ x. is_of id x && fails x) (kept_children past) → ⊥
+  was id none there = both_ways (lacks k now child) (of_lacks k now child own (subst (λ hits. 2 - length hits ≤ k) (sym more.is) (no_less k (spell_hits child past) more.new (lacks_of k past child own_before (passes_among (lacks k past) (λ x. is_of id x && fails x) (kept_children past) all there))))) (not-true (lacks k now child) two.1) where
+    child : Child
+    child = there.item
+
+    two : (is_of id child ≡ true) × (fails child ≡ true)
+    two = and_parts (is_of id child) (fails child) there.passes
+
+    own : is_excluded now child ≡ true
+    own = lacks_excluded (is_excluded now child) (2 - length (spell_hits child now)) k two.1
+
+    own_before : is_excluded past child ≡ true
+    own_before = sym (excluded_still between past calm child) ∙ own
+
+    more : Grown child between past
+    more = grown goal child between past sound calm (quiet_start child.id past quiet) (ap (λ i. list_any (is_start_of i) between) (sym (same_id-is id child.id two.0)) ∙ none) own_before
+
+    no_less : (n : ℕ) (hits new : List Signal) → 2 - length hits ≤ n → 2 - length (new ++ hits) ≤ n
+    no_less n hits new less = let m = length-append new hits in omega (arith, m)
+
+  wrong : Passing fails (kept_children now) → ⊥
+  wrong there = at (list_any (is_start_of there.item.id) between) refl where
+    at : (b : Bool) → list_any (is_start_of there.item.id) between ≡ b → ⊥
+    at true some = both_ways (list_any (is_excluded now) (kept_children now)) (there.within (is_excluded now) (lacks_excluded (is_excluded now there.item) (2 - length (spell_hits there.item now)) k there.passes)) (quit_at goal there.item.id between past sound calm some).spared
+    at false none = was there.item.id none (passing (λ x. is_of there.item.id x && fails x) (kept_children past) (kept_back goal there.item.id fails between past sound calm (quiet_start there.item.id past quiet) none (there.within (λ x. is_of there.item.id x && fails x) (and_from (is_of there.item.id there.item) (fails there.item) (same_id-self there.item.id) there.passes))))

@@ -1,5 +1,5 @@
 -- From each rest at which no news waits a settled level can be reached.
-use Rattle.core_waiting.proofs.Words.{◌≡◌, ◌≤◌, ◌+◌, ◌*◌, refl, sym, ◌∙◌, ap, subst, true, false, max, List, [], ◌∷◌, ◌++◌, length, Some, arith, CLOCK_LIMIT, Run, Goal, Event, is_idle, stage_of, grace_of, time_of, goal_of, keeps_news, is_sound, AtRest, is_level_announced, after_rounds, AreUndisturbed, destination, rounds_to_come}
+use Rattle.core_waiting.proofs.Words.{◌≡◌, ◌≤◌, refl, sym, ◌∙◌, ap, subst, ℕ, true, false, List, [], ◌∷◌, ◌++◌, length, Some, arith, Run, Goal, Event, is_idle, stage_of, goal_of, keeps_news, is_sound, AtRest, is_level_announced, after_rounds, AreUnasked, undisturbed_among, destination, rounds_to_come}
 use Rattle.std.proofs.Common.{append_assoc}
 use Rattle.core_waiting.proofs.Arriving.{arrives, arrives_there}
 use Rattle.core_waiting.proofs.Existing.{rounds_exist}
@@ -16,12 +16,14 @@ one_stretch (round ∷ earlier) past = ap (λ x. round ++ x) (one_stretch earlie
 abbrev Reached : Goal → List Event → List Event → Type 0
 Reached goal past now = (is_sound goal now ≡ true) × (is_level_announced now ≡ true) × (stage_of now ≡ Some (Run (destination (goal_of goal past).level (stage_of past))))
 
-pub reached : (goal : Goal) (later past : List Event) → is_sound goal (later ++ past) ≡ true → AtRest goal past → is_idle past ≡ true → keeps_news past ≡ false → time_of past + rounds_to_come goal past * max (grace_of past) (goal_of goal past).grace ≤ CLOCK_LIMIT → (onward : List Event) × (is_sound goal (onward ++ past) ≡ true) × (is_level_announced (onward ++ past) ≡ true) × (stage_of (onward ++ past) ≡ Some (Run (destination (goal_of goal past).level (stage_of past))))
-reached goal later past sound rest idle news early = by (rounds_exist goal later past (rounds_to_come goal past) sound rest idle news early) where
-  by : (rounds : List (List Event)) × (length rounds ≡ rounds_to_come goal past) × (is_sound goal (after_rounds rounds past) ≡ true) × AreUndisturbed goal rounds past → (onward : List Event) × (is_sound goal (onward ++ past) ≡ true) × (is_level_announced (onward ++ past) ≡ true) × (stage_of (onward ++ past) ≡ Some (Run (destination (goal_of goal past).level (stage_of past))))
+pub reached : (goal : Goal) (later past : List Event) → is_sound goal (later ++ past) ≡ true → AtRest goal past → is_idle past ≡ true → keeps_news past ≡ false → (onward : List Event) × (is_sound goal (onward ++ past) ≡ true) × (is_level_announced (onward ++ past) ≡ true) × (stage_of (onward ++ past) ≡ Some (Run (destination (goal_of goal past).level (stage_of past))))
+reached goal later past sound rest idle news = by (rounds_exist goal later past (rounds_to_come goal past) sound rest idle news) where
+  by : (rounds : List (List Event)) × (length rounds ≡ rounds_to_come goal past) × (is_sound goal (after_rounds rounds past) ≡ true) × AreUnasked goal rounds past × (undisturbed_among rounds past ≡ rounds_to_come goal past) → (onward : List Event) × (is_sound goal (onward ++ past) ≡ true) × (is_level_announced (onward ++ past) ≡ true) × (stage_of (onward ++ past) ≡ Some (Run (destination (goal_of goal past).level (stage_of past))))
   by some = (in_one some.0, there.0, there.1, there.2) where
-    enough : rounds_to_come goal past ≤ length some.0
-    enough = grind arith
+    enough : rounds_to_come goal past ≤ undisturbed_among some.0 past
+    enough = same (undisturbed_among some.0 past) (rounds_to_come goal past) some.4 where
+      same : (a b : ℕ) → a ≡ b → b ≤ a
+      same a b is = omega arith
 
     told : is_level_announced (after_rounds some.0 past) ≡ true
     told = arrives goal [] some.0 past some.2 some.3 enough

@@ -95,8 +95,11 @@ room_awaited past distinct h = at (found_entry (lacks_room past) (table_of past)
       let parts = and_parts (asks_room past found.entry) (has_child found.entry.id (kept_children past)) found.passes in
       any_less (is_of found.entry.id) (is_awaited past) (λ child own. entry_awaited past child found.entry (ap (λ i. entry_of i (table_of past)) (sym (same_id-is found.entry.id child.id own)) ∙ found.found) parts.0) (kept_children past) parts.1
 
+pub excluded_awaits : (past : List Event) (child : Child) → is_excluded past child ≡ true → is_awaited past child ≡ true
+excluded_awaits past child own = rw own refl
+
 excluded_awaited : (past : List Event) → list_any (is_excluded past) (kept_children past) ≡ true → list_any (is_awaited past) (kept_children past) ≡ true
-excluded_awaited past h = any_less (is_excluded past) (is_awaited past) (λ child own. rw own refl) (kept_children past) h
+excluded_awaited past h = any_less (is_excluded past) (is_awaited past) (excluded_awaits past) (kept_children past) h
 
 -- rank 7: where no entry lacks room, all stand still
 pub waited_free : (a : Act) → waited_by a ≡ true → is_limited a ≡ true → false ≡ true
@@ -195,7 +198,7 @@ three false announced empty awaited h some = refl
 three true announced empty true h some = or_right announced (not empty) (not_from empty (some refl))
 three true announced empty false h some = or_left announced (not empty) (h refl refl)
 
-some_awaited : (past : List Event) → list_any (is_awaited past) (kept_children past) ≡ true → is_empty (awaited_children past) ≡ false
+pub some_awaited : (past : List Event) → list_any (is_awaited past) (kept_children past) ≡ true → is_empty (awaited_children past) ≡ false
 some_awaited past h = not_empty (awaited_children past) (any_filter (λ child. true) (is_awaited past) (kept_children past) ∙ any_less (is_awaited past) (λ child. is_awaited past child && true) (λ child own. and_from (is_awaited past child) true own refl) (kept_children past) h)
 
 pub not_first : (goal : Goal) → AtRest goal [] → ⊥

@@ -1,5 +1,5 @@
 -- Worked rests, each with whose end init awaits there and why: `refl` computes them.
-use Rattle.core_waiting.proofs.Words.{◌≡◌, refl, ℕ, true, false, List, [], ◌∷◌, ◌++◌, codes, map, Option, Some, Entry, Act, Level, Mark, At, OnCall, Start, Look, Term, Exit, NewTable, NotRead, Enter, Asked, Birth, NoBirth, Death, Reaped, Hit, Miss, Told, Clock, Nudge, Got, Goal, Event, Child, is_idle, due, is_sound, WhyAwaited, Excluded, WaitedFor, InTheWay, why_awaited, awaited_children, is_level_announced, is_on_power, to_come, after_rounds, AreUndisturbed}
+use Rattle.core_waiting.proofs.Words.{◌≡◌, refl, ℕ, true, false, List, [], ◌∷◌, ◌++◌, codes, map, Option, Some, Entry, Act, Level, Mark, At, OnCall, Start, Look, Term, Exit, NewTable, NotRead, Enter, Asked, Birth, NoBirth, Death, Reaped, Hit, Miss, Told, Clock, Nudge, Got, Goal, Event, Child, is_idle, due, is_sound, WhyAwaited, Excluded, WaitedFor, InTheWay, why_awaited, awaited_children, is_level_announced, is_on_power, to_come, after_rounds, AreUnasked, undisturbed_among}
 use Rattle.init_words.specs.declared.actions.Act.TheVariants as act
 use Rattle.init_words.specs.declared.levels.Level.TheVariants as level
 use Rattle.init_words.specs.declared.levels.Letter.TheVariants as letter
@@ -367,8 +367,11 @@ second_ends = Settle level.L3 ∷ started (codes "r") 9 ++ ended (codes "w") 8 +
 two_rounds-are_sound : is_sound (opening level.L3) (after_rounds (second_ends ∷ first_ends ∷ []) first_runs) ≡ true
 two_rounds-are_sound = refl
 
-two_rounds-are_undisturbed : AreUndisturbed (opening level.L3) (second_ends ∷ first_ends ∷ []) first_runs
-two_rounds-are_undisturbed = (((refl, refl), refl, refl, refl), refl, refl, refl)
+two_rounds-are_unasked : AreUnasked (opening level.L3) (second_ends ∷ first_ends ∷ []) first_runs
+two_rounds-are_unasked = (((refl, refl), refl, refl, refl), refl, refl, refl)
+
+two_rounds-undisturbed : undisturbed_among (second_ends ∷ first_ends ∷ []) first_runs ≡ 2
+two_rounds-undisturbed = refl
 
 first_runs-to_come : to_come first_runs ≡ 1
 first_runs-to_come = refl

@@ -1,5 +1,5 @@
 -- The words of the proofs of this crate.
-pub use Rattle.std.proofs.Common.{arith, ◌≡◌, ◌≤◌, ◌⊎◌, inl, inr, refl, sym, ◌∙◌, ap, ℕ, Bool, true, false, ◌&&◌, not, cond, List, [], ◌∷◌, ◌++◌, length, Option, Some, None, ◌+◌, nat_le, codes, filter, ◌<◌, ◌-◌, subst, zero, suc, ◌==◌, ◌||◌, map, filter_map, find, option_and_then, is_none, length-append, ◌*◌, nat_lt, max, min}
+pub use Rattle.std.proofs.Common.{arith, ◌≡◌, ◌≤◌, ◌⊎◌, inl, inr, refl, sym, ◌∙◌, ap, ℕ, Bool, true, false, ◌&&◌, not, cond, List, [], ◌∷◌, ◌++◌, length, Option, Some, None, ◌+◌, nat_le, codes, filter, ◌<◌, ◌-◌, subst, zero, suc, ◌==◌, ◌||◌, map, filter_map, find, option_and_then, is_none, length-append, nat_lt, max, min}
 pub use Rattle.std.specs.List.{list_any, list_all, cons_option}
 pub use Rattle.std.proofs.lemmas.Bool.{false≢true, not-true, false_from_ne_true, true_from_ne_false, or_left, or_right, and_parts, and_from, le-leb, leb-true, eq-eqb, eqb-true, or_parts, or_from, and_right}
 pub use Rattle.std.proofs.lemmas.Option.{none-some, same_Some}
@@ -20,7 +20,7 @@ pub use Rattle.trace_events.specs.Due.{is_due, same_step, due_first, enter_level
 pub use Rattle.trace_events.specs.Sound.{is_sound, may_come}
 pub use Rattle.trace_laws.proofs.Dues.{each_append, each_steps_if, each_step_if, due_facts, MayStop, MayStart, MayHold, MayRun, MaySettle}
 pub use Rattle.trace_laws.proofs.Births.{step_at, at_moment, sound_step, one_child, is_table}
-pub use Rattle.core_waiting.specs.Arrival.{AreUndisturbed, destination, rounds_to_come, has_to_end, is_found_ended, is_nudge, is_unasked, waits_to_come, signals_to_come, is_undisturbed, greatest, stages_ahead, is_ahead, waits_ahead, is_end_seen, is_vain_look}
+pub use Rattle.core_waiting.specs.Arrival.{AreUnasked, undisturbed_among, moves_on, has_kill_to_come, destination, rounds_to_come, has_to_end, is_found_ended, is_nudge, is_unasked, waits_to_come, signals_to_come, is_undisturbed, greatest, stages_ahead, is_ahead, waits_ahead, is_end_seen, is_vain_look}
 pub use Rattle.core_waiting.specs.Rest.{AtRest, after_rounds, is_level_announced, is_awaited, awaited_children, is_empty, is_calm, is_gone, to_come, why_of_entry, why_awaited, is_start_of, is_waited_start, is_looked_at, is_stopping, is_waited_id, are_in_force, is_to_come, is_on_power, answers_power}
 pub use Rattle.core_waiting.specs.Requests.{is_elsewhere, is_no_level_asked, is_stage_entered}
 pub use Rattle.init_words.specs.declared.entries.Entry.{Entry}

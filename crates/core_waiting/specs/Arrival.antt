@@ -1,4 +1,4 @@
--- Undisturbed rounds, and in how many of them a level is settled.
+-- Undisturbed rounds, other rounds between them, and in how many undisturbed ones a level is settled.
 use Rattle.std.specs.Prelude.{ℕ, Bool, true, false, not, ◌&&◌, ◌||◌, ◌==◌, ◌+◌, ◌-◌, ◌++◌, IsTrue, if◌then◌else◌, nat_le, List, [], ◌∷◌, filter, length, max, Option, Some}
 use Rattle.std.specs.List.{list_any, list_all}
 use Rattle.init_words.specs.Ids.{same_id}
@@ -18,11 +18,15 @@ use Rattle.trace_events.specs.Past.{Child, is_idle, table_of, stage_of, grace_of
 use Rattle.trace_events.specs.Wanted.{is_excluded}
 use Rattle.trace_events.specs.Spells.{spell_hits, is_missed}
 use Rattle.trace_events.specs.Wishes.{goal_of, keeps_news}
-use Rattle.core_waiting.specs.Rest.{AtRest, is_awaited, awaited_children, is_empty, to_come, after_rounds}
+use Rattle.core_waiting.specs.Rest.{AtRest, is_awaited, awaited_children, is_empty, is_gone, to_come, after_rounds}
 
 -- of the two signals that stop an excluded child, how many were not told to have reached it; none to any other child
 abbrev pub signals_to_come : List Event → Child → ℕ
 signals_to_come past child = if is_excluded past child then 2 - length (spell_hits child past) else 0
+
+-- a child that was sent just the first of the two, and has the KILL still to come
+abbrev pub has_kill_to_come : List Event → Child → Bool
+has_kill_to_come past child = signals_to_come past child == 1
 
 -- a child whose end is awaited, and that was sent its KILL if it is excluded
 abbrev pub has_to_end : List Event → Child → Bool
@@ -55,20 +59,34 @@ is_unasked (Got request ∷ stretch) = false
 is_unasked (NewTable table ∷ stretch) = false
 is_unasked (happening ∷ stretch) = is_unasked stretch
 
+-- in the round the clock goes on by the grace, or each child that had the KILL still to come is gone
+abbrev pub moves_on : List Event → List Event → Bool
+moves_on round past =
+    nat_le (time_of past + grace_of past) (time_of (round ++ past))
+    || list_all (is_gone round past) (filter (has_kill_to_come past) (kept_children past))
+
 -- an undisturbed round behind a rest: nothing is asked of init and no table comes, a round begins, the clock goes on by
--- the grace, each child that had to end is found ended, and no signal missed a child since the last round began
+-- the grace where a child that had the KILL still to come isn't gone, each child that had to end is found ended, and no
+-- signal missed a child since the last round began
 abbrev pub is_undisturbed : List Event → List Event → Bool
 is_undisturbed round past = is_unasked round && list_any is_nudge round
-    && nat_le (time_of past + grace_of past) (time_of (round ++ past))
+    && moves_on round past
     && list_all (λ child. is_found_ended child.id round) (filter (has_to_end past) (kept_children past))
     && list_all (λ child. not (is_missed child (round ++ past))) (kept_children (round ++ past))
 
--- rounds, the newest first, from a rest: each is undisturbed, and leads to a rest with no order open
-abbrev pub AreUndisturbed : Goal → List (List Event) → List Event → Type 0
-AreUndisturbed goal [] past = AtRest goal past × IsTrue (is_idle past)
-AreUndisturbed goal (round ∷ earlier) past =
-    AreUndisturbed goal earlier past × IsTrue (is_undisturbed round (after_rounds earlier past))
+-- rounds, the newest first, from a rest with no order open: in each nothing is asked of init and no table comes, and each
+-- leads to such a rest; else anything may happen in them
+abbrev pub AreUnasked : Goal → List (List Event) → List Event → Type 0
+AreUnasked goal [] past = AtRest goal past × IsTrue (is_idle past)
+AreUnasked goal (round ∷ earlier) past =
+    AreUnasked goal earlier past × IsTrue (is_unasked round)
     × AtRest goal (round ++ after_rounds earlier past) × IsTrue (is_idle (round ++ after_rounds earlier past))
+
+-- how many of them are undisturbed
+abbrev pub undisturbed_among : List (List Event) → List Event → ℕ
+undisturbed_among [] past = 0
+undisturbed_among (round ∷ earlier) past =
+    (if is_undisturbed round (after_rounds earlier past) then 1 else 0) + undisturbed_among earlier past
 
 -- the greatest of the children's numbers
 abbrev pub greatest : (Child → ℕ) → List Child → ℕ

@@ -1,6 +1,6 @@
 //! No request for a level is lost (telinit(8)).
 
-ghost use Rattle.std.specs.Prelude.{◌≡◌, ◌≤◌, ◌⊎◌, ℕ, IsTrue, false, List, ◌∷◌, ◌++◌, length, Some};
+ghost use Rattle.std.specs.Prelude.{◌≡◌, ◌≤◌, ◌⊎◌, ℕ, IsTrue, false, List, ◌∷◌, ◌++◌, Some};
 ghost use Rattle.init_words.specs.declared.levels.Level.{Level};
 ghost use Rattle.init_words.specs.declared.stages.Stage.{Stage};
 ghost use Rattle.init_words.specs.declared.stages.Stage.TheVariants.{Boot, Run};
@@ -12,7 +12,7 @@ ghost use Rattle.trace_events.specs.Event.{Event};
 ghost use Rattle.trace_events.specs.Past.{stage_of, is_idle};
 ghost use Rattle.trace_events.specs.Wishes.{goal_of};
 ghost use Rattle.trace_events.specs.Sound.{is_sound};
-ghost use Rattle.core_waiting.specs.Arrival.{AreUndisturbed, rounds_to_come};
+ghost use Rattle.core_waiting.specs.Arrival.{AreUnasked, undisturbed_among, rounds_to_come};
 ghost use Rattle.core_waiting.specs.Rest.{AtRest, after_rounds, is_level_announced};
 ghost use Rattle.core_waiting.specs.Requests.{is_elsewhere, is_no_level_asked, is_stage_entered};
 
@@ -35,14 +35,14 @@ pub fn law_of_request()
         → ((stage ≡ Run level)
         ⊎ (stage ≡ Boot) × ((goal_of goal (between ++ Got (LevelAsked level grace) ∷ before)).level
         ≡ level)) × (seconds ≡ grace) }
-    // and from the first rest with no order open on, in as many undisturbed rounds as there are to come there, that level
-    // is announced settled; whatever the stage was at the request
+    // and from the first rest with no order open on, after as many undisturbed rounds as there are to come there, that
+    // level is announced settled; whatever the stage was at the request, and whatever else but a request came between
     ensures settled { (goal : Goal) (later between before : List Event)
         (rounds : List (List Event)) (level : Level) (grace : ℕ)
         → let asked : List Event = between ++ Got (LevelAsked level grace) ∷ before in
         IsTrue (is_sound goal (later ++ after_rounds rounds asked))
         → IsTrue (is_elsewhere level (stage_of before)) → IsTrue (is_no_level_asked between)
-        → AreUndisturbed goal rounds asked → rounds_to_come goal asked ≤ length rounds
+        → AreUnasked goal rounds asked → rounds_to_come goal asked ≤ undisturbed_among rounds asked
         → IsTrue (is_level_announced (after_rounds rounds asked))
         × (stage_of (after_rounds rounds asked) ≡ Some (Run level)) }
 {}

@@ -1,5 +1,5 @@
 -- Turns as rounds, and the level that they come to.
-use Rattle.init_turns.proofs.Words.{◌≡◌, refl, sym, ap, ◌∙◌, subst, ℕ, zero, suc, ◌+◌, ◌-◌, ◌<◌, ◌≤◌, inl, inr, Bool, true, false, ◌&&◌, nat_lt, List, [], ◌∷◌, ◌++◌, length, take, arith, length-append, list_all, and_from, and_parts, ltb-true, list_all-append, Goal, Event, is_sound, CoreState, AreUndisturbed, is_undisturbed, AtRest, after_rounds, Clock, Pause, HostCall, STEP_LIMIT, are_carried, are_seconds_short, is_allowed, Point, point_after, AreSteps, AreTurns, IsTurn, are_full, are_lates, are_takes, has_come, is_step, calls_allowed, carried_parts, point_after-append, ArrivesIn, IsSettled, are_undisturbed_turns, is_answered_turn, past_after, round_of, up_to_pause, without_turn, without_turns}
+use Rattle.init_turns.proofs.Words.{◌≡◌, refl, sym, ap, ◌∙◌, subst, ℕ, zero, suc, ◌+◌, ◌-◌, ◌<◌, ◌≤◌, inl, inr, Bool, true, false, ◌&&◌, nat_lt, List, [], ◌∷◌, ◌++◌, length, take, cond, append_assoc, arith, length-append, list_all, and_from, and_parts, ltb-true, list_all-append, Goal, Event, is_sound, CoreState, AreUnasked, undisturbed_among, is_unasked, is_undisturbed, AtRest, after_rounds, Clock, Pause, HostCall, STEP_LIMIT, are_carried, are_seconds_short, is_allowed, Point, point_after, AreSteps, AreTurns, IsTurn, are_full, are_lates, are_takes, has_come, is_step, calls_allowed, carried_parts, point_after-append, ArrivesIn, IsSettled, are_unasked_rounds, undisturbed_rounds, turns_in, without_rounds, is_answered_turn, past_after, round_of, up_to_pause, without_turn, without_turns}
 use Rattle.trace_events.specs.Past.{is_idle}
 use Rattle.core_waiting.proofs.Arriving.{arrives, arrives_there}
 use Rattle.core_waiting.proofs.Idle.{idle_none_due}
@@ -92,64 +92,88 @@ module _ (fitted : Goal → Point → Type 0) (goal : Goal) (p : Point) (sound :
         ap (λ cs. is_sound goal (past_after cs p)) is ∙ tracked.sound,
       )
 
-  -- the turns as rounds
-  pub record Rounds (n : ℕ) (calls : List HostCall) : Type 0 where
-    pub rounds : List (List Event)
-    pub count : length rounds ≡ n
-    pub whole : after_rounds rounds (past_after (without_turns n calls) p) ≡ past_after calls p
-    pub are : AreUndisturbed goal rounds (past_after (without_turns n calls) p)
+  -- before so many turns
+  record Back (calls before : List HostCall) (n total : ℕ) : Type 0 where
+    cores : List CoreState
+    room : total ≤ n + length cores
+    turns : AreTurns fitted cores before
+    may : May before
+    round : List Event
+    is : past_after calls p ≡ round ++ past_after before p
 
-  rounds_of : (n : ℕ) (cores : List CoreState) (calls : List HostCall) → AreTurns fitted cores calls → n < length cores → May calls → are_undisturbed_turns n calls p ≡ true → Rounds n calls
-  rounds_of n [] calls turns room may undisturbed = absurd (omega (arith, room))
-  rounds_of zero (core ∷ cores) calls turns room may undisturbed =
-      let rest = rests core cores calls turns may undisturbed in
-      record { rounds = []; count = refl; whole = refl; are = (rest.0, rest.1) }
-  rounds_of (suc n) (core ∷ cores) calls turns room may undisturbed =
+  back : (n : ℕ) (cores : List CoreState) (calls : List HostCall) → AreTurns fitted cores calls → n ≤ length cores → May calls → Back calls (without_turns n calls) n (length cores)
+  back zero cores calls turns room may = record { cores = cores; room = omega arith; turns = turns; may = may; round = []; is = refl }
+  back (suc n) [] calls turns room may = absurd (omega (arith, room))
+  back (suc n) (core ∷ cores) calls turns room may =
       let (done, last, before, is, turn, tracks, earlier) = turns in
-      let others = and_parts (is_answered_turn calls p && is_undisturbed (round_of calls p) (past_after (without_turn calls) p)) (are_undisturbed_turns n (without_turn calls) p) undisturbed in
-      let parts = and_parts (is_answered_turn calls p) (is_undisturbed (round_of calls p) (past_after (without_turn calls) p)) others.0 in
-      let rest = rests core cores calls turns may parts.0 in
-      let at : without_turn calls ≡ before = before_it fitted cores done last before calls is turn earlier in
       let now = subst May is may in
       let grown = ((tracks goal p sound fits now.0).1 now.1).adds short in
-      let further : Rounds n (without_turn calls) = subst (Rounds n) (sym at) (rounds_of n cores before earlier (omega (arith, room)) (may_before last before now) (subst (λ cs. are_undisturbed_turns n cs p ≡ true) at others.1)) in
-      let added : past_after calls p ≡ grown.0 ++ past_after (without_turn calls) p =
-      ap (λ cs. past_after cs p) is ∙ grown.1 ∙ ap (λ cs. grown.0 ++ past_after cs p) (sym at) in
-      let own : round_of calls p ≡ grown.0 =
-      ap (λ t. take (length t - length (past_after (without_turn calls) p)) t) added ∙ take_front grown.0 (past_after (without_turn calls) p) in
-      let round = round_of calls p in
-      let whole : round ++ after_rounds further.rounds (past_after (without_turns n (without_turn calls)) p) ≡ past_after calls p =
-      ap (λ t. round ++ t) further.whole ∙ ap (λ r. r ++ past_after (without_turn calls) p) own ∙ sym added in
+      let further : Back before (without_turns n before) n (length cores) = back n cores before earlier (omega (arith, room)) (may_before last before now) in
+      subst (λ cs. Back calls (without_turns n cs) (suc n) (suc (length cores))) (sym (before_it fitted cores done last before calls is turn earlier)) (record {
+        cores = further.cores;
+        room = omega (arith, further.room);
+        turns = further.turns;
+        may = further.may;
+        round = grown.0 ++ further.round;
+        is = ap (λ cs. past_after cs p) is ∙ grown.1 ∙ ap (λ t. grown.0 ++ t) further.is ∙ sym (append_assoc grown.0 further.round (past_after (without_turns n before) p));
+      })
+
+  -- the turns as rounds
+  abbrev one_where : Bool → ℕ
+  one_where b = cond b 1 0
+
+  pub record Rounds (sizes : List ℕ) (calls : List HostCall) : Type 0 where
+    pub rounds : List (List Event)
+    pub whole : after_rounds rounds (past_after (without_rounds sizes calls) p) ≡ past_after calls p
+    pub are : AreUnasked goal rounds (past_after (without_rounds sizes calls) p)
+    pub many : undisturbed_among rounds (past_after (without_rounds sizes calls) p) ≡ undisturbed_rounds sizes calls p
+
+  rounds_of : (sizes : List ℕ) (cores : List CoreState) (calls : List HostCall) → AreTurns fitted cores calls → turns_in sizes < length cores → May calls → are_unasked_rounds sizes calls p ≡ true → Rounds sizes calls
+  rounds_of sizes [] calls turns room may unasked = absurd (omega (arith, room))
+  rounds_of [] (core ∷ cores) calls turns room may unasked =
+      let rest = rests core cores calls turns may unasked in
+      record { rounds = []; whole = refl; are = (rest.0, rest.1); many = refl }
+  rounds_of (n ∷ sizes) (core ∷ cores) calls turns room may unasked =
+      let others = and_parts (is_answered_turn calls p && is_unasked (round_of n calls p)) (are_unasked_rounds sizes (without_turns n calls) p) unasked in
+      let parts = and_parts (is_answered_turn calls p) (is_unasked (round_of n calls p)) others.0 in
+      let rest = rests core cores calls turns may parts.0 in
+      let there : Back calls (without_turns n calls) n (suc (length cores)) = back n (core ∷ cores) calls turns (omega (arith, room)) may in
+      let further : Rounds sizes (without_turns n calls) = rounds_of sizes there.cores (without_turns n calls) there.turns (omega (arith, room, there.room)) there.may others.1 in
+      let round = round_of n calls p in
+      let own : round_of n calls p ≡ there.round =
+      ap (λ t. take (length t - length (past_after (without_turns n calls) p)) t) there.is ∙ take_front there.round (past_after (without_turns n calls) p) in
+      let whole : round ++ after_rounds further.rounds (past_after (without_rounds sizes (without_turns n calls)) p) ≡ past_after calls p =
+      ap (λ t. round ++ t) further.whole ∙ ap (λ r. r ++ past_after (without_turns n calls) p) own ∙ sym there.is in
       record {
         rounds = round ∷ further.rounds;
-        count = ap suc further.count;
         whole = whole;
         are = (
           further.are,
-          ap (is_undisturbed round) further.whole ∙ parts.1,
+          parts.1,
           subst (AtRest goal) (sym whole) rest.0,
           ap is_idle whole ∙ rest.1,
         );
+        many = ap (λ t. one_where (is_undisturbed round t) + undisturbed_among further.rounds (past_after (without_rounds sizes (without_turns n calls)) p)) further.whole ∙ ap (λ k. one_where (is_undisturbed round (past_after (without_turns n calls) p)) + k) further.many;
       }
 
-  arrives_in : (n : ℕ) (cores : List CoreState) (calls : List HostCall) → AreTurns fitted cores calls → n < length cores → ArrivesIn goal p n calls
-  arrives_in n [] calls turns room allowed carried undisturbed few = absurd (omega (arith, room))
-  arrives_in n (core ∷ cores) calls turns room allowed carried undisturbed few =
-      let from = past_after (without_turns n calls) p in
-      let made : Rounds n calls = rounds_of n (core ∷ cores) calls turns room (allowed, carried) undisturbed in
-      let now_sound : is_sound goal (past_after calls p) ≡ true = (rests core cores calls turns (allowed, carried) (answered n undisturbed)).2 in
+  arrives_in : (sizes : List ℕ) (cores : List CoreState) (calls : List HostCall) → AreTurns fitted cores calls → turns_in sizes < length cores → ArrivesIn goal p sizes calls
+  arrives_in sizes [] calls turns room allowed carried unasked few = absurd (omega (arith, room))
+  arrives_in sizes (core ∷ cores) calls turns room allowed carried unasked few =
+      let from = past_after (without_rounds sizes calls) p in
+      let made : Rounds sizes calls = rounds_of sizes (core ∷ cores) calls turns room (allowed, carried) unasked in
+      let now_sound : is_sound goal (past_after calls p) ≡ true = (rests core cores calls turns (allowed, carried) (answered sizes unasked)).2 in
       let sound_at : is_sound goal ([] ++ after_rounds made.rounds from) ≡ true = ap (is_sound goal) made.whole ∙ now_sound in
-      let announced = arrives goal [] made.rounds from sound_at made.are (omega (arith, few, made.count)) in
+      let announced = arrives goal [] made.rounds from sound_at made.are (omega (arith, few, made.many)) in
       let there = arrives_there goal [] made.rounds from sound_at made.are announced in
       subst (IsSettled goal from) made.whole (announced, there)
     where
-      answered : (k : ℕ) → are_undisturbed_turns k calls p ≡ true → is_answered_turn calls p ≡ true
-      answered zero all = all
-      answered (suc k) all = (and_parts (is_answered_turn calls p) (is_undisturbed (round_of calls p) (past_after (without_turn calls) p)) (and_parts (is_answered_turn calls p && is_undisturbed (round_of calls p) (past_after (without_turn calls) p)) (are_undisturbed_turns k (without_turn calls) p) all).0).0
+      answered : (ns : List ℕ) → are_unasked_rounds ns calls p ≡ true → is_answered_turn calls p ≡ true
+      answered [] all = all
+      answered (n ∷ ns) all = (and_parts (is_answered_turn calls p) (is_unasked (round_of n calls p)) (and_parts (is_answered_turn calls p && is_unasked (round_of n calls p)) (are_unasked_rounds ns (without_turns n calls) p) all).0).0
 
   -- up to each turn
-  pub arrives_up : (later n : ℕ) (cores : List CoreState) (calls : List HostCall) → AreTurns fitted cores calls → later + n < length cores → ArrivesIn goal p n (without_turns later calls)
-  arrives_up later n [] calls turns room = absurd (omega (arith, room))
-  arrives_up zero n (core ∷ cores) calls turns room = arrives_in n (core ∷ cores) calls turns (omega (arith, room))
-  arrives_up (suc later) n (core ∷ cores) calls (done, last, before, is, turn, tracks, earlier) room =
-      subst (λ cs. ArrivesIn goal p n (without_turns later cs)) (sym (before_it fitted cores done last before calls is turn earlier)) (arrives_up later n cores before earlier (omega (arith, room)))
+  pub arrives_up : (later : ℕ) (sizes : List ℕ) (cores : List CoreState) (calls : List HostCall) → AreTurns fitted cores calls → later + turns_in sizes < length cores → ArrivesIn goal p sizes (without_turns later calls)
+  arrives_up later sizes [] calls turns room = absurd (omega (arith, room))
+  arrives_up zero sizes (core ∷ cores) calls turns room = arrives_in sizes (core ∷ cores) calls turns (omega (arith, room))
+  arrives_up (suc later) sizes (core ∷ cores) calls (done, last, before, is, turn, tracks, earlier) room =
+      subst (λ cs. ArrivesIn goal p sizes (without_turns later cs)) (sym (before_it fitted cores done last before calls is turn earlier)) (arrives_up later sizes cores before earlier (omega (arith, room)))

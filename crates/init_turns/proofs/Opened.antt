@@ -1,5 +1,5 @@
 -- A run from its opening.
-use Rattle.init_turns.proofs.Words.{◌≡◌, ◌<◌, ◌+◌, refl, sym, subst, ℕ, Bool, true, List, [], ◌∷◌, Option, Entry, is_distinct, NewTable, Goal, CoreState, opening_goal, opening_state, LogState, HostCall, Event, Fronts, Logs, Took, UpTo, Went, Kept, Made, calls_of, are_carried, are_seconds_short, is_allowed, Point, point_after, AreTurns, MadeTurns, Since-map, fronts_from, kept_from, leads_from, Fresh, LeftBy, Makes, Arrives, ServesTurns, IsOpening, IsOpeningOf, OpeningState, Opens, opening_point}
+use Rattle.init_turns.proofs.Words.{◌≡◌, ◌<◌, ◌+◌, refl, sym, subst, ℕ, Bool, true, List, [], ◌∷◌, Option, Entry, is_distinct, NewTable, Goal, CoreState, opening_goal, opening_state, LogState, HostCall, Event, Fronts, Logs, Took, UpTo, Went, Kept, Made, calls_of, are_carried, are_seconds_short, is_allowed, Point, point_after, AreTurns, MadeTurns, Since-map, fronts_from, kept_from, leads_from, Fresh, LeftBy, Makes, Arrives, turns_in, ServesTurns, IsOpening, IsOpeningOf, OpeningState, Opens, opening_point}
 use Rattle.init_words.specs.declared.levels.Level.{Level}
 use Rattle.core_model.proofs.Hearing.{fits_opening}
 use Rattle.init_turns.proofs.Arriving.{arrives_up}
@@ -57,8 +57,8 @@ opened {L = L} state told log old mid new level table drain n saw now_saw core l
     )
 
     there : (calls : List HostCall) → MadeTurns drain (Fresh core) n saw now_saw calls → Arrives level table n calls
-    there calls (cores, seen, (count, turns, busy)) later k room =
-        arrives_up (Fresh core) (opening_goal level table) (opening_point table) distinct fresh refl later k cores calls turns (subst (λ m. later + k < m) (sym count) room)
+    there calls (cores, seen, (count, turns, busy)) later rounds room =
+        arrives_up (Fresh core) (opening_goal level table) (opening_point table) distinct fresh refl later rounds cores calls turns (subst (λ m. later + turns_in rounds < m) (sym count) room)
 
 -- of an opening, the log and the turns
 pub opened_by : {E L : Type 0} (state : L → LogState) (told : E → Option (List (Made L))) (log : E → L) (old mid new : E) (drain : Bool) (n : ℕ) (saw now_saw : Option (List CoreState)) (o : OpeningState) (left : CoreState)

@@ -7,7 +7,7 @@ pub use Rattle.trace_events.specs.declared.steps.Goal.{Goal}
 pub use Rattle.trace_events.specs.Event.{Event}
 pub use Rattle.trace_events.specs.Sound.{is_sound}
 pub use Rattle.core_model.specs.State.{CoreState, opening_goal, opening_state}
-pub use Rattle.core_waiting.specs.Arrival.{AreUndisturbed, is_undisturbed, rounds_to_come}
+pub use Rattle.core_waiting.specs.Arrival.{AreUnasked, undisturbed_among, is_unasked, is_undisturbed, rounds_to_come}
 pub use Rattle.core_waiting.specs.Rest.{AtRest, after_rounds, is_level_announced}
 pub use Rattle.host_calls.specs.declared.calls.Call.TheVariants.{Clock, Pause, Start, Look, Late, TakeBytes, Announce, Carry, Signal, ReadTables}
 pub use Rattle.host_calls.specs.Calls.{HostCall, TextRead, front_read, parts_read}
@@ -17,7 +17,7 @@ pub use Rattle.host_trace.specs.Point.{Point, point_after, has_trace, last_birth
 pub use Rattle.host_trace.specs.Turns.{AreSteps, AreTurns, IsTurn, are_full, are_lates, are_takes, has_come, is_step, MadeTurns, Turned, bytes_in, bytes_taken, is_room, is_busy, takes_none}
 pub use Rattle.host_trace.proofs.Leading.{calls_allowed, carried_parts, UpTo-then, Leads-heard, Leads-map, Leads-weaken, Leads-none, Leads-then, Leads-beside, Leads-frame, Leads-still, bytes_counted, Hears-none}
 pub use Rattle.host_trace.proofs.Point.{point_after-append}
-pub use Rattle.init_turns.specs.Arriving.{ArrivesIn, IsSettled, are_undisturbed_turns, is_answered_turn, past_after, round_of, up_to_pause, without_turn, without_turns, Arrives, ServesTurns}
+pub use Rattle.init_turns.specs.Arriving.{ArrivesIn, IsSettled, are_unasked_rounds, undisturbed_rounds, turns_in, without_rounds, is_answered_turn, past_after, round_of, up_to_pause, without_turn, without_turns, Arrives, ServesTurns}
 pub use Rattle.init_words.specs.declared.entries.Entry.{Entry}
 pub use Rattle.init_words.specs.declared.orders.Answer.TheVariants.{Alive, Born, Ended}
 pub use Rattle.trace_events.specs.declared.happenings.Happening.TheVariants.{Enter, Settle, NewTable, Told, Death, Reaped, Asked}

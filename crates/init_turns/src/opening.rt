@@ -58,8 +58,8 @@ impl<A: Allocator + Copy> Opening<A> {
     ) -> (Served, Box<Core<A>, A>)
         // the calls made are those of so many turns from the opening on; up to each call their trace is sound and lawful, as
         // far as the answers until then were possible; the core that is seen after each turn, and given back, tracks it;
-        // the log took it, and had taken all of it until then when each call was made; and a level is settled in as many
-        // undisturbed turns as there were rounds to come
+        // the log took it, and had taken all of it until then when each call was made; and a level is settled after turns
+        // in which nothing is asked, where as many undisturbed rounds can be made of them as were to come
         ensures trace { (level : Option Level) (table : List Entry) → IsOpeningOf level table self
             → Opens E.state E.told E.log edge.old edge.new
             level table (ServesTurns drain level table result.0.turns (W.seen watch.old)

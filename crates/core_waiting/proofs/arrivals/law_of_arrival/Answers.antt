@@ -1,10 +1,13 @@
-use Rattle.core_waiting.proofs.Arriving.{falls, arrives, arrives_there, few, in_all}
+use Rattle.core_waiting.proofs.Arriving.{falls, stays, arrives, arrives_there, few, in_all}
 use Rattle.core_waiting.proofs.Existing.{rounds_exist}
 use Rattle.core_waiting.proofs.Reaching.{reached}
 use Rattle.core_waiting.proofs.arrivals.law_of_arrival.Goals as goal
 
 pub returns-clause-falls : goal.returns-clause-falls
 returns-clause-falls c = falls
+
+pub returns-clause-stays : goal.returns-clause-stays
+returns-clause-stays c = stays
 
 pub returns-clause-arrives : goal.returns-clause-arrives
 returns-clause-arrives c = arrives
