@@ -4,6 +4,7 @@ use Rattle.std.specs.Prelude.{IfSome, ⊤}
 use Rattle.init_words.specs.declared.entries.Entry.{Entry}
 use Rattle.program_io.specs.Known.{KnownTexts}
 use Rattle.trace_events.specs.Event.{Event}
+use Rattle.trace_log.specs.Logs.{LogState}
 use Rattle.host_calls.specs.Calls.{HostCall}
 use Rattle.host_calls.specs.Record.{Since}
 use Rattle.initd_options.specs.CommandLine.{InitdSaid, initd_read_of, judges, runs, simulates, version}
@@ -15,9 +16,9 @@ use Rattle.initd_command.specs.Services.{EndsTold, HasInittab, table_in, told_en
 use Rattle.initd_command.specs.Ran.{AsksBy, AsksSaid, MakesLogged, MakesTurns, RanBy, RanOver, RunTold}
 
 -- turns over a log that was fresh
-pub made_fresh : {fresh : Type 0} (has_ended : Bool → List Event → Type 0) (service : RunSaid) (table : List Entry) (end : End) (calls : List HostCall)
-    → fresh → MakesLogged fresh has_ended service table end calls → MakesTurns ⊤ service table end calls
-made_fresh has_ended service table end calls is (made, ended) = record {
+pub made_fresh : {L fresh : Type 0} (state : L → LogState) (told : Option (List HostCall)) (has_ended : Bool → List Event → Type 0) (service : RunSaid) (table : List Entry) (end : End) (calls : List HostCall)
+    → fresh → MakesLogged state fresh told has_ended service table end calls → MakesTurns ⊤ service table end calls
+made_fresh state told has_ended service table end calls is (made, ended, had) = record {
   served = made.served;
   noted = made.noted;
   turns = made.turns;

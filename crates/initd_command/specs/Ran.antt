@@ -6,6 +6,7 @@ use Rattle.program_io.specs.Known.{KnownTexts}
 use Rattle.initd_options.specs.CommandLine.{InitdSaid, initd_read_of, runs}
 use Rattle.initd_options.specs.Options.{RunSaid}
 use Rattle.trace_events.specs.Event.{Event}
+use Rattle.trace_log.specs.Logs.{LogState}
 use Rattle.host_calls.specs.Calls.{HostCall}
 use Rattle.host_calls.specs.Record.{Since}
 use Rattle.host_trace.specs.Fronts.{EachFront}
@@ -16,6 +17,7 @@ use Rattle.core_model.specs.Decide.{is_drained}
 use Rattle.core_model.specs.Fit.{FitsAll}
 use Rattle.init_turns.specs.Arriving.{ServesTurns}
 use Rattle.init_turns.specs.Opening.{IsOpening}
+use Rattle.init_stamped.specs.Stamps.{HadAll}
 use Rattle.init_turns.specs.declared.serving.Served.{Served}
 use Rattle.initd_command.specs.Turned.{End}
 use Rattle.initd_command.specs.Endings.{Ending, turned}
@@ -42,10 +44,13 @@ pub record MakesTurns (fresh : Type 0) (service : RunSaid) (table : List Entry) 
   pub asked : IsJudged service noted
   pub ends : end ≡ end_of service noted served
 
--- such turns, and how their log ended, if it was fresh
-abbrev pub MakesLogged : Type 0 → (Bool → List Event → Type 0) → RunSaid → List Entry → End → List HostCall → Type 0
-MakesLogged fresh has_ended service table end calls = (made : MakesTurns fresh service table end calls)
+-- such turns; and if their log was fresh, how it ended, and that at each call it had taken what came until then: one log
+-- for each call, where the host tells its calls
+abbrev pub MakesLogged : {L : Type 0} → (L → LogState) → Type 0 → Option (List HostCall) → (Bool → List Event → Type 0)
+    → RunSaid → List Entry → End → List HostCall → Type 0
+MakesLogged state fresh told has_ended service table end calls = (made : MakesTurns fresh service table end calls)
     × (fresh → TurnsFrom service.level table calls (λ past. LogEnds has_ended made.served.logged (reverse past)))
+    × (fresh → HadAll state told (IsOpening service.level table) calls)
 
 -- the end of turns, where it is one
 abbrev pub turned_end : Ending → Option End

@@ -28,7 +28,8 @@ use core_steps::Core;
 use host_calls::Host;
 use host_files::{FolderFault, PassedNames, with_folder};
 use host_messages::{StampedRuntime, faults_text};
-use host_trace::{Edge, Joined};
+use host_trace::Edge;
+use init_stamped::Stamped;
 use init_turns::{Opening, Served};
 use init_words::{Id, Level, Memory, Part};
 use initd_options::RunWords;
@@ -626,18 +627,20 @@ pub fn make_turns<R: Files + Eprint, H: Host, L: EndedLog, E: Write>(
 where
     L: Drop,
     // the exit status and what is reported are those of an end of turns; over the table of the opening the calls made are
-    // those of init's turns, which ended so; and so has the log, if it was fresh
+    // those of init's turns, which ended so; and if the log was fresh, so has it, and when each call was made, it had
+    // taken the whole trace until then, or had failed
     ensures { (end : End) × (result.0 ≡ end_status end) × EndsServed (run_of said.now) end
         × ReportsEnd end (E.contents err.old) (E.contents err.new)
         × ((table : List Entry) → IsOpeningOf (run_of said.now).level table opening
-        → Since (H.told host) (H.told result.1) (MakesLogged ((L.state log).taken [])
-        (L.has_ended result.2) (run_of said.now) table end)) }
+        → Since (H.told host) (H.told result.1) (MakesLogged L.state ((L.state log).taken [])
+        (H.told result.1) (L.has_ended result.2) (run_of said.now) table end)) }
 {
     let judged = JudgedLog::new(rt, alloc, log, said.judge);
     let noted = NotedLog::new(alloc, judged, said.result);
-    let mut edge = Joined { host, log: noted };
+    let mut edge = Stamped::new(host, noted);
     let (served, core) = serve_watched(rt, alloc, said, opening, &mut edge);
-    let Joined { host, log: noted } = edge;
+    edge.law_of_stamps();
+    let (host, noted) = edge.into_parts();
     let (judged, notes) = noted.into_parts();
     let found = judged.judgement();
     let (left, whole) = judged.into_log().end();

@@ -1,13 +1,13 @@
 use Rattle.std.proofs.Common.{◌≡◌, ℕ, Bool, true, not, refl, sym, ◌∙◌, ap, subst, reverse, [], None}
 use Rattle.init_turns.specs.declared.serving.Served.{Served}
 use Rattle.trace_log_wrappers.specs.Judgements.{FindsBy, JudgedBy, judged_state}
-use Rattle.trace_log_wrappers.specs.Notes.{Notes, NotesOf, noted_state}
+use Rattle.trace_log_wrappers.specs.Notes.{Noted, Notes, NotesOf, noted_state}
 use Rattle.initd_options.specs.Options.{run_of}
 use Rattle.core_waiting.specs.Lines.{waiting_text}
 use Rattle.initd_command.specs.Services.{IsNoted, LogEnds, TurnsFrom, end_of, noted_of}
-use Rattle.host_calls.proofs.Record.{Since-map}
 use Rattle.host_trace.specs.Edges.{calls_of}
-use Rattle.host_trace.proofs.Keeping.{Since-untimed}
+use Rattle.init_stamped.specs.Stamps.{StampedState}
+use Rattle.init_stamped.proofs.Stamps.{Since-stamped, had_each, with_logs, with_logs-calls, with_logs-had, with_logs-timed}
 use Rattle.init_turns.specs.Arriving.{ServesTurns}
 use Rattle.initd_command.proofs.Noted.{LedFrom, is_served, judged_still, led_fits, noted_over, served_still}
 use Rattle.initd_command.proofs.run.make_turns.Goals as goal
@@ -18,24 +18,31 @@ returns g c =
     let state = g.L.Log.state in
     let judged = c.into_parts-judged.result.0 in
     let notes = c.into_parts-judged.result.1 in
-    let first = noted_state (judged_state state) c.new-noted.result in
+    let began : c.new-edge.result.log ≡ c.new-noted.result = ap (λ (e : StampedState _ (Noted (JudgedBy _))). e.log) c.new-edge.ensures in
+    let first = noted_state (judged_state state) c.new-edge.result.log in
+    let fresh : (state c.args.log).taken [] → first.taken [] = λ none. subst (λ (n : Noted (JudgedBy _)). (noted_state (judged_state state) n).taken []) (sym began) (c.new-noted.ensures.nothing (c.new-judged.ensures.nothing none)) in
+    let wanted = subst (λ (n : Noted (JudgedBy _)). n.notes.wanted ≡ service.result) (sym began) c.new-noted.ensures.wanted in
     let noted = noted_of notes (waiting_text c.serve_watched-core.result.1.value) c.judgement_for-judgement.result in
     let most = is_served service c.serve_watched-core.result.0 c.ended_with-served.result _ c.ended_with-served.ensures (c.serve_watched-core.ensures.most, c.serve_watched-core.ensures.fewer) in
     let asked = judged_still service c.judgement-found.result c.judgement_for-judgement.result c.judgement_for-judgement.ensures in
-    let logged = subst (λ (parts : JudgedBy _ × Notes). c.serve_watched-core.result.0.logged ≡ not (state parts.0.log).failed) (sym c.into_parts-judged.ensures) c.serve_watched-core.ensures.logged in (
+    let last = c.serve_watched-core.new.edge in
+    let given : c.into_parts-host.result.1 ≡ last.log = ap (λ (parts : _ × Noted (JudgedBy _)). parts.1) c.into_parts-host.ensures in
+    let over_parts = c.into_parts-judged.ensures ∙ ap (λ (n : Noted (JudgedBy _)). (n.log, n.notes)) given in
+    let inner = λ (n : Noted (JudgedBy _)). n.log.log in
+    let logged = subst (λ (parts : JudgedBy _ × Notes). c.serve_watched-core.result.0.logged ≡ not (state parts.0.log).failed) (sym over_parts) c.serve_watched-core.ensures.logged in (
       end_of service noted c.ended_with-served.result,
       (rw c.deref.ensures at c.report_end-status.ensures.status),
       (c.ended_with-served.result, noted, refl, most, asked),
       (rw c.deref.ensures at c.report_end-status.ensures.reported),
-      λ table opens. Since-untimed _ _ _ _ (Since-map _ _ _ _ (c.serve_watched-core.ensures.trace service.level table opens) (λ mades made.
+      λ table opens. Since-stamped g.H.Host.told c.args.host c.into_parts-host.result.0 c.new-noted.result c.new-edge.result last _ _ c.new-edge.ensures c.law_of_stamps.ensures (ap (λ (parts : _ × Noted (JudgedBy _)). parts.0) c.into_parts-host.ensures) (c.serve_watched-core.ensures.trace service.level table opens) (λ mades all made.
           let calls = calls_of mades in
           let leads = subst
           (λ (parts : JudgedBy _ × Notes). LedFrom service.level table c.serve_watched-core.result.1.value first (record { taken = λ trace. NotesOf parts.1 (reverse trace) × (judged_state state parts.0).taken trace; failed = (state parts.0.log).failed; noted = parts.1.wanted }) calls)
-          (sym c.into_parts-judged.ensures) made.1 in
+          (sym over_parts) made.1 in
           let over : (state c.args.log).taken [] → TurnsFrom service.level table calls (λ past. (c.ended_with-served.result.logged ≡ true → IsNoted service.result noted past) × LogEnds (g.L.EndedLog.has_ended c.end-left.result.0) c.ended_with-served.result.logged (reverse past)) =
           λ none. noted_over (g.L.EndedLog.has_ended c.end-left.result.0) (FindsBy judged.judge judged.judgement) (state judged.log).taken notes c.judgement-found.result (state judged.log).failed c.end-left.result.1
           c.serve_watched-core.result.1.value first service service.level table c.serve_watched-core.result.0 c.ended_with-served.result c.judgement_for-judgement.result calls
-          c.ended_with-served.ensures c.judgement_for-judgement.ensures (c.new-noted.ensures.nothing (c.new-judged.ensures.nothing none)) c.new-noted.ensures.wanted logged
+          c.ended_with-served.ensures c.judgement_for-judgement.ensures (fresh none) wanted logged
           c.judgement-found.ensures.found (λ trace took. c.end-left.ensures.ended trace (subst (λ log. (state log).taken trace) (sym c.into_log.ensures) took)) opens.distinct leads in (
             record {
               served = c.ended_with-served.result;
@@ -51,5 +58,12 @@ returns g c =
               ends = refl;
             },
             λ none allowed carried. (over none allowed carried).1,
-          ))),
+            λ none. record {
+              mades = with_logs inner mades;
+              same = with_logs-calls inner mades;
+              all = λ is. with_logs-timed inner mades (all is);
+              had = with_logs-had inner (noted_state (judged_state state)) state _ (λ log works. works) (λ log trace took. took.1.1) mades
+                  (had_each (noted_state (judged_state state)) _ first mades (fresh none) made.3);
+            },
+          )),
     )

@@ -1,0 +1,3 @@
+pub mod CrashRows
+pub mod Crashes
+pub mod Stamps
