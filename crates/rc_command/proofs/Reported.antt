@@ -16,13 +16,13 @@ use Rattle.rc_command.specs.Folders.{AreNamesAt, ArePrevious, KnownNames, folder
 use Rattle.rc_command.specs.declared.running.TheConstants.{PAUSES_LIMIT}
 use Rattle.rc_driver.specs.declared.driving.RunEnd.{RunEnd}
 use Rattle.rc_driver.specs.declared.driving.RunEnd.TheVariants as run_end
-use Rattle.rc_driver.specs.declared.runs.RcAnswer.{RcAnswer}
-use Rattle.rc_driver.specs.declared.runs.RunWay.{RunWay}
+use Rattle.rc_runs.specs.declared.runs.RcAnswer.{RcAnswer}
+use Rattle.rc_runs.specs.declared.runs.RunWay.{RunWay}
 use Rattle.rc_driver.specs.Printing.{PrintsLinks, command_lines}
 use Rattle.rc_driver.specs.Progress.{count_pauses}
 use Rattle.rc_driver.specs.Report.{Output, done_end, is_over, output, report}
-use Rattle.rc_driver.specs.Runs.{LinkRun, RcState, is_failure}
-use Rattle.rc_driver.specs.Sysv.{scripts_by}
+use Rattle.rc_runs.specs.Runs.{LinkRun, RcState, is_failure}
+use Rattle.rc_runs.specs.Sysv.{scripts_by}
 use Rattle.rc_driver.specs.Told.{ScriptsEndAt, RunsFrom, RunsLinks}
 use Rattle.rc_driver.proofs.RunLemmas.{writes_ends}
 

@@ -10,7 +10,7 @@ use Rattle.init_words.specs.Levels.{level_read}
 use Rattle.program_io.specs.Arguments.{only_byte}
 use Rattle.rc_command.specs.declared.command.RunOptions.{RunOptions}
 use Rattle.rc_command.specs.declared.command.TheConstants.{OPTIONS, SECONDS_LIMIT}
-use Rattle.rc_driver.specs.declared.runs.Passage.{Passage}
+use Rattle.rc_runs.specs.declared.runs.Passage.{Passage}
 use Rattle.text_lines.specs.Numbers.{number_read}
 use Rattle.rc_command.specs.declared.command.Words.{Words}
 use Rattle.rc_links.specs.Names.{is_name_byte}

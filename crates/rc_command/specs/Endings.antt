@@ -8,12 +8,12 @@ use Rattle.host_calls.specs.Calls.{HostCall}
 use Rattle.host_calls.specs.Record.{Since}
 use Rattle.rc_driver.specs.declared.driving.RunEnd.{RunEnd}
 use Rattle.rc_driver.specs.declared.driving.RunEnd.TheVariants as run_end
-use Rattle.rc_driver.specs.declared.runs.RcAnswer.{RcAnswer}
+use Rattle.rc_runs.specs.declared.runs.RcAnswer.{RcAnswer}
 use Rattle.rc_driver.specs.Printing.{command_lines}
 use Rattle.rc_driver.specs.Report.{done_end, output, report}
-use Rattle.rc_driver.specs.Runs.{LinkRun, RcState, is_failure}
-use Rattle.rc_driver.specs.Sysv.{scripts_by}
-use Rattle.rc_driver.specs.declared.runs.Passage.{Passage}
+use Rattle.rc_runs.specs.Runs.{LinkRun, RcState, is_failure}
+use Rattle.rc_runs.specs.Sysv.{scripts_by}
+use Rattle.rc_runs.specs.declared.runs.Passage.{Passage}
 use Rattle.rc_driver.specs.Told.{RunsLinks}
 use Rattle.rc_command.specs.CommandLine.{Asked, RcSaid, rc_read_of, run_said}
 use Rattle.rc_command.specs.LevelFiles.{IsBeforeIn, KeepsIn, KnownFiles}

@@ -15,8 +15,8 @@ use Rattle.host_calls.specs.declared.calls.Reply.{Reply}
 use Rattle.host_calls.proofs.Record.{Since-map, Since-one, Since-then}
 use Rattle.rc_driver.specs.declared.progress.Progress.{Progress}
 use Rattle.rc_driver.specs.declared.progress.Progress.TheVariants as progress
-use Rattle.rc_driver.specs.declared.runs.RcAnswer.{RcAnswer}
-use Rattle.rc_driver.specs.declared.runs.RunWay.{RunWay}
+use Rattle.rc_runs.specs.declared.runs.RcAnswer.{RcAnswer}
+use Rattle.rc_runs.specs.declared.runs.RunWay.{RunWay}
 use Rattle.rc_driver.specs.declared.times.Timer.{Timer}
 use Rattle.rc_driver.specs.declared.times.Timer.TheVariants as timer
 use Rattle.program_io.specs.Writing.{AppendsPrefix}

@@ -1,6 +1,4 @@
 pub mod CallLemmas
-pub mod OrderLemmas
-pub mod PlannedLemmas
 pub mod PrintLemmas
 pub mod RunLemmas
 pub mod ToldLemmas

@@ -7,10 +7,10 @@ use Rattle.program_io.specs.Writing.{AppendsPrefix}
 use Rattle.program_io.proofs.WritingLemmas.{AppendsPrefix-first, AppendsPrefix-then}
 use Rattle.rc_driver.specs.declared.driving.RunEnd.{RunEnd}
 use Rattle.rc_driver.specs.declared.driving.RunEnd.TheVariants as run_end
-use Rattle.rc_driver.specs.declared.runs.RunWay.{RunWay}
+use Rattle.rc_runs.specs.declared.runs.RunWay.{RunWay}
 use Rattle.rc_driver.specs.Printing.{PrintStops, Printed, PrintsLinks, command_line, command_lines}
 use Rattle.rc_driver.specs.Report.{command_text}
-use Rattle.rc_driver.specs.Runs.{LinkRun, RcState}
+use Rattle.rc_runs.specs.Runs.{LinkRun, RcState}
 use Rattle.rc_driver.proofs.RunLemmas.{AppendsPrefix-none}
 
 write_is_not_done : run_end.Write ≢ run_end.Done

@@ -11,12 +11,12 @@ use Rattle.host_calls.specs.Calls.{HostCall}
 use Rattle.host_calls.specs.Record.{Since}
 use Rattle.rc_driver.specs.declared.driving.RunEnd.{RunEnd}
 use Rattle.rc_driver.specs.declared.driving.RunEnd.TheVariants as run_end
-use Rattle.rc_driver.specs.declared.runs.RcAnswer.{RcAnswer}
-use Rattle.rc_driver.specs.declared.runs.RcAnswer.TheVariants as answer
-use Rattle.rc_driver.specs.declared.runs.RunWay.{RunWay}
+use Rattle.rc_runs.specs.declared.runs.RcAnswer.{RcAnswer}
+use Rattle.rc_runs.specs.declared.runs.RcAnswer.TheVariants as answer
+use Rattle.rc_runs.specs.declared.runs.RunWay.{RunWay}
 use Rattle.rc_driver.specs.Progress.{count_pauses}
 use Rattle.rc_driver.specs.Report.{Output, TellsStart, WritesEnds, begin_line, done_end, is_over, line_of, lines_of, report}
-use Rattle.rc_driver.specs.Runs.{LinkRun, RcState, is_failure}
+use Rattle.rc_runs.specs.Runs.{LinkRun, RcState, is_failure}
 use Rattle.rc_driver.specs.Told.{ScriptsEndAt, RunsFrom, RunsLinks}
 
 -- nothing of a text was written

@@ -9,13 +9,13 @@ use Rattle.host_calls.specs.Record.{Since}
 use Rattle.host_calls.proofs.Record.{Since-map, Since-none, Since-then}
 use Rattle.rc_driver.specs.declared.driving.RunEnd.{RunEnd}
 use Rattle.rc_driver.specs.declared.driving.RunEnd.TheVariants as run_end
-use Rattle.rc_driver.specs.declared.runs.Arg.{Arg}
-use Rattle.rc_driver.specs.declared.runs.RcAnswer.{RcAnswer}
-use Rattle.rc_driver.specs.declared.runs.RunWay.{RunWay}
+use Rattle.rc_runs.specs.declared.runs.Arg.{Arg}
+use Rattle.rc_runs.specs.declared.runs.RcAnswer.{RcAnswer}
+use Rattle.rc_runs.specs.declared.runs.RunWay.{RunWay}
 use Rattle.rc_driver.specs.Parts.{Advanced, EndsCommand, EndsEarly, HasRun}
 use Rattle.rc_driver.specs.Progress.{RunsTo, count_pauses}
 use Rattle.rc_driver.specs.Report.{Output, TellsStart, begin_line, command_text, done_end, is_over, line_of, lines_of, output}
-use Rattle.rc_driver.specs.Runs.{LinkRun, RcState, is_failure}
+use Rattle.rc_runs.specs.Runs.{LinkRun, RcState, is_failure}
 use Rattle.rc_driver.specs.Told.{ScriptsEndAt, RanBy, RunsFrom, RunsLinks}
 use Rattle.rc_driver.proofs.RunLemmas.{lines_told, stops_early}
 

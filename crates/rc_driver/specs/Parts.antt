@@ -6,13 +6,13 @@ use Rattle.rc_driver.specs.declared.progress.Progress.TheVariants as progress
 use Rattle.rc_driver.specs.declared.times.Timer.{Timer}
 use Rattle.rc_driver.specs.declared.times.Timer.TheVariants as timer
 use Rattle.std.specs.Io.KnownBytes.{Appends}
-use Rattle.rc_driver.specs.declared.runs.RcAnswer.{RcAnswer}
+use Rattle.rc_runs.specs.declared.runs.RcAnswer.{RcAnswer}
 use Rattle.rc_driver.specs.Progress.{RunsTo, count_pauses, is_waiting}
 use Rattle.rc_driver.specs.declared.driving.RunEnd.{RunEnd}
 use Rattle.rc_driver.specs.declared.driving.RunEnd.TheVariants as run_end
-use Rattle.rc_driver.specs.declared.runs.RunWay.{RunWay}
+use Rattle.rc_runs.specs.declared.runs.RunWay.{RunWay}
 use Rattle.rc_driver.specs.Report.{Output, Tells, command_text, line_of, lines_of}
-use Rattle.rc_driver.specs.Runs.{LinkRun, RcState, is_failure}
+use Rattle.rc_runs.specs.Runs.{LinkRun, RcState, is_failure}
 use Rattle.rc_driver.specs.Times.{time_lines}
 use Rattle.rc_driver.specs.Told.{RanBy}
 use Rattle.program_io.specs.Writing.{AppendsPrefix}

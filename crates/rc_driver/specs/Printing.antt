@@ -4,9 +4,9 @@ use Rattle.std.specs.Io.KnownBytes.{Appends}
 use Rattle.program_io.specs.Writing.{AppendsPrefix}
 use Rattle.rc_driver.specs.declared.driving.RunEnd.{RunEnd}
 use Rattle.rc_driver.specs.declared.driving.RunEnd.TheVariants as run_end
-use Rattle.rc_driver.specs.declared.runs.RunWay.{RunWay}
+use Rattle.rc_runs.specs.declared.runs.RunWay.{RunWay}
 use Rattle.rc_driver.specs.Report.{command_text}
-use Rattle.rc_driver.specs.Runs.{LinkRun, RcState}
+use Rattle.rc_runs.specs.Runs.{LinkRun, RcState}
 
 -- the text that would start a script, as a line
 abbrev pub command_line : RunWay → List ℕ → LinkRun → List ℕ

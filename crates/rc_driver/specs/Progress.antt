@@ -12,7 +12,7 @@ use Rattle.host_calls.specs.declared.calls.Reply.{Reply}
 use Rattle.host_calls.specs.declared.calls.Reply.TheVariants.{Now, Later}
 use Rattle.rc_driver.specs.declared.progress.Progress.{Progress}
 use Rattle.rc_driver.specs.declared.progress.Progress.TheVariants as progress
-use Rattle.rc_driver.specs.declared.runs.RcAnswer.TheVariants as answer
+use Rattle.rc_runs.specs.declared.runs.RcAnswer.TheVariants as answer
 
 -- the id under which scripts are started
 abbrev pub script_id : List ℕ

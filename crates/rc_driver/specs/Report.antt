@@ -9,13 +9,13 @@ use Rattle.init_words.specs.declared.children.Status.TheVariants as status
 use Rattle.program_io.specs.Writing.{AppendsPrefix}
 use Rattle.rc_driver.specs.declared.driving.RunEnd.{RunEnd}
 use Rattle.rc_driver.specs.declared.driving.RunEnd.TheVariants as run_end
-use Rattle.rc_driver.specs.declared.runs.Arg.{Arg}
-use Rattle.rc_driver.specs.declared.runs.Arg.TheVariants as arg
-use Rattle.rc_driver.specs.declared.runs.RcAnswer.{RcAnswer}
-use Rattle.rc_driver.specs.declared.runs.RcAnswer.TheVariants as answer
-use Rattle.rc_driver.specs.declared.runs.Passage.{Passage}
-use Rattle.rc_driver.specs.declared.runs.RunWay.{RunWay}
-use Rattle.rc_driver.specs.Runs.{LinkRun, RcState, is_failure}
+use Rattle.rc_runs.specs.declared.runs.Arg.{Arg}
+use Rattle.rc_runs.specs.declared.runs.Arg.TheVariants as arg
+use Rattle.rc_runs.specs.declared.runs.RcAnswer.{RcAnswer}
+use Rattle.rc_runs.specs.declared.runs.RcAnswer.TheVariants as answer
+use Rattle.rc_runs.specs.declared.runs.Passage.{Passage}
+use Rattle.rc_runs.specs.declared.runs.RunWay.{RunWay}
+use Rattle.rc_runs.specs.Runs.{LinkRun, RcState, is_failure}
 
 -- the word of an argument
 abbrev pub arg_word : Arg → List ℕ

@@ -6,7 +6,7 @@ use Rattle.init_words.specs.declared.orders.SignalKind.TheVariants as sig
 use Rattle.host_calls.specs.declared.calls.HostFault.{HostFault}
 use Rattle.rc_driver.specs.declared.times.Timer.{Timer}
 use Rattle.rc_driver.specs.declared.times.Timer.TheVariants as timer
-use Rattle.rc_driver.specs.declared.runs.RunWay.{RunWay}
+use Rattle.rc_runs.specs.declared.runs.RunWay.{RunWay}
 
 -- the signal that is due at a moment: TERM where a script has run for longer than its limit, and KILL where it was sent
 -- TERM and has run for longer than init's grace since

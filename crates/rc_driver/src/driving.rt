@@ -1,16 +1,18 @@
 //! The turns of the scripts: each is started, looked at until it has ended, and told.
 
-ghost use Rattle.std.specs.Prelude.{◌≡◌, false, None, IfOk, IfErr, IfSome};
+ghost use Rattle.std.specs.Prelude.{◌≡◌, ◌||◌, false, None, IfOk, IfErr, IfSome};
 ghost use Rattle.std.specs.Io.KnownBytes.{Appends};
 ghost use Rattle.host_calls.specs.Record.{Since};
 ghost use Rattle.rc_driver.specs.Parts.{Advanced, EndsCommand, HasRun};
 ghost use Rattle.rc_driver.specs.Report.{WritesEnds, command_text, done_end, line_of, lines_of, output};
 ghost use Rattle.rc_driver.specs.Told.{ScriptsEndAt, RunsLinks};
+ghost use Rattle.rc_runs.specs.Runs.{is_failure};
 
 use crate::progress::run_script;
-use crate::runs::{Arg, Rc, RcAnswer, RcStep, RunWay, failed_by};
 use crate::writing::{command_of, tell_end, tell_start};
 use host_calls::Host;
+use init_words::Status;
+use rc_runs::{Arg, Rc, RcAnswer, RcStep, RunWay};
 use std::alloc::Allocator;
 use std::io::Write;
 
@@ -29,6 +31,23 @@ pub enum RunEnd<'n> {
     Write,
     /// Out of memory.
     Memory,
+}
+
+/// The script failed: it was not started, or its end is no exit with 0.
+fn is_failure(answer: &RcAnswer) -> bool
+    ensures { result ≡ is_failure answer.now }
+{
+    match answer {
+        RcAnswer::Ended(Status::Exit(code)) => *code != 0,
+        _ => true,
+    }
+}
+
+/// One has failed already, or the script that came to this end failed.
+fn failed_by(failed: bool, answer: &RcAnswer) -> bool
+    ensures { result ≡ (failed || is_failure answer.now) }
+{
+    failed || is_failure(answer)
 }
 
 /// How a run ends whose scripts all came to their ends.

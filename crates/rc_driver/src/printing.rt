@@ -5,8 +5,8 @@ ghost use Rattle.std.specs.Io.KnownBytes.{Appends};
 ghost use Rattle.rc_driver.specs.Printing.{PrintStops, Printed, PrintsLinks, command_line};
 
 use crate::driving::RunEnd;
-use crate::runs::{Arg, Rc, RcAnswer, RcStep, RunWay};
 use crate::writing::{command_of, tell_text};
+use rc_runs::{Arg, Rc, RcAnswer, RcStep, RunWay};
 use std::alloc::Allocator;
 use std::io::Write;
 

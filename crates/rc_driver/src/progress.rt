@@ -7,11 +7,11 @@ ghost use Rattle.rc_driver.specs.Progress.{alive, by_late, by_look, by_start, is
 ghost use Rattle.rc_driver.specs.Report.{Tells};
 ghost use Rattle.rc_driver.specs.Times.{time_lines};
 
-use crate::runs::{RcAnswer, RunWay};
 use crate::times::{Timer, due_at, timer_at};
 use crate::writing::tell_signal;
 use host_calls::{Host, Reply};
 use init_words::{Answer, Id};
+use rc_runs::{RcAnswer, RunWay};
 use std::alloc::Allocator;
 use std::io::Write;
 

@@ -9,11 +9,11 @@ ghost use Rattle.rc_driver.specs.Times.{late_line, signal_line, signal_word, wai
 ghost use Rattle.rc_driver.specs.declared.driving.RunEnd.TheVariants as run_end;
 
 use crate::driving::RunEnd;
-use crate::runs::{Arg, Passage, RcAnswer, RunWay};
 use crate::times::wait_of;
 use init_words::{Level, SignalKind, Status};
 use itoa::Buffer;
 use program_io::write_text;
+use rc_runs::{Arg, Passage, RcAnswer, RunWay};
 use std::alloc::{AllocError, Allocator};
 use std::io;
 use std::io::Write;

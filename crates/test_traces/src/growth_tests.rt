@@ -9,9 +9,10 @@ use linked_list_allocator::LocalHeap;
 use simulator::{SimFault, Untold, simulate};
 use std::alloc::{AllocError, Global};
 use test_support::{Slow, boxed};
-use trace_check::{Law, Verdict};
+use trace_check::Law;
 use trace_events::happening_copy;
 use trace_log::{ListLog, StreamLog};
+use trace_pass::Verdict;
 use trace_text::ReadFault;
 use trace_view::{LastLines, SeenText, Sees};
 
@@ -83,7 +84,7 @@ fn reads(own: Global, heap: &LocalHeap) -> Option<bool> {
 
 fn checks(own: Global, heap: &LocalHeap) -> Option<bool> {
     let trace = trace_of(own, BREACH)?;
-    match trace_check::check(heap, &trace) {
+    match trace_pass::check(heap, &trace) {
         Ok(verdict) => (verdict == Verdict::Breach(7, Law::BesideExcluded)).then_some(true),
         Err(Memory) => Some(false),
     }

@@ -4,10 +4,10 @@ use crate::texts::{lines, trace_of};
 use init_words::Memory;
 use std::alloc::{AllocError, Allocator, Global};
 use test_support::boxed;
-use trace_check::Verdict;
 use trace_events::HappeningIn;
 use trace_log::{EndedLog, ListLog, Log};
 use trace_log_wrappers::BriefLog;
+use trace_pass::Verdict;
 use trace_text::ReadFault;
 use trace_verdict::{Finding, TextJudge};
 
@@ -83,7 +83,7 @@ fn written_before(own: Global, trace: &[HappeningIn<Global>]) -> usize {
 
 /// `.` for a lawful trace, else the place of the first breach and its law.
 fn verdict_on(own: Global, trace: &[HappeningIn<Global>]) -> Result<String, Memory> {
-    match trace_check::check(own, trace)? {
+    match trace_pass::check(own, trace)? {
         Verdict::Lawful => Ok(String::from_str(own, ".")?),
         Verdict::Breach(place, law) => {
             let number = law.number();

@@ -10,9 +10,9 @@ use init_words::Memory;
 use inittab_text::Table;
 use std::alloc::{AllocError, Allocator, Global};
 use test_support::boxed;
-use trace_check::Verdict;
 use trace_events::{Happening, HappeningIn};
 use trace_log::{ListLog, Log};
+use trace_pass::Verdict;
 
 /// A run over an inittab, its lines parted by `|`, and a host that is given so much.
 #[derive(Clone, Copy)]
@@ -116,7 +116,7 @@ fn is_logged(own: Global, list: &[HappeningIn<Global>], trace: &str) -> Option<b
     };
     let text = trace_text::print(own, made).ok()?;
     let want = lines_of(own, trace, " / ").ok()?;
-    let verdict = trace_check::check(own, list).ok()?;
+    let verdict = trace_pass::check(own, list).ok()?;
     Some(text.as_slice() == want.as_slice() && matches!(verdict, Verdict::Lawful))
 }
 

@@ -11,12 +11,10 @@ mod laws;
 mod limits;
 mod maps;
 mod parts;
-mod pass;
 mod readings;
 mod spells;
 mod tables;
 mod trace_judges;
 
 pub use laws::Law;
-pub use pass::{Verdict, check};
 pub use trace_judges::TraceJudge;

@@ -1,8 +1,0 @@
-use Rattle.std.proofs.Common.{◌≡◌, map, string_bytes, drop}
-use Rattle.rc_driver.specs.Links.{has_link}
-use Rattle.rc_driver.proofs.links.has_link.Given as goal
-
-abbrev pub invariant-loop-name : goal.invariant-loop-name
-invariant-loop-name l =
-    has_link l.letter l.link (map string_bytes (drop l.name-index l.names))
-    ≡ has_link l.letter l.link (map string_bytes l.names)

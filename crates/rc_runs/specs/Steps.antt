@@ -1,0 +1,13 @@
+-- One step of a run of scripts.
+use Rattle.std.specs.Prelude.{◌≡◌, true, false, [], ◌∷◌}
+use Rattle.rc_runs.specs.declared.runs.RcStep.{RcStep}
+use Rattle.rc_runs.specs.declared.runs.RcStep.TheVariants as step
+use Rattle.rc_runs.specs.Runs.{RcState}
+
+-- the first script that is left is handed out; while the answer to the one before is missing none is, and after the
+-- last none is left
+abbrev pub Steps : RcState → RcStep → RcState → Type 0
+Steps old (step.Run link given) new =
+    (old.waits ≡ false) × (old.left ≡ (link.now, given) ∷ new.left) × (new.waits ≡ true)
+Steps old step.Waiting new = (old.waits ≡ true) × (new ≡ old)
+Steps old step.Done new = (old.waits ≡ false) × (old.left ≡ []) × (new ≡ old)

@@ -1,0 +1,46 @@
+-- The scripts that sysv-rc runs where a level is entered.
+use Rattle.std.specs.Prelude.{ℕ, Bool, true, false, not, ◌&&◌, List, [], ◌++◌, Option, Some, None}
+use Rattle.std.specs.List.{filter}
+use Rattle.std.specs.Str.{byte}
+use Rattle.init_words.specs.declared.levels.Level.{Level}
+use Rattle.init_words.specs.declared.levels.Level.TheVariants.{L0, L6}
+use Rattle.rc_runs.specs.declared.runs.Arg.TheVariants as arg
+use Rattle.rc_runs.specs.declared.runs.Passage.{Passage}
+use Rattle.rc_runs.specs.Links.{has_link, is_link, ordered, start_links}
+use Rattle.rc_runs.specs.Runs.{LinkRun, rc_run, with_arg}
+
+-- the previous level had stopped the link's service: it has a K link with the same part, and no S link
+abbrev pub was_stopped : List (List ℕ) → List ℕ → Bool
+was_stopped previous link = has_link (byte "K") link previous && not (has_link (byte "S") link previous)
+
+-- a link with the letter whose service the previous level had not stopped
+abbrev pub is_stopping : ℕ → List (List ℕ) → List ℕ → Bool
+is_stopping letter previous link = is_link letter link && not (was_stopped previous link)
+
+-- the links with the letter that are run to stop
+abbrev pub stopping_links : ℕ → List (List ℕ) → List (List ℕ) → List (List ℕ)
+stopping_links letter previous new = ordered (filter (is_stopping letter previous) new)
+
+-- the levels in which the machine is halted and started anew
+abbrev pub is_halt : Level → Bool
+is_halt L0 = true
+is_halt L6 = true
+is_halt _ = false
+
+-- the K links are stopped, where there was a level before
+abbrev pub sysv_stops : Option Level → List (List ℕ) → List (List ℕ) → List LinkRun
+sysv_stops None previous new = []
+sysv_stops (Some before) previous new = with_arg arg.Stop (stopping_links (byte "K") previous new)
+
+-- the S links are started, or in levels 0 and 6 stopped
+abbrev pub sysv_starts : Bool → List (List ℕ) → List (List ℕ) → List LinkRun
+sysv_starts true previous new = with_arg arg.Stop (stopping_links (byte "S") previous new)
+sysv_starts false previous new = with_arg arg.Start (start_links previous new)
+
+abbrev pub sysv_run : Passage → List (List ℕ) → List (List ℕ) → List LinkRun
+sysv_run passage previous new = sysv_stops passage.before previous new ++ sysv_starts (is_halt passage.new) previous new
+
+-- the scripts by the names in the previous folder and in the new one: as sysv-rc has them, where a change is given
+abbrev pub scripts_by : Option Passage → List (List ℕ) → List (List ℕ) → List LinkRun
+scripts_by None previous new = rc_run previous new
+scripts_by (Some passage) previous new = sysv_run passage previous new

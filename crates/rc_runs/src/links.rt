@@ -1,0 +1,215 @@
+//! Which links of a runlevel's folder are run, and in which order.
+
+ghost use Rattle.std.specs.Prelude.{◌≡◌, ◌++◌, ◌∷◌, [], map, string_bytes, IfOk, OnOk};
+ghost use Rattle.std.specs.List.{filter};
+ghost use Rattle.rc_runs.specs.Links.{has_link, is_link, is_link_like};
+ghost use Rattle.rc_runs.specs.Links.{is_started, ordered, start_links, stop_links};
+ghost use Rattle.rc_runs.specs.Runs.{texts_of};
+ghost use Rattle.rc_runs.specs.Sysv.{is_halt, is_stopping, stopping_links, was_stopped};
+
+use init_words::{Level, Memory};
+use rc_links::{is_name, linked_name};
+use std::alloc::Allocator;
+
+/// The letter, two digits and a name.
+fn is_link(letter: u8, link: &[u8]) -> bool
+    ensures { result ≡ is_link letter link.now }
+{
+    match link {
+        [first, tens, ones, name @ ..] => {
+            *first == letter && tens.is_ascii_digit() && ones.is_ascii_digit() && is_name(name)
+        }
+        _ => false,
+    }
+}
+
+/// The other name is a link with the letter, and of the same service.
+fn is_link_like(letter: u8, link: &[u8], other: &[u8]) -> bool
+    ensures { result ≡ is_link_like letter link.now other.now }
+{
+    is_link(letter, other) && linked_name(other) == linked_name(link)
+}
+
+/// One of the names is a link with the letter, and of the same service.
+fn has_link(letter: u8, link: &str, names: &[String]) -> bool
+    ensures { result ≡ has_link letter link.now (map string_bytes names.now) }
+{
+    for name in names {
+        if is_link_like(letter, link.as_bytes(), name.as_bytes()) {
+            return true;
+        }
+    }
+    false
+}
+
+/// The link starts a service that doesn't run already.
+fn is_started(previous: &[String], new: &[String], link: &str) -> bool
+    ensures { result ≡ is_started (map string_bytes previous.now) (map string_bytes new.now)
+        link.now }
+{
+    is_link(b'S', link.as_bytes())
+        && !(has_link(b'S', link, previous) && !has_link(b'K', link, new))
+}
+
+/// The previous level had stopped the link's service.
+fn was_stopped(previous: &[String], link: &str) -> bool
+    ensures { result ≡ was_stopped (map string_bytes previous.now) link.now }
+{
+    has_link(b'K', link, previous) && !has_link(b'S', link, previous)
+}
+
+/// A link with the letter whose service the previous level had not stopped.
+fn is_stopping(letter: u8, previous: &[String], link: &str) -> bool
+    ensures { result ≡ is_stopping letter (map string_bytes previous.now) link.now }
+{
+    is_link(letter, link.as_bytes()) && !was_stopped(previous, link)
+}
+
+/// The machine is halted or started anew in the level.
+pub(crate) fn is_halt(level: Level) -> bool
+    ensures { result ≡ is_halt level }
+{
+    matches!(level, Level::L0 | Level::L6)
+}
+
+/// Adds the name where it is a link that stops.
+fn add_stop<'n, A: Allocator>(links: &mut Vec<&'n str, A>, name: &'n str) -> Result<(), Memory>
+    ensures { OnOk result (texts_of links.new.items
+        ≡ texts_of links.old.items ++ filter (is_link 75) (name.now ∷ [])) }
+{
+    if is_link(b'K', name.as_bytes()) {
+        links.push(name)?;
+    }
+    Ok(())
+}
+
+/// Adds the name where it is a link that starts, and not one to skip.
+fn add_start<'n, A: Allocator>(
+    links: &mut Vec<&'n str, A>,
+    previous: &[String],
+    new: &[String],
+    name: &'n str,
+) -> Result<(), Memory>
+    ensures { OnOk result (texts_of links.new.items ≡ texts_of links.old.items
+        ++ filter (is_started (map string_bytes previous.now) (map string_bytes new.now))
+        (name.now ∷ [])) }
+{
+    if is_started(previous, new, name) {
+        links.push(name)?;
+    }
+    Ok(())
+}
+
+/// Adds the name where it is a link with the letter that sysv-rc stops.
+fn add_stopping<'n, A: Allocator>(
+    links: &mut Vec<&'n str, A>,
+    letter: u8,
+    previous: &[String],
+    name: &'n str,
+) -> Result<(), Memory>
+    ensures { OnOk result (texts_of links.new.items ≡ texts_of links.old.items
+        ++ filter (is_stopping letter (map string_bytes previous.now)) (name.now ∷ [])) }
+{
+    if is_stopping(letter, previous, name) {
+        links.push(name)?;
+    }
+    Ok(())
+}
+
+fn add_all_stopping<'n, A: Allocator>(
+    links: &mut Vec<&'n str, A>,
+    letter: u8,
+    previous: &[String],
+    names: &'n [String],
+) -> Result<(), Memory>
+    ensures { OnOk result (texts_of links.new.items ≡ texts_of links.old.items
+        ++ filter (is_stopping letter (map string_bytes previous.now))
+        (map string_bytes names.now)) }
+{
+    for name in names {
+        add_stopping(links, letter, previous, name.as_str())?;
+    }
+    Ok(())
+}
+
+fn add_stops<'n, A: Allocator>(
+    links: &mut Vec<&'n str, A>,
+    names: &'n [String],
+) -> Result<(), Memory>
+    ensures { OnOk result (texts_of links.new.items
+        ≡ texts_of links.old.items ++ filter (is_link 75) (map string_bytes names.now)) }
+{
+    for name in names {
+        add_stop(links, name.as_str())?;
+    }
+    Ok(())
+}
+
+fn add_starts<'n, A: Allocator>(
+    links: &mut Vec<&'n str, A>,
+    previous: &[String],
+    new: &[String],
+    names: &'n [String],
+) -> Result<(), Memory>
+    ensures { OnOk result (texts_of links.new.items ≡ texts_of links.old.items
+        ++ filter (is_started (map string_bytes previous.now) (map string_bytes new.now))
+        (map string_bytes names.now)) }
+{
+    for name in names {
+        add_start(links, previous, new, name.as_str())?;
+    }
+    Ok(())
+}
+
+/// Puts links into byte order, each once.
+fn put_in_order<'n, A: Allocator>(links: &mut Vec<&'n str, A>)
+    ensures { texts_of links.new.items ≡ ordered (texts_of links.old.items) }
+{
+    links.sort_unstable();
+    links.dedup();
+}
+
+/// The links of the new folder that are run to stop.
+pub(crate) fn stop_links<'n, A: Allocator>(
+    alloc: A,
+    new: &'n [String],
+) -> Result<Vec<&'n str, A>, Memory>
+    ensures { IfOk result (λ links.
+        texts_of links.items ≡ stop_links (map string_bytes new.now)) }
+{
+    let mut links = Vec::new(alloc);
+    add_stops(&mut links, new)?;
+    put_in_order(&mut links);
+    Ok(links)
+}
+
+/// The links of the new folder that are run to start.
+pub(crate) fn start_links<'n, A: Allocator>(
+    alloc: A,
+    previous: &[String],
+    new: &'n [String],
+) -> Result<Vec<&'n str, A>, Memory>
+    ensures { IfOk result (λ links. texts_of links.items
+        ≡ start_links (map string_bytes previous.now) (map string_bytes new.now)) }
+{
+    let mut links = Vec::new(alloc);
+    add_starts(&mut links, previous, new, new)?;
+    put_in_order(&mut links);
+    Ok(links)
+}
+
+/// The links of the new folder with the letter that sysv-rc stops.
+pub(crate) fn stopping_links<'n, A: Allocator>(
+    alloc: A,
+    letter: u8,
+    previous: &[String],
+    new: &'n [String],
+) -> Result<Vec<&'n str, A>, Memory>
+    ensures { IfOk result (λ links. texts_of links.items
+        ≡ stopping_links letter (map string_bytes previous.now) (map string_bytes new.now)) }
+{
+    let mut links = Vec::new(alloc);
+    add_all_stopping(&mut links, letter, previous, new)?;
+    put_in_order(&mut links);
+    Ok(links)
+}

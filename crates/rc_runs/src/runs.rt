@@ -1,0 +1,221 @@
+//! The scripts of a change of runlevel, one after another.
+
+ghost use Rattle.std.specs.Prelude.{◌≡◌, ◌++◌, false, true, map, string_bytes, IfOk, OnOk, OnErr};
+ghost use Rattle.rc_runs.specs.Planned.{RunsPlans};
+ghost use Rattle.rc_runs.specs.Runs.{rc_run, scripts_of, texts_of, with_arg};
+ghost use Rattle.rc_runs.specs.Steps.{Steps};
+ghost use Rattle.rc_runs.specs.Sysv.{is_halt, sysv_run, sysv_starts, sysv_stops};
+
+use crate::links::{is_halt, start_links, stop_links, stopping_links};
+use init_words::{Level, Memory, Status};
+use std::alloc::{Allocator, Global};
+use std::collections::VecDeque;
+use std::marker::Model;
+use thiserror::Error;
+
+/// The argument that a script is run with (LSB Core 5.0, init script actions).
+#[derive(Clone, Copy, PartialEq, Eq)]
+pub enum Arg {
+    /// The service is started.
+    Start,
+    /// The service is stopped.
+    Stop,
+}
+
+/// What is to be done next in a run of scripts.
+#[derive(Clone, Copy, PartialEq, Eq)]
+pub enum RcStep<'n> {
+    /// The script of this link is to be run with this argument.
+    Run(&'n str, Arg),
+    /// The answer to the script that was handed out last is missing.
+    Waiting,
+    /// All scripts were handed out and answered.
+    Done,
+}
+
+/// How a script that was handed out came to its end.
+#[derive(Clone, Copy, PartialEq, Eq)]
+pub enum RcAnswer {
+    /// It ended so.
+    Ended(Status),
+    /// It could not be started.
+    NotStarted,
+}
+
+/// A change of runlevel.
+#[derive(Clone, Copy, PartialEq, Eq)]
+pub struct Passage {
+    /// The runlevel before, if there was one.
+    pub before: Option<Level>,
+    /// The runlevel that is entered.
+    pub new: Level,
+}
+
+/// How scripts are run.
+#[derive(Clone, Copy, PartialEq, Eq)]
+pub struct RunWay {
+    /// A script is executed itself, by what its first line says; else `sh` reads it.
+    pub direct: bool,
+    /// A line tells of each start.
+    pub verbose: bool,
+    /// The seconds behind which a script is sent TERM, and KILL behind init's grace, where there is such a limit.
+    pub seconds: Option<u32>,
+    /// The change that scripts have in RUNLEVEL and PREVLEVEL (init(8)), by env(1), where they have it.
+    pub levels: Option<Passage>,
+}
+
+/// An answer that was not asked for.
+#[derive(Clone, Copy, Debug, PartialEq, Eq, Error)]
+#[error("no script was handed out")]
+pub struct NotAsked;
+
+/// The scripts that are run where a runlevel is entered, one at a time, and how far their run is. The links are
+/// borrowed from the new folder's names.
+#[derive(Drop)]
+pub struct Rc<'n, A: Allocator = Global> {
+    /// Those that are not handed out yet.
+    left: VecDeque<(&'n str, Arg), A>,
+    /// The answer to the last one that was handed out is missing.
+    waits: bool,
+}
+
+impl<'n, A: Allocator> Model for Rc<'n, A> {
+    ghost use Rattle.rc_runs.specs.Runs.{RcState, scripts_of};
+
+    ghost Value = { RcState };
+
+    ghost view = { λ rc. record { left = scripts_of rc.left.items; waits = rc.waits } };
+}
+
+/// Adds the links, each with the argument.
+fn add_scripts<'n, A: Allocator>(
+    scripts: &mut VecDeque<(&'n str, Arg), A>,
+    links: &[&'n str],
+    arg: Arg,
+) -> Result<(), Memory>
+    ensures { OnOk result (scripts_of scripts.new.items
+        ≡ scripts_of scripts.old.items ++ with_arg arg (texts_of links.now)) }
+{
+    for link in links {
+        scripts.push_back((*link, arg))?;
+    }
+    Ok(())
+}
+
+impl<'n, A: Allocator + Copy> Rc<'n, A> {
+    /// The run of the scripts of a level, from the names in the folder of the previous level and in that of the new
+    /// one. A link is `S` or `K`, two digits, and one or more bytes of `A-Z a-z 0-9 . _ -`; other names are passed
+    /// over. The K links of the new folder are stopped in byte order, then its S links are started in byte order, but
+    /// not those that run already: the previous folder has an S link with the same part after the digits, and the new
+    /// one no such K link.
+    #[tactic(auto, using(crate::proofs::PlannedLemmas::plans_run))]
+    pub fn new(alloc: A, previous: &[String], new: &'n [String]) -> Result<Rc<'n, A>, Memory>
+        ensures run { IfOk result (λ rc. rc ≡ record {
+          left = rc_run (map string_bytes previous.now) (map string_bytes new.now);
+          waits = false;
+        }) }
+        // What rclinks makes and prints is what is run: where a folder holds just the links of a plan, in any order, and
+        // its scripts have names that links may have, each that stops, and then each that starts, but not those that
+        // run already.
+        ensures planned { IfOk result (λ rc.
+            RunsPlans (map string_bytes previous.now) (map string_bytes new.now) rc.left) }
+    {
+        let mut left = VecDeque::new(alloc);
+        add_scripts(&mut left, stop_links(alloc, new)?.as_slice(), Arg::Stop)?;
+        add_scripts(
+            &mut left,
+            start_links(alloc, previous, new)?.as_slice(),
+            Arg::Start,
+        )?;
+        Ok(Rc { left, waits: false })
+    }
+
+    /// The same as sysv-rc has it. With no level before no K link is run. A K link is left out where the level before
+    /// had stopped its service: the previous folder has a K link with the same part after the digits, and no S link.
+    /// In levels 0 and 6 the S links are stopped too, by the same rule.
+    pub fn as_sysv(
+        alloc: A,
+        passage: Passage,
+        previous: &[String],
+        new: &'n [String],
+    ) -> Result<Rc<'n, A>, Memory>
+        ensures { IfOk result (λ rc. rc ≡ record {
+          left = sysv_run passage (map string_bytes previous.now) (map string_bytes new.now);
+          waits = false;
+        }) }
+    {
+        let mut left = VecDeque::new(alloc);
+        add_sysv_stops(alloc, &mut left, passage.before, previous, new)?;
+        add_sysv_starts(alloc, &mut left, is_halt(passage.new), previous, new)?;
+        Ok(Rc { left, waits: false })
+    }
+}
+
+/// Adds the K links that sysv-rc stops, where there was a level before.
+fn add_sysv_stops<'n, A: Allocator + Copy>(
+    alloc: A,
+    scripts: &mut VecDeque<(&'n str, Arg), A>,
+    before: Option<Level>,
+    previous: &[String],
+    new: &'n [String],
+) -> Result<(), Memory>
+    ensures { OnOk result (scripts_of scripts.new.items ≡ scripts_of scripts.old.items
+        ++ sysv_stops before (map string_bytes previous.now) (map string_bytes new.now)) }
+{
+    if before.is_none() {
+        return Ok(());
+    }
+    let links = stopping_links(alloc, b'K', previous, new)?;
+    add_scripts(scripts, links.as_slice(), Arg::Stop)
+}
+
+/// Adds the S links that sysv-rc starts, or stops where the machine is halted.
+fn add_sysv_starts<'n, A: Allocator + Copy>(
+    alloc: A,
+    scripts: &mut VecDeque<(&'n str, Arg), A>,
+    is_halt: bool,
+    previous: &[String],
+    new: &'n [String],
+) -> Result<(), Memory>
+    ensures { OnOk result (scripts_of scripts.new.items ≡ scripts_of scripts.old.items
+        ++ sysv_starts is_halt (map string_bytes previous.now) (map string_bytes new.now)) }
+{
+    if is_halt {
+        let links = stopping_links(alloc, b'S', previous, new)?;
+        return add_scripts(scripts, links.as_slice(), Arg::Stop);
+    }
+    let links = start_links(alloc, previous, new)?;
+    add_scripts(scripts, links.as_slice(), Arg::Start)
+}
+
+impl<'n, A: Allocator> Rc<'n, A> {
+    /// The next script, once the one before was answered; `Waiting` until then, and `Done` after the last.
+    pub fn next(&mut self) -> RcStep<'n>
+        ensures { Steps self.old result self.new }
+    {
+        if self.waits {
+            return RcStep::Waiting;
+        }
+        match self.left.pop_front() {
+            Some((link, arg)) => {
+                self.waits = true;
+                RcStep::Run(link, arg)
+            }
+            None => RcStep::Done,
+        }
+    }
+
+    /// Takes the answer to the script that was handed out last. Refused where none is missing. How a script ended
+    /// changes nothing in what follows.
+    pub fn answer(&mut self, _answer: RcAnswer) -> Result<(), NotAsked>
+        ensures ok { OnOk result ((self.old.waits ≡ true)
+            × (self.new ≡ record self.old { waits = false })) }
+        ensures err { OnErr result ((self.old.waits ≡ false) × (self.new ≡ self.old)) }
+    {
+        if !self.waits {
+            return Err(NotAsked);
+        }
+        self.waits = false;
+        Ok(())
+    }
+}
