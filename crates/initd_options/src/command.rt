@@ -1,7 +1,8 @@
 //! The command lines of initd's subcommands.
 
 ghost use Rattle.std.specs.Prelude.{◌≡◌, map, string_bytes, IfErr, IfOk, IsSome, None, Some};
-ghost use Rattle.clap.specs.Words.{FailsBy, app_of, fault_of, found_of, rows_of, subcommand_of, subcommand_rows_of};
+ghost use Rattle.clap.specs.Words.{FailsBy, app_of, fault_of, found_of, rows_of, subcommand_of, subcommand_rows_of, with_subcommand};
+ghost use Rattle.command_words.specs.CommandLines.{line_of, texts_of};
 ghost use Rattle.command_words.specs.Faults.{reason_of};
 ghost use Rattle.initd_options.specs.CommandLine.{command_line, judged_by, line_said, initd_read_of, run_said_by, initd_said_by, said_of, simulation_of, simulation_said, check_of, check_said};
 
@@ -77,18 +78,34 @@ const SIMULATE: &[Row] = &[("--level", "L", ""), ("TABLE", "", ""), ("SCRIPT", "
 /// The option and the word of `initd check`.
 const CHECK: &[Row] = &[("--growing", "", ""), ("TRACE", "", "")];
 
+/// The command with one more subcommand, that of a table. It holds one of the two at a time: a command has some forty
+/// fields, and what may fail while it is held lets go of each.
+fn with_line<'a>(
+    alloc: Global,
+    command: Command<'a>,
+    name: &'static str,
+    table: &[Row],
+) -> Result<Command<'a>, AllocError>
+    ensures { IfOk result (λ made. app_of made
+        ≡ with_subcommand (app_of command.entry) (line_of name.now (texts_of table.now)).top) }
+{
+    match table_line(alloc, name, table) {
+        Ok(line) => command.subcommand(line),
+        Err(error) => {
+            drop(command);
+            Err(error)
+        }
+    }
+}
+
 /// The command line of `initd`.
 fn command<'a>(alloc: Global) -> Result<Command<'a>, AllocError>
     ensures { IfOk result (λ made. app_of made ≡ command_line) }
 {
-    let simulate = table_line(alloc, "simulate", SIMULATE)?;
-    let check = table_line(alloc, "check", CHECK)?;
-    let serving = table_line(alloc, "run", OPTIONS)?;
-    table_line(alloc, "initd", &[])?
-        .subcommand_required(true)
-        .subcommand(simulate)?
-        .subcommand(check)?
-        .subcommand(serving)
+    let program = table_line(alloc, "initd", &[])?.subcommand_required(true);
+    let with_simulate = with_line(alloc, program, "simulate", SIMULATE)?;
+    let with_check = with_line(alloc, with_simulate, "check", CHECK)?;
+    with_line(alloc, with_check, "run", OPTIONS)
 }
 
 fn parse<'a>(alloc: Global, words: &'a [String]) -> Result<ArgMatches<'a>, Error>

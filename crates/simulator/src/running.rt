@@ -166,7 +166,9 @@ fn run_until_rest<A: Allocator + Copy, W: Write, F: WritesOn<W>>(
             return Ok(rereads);
         };
         write_happening::<A, W, F>(alloc, out, &happening)?;
-        side.take(&happening)?;
+        let taken = side.take(&happening);
+        drop(happening);
+        taken?;
     }
 }
 
@@ -387,8 +389,13 @@ fn hear_all<A: Allocator + Copy, W: Write, F: WritesOn<W>>(
         let Some((happening, more)) = first_happening(alloc, rest)? else {
             return Err(SimFault::Script(number));
         };
-        reads = hear_next::<A, W, F>(alloc, core, &mut made, side, out, &happening, reads, number)?;
-        number += line_count(&happening);
+        let heard = hear_next::<A, W, F>(
+            alloc, core, &mut made, side, out, &happening, reads, number,
+        );
+        let lines = line_count(&happening);
+        drop(happening);
+        reads = heard?;
+        number += lines;
         rest = more;
     }
     Ok(())
@@ -452,5 +459,9 @@ pub fn simulate<A: Allocator + Copy, W: Write, F: WritesOn<W>>(
     let mut core = open_core(alloc, inittab, level)?;
     write_table::<A, W, F>(alloc, out, core.table())?;
     let mut side = SimulatedSystem::new(alloc);
-    run_script::<A, W, F>(alloc, &mut core, &mut side, out, script)
+    let ended = run_script::<A, W, F>(alloc, &mut core, &mut side, out, script);
+    // Each goes by one call: the prover walks over the parts of what is dropped at a function's end, one by one.
+    drop(side);
+    drop(core);
+    ended
 }

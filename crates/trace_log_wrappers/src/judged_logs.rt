@@ -69,9 +69,11 @@ impl<'a, R: Eprint, L: Log, A: Allocator + Copy> JudgedLog<'a, R, L, A> {
             rt: _,
             alloc: _,
             log,
-            judge: _,
+            judge,
             judgement: _,
         } = self;
+        // By one call: the prover walks over the parts of what is dropped at a function's end, one by one.
+        drop(judge);
         log
     }
 

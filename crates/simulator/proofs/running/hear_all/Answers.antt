@@ -23,30 +23,15 @@ returns-in_err-reads-clause-ended g c =
     let is : c.from_residual-in_err-reads.result ≡ Err f = search (rules, c.from_residual-in_err-reads.ensures) in
     let found : (is_in_range c.in-Some.happening ≡ true) × (event_text c.in-Some.happening ++ c.in-Some.more.now ≡ c.loop-rest.rest.now) = search rules in
     err_is c.from_residual-in_err-reads.result f _ is (λ s before so_far.
-    heard_ends s c.loop-rest.rest.now c.in-Some.more.now c.in-Some.happening c.loop-rest.number c.loop-rest.reads c.loop-rest.core c.loop-rest.side f before (g.W.Write.contents c.loop-rest.out) (g.W.Write.contents c.hear_next.new.out)
+    heard_ends s c.loop-rest.rest.now c.in-Some.more.now c.in-Some.happening c.loop-rest.number c.loop-rest.reads c.loop-rest.core c.loop-rest.side f before (g.W.Write.contents c.loop-rest.out) (g.W.Write.contents c.hear_next-heard.new.out)
     (c.loop-rest.invariant.so_far s before so_far) found.0 found.1 c.in_err-reads.ensures.err)
 
 pub overflow_add-number : goal.overflow_add-number
 overflow_add-number g c =
     let found : (is_in_range c.in-Some.happening ≡ true) × (event_text c.in-Some.happening ++ c.in-Some.more.now ≡ c.loop-rest.rest.now) = search rules in
     let lines = lines_within c.in-Some.happening c.in-Some.more.now c.loop-rest.rest.now found.0 found.1 in
-    let bound : c.loop-rest.number + c.line_count-number.result ≤ length c.args.text.now + 1 = rw c.line_count-number.ensures (omega (arith, lines, c.loop-rest.invariant.bounded)) in
+    let bound : c.loop-rest.number + c.line_count-lines.result ≤ length c.args.text.now + 1 = rw c.line_count-lines.ensures (omega (arith, lines, c.loop-rest.invariant.bounded)) in
     grind (arith, common_steps)
-
-pub loop-rest-preserved-in_ok-reads : goal.loop-rest-preserved-in_ok-reads
-loop-rest-preserved-in_ok-reads g c =
-    let found : (is_in_range c.in-Some.happening ≡ true) × (event_text c.in-Some.happening ++ c.in-Some.more.now ≡ c.loop-rest.rest.now) = search rules in
-    let invariant = c.loop-rest.invariant in
-    let (goal, past, at) = invariant.some in
-    let (next, more, rests, hears, written) = c.in_ok-reads.ensures.ok goal past at in
-    rw c.line_count-number.ensures (record {
-      texts = c.in_ok-reads.ensures.made;
-      bounded = omega (arith, lines_within c.in-Some.happening c.in-Some.more.now c.loop-rest.rest.now found.0 found.1, invariant.bounded);
-      some = (goal, next, rests);
-      so_far = λ s before so_far.
-          so_far_next s c.loop-rest.rest.now c.in-Some.more.now c.in-Some.happening c.loop-rest.number c.loop-rest.reads c.in_ok-reads.reads c.loop-rest.core c.hear_next.new.core c.loop-rest.side c.hear_next.new.side
-          before (g.W.Write.contents c.loop-rest.out) (g.W.Write.contents c.hear_next.new.out) (invariant.so_far s before so_far) found.0 found.1 c.in_ok-reads.ensures.ok;
-    })
 
 pub loop-rest-preserved : goal.loop-rest-preserved
 loop-rest-preserved g c =
@@ -54,13 +39,13 @@ loop-rest-preserved g c =
     let invariant = c.loop-rest.invariant in
     let (goal, past, at) = invariant.some in
     let (next, more, rests, hears, written) = c.in_ok-reads.ensures.ok goal past at in
-    rw c.line_count-number.ensures (record {
+    rw c.line_count-lines.ensures (record {
       texts = c.in_ok-reads.ensures.made;
       bounded = omega (arith, lines_within c.in-Some.happening c.in-Some.more.now c.loop-rest.rest.now found.0 found.1, invariant.bounded);
       some = (goal, next, rests);
       so_far = λ s before so_far.
-          so_far_next s c.loop-rest.rest.now c.in-Some.more.now c.in-Some.happening c.loop-rest.number c.loop-rest.reads c.in_ok-reads.reads c.loop-rest.core c.hear_next.new.core c.loop-rest.side c.hear_next.new.side
-          before (g.W.Write.contents c.loop-rest.out) (g.W.Write.contents c.hear_next.new.out) (invariant.so_far s before so_far) found.0 found.1 c.in_ok-reads.ensures.ok;
+          so_far_next s c.loop-rest.rest.now c.in-Some.more.now c.in-Some.happening c.loop-rest.number c.loop-rest.reads c.in_ok-reads.reads c.loop-rest.core c.hear_next-heard.new.core c.loop-rest.side c.hear_next-heard.new.side
+          before (g.W.Write.contents c.loop-rest.out) (g.W.Write.contents c.hear_next-heard.new.out) (invariant.so_far s before so_far) found.0 found.1 c.in_ok-reads.ensures.ok;
     })
 
 pub returns-clause-done : goal.returns-clause-done

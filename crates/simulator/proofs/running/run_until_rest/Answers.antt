@@ -36,10 +36,10 @@ returns-in_err-write_happening-clause-err g c =
     ))
 
 -- a step was written and not taken in
-pub returns-in_err-take-clause-err : goal.returns-in_err-take-clause-err
-returns-in_err-take-clause-err g c =
-    let is : c.from_residual-in_err-take.result ≡ Err fault.Memory = search rules in
-    err_is c.from_residual-in_err-take.result fault.Memory _ is (λ goal past before.
+pub returns-in_err-taken-clause-err : goal.returns-in_err-taken-clause-err
+returns-in_err-taken-clause-err g c =
+    let is : c.from_residual-in_err-taken.result ≡ Err fault.Memory = search rules in
+    err_is c.from_residual-in_err-taken.result fault.Memory _ is (λ goal past before.
     let (next, more, moment, goes, written) = c.steps.invariant.all goal past before in
     let due_now = c.next-step.ensures.due goal next (run_sound goal next moment.runs) moment.fits.0 in (
       c.in-Some.happening ∷ next,
@@ -57,24 +57,12 @@ steps-smaller g c = c.next-step.ensures.falls c.in-Some.ensures.some.0
 
 pub steps-preserved : goal.steps-preserved
 steps-preserved g c =
-    let moved = moment_step c.steps.core c.next-step.new.self c.steps.side c.take.new.self c.next-step.result c.in-Some.happening c.next-step.ensures.due c.next-step.ensures.fits c.in-Some.ensures.some.1 c.in_ok-take.ensures.ok
+    let moved = moment_step c.steps.core c.next-step.new.self c.steps.side c.take-taken.new.self c.next-step.result c.in-Some.happening c.next-step.ensures.due c.next-step.ensures.fits c.in-Some.ensures.some.1 c.in_ok-taken.ensures.ok
     (lasts_step c.steps.core c.next-step.new.self c.next-step.result c.next-step.ensures.step c.next-step.ensures.state) in
     record {
       generation = ap (λ (core : CoreState). core.heads.generation) c.next-step.ensures.state ∙ step_same c.next-step.result c.steps.core ∙ c.steps.invariant.generation;
       some = let (goal, past, moment) = c.steps.invariant.some in (goal, c.in-Some.happening ∷ past, moved goal past moment);
-      all = λ goal past before. went_step c.steps.core c.next-step.new.self c.steps.side c.take.new.self c.next-step.result c.in-Some.happening c.next-step.ensures.due c.next-step.ensures.fits c.in-Some.ensures.some.1 c.in_ok-take.ensures.ok
-          (lasts_step c.steps.core c.next-step.new.self c.next-step.result c.next-step.ensures.step c.next-step.ensures.state)
-          (g.W.Write.contents c.args.out.now) (g.W.Write.contents c.steps.out) (g.W.Write.contents c.write_happening.new.out) c.in_ok-write_happening.ensures.ok goal past (c.steps.invariant.all goal past before);
-    }
-
-pub steps-preserved-in_ok-take : goal.steps-preserved-in_ok-take
-steps-preserved-in_ok-take g c =
-    let moved = moment_step c.steps.core c.next-step.new.self c.steps.side c.take.new.self c.next-step.result c.in-Some.happening c.next-step.ensures.due c.next-step.ensures.fits c.in-Some.ensures.some.1 c.in_ok-take.ensures.ok
-    (lasts_step c.steps.core c.next-step.new.self c.next-step.result c.next-step.ensures.step c.next-step.ensures.state) in
-    record {
-      generation = ap (λ (core : CoreState). core.heads.generation) c.next-step.ensures.state ∙ step_same c.next-step.result c.steps.core ∙ c.steps.invariant.generation;
-      some = let (goal, past, moment) = c.steps.invariant.some in (goal, c.in-Some.happening ∷ past, moved goal past moment);
-      all = λ goal past before. went_step c.steps.core c.next-step.new.self c.steps.side c.take.new.self c.next-step.result c.in-Some.happening c.next-step.ensures.due c.next-step.ensures.fits c.in-Some.ensures.some.1 c.in_ok-take.ensures.ok
+      all = λ goal past before. went_step c.steps.core c.next-step.new.self c.steps.side c.take-taken.new.self c.next-step.result c.in-Some.happening c.next-step.ensures.due c.next-step.ensures.fits c.in-Some.ensures.some.1 c.in_ok-taken.ensures.ok
           (lasts_step c.steps.core c.next-step.new.self c.next-step.result c.next-step.ensures.step c.next-step.ensures.state)
           (g.W.Write.contents c.args.out.now) (g.W.Write.contents c.steps.out) (g.W.Write.contents c.write_happening.new.out) c.in_ok-write_happening.ensures.ok goal past (c.steps.invariant.all goal past before);
     }

@@ -33,8 +33,8 @@ returns-in_err-write_table-clause-ended g c =
 pub returns-in_err-write_table-clause-limit : goal.returns-in_err-write_table-clause-limit
 returns-in_err-write_table-clause-limit g c many = no_fault c.open_core.result c.in_ok-core.core fault.Table c.in_ok-core.was (c.open_core.ensures.limit many)
 
-pub run_script-requires-clause-moment : goal.run_script-requires-clause-moment
-run_script-requires-clause-moment g c =
+pub run_script-ended-requires-clause-moment : goal.run_script-ended-requires-clause-moment
+run_script-ended-requires-clause-moment g c =
     let goal = goal_in (scenario c.args.level c.args.inittab.now c.args.script.now) in (
       goal,
       NewTable (table_of_text c.args.inittab.now) ∷ [],
@@ -46,7 +46,7 @@ returns-clause-done g c =
     let s = scenario c.args.level c.args.inittab.now c.args.script.now in
     let first = first_moment c.args.inittab.now (goal_in s) c.in_ok-core.core c.new-side.result c.in_ok-core.ensures.fits c.in_ok-core.ensures.lasts (c.new-side.ensures (table_of_text c.args.inittab.now)) in
     let text = opening_written c.args.inittab.now c.table.result.now (g.W.Write.contents c.args.out.now) (g.W.Write.contents c.write_table.new.out) (c.table.ensures ∙ c.in_ok-core.ensures.table) c.in_ok-write_table.ensures.ok in
-    ok_then c.run_script.result c.run_script.ensures.done (λ all.
+    ok_then c.run_script-ended.result c.run_script-ended.ensures.done (λ all.
     all s (g.W.Write.contents c.args.out.now) refl first text)
 
 pub returns-clause-ended : goal.returns-clause-ended
@@ -54,7 +54,7 @@ returns-clause-ended g c =
     let s = scenario c.args.level c.args.inittab.now c.args.script.now in
     let first = first_moment c.args.inittab.now (goal_in s) c.in_ok-core.core c.new-side.result c.in_ok-core.ensures.fits c.in_ok-core.ensures.lasts (c.new-side.ensures (table_of_text c.args.inittab.now)) in
     let text = opening_written c.args.inittab.now c.table.result.now (g.W.Write.contents c.args.out.now) (g.W.Write.contents c.write_table.new.out) (c.table.ensures ∙ c.in_ok-core.ensures.table) c.in_ok-write_table.ensures.ok in
-    err_then c.run_script.result _ _ c.run_script.ensures.ended (λ f all.
+    err_then c.run_script-ended.result _ _ c.run_script-ended.ensures.ended (λ f all.
     all s (g.W.Write.contents c.args.out.now) refl first text)
 
 pub returns-clause-limit : goal.returns-clause-limit
