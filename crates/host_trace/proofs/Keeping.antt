@@ -1,10 +1,9 @@
 -- What a log had taken when each call was made: of one call, of none, and of two parts.
-use Rattle.host_trace.proofs.Words.{arith, ◌≡◌, refl, sym, ◌∙◌, ap, subst, true, List, [], ◌∷◌, ◌++◌, Option, Some, None, and_parts, OrderKind, Goal, Event, is_sound, LogState, Announce, HostCall, Point, announced, point_after, Leads, Logs, Took, UpTo, Went, WentWell, are_seconds_short, is_allowed, are_short, is_seconds, past_of}
+use Rattle.host_trace.proofs.Words.{arith, ◌≡◌, refl, sym, ap, subst, true, List, [], ◌∷◌, ◌++◌, Option, Some, None, and_parts, OrderKind, Goal, Event, is_sound, LogState, Announce, HostCall, Point, announced, point_after, Leads, Logs, Took, UpTo, Went, WentWell, are_seconds_short, is_allowed, are_short, is_seconds, past_of}
 use Rattle.std.specs.Prelude.{IfSome}
-use Rattle.trace_events.specs.declared.happenings.Happening.TheVariants.{Asked, NotRead, Handed}
-use Rattle.std.proofs.lemmas.Option.{none-some, same_Some}
-use Rattle.host_calls.specs.Record.{AreTold, Since}
-use Rattle.host_trace.specs.Edges.{AddsMade, Kept, KeptAt, Made, calls_of, trace_at, untimed, untimed_calls}
+use Rattle.trace_events.specs.declared.happenings.Happening.TheVariants.{Asked}
+use Rattle.host_calls.specs.Record.{Since}
+use Rattle.host_trace.specs.Edges.{AddsMade, Kept, KeptAt, Made, calls_of, trace_at}
 use Rattle.host_trace.specs.Fronts.{Began, Fronts}
 use Rattle.host_trace.proofs.Fronts.{Began-then}
 use Rattle.host_trace.proofs.Leading.{UpTo-map, UpTo-then, allowed_rest}
@@ -16,10 +15,6 @@ use Rattle.host_trace.proofs.Taking.{Took-none, Took-then}
 pub calls_of-append : {L : Type 0} (ys xs : List (Made L)) → calls_of (ys ++ xs) ≡ calls_of ys ++ calls_of xs
 calls_of-append [] xs = refl
 calls_of-append (made ∷ ys) xs = ap (λ l. made.call ∷ l) (calls_of-append ys xs)
-
-calls_of-untimed : (L : Type 0) (calls : List HostCall) → calls_of (untimed_calls {L = L} calls) ≡ calls
-calls_of-untimed L [] = refl
-calls_of-untimed L (call ∷ calls) = ap (λ l. call ∷ l) (calls_of-untimed L calls)
 
 -- a call was made, whether it is told or not
 pub Since-made : {L : Type 0} (old new : Option (List (Made L))) (call : HostCall) (log : L) (P : List (Made L) → Type 0) → AddsMade old new call log → ((at : Option L) → IfSome at (λ then. then ≡ log) → P (record { call = call; at = at } ∷ [])) → Since old new P
@@ -34,17 +29,6 @@ AddsMade-same old before behind new call log same_before same_behind adds = subs
 pub told_at : {L : Type 0} (at : Option L) (log : L) (P : L → Type 0) → IfSome at (λ then. then ≡ log) → P log → IfSome at P
 told_at None log P then held = tt
 told_at (Some at) log P then held = subst P (sym then) held
-
--- what was made of a host alone
-pub Since-untimed : (L : Type 0) (old new : Option (List HostCall)) (P : List HostCall → Type 0) → Since (untimed {L = L} old) (untimed {L = L} new) (λ mades. P (calls_of mades)) → Since old new P
-Since-untimed L old new P (mades, told, made) = (calls_of mades, by old new told, made)
-  where
-    by : (old new : Option (List HostCall)) → AreTold (untimed {L = L} old) (untimed {L = L} new) mades → AreTold old new (calls_of mades)
-    by old None told = tt
-    by None (Some all) told = absurd (none-some told.0 told.1)
-    by (Some before) (Some all) told =
-        let same : untimed_calls {L = L} before ≡ told.0 = same_Some (untimed_calls {L = L} before) told.0 told.1 in
-        (before, refl, sym (calls_of-untimed L all) ∙ ap calls_of told.2 ∙ calls_of-append mades told.0 ∙ ap (λ l. calls_of mades ++ l) (ap calls_of (sym same) ∙ calls_of-untimed L before))
 
 -- ---- at each call
 

@@ -1,5 +1,5 @@
 -- What an edge tells: each call of its host, and what its log was at that moment. The newest calls stand first.
-use Rattle.std.specs.Prelude.{◌≡◌, IsTrue, List, [], ◌∷◌, Option, Some, None, IfSome}
+use Rattle.std.specs.Prelude.{◌≡◌, IsTrue, List, [], ◌∷◌, Option, Some, IfSome}
 use Rattle.init_words.specs.declared.orders.OrderKind.TheVariants as ask
 use Rattle.trace_events.specs.declared.happenings.Happening.TheVariants.{Asked}
 use Rattle.trace_events.specs.declared.steps.Goal.{Goal}
@@ -24,15 +24,6 @@ calls_of (made ∷ mades) = made.call ∷ calls_of mades
 abbrev pub AddsMade : {L : Type 0} → Option (List (Made L)) → Option (List (Made L)) → HostCall → L → Type 0
 AddsMade old new call log = IfSome new (λ all. (before : List (Made _)) × (at : Option _) × (old ≡ Some before)
     × (all ≡ record { call = call; at = at } ∷ before) × IfSome at (λ then. then ≡ log))
-
--- what a host tells alone: the calls, and of none how the log was
-abbrev pub untimed_calls : {L : Type 0} → List HostCall → List (Made L)
-untimed_calls [] = []
-untimed_calls (call ∷ calls) = record { call = call; at = None } ∷ untimed_calls calls
-
-abbrev pub untimed : {L : Type 0} → Option (List HostCall) → Option (List (Made L))
-untimed None = None
-untimed (Some calls) = Some (untimed_calls calls)
 
 -- The trace when a call is made, of the one before it: the order that it carries out is in it, and what it announces.
 abbrev pub trace_at : HostCall → List Event → List Event

@@ -4,13 +4,13 @@ ghost use Rattle.std.specs.Prelude.{◌≡◌, ◌≤◌, List, Option, IfOk, On
 ghost use Rattle.trace_events.specs.Range.{is_in_range};
 ghost use Rattle.trace_log.specs.Logs.{LogState, Gains, Stays};
 ghost use Rattle.host_calls.specs.Calls.{text_read, parts_read, front_read};
-ghost use Rattle.host_trace.specs.Edges.{AddsMade, Made, untimed};
+ghost use Rattle.host_trace.specs.Edges.{AddsMade, Made};
 
-use host_calls::{Call, Host, HostFault, Reading, Reply};
+use host_calls::{Call, HostFault, Reading, Reply};
 use init_words::{Answer, Id, Part, SignalKind};
 use std::alloc::Allocator;
 use trace_events::HappeningIn;
-use trace_log::{Log, LogFault};
+use trace_log::LogFault;
 
 /// What init asks of its host (`Host`), and the log of its run (`Log`), in one: no call of the host changes the log, and
 /// the log is handed nothing without the edge.
@@ -113,83 +113,4 @@ pub trait Edge {
     /// Whether the log has failed.
     fn failed(&self) -> bool
         ensures { result ≡ (state (log self.now)).failed };
-}
-
-/// A host and a log as an edge. It doesn't tell what the log was at each call.
-#[derive(Drop)]
-pub struct Joined<H, L> {
-    /// The host.
-    pub host: H,
-    /// The log.
-    pub log: L,
-}
-
-impl<H: Host, L: Log> Edge for Joined<H, L> {
-    type Log = L;
-
-    ghost state = { L.state };
-
-    ghost told = { λ edge. untimed (H.told edge.host) };
-
-    ghost log = { λ edge. edge.log };
-
-    fn start<A: Allocator + Copy>(&mut self, alloc: A, id: Id, command: &[u8]) -> Reply {
-        self.host.start(alloc, id, command)
-    }
-
-    fn look(&mut self, id: Id) -> Reply {
-        self.host.look(id)
-    }
-
-    fn signal(&mut self, id: Id, signal: SignalKind) -> Reply {
-        self.host.signal(id, signal)
-    }
-
-    fn late(&mut self) -> Option<(Id, Answer)> {
-        self.host.late()
-    }
-
-    fn clock(&mut self) -> Result<u64, HostFault> {
-        self.host.clock()
-    }
-
-    fn take_bytes(&mut self, buffer: &mut [u8]) -> Result<usize, HostFault> {
-        self.host.take_bytes(buffer)
-    }
-
-    fn read_tables<A: Allocator + Copy>(&mut self, alloc: A) -> Result<Vec<Part<A>, A>, HostFault> {
-        self.host.read_tables(alloc)
-    }
-
-    fn takes<A: Allocator>(&mut self, parts: &[Part<A>], reading: &Reading<A>) -> bool {
-        self.host.takes(parts, reading)
-    }
-
-    fn pass_over(&mut self, why: &str) {
-        self.host.pass_over(why)
-    }
-
-    fn carry<A: Allocator + Copy>(
-        &mut self,
-        alloc: A,
-        text: &[u8],
-    ) -> Result<Vec<u8, A>, HostFault> {
-        self.host.carry(alloc, text)
-    }
-
-    fn announce<A: Allocator>(&mut self, happening: &HappeningIn<A>) {
-        self.host.announce(happening)
-    }
-
-    fn pause(&mut self) {
-        self.host.pause()
-    }
-
-    fn take<A: Allocator>(&mut self, happening: &HappeningIn<A>) -> Result<(), LogFault> {
-        self.log.take(happening)
-    }
-
-    fn failed(&self) -> bool {
-        self.log.failed()
-    }
 }

@@ -8,7 +8,7 @@
 mod edges;
 mod laws;
 
-pub use edges::{Edge, Joined};
+pub use edges::Edge;
 pub use laws::{law_of_children, law_of_parts, law_of_requests, law_of_texts};
 
 /// How many bytes of requests a turn takes at most.

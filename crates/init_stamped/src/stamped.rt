@@ -54,6 +54,20 @@ impl<H: Host, L: Log> Stamped<H, L> {
         (host, log)
     }
 
+    /// The host.
+    pub fn host(&self) -> &H
+        ensures { result.now ≡ self.now.host }
+    {
+        &self.host
+    }
+
+    /// The log.
+    pub fn log(&self) -> &L
+        ensures { result.now ≡ self.now.log }
+    {
+        &self.log
+    }
+
     /// Where the host tells its calls, those told here are they. It does nothing: its contract is the law.
     pub fn law_of_stamps(&self)
         ensures { AreItsCalls (H.told self.now.host) self.now.stamps }

@@ -1,5 +1,5 @@
 -- Which calls a run made, by how it ended: none but where it came to its turns.
-use Rattle.std.proofs.Common.{◌≡◌, refl, sym, subst, Bool, List, [], ◌∷◌, ℕ, Option, Some, None}
+use Rattle.std.proofs.Common.{◌≡◌, refl, Bool, List, [], ◌∷◌, Option, Some, None}
 use Rattle.std.specs.Prelude.{IfSome, ⊤}
 use Rattle.init_words.specs.declared.entries.Entry.{Entry}
 use Rattle.program_io.specs.Known.{KnownTexts}
@@ -7,13 +7,13 @@ use Rattle.trace_events.specs.Event.{Event}
 use Rattle.trace_log.specs.Logs.{LogState}
 use Rattle.host_calls.specs.Calls.{HostCall}
 use Rattle.host_calls.specs.Record.{Since}
-use Rattle.initd_options.specs.CommandLine.{InitdSaid, initd_read_of, judges, runs, simulates, version}
+use Rattle.initd_options.specs.CommandLine.{InitdSaid, judges, runs, simulates, version}
 use Rattle.initd_options.specs.Options.{RunSaid}
 use Rattle.init_turns.specs.Opening.{IsOpeningOf, OpeningState}
-use Rattle.initd_command.specs.Endings.{Ending, no_memory, refused}
+use Rattle.initd_command.specs.Endings.{no_memory, refused}
 use Rattle.initd_command.specs.Turned.{End}
 use Rattle.initd_command.specs.Services.{EndsTold, HasInittab, table_in, told_ending, told_of}
-use Rattle.initd_command.specs.Ran.{AsksBy, AsksSaid, MakesLogged, MakesTurns, RanBy, RanOver, RunTold}
+use Rattle.initd_command.specs.Ran.{AsksSaid, MakesLogged, MakesTurns, RanBy, RanOver, RunTold}
 
 -- turns over a log that was fresh
 pub made_fresh : {L fresh : Type 0} (state : L → LogState) (told : Option (List HostCall)) (has_ended : Bool → List Event → Type 0) (service : RunSaid) (table : List Entry) (end : End) (calls : List HostCall)

@@ -1,6 +1,6 @@
 //! A log that fails at each place: it has a prefix of the trace, and init goes on.
 
-use crate::replies::give_all;
+use crate::replies::host_of;
 use crate::runs::{Bench, bench_of, log_of, serve_on};
 use host_calls::Host;
 use init_turns::Served;
@@ -25,10 +25,9 @@ clock 107\nnudge\nask r look\ndeath 10\nreaped r 10 killed\ntold r\nsettle 1\n";
 
 /// Makes the run, of four turns and 31 calls, one of which fails, and gives how it ended.
 fn served<L: Log>(own: Global, bench: &mut Bench<Global, Global, L>) -> Option<Served> {
-    give_all(own, own, &mut bench.edge.host, GIFTS)?;
     let served = serve_on(own, bench, 9, true);
-    let calls = bench.edge.host.calls()?;
-    (bench.edge.host.faults() == 1 && calls.len() == 31).then_some(served)
+    let calls = bench.edge.host().calls()?;
+    (bench.edge.host().faults() == 1 && calls.len() == 31).then_some(served)
 }
 
 /// How many bytes a log has of the trace; None where it has others, or the run did not end as one of which it has so many.
@@ -44,9 +43,9 @@ fn taken(text: &[u8], served: Served) -> Option<usize> {
 /// How many bytes a log writes to a writer of so much room, each happening's text in memory of an allocator.
 fn streamed<A: Allocator + Copy>(own: Global, alloc: A, room: usize, fails: bool) -> Option<usize> {
     let log = StreamLog::new(alloc, Slow::new(own, room, fails, false));
-    let mut bench = bench_of(own, own, own, INITTAB, log)?;
+    let mut bench = bench_of(own, host_of(own, own, GIFTS)?, own, INITTAB, log)?;
     let served = served(own, &mut bench)?;
-    taken(bench.edge.log.writer().taken.as_slice(), served)
+    taken(bench.edge.log().writer().taken.as_slice(), served)
 }
 
 #[test]
@@ -61,9 +60,15 @@ fn a_writer_that_is_full_ends_the_log(rt: HostRuntime) {
 
 /// How many bytes there are of the list of a log on a heap.
 fn listed(own: Global, heap: &LocalHeap) -> Option<usize> {
-    let mut bench = bench_of(own, own, own, INITTAB, ListLog::new(heap))?;
+    let mut bench = bench_of(
+        own,
+        host_of(own, own, GIFTS)?,
+        own,
+        INITTAB,
+        ListLog::new(heap),
+    )?;
     let served = served(own, &mut bench)?;
-    let text = trace_text::print(own, bench.edge.log.list()).ok()?;
+    let text = trace_text::print(own, bench.edge.log().list()).ok()?;
     taken(text.as_slice(), served)
 }
 
@@ -71,7 +76,7 @@ fn listed(own: Global, heap: &LocalHeap) -> Option<usize> {
 /// not the whole trace.
 fn noted(own: Global, heap: &LocalHeap) -> Option<bool> {
     let log = NotedLog::new(heap, ListLog::new(own), Id::read(b"r"));
-    let mut bench = bench_of(own, own, own, INITTAB, log)?;
+    let mut bench = bench_of(own, host_of(own, own, GIFTS)?, own, INITTAB, log)?;
     let served = served(own, &mut bench)?;
     let (log, notes) = log_of(bench).into_parts();
     let text = trace_text::print(own, log.list()).ok()?;

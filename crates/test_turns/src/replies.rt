@@ -14,6 +14,7 @@ use host_scripted::MemoryHost;
 use init_words::{Answer, ChildNumber, Id, Memory, Part, Status};
 use initctl_frame::{BLOCK, Request, Sign, encode};
 use std::alloc::{Allocator, Global};
+use test_support::boxed;
 
 fn answer_of(text: &str) -> Option<Answer> {
     match text.split_once(' ').unwrap_or((text, "")) {
@@ -167,7 +168,7 @@ pub(crate) fn give<A: Allocator + Copy>(
 }
 
 /// Gives a host all items of a text.
-pub(crate) fn give_all<A: Allocator + Copy>(
+fn give_all<A: Allocator + Copy>(
     own: Global,
     alloc: A,
     host: &mut MemoryHost<A>,
@@ -179,4 +180,15 @@ pub(crate) fn give_all<A: Allocator + Copy>(
         }
     }
     Some(())
+}
+
+/// A host that is given all items of a text.
+pub(crate) fn host_of<A: Allocator + Copy>(
+    own: Global,
+    alloc: A,
+    replies: &str,
+) -> Option<Box<MemoryHost<A>>> {
+    let mut host = boxed(own, MemoryHost::new(alloc)).ok()?;
+    give_all(own, alloc, &mut host, replies)?;
+    Some(host)
 }

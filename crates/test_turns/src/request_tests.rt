@@ -1,6 +1,6 @@
 //! Blocks of requests that are cut at any place, by which the turns divide them.
 
-use crate::replies::blocks_of;
+use crate::replies::{blocks_of, host_of};
 use crate::runs::{Bench, bench_of, serve_on};
 use host_calls::Bytes;
 use host_scripted::MemoryHost;
@@ -59,7 +59,7 @@ fn hears_whole_blocks(
     heard: usize,
 ) -> bool {
     let is_done = init_turns::turn(own, &mut bench.core, &mut bench.edge, blocks);
-    let list = bench.edge.log.list();
+    let list = bench.edge.log().list();
     is_done
         && bench.core.drained()
         && blocks.rest() == heard % BLOCK
@@ -72,12 +72,13 @@ fn hears_whole_blocks(
 fn are_heard(own: Global, place: usize, length: usize, turns: Option<u64>) -> Option<bool> {
     let bytes = blocks_of(own, "q bad 2")?;
     let (front, rest) = bytes.split_at_checked(place)?;
-    let mut bench = bench_of(own, own, own, "# none", ListLog::new(own))?;
-    give_pieces(own, &mut bench.edge.host, front, rest, length).ok()?;
+    let mut host = host_of(own, own, "")?;
+    give_pieces(own, &mut host, front, rest, length).ok()?;
+    let mut bench = bench_of(own, host, own, "# none", ListLog::new(own))?;
     match turns {
         Some(turns) => {
             serve_on(own, &mut bench, turns, false);
-            Some(has_requests(bench.edge.log.list(), 3))
+            Some(has_requests(bench.edge.log().list(), 3))
         }
         None => {
             let mut blocks = Blocks::new();

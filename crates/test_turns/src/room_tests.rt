@@ -1,11 +1,11 @@
 //! Lack of memory within a turn, in an opening and in a log.
 
 use crate::log_tests::is_whole;
-use crate::replies::give_all;
+use crate::replies::host_of;
 use crate::run_tests::STOPPED;
 use crate::runs::{Bench, bench_of, is_run, letters_of, lines_of, serve_on};
 use crate::scripted_tests::has_room;
-use host_calls::Host;
+use host_trace::Edge;
 use init_turns::Opening;
 use init_words::Memory;
 use inittab_text::Table;
@@ -17,15 +17,15 @@ use trace_log::ListLog;
 /// The run is as it says where the host has no room left to tell a call.
 fn is_untold(own: Global) -> Option<bool> {
     let heap = LocalHeap::new(own, 16_384).ok()?;
-    let mut bench = bench_of(own, &heap, own, STOPPED.inittab, ListLog::new(own))?;
-    give_all(own, &heap, &mut bench.edge.host, STOPPED.replies)?;
+    let host = host_of(own, &heap, STOPPED.replies)?;
+    let mut bench = bench_of(own, host, own, STOPPED.inittab, ListLog::new(own))?;
     let _fillers = fill(own, &heap, 0)?;
-    Some(is_run(own, &mut bench, &STOPPED) && bench.edge.host.calls().is_none())
+    Some(is_run(own, &mut bench, &STOPPED) && bench.edge.host().calls().is_none())
 }
 
-/// What a turn does that is asked for something for which there may be too little room: what the host is given for two
-/// such turns, the trace of one and the number of entries behind it, where it was done and where it was not, and the
-/// letter of the call behind which it can be refused.
+/// What a turn does that is asked for something for which there may be too little room: what the host is given for a turn
+/// in which the child is born and two such turns, the trace of one of these and the number of entries behind it, where it
+/// was done and where it was not, and the letter of the call behind which it can be refused.
 struct Scarce {
     replies: &'static str,
     done: (&'static str, usize),
@@ -35,7 +35,8 @@ struct Scarce {
 
 /// An inittab is read anew that is longer than the first.
 const READING: &Scarce = &Scarce {
-    replies: "bytes q / table id:3:initdefault:|r:3:respawn:serv|c:3:off:z|d:3:off:v|e:3:off:w / bytes / bytes q / \
+    replies: "start birth 10 / bytes / bytes q / \
+            table id:3:initdefault:|r:3:respawn:serv|c:3:off:z|d:3:off:v|e:3:off:w / bytes / bytes q / \
             table id:3:initdefault:|r:3:respawn:serv|c:3:off:z|d:3:off:v|e:3:off:w",
     done: (
         "clock 0 / got reload / nudge / use 5 / id:3:initdefault: / r:3:respawn:serv / c:3:off:z / d:3:off:v / e:3:off:w / \
@@ -51,7 +52,7 @@ const READING: &Scarce = &Scarce {
 
 /// Init is executed anew.
 const HAND_OVER: &Scarce = &Scarce {
-    replies: "bytes u / bytes / bytes u",
+    replies: "start birth 10 / bytes / bytes u / bytes / bytes u",
     done: (
         "clock 0 / got reexec / nudge / handed whole / ask r look / still r / told r",
         2,
@@ -67,21 +68,17 @@ type Scene<'a> = Bench<Global, &'a LocalHeap, ListLog>;
 
 /// Makes a turn, and gives the text of its trace.
 fn turn_text<'a>(own: Global, heap: &'a LocalHeap, bench: &mut Scene<'a>) -> Option<Vec<u8>> {
-    bench.edge.log = ListLog::new(own);
+    let before = bench.edge.log().list().len();
     serve_on(heap, bench, 1, false);
-    trace_text::print(own, bench.edge.log.list()).ok()
+    trace_text::print(own, bench.edge.log().list().get(before..)?).ok()
 }
 
-/// Makes a turn, in which the child is born, and gives the host what it is given after it.
-fn begins<'a>(
-    own: Global,
-    heap: &'a LocalHeap,
-    bench: &mut Scene<'a>,
-    scarce: &Scarce,
-) -> Option<()> {
-    give_all(own, own, &mut bench.edge.host, "start birth 10 / bytes")?;
-    turn_text(own, heap, bench)?;
-    give_all(own, own, &mut bench.edge.host, scarce.replies)
+/// Init behind a turn in which the child is born.
+fn begun<'a>(own: Global, heap: &'a LocalHeap, scarce: &Scarce) -> Option<Box<Scene<'a>>> {
+    let host = host_of(own, own, scarce.replies)?;
+    let mut bench = bench_of(own, host, heap, STOPPED.inittab, ListLog::new(own))?;
+    turn_text(own, heap, &mut bench)?;
+    Some(bench)
 }
 
 /// The trace of the turn is this, and the entries behind it are so many, each with its record.
@@ -111,7 +108,7 @@ fn outcome_of(own: Global, bench: &Scene, text: &[u8], scarce: &Scarce) -> Optio
     if !is_made(own, bench, text, scarce.undone)? {
         return None;
     }
-    let letters = letters_of(own, &bench.edge.host)?;
+    let letters = letters_of(own, bench.edge.host())?;
     if letters.contains(&scarce.call) {
         return Some(Outcome::Refused);
     }
@@ -121,8 +118,7 @@ fn outcome_of(own: Global, bench: &Scene, text: &[u8], scarce: &Scarce) -> Optio
 /// What becomes of it with so much room left; with all of it, in the next turn, it is done.
 fn tried(own: Global, scarce: &Scarce, room: usize) -> Option<Outcome> {
     let heap = LocalHeap::new(own, 32_768).ok()?;
-    let mut bench = bench_of(own, own, &heap, STOPPED.inittab, ListLog::new(own))?;
-    begins(own, &heap, &mut bench, scarce)?;
+    let mut bench = begun(own, &heap, scarce)?;
     let fillers = fill(own, &heap, room)?;
     let text = turn_text(own, &heap, &mut bench)?;
     drop(fillers);
@@ -135,10 +131,9 @@ fn tried(own: Global, scarce: &Scarce, room: usize) -> Option<Outcome> {
 /// records of its entries, and nothing; the place in that.
 fn first(own: Global, room: usize) -> Option<usize> {
     let heap = LocalHeap::new(own, 32_768).ok()?;
-    let mut bench = bench_of(own, own, &heap, STOPPED.inittab, ListLog::new(own))?;
-    begins(own, &heap, &mut bench, READING)?;
+    let mut bench = begun(own, &heap, READING)?;
     let _fillers = fill(own, &heap, room)?;
-    let Ok(parts) = bench.edge.host.read_tables(&heap) else {
+    let Ok(parts) = bench.edge.read_tables(&heap) else {
         return Some(0);
     };
     let Ok((table, _)) = inittab_text::read_parts(&heap, &parts) else {

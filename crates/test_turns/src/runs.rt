@@ -1,10 +1,11 @@
 //! Runs of init over a scripted host, whose traces are text, their lines parted by ` / `.
 
-use crate::replies::give_all;
+use crate::replies::host_of;
 use core_steps::Core;
 use host_calls::{Call, Host};
 use host_scripted::MemoryHost;
-use host_trace::Joined;
+use host_trace::Edge;
+use init_stamped::Stamped;
 use init_turns::{Served, Unwatched};
 use init_words::Memory;
 use inittab_text::Table;
@@ -43,28 +44,27 @@ pub(crate) fn lines_of(alloc: Global, text: &str, parted: &str) -> Result<Vec<u8
 
 /// Init before its first turn: its core, and its host and its log.
 #[derive(Drop)]
-pub(crate) struct Bench<A: Allocator, B: Allocator, L> {
+pub(crate) struct Bench<A: Allocator + Copy, B: Allocator, L: Log> {
     pub(crate) core: Core<B>,
-    pub(crate) edge: Joined<MemoryHost<A>, L>,
+    pub(crate) edge: Stamped<MemoryHost<A>, L>,
 }
 
-fn bench_over<A: Allocator + Copy, B: Allocator + Copy, L: Drop>(
+fn bench_over<A: Allocator + Copy, B: Allocator + Copy, L: Log + Drop>(
     own: Global,
-    host: A,
+    host: Box<MemoryHost<A>>,
     alloc: B,
     table: Table<B>,
     log: L,
 ) -> Result<Box<Bench<A, B, L>>, Memory> {
+    let edge = Stamped::new(Box::into_inner(host), log);
     let core = Core::new(alloc, table, None)?;
-    let host = MemoryHost::new(host);
-    let edge = Joined { host, log };
     Ok(boxed(own, Bench { core, edge })?)
 }
 
-/// A core over an inittab, with a host that is given nothing, each in memory of its own, and with a log.
-pub(crate) fn bench_of<A: Allocator + Copy, B: Allocator + Copy, L: Drop>(
+/// A core over an inittab, with a host, each in memory of its own, and with a log.
+pub(crate) fn bench_of<A: Allocator + Copy, B: Allocator + Copy, L: Log + Drop>(
     own: Global,
-    host: A,
+    host: Box<MemoryHost<A>>,
     alloc: B,
     inittab: &str,
     log: L,
@@ -75,9 +75,9 @@ pub(crate) fn bench_of<A: Allocator + Copy, B: Allocator + Copy, L: Drop>(
 }
 
 /// What is left of it: its log.
-pub(crate) fn log_of<A: Allocator, B: Allocator, L: Drop>(bench: Box<Bench<A, B, L>>) -> L {
+pub(crate) fn log_of<A: Allocator + Copy, B: Allocator, L: Log>(bench: Box<Bench<A, B, L>>) -> L {
     let Bench { core: _, edge } = Box::into_inner(bench);
-    let Joined { host: _, log } = edge;
+    let (_, log) = edge.into_parts();
     log
 }
 
@@ -106,7 +106,7 @@ fn log_table<A: Allocator + Copy>(own: Global, bench: &mut Bench<A, Global, List
     let Ok(table) = bench.core.table().copy(own) else {
         return false;
     };
-    !bench.edge.log.failed() && bench.edge.log.take(&Happening::NewTable(table)).is_ok()
+    !bench.edge.failed() && bench.edge.take(&Happening::NewTable(table)).is_ok()
 }
 
 /// The log's happenings after the opening table are these lines, and all of it is lawful.
@@ -133,8 +133,8 @@ pub(crate) fn is_run<A: Allocator + Copy>(
     };
     log_table(own, bench)
         && serve_on(own, bench, row.limit.0, row.limit.1) == ended
-        && bench.edge.host.faults() == row.faults
-        && is_logged(own, bench.edge.log.list(), row.trace) == Some(true)
+        && bench.edge.host().faults() == row.faults
+        && is_logged(own, bench.edge.log().list(), row.trace) == Some(true)
 }
 
 /// The letters of the calls that a host tells: `C`lock, `B`ytes, `L`ate answer, `T`able or none (`t`), `S`tart behind its
@@ -166,11 +166,11 @@ pub(crate) fn letters_of(own: Global, host: &MemoryHost) -> Option<Vec<u8>> {
 
 /// Makes the run of a row, and gives whether it is as it says, and its calls have these letters, where they are asked.
 pub(crate) fn passes(own: Global, row: &Row, calls: Option<&str>) -> Option<bool> {
-    let mut bench = bench_of(own, own, own, row.inittab, ListLog::new(own))?;
-    give_all(own, own, &mut bench.edge.host, row.replies)?;
+    let host = host_of(own, own, row.replies)?;
+    let mut bench = bench_of(own, host, own, row.inittab, ListLog::new(own))?;
     if !is_run(own, &mut bench, row) {
         return None;
     }
-    let letters = letters_of(own, &bench.edge.host)?;
+    let letters = letters_of(own, bench.edge.host())?;
     Some(calls.is_none_or(|calls| letters.as_slice() == calls.as_bytes()))
 }

@@ -1,13 +1,13 @@
 //! Calls of a scripted host, as text: each takes the first of its queue, and has an answer of its own where the queue is
 //! empty; and a host without room.
 
-use crate::replies::{bytes_of, give, give_all, given, late_of, reply_of, table_of};
+use crate::replies::{bytes_of, give, given, host_of, late_of, reply_of, table_of};
 use host_calls::{Bytes, Host, HostFault, PartList};
 use host_scripted::MemoryHost;
 use init_words::{Id, Level, Part, SignalKind};
 use linked_list_allocator::LocalHeap;
 use std::alloc::{Allocator, Global};
-use test_support::{boxed, fill};
+use test_support::fill;
 use trace_events::Happening;
 
 const TABLES: &str = "table inittab@id:3:initdefault: + 10-b.tab@=b:3:once:y + 20-a.tab@";
@@ -160,14 +160,9 @@ fn gives<A: Allocator + Copy, B: Allocator + Copy>(
     })
 }
 
-fn host_over<A: Allocator + Copy>(own: Global, alloc: A) -> Option<Box<MemoryHost<A>>> {
-    boxed(own, MemoryHost::new(alloc)).ok()
-}
-
 /// Whether a host that is given so much gives what the calls say, so many of them faults, and tells each.
 fn is_followed(own: Global, replies: &str, calls: &str, faults: u64) -> Option<bool> {
-    let mut host = host_over(own, own)?;
-    give_all(own, own, &mut host, replies)?;
+    let mut host = host_of(own, own, replies)?;
     let full = LocalHeap::new(own, 0).ok()?;
     let mut count = 0usize;
     for call in calls.split(" / ") {
@@ -196,8 +191,7 @@ fn calls_take_the_first_of_their_queue(rt: HostRuntime) {
 
 /// Whether a text has room on a heap; None where the call that lacks it counts and tells something else.
 pub(crate) fn has_room(own: Global, heap: &LocalHeap, call: &str) -> Option<bool> {
-    let mut host = host_over(own, own)?;
-    give_all(own, own, &mut host, TABLES)?;
+    let mut host = host_of(own, own, TABLES)?;
     let is_lacking = gives(own, heap, &mut host, call)?;
     match (is_lacking, host.faults(), host.calls()?.len()) {
         (false, 0, 1) => Some(true),
@@ -256,7 +250,7 @@ const ITEMS: &[&str] = &[
 /// has all that it took, and no more.
 fn refuses(own: Global, item: &str, before: usize) -> Option<bool> {
     let heap = LocalHeap::new(own, 4096).ok()?;
-    let mut host = host_over(own, &heap)?;
+    let mut host = host_of(own, &heap, "")?;
     let had = times(own, &heap, &mut host, item, false, before);
     let more = times_full(own, &heap, &mut host, item, false)?;
     give(own, &heap, &mut host, item)?;
@@ -281,7 +275,7 @@ const CALLS: &[&str] = &[
 /// A call that there is no room to keep is not told, and none after it, although there is room again.
 fn is_last(own: Global, call: &str) -> Option<bool> {
     let heap = LocalHeap::new(own, 4096).ok()?;
-    let mut host = host_over(own, &heap)?;
+    let mut host = host_of(own, &heap, "")?;
     let is_first = gives(own, own, &mut host, call)? && host.calls().is_some();
     let made = times_full(own, &heap, &mut host, call, true)?;
     let is_untold = made == 100 && host.calls().is_none();
