@@ -111,12 +111,12 @@ tables_of rows verb words =
     else None
 
 -- left TRACE, follow TRACE
-abbrev pub plain_of : Text → List Text → Option What
-plain_of verb (trace ∷ []) =
-    if bytes_eq verb (codes "left") then Some (Show question.Left)
+abbrev pub plain_of : List Row → Text → List Text → Option What
+plain_of rows verb (trace ∷ []) =
+    if bytes_eq verb (codes "left") then Some (Show (question.Left (shape_said rows)))
     else if bytes_eq verb (codes "follow") then Some Follow
     else None
-plain_of verb _ = None
+plain_of rows verb _ = None
 
 abbrev pub or_tables : Option What → Option What → Option What
 or_tables (Some what) other = Some what
@@ -127,7 +127,7 @@ asked_by rows verb words =
     if bytes_eq verb (codes "status") then show_of rows words
     else if bytes_eq verb (codes "timeline") then draw_of rows words
     else if bytes_eq verb (codes "why") then explain_of words
-    else or_tables (plain_of verb words) (tables_of rows verb words)
+    else or_tables (plain_of rows verb words) (tables_of rows verb words)
 
 -- what options and words ask, whatever other options are given
 abbrev pub asked : List Row → List Text → Option What
@@ -146,9 +146,7 @@ goes_by_level option =
     bytes_eq option (codes "--inittab-dir") || (bytes_eq option (codes "--trace") || bytes_eq option (codes "--level"))
 
 abbrev pub takes : What → Text → Bool
-takes (Show question.Left) option = false
-takes (Show (question.Status shape)) option = bytes_eq option (codes "--json")
-takes (Show (question.Row id shape)) option = bytes_eq option (codes "--json")
+takes (Show question) option = bytes_eq option (codes "--json")
 takes (Draw form) option = bytes_eq option (codes "--svg") || bytes_eq option (codes "--width")
 takes Follow option = false
 takes (Explain id) option = bytes_eq option (codes "--inittab-dir")

@@ -23,7 +23,7 @@ use Rattle.initview_command.specs.Writers.{IsWriterAt, KnownWriters, present}
 abbrev pub said : Question → List Event → List ℕ
 said (question.Status shape) past = status_in shape past
 said (question.Row id shape) past = row_of_in shape id past
-said question.Left past = left_text past
+said (question.Left shape) past = left_text shape past
 
 -- the exit statuses of the action `status` in the LSB: it runs, which is unknown where no init writes the trace; it
 -- doesn't; it is unknown

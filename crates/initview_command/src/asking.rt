@@ -23,7 +23,7 @@ pub enum Question {
     /// How this id stands.
     Row(Id, RowFormat),
     /// Which children are left.
-    Left,
+    Left(RowFormat),
 }
 
 /// What is asked of inittabs.
@@ -105,7 +105,6 @@ fn takes(what: &What, option: &str) -> bool
     ensures { result ≡ takes what.now option.now }
 {
     match what {
-        What::Show(Question::Left) => false,
         What::Show(_) => option == "--json",
         What::Draw(_) => option == "--svg" || option == "--width",
         What::Follow => false,
@@ -266,12 +265,13 @@ fn tables_of(matches: &ArgMatches, verb: &str, words: &[&str]) -> Option<What>
 }
 
 /// What a command asks that has the path of a trace alone.
-fn plain_of(verb: &str, words: &[&str]) -> Option<What>
-    ensures { result ≡ plain_of verb.now (map (λ word. word.now) words.now) }
+fn plain_of(matches: &ArgMatches, verb: &str, words: &[&str]) -> Option<What>
+    ensures { result ≡ plain_of (rows_of (found_of matches.now)) verb.now
+        (map (λ word. word.now) words.now) }
 {
     match words {
         [_] => match verb {
-            "left" => Some(What::Show(Question::Left)),
+            "left" => Some(What::Show(Question::Left(shape_said(matches)))),
             "follow" => Some(What::Follow),
             _ => None,
         },
@@ -292,7 +292,7 @@ fn asked_by(matches: &ArgMatches, verb: &str, words: &[&str]) -> Option<What>
     if verb == "why" {
         return explain_of(words);
     }
-    match plain_of(verb, words) {
+    match plain_of(matches, verb, words) {
         Some(what) => Some(what),
         None => tables_of(matches, verb, words),
     }

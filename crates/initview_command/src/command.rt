@@ -24,7 +24,7 @@ use std::io::Write;
 /// blanks and `initview` are one for each command.
 pub const USAGE: &str = "usage: initview why [--inittab-dir DIR] ID TRACE [TABLE..]
        initview status [--json] TRACE [ID]
-       initview left TRACE
+       initview left [--json] TRACE
        initview timeline [--svg | --width N] TRACE
        initview follow TRACE
        initview lint [--programs FOLDERS] [--inittab-dir DIR] TABLE [FILE..]
@@ -35,7 +35,8 @@ pub const USAGE: &str = "usage: initview why [--inittab-dir DIR] ID TRACE [TABLE
           TABLE also where the inittab has a line of ID, and why it is left out
   status  say how init and its entries stand, or the entry ID alone; with ID the exit status is 0
           where it runs, 3 where it doesn't, 4 where it is unknown; with --json a line of JSON each
-  left    list the children that were born and not reaped, and their numbers
+  left    list the children that were born and not reaped, and their numbers; and with a ? in place
+          of the number each start of which the trace doesn't say what came
   timeline
           draw the lives of each entry's children, signals, holds and stages over the time, in lines
           of N columns, 80 without it; or with --svg as a picture that a browser shows

@@ -13,7 +13,7 @@ use crate::growing::{GrowingTexts, Writer};
 use crate::presence::{show_present, tell_writer};
 use crate::telling::{report_memory, report_unread, report_unwritten, tell};
 use init_words::{Id, Memory};
-use initview_lines::{left_lines, row_line, status_lines};
+use initview_lines::{is_starting, left_lines, row_line, status_lines};
 use program_io::{DEVICE_FAULT, DONE, PieceTaker, REFUSED, Texts, UNLAWFUL};
 use std::alloc::{AllocError, Global};
 use std::io::Write;
@@ -43,6 +43,9 @@ pub(crate) trait Asks {
     fn asks_writer(&self) -> bool {
         false
     }
+
+    /// Tells what the answer can't say of the trace of a path.
+    fn tell_unsaid<E: Write>(&self, _view: &TraceView, _path: &str, _err: &mut E) {}
 
     /// What is written, and the exit status.
     fn answer(
@@ -141,7 +144,7 @@ fn status_of(view: &TraceView, question: &Question, writer: Writer, stop: Option
     match question {
         Question::Row(id, _) => row_status(view, id, writer, stop),
         Question::Status(_) => stop_status(stop),
-        Question::Left => stop_status(stop),
+        Question::Left(_) => stop_status(stop),
     }
 }
 
@@ -164,7 +167,21 @@ fn lines(alloc: Global, view: &TraceView, question: &Question) -> Result<Vec<u8>
     match question {
         Question::Status(shape) => status_lines(alloc, view, *shape),
         Question::Row(id, shape) => row_line(alloc, view, id, *shape),
-        Question::Left => left_lines(alloc, view),
+        Question::Left(shape) => left_lines(alloc, view, *shape),
+    }
+}
+
+/// Tells of each start that is open what to do.
+fn tell_starts<E: Write>(view: &TraceView, path: &str, err: &mut E) {
+    for entry in view.table().entries() {
+        if is_starting(&view.row(&entry.id)) {
+            let id = entry.id.as_str();
+            let _ = writeln!(
+                err,
+                "initview: {path}: {id}: its last start is open: a child may live that has no number here: it is in the \
+                 session of init, where ps -e -o sid,pid,args has it"
+            );
+        }
     }
 }
 
@@ -177,6 +194,12 @@ impl Asks for Question {
 
     fn asks_writer(&self) -> bool {
         true
+    }
+
+    fn tell_unsaid<E: Write>(&self, view: &TraceView, path: &str, err: &mut E) {
+        if let Question::Left(_) = self {
+            tell_starts(view, path, err);
+        }
     }
 
     fn answer(
@@ -277,6 +300,7 @@ fn show_seen<Q: Asks, W: Write, E: Write>(
     if is_within(shown.stop) {
         return REFUSED;
     }
+    asked.tell_unsaid(text.view(), shown.path, err);
     match asked.answer(alloc, text, shown) {
         Ok((said, status)) => write_answer(&said, status, out, err),
         Err(_) => report_memory(err),

@@ -2,6 +2,7 @@
 
 ghost use Rattle.std.specs.Prelude.{◌≡◌, ◌++◌, OnOk};
 ghost use Rattle.initview_lines.specs.Json.{act_json, born_at, births_of, child_json, ended_at, for_json, goal_json, head_json, held_json, id_json, last_json, number_member, quoted, quoted_byte, quoted_bytes, row_json, settled_json, stage_json, state_json, status_json, times_json, waits_json, wish_json};
+ghost use Rattle.initview_lines.specs.Left.{left_object};
 
 use crate::days::add_time_of_day;
 use crate::rows::Head;
@@ -144,6 +145,20 @@ fn number_of(child: Option<ChildNumber>) -> Option<u64>
         Some(number) => Some(u64::from(number.0)),
         None => None,
     }
+}
+
+/// Adds the object of an id and its child's number, where that is known, in a line.
+pub(crate) fn add_child(
+    text: &mut Vec<u8>,
+    id: &Id,
+    number: Option<ChildNumber>,
+) -> Result<(), AllocError>
+    ensures { OnOk result (text.new.items ≡ text.old.items ++ left_object id.now number) }
+{
+    put(text, b"{\"id\":")?;
+    add_quoted(text, id.as_bytes())?;
+    add_member(text, b",\"pid\":", number_of(number))?;
+    put(text, b"}\n")
 }
 
 fn add_id_part(text: &mut Vec<u8>, id: &Id, row: &Row) -> Result<(), AllocError>

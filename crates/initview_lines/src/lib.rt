@@ -19,7 +19,7 @@ mod words;
 pub use changes::{Change, change_lines};
 pub use days::add_clock;
 pub use happenings::add_happening;
-pub use left::left_lines;
+pub use left::{is_starting, left_lines};
 pub use pieces::take_lines;
 pub use plans::{is_on_path, plan_lines};
 pub use reasons::why_lines;
