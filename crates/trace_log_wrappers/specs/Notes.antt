@@ -1,6 +1,7 @@
 -- What a log of notes keeps beside the log that it stands in front of.
 use Rattle.std.specs.Prelude.{◌≡◌, ℕ, Bool, true, false, List, reverse, Option, Some, None}
-use Rattle.std.specs.Map.{lookup}
+use Rattle.std.specs.List.{IsDistinct}
+use Rattle.std.specs.Map.{keys_of, lookup}
 use Rattle.init_words.specs.declared.children.Status.{Status}
 use Rattle.init_words.specs.Ids.{same_id}
 use Rattle.trace_events.specs.Event.{Event}
@@ -27,9 +28,10 @@ IsLast last wanted past = (id : List ℕ) → is_wanted id wanted ≡ true → l
 abbrev pub number_in : List ℕ → List (List ℕ × ℕ) → Option ℕ
 number_in id running = lookup (same_id id) running
 
--- each id has the number there that its unreaped child has in this trace, the newest happening first
+-- no id stands there twice, and each has the number that its unreaped child has in this trace, the newest happening first
 abbrev pub IsRunning : List (List ℕ × ℕ) → List Event → Type 0
-IsRunning running past = (id : List ℕ) → number_in id running ≡ number_of id past
+IsRunning running past =
+    IsDistinct same_id (keys_of running) × ((id : List ℕ) → number_in id running ≡ number_of id past)
 
 -- they are the notes of this trace, the newest happening first
 pub record NotesOf (notes : Notes) (past : List Event) : Type 0 where
