@@ -6,7 +6,6 @@ ghost use Rattle.host_calls.specs.Held.{HeldChildren, HoldsBy};
 ghost use Rattle.host_calls.specs.Calls.{is_failed_reply, is_failed_late, text_read, parts_read, front_read};
 
 use crate::calls::{Call, HostFault, Reply};
-use crate::parts::Reading;
 use init_words::{Answer, Id, Part, SignalKind};
 use std::alloc::Allocator;
 use trace_events::HappeningIn;
@@ -18,8 +17,7 @@ use trace_events::HappeningIn;
 /// the host takes further calls.
 ///
 /// A contract sees of a host the calls that it tells, with what it answered, the children that it holds, where those are
-/// known, and the count of faults. From a call on that a host doesn't tell, it tells none; it may tell none at all. What
-/// it hears for its messages alone, by `pass_over` and `takes`, is none of these calls.
+/// known, and the count of faults. From a call on that a host doesn't tell, it tells none; it may tell none at all.
 pub trait Host {
     /// The calls so far with their answers, the newest first. None from the first call that the host doesn't tell.
     ghost told: { Self → Option (List HostCall) };
@@ -79,23 +77,6 @@ pub trait Host {
         ensures children { HoldsBy (held self.old) (held self.new)
             (Call.ReadTables (parts_read (λ parts. parts.items) result)) }
         ensures cause { HasCause (failures self.old) (failures self.new) (is_err result) };
-
-    /// Hears how the files of the inittab that it gave last were read, of which it may say something: the table with the
-    /// faults of the lines, or why there is none. Gives whether init is to take the table.
-    fn takes<A: Allocator>(&mut self, _parts: &[Part<A>], _reading: &Reading<A>) -> bool
-        ensures told { told self.new ≡ told self.old }
-        ensures children { held self.new ≡ held self.old }
-        ensures cause { HasCause (failures self.old) (failures self.new) false }
-    {
-        true
-    }
-
-    /// Hears why the request whose bytes it gave last counts for nothing, of which it may say something.
-    fn pass_over(&mut self, _why: &str)
-        ensures told { told self.new ≡ told self.old }
-        ensures children { held self.new ≡ held self.old }
-        ensures cause { HasCause (failures self.old) (failures self.new) false }
-    {}
 
     /// Hands the text of init's state over to a new init, and gives what reaches it, in memory of `alloc`.
     fn carry<A: Allocator + Copy>(&mut self, alloc: A, text: &[u8]) -> Result<Vec<u8, A>, HostFault>

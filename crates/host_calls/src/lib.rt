@@ -13,4 +13,4 @@ mod parts;
 pub use calls::{Bytes, Call, CallIn, HostFault, Reply};
 pub use faults::{counted, is_failed_late, is_failed_reply};
 pub use hosts::Host;
-pub use parts::{PartList, Reading, parts_copy};
+pub use parts::{PartList, parts_copy};

@@ -3,7 +3,6 @@
 ghost use Rattle.std.specs.Prelude.{◌≡◌, [], IfOk};
 
 use init_words::{Memory, Part};
-use inittab_text::{PartFault, Table, TableFault};
 use std::alloc::{Allocator, Global};
 use std::marker::Model;
 
@@ -46,9 +45,6 @@ impl<A: Allocator> PartList<A> {
         self.parts.as_slice()
     }
 }
-
-/// What the files of an inittab read as: a table and the faults of the lines, or why there is no table.
-pub type Reading<A> = Result<(Table<A>, Vec<PartFault, A>), TableFault>;
 
 /// A copy of a file.
 fn part_copy<A: Allocator + Copy, B: Allocator>(alloc: A, part: &Part<B>) -> Result<Part<A>, Memory>

@@ -1,5 +1,5 @@
 -- The files of a folder that are parts of an inittab.
-use Rattle.std.specs.Prelude.{ℕ, Bool, ◌&&◌, ◌||◌, ◌==◌, not, List, [], ◌∷◌, false, codes, Option, IsSome, ⊤}
+use Rattle.std.specs.Prelude.{◌≡◌, ◌⊎◌, ℕ, Bool, ◌&&◌, ◌||◌, ◌==◌, not, List, [], ◌∷◌, ◌++◌, false, codes, string_bytes, Option, Some, ⊤}
 use Rattle.std.specs.Char.{is_ascii_alphanumeric}
 use Rattle.std.specs.List.{ends_with, list_all}
 use Rattle.host_files.specs.declared.folders.FolderFault.{FolderFault}
@@ -21,7 +21,17 @@ ends_in_tab name = ends_with (λ a b. a == b) name (codes ".tab")
 abbrev pub is_part_name : List ℕ → Bool
 is_part_name name = not (is_hidden name) && list_all is_name_byte name && ends_in_tab name
 
--- where there is a folder, it or a file of it may not be read
-abbrev pub IsFolderFault : {A S : Type 0} → Option S → FolderFault A → Type 0
-IsFolderFault folder (fault.Unread path error) = IsSome folder
+-- a path is the folder's, or that of a name in it
+abbrev pub IsWithin : List ℕ → List ℕ → Type 0
+IsWithin folder path = (path ≡ folder) ⊎ ((name : List ℕ) × (path ≡ folder ++ (codes "/" ++ name)))
+
+-- the folder, or a file in it, was not read
+abbrev pub IsFaultIn : {A : Type 0} → List ℕ → FolderFault A → Type 0
+IsFaultIn folder (fault.Unread path error) = IsWithin folder (string_bytes path)
+IsFaultIn folder fault.Memory = ⊤
+
+-- so it is where there is a folder
+abbrev pub IsFolderFault : {A : Type 0} → Option (List ℕ) → FolderFault A → Type 0
+IsFolderFault folder (fault.Unread path error) =
+    (at : List ℕ) × (folder ≡ Some at) × IsWithin at (string_bytes path)
 IsFolderFault folder fault.Memory = ⊤

@@ -9,6 +9,7 @@ ghost use Rattle.program_io.specs.declared.channel_files.TheConstants.{REQUEST};
 use crate::bells::Bell;
 use crate::boxes::boxed;
 use host_messages::{PassedOver, Trouble, tell_made_anew, tell_old, tell_torn};
+use initctl_frame::{HeardRequest, decode};
 use program_io::{ChannelLock, REQUEST, lock_channel};
 use std::alloc::{AllocError, Allocator};
 use std::fs::{File, Metadata};
@@ -169,6 +170,7 @@ impl<A: Allocator + Copy> Channel<A> {
             channel.read_exact(&mut self.request)?;
             self.heard = self.heard.saturating_add(REQUEST as u64);
             self.handed = 0;
+            self.tell_passed(rt);
         }
         let mut rest = self.request.get(self.handed..).unwrap_or(&[]);
         let taken = rest.read(buffer)?;
@@ -176,10 +178,12 @@ impl<A: Allocator + Copy> Channel<A> {
         Ok(taken)
     }
 
-    /// Tells why init passes over the request that was read last.
-    pub fn pass_over(&mut self, rt: &impl Eprint, why: &str) {
-        let number = self.heard / REQUEST as u64;
-        self.passed_over.tell(rt, self.path.as_str(), number, why);
+    /// Tells why init passes over the request that was read last, where it does.
+    fn tell_passed(&mut self, rt: &impl Eprint) {
+        if let HeardRequest::Nothing(cause) = decode(&self.request) {
+            let number = self.heard / REQUEST as u64;
+            self.passed_over.tell(rt, self.path.as_str(), number, cause);
+        }
     }
 
     /// The channel has a whole request that was not read.

@@ -1,9 +1,9 @@
 //! The files of an inittab's folder.
 
-ghost use Rattle.std.specs.Prelude.{◌≡◌, ◌<◌, ◌++◌, ◌∷◌, [], List, length, None, IfOk, IfErr, IfSome, OnOk};
+ghost use Rattle.std.specs.Prelude.{◌≡◌, ◌<◌, ◌++◌, ◌∷◌, [], List, codes, length, string_bytes, option_map, None, IfOk, IfErr, IfSome, OnOk};
 ghost use Rattle.std.specs.List.{list_all};
 ghost use Rattle.init_words.specs.Parts.{NamedText};
-ghost use Rattle.host_files.specs.Folders.{IsFolderFault, ends_in_tab, is_hidden, is_name_byte, is_part_name};
+ghost use Rattle.host_files.specs.Folders.{IsFaultIn, IsFolderFault, ends_in_tab, is_hidden, is_name_byte, is_part_name};
 
 use host_messages::tell_passed;
 use indexmap::IndexSet;
@@ -87,7 +87,9 @@ fn is_name_byte(byte: u8) -> bool
 }
 
 /// The path of what has the name in a folder.
-fn path_in<A: Allocator>(alloc: A, folder: &str, name: &str) -> Result<String<A>, AllocError> {
+fn path_in<A: Allocator>(alloc: A, folder: &str, name: &str) -> Result<String<A>, AllocError>
+    ensures { IfOk result (λ path. string_bytes path ≡ folder.now ++ (codes "/" ++ name.now)) }
+{
     format!(in alloc; "{folder}/{name}")
 }
 
@@ -196,7 +198,9 @@ fn part_in<R: Files, A: Allocator + Copy>(
     alloc: A,
     folder: &str,
     name: String<A>,
-) -> Result<Part<A>, FolderFault<A>> {
+) -> Result<Part<A>, FolderFault<A>>
+    ensures { IfErr result (IsFaultIn folder.now) }
+{
     let path = path_in(alloc, folder, name.as_str())?;
     match read_file(rt, alloc, path.as_str()) {
         Ok(bytes) => Ok(Part { name, bytes }),
@@ -210,7 +214,9 @@ fn names_in<R: Files + Eprint, A: Allocator + Copy, B: Allocator + Copy>(
     alloc: A,
     folder: &str,
     passed: &mut PassedNames<B>,
-) -> Result<Vec<String<A>, A>, FolderFault<A>> {
+) -> Result<Vec<String<A>, A>, FolderFault<A>>
+    ensures { IfErr result (IsFaultIn folder.now) }
+{
     match listed(rt, alloc, folder) {
         Ok(list) => Ok(part_names(rt, alloc, folder, &list, passed)?),
         Err(error) => Err(FolderFault::Unread(String::from_str(alloc, folder)?, error)),
@@ -225,8 +231,9 @@ fn add_parts<R: Files + Eprint, A: Allocator + Copy, B: Allocator + Copy>(
     passed: &mut PassedNames<B>,
     parts: &mut Vec<Part<A>, A>,
 ) -> Result<(), FolderFault<A>>
-    ensures { OnOk result ((more : List NamedText)
+    ensures parts { OnOk result ((more : List NamedText)
         × (parts.new.items ≡ parts.old.items ++ more)) }
+    ensures err { IfErr result (IsFaultIn folder.now) }
 {
     for name in names_in(rt, alloc, folder, passed)? {
         parts.push(part_in(rt, alloc, folder, name)?)?;
@@ -246,7 +253,7 @@ pub fn with_folder<R: Files + Eprint, A: Allocator + Copy, B: Allocator + Copy>(
 ) -> Result<Vec<Part<A>, A>, FolderFault<A>>
     ensures own { IfOk result (λ parts. (more : List NamedText) × (parts.items ≡ own ∷ more)) }
     ensures alone { folder.entry ≡ None → IfOk result (λ parts. parts.items ≡ own ∷ []) }
-    ensures err { IfErr result (IsFolderFault folder.entry) }
+    ensures err { IfErr result (IsFolderFault (option_map (λ path. path.now) folder.entry)) }
 {
     let mut parts = Vec::new(alloc);
     parts.push(own)?;

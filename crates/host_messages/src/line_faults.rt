@@ -6,48 +6,6 @@ ghost use Rattle.host_messages.specs.LineFaults.{fault_line, faults_text, line_t
 use init_words::Part;
 use inittab_text::{LineKind, PartFault};
 use std::alloc::{AllocError, Allocator};
-use std::io;
-use std::io::Write;
-
-/// What was printed last of an inittab's lines that were left out.
-#[derive(Drop)]
-pub(crate) struct LineFaults<A: Allocator> {
-    alloc: A,
-    printed: Vec<u8, A>,
-}
-
-impl<A: Allocator + Copy> LineFaults<A> {
-    /// Nothing was printed. It takes no memory.
-    pub(crate) fn new(alloc: A) -> LineFaults<A> {
-        LineFaults {
-            alloc,
-            printed: Vec::new(alloc),
-        }
-    }
-
-    /// From now on nothing counts as printed.
-    pub(crate) fn forget(&mut self) {
-        self.printed.clear();
-    }
-
-    /// Prints the faults of the lines of an inittab's parts, where they are not those that were printed last, and gives
-    /// how many bytes that are.
-    pub(crate) fn print<R: Print, B: Allocator>(
-        &mut self,
-        rt: &R,
-        parts: &[Part<B>],
-        faults: &[PartFault],
-    ) -> io::Result<usize> {
-        let text = faults_text(self.alloc, parts, faults)?;
-        if text.as_slice() == self.printed.as_slice() {
-            return Ok(0);
-        }
-        rt.write_all(text.as_slice())?;
-        let count = text.len();
-        self.printed = text;
-        Ok(count)
-    }
-}
 
 /// The lines that tell of the lines of an inittab's parts that were left out: a fault each, with the name of its part,
 /// but for the first part.

@@ -1,7 +1,7 @@
 //! What init prints on standard output: its announcements, and the faults of the inittab's lines.
 
 use crate::announcements::announcement_text;
-use crate::line_faults::LineFaults;
+use crate::line_faults::faults_text;
 use crate::troubles::Trouble;
 use init_words::Part;
 use inittab_text::PartFault;
@@ -14,8 +14,9 @@ use trace_events::HappeningIn;
 #[derive(Drop)]
 pub struct Output<A: Allocator> {
     alloc: A,
-    line_faults: LineFaults<A>,
     saying: Trouble,
+    /// Something could not be printed.
+    lost: bool,
 }
 
 impl<A: Allocator + Copy> Output<A> {
@@ -23,8 +24,8 @@ impl<A: Allocator + Copy> Output<A> {
     pub fn new(alloc: A, program: &'static str) -> Output<A> {
         Output {
             alloc,
-            line_faults: LineFaults::new(alloc),
             saying: Trouble::new(program, "write", "written"),
+            lost: false,
         }
     }
 
@@ -41,21 +42,23 @@ impl<A: Allocator + Copy> Output<A> {
         self.tell(rt, &said)
     }
 
-    /// Prints the faults of the lines of an inittab's parts, where they are not those that were printed last. Gives
-    /// whether it could, which is told.
+    /// Prints the faults of the lines of an inittab's parts. Gives whether it could, which is told.
     pub fn print_faults<R: Print + Eprint, B: Allocator>(
         &mut self,
         rt: &R,
         parts: &[Part<B>],
         faults: &[PartFault],
     ) -> bool {
-        let told = self.line_faults.print(rt, parts, faults);
+        let told = match faults_text(self.alloc, parts, faults) {
+            Ok(text) => rt.write_all(text.as_slice()).map(|()| text.len()),
+            Err(_) => Err(io::Error::from(ErrorKind::OutOfMemory)),
+        };
         self.tell(rt, &told)
     }
 
-    /// From now on no fault of a line counts as printed.
-    pub fn forget_faults(&mut self) {
-        self.line_faults.forget();
+    /// All could be printed that was to be.
+    pub fn has_printed(&self) -> bool {
+        !self.lost
     }
 
     /// Tells whether so many bytes could be printed, where there were any.
@@ -63,6 +66,7 @@ impl<A: Allocator + Copy> Output<A> {
         if !matches!(printed, Ok(0)) {
             self.saying.tell(rt, "standard output", printed);
         }
+        self.lost |= printed.is_err();
         printed.is_ok()
     }
 }

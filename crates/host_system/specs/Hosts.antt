@@ -1,15 +1,12 @@
 -- What is known of a host over the operating system, which tells no calls.
-use Rattle.std.specs.Prelude.{ℕ, Bool, true, false, ◌==◌, if◌then◌else◌, List, length, Result, Ok, Err}
-use Rattle.init_words.specs.declared.entries.Entry.{Entry}
+use Rattle.std.specs.Prelude.{ℕ, Bool, true, false}
 use Rattle.init_words.specs.declared.orders.Answer.{Answer}
 use Rattle.init_words.specs.declared.orders.Answer.TheVariants.{Born, NotBorn, Ended, Alive, NoLook, Hit, Miss}
-use Rattle.inittab_text.specs.declared.faults.PartFault.{PartFault}
-use Rattle.inittab_text.specs.declared.faults.TableFault.{TableFault}
 use Rattle.host_calls.specs.declared.calls.Reply.{Reply}
 use Rattle.host_calls.specs.declared.calls.Reply.TheVariants.{Now, Later}
 use Rattle.host_calls.specs.Held.{HeldChildren}
 
--- how many of its calls failed; whether it takes no inittab with a faulty line; whether it tells what children do;
+-- how many of its calls failed; whether its init takes no inittab with a faulty line; whether it tells what children do;
 -- whether it passes over the requests from before; and the children that it holds
 pub record HostState : Type 0 where
   pub faults : ℕ
@@ -17,11 +14,6 @@ pub record HostState : Type 0 where
   pub verbose : Bool
   pub fresh : Bool
   pub held : HeldChildren
-
--- a strict host takes no table of an inittab in which a line is faulty; of what gives no table there is none to take
-abbrev pub is_taken : {V : Type 0} → (V → List PartFault) → Bool → Result (List Entry × V) TableFault → Bool
-is_taken faults strict (Ok got) = if strict then length (faults got.1) == 0 else true
-is_taken faults strict (Err fault) = true
 
 -- the answers that there are to a start, to a look and to a signal
 abbrev pub is_start_answer : Answer → Bool

@@ -1,19 +1,16 @@
 //! The host over the operating system.
 
 ghost use Rattle.std.specs.Prelude.{◌≡◌, List, [], Ok, IfOk, OnErr, IsErr, true, false};
-ghost use Rattle.inittab_text.specs.declared.faults.PartFault.{PartFault};
-ghost use Rattle.host_calls.specs.Calls.{HasCause};
-ghost use Rattle.host_system.specs.Hosts.{is_taken};
 
 use crate::bell_making::make_bell;
 use crate::children::Children;
 use crate::pauses::{Pauses, has_stirred};
 use crate::steady_clocks::SteadyClock;
-use host_calls::{Host, HostFault, Reading, Reply, counted, is_failed_reply};
+use host_calls::{Host, HostFault, Reply, counted, is_failed_reply};
 use host_files::{Channel, InittabFiles, StateFile, boxed};
 use host_messages::{Output, tell_refused};
 use init_words::{Answer, Id, Memory, Part, SignalKind};
-use inittab_text::{PartFault, Table};
+use inittab_text::{PartFault, Table, read_parts};
 use program_io::ChannelLock;
 use std::alloc::{Allocator, Global};
 use std::fs::File;
@@ -35,9 +32,8 @@ use trace_events::{Happening, HappeningIn};
 /// read, or another file stands at its path. The clock gives
 /// the seconds since the beginning of 1970 at its first reading, and goes on from there by the monotonic clock. What
 /// fails is told on standard error once when it begins and once when it is over; told too are requests that stand in
-/// the channel before its first reading, those that it is told init passes over, and that it ends within a request. The
-/// faults of the lines of an inittab's files that it is told are printed, where they are not those that were printed last. Of a child that is
-/// stopped since an inittab that was read again has no line of it, or one that is off, does not run in the level or has
+/// the channel before its first reading, those that count for nothing, and that it ends within a request. The faults of
+/// the lines of an inittab's files are printed at each reading. Of a child that is stopped since an inittab that was read again has no line of it, or one that is off, does not run in the level or has
 /// another action, that is told on standard error.
 #[derive(Drop)]
 pub struct OsHost<
@@ -199,7 +195,7 @@ impl<R: Processes + Files<File = File> + Clock + Print + Eprint + Drop, A: Alloc
         self
     }
 
-    /// The host that doesn't give an inittab of which a line is faulty, whose faults are printed each time.
+    /// The host of an init that takes no inittab of which a line is faulty: it says so.
     pub fn strict(mut self) -> OsHost<R, A>
         ensures { result ≡ record self { strict = true } }
     {
@@ -227,6 +223,12 @@ impl<R: Processes + Files<File = File> + Clock + Print + Eprint + Drop, A: Alloc
         let host = &mut *self.host;
         host.channel.hold(lock);
         self
+    }
+
+    /// All could be printed that it was to print: announcements, and faults of the inittab's lines.
+    pub fn has_printed(&self) -> bool {
+        let host = &*self.host;
+        host.output.has_printed()
     }
 
     /// The host that appends what each child prints to `ID.log` in the folder, or to `_.log` where the id begins with
@@ -272,28 +274,37 @@ impl<
         self.inittab.tell_all(&self.rt);
     }
 
-    /// Prints the faults of the lines of an inittab's parts that were read as this table, and notes which children it
-    /// costs, where the host takes it. Gives whether it does.
-    fn takes_table<B: Allocator>(
+    /// Tells of an inittab's files how they are read: the faults of the lines, or why there is no table. Gives whether
+    /// what is to be printed could be.
+    fn tell_reading<B: Allocator + Copy>(&mut self, alloc: B, parts: &[Part<B>]) -> bool
+        ensures { self.new ≡ self.old }
+    {
+        match read_parts(alloc, parts) {
+            Ok((table, faults)) => self.tell_table(parts, &table, &faults),
+            Err(fault) => {
+                self.inittab.tell_no_table(&self.rt, fault);
+                true
+            }
+        }
+    }
+
+    /// Prints the faults of the lines, and notes which children the table costs, where init takes it. Gives whether it
+    /// could print.
+    fn tell_table<B: Allocator>(
         &mut self,
         parts: &[Part<B>],
         table: &Table<B>,
         faults: &[PartFault],
     ) -> bool
-        ensures taken { result
-            ≡ is_taken (λ (all : List PartFault). all) self.old.strict (Ok (table.now, faults.now)) }
-        ensures cause { HasCause self.old.faults self.new.faults false }
-        ensures kept { self.new ≡ record self.old { faults = self.new.faults } }
+        ensures { self.new ≡ self.old }
     {
         let is_printed = self.output.print_faults(&self.rt, parts, faults);
-        self.faults = counted(self.faults, !is_printed);
         if self.strict && !faults.is_empty() {
-            self.output.forget_faults();
             tell_refused(&self.rt, self.inittab.path());
-            return false;
+        } else {
+            self.children.note_lines(table);
         }
-        self.children.note_lines(table);
-        true
+        is_printed
     }
 }
 
@@ -322,7 +333,7 @@ impl<R: Processes + Files<File = File> + Clock + Print + Eprint + Drop, A: Alloc
     ghost use Rattle.host_calls.specs.Calls.{HasCause};
     ghost use Rattle.host_calls.specs.Calls.{is_failed_reply};
     ghost use Rattle.host_calls.specs.Held.{Starts, Looks, Signals};
-    ghost use Rattle.host_system.specs.Hosts.{HostState, is_taken, is_start_answer, is_look_answer, is_signal_answer, answers_by};
+    ghost use Rattle.host_system.specs.Hosts.{HostState, is_start_answer, is_look_answer, is_signal_answer, answers_by};
 
     ghost told = { λ _. None };
 
@@ -414,31 +425,12 @@ impl<R: Processes + Files<File = File> + Clock + Print + Eprint + Drop, A: Alloc
     {
         let host = &mut *self.host;
         let parts = host_result(host.inittab.read(&host.rt, alloc));
-        host.faults = counted(host.faults, parts.is_err());
+        let is_told = match &parts {
+            Ok(parts) => host.tell_reading(alloc, parts),
+            Err(_) => false,
+        };
+        host.faults = counted(host.faults, !is_told);
         parts
-    }
-
-    /// Prints the faults of the lines, where they are not those that were printed last, and says why there is no table.
-    fn takes<B: Allocator>(&mut self, parts: &[Part<B>], reading: &Reading<B>) -> bool
-        ensures cause { HasCause self.old.faults self.new.faults false }
-        ensures taken { result ≡ is_taken (λ all. all.items) self.old.strict reading.now }
-        ensures kept { self.new ≡ record self.old { faults = self.new.faults } }
-    {
-        let host = &mut *self.host;
-        match reading {
-            Ok((table, faults)) => host.takes_table(parts, table, faults),
-            Err(fault) => {
-                host.inittab.tell_no_table(&host.rt, *fault);
-                true
-            }
-        }
-    }
-
-    fn pass_over(&mut self, why: &str)
-        ensures unchanged { self.new ≡ self.old }
-    {
-        let host = &mut *self.host;
-        host.channel.pass_over(&host.rt, why);
     }
 
     fn carry<B: Allocator + Copy>(&mut self, alloc: B, text: &[u8]) -> Result<Vec<u8, B>, HostFault>

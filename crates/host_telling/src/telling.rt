@@ -7,7 +7,7 @@ use crate::made::{
     Announce, Carry, Clock, Late, Look, Pause, ReadTables, Signal, Start, TakeBytes,
 };
 use crate::noted::Noted;
-use host_calls::{Host, HostFault, Reading, Reply};
+use host_calls::{Host, HostFault, Reply};
 use init_words::{Answer, Id, Part, SignalKind};
 use std::alloc::Allocator;
 use std::marker::Model;
@@ -144,14 +144,6 @@ impl<H: Host> Host for Telling<H> {
         let parts = self.host.read_tables(alloc);
         self.calls = with(&self.calls, ReadTables { parts: &parts });
         parts
-    }
-
-    fn takes<A: Allocator>(&mut self, parts: &[Part<A>], reading: &Reading<A>) -> bool {
-        self.host.takes(parts, reading)
-    }
-
-    fn pass_over(&mut self, why: &str) {
-        self.host.pass_over(why);
     }
 
     fn carry<A: Allocator + Copy>(

@@ -1,5 +1,5 @@
 -- Worked calls, each with the trace that they have: `refl` computes them.
-use Rattle.host_trace.proofs.Words.{◌≡◌, refl, ap, ℕ, suc, true, false, false≢true, length, length-append, Event, Took, List, [], ◌∷◌, ◌++◌, take, drop, codes, Some, None, Ok, inl, arith, Entry, block_of_ints, Goal, due, first, is_sound, SavedState, state_of, V2, Start, Late, Clock, TakeBytes, ReadTables, Carry, Announce, Pause, Now, Later, HostCall, TextRead, Point, point_after, has_trace, AreTexts, is_allowed, past_of, AreSteps, IsTurn, is_step}
+use Rattle.host_trace.proofs.Words.{◌≡◌, refl, ap, ℕ, suc, true, false, ◌||◌, false≢true, length, length-append, Event, Took, List, [], ◌∷◌, ◌++◌, take, drop, codes, Some, None, Ok, inl, arith, Entry, block_of_ints, Goal, due, first, is_sound, SavedState, state_of, V2, Start, Late, Clock, TakeBytes, ReadTables, Carry, Announce, Pause, Now, Later, HostCall, TextRead, Point, point_after, has_trace, AreTexts, is_allowed, past_of, AreSteps, IsTurn, is_reread, is_step}
 use Rattle.init_words.specs.declared.actions.Act.{Act}
 use Rattle.init_words.specs.declared.actions.Act.TheVariants as act
 use Rattle.init_words.specs.declared.levels.Level.TheVariants as level
@@ -8,6 +8,8 @@ use Rattle.init_words.specs.declared.levels.Mark.TheVariants.{At}
 use Rattle.init_words.specs.declared.stages.Stage.TheVariants as stage
 use Rattle.init_words.specs.declared.orders.Answer.TheVariants.{Born, NotBorn, Alive}
 use Rattle.init_words.specs.declared.orders.OrderKind.TheVariants as ask
+use Rattle.init_words.specs.Parts.{NamedText}
+use Rattle.inittab_text.specs.Checks.{verdict_of}
 use Rattle.initctl_frame.specs.declared.requests.HeardRequest.TheVariants as got
 use Rattle.trace_events.specs.declared.happenings.Handed.TheVariants as handed
 use Rattle.trace_events.specs.declared.happenings.Happening.TheVariants as past
@@ -57,20 +59,20 @@ two_turns-sound : is_sound goal (point_after two_turns opening).past ≡ true
 two_turns-sound = refl
 
 -- a step of one call, behind others
-one_step : (call : HostCall) (n : ℕ) (calls : List HostCall) → is_step (call ∷ []) ≡ true → AreSteps n calls → AreSteps (suc n) (call ∷ calls)
+one_step : (call : HostCall) (n : ℕ) (calls : List HostCall) → (is_step (call ∷ []) || is_reread false (call ∷ [])) ≡ true → AreSteps false n calls → AreSteps false (suc n) (call ∷ calls)
 one_step call n calls is before = (call ∷ [], calls, refl, is, before)
 
-each_a_step : AreSteps 5 first_steps
+each_a_step : AreSteps false 5 first_steps
 each_a_step = one_step (Start (codes "r") (codes "serv") Later) 4 _ refl (one_step (Start (codes "w") (codes "prep") (Now NotBorn)) 3 _ refl (one_step (Announce (past.Enter (stage.Run level.L3) 5)) 2 _ refl (one_step (Announce (past.Enter stage.Boot 5)) 1 _ refl (one_step (Announce (past.Enter stage.Sysinit 5)) 0 [] refl refl))))
 
-last_a_step : AreSteps 2 last_steps
+last_a_step : AreSteps false 2 last_steps
 last_a_step = one_step (Look (codes "r") (Now Alive)) 1 _ refl (one_step (Announce (past.Settle level.L3)) 0 [] refl refl)
 
 -- each turn is one, and ends with nothing due
-first_turn : IsTurn true (first_steps ++ heard)
+first_turn : IsTurn false true (first_steps ++ heard)
 first_turn = record { time = Ok 0; takes = TakeBytes 256 (Ok []) ∷ []; lates = Late None ∷ []; steps = first_steps; count = 5; whole = refl; byte_calls = refl; late_calls = refl; step_calls = each_a_step; most = omega arith; ended = inl refl }
 
-last_turn : IsTurn true (last_steps ++ late_heard)
+last_turn : IsTurn false true (last_steps ++ late_heard)
 last_turn = record { time = Ok 0; takes = TakeBytes 256 (Ok []) ∷ []; lates = Late None ∷ Late (Some (codes "r", Born 11)) ∷ []; steps = last_steps; count = 2; whole = refl; byte_calls = refl; late_calls = refl; step_calls = last_a_step; most = omega arith; ended = inl refl }
 
 two_turns-rest : first (due goal (point_after two_turns opening).past) ≡ step.Idle
@@ -137,6 +139,20 @@ not_used-in_place = refl
 
 not_used-is : (point_after (Announce past.NotRead ∷ is_used) opening).past ≡ past.NotRead ∷ (point_after asked_to_read opening).past
 not_used-is = refl
+
+-- a strict init takes none of which a line is faulty, and says so; one that isn't may take it
+abbrev faulty : List NamedText
+faulty = record { name = codes "tab"; bytes = codes "x\n" } ∷ []
+
+faulty-strict : is_reread true (ReadTables (Ok faulty) ∷ []) ≡ false
+unfolding verdict_of
+faulty-strict = refl
+
+faulty-told : is_reread true (Announce past.NotRead ∷ ReadTables (Ok faulty) ∷ []) ≡ true
+faulty-told = refl
+
+faulty-taken : is_reread false (ReadTables (Ok faulty) ∷ []) ≡ true
+faulty-taken = refl
 
 -- but not where it was not read, nor is it read where that is not due
 not_read-is_not : has_trace goal (Announce past.NotRead ∷ asked_to_read) opening ≡ false

@@ -1,6 +1,8 @@
 -- What calls a turn of init makes of its host, and what calls many turns make (init(8)). The newest stand first.
 use Rattle.std.specs.Prelude.{◌≡◌, ◌≤◌, ◌⊎◌, ◌+◌, ℕ, zero, suc, Bool, true, false, ◌&&◌, ◌||◌, ◌==◌, not, nat_le, nat_lt, IsTrue, List, [], ◌∷◌, ◌++◌, drop, length, Option, Some, None, Result, Ok, Err}
 use Rattle.std.specs.List.{list_all}
+use Rattle.init_words.specs.Parts.{texts_of}
+use Rattle.inittab_text.specs.Parts.{are_readable, faults_of_parts}
 use Rattle.trace_events.specs.declared.happenings.Happening.TheVariants.{NotRead, Handed}
 use Rattle.trace_events.specs.declared.steps.Goal.{Goal}
 use Rattle.trace_events.specs.declared.steps.Step.TheVariants.{Idle}
@@ -11,7 +13,7 @@ use Rattle.core_model.specs.State.{CoreState}
 use Rattle.core_model.specs.Decide.{is_drained}
 use Rattle.host_calls.specs.declared.calls.Call.TheVariants.{Start, Look, Signal, Late, Clock, TakeBytes, ReadTables, Carry, Announce, Pause}
 use Rattle.host_calls.specs.declared.calls.HostFault.{HostFault}
-use Rattle.host_calls.specs.Calls.{HostCall, TextRead}
+use Rattle.host_calls.specs.Calls.{HostCall, PartsRead, TextRead}
 use Rattle.host_calls.specs.Record.{Since}
 use Rattle.host_trace.specs.declared.TheConstants.{BYTE_LIMIT, PIECE, LATE_LIMIT, STEP_LIMIT}
 use Rattle.host_trace.specs.Point.{Point, point_after}
@@ -59,28 +61,38 @@ abbrev pub are_lates : List HostCall → Bool
 are_lates (Late None ∷ calls) = list_all has_come calls && nat_lt (length calls) LATE_LIMIT
 are_lates calls = list_all has_come calls && length calls == LATE_LIMIT
 
--- The calls that carry out one step: an order, what is said of it, a reading of inittab, or the carrying of the state
--- text; and after one of these two, if it came to nothing, that this was said.
+-- The calls that carry out one step, but for a reading of inittab: an order, what is said of it, or the carrying of the
+-- state text; and after this, if it came to nothing, that this was said.
 abbrev pub is_step : List HostCall → Bool
 is_step (Start id command reply ∷ []) = true
 is_step (Look id reply ∷ []) = true
 is_step (Signal id sent reply ∷ []) = true
-is_step (ReadTables parts ∷ []) = true
 is_step (Carry text back ∷ []) = true
 is_step (Announce happening ∷ []) = true
-is_step (Announce NotRead ∷ ReadTables parts ∷ []) = true
 is_step (Announce (Handed how) ∷ Carry text back ∷ []) = true
 is_step _ = false
 
--- the given number of steps, one after the other
-abbrev pub AreSteps : ℕ → List HostCall → Type 0
-AreSteps zero calls = calls ≡ []
-AreSteps (suc n) calls = (last before : List HostCall) × (calls ≡ last ++ before)
-    × IsTrue (is_step last) × AreSteps n before
+-- the table of these files may be taken: they are neither too many nor too long, and of a strict init's no line is faulty
+abbrev pub may_take : Bool → PartsRead → Bool
+may_take strict (Ok parts) =
+    are_readable (texts_of parts) && (not strict || length (faults_of_parts (texts_of parts)) == 0)
+may_take strict (Err fault) = false
+
+-- inittab was read, and its table taken; or it was said that it wasn't
+abbrev pub is_reread : Bool → List HostCall → Bool
+is_reread strict (ReadTables parts ∷ []) = may_take strict parts
+is_reread strict (Announce NotRead ∷ ReadTables parts ∷ []) = true
+is_reread strict _ = false
+
+-- the given number of steps of an init that is strict or not, one after the other
+abbrev pub AreSteps : Bool → ℕ → List HostCall → Type 0
+AreSteps strict zero calls = calls ≡ []
+AreSteps strict (suc n) calls = (last before : List HostCall) × (calls ≡ last ++ before)
+    × IsTrue (is_step last || is_reread strict last) × AreSteps strict n before
 
 -- A turn: it reads the clock, takes bytes, takes late answers, and takes steps until it is done, or has taken as many
 -- as a turn may.
-pub record IsTurn (done : Bool) (calls : List HostCall) : Type 0 where
+pub record IsTurn (strict done : Bool) (calls : List HostCall) : Type 0 where
   pub time : Result ℕ HostFault
   pub takes : List HostCall
   pub lates : List HostCall
@@ -89,7 +101,7 @@ pub record IsTurn (done : Bool) (calls : List HostCall) : Type 0 where
   pub byte_calls : are_takes takes ≡ true
   pub late_calls : are_lates lates ≡ true
   pub count : ℕ
-  pub step_calls : AreSteps count steps
+  pub step_calls : AreSteps strict count steps
   pub most : count ≤ STEP_LIMIT
   pub ended : IsTrue done ⊎ (count ≡ STEP_LIMIT)
 
@@ -104,10 +116,11 @@ pub record Turned (done : Bool) (core : CoreState) (before : List HostCall) (goa
       → (came : List Event) × ((point_after calls p).past ≡ came ++ (point_after before p).past)
 
 -- turns, with a pause after each, and the core that init had after each, the newest first
-abbrev pub AreTurns : (Goal → Point → Type 0) → List CoreState → List HostCall → Type 0
-AreTurns fitted [] calls = calls ≡ []
-AreTurns fitted (core ∷ cores) calls = (done : Bool) × (last before : List HostCall) × (calls ≡ Pause ∷ (last ++ before))
-    × IsTurn done last × UpTo fitted (Turned done core before) (last ++ before) × AreTurns fitted cores before
+abbrev pub AreTurns : Bool → (Goal → Point → Type 0) → List CoreState → List HostCall → Type 0
+AreTurns strict fitted [] calls = calls ≡ []
+AreTurns strict fitted (core ∷ cores) calls = (done : Bool) × (last before : List HostCall)
+    × (calls ≡ Pause ∷ (last ++ before)) × IsTurn strict done last
+    × UpTo fitted (Turned done core before) (last ++ before) × AreTurns strict fitted cores before
 
 -- there is something left to do, or something runs
 abbrev pub is_busy : CoreState → Bool
@@ -115,7 +128,7 @@ is_busy core = not (is_drained core)
 
 -- The given number of turns were made, and somebody who looks saw the core after each. Where they end when init is
 -- drained, none but the last left it so.
-abbrev pub MadeTurns : Bool → (Goal → Point → Type 0) → ℕ → Option (List CoreState) → Option (List CoreState)
+abbrev pub MadeTurns : Bool → Bool → (Goal → Point → Type 0) → ℕ → Option (List CoreState) → Option (List CoreState)
     → List HostCall → Type 0
-MadeTurns drain fitted turns saw now_saw calls = Since saw now_saw (λ cores. (length cores ≡ turns)
-    × AreTurns fitted cores calls × (drain ≡ true → list_all is_busy (drop 1 cores) ≡ true))
+MadeTurns strict drain fitted turns saw now_saw calls = Since saw now_saw (λ cores. (length cores ≡ turns)
+    × AreTurns strict fitted cores calls × (drain ≡ true → list_all is_busy (drop 1 cores) ≡ true))

@@ -6,7 +6,7 @@ ghost use Rattle.trace_log.specs.Logs.{LogState, Gains, Stays};
 ghost use Rattle.host_calls.specs.Calls.{text_read, parts_read, front_read};
 ghost use Rattle.host_trace.specs.Edges.{AddsMade, Made};
 
-use host_calls::{Call, HostFault, Reading, Reply};
+use host_calls::{Call, HostFault, Reply};
 use init_words::{Answer, Id, Part, SignalKind};
 use std::alloc::Allocator;
 use trace_events::HappeningIn;
@@ -70,16 +70,6 @@ pub trait Edge {
     fn read_tables<A: Allocator + Copy>(&mut self, alloc: A) -> Result<Vec<Part<A>, A>, HostFault>
         ensures adds { AddsMade (told self.old) (told self.new)
             (Call.ReadTables (parts_read (λ parts. parts.items) result)) (log self.old) }
-        ensures log { log self.new ≡ log self.old };
-
-    /// Hears how the files of the inittab that it gave last were read; gives whether init is to take the table.
-    fn takes<A: Allocator>(&mut self, parts: &[Part<A>], reading: &Reading<A>) -> bool
-        ensures told { told self.new ≡ told self.old }
-        ensures log { log self.new ≡ log self.old };
-
-    /// Hears why the request whose bytes it gave last counts for nothing.
-    fn pass_over(&mut self, why: &str)
-        ensures told { told self.new ≡ told self.old }
         ensures log { log self.new ≡ log self.old };
 
     /// Hands the text of init's state over to a new init, and gives what reaches it.

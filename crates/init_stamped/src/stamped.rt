@@ -3,7 +3,7 @@
 ghost use Rattle.std.specs.Prelude.{◌≡◌};
 
 use crate::noting::{StampList, stamps_of, with};
-use host_calls::{Host, HostFault, Reading, Reply};
+use host_calls::{Host, HostFault, Reply};
 use host_telling::Noted;
 use host_trace::Edge;
 use init_words::{Answer, Id, Part, SignalKind};
@@ -127,14 +127,6 @@ impl<H: Host, L: Log> Edge for Stamped<H, L> {
         let parts = self.host.read_tables(alloc);
         self.stamps = with(&self.stamps, &self.host, &self.log);
         parts
-    }
-
-    fn takes<A: Allocator>(&mut self, parts: &[Part<A>], reading: &Reading<A>) -> bool {
-        self.host.takes(parts, reading)
-    }
-
-    fn pass_over(&mut self, why: &str) {
-        self.host.pass_over(why);
     }
 
     fn carry<A: Allocator + Copy>(

@@ -1,5 +1,5 @@
 -- What a step leads to that is only said, and what comes of steps that were due.
-use Rattle.init_turns.proofs.Words.{arith, ◌≡◌, refl, sym, ◌∙◌, ap, subst, ℕ, Bool, true, false, List, [], ◌∷◌, Option, Some, Result, Ok, Err, OnOk, OnErr, is_ok, option_and_then, Answer, Ended, false≢true, Begun, Goal, Step, Event, is_sound, child_number, order_in, refusal_of, record_by_id, CoreState, after_told, Fits, FitsAll, StillFits, OnEachTrace, with_step, unreaped_recorded, LogState, AddsMade, AddsMade-same, Made, trace_at, kept_asked, Hears-order, ordered, Announce, HostCall, Point, point_after, last_birth, acted, answered, announced, is_announcement, Gave, gone_on, Hears, Lasts, Leads, Logs, Tracks, is_allowed, Leads-heard, Leads-map, Leads-weaken, Logs-none, Hears-answer, Hears-step, Hears-tracks, tracks, AndRests, IsStep, IsStepUnless, Left, Makes, MakesOver, SaysStep, is_end}
+use Rattle.init_turns.proofs.Words.{arith, ◌≡◌, refl, sym, ◌∙◌, ap, subst, ℕ, Bool, true, false, ◌||◌, List, [], ◌∷◌, Option, Some, Result, Ok, Err, OnOk, OnErr, is_ok, option_and_then, Answer, Ended, false≢true, Begun, Goal, Step, Event, is_sound, child_number, order_in, refusal_of, record_by_id, CoreState, after_told, Fits, FitsAll, StillFits, OnEachTrace, with_step, unreaped_recorded, LogState, AddsMade, AddsMade-same, Made, trace_at, kept_asked, Hears-order, ordered, Announce, HostCall, Point, point_after, last_birth, acted, answered, announced, is_announcement, Gave, gone_on, Hears, Lasts, Leads, Logs, Tracks, is_allowed, Leads-heard, Leads-map, Leads-weaken, Logs-none, Hears-answer, Hears-step, Hears-tracks, tracks, is_reread, AndRests, IsReread, IsStep, IsStepUnless, Left, Makes, MakesOver, SaysStep, is_end}
 use Rattle.init_words.specs.declared.orders.OrderKind.{OrderKind}
 use Rattle.init_words.specs.declared.refusals.Refusal.{Refusal}
 use Rattle.trace_events.specs.declared.happenings.Happening.TheVariants as past
@@ -62,48 +62,58 @@ Makes-ordered state told log old asked made new c behind call id order reply sam
 
 -- ---- steps
 
--- a step that is only said was said
-pub Makes-said : {L : Type 0} (state : L → LogState) (old new : Option (List (Made L))) (l₀ l₁ : LogState) (c : CoreState) (given made : Step) (happening : Event) → given ≡ made → is_idle made ≡ false → SaysStep made happening → ((core : CoreState) (s : Step) → SaysStep s happening → MakesOver state old new l₀ l₁ IsStep (Gave (Tracks core) s) (Tracks core)) → MakesOver state old new l₀ l₁ (IsStepUnless (is_idle given)) (Gave (Tracks c) given) (Tracks c)
-Makes-said state old new l₀ l₁ c given made happening is other says said =
-    subst (λ s. MakesOver state old new l₀ l₁ (IsStepUnless (is_idle s)) (Gave (Tracks c) s) (Tracks c)) (sym is)
-    (subst (λ b. MakesOver state old new l₀ l₁ (IsStepUnless b) (Gave (Tracks c) made) (Tracks c)) (sym other) (said c made says))
+-- a step of one kind is a step
+Makes-kind : {L : Type 0} (state : L → LogState) (strict : Bool) (old new : Option (List (Made L))) (l₀ l₁ : LogState) (Shape : List HostCall → Type 0) (before behind : Goal → Point → Type 0) → ((calls : List HostCall) → Shape calls → IsStepUnless strict false calls) → MakesOver state old new l₀ l₁ Shape before behind → MakesOver state old new l₀ l₁ (IsStepUnless strict false) before behind
+Makes-kind state strict old new l₀ l₁ Shape before behind kind makes = Makes-map state old new l₀ l₁ Shape (IsStepUnless strict false) before behind before behind (λ goal p sound fits. fits) makes (λ calls shape leads. (kind calls shape, leads))
+
+pub is_kept : (strict : Bool) (calls : List HostCall) → IsStep calls → IsStepUnless strict false calls
+is_kept strict calls shape = ap (λ b. b || is_reread strict calls) shape
+
+pub is_read : (strict : Bool) (calls : List HostCall) → IsReread strict calls → IsStepUnless strict false calls
+is_read strict calls shape = grind (arith, shape)
 
 -- a step that was given is another one by name
 pub Makes-given : {L : Type 0} (state : L → LogState) (old new : Option (List (Made L))) (l₀ l₁ : LogState) (c behind : CoreState) (given made : Step) → given ≡ made → MakesOver state old new l₀ l₁ IsStep (Gave (Tracks c) made) (Tracks behind) → MakesOver state old new l₀ l₁ IsStep (Gave (Tracks c) given) (Tracks behind)
 Makes-given state old new l₀ l₁ c behind given made is makes = subst (λ s. MakesOver state old new l₀ l₁ IsStep (Gave (Tracks c) s) (Tracks behind)) (sym is) makes
 
-pub Makes-unless : {L : Type 0} (state : L → LogState) (old new : Option (List (Made L))) (l₀ l₁ : LogState) (c behind : CoreState) (given made : Step) → given ≡ made → is_idle made ≡ false → MakesOver state old new l₀ l₁ IsStep (Gave (Tracks c) made) (Tracks behind) → MakesOver state old new l₀ l₁ (IsStepUnless (is_idle given)) (Gave (Tracks c) given) (Tracks behind)
-Makes-unless state old new l₀ l₁ c behind given made is busy makes =
-    subst (λ s. MakesOver state old new l₀ l₁ (IsStepUnless (is_idle s)) (Gave (Tracks c) s) (Tracks behind)) (sym is)
-    (subst (λ b. MakesOver state old new l₀ l₁ (IsStepUnless b) (Gave (Tracks c) made) (Tracks behind)) (sym busy) makes)
+pub Makes-unless : {L : Type 0} (state : L → LogState) (strict : Bool) (old new : Option (List (Made L))) (l₀ l₁ : LogState) (c behind : CoreState) (given made : Step) (Shape : List HostCall → Type 0) → ((calls : List HostCall) → Shape calls → IsStepUnless strict false calls) → given ≡ made → is_idle made ≡ false → MakesOver state old new l₀ l₁ Shape (Gave (Tracks c) made) (Tracks behind) → MakesOver state old new l₀ l₁ (IsStepUnless strict (is_idle given)) (Gave (Tracks c) given) (Tracks behind)
+Makes-unless state strict old new l₀ l₁ c behind given made Shape kind is busy makes =
+    subst (λ s. MakesOver state old new l₀ l₁ (IsStepUnless strict (is_idle s)) (Gave (Tracks c) s) (Tracks behind)) (sym is)
+    (subst (λ b. MakesOver state old new l₀ l₁ (IsStepUnless strict b) (Gave (Tracks c) made) (Tracks behind)) (sym busy)
+    (Makes-kind state strict old new l₀ l₁ Shape (Gave (Tracks c) made) (Tracks behind) kind makes))
+
+-- a step that is only said was said
+pub Makes-said : {L : Type 0} (state : L → LogState) (strict : Bool) (old new : Option (List (Made L))) (l₀ l₁ : LogState) (c : CoreState) (given made : Step) (happening : Event) → given ≡ made → is_idle made ≡ false → SaysStep made happening → ((core : CoreState) (s : Step) → SaysStep s happening → MakesOver state old new l₀ l₁ IsStep (Gave (Tracks core) s) (Tracks core)) → MakesOver state old new l₀ l₁ (IsStepUnless strict (is_idle given)) (Gave (Tracks c) given) (Tracks c)
+Makes-said state strict old new l₀ l₁ c given made happening is other says said =
+    Makes-unless state strict old new l₀ l₁ c c given made IsStep (is_kept strict) is other (said c made says)
 
 -- nothing was due
-pub Makes-idle : {L : Type 0} (state : L → LogState) (now : Option (List (Made L))) (log : LogState) (c : CoreState) (given : Step) → given ≡ step.Idle → MakesOver state now now log log (IsStepUnless (is_idle given)) (Gave (Tracks c) given) (Tracks c)
-Makes-idle state now log c given is =
-    subst (λ s. MakesOver state now now log log (IsStepUnless (is_idle s)) (Gave (Tracks c) s) (Tracks c)) (sym is)
-    (Makes-map state now now log log (IsStepUnless true) (IsStepUnless true) (Tracks c) (Tracks c) (Gave (Tracks c) step.Idle) (Tracks c) (λ goal p sound gave. gave.1)
-    (Makes-none state now log (IsStepUnless true) (Tracks c) refl)
+pub Makes-idle : {L : Type 0} (state : L → LogState) (strict : Bool) (now : Option (List (Made L))) (log : LogState) (c : CoreState) (given : Step) → given ≡ step.Idle → MakesOver state now now log log (IsStepUnless strict (is_idle given)) (Gave (Tracks c) given) (Tracks c)
+Makes-idle state strict now log c given is =
+    subst (λ s. MakesOver state now now log log (IsStepUnless strict (is_idle s)) (Gave (Tracks c) s) (Tracks c)) (sym is)
+    (Makes-map state now now log log (IsStepUnless strict true) (IsStepUnless strict true) (Tracks c) (Tracks c) (Gave (Tracks c) step.Idle) (Tracks c) (λ goal p sound gave. gave.1)
+    (Makes-none state now log (IsStepUnless strict true) (Tracks c) refl)
     (λ calls none leads. (none, Leads-weaken (Tracks c) (Gave (Tracks c) step.Idle) (Tracks c) (Tracks c) log log calls (λ goal p gave. gave.1) (λ goal p fits. fits) leads)))
 
 idle_is : (made : Step) → is_idle made ≡ true → made ≡ step.Idle
 idle_is made h = grind arith
 
 -- the step was the first due, and was carried out; where it was none, nothing is due still
-pub Makes-stepped : {L : Type 0} (state : L → LogState) (old new : Option (List (Made L))) (l₀ l₁ : LogState) (c between behind : CoreState) (made : Step) → OnEachTrace c (λ goal so_far. made ≡ first (due goal so_far)) → OnEachTrace c (λ goal so_far. StillFits c between goal so_far (with_step made so_far)) → Lasts c between → MakesOver state old new l₀ l₁ (IsStepUnless (is_idle made)) (Gave (Tracks between) made) (Tracks behind) → MakesOver state old new l₀ l₁ (IsStepUnless (is_idle made)) (Tracks c) (AndRests (is_idle made) (Tracks behind))
-Makes-stepped state old new l₀ l₁ c between behind made due_now fits lasts makes = Makes-map state old new l₀ l₁ (IsStepUnless (is_idle made)) (IsStepUnless (is_idle made)) (Gave (Tracks between) made) (Tracks behind) (Tracks c) (AndRests (is_idle made) (Tracks behind)) gave makes
+pub Makes-stepped : {L : Type 0} (state : L → LogState) (strict : Bool) (old new : Option (List (Made L))) (l₀ l₁ : LogState) (c between behind : CoreState) (made : Step) → OnEachTrace c (λ goal so_far. made ≡ first (due goal so_far)) → OnEachTrace c (λ goal so_far. StillFits c between goal so_far (with_step made so_far)) → Lasts c between → MakesOver state old new l₀ l₁ (IsStepUnless strict (is_idle made)) (Gave (Tracks between) made) (Tracks behind) → MakesOver state old new l₀ l₁ (IsStepUnless strict (is_idle made)) (Tracks c) (AndRests (is_idle made) (Tracks behind))
+Makes-stepped state strict old new l₀ l₁ c between behind made due_now fits lasts makes = Makes-map state old new l₀ l₁ (IsStepUnless strict (is_idle made)) (IsStepUnless strict (is_idle made)) (Gave (Tracks between) made) (Tracks behind) (Tracks c) (AndRests (is_idle made) (Tracks behind)) gave makes
     (λ calls shape leads. (shape, goes calls shape leads))
   where
     gave : (goal : Goal) (p : Point) → is_sound goal p.past ≡ true → Tracks c goal p → Gave (Tracks between) made goal p
     gave goal p sound fitted = (sym (due_now goal p.past sound fitted.fits.0), tracks c between goal p (gone_on (with_step made) p) lasts refl fitted (all_on c between goal p.past (with_step made p.past) (fits goal p.past sound fitted.fits.0) fitted.fits))
 
-    goes : (calls : List HostCall) → IsStepUnless (is_idle made) calls → Leads (Gave (Tracks between) made) (Tracks behind) l₀ l₁ calls → Leads (Tracks c) (AndRests (is_idle made) (Tracks behind)) l₀ l₁ calls
+    goes : (calls : List HostCall) → IsStepUnless strict (is_idle made) calls → Leads (Gave (Tracks between) made) (Tracks behind) l₀ l₁ calls → Leads (Tracks c) (AndRests (is_idle made) (Tracks behind)) l₀ l₁ calls
     goes calls shape = Leads-map (Gave (Tracks between) made) (Tracks c) (Tracks behind) (AndRests (is_idle made) (Tracks behind)) l₀ l₁ calls
         (λ goal p sound fitted. (
           gave goal p sound fitted,
           λ now behind. (
             behind,
             λ idle.
-                let none : calls ≡ [] = subst (λ b. IsStepUnless b calls) idle shape in
+                let none : calls ≡ [] = subst (λ b. IsStepUnless strict b calls) idle shape in
                 ap (λ (l : List HostCall). first (due goal (point_after l p).past)) none ∙ sym (due_now goal p.past sound fitted.fits.0) ∙ idle_is made idle,
           ),
         ))

@@ -7,27 +7,27 @@ use Rattle.host_calls.specs.Record.{Since}
 use Rattle.init_turns.proofs.Parts.{AreMade}
 
 -- turns that are said of what fitted are said of what is narrower
-turns_narrower : (f g : Goal → Point → Type 0) → ((goal : Goal) (p : Point) → g goal p → f goal p) → (cores : List CoreState) (calls : List HostCall) → AreTurns f cores calls → AreTurns g cores calls
-turns_narrower f g narrower [] calls turns = turns
-turns_narrower f g narrower (core ∷ cores) calls (done, last, before, is, turn, tracks, earlier) =
-    (done, last, before, is, turn, (λ goal p sound fits. tracks goal p sound (narrower goal p fits)), turns_narrower f g narrower cores before earlier)
+turns_narrower : (strict : Bool) (f g : Goal → Point → Type 0) → ((goal : Goal) (p : Point) → g goal p → f goal p) → (cores : List CoreState) (calls : List HostCall) → AreTurns strict f cores calls → AreTurns strict g cores calls
+turns_narrower strict f g narrower [] calls turns = turns
+turns_narrower strict f g narrower (core ∷ cores) calls (done, last, before, is, turn, tracks, earlier) =
+    (done, last, before, is, turn, (λ goal p sound fits. tracks goal p sound (narrower goal p fits)), turns_narrower strict f g narrower cores before earlier)
 
-made_narrower : (drain : Bool) (f g : Goal → Point → Type 0) → ((goal : Goal) (p : Point) → g goal p → f goal p) → (n : ℕ) (saw now_saw : Option (List CoreState)) (calls : List HostCall) → MadeTurns drain f n saw now_saw calls → MadeTurns drain g n saw now_saw calls
-made_narrower drain f g narrower n saw now_saw calls (cores, seen, (count, turns, busy)) = (cores, seen, (count, turns_narrower f g narrower cores calls turns, busy))
+made_narrower : (strict drain : Bool) (f g : Goal → Point → Type 0) → ((goal : Goal) (p : Point) → g goal p → f goal p) → (n : ℕ) (saw now_saw : Option (List CoreState)) (calls : List HostCall) → MadeTurns strict drain f n saw now_saw calls → MadeTurns strict drain g n saw now_saw calls
+made_narrower strict drain f g narrower n saw now_saw calls (cores, seen, (count, turns, busy)) = (cores, seen, (count, turns_narrower strict f g narrower cores calls turns, busy))
 
 -- the core of an opening is fresh at it
 pub opening_fresh : (level : Option Level) (table : List Entry) → is_distinct table ≡ true → Fresh (opening_state table (opening_goal level table)) (opening_goal level table) (opening_point table)
 opening_fresh level table distinct = (record { fits = fits_opening table (opening_goal level table) distinct; short = refl; own = refl }, refl)
 
-pub opened : {E L : Type 0} (state : L → LogState) (told : E → Option (List (Made L))) (log : E → L) (old mid new : E) (level : Option Level) (table : List Entry) (drain : Bool) (n : ℕ) (saw now_saw : Option (List CoreState)) (core left : CoreState)
+pub opened : {E L : Type 0} (state : L → LogState) (told : E → Option (List (Made L))) (log : E → L) (old mid new : E) (level : Option Level) (table : List Entry) (strict drain : Bool) (n : ℕ) (saw now_saw : Option (List CoreState)) (core left : CoreState)
     → Fresh core (opening_goal level table) (opening_point table) → is_distinct table ≡ true → told mid ≡ told old
-    → Logs (state (log old)) (state (log mid)) [] (NewTable table ∷ []) → Makes state told log mid new (MadeTurns drain (Fresh core) n saw now_saw) (Fresh core) (LeftBy left)
-    → Opens state told log old new level table (ServesTurns drain level table n saw now_saw) left
-opened {L = L} state told log old mid new level table drain n saw now_saw core left fresh distinct same took makes =
+    → Logs (state (log old)) (state (log mid)) [] (NewTable table ∷ []) → Makes state told log mid new (MadeTurns strict drain (Fresh core) n saw now_saw) (Fresh core) (LeftBy left)
+    → Opens state told log old new level table (ServesTurns strict drain level table n saw now_saw) left
+opened {L = L} state told log old mid new level table strict drain n saw now_saw core left fresh distinct same took makes =
     subst (λ t. Since t (told new) Opened) same
-    (Since-map (told mid) (told new) (AreMade state l₁ l₂ (MadeTurns drain (Fresh core) n saw now_saw) (Fresh core) (LeftBy left)) Opened makes
+    (Since-map (told mid) (told new) (AreMade state l₁ l₂ (MadeTurns strict drain (Fresh core) n saw now_saw) (Fresh core) (LeftBy left)) Opened makes
     (λ mades made. (
-      (made_narrower drain (Fresh core) (IsOpening level table) (λ goal p opens. (before goal p opens).0) n saw now_saw (calls_of mades) made.0, there (calls_of mades) made.0),
+      (made_narrower strict drain (Fresh core) (IsOpening level table) (λ goal p opens. (before goal p opens).0) n saw now_saw (calls_of mades) made.0, there (calls_of mades) made.0),
       leads_from none (Fresh core) (IsOpening level table) l₀ l₁ (λ goal p sound opens. before goal p opens) (LeftBy left) l₂ (calls_of mades) made.1,
       fronts_from none (Fresh core) (IsOpening level table) l₀ l₁ (λ goal p sound opens. before goal p opens) l₂ (calls_of mades) made.2,
       kept_from none (Fresh core) (IsOpening level table) l₀ l₁ (λ goal p sound opens. before goal p opens) state mades made.3,
@@ -46,7 +46,7 @@ opened {L = L} state told log old mid new level table drain n saw now_saw core l
     none p = []
 
     Opened : List (Made L) → Type 0
-    Opened mades = ServesTurns drain level table n saw now_saw (calls_of mades) × UpTo (IsOpening level table) (Went none (LeftBy left) l₀ l₂) (calls_of mades)
+    Opened mades = ServesTurns strict drain level table n saw now_saw (calls_of mades) × UpTo (IsOpening level table) (Went none (LeftBy left) l₀ l₂) (calls_of mades)
         × Fronts none (IsOpening level table) l₀ l₂ (calls_of mades) × Kept state none (IsOpening level table) l₀ mades
 
     -- what opens is fresh, and the log was handed the table
@@ -56,16 +56,16 @@ opened {L = L} state told log old mid new level table drain n saw now_saw core l
       λ short. subst (λ (q : Point). Took l₀ l₁ [] q.past) (sym of_point) (took refl),
     )
 
-    there : (calls : List HostCall) → MadeTurns drain (Fresh core) n saw now_saw calls → Arrives level table n calls
+    there : (calls : List HostCall) → MadeTurns strict drain (Fresh core) n saw now_saw calls → Arrives level table n calls
     there calls (cores, seen, (count, turns, busy)) later rounds room =
-        arrives_up (Fresh core) (opening_goal level table) (opening_point table) distinct fresh refl later rounds cores calls turns (subst (λ m. later + turns_in rounds < m) (sym count) room)
+        arrives_up strict (Fresh core) (opening_goal level table) (opening_point table) distinct fresh refl later rounds cores calls turns (subst (λ m. later + turns_in rounds < m) (sym count) room)
 
 -- of an opening, the log and the turns
-pub opened_by : {E L : Type 0} (state : L → LogState) (told : E → Option (List (Made L))) (log : E → L) (old mid new : E) (drain : Bool) (n : ℕ) (saw now_saw : Option (List CoreState)) (o : OpeningState) (left : CoreState)
-    → told mid ≡ told old → Logs (state (log old)) (state (log mid)) [] (o.told ∷ []) → Makes state told log mid new (MadeTurns drain (Fresh o.core) n saw now_saw) (Fresh o.core) (LeftBy left)
-    → (level : Option Level) (table : List Entry) → IsOpeningOf level table o → Opens state told log old new level table (ServesTurns drain level table n saw now_saw) left
-opened_by state told log old mid new drain n saw now_saw o left same took makes level table is =
-    opened state told log old mid new level table drain n saw now_saw o.core left
+pub opened_by : {E L : Type 0} (state : L → LogState) (told : E → Option (List (Made L))) (log : E → L) (old mid new : E) (strict drain : Bool) (n : ℕ) (saw now_saw : Option (List CoreState)) (o : OpeningState) (left : CoreState)
+    → told mid ≡ told old → Logs (state (log old)) (state (log mid)) [] (o.told ∷ []) → Makes state told log mid new (MadeTurns strict drain (Fresh o.core) n saw now_saw) (Fresh o.core) (LeftBy left)
+    → (level : Option Level) (table : List Entry) → IsOpeningOf level table o → Opens state told log old new level table (ServesTurns strict drain level table n saw now_saw) left
+opened_by state told log old mid new strict drain n saw now_saw o left same took makes level table is =
+    opened state told log old mid new level table strict drain n saw now_saw o.core left
     (subst (λ c. Fresh c (opening_goal level table) (opening_point table)) (sym is.core) (opening_fresh level table is.distinct)) is.distinct same
     (subst (λ t. Logs (state (log old)) (state (log mid)) [] (t ∷ [])) is.told took) makes
 

@@ -1,5 +1,5 @@
 -- Parts of a turn, one behind the other.
-use Rattle.init_turns.proofs.Words.{◌≡◌, refl, sym, subst, ℕ, suc, ◌+◌, ◌≤◌, true, false, inl, inr, List, [], ◌∷◌, ◌++◌, Option, arith, Goal, is_sound, LogState, HostCall, AddsMade, Kept, KeptAt, Made, calls_of, Point, Fronts, says_of, Grows, Leads, Took, are_seconds_short, past_of, STEP_LIMIT, AreSteps, Since-none, Since-map, Since-then, Took-none, fronts_from, fronts_none, fronts_one, fronts_then, fronts_two, Leads-none, Leads-then, Kept-one, Kept-then, Since-made, calls_of-append, kept_from, told_at, AreAllSteps, IsStep, IsStepUnless, MakesOver}
+use Rattle.init_turns.proofs.Words.{◌≡◌, refl, sym, subst, ℕ, suc, ◌+◌, ◌≤◌, Bool, true, false, inl, inr, List, [], ◌∷◌, ◌++◌, Option, arith, Goal, is_sound, LogState, HostCall, AddsMade, Kept, KeptAt, Made, calls_of, Point, Fronts, says_of, Grows, Leads, Took, are_seconds_short, past_of, STEP_LIMIT, AreSteps, Since-none, Since-map, Since-then, Took-none, fronts_from, fronts_none, fronts_one, fronts_then, fronts_two, Leads-none, Leads-then, Kept-one, Kept-then, Since-made, calls_of-append, kept_from, told_at, AreAllSteps, IsStepUnless, MakesOver}
 use Rattle.std.specs.Prelude.{IfSome}
 
 module _ {L : Type 0} (state : L → LogState) where
@@ -48,14 +48,14 @@ module _ {L : Type 0} (state : L → LogState) where
 
 -- ---- steps, one behind the others
 
-pub steps_more : (made : ℕ) (xs ys : List HostCall) → AreSteps made xs → IsStep ys → AreSteps (made + 1) (ys ++ xs)
-steps_more made xs ys steps step = subst (λ n. AreSteps n (ys ++ xs)) next (ys, xs, refl, step, steps)
+pub steps_more : (strict : Bool) (made : ℕ) (xs ys : List HostCall) → AreSteps strict made xs → IsStepUnless strict false ys → AreSteps strict (made + 1) (ys ++ xs)
+steps_more strict made xs ys steps step = subst (λ n. AreSteps strict n (ys ++ xs)) next (ys, xs, refl, step, steps)
   where
     next : suc made ≡ made + 1
     next = omega arith
 
-pub steps_end : (made : ℕ) (xs ys : List HostCall) → made ≤ STEP_LIMIT → AreSteps made xs → IsStepUnless true ys → AreAllSteps true (ys ++ xs)
-steps_end made xs ys within steps none = subst (λ calls. AreAllSteps true (calls ++ xs)) (sym none) (record { count = made; step_calls = steps; most = within; ended = inl refl })
+pub steps_end : (strict : Bool) (made : ℕ) (xs ys : List HostCall) → made ≤ STEP_LIMIT → AreSteps strict made xs → IsStepUnless strict true ys → AreAllSteps strict true (ys ++ xs)
+steps_end strict made xs ys within steps none = subst (λ calls. AreAllSteps strict true (calls ++ xs)) (sym none) (record { count = made; step_calls = steps; most = within; ended = inl refl })
 
-pub steps_all : (calls : List HostCall) → AreSteps STEP_LIMIT calls → AreAllSteps false calls
-steps_all calls steps = record { count = STEP_LIMIT; step_calls = steps; most = omega arith; ended = inr refl }
+pub steps_all : (strict : Bool) (calls : List HostCall) → AreSteps strict STEP_LIMIT calls → AreAllSteps strict false calls
+steps_all strict calls steps = record { count = STEP_LIMIT; step_calls = steps; most = omega arith; ended = inr refl }

@@ -1,5 +1,5 @@
 -- The parts of a turn, and turns one behind the other.
-use Rattle.init_turns.proofs.Words.{arith, ◌≡◌, refl, sym, ap, ◌∙◌, subst, ℕ, zero, suc, Bool, true, false, not, ◌&&◌, List, [], ◌∷◌, ◌++◌, drop, length, Option, Result, list_all, false≢true, and_from, and_parts, list_all-append, Begun, Stands, Goal, is_sound, CoreState, is_drained, unreaped_recorded, LogState, Clock, TakeBytes, Pause, HostCall, AddsMade, Made, calls_of, kept_still, Point, point_after, Brings, has_short_seconds, Grows, HasRead, Counted, IsOver, Leads, Took, Tracks, UpTo, Went, past_of, AreSteps, AreTurns, IsTurn, MadeTurns, Turned, are_full, are_lates, are_takes, bytes_taken, has_come, is_busy, is_room, is_step, takes_none, Grows-none, UpTo-then, Leads-map, Leads-beside, Leads-frame, Leads-still, Leads-weaken, bytes_counted, Since-map, Since-none, Since-then, AndRests, AreAllSteps, Fresh, IsReading, Left, LeftBy, MakesOver}
+use Rattle.init_turns.proofs.Words.{arith, ◌≡◌, refl, sym, ap, ◌∙◌, subst, ℕ, zero, suc, Bool, true, false, not, ◌&&◌, ◌||◌, List, [], ◌∷◌, ◌++◌, drop, length, Option, Result, list_all, false≢true, and_from, and_parts, list_all-append, Begun, Stands, Goal, is_sound, CoreState, is_drained, unreaped_recorded, LogState, Clock, TakeBytes, Pause, HostCall, AddsMade, Made, calls_of, kept_still, Point, point_after, Brings, has_short_seconds, Grows, HasRead, Counted, IsOver, Leads, Took, Tracks, UpTo, Went, past_of, AreSteps, AreTurns, IsTurn, MadeTurns, Turned, are_full, are_lates, are_takes, bytes_taken, has_come, is_busy, is_room, is_reread, is_step, takes_none, Grows-none, UpTo-then, Leads-map, Leads-beside, Leads-frame, Leads-still, Leads-weaken, bytes_counted, Since-map, Since-none, Since-then, AndRests, AreAllSteps, Fresh, IsReading, Left, LeftBy, MakesOver}
 use Rattle.trace_events.specs.Due.{due, first}
 use Rattle.host_calls.specs.declared.calls.HostFault.{HostFault}
 use Rattle.host_calls.specs.Record.{Since}
@@ -18,12 +18,12 @@ all_by p q more (call ∷ calls) all = grind (arith, all_by p q more calls)
 come_none : (call : HostCall) → has_come call ≡ true → takes_none call ≡ true
 come_none call h = grind arith
 
-step_none : (calls : List HostCall) → is_step calls ≡ true → list_all takes_none calls ≡ true
-step_none calls h = grind arith
+step_none : (strict : Bool) (calls : List HostCall) → (is_step calls || is_reread strict calls) ≡ true → list_all takes_none calls ≡ true
+step_none strict calls h = grind arith
 
-steps_none : (count : ℕ) (calls : List HostCall) → AreSteps count calls → list_all takes_none calls ≡ true
-steps_none zero calls none = ap (list_all takes_none) none
-steps_none (suc count) calls (last, before, is, step, steps) = ap (list_all takes_none) is ∙ list_all-append takes_none last before ∙ and_from (list_all takes_none last) (list_all takes_none before) (step_none last step) (steps_none count before steps)
+steps_none : (strict : Bool) (count : ℕ) (calls : List HostCall) → AreSteps strict count calls → list_all takes_none calls ≡ true
+steps_none strict zero calls none = ap (list_all takes_none) none
+steps_none strict (suc count) calls (last, before, is, step, steps) = ap (list_all takes_none) is ∙ list_all-append takes_none last before ∙ and_from (list_all takes_none last) (list_all takes_none before) (step_none strict last step) (steps_none strict count before steps)
 
 lates_none : (calls : List HostCall) → are_lates calls ≡ true → list_all takes_none calls ≡ true
 lates_none calls h = grind (arith, all_by, come_none)
@@ -49,21 +49,21 @@ HasTaken calls = (time : Result ℕ HostFault) × (takes : List HostCall) × (ca
 abbrev HasHeard : List HostCall → Type 0
 HasHeard calls = (time : Result ℕ HostFault) × (takes lates : List HostCall) × (calls ≡ lates ++ (takes ++ Clock time ∷ [])) × (are_takes takes ≡ true) × (are_lates lates ≡ true)
 
-turned : (done : Bool) (xs ys : List HostCall) → HasHeard xs → AreAllSteps done ys → IsTurn done (ys ++ xs)
-turned done xs ys h steps = grind arith
+turned : (strict done : Bool) (xs ys : List HostCall) → HasHeard xs → AreAllSteps strict done ys → IsTurn strict done (ys ++ xs)
+turned strict done xs ys h steps = grind arith
 
 -- what fits, where no late answer was asked for since the clock was read
 abbrev Counting : (Goal → Point → Type 0) → Goal → Point → Type 0
 Counting fit goal p = fit goal p × Counted 0 goal p
 
-pub turn_made : {L : Type 0} (state : L → LogState) (done : Bool) (t₀ t₁ t₂ t₃ t₄ : Option (List (Made L))) (l₀ l₁ l₂ l₃ l₄ : LogState) (c₀ c₁ c₂ c₃ c₄ : CoreState) (b₀ b₁ : Begun) → MakesOver state t₀ t₁ l₀ l₁ IsReading (Tracks c₀) (λ goal p. Tracks c₁ goal p × Counted 0 goal p) → MakesOver state t₁ t₂ l₁ l₂ (λ calls. are_takes calls ≡ true) (At c₁ b₀) (At c₂ b₁) → MakesOver state t₂ t₃ l₂ l₃ (λ calls. are_lates calls ≡ true) (λ goal p. Tracks c₂ goal p × Counted 0 goal p) (Tracks c₃) → MakesOver state t₃ t₄ l₃ l₄ (AreAllSteps done) (Tracks c₃) (AndRests done (Tracks c₄)) → (HasRead b₀ → has_short_seconds c₀ ≡ true → Grows l₁ l₂ × Grows l₂ l₃ × Grows l₃ l₄) → MakesOver state t₀ t₄ l₀ l₄ (IsTurn done) (At c₀ b₀) (Left done c₄ b₁)
-turn_made state done t₀ t₁ t₂ t₃ t₄ l₀ l₁ l₂ l₃ l₄ c₀ c₁ c₂ c₃ c₄ b₀ b₁ clock takes lates steps grows =
-    Makes-map state t₀ t₄ l₀ l₄ (IsTurn done) (IsTurn done) (At c₀ b₀) (AndRests done (At c₄ b₁)) (At c₀ b₀) (Left done c₄ b₁) (λ goal p sound fits. fits)
-    (Makes-then state t₀ t₃ t₄ l₀ l₃ l₄ HasHeard (AreAllSteps done) (IsTurn done) (At c₀ b₀) (At c₃ b₁) (AndRests done (At c₄ b₁)) (λ goal p fits. (grows (p.over, fits.1) fits.0.short).2)
+pub turn_made : {L : Type 0} (state : L → LogState) (strict done : Bool) (t₀ t₁ t₂ t₃ t₄ : Option (List (Made L))) (l₀ l₁ l₂ l₃ l₄ : LogState) (c₀ c₁ c₂ c₃ c₄ : CoreState) (b₀ b₁ : Begun) → MakesOver state t₀ t₁ l₀ l₁ IsReading (Tracks c₀) (λ goal p. Tracks c₁ goal p × Counted 0 goal p) → MakesOver state t₁ t₂ l₁ l₂ (λ calls. are_takes calls ≡ true) (At c₁ b₀) (At c₂ b₁) → MakesOver state t₂ t₃ l₂ l₃ (λ calls. are_lates calls ≡ true) (λ goal p. Tracks c₂ goal p × Counted 0 goal p) (Tracks c₃) → MakesOver state t₃ t₄ l₃ l₄ (AreAllSteps strict done) (Tracks c₃) (AndRests done (Tracks c₄)) → (HasRead b₀ → has_short_seconds c₀ ≡ true → Grows l₁ l₂ × Grows l₂ l₃ × Grows l₃ l₄) → MakesOver state t₀ t₄ l₀ l₄ (IsTurn strict done) (At c₀ b₀) (Left done c₄ b₁)
+turn_made state strict done t₀ t₁ t₂ t₃ t₄ l₀ l₁ l₂ l₃ l₄ c₀ c₁ c₂ c₃ c₄ b₀ b₁ clock takes lates steps grows =
+    Makes-map state t₀ t₄ l₀ l₄ (IsTurn strict done) (IsTurn strict done) (At c₀ b₀) (AndRests done (At c₄ b₁)) (At c₀ b₀) (Left done c₄ b₁) (λ goal p sound fits. fits)
+    (Makes-then state t₀ t₃ t₄ l₀ l₃ l₄ HasHeard (AreAllSteps strict done) (IsTurn strict done) (At c₀ b₀) (At c₃ b₁) (AndRests done (At c₄ b₁)) (λ goal p fits. (grows (p.over, fits.1) fits.0.short).2)
     (Makes-then state t₀ t₂ t₃ l₀ l₂ l₃ HasTaken (λ calls. are_lates calls ≡ true) HasHeard (At c₀ b₀) (Counting (At c₂ b₁)) (At c₃ b₁) (λ goal p fits. (grows (p.over, fits.1) fits.0.short).1)
     (Makes-then state t₀ t₁ t₂ l₀ l₁ l₂ IsReading (λ calls. are_takes calls ≡ true) HasTaken (At c₀ b₀) (Counting (At c₁ b₀)) (Counting (At c₂ b₁)) (λ goal p fits. (grows (p.over, fits.1) fits.0.short).0) clocked taken (λ xs ys read take. (read.0, ys, ap (λ calls. ys ++ calls) read.1, take)))
     late (λ xs ys have come. (have.0, have.1, ys, ap (λ calls. ys ++ calls) have.2, have.3, come)))
-    stepped (λ xs ys heard all. turned done xs ys heard all))
+    stepped (λ xs ys heard all. turned strict done xs ys heard all))
     (λ calls turn leads. (turn, Leads-left (At c₀ b₀) done c₄ b₁ l₀ l₄ calls leads))
   where
     clocked : MakesOver state t₀ t₁ l₀ l₁ IsReading (At c₀ b₀) (Counting (At c₁ b₀))
@@ -86,31 +86,31 @@ turn_made state done t₀ t₁ t₂ t₃ t₄ l₀ l₁ l₂ l₃ l₄ c₀ c₁
               (Leads-frame (Counting (Tracks c₂)) (Tracks c₃) (IsOver b₁) l₂ l₃ calls (lates_none calls come) leads),
         ))
 
-    stepped : MakesOver state t₃ t₄ l₃ l₄ (AreAllSteps done) (At c₃ b₁) (AndRests done (At c₄ b₁))
-    stepped = Makes-map state t₃ t₄ l₃ l₄ (AreAllSteps done) (AreAllSteps done) (Tracks c₃) (AndRests done (Tracks c₄)) (At c₃ b₁) (AndRests done (At c₄ b₁)) (λ goal p sound fits. fits.0) steps
+    stepped : MakesOver state t₃ t₄ l₃ l₄ (AreAllSteps strict done) (At c₃ b₁) (AndRests done (At c₄ b₁))
+    stepped = Makes-map state t₃ t₄ l₃ l₄ (AreAllSteps strict done) (AreAllSteps strict done) (Tracks c₃) (AndRests done (Tracks c₄)) (At c₃ b₁) (AndRests done (At c₄ b₁)) (λ goal p sound fits. fits.0) steps
         (λ calls all leads. (
           all,
           Leads-weaken (At c₃ b₁) (At c₃ b₁) (λ goal p. AndRests done (Tracks c₄) goal p × IsOver b₁ p.over) (AndRests done (At c₄ b₁)) l₃ l₄ calls (λ goal p fits. fits) (λ goal p fits. ((fits.0.0, fits.1), fits.0.1))
-              (Leads-frame (Tracks c₃) (AndRests done (Tracks c₄)) (IsOver b₁) l₃ l₄ calls (steps_none all.count calls all.step_calls) leads),
+              (Leads-frame (Tracks c₃) (AndRests done (Tracks c₄)) (IsOver b₁) l₃ l₄ calls (steps_none strict all.count calls all.step_calls) leads),
         ))
 
 -- ---- turns
 
 -- so many turns were made, and where the run ends when init is drained, none left it so
-abbrev pub Going : Bool → (Goal → Point → Type 0) → ℕ → Option (List CoreState) → Option (List CoreState) → List HostCall → Type 0
-Going drain fitted n saw now_saw calls = Since saw now_saw (λ cores. (length cores ≡ n)
-    × AreTurns fitted cores calls × (drain ≡ true → list_all is_busy cores ≡ true))
+abbrev pub Going : Bool → Bool → (Goal → Point → Type 0) → ℕ → Option (List CoreState) → Option (List CoreState) → List HostCall → Type 0
+Going strict drain fitted n saw now_saw calls = Since saw now_saw (λ cores. (length cores ≡ n)
+    × AreTurns strict fitted cores calls × (drain ≡ true → list_all is_busy cores ≡ true))
 
 -- a turn more was made, and left this core
-abbrev pub Gone : Bool → (Goal → Point → Type 0) → ℕ → CoreState → Option (List CoreState) → Option (List CoreState) → List HostCall → Type 0
-Gone drain fitted n core saw now_saw calls = Since saw now_saw (λ all. (cores : List CoreState) × (all ≡ core ∷ cores)
-    × (length cores ≡ n) × AreTurns fitted (core ∷ cores) calls × (drain ≡ true → list_all is_busy cores ≡ true))
+abbrev pub Gone : Bool → Bool → (Goal → Point → Type 0) → ℕ → CoreState → Option (List CoreState) → Option (List CoreState) → List HostCall → Type 0
+Gone strict drain fitted n core saw now_saw calls = Since saw now_saw (λ all. (cores : List CoreState) × (all ≡ core ∷ cores)
+    × (length cores ≡ n) × AreTurns strict fitted (core ∷ cores) calls × (drain ≡ true → list_all is_busy cores ≡ true))
 
 -- before the first turn
-pub turns_none : {L : Type 0} (state : L → LogState) (drain : Bool) (now : Option (List (Made L))) (log : LogState) (saw : Option (List CoreState)) (c : CoreState) (b : Begun) → Stands b [] → MakesOver state now now log log (Going drain (Fresh c) 0 saw saw) (Fresh c) (At c b)
-turns_none state drain now log saw c b stands = Makes-map state now now log log (Going drain (Fresh c) 0 saw saw) (Going drain (Fresh c) 0 saw saw) (Fresh c) (Fresh c) (Fresh c) (At c b) (λ goal p sound fits. fits)
-    (Makes-none state now log (Going drain (Fresh c) 0 saw saw) (Fresh c)
-    (Since-none saw (λ cores. (length cores ≡ 0) × AreTurns (Fresh c) cores [] × (drain ≡ true → list_all is_busy cores ≡ true)) (refl, refl, λ drains. refl)))
+pub turns_none : {L : Type 0} (state : L → LogState) (strict drain : Bool) (now : Option (List (Made L))) (log : LogState) (saw : Option (List CoreState)) (c : CoreState) (b : Begun) → Stands b [] → MakesOver state now now log log (Going strict drain (Fresh c) 0 saw saw) (Fresh c) (At c b)
+turns_none state strict drain now log saw c b stands = Makes-map state now now log log (Going strict drain (Fresh c) 0 saw saw) (Going strict drain (Fresh c) 0 saw saw) (Fresh c) (Fresh c) (Fresh c) (At c b) (λ goal p sound fits. fits)
+    (Makes-none state now log (Going strict drain (Fresh c) 0 saw saw) (Fresh c)
+    (Since-none saw (λ cores. (length cores ≡ 0) × AreTurns strict (Fresh c) cores [] × (drain ≡ true → list_all is_busy cores ≡ true)) (refl, refl, λ drains. refl)))
     (λ calls none leads. (
       none,
       Leads-weaken (Fresh c) (Fresh c) (Fresh c) (At c b) log log calls (λ goal p fits. fits)
@@ -118,18 +118,18 @@ turns_none state drain now log saw c b stands = Makes-map state now now log log 
     ))
 
 -- the last turn behind the others
-abbrev IsLast : Bool → Bool → CoreState → CoreState → ℕ → Option (List CoreState) → Option (List CoreState) → List HostCall → Type 0
-IsLast drain done c₀ c n saw now_saw calls = (last earlier : List HostCall) × (calls ≡ last ++ earlier) × IsTurn done last
-    × UpTo (Fresh c₀) (Turned done c earlier) (last ++ earlier) × Going drain (Fresh c₀) n saw now_saw earlier
+abbrev IsLast : Bool → Bool → Bool → CoreState → CoreState → ℕ → Option (List CoreState) → Option (List CoreState) → List HostCall → Type 0
+IsLast strict drain done c₀ c n saw now_saw calls = (last earlier : List HostCall) × (calls ≡ last ++ earlier) × IsTurn strict done last
+    × UpTo (Fresh c₀) (Turned done c earlier) (last ++ earlier) × Going strict drain (Fresh c₀) n saw now_saw earlier
 
 -- a turn more, a look, and the pause behind it
-pub turns_more : {L : Type 0} (state : L → LogState) (drain done : Bool) (n : ℕ) (t₀ t₁ t₂ t₃ : Option (List (Made L))) (l₀ l₁ : LogState) (log now : L) (s₀ s₁ s₂ : Option (List CoreState)) (c₀ c c' : CoreState) (b b' : Begun) → MakesOver state t₀ t₁ l₀ l₁ (Going drain (Fresh c₀) n s₀ s₁) (Fresh c₀) (At c b) → MakesOver state t₁ t₂ l₁ (state log) (IsTurn done) (At c b) (Left done c' b') → (has_short_seconds c₀ ≡ true → Grows l₁ (state log)) → Since s₁ s₂ (λ cores. cores ≡ c' ∷ []) → AddsMade t₂ t₃ Pause log → now ≡ log → MakesOver state t₀ t₃ l₀ (state now) (Gone drain (Fresh c₀) n c' s₀ s₂) (Fresh c₀) (At c' b')
-turns_more {L = L} state drain done n t₀ t₁ t₂ t₃ l₀ l₁ log now s₀ s₁ s₂ c₀ c c' b b' before turn grows look pause same =
-    subst (λ (l : L). MakesOver state t₀ t₃ l₀ (state l) (Gone drain (Fresh c₀) n c' s₀ s₂) (Fresh c₀) (At c' b')) (sym same)
-    (Makes-then state t₀ t₂ t₃ l₀ l₂ l₂ Last IsPause (Gone drain (Fresh c₀) n c' s₀ s₂) (Fresh c₀) (Left done c' b') (At c' b') (λ goal p fits. Grows-none l₂)
+pub turns_more : {L : Type 0} (state : L → LogState) (strict drain done : Bool) (n : ℕ) (t₀ t₁ t₂ t₃ : Option (List (Made L))) (l₀ l₁ : LogState) (log now : L) (s₀ s₁ s₂ : Option (List CoreState)) (c₀ c c' : CoreState) (b b' : Begun) → MakesOver state t₀ t₁ l₀ l₁ (Going strict drain (Fresh c₀) n s₀ s₁) (Fresh c₀) (At c b) → MakesOver state t₁ t₂ l₁ (state log) (IsTurn strict done) (At c b) (Left done c' b') → (has_short_seconds c₀ ≡ true → Grows l₁ (state log)) → Since s₁ s₂ (λ cores. cores ≡ c' ∷ []) → AddsMade t₂ t₃ Pause log → now ≡ log → MakesOver state t₀ t₃ l₀ (state now) (Gone strict drain (Fresh c₀) n c' s₀ s₂) (Fresh c₀) (At c' b')
+turns_more {L = L} state strict drain done n t₀ t₁ t₂ t₃ l₀ l₁ log now s₀ s₁ s₂ c₀ c c' b b' before turn grows look pause same =
+    subst (λ (l : L). MakesOver state t₀ t₃ l₀ (state l) (Gone strict drain (Fresh c₀) n c' s₀ s₂) (Fresh c₀) (At c' b')) (sym same)
+    (Makes-then state t₀ t₂ t₃ l₀ l₂ l₂ Last IsPause (Gone strict drain (Fresh c₀) n c' s₀ s₂) (Fresh c₀) (Left done c' b') (At c' b') (λ goal p fits. Grows-none l₂)
     (Makes-then state t₀ t₁ t₂ l₀ l₁ l₂ Before Turning Last (Fresh c₀) (At c b) (Left done c' b') (λ goal p fits. grows fits.0.short)
-    (Makes-map state t₀ t₁ l₀ l₁ (Going drain (Fresh c₀) n s₀ s₁) Before (Fresh c₀) (At c b) (Fresh c₀) (At c b) (λ goal p sound fits. fits) before (λ calls going leads. ((going, leads), leads)))
-    (Makes-map state t₁ t₂ l₁ l₂ (IsTurn done) Turning (At c b) (Left done c' b') (At c b) (Left done c' b') (λ goal p sound fits. fits) turn (λ calls made leads. ((made, leads), leads)))
+    (Makes-map state t₀ t₁ l₀ l₁ (Going strict drain (Fresh c₀) n s₀ s₁) Before (Fresh c₀) (At c b) (Fresh c₀) (At c b) (λ goal p sound fits. fits) before (λ calls going leads. ((going, leads), leads)))
+    (Makes-map state t₁ t₂ l₁ l₂ (IsTurn strict done) Turning (At c b) (Left done c' b') (At c b) (Left done c' b') (λ goal p sound fits. fits) turn (λ calls made leads. ((made, leads), leads)))
     (λ xs ys was is. (ys, xs, refl, is.0, turned_to xs ys was.1 is.1, was.0)))
     (Makes-one state t₂ t₃ l₂ l₂ log Pause IsPause (Left done c' b') (At c' b') pause refl
     (Leads-weaken (Left done c' b') (Left done c' b') (Left done c' b') (At c' b') l₂ l₂ (Pause ∷ []) (λ goal p fits. fits) (λ goal p fits. fits.at)
@@ -141,13 +141,13 @@ turns_more {L = L} state drain done n t₀ t₁ t₂ t₃ l₀ l₁ log now s₀
     l₂ = state log
 
     Before : List HostCall → Type 0
-    Before calls = Going drain (Fresh c₀) n s₀ s₁ calls × Leads (Fresh c₀) (At c b) l₀ l₁ calls
+    Before calls = Going strict drain (Fresh c₀) n s₀ s₁ calls × Leads (Fresh c₀) (At c b) l₀ l₁ calls
 
     Turning : List HostCall → Type 0
-    Turning calls = IsTurn done calls × Leads (At c b) (Left done c' b') l₁ l₂ calls
+    Turning calls = IsTurn strict done calls × Leads (At c b) (Left done c' b') l₁ l₂ calls
 
     Last : List HostCall → Type 0
-    Last = IsLast drain done c₀ c' n s₀ s₁
+    Last = IsLast strict drain done c₀ c' n s₀ s₁
 
     IsPause : List HostCall → Type 0
     IsPause calls = calls ≡ Pause ∷ []
@@ -163,9 +163,9 @@ turns_more {L = L} state drain done n t₀ t₁ t₂ t₃ l₀ l₁ log now s₀
               (took.came, ap (λ (q : Point). q.past) joined ∙ took.grown);
         })
 
-    seen : (last earlier calls : List HostCall) → calls ≡ Pause ∷ (last ++ earlier) → IsTurn done last → UpTo (Fresh c₀) (Turned done c' earlier) (last ++ earlier) → Going drain (Fresh c₀) n s₀ s₁ earlier → Gone drain (Fresh c₀) n c' s₀ s₂ calls
-    seen last earlier calls is made more going = Since-then s₀ s₁ s₂ (λ cores. (length cores ≡ n) × AreTurns (Fresh c₀) cores earlier × (drain ≡ true → list_all is_busy cores ≡ true)) (λ cores. cores ≡ c' ∷ [])
-        (λ all. (cores : List CoreState) × (all ≡ c' ∷ cores) × (length cores ≡ n) × AreTurns (Fresh c₀) (c' ∷ cores) calls × (drain ≡ true → list_all is_busy cores ≡ true)) going look
+    seen : (last earlier calls : List HostCall) → calls ≡ Pause ∷ (last ++ earlier) → IsTurn strict done last → UpTo (Fresh c₀) (Turned done c' earlier) (last ++ earlier) → Going strict drain (Fresh c₀) n s₀ s₁ earlier → Gone strict drain (Fresh c₀) n c' s₀ s₂ calls
+    seen last earlier calls is made more going = Since-then s₀ s₁ s₂ (λ cores. (length cores ≡ n) × AreTurns strict (Fresh c₀) cores earlier × (drain ≡ true → list_all is_busy cores ≡ true)) (λ cores. cores ≡ c' ∷ [])
+        (λ all. (cores : List CoreState) × (all ≡ c' ∷ cores) × (length cores ≡ n) × AreTurns strict (Fresh c₀) (c' ∷ cores) calls × (drain ≡ true → list_all is_busy cores ≡ true)) going look
         (λ cores newest was one. (cores, ap (λ front. front ++ cores) one, was.0, (done, last, earlier, is, made, more, was.1), was.2))
 
 -- turns of another shape
@@ -173,32 +173,32 @@ shaped : {L : Type 0} (state : L → LogState) (t₀ t₁ : Option (List (Made L
 shaped state t₀ t₁ l₀ l₁ P Q f₀ f₁ more makes = Makes-map state t₀ t₁ l₀ l₁ P Q f₀ f₁ f₀ f₁ (λ goal p sound fits. fits) makes (λ calls shape leads. (more calls shape, leads))
 
 -- the run goes on, or ends there
-pub turns_on : {L : Type 0} (state : L → LogState) (drain : Bool) (n m : ℕ) (t₀ t₁ : Option (List (Made L))) (l₀ l₁ : LogState) (s₀ s₁ : Option (List CoreState)) (f₀ f₁ : Goal → Point → Type 0) (c : CoreState) → suc n ≡ m → (drain ≡ true → is_drained c ≡ false) → MakesOver state t₀ t₁ l₀ l₁ (Gone drain f₀ n c s₀ s₁) f₀ f₁ → MakesOver state t₀ t₁ l₀ l₁ (Going drain f₀ m s₀ s₁) f₀ f₁
-turns_on state drain n m t₀ t₁ l₀ l₁ s₀ s₁ f₀ f₁ c next busy = shaped state t₀ t₁ l₀ l₁ (Gone drain f₀ n c s₀ s₁) (Going drain f₀ m s₀ s₁) f₀ f₁
+pub turns_on : {L : Type 0} (state : L → LogState) (strict drain : Bool) (n m : ℕ) (t₀ t₁ : Option (List (Made L))) (l₀ l₁ : LogState) (s₀ s₁ : Option (List CoreState)) (f₀ f₁ : Goal → Point → Type 0) (c : CoreState) → suc n ≡ m → (drain ≡ true → is_drained c ≡ false) → MakesOver state t₀ t₁ l₀ l₁ (Gone strict drain f₀ n c s₀ s₁) f₀ f₁ → MakesOver state t₀ t₁ l₀ l₁ (Going strict drain f₀ m s₀ s₁) f₀ f₁
+turns_on state strict drain n m t₀ t₁ l₀ l₁ s₀ s₁ f₀ f₁ c next busy = shaped state t₀ t₁ l₀ l₁ (Gone strict drain f₀ n c s₀ s₁) (Going strict drain f₀ m s₀ s₁) f₀ f₁
     (λ calls (all, told, (cores, is, count, turns, earlier)). (
       all,
       told,
       (
         ap length is ∙ ap suc count ∙ next,
-        subst (λ a. AreTurns f₀ a calls) (sym is) turns,
+        subst (λ a. AreTurns strict f₀ a calls) (sym is) turns,
         (λ drains. ap (list_all is_busy) is ∙ and_from (is_busy c) (list_all is_busy cores) (ap not (busy drains)) (earlier drains)),
       ),
     ))
 
-pub turns_end : {L : Type 0} (state : L → LogState) (drain : Bool) (n m : ℕ) (t₀ t₁ : Option (List (Made L))) (l₀ l₁ : LogState) (s₀ s₁ : Option (List CoreState)) (f₀ f₁ : Goal → Point → Type 0) (c : CoreState) → suc n ≡ m → MakesOver state t₀ t₁ l₀ l₁ (Gone drain f₀ n c s₀ s₁) f₀ f₁ → MakesOver state t₀ t₁ l₀ l₁ (MadeTurns drain f₀ m s₀ s₁) f₀ f₁
-turns_end state drain n m t₀ t₁ l₀ l₁ s₀ s₁ f₀ f₁ c next = shaped state t₀ t₁ l₀ l₁ (Gone drain f₀ n c s₀ s₁) (MadeTurns drain f₀ m s₀ s₁) f₀ f₁
+pub turns_end : {L : Type 0} (state : L → LogState) (strict drain : Bool) (n m : ℕ) (t₀ t₁ : Option (List (Made L))) (l₀ l₁ : LogState) (s₀ s₁ : Option (List CoreState)) (f₀ f₁ : Goal → Point → Type 0) (c : CoreState) → suc n ≡ m → MakesOver state t₀ t₁ l₀ l₁ (Gone strict drain f₀ n c s₀ s₁) f₀ f₁ → MakesOver state t₀ t₁ l₀ l₁ (MadeTurns strict drain f₀ m s₀ s₁) f₀ f₁
+turns_end state strict drain n m t₀ t₁ l₀ l₁ s₀ s₁ f₀ f₁ c next = shaped state t₀ t₁ l₀ l₁ (Gone strict drain f₀ n c s₀ s₁) (MadeTurns strict drain f₀ m s₀ s₁) f₀ f₁
     (λ calls (all, told, (cores, is, count, turns, earlier)). (
       all,
       told,
       (
         ap length is ∙ ap suc count ∙ next,
-        subst (λ a. AreTurns f₀ a calls) (sym is) turns,
+        subst (λ a. AreTurns strict f₀ a calls) (sym is) turns,
         (λ drains. ap (λ a. list_all is_busy (drop 1 a)) is ∙ earlier drains),
       ),
     ))
 
-pub turns_limit : {L : Type 0} (state : L → LogState) (drain : Bool) (n m : ℕ) (t₀ t₁ : Option (List (Made L))) (l₀ l₁ : LogState) (s₀ s₁ : Option (List CoreState)) (f₀ f₁ : Goal → Point → Type 0) → n ≡ m → MakesOver state t₀ t₁ l₀ l₁ (Going drain f₀ n s₀ s₁) f₀ f₁ → MakesOver state t₀ t₁ l₀ l₁ (MadeTurns drain f₀ m s₀ s₁) f₀ f₁
-turns_limit state drain n m t₀ t₁ l₀ l₁ s₀ s₁ f₀ f₁ same = shaped state t₀ t₁ l₀ l₁ (Going drain f₀ n s₀ s₁) (MadeTurns drain f₀ m s₀ s₁) f₀ f₁
+pub turns_limit : {L : Type 0} (state : L → LogState) (strict drain : Bool) (n m : ℕ) (t₀ t₁ : Option (List (Made L))) (l₀ l₁ : LogState) (s₀ s₁ : Option (List CoreState)) (f₀ f₁ : Goal → Point → Type 0) → n ≡ m → MakesOver state t₀ t₁ l₀ l₁ (Going strict drain f₀ n s₀ s₁) f₀ f₁ → MakesOver state t₀ t₁ l₀ l₁ (MadeTurns strict drain f₀ m s₀ s₁) f₀ f₁
+turns_limit state strict drain n m t₀ t₁ l₀ l₁ s₀ s₁ f₀ f₁ same = shaped state t₀ t₁ l₀ l₁ (Going strict drain f₀ n s₀ s₁) (MadeTurns strict drain f₀ m s₀ s₁) f₀ f₁
     (λ calls (cores, told, (count, turns, busy)). (cores, told, (count ∙ same, turns, λ drains. others cores (busy drains))))
   where
     others : (cores : List CoreState) → list_all is_busy cores ≡ true → list_all is_busy (drop 1 cores) ≡ true

@@ -14,7 +14,7 @@ pub use Rattle.host_calls.specs.Calls.{HostCall, TextRead, front_read, parts_rea
 pub use Rattle.host_trace.specs.declared.TheConstants.{STEP_LIMIT, BYTE_LIMIT, PIECE, LATE_LIMIT}
 pub use Rattle.host_trace.specs.Leads.{are_carried, are_seconds_short, is_allowed, Gave, gone_on, Hears, Lasts, Leads, Logs, Tracks, UpTo, Went, comes_back, Counted, IsOver, Took, past_of}
 pub use Rattle.host_trace.specs.Point.{Point, point_after, has_trace, last_birth, acted, answered, announced, is_announcement, bytes_after, came_cut, carrying, is_of_generation, is_outcome, same_text, is_last, clocked, come, ordered, order_for}
-pub use Rattle.host_trace.specs.Turns.{AreSteps, AreTurns, IsTurn, are_full, are_lates, are_takes, has_come, is_step, MadeTurns, Turned, bytes_in, bytes_taken, is_room, is_busy, takes_none}
+pub use Rattle.host_trace.specs.Turns.{AreSteps, AreTurns, IsTurn, are_full, are_lates, are_takes, has_come, is_reread, is_step, may_take, MadeTurns, Turned, bytes_in, bytes_taken, is_room, is_busy, takes_none}
 pub use Rattle.host_trace.proofs.Leading.{calls_allowed, carried_parts, UpTo-then, Leads-heard, Leads-map, Leads-weaken, Leads-none, Leads-then, Leads-beside, Leads-frame, Leads-still, bytes_counted, Hears-none}
 pub use Rattle.host_trace.proofs.Point.{point_after-append}
 pub use Rattle.init_turns.specs.Arriving.{ArrivesIn, IsSettled, are_unasked_rounds, undisturbed_rounds, turns_in, without_rounds, is_answered_turn, past_after, round_of, up_to_pause, without_turn, without_turns, Arrives, ServesTurns}
@@ -34,7 +34,7 @@ pub use Rattle.core_model.proofs.Recorded.{unreaped_recorded}
 pub use Rattle.trace_log.specs.Logs.{LogState}
 pub use Rattle.host_trace.proofs.Taking.{Logs-none, Took-none, Logs-handed, Logs-same, Logs-then}
 pub use Rattle.host_trace.proofs.Acting.{Hears-answer, Hears-step, Hears-tracks, tracks, Hears-told}
-pub use Rattle.init_turns.specs.Parts.{AndRests, IsStep, IsStepUnless, Left, Makes, MakesFrom, SaysStep, is_end, is_short_step, ComesTo, Saying, is_listed, Fresh, LeftBy, AreAllSteps, IsLate, IsTake, IsReading}
+pub use Rattle.init_turns.specs.Parts.{AndRests, IsReread, IsStep, IsStepUnless, Left, Makes, MakesFrom, SaysStep, is_end, is_short_step, ComesTo, Saying, is_listed, Fresh, LeftBy, AreAllSteps, IsLate, IsTake, IsReading}
 pub use Rattle.initctl_frame.specs.declared.requests.HeardRequest.{HeardRequest}
 pub use Rattle.trace_events.specs.Range.{is_request}
 pub use Rattle.core_model.specs.Decide.{decide, or_else, or_idle, level_step, news_step, wished_step, wish_step, stands, stop_among, has_excluded, limited_step, can_start_record, start_step, is_owed_record, start_along, is_over_among, next_stage, enter_step, stage_step, settle_step, can_look_record, look_among, calm_step, work_step, first_step, decide_in, is_drained}

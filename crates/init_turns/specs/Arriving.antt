@@ -91,7 +91,7 @@ Arrives level table turns calls = (later : ℕ) (rounds : List ℕ) → later + 
 
 -- the given number of turns were made from the opening on, and somebody who looks saw the core after each; and where the
 -- system does its part a level is settled
-abbrev pub ServesTurns : Bool → Option Level → List Entry → ℕ → Option (List CoreState) → Option (List CoreState)
-    → List HostCall → Type 0
-ServesTurns drain level table turns saw now_saw calls =
-    MadeTurns drain (IsOpening level table) turns saw now_saw calls × Arrives level table turns calls
+abbrev pub ServesTurns : Bool → Bool → Option Level → List Entry → ℕ → Option (List CoreState)
+    → Option (List CoreState) → List HostCall → Type 0
+ServesTurns strict drain level table turns saw now_saw calls =
+    MadeTurns strict drain (IsOpening level table) turns saw now_saw calls × Arrives level table turns calls

@@ -1,4 +1,3 @@
 pub mod Arriving
-pub mod Causes
 pub mod Opening
 pub mod Parts

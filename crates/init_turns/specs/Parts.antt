@@ -1,5 +1,5 @@
 -- What each part of a turn makes of init's host, log and core (init(8)).
-use Rattle.std.specs.Prelude.{◌≡◌, ◌≤◌, ◌⊎◌, ℕ, Bool, true, false, IsTrue, List, [], ◌∷◌, Option, Result, is_some}
+use Rattle.std.specs.Prelude.{◌≡◌, ◌≤◌, ◌⊎◌, ◌||◌, ℕ, Bool, true, false, IsTrue, List, [], ◌∷◌, Option, Result, is_some}
 use Rattle.init_words.specs.declared.entries.Entry.{Entry}
 use Rattle.init_words.specs.declared.orders.Answer.{Answer}
 use Rattle.init_words.specs.declared.orders.Answer.TheVariants.{Ended}
@@ -32,7 +32,7 @@ use Rattle.host_calls.specs.Record.{Since}
 use Rattle.host_trace.specs.Edges.{AddsMade, Kept, Made, calls_of}
 use Rattle.host_trace.specs.Fronts.{Fronts}
 use Rattle.host_trace.specs.Leads.{At, Tracks, UpTo, Went, comes_back, past_of}
-use Rattle.host_trace.specs.Turns.{AreSteps, bytes_in, is_room, is_step}
+use Rattle.host_trace.specs.Turns.{AreSteps, bytes_in, is_reread, is_room, is_step}
 
 -- The calls made are of this shape, and lead from what is fitted to what fits; up to each of them all went well as far
 -- as the answers until then were possible, and when it was made, the log had taken all that had come since `from`.
@@ -67,19 +67,22 @@ IsTake before count calls = (room : ℕ) × (taken : TextRead) × (calls ≡ Tak
 abbrev pub IsLate : ℕ → Bool → List HostCall → Type 0
 IsLate before last calls = (late : Option (List ℕ × Answer)) × (calls ≡ Late late ∷ []) × (last ≡ is_last late before)
 
--- a step was carried out
+-- a step was carried out that is no reading of inittab, or one that is
 abbrev pub IsStep : List HostCall → Type 0
 IsStep calls = is_step calls ≡ true
 
+abbrev pub IsReread : Bool → List HostCall → Type 0
+IsReread strict calls = is_reread strict calls ≡ true
+
 -- a step was carried out; where nothing was due, no call was made
-abbrev pub IsStepUnless : Bool → List HostCall → Type 0
-IsStepUnless true calls = calls ≡ []
-IsStepUnless false calls = IsStep calls
+abbrev pub IsStepUnless : Bool → Bool → List HostCall → Type 0
+IsStepUnless strict true calls = calls ≡ []
+IsStepUnless strict false calls = (is_step calls || is_reread strict calls) ≡ true
 
 -- steps were carried out until nothing was due, or as many as a turn may take
-pub record AreAllSteps (done : Bool) (calls : List HostCall) : Type 0 where
+pub record AreAllSteps (strict done : Bool) (calls : List HostCall) : Type 0 where
   pub count : ℕ
-  pub step_calls : AreSteps count calls
+  pub step_calls : AreSteps strict count calls
   pub most : count ≤ STEP_LIMIT
   pub ended : IsTrue done ⊎ (count ≡ STEP_LIMIT)
 

@@ -12,7 +12,6 @@ ghost use Rattle.host_trace.specs.Turns.{are_lates, are_takes, is_room};
 ghost use Rattle.init_turns.specs.Parts.{IsLate, IsReading, IsTake, Makes};
 
 use crate::answering::{hear_answer, note};
-use crate::causes::tell_cause;
 use core_steps::Core;
 use host_trace::{BYTE_LIMIT, Edge, LATE_LIMIT, PIECE};
 use init_words::{Answer, Id};
@@ -42,7 +41,6 @@ fn hear_request<A: Allocator, E: Edge>(core: &mut Core<A>, edge: &mut E, request
     ensures grows { IsTrue (is_request request)
         → GrowsBy core.old core.new (E.state (E.log edge.old)) (E.state (E.log edge.new)) }
 {
-    tell_cause(edge, &request);
     core.got(request);
     note(edge, Happening::Got(request));
 }

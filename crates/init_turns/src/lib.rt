@@ -6,7 +6,6 @@
 #![tactic(auto)]
 
 mod answering;
-mod causes;
 mod hearing;
 mod laws;
 mod opening;

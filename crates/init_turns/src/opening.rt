@@ -47,13 +47,14 @@ impl<A: Allocator + Copy> Opening<A> {
     }
 
     /// Makes the given number of turns from the opening on, and gives back what init keeps after them. The log is handed
-    /// the table in force first.
+    /// the table in force first. A strict init takes no inittab that is read again of which a line is faulty.
     pub fn serve<E: Edge, W: Watch<A>>(
         self,
         alloc: A,
         edge: &mut E,
         turns: u64,
         drain: bool,
+        strict: bool,
         watch: &mut W,
     ) -> (Served, Box<Core<A>, A>)
         // the calls made are those of so many turns from the opening on; up to each call their trace is sound and lawful, as
@@ -62,7 +63,7 @@ impl<A: Allocator + Copy> Opening<A> {
         // in which nothing is asked, where as many undisturbed rounds can be made of them as were to come
         ensures trace { (level : Option Level) (table : List Entry) → IsOpeningOf level table self
             → Opens E.state E.told E.log edge.old edge.new
-            level table (ServesTurns drain level table result.0.turns (W.seen watch.old)
+            level table (ServesTurns strict drain level table result.0.turns (W.seen watch.old)
             (W.seen watch.new)) result.1.value }
         // it makes the turns that were asked for; fewer only where it was to end drained, and is
         ensures most { result.0.turns ≤ turns }
@@ -73,7 +74,7 @@ impl<A: Allocator + Copy> Opening<A> {
         let Opening { mut core, told } = self;
         write(edge, &told);
         drop(told);
-        let served = serve(alloc, &mut *core, edge, turns, drain, watch);
+        let served = serve(alloc, &mut *core, edge, turns, drain, strict, watch);
         (served, core)
     }
 }

@@ -2,7 +2,7 @@
 
 ghost use Rattle.std.specs.Prelude.{◌≡◌, ◌∷◌, [], true, false, List, Ok};
 ghost use Rattle.init_words.specs.Parts.{texts_of};
-ghost use Rattle.inittab_text.specs.Parts.{are_readable, table_of_texts};
+ghost use Rattle.inittab_text.specs.Parts.{table_of_texts};
 ghost use Rattle.trace_events.specs.declared.happenings.Happening.TheVariants.{NewTable};
 ghost use Rattle.trace_events.specs.declared.steps.Step.TheVariants as step;
 ghost use Rattle.trace_events.specs.Event.{Event};
@@ -13,7 +13,8 @@ ghost use Rattle.core_model.specs.Fit.{StillFits, OnEachTrace};
 ghost use Rattle.host_trace.specs.Edges.{AddsMade};
 ghost use Rattle.host_trace.specs.Grows.{GrowsBy};
 ghost use Rattle.host_trace.specs.Leads.{Gave, Lasts, Logs, Tracks};
-ghost use Rattle.init_turns.specs.Parts.{IsStep, Makes};
+ghost use Rattle.host_trace.specs.Turns.{may_take};
+ghost use Rattle.init_turns.specs.Parts.{IsReread, Makes};
 
 use crate::answering::write;
 use core_steps::Core;
@@ -23,14 +24,15 @@ use inittab_text::read_parts;
 use std::alloc::Allocator;
 use trace_events::{Happening, HappeningIn};
 
-/// Takes the table of files for that in force, where the host takes it; gives whether it did.
+/// Takes the table of files for that in force, a strict init only where no line is faulty; gives whether it did.
 fn use_parts<A: Allocator + Copy, E: Edge>(
     alloc: A,
     core: &mut Core<A>,
     edge: &mut E,
     parts: &[Part<A>],
+    strict: bool,
 ) -> bool
-    ensures readable { result ≡ true → are_readable (texts_of parts.now) ≡ true }
+    ensures taken { result ≡ true → may_take strict (Ok parts.now) ≡ true }
     ensures quiet { result ≡ true → is_quiet core.old.slots ≡ true }
     ensures fits { result ≡ true → OnEachTrace core.old (λ goal past.
         StillFits core.old core.new goal past
@@ -45,13 +47,12 @@ fn use_parts<A: Allocator + Copy, E: Edge>(
     ensures grows { GrowsBy core.old core.new
         (E.state (E.log edge.old)) (E.state (E.log edge.new)) }
 {
-    let reading = read_parts(alloc, parts);
-    if !edge.takes(parts, &reading) {
-        return false;
-    }
-    let Ok((table, _faults)) = reading else {
+    let Ok((table, faults)) = read_parts(alloc, parts) else {
         return false;
     };
+    if strict && !faults.is_empty() {
+        return false;
+    }
     let Ok(copy) = table.copy(alloc) else {
         return false;
     };
@@ -64,9 +65,14 @@ fn use_parts<A: Allocator + Copy, E: Edge>(
 }
 
 /// Reads inittab and takes its table for that in force; gives whether it did.
-fn use_table<A: Allocator + Copy, E: Edge>(alloc: A, core: &mut Core<A>, edge: &mut E) -> bool
+fn use_table<A: Allocator + Copy, E: Edge>(
+    alloc: A,
+    core: &mut Core<A>,
+    edge: &mut E,
+    strict: bool,
+) -> bool
     ensures used { result ≡ true → Makes E.state E.told E.log edge.old edge.new
-        IsStep (Gave (Tracks core.old) step.Reread) (Tracks core.new) }
+        (IsReread strict) (Gave (Tracks core.old) step.Reread) (Tracks core.new) }
     ensures read { result ≡ false → (parts : PartsRead)
         × AddsMade (E.told edge.old) (E.told edge.new) (ReadTables parts) (E.log edge.old) }
     ensures core { result ≡ false → core.new ≡ core.old }
@@ -77,17 +83,23 @@ fn use_table<A: Allocator + Copy, E: Edge>(alloc: A, core: &mut Core<A>, edge: &
     let Ok(parts) = edge.read_tables(alloc) else {
         return false;
     };
-    use_parts(alloc, core, edge, &parts)
+    use_parts(alloc, core, edge, &parts, strict)
 }
 
-/// Reads inittab again. Where that fails, or the table can't be taken, the one in force stays.
-pub(crate) fn reread<A: Allocator + Copy, E: Edge>(alloc: A, core: &mut Core<A>, edge: &mut E)
+/// Reads inittab again. Where that fails, or the table can't be taken, the one in force stays; so it does where a line
+/// is faulty and init is strict.
+pub(crate) fn reread<A: Allocator + Copy, E: Edge>(
+    alloc: A,
+    core: &mut Core<A>,
+    edge: &mut E,
+    strict: bool,
+)
     ensures makes { Makes E.state E.told E.log edge.old edge.new
-        IsStep (Gave (Tracks core.old) step.Reread) (Tracks core.new) }
+        (IsReread strict) (Gave (Tracks core.old) step.Reread) (Tracks core.new) }
     ensures grows { GrowsBy core.old core.new
         (E.state (E.log edge.old)) (E.state (E.log edge.new)) }
 {
-    if use_table(alloc, core, edge) {
+    if use_table(alloc, core, edge, strict) {
         return;
     }
     let unread: Happening = Happening::NotRead;

@@ -56,18 +56,20 @@ pub struct Served {
 /// and carries out its steps until none is due, at most 10,000. Gives whether none is due.
 ///
 /// What the clock, the bytes, an announcement or the log fails to do is passed over; a start, a look or a signal that
-/// failed is answered so, and inittab that can't be read or taken leaves the table in force.
+/// failed is answered so, and inittab that can't be read or taken leaves the table in force; where init is strict, so
+/// does one of which a line is faulty.
 pub fn turn<A: Allocator + Copy, E: Edge>(
     alloc: A,
     core: &mut Core<A>,
     edge: &mut E,
     blocks: &mut Blocks,
+    strict: bool,
 ) -> bool
     // the calls made are those of a turn; as far as their answers were possible each was in its place, init's core tracks
     // their trace, nothing is due after it where the turn was done, and the log took it; and when each call was made, the
     // log had taken the whole trace until then
     ensures makes { Makes E.state E.told E.log edge.old edge.new
-        (IsTurn result) (At core.old blocks.old) (Left result core.new blocks.new) }
+        (IsTurn strict result) (At core.old blocks.old) (Left result core.new blocks.new) }
     // whatever is answered, the log only grows, and seconds of at most an hour stay so
     ensures grows { GrowsReading core.old core.new blocks.old blocks.new
         (E.state (E.log edge.old)) (E.state (E.log edge.new)) }
@@ -75,7 +77,7 @@ pub fn turn<A: Allocator + Copy, E: Edge>(
     hear_clock(core, edge);
     hear_requests(core, edge, blocks);
     hear_lates(core, edge);
-    take_steps(alloc, core, edge)
+    take_steps(alloc, core, edge, strict)
 }
 
 /// The run ends when init is drained, and it is.
@@ -98,20 +100,21 @@ fn how_it_ended<A: Allocator, E: Edge>(core: &Core<A>, edge: &E, turns: u64) -> 
 }
 
 /// Makes the given number of turns, with a look and a pause after each. With `drain` it ends after the first turn that
-/// leaves nothing to do and nothing running.
+/// leaves nothing to do and nothing running. A strict init takes no inittab of which a line is faulty.
 pub fn serve<A: Allocator + Copy, E: Edge, W: Watch<A>>(
     alloc: A,
     core: &mut Core<A>,
     edge: &mut E,
     turns: u64,
     drain: bool,
+    strict: bool,
     watch: &mut W,
 ) -> Served
     // the calls made are those of so many turns; as far as their answers were possible each was in its place, the core that
     // is seen after each tracks their trace up to there, and the log took it; and when each call was made, the log had
     // taken the whole trace until then
     ensures trace { Makes E.state E.told E.log edge.old edge.new
-        (MadeTurns drain (Fresh core.old) result.turns (W.seen watch.old) (W.seen watch.new))
+        (MadeTurns strict drain (Fresh core.old) result.turns (W.seen watch.old) (W.seen watch.new))
         (Fresh core.old) (LeftBy core.new) }
     // the requests in it are those of all bytes that were taken
     ensures requests { Since (E.told edge.old) (E.told edge.new) (λ mades. (p : Point)
@@ -127,7 +130,7 @@ pub fn serve<A: Allocator + Copy, E: Edge, W: Watch<A>>(
 {
     let mut blocks = Blocks::new();
     for made in 0..turns {
-        let _ = turn(alloc, core, edge, &mut blocks);
+        let _ = turn(alloc, core, edge, &mut blocks, strict);
         watch.look(core);
         edge.pause();
         if is_over(core, drain) {

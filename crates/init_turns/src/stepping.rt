@@ -36,10 +36,16 @@ fn tell<E: Edge>(edge: &mut E, happening: Happening)
 }
 
 /// Carries out a step that init gave.
-fn carry_out<A: Allocator + Copy, E: Edge>(alloc: A, core: &mut Core<A>, edge: &mut E, step: &Step)
+fn carry_out<A: Allocator + Copy, E: Edge>(
+    alloc: A,
+    core: &mut Core<A>,
+    edge: &mut E,
+    step: &Step,
+    strict: bool,
+)
     requires { is_listed core.old.table step.now ≡ true }
     ensures makes { Makes E.state E.told E.log edge.old edge.new
-        (IsStepUnless (is_idle step.now)) (Gave (Tracks core.old) step.now)
+        (IsStepUnless strict (is_idle step.now)) (Gave (Tracks core.old) step.now)
         (Tracks core.new) }
     ensures grows { is_short_step step.now ≡ true
         → GrowsBy core.old core.new (E.state (E.log edge.old)) (E.state (E.log edge.new)) }
@@ -51,21 +57,26 @@ fn carry_out<A: Allocator + Copy, E: Edge>(alloc: A, core: &mut Core<A>, edge: &
         Step::Hold(id) => tell(edge, Happening::Hold(id)),
         Step::Settle(level) => tell(edge, Happening::Settle(level)),
         Step::Order(id, ask) => order(alloc, core, edge, id, &ask),
-        Step::Reread => reread(alloc, core, edge),
+        Step::Reread => reread(alloc, core, edge, strict),
         Step::Reexec => reexec(alloc, core, edge),
         Step::Idle => {}
     }
 }
 
 /// Takes a step of init's; gives whether nothing was due.
-fn take_step<A: Allocator + Copy, E: Edge>(alloc: A, core: &mut Core<A>, edge: &mut E) -> bool
+fn take_step<A: Allocator + Copy, E: Edge>(
+    alloc: A,
+    core: &mut Core<A>,
+    edge: &mut E,
+    strict: bool,
+) -> bool
     ensures makes { Makes E.state E.told E.log edge.old edge.new
-        (IsStepUnless result) (Tracks core.old) (AndRests result (Tracks core.new)) }
+        (IsStepUnless strict result) (Tracks core.old) (AndRests result (Tracks core.new)) }
     ensures grows { GrowsBy core.old core.new
         (E.state (E.log edge.old)) (E.state (E.log edge.new)) }
 {
     let step = core.next();
-    carry_out(alloc, core, edge, &step);
+    carry_out(alloc, core, edge, &step, strict);
     is_idle(&step)
 }
 
@@ -74,14 +85,15 @@ pub(crate) fn take_steps<A: Allocator + Copy, E: Edge>(
     alloc: A,
     core: &mut Core<A>,
     edge: &mut E,
+    strict: bool,
 ) -> bool
     ensures makes { Makes E.state E.told E.log edge.old edge.new
-        (AreAllSteps result) (Tracks core.old) (AndRests result (Tracks core.new)) }
+        (AreAllSteps strict result) (Tracks core.old) (AndRests result (Tracks core.new)) }
     ensures grows { GrowsBy core.old core.new
         (E.state (E.log edge.old)) (E.state (E.log edge.new)) }
 {
     for made in 0..STEP_LIMIT {
-        if take_step(alloc, core, edge) {
+        if take_step(alloc, core, edge, strict) {
             return true;
         }
     }

@@ -10,10 +10,10 @@ use Rattle.host_calls.specs.Record.{Since}
 use Rattle.initd_options.specs.CommandLine.{InitdSaid, judges, runs, simulates, version}
 use Rattle.initd_options.specs.Options.{RunSaid}
 use Rattle.init_turns.specs.Opening.{IsOpeningOf, OpeningState}
-use Rattle.initd_command.specs.Endings.{no_memory, refused}
+use Rattle.initd_command.specs.Endings.{Spoken, no_memory, refused, turned}
 use Rattle.initd_command.specs.Turned.{End}
-use Rattle.initd_command.specs.Services.{EndsTold, HasInittab, table_in, told_ending, told_of}
-use Rattle.initd_command.specs.Ran.{AsksSaid, MakesLogged, MakesTurns, RanBy, RanOver, RunTold}
+use Rattle.initd_command.specs.Services.{EndsTold, HasInittab, TakesParts, is_unled, table_in, told_of}
+use Rattle.initd_command.specs.Ran.{AsksSaid, MakesLogged, MakesTurns, RanBy, RunTold}
 
 -- turns over a log that was fresh
 pub made_fresh : {L fresh : Type 0} (state : L → LogState) (told : Option (List HostCall)) (has_ended : Bool → List Event → Type 0) (service : RunSaid) (table : List Entry) (end : End) (calls : List HostCall)
@@ -31,14 +31,13 @@ made_fresh state told has_ended service table end calls is (made, ended, had) = 
 }
 
 -- what a run makes over each table that its opening is of, it makes over the inittab at its paths
-pub ran_to : (text_at : KnownTexts) (service : RunSaid) (own : List HostCall → Type 0) (opening : OpeningState) (unled : Bool) (end : Option End) (old new : RunTold)
-    → HasInittab text_at service (λ parts. IsOpeningOf service.level (table_in parts) opening × EndsTold service (told_of parts) end old.out new.out)
+pub ran_to : (text_at : KnownTexts) (service : RunSaid) (own : List HostCall → Type 0) (opening : OpeningState) (spoken : Spoken) (end : End) (old new : RunTold)
+    → HasInittab text_at service (λ parts. TakesParts service parts × (spoken.unled ≡ is_unled service.level (table_in parts)) × IsOpeningOf service.level (table_in parts) opening × EndsTold service (told_of parts) spoken.told end old.out new.out)
     → Since old.opened new.opened (λ saids. saids ≡ service ∷ [])
-    → ((table : List Entry) → IsOpeningOf service.level table opening → RanOver service table end old.calls new.calls)
-    → IfSome new.calls own → RanBy text_at service own (told_ending unled end) old new
-ran_to text_at service own opening unled (Some end) old new (parts, are, read, (opens, (served, told))) by made is =
-    ((parts, are, read, (made (table_in parts) opens, told)), by, is)
-ran_to text_at service own opening unled None old new (parts, are, read, (opens, told)) by made is = made (table_in parts) opens
+    → ((table : List Entry) → IsOpeningOf service.level table opening → Since old.calls new.calls (MakesTurns ⊤ service table end))
+    → IfSome new.calls own → RanBy text_at service own (turned spoken end) old new
+ran_to text_at service own opening spoken end old new (parts, are, read, (taken, led, opens, (served, told))) by made is =
+    ((parts, are, read, (taken, led, made (table_in parts) opens, told)), by, is)
 
 -- where memory ran out nothing is asked, whatever the arguments say
 pub none_asked : (text_at : KnownTexts) (said : Option InitdSaid) (own : List HostCall → Type 0) (now : RunTold) → AsksSaid text_at said own (refused no_memory) now now

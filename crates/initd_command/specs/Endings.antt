@@ -1,5 +1,5 @@
 -- How a command line of initd ends: its exit status, what was written, and what is reported of it.
-use Rattle.std.specs.Prelude.{◌≡◌, ℕ, Bool, true, false, if◌then◌else◌, List, [], ◌++◌, codes, decimal, Option, Some, None}
+use Rattle.std.specs.Prelude.{◌≡◌, ◌&&◌, ℕ, Bool, true, false, if◌then◌else◌, List, [], ◌++◌, codes, decimal, Option, Some, None}
 use Rattle.std.specs.Io.KnownBytes.{Keeps}
 use Rattle.program_io.specs.Writing.{AppendsPrefix}
 use Rattle.program_io.specs.declared.statuses.TheConstants.{DONE, REFUSED, UNLAWFUL, DEVICE_FAULT}
@@ -39,11 +39,18 @@ pub data Obstacle : Type 0 where
   unlocked : List ℕ → List ℕ → Obstacle
   uncreated : List ℕ → List ℕ → Obstacle
 
+-- what is said of a run that comes to its turns: that nothing names its level, or something does; and whether the faults
+-- of its inittab were written, and all was printed that its host was to print
+pub record Spoken : Type 0 where
+  pub unled : Bool
+  pub told : Bool
+  pub printed : Bool
+
 -- done; the words are no command line, and why; there is an obstacle; the run over this script ended before its end; the
 -- writer could not be flushed; a trace is lawful, or unlawful, of which this is told, so far as it was judged; its line of
 -- this number is none; its happening at this line isn't finished, and this is the verdict up to it; the verdict could not
--- be written; the turns of a run over the operating system ended so, where nothing names its level or something does; the
--- faults of its inittab could not be written; the version could not be written
+-- be written; the turns of a run over the operating system ended so, of which this is said; the version could not be
+-- written
 pub data Ending : Type 0 where
   done : Ending
   usage : List ℕ → Ending
@@ -55,8 +62,7 @@ pub data Ending : Type 0 where
   torn : ℕ → Ending
   unfinished : ℕ → List ℕ → Ending
   unwritten : Ending
-  turned : Bool → End → Ending
-  untold : Ending
+  turned : Spoken → End → Ending
   unversioned : Ending
 
 abbrev pub obstacle_status : Obstacle → ℕ
@@ -89,8 +95,7 @@ status_of (unlawful message judged) = UNLAWFUL
 status_of (torn line) = REFUSED
 status_of (unfinished line verdict) = REFUSED
 status_of unwritten = DEVICE_FAULT
-status_of (turned unled end) = end_status end
-status_of untold = DEVICE_FAULT
+status_of (turned spoken end) = if spoken.told && spoken.printed then end_status end else DEVICE_FAULT
 status_of unversioned = DEVICE_FAULT
 
 -- a line of a script that may not come there, and why
@@ -150,6 +155,11 @@ unlisted_message id = codes "initd: no entry has the id " ++ (id ++ codes ": giv
 abbrev pub ReportsFlawed : List ℕ → Option (List ℕ) → Option (List ℕ) → Type 0
 ReportsFlawed told old new = (mid : Option (List ℕ)) × AppendsPrefix old mid told × AppendsPrefix mid new FLAWED.now
 
+-- what is reported where the faults of an inittab could not be written
+abbrev pub ReportsUntold : Bool → Option (List ℕ) → Option (List ℕ) → Type 0
+ReportsUntold true old new = Keeps old new
+ReportsUntold false old new = AppendsPrefix old new UNTOLD.now
+
 -- what is reported where nothing names a level
 abbrev pub ReportsUnled : Bool → Option (List ℕ) → Option (List ℕ) → Type 0
 ReportsUnled false old new = Keeps old new
@@ -199,8 +209,9 @@ Reports (unlawful message judged) old new =
 Reports (torn line) old new = ReportsText (torn_message line) old new
 Reports (unfinished line verdict) old new = ReportsText (unfinished_message line verdict) old new
 Reports unwritten old new = AppendsPrefix old new UNWRITTEN.now
-Reports (turned unled end) old new = (mid : Option (List ℕ)) × ReportsUnled unled old mid × ReportsEnd end mid new
-Reports untold old new = AppendsPrefix old new UNTOLD.now
+Reports (turned spoken end) old new =
+    (first : Option (List ℕ)) × ReportsUntold spoken.told old first
+    × (mid : Option (List ℕ)) × ReportsUnled spoken.unled first mid × ReportsEnd end mid new
 Reports unversioned old new = AppendsPrefix old new UNVERSIONED.now
 
 -- the file of this path was not read, and nothing was written

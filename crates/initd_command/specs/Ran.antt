@@ -1,6 +1,5 @@
 -- Which calls a run of init makes of its host.
 use Rattle.std.specs.Prelude.{◌≡◌, ℕ, Bool, true, List, [], ◌∷◌, reverse, Option, Some, None, IfSome, ⊤}
-use Rattle.std.specs.Io.KnownBytes.{Appends}
 use Rattle.init_words.specs.declared.entries.Entry.{Entry}
 use Rattle.program_io.specs.Known.{KnownTexts}
 use Rattle.initd_options.specs.CommandLine.{InitdSaid, initd_read_of, runs}
@@ -21,7 +20,7 @@ use Rattle.init_stamped.specs.Stamps.{HadAll}
 use Rattle.init_turns.specs.declared.serving.Served.{Served}
 use Rattle.initd_command.specs.Turned.{End}
 use Rattle.initd_command.specs.Endings.{Ending, turned}
-use Rattle.initd_command.specs.Services.{HasInittab, IsJudged, IsNoted, IsServed, LogEnds, Noted, TurnsFrom, end_of, table_in, told_of}
+use Rattle.initd_command.specs.Services.{HasInittab, IsJudged, IsNoted, IsServed, LogEnds, Noted, TakesParts, TurnsFrom, Writes, end_of, is_unled, table_in, told_of}
 
 -- after these calls from the opening on init is drained, as far as the answers were possible: a core that fits there is so
 abbrev pub EndsDrained : Option Level → List Entry → List HostCall → Type 0
@@ -36,7 +35,7 @@ pub record MakesTurns (fresh : Type 0) (service : RunSaid) (table : List Entry) 
     : Type 0 where
   pub served : Served
   pub noted : Noted
-  pub turns : ServesTurns service.drain service.level table served.turns None None calls
+  pub turns : ServesTurns service.strict service.drain service.level table served.turns None None calls
   pub fronts : EachFront (UpTo (IsOpening service.level table) WentWell) calls
   pub drains : served.drained ≡ true → EndsDrained service.level table calls
   pub notes : fresh → served.logged ≡ true → TurnsFrom service.level table calls (IsNoted service.result noted)
@@ -52,33 +51,23 @@ MakesLogged state fresh told has_ended service table end calls = (made : MakesTu
     × (fresh → TurnsFrom service.level table calls (λ past. LogEnds has_ended made.served.logged (reverse past)))
     × (fresh → HadAll state told (IsOpening service.level table) calls)
 
--- the end of turns, where it is one
-abbrev pub turned_end : Ending → Option End
-turned_end (turned unled end) = Some end
-turned_end _ = None
-
--- a run over this table that comes to its turns makes them; any other asks nothing of a host
-abbrev pub RanOver : RunSaid → List Entry → Option End → Option (List HostCall) → Option (List HostCall) → Type 0
-RanOver service table (Some end) old new = Since old new (MakesTurns ⊤ service table end)
-RanOver service table None old new = new ≡ old
-
 -- what is told of a run: the arguments by which its hosts were opened, the calls that these were asked, and what it wrote
 pub record RunTold : Type 0 where
   pub opened : Option (List RunSaid)
   pub calls : Option (List HostCall)
   pub out : Option (List ℕ)
 
--- A run that comes to its turns makes them over the inittab at its paths, whose faults it tells, by a host that is
--- opened by its arguments; and of all the calls that are told then `own` is so. Any other asks nothing of a host.
-abbrev pub RanTo : KnownTexts → RunSaid → (List HostCall → Type 0) → Option End → RunTold → RunTold → Type 0
-RanTo text_at service own (Some end) old new =
-    HasInittab text_at service (λ parts. Since old.calls new.calls (MakesTurns ⊤ service (table_in parts) end)
-    × Appends old.out new.out (told_of parts))
-    × Since old.opened new.opened (λ saids. saids ≡ service ∷ []) × IfSome new.calls own
-RanTo text_at service own None old new = new.calls ≡ old.calls
-
+-- A run that comes to its turns makes them over the inittab at its paths, which it takes, whose faults it tells, and of
+-- which it says whether it names the level, by a host that is opened by its arguments; and of all the calls that are told
+-- then `own` is so. Any other asks nothing of a host.
 abbrev pub RanBy : KnownTexts → RunSaid → (List HostCall → Type 0) → Ending → RunTold → RunTold → Type 0
-RanBy text_at service own ending old new = RanTo text_at service own (turned_end ending) old new
+RanBy text_at service own (turned spoken end) old new =
+    HasInittab text_at service (λ parts. TakesParts service parts
+    × (spoken.unled ≡ is_unled service.level (table_in parts))
+    × Since old.calls new.calls (MakesTurns ⊤ service (table_in parts) end)
+    × Writes spoken.told (told_of parts) old.out new.out)
+    × Since old.opened new.opened (λ saids. saids ≡ service ∷ []) × IfSome new.calls own
+RanBy text_at service own _ old new = new.calls ≡ old.calls
 
 -- what arguments ask of hosts: those of a run what the run asks, any others nothing
 abbrev pub AsksSaid : KnownTexts → Option InitdSaid → (List HostCall → Type 0) → Ending → RunTold → RunTold → Type 0

@@ -1,6 +1,6 @@
 -- How a run over the operating system ends. Its host tells nothing of what was asked of it, so this is what is written,
 -- and how the exit status follows from what ended the turns.
-use Rattle.std.specs.Prelude.{◌≡◌, ◌≤◌, ◌<◌, ◌⊎◌, ◌&&◌, ◌==◌, not, if◌then◌else◌, ℕ, Bool, true, false, List, [], ◌∷◌, ◌++◌, length, reverse, string_bytes, Option, Some, None, option_map, is_none, is_some, unwrap_or, IfSome, IsSome, IsTrue, ⊤}
+use Rattle.std.specs.Prelude.{◌≡◌, ◌≤◌, ◌<◌, ◌⊎◌, ◌&&◌, ◌==◌, not, if◌then◌else◌, ℕ, Bool, true, false, List, [], ◌∷◌, ◌++◌, length, reverse, string_bytes, Option, Some, None, option_map, is_none, is_some, unwrap_or, IfSome, IsTrue, ⊤}
 use Rattle.std.specs.Io.KnownBytes.{Appends, Keeps}
 use Rattle.program_io.specs.Writing.{AppendsPrefix}
 use Rattle.program_io.specs.Known.{IsTextAt, KnownTexts}
@@ -27,8 +27,9 @@ use Rattle.init_turns.specs.Opening.{opening_point}
 use Rattle.initd_command.specs.declared.run.Inittab.{Inittab}
 use Rattle.initd_command.specs.declared.run.RunFault.{RunFault}
 use Rattle.initd_command.specs.declared.run.RunFault.TheVariants as why
-use Rattle.initd_command.specs.Endings.{Ending, Obstacle, refused, no_memory, unread, too_many, too_long, flawed, unlisted, busy, shared, turned, uncreated, unlocked, untold}
+use Rattle.initd_command.specs.Endings.{Ending, Obstacle, Spoken, refused, no_memory, unread, too_many, too_long, flawed, unlisted, busy, shared, turned, uncreated, unlocked}
 use Rattle.initd_command.specs.Turned.{End, EntryEnd, ReportsEnd, drained, end_status, limited, unlogged}
+use Rattle.host_files.specs.Folders.{IsWithin}
 use Rattle.host_messages.specs.LineFaults.{faults_text}
 use Rattle.initd_options.specs.Options.{RunSaid}
 
@@ -144,9 +145,19 @@ told_of parts = faults_text parts (faults_of_parts (texts_of parts))
 abbrev pub TakesParts : RunSaid → List NamedText → Type 0
 TakesParts service parts = is_taken service (told_of parts) (table_in parts) ≡ true
 
+-- the paths of a run's inittab, channel, state and trace
+abbrev pub own_paths : RunSaid → List (List ℕ)
+own_paths service = service.inittab ∷ service.initctl ∷ service.state ∷ unwrap_or service.trace [] ∷ []
+
+-- a path, and another one behind it
+abbrev pub StandBy : List ℕ → List ℕ → List (List ℕ) → Type 0
+StandBy one other paths =
+    (before between behind : List (List ℕ)) × (paths ≡ before ++ one ∷ (between ++ other ∷ behind))
+
 -- what is in the way of a run
 abbrev pub IsInWay : KnownTexts → RunSaid → Obstacle → Type 0
-IsInWay text_at service (unread path why) = (path ≡ service.inittab) ⊎ IsSome service.inittab_dir
+IsInWay text_at service (unread path why) =
+    (path ≡ service.inittab) ⊎ ((folder : List ℕ) × (service.inittab_dir ≡ Some folder) × IsWithin folder path)
 IsInWay text_at service no_memory = ⊤
 IsInWay text_at service too_many =
     (parts : List NamedText) × AreFiles text_at service parts × AreTooMany (texts_of parts)
@@ -157,28 +168,29 @@ IsInWay text_at service (flawed told) =
 IsInWay text_at service (unlisted id) =
     HasInittab text_at service (λ parts. (service.result ≡ Some id) × (has_result (table_in parts) (Some id) ≡ false))
 IsInWay text_at service (busy path holder) = (path ≡ service.initctl) ⊎ (service.trace ≡ Some path)
-IsInWay text_at service (shared one other) = ⊤
+IsInWay text_at service (shared one other) = StandBy one other (own_paths service)
 IsInWay text_at service (unlocked path why) = path ≡ service.initctl
 IsInWay text_at service (uncreated path why) =
     (service.trace ≡ Some path) × HasInittab text_at service (TakesParts service)
 
--- the faults of an inittab are told, or a part of them; and turns, if any were made, ended so
-abbrev pub EndsTold : RunSaid → List ℕ → Option End → Option (List ℕ) → Option (List ℕ) → Type 0
-EndsTold service told None old new = AppendsPrefix old new told
-EndsTold service told (Some end) old new = EndsServed service end × Appends old new told
+-- a text is written, or a part of it
+abbrev pub Writes : Bool → List ℕ → Option (List ℕ) → Option (List ℕ) → Type 0
+Writes true text old new = Appends old new text
+Writes false text old new = AppendsPrefix old new text
 
-abbrev pub told_ending : Bool → Option End → Ending
-told_ending unled None = untold
-told_ending unled (Some end) = turned unled end
+-- turns were made, of which this is said, that ended so: the faults of the inittab were written before them, or a part
+abbrev pub EndsTold : RunSaid → List ℕ → Bool → End → Option (List ℕ) → Option (List ℕ) → Type 0
+EndsTold service told written end old new = EndsServed service end × Writes written told old new
 
 -- how a run ends: something is in its way, and nothing is written, or it takes the inittab at its paths, whose faults it
--- tells
+-- tells, and makes turns
 abbrev pub EndsRun : KnownTexts → RunSaid → Ending → Option (List ℕ) → Option (List ℕ) → Type 0
 EndsRun text_at service ending old new =
     ((why : Obstacle) × (ending ≡ refused why) × IsInWay text_at service why × Keeps old new)
     ⊎ HasInittab text_at service (λ parts. TakesParts service parts
-    × (end : Option End) × (ending ≡ told_ending (is_unled service.level (table_in parts)) end)
-    × EndsTold service (told_of parts) end old new)
+    × (spoken : Spoken) × (spoken.unled ≡ is_unled service.level (table_in parts))
+    × (end : End) × (ending ≡ turned spoken end)
+    × EndsTold service (told_of parts) spoken.told end old new)
 
 -- the table of the files, which are neither too many nor too long, and the lines that tell their faults
 abbrev pub IsReadOf : List NamedText → Inittab → Type 0

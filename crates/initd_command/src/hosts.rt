@@ -33,8 +33,8 @@ pub trait Hosts<H: Host> {
             (λ saids. saids ≡ run_of said.now ∷ [])) }
         ensures err { OnErr result (told self.new ≡ told self.old) };
 
-    /// Takes a host back.
-    fn close(&mut self, host: H)
+    /// Takes a host back. Gives whether all could be printed that it was to print.
+    fn close(&mut self, host: H) -> bool
         // it tells what the host told, and of all these calls what is so of its hosts is so
         ensures told { told self.new ≡ H.told host }
         ensures opened { opened self.new ≡ opened self.old }

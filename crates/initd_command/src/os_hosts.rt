@@ -85,10 +85,11 @@ impl<R: Processes + Files<File = File> + Clock + Print + Eprint + Clone + Drop> 
         Ok(Telling::after(&self.calls, host))
     }
 
-    fn close(&mut self, host: Telling<OsHost<StampedRuntime<R>>>) {
+    fn close(&mut self, host: Telling<OsHost<StampedRuntime<R>>>) -> bool {
         host.law_of_telling();
         self.rt = None;
         self.calls = host.calls();
+        host.into_host().has_printed()
     }
 }
 

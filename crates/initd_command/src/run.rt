@@ -3,8 +3,8 @@
 ghost use Rattle.std.specs.Prelude.{◌≡◌, ◌≤◌, ◌<◌, ◌∷◌, ◌&&◌, not, true, ℕ, List, Option, None, Some, [], option_map, unwrap_or, IfErr, IfOk, IfSome, OnErr, OnOk, ⊤};
 ghost use Rattle.program_io.specs.Known.{KnownTexts};
 ghost use Rattle.init_words.specs.Parts.{NamedText};
-ghost use Rattle.initd_command.specs.Endings.{Ending, Reports, ReportsObstacle, ReportsUnled, obstacle_status, status_of};
-ghost use Rattle.initd_command.specs.Ran.{MakesLogged, MakesTurns, RanBy, RanOver};
+ghost use Rattle.initd_command.specs.Endings.{Ending, Reports, ReportsObstacle, ReportsUnled, ReportsUntold, Spoken, obstacle_status, status_of, turned};
+ghost use Rattle.initd_command.specs.Ran.{MakesLogged, MakesTurns, RanBy};
 ghost use Rattle.initd_command.specs.Turned.{End, ReportsEnd, end_status};
 ghost use Rattle.init_words.specs.declared.entries.Entry.{Entry};
 ghost use Rattle.init_words.specs.declared.levels.Level.{Level};
@@ -13,7 +13,7 @@ ghost use Rattle.host_calls.specs.Record.{Since};
 ghost use Rattle.init_turns.specs.Arriving.{ServesTurns};
 ghost use Rattle.init_turns.specs.Opening.{IsOpeningOf, Opens};
 ghost use Rattle.initd_options.specs.Options.{RunSaid, run_of};
-ghost use Rattle.initd_command.specs.Services.{AreFiles, EndsRun, EndsServed, EndsTold, HasInittab, Hinders, IsInittab, IsReadOf, TakesParts, has_result, is_taken, is_unled, judgement_for, obstacle_of, table_in, told_ending, told_of};
+ghost use Rattle.initd_command.specs.Services.{AreFiles, EndsRun, EndsServed, EndsTold, HasInittab, Hinders, IsInittab, IsReadOf, StandBy, TakesParts, has_result, is_taken, is_unled, judgement_for, obstacle_of, own_paths, table_in, told_of};
 
 use crate::ends::report_end;
 use crate::hosts::Hosts;
@@ -111,13 +111,6 @@ struct Inittab {
     faults: Vec<u8>,
 }
 
-/// What a run made before its first turn, and takes away again where it is refused.
-#[derive(Clone, Copy)]
-struct MadeFiles {
-    channel: bool,
-    trace: bool,
-}
-
 /// A run before its first turn.
 #[derive(Drop)]
 struct Run<H> {
@@ -125,7 +118,6 @@ struct Run<H> {
     host: H,
     /// The file of the trace, where one is to be written.
     trace: Option<File>,
-    made: MadeFiles,
     /// The lines that tell the faults of the inittab.
     faults: Vec<u8>,
     /// Nothing names a level.
@@ -210,8 +202,8 @@ where
     let is_unled = is_unled(said.level, &table);
     let opening = Opening::new(alloc, table, said.level)?;
     let (trace, made_trace) = open_trace(rt, alloc, said)?;
-    let (host, made_channel) = match open_host(rt, hosts, alloc, said) {
-        Ok(opened) => opened,
+    let host = match open_host(rt, hosts, alloc, said) {
+        Ok(host) => host,
         Err(fault) => {
             take_away(rt, trace_of(said), made_trace);
             return Err(fault);
@@ -221,23 +213,19 @@ where
         opening,
         host,
         trace,
-        made: MadeFiles {
-            channel: made_channel,
-            trace: made_trace,
-        },
         faults,
         is_unled,
     })
 }
 
-/// The host under the lock of the channel, and whether the channel was made.
+/// The host under the lock of the channel.
 fn open_host<R: Files<File = File> + Alloc, H: Host + Drop, S: Hosts<H>>(
     rt: &R,
     hosts: &mut S,
     alloc: Global,
     said: &RunWords,
-) -> Result<(H, bool), RunFault>
-    ensures host { IfOk result (λ opened. H.told opened.0 ≡ S.told hosts.old) }
+) -> Result<H, RunFault>
+    ensures host { IfOk result (λ host. H.told host ≡ S.told hosts.old) }
     ensures opened { OnOk result (Since (S.opened hosts.old) (S.opened hosts.new)
         (λ saids. saids ≡ run_of said.now ∷ [])) }
     ensures unasked { OnErr result (S.told hosts.new ≡ S.told hosts.old) }
@@ -247,7 +235,7 @@ fn open_host<R: Files<File = File> + Alloc, H: Host + Drop, S: Hosts<H>>(
     let lock = take_lock(rt, alloc, path)?;
     let was_made = lock.was_made();
     match hosts.open(alloc, said, lock) {
-        Ok(host) => Ok((host, was_made)),
+        Ok(host) => Ok(host),
         Err(Memory) => {
             take_away(rt, path, was_made);
             Err(RunFault::Memory)
@@ -283,17 +271,23 @@ fn refuse_shared<R: Files>(rt: &R, alloc: Global, said: &RunWords) -> Result<(),
     let initctl = said.initctl.as_str();
     let state = said.state.as_str();
     let trace = trace_of(said);
-    let pairs = [
-        (inittab, initctl),
-        (inittab, state),
-        (inittab, trace),
-        (initctl, state),
-        (initctl, trace),
-        (state, trace),
-    ];
-    let Some((one, other)) = pairs.iter().find(|pair| are_one_file(rt, pair.0, pair.1)) else {
+    refuse_pair(rt, alloc, inittab, initctl)?;
+    refuse_pair(rt, alloc, inittab, state)?;
+    refuse_pair(rt, alloc, inittab, trace)?;
+    refuse_pair(rt, alloc, initctl, state)?;
+    refuse_pair(rt, alloc, initctl, trace)?;
+    refuse_pair(rt, alloc, state, trace)
+}
+
+/// Refuses two paths that lead to one file.
+fn refuse_pair<R: Files>(rt: &R, alloc: Global, one: &str, other: &str) -> Result<(), RunFault>
+    ensures { (text_at : KnownTexts) (service : RunSaid)
+        → StandBy one.now other.now (own_paths service)
+        → IfErr result (Hinders text_at service) }
+{
+    if !are_one_file(rt, one, other) {
         return Ok(());
-    };
+    }
     let one = String::from_str(alloc, one)?;
     let other = String::from_str(alloc, other)?;
     Err(RunFault::Shared(one, other))
@@ -508,7 +502,8 @@ pub(crate) fn trace_of(said: &RunWords) -> &str
     }
 }
 
-/// Tells the faults of the inittab's lines, and makes the turns.
+/// Tells the faults of the inittab's lines, and makes the turns. Where these faults, or what the host was to print, could
+/// not be written, the exit status is 4.
 fn make_run<R, H: Host + Drop, S: Hosts<H>, W: Write, E: Write>(
     rt: &R,
     hosts: &mut S,
@@ -520,11 +515,14 @@ fn make_run<R, H: Host + Drop, S: Hosts<H>, W: Write, E: Write>(
 ) -> u8
 where
     R: Files<File = File> + Alloc + Eprint + Clock,
-    ensures ended { (end : Option End) × (result ≡ status_of (told_ending run.is_unled end))
-        × EndsTold (run_of said.now) run.faults.items end (W.contents out.old) (W.contents out.new)
-        × Reports (told_ending run.is_unled end) (E.contents err.old) (E.contents err.new)
+    ensures ended { (spoken : Spoken) × (spoken.unled ≡ run.is_unled) × (end : End)
+        × (result ≡ status_of (turned spoken end))
+        × EndsTold (run_of said.now) run.faults.items spoken.told end
+        (W.contents out.old) (W.contents out.new)
+        × Reports (turned spoken end) (E.contents err.old) (E.contents err.new)
         × ((table : List Entry) → IsOpeningOf (run_of said.now).level table run.opening
-        → RanOver (run_of said.now) table end (H.told run.host) (S.told hosts.new)) }
+        → Since (H.told run.host) (S.told hosts.new)
+        (MakesTurns ⊤ (run_of said.now) table end)) }
     ensures own { IfSome (S.told hosts.new) S.own }
     ensures opened { S.opened hosts.new ≡ S.opened hosts.old }
 {
@@ -532,22 +530,20 @@ where
         opening,
         host,
         trace,
-        made,
         faults,
         is_unled,
     } = run;
-    if !tell(&faults, out) {
-        report(UNTOLD, err);
-        take_away(rt, said.initctl.as_str(), made.channel);
-        take_away(rt, trace_of(said), made.trace);
-        hosts.close(host);
-        return DEVICE_FAULT;
-    }
+    let is_told = tell(&faults, out);
+    report_untold(is_told, err);
     report_unled(is_unled, err);
     let stamped = StampedRuntime::new(rt, alloc, said.stamp);
     let (status, host) = make_traced(&stamped, alloc, said, opening, host, trace, err);
-    hosts.close(host);
-    status
+    let is_printed = hosts.close(host);
+    if is_told && is_printed {
+        status
+    } else {
+        DEVICE_FAULT
+    }
 }
 
 /// Makes the turns, and writes the trace where there is a file for it.
@@ -600,6 +596,15 @@ where
     let log = AskedLog::new(rt, log);
     let (status, host, _) = make_turns(rt, alloc, said, opening, host, log, err);
     (status, host)
+}
+
+/// Reports that the faults of the inittab's lines could not be written, where that is so.
+fn report_untold<E: Write>(is_told: bool, err: &mut E)
+    ensures { ReportsUntold is_told (E.contents err.old) (E.contents err.new) }
+{
+    if !is_told {
+        report(UNTOLD, err);
+    }
 }
 
 /// Reports that nothing names a level, where that is so.
@@ -660,7 +665,7 @@ fn serve_watched<R: Files + Eprint, E: Edge>(
 ) -> (Served, Box<Core>)
     ensures trace { (level : Option Level) (table : List Entry) → IsOpeningOf level table opening
         → Opens E.state E.told E.log edge.old edge.new level table
-        (ServesTurns (run_of said.now).drain level table result.0.turns None None)
+        (ServesTurns (run_of said.now).strict (run_of said.now).drain level table result.0.turns None None)
         result.1.value }
     ensures most { result.0.turns ≤ (run_of said.now).turns }
     ensures fewer { result.0.turns < (run_of said.now).turns
@@ -669,7 +674,7 @@ fn serve_watched<R: Files + Eprint, E: Edge>(
     ensures logged { result.0.logged ≡ not (E.state (E.log edge.new)).failed }
 {
     let mut watch = Watcher::new(rt, alloc, said.verbose, said.initctl.as_str());
-    opening.serve(alloc, edge, said.turns, said.drain, &mut watch)
+    opening.serve(alloc, edge, said.turns, said.drain, said.strict, &mut watch)
 }
 
 /// Turns whose log was ended, with all that it took or not.

@@ -19,6 +19,8 @@ use test_support::{Slow, boxed, line_words};
 #[derive(Drop)]
 struct OneHost {
     host: Option<MemoryHost>,
+    /// All could be printed.
+    printed: bool,
 }
 
 impl Hosts<MemoryHost> for OneHost {
@@ -40,8 +42,9 @@ impl Hosts<MemoryHost> for OneHost {
         }
     }
 
-    fn close(&mut self, host: MemoryHost) {
+    fn close(&mut self, host: MemoryHost) -> bool {
         self.host = Some(host);
+        self.printed
     }
 }
 
@@ -53,6 +56,8 @@ enum Given {
     Later,
     /// A look finds this exit status.
     Ended(u8),
+    /// Something can't be printed.
+    Unprinted,
     /// In the second turn init is asked to re-execute itself, and the state comes back that it is in then, but that the
     /// record has no child.
     Forged,
@@ -75,6 +80,7 @@ fn give(alloc: Global, host: &mut MemoryHost, given: &Given) -> Result<(), Memor
         Given::Born(number) => host.give_start(Reply::Now(Answer::Born(ChildNumber(*number)))),
         Given::Later => host.give_start(Reply::Later),
         Given::Ended(code) => host.give_look(Reply::Now(Answer::Ended(Status::Exit(*code)))),
+        Given::Unprinted => Ok(()),
         Given::Forged => give_forged(alloc, host),
     }
 }
@@ -84,7 +90,11 @@ fn host_of(alloc: Global, all: &[Given]) -> Result<Box<OneHost>, Memory> {
     for given in all {
         give(alloc, &mut host, given)?;
     }
-    Ok(boxed(alloc, OneHost { host: Some(host) })?)
+    let one = OneHost {
+        host: Some(host),
+        printed: !all.iter().any(|given| matches!(given, Given::Unprinted)),
+    };
+    Ok(boxed(alloc, one)?)
 }
 
 /// The texts at the paths `tab` and `said`: an inittab, and a script or a trace; what the host is given; a command line and
@@ -132,6 +142,15 @@ const ROWS: &[Row] = &[
         line: "run --inittab tab --initctl host-ctl --level 3 --drain --result o",
         status: 5,
         reported: None,
+        calls: (2, 1, 2),
+        ..NOTHING
+    },
+    // One whose announcements could not be printed goes on to its end, and ends with 4.
+    Row {
+        inittab: b"o:3:once:x\n",
+        given: &[Given::Born(7), Given::Ended(0), Given::Unprinted],
+        line: "run --inittab tab --initctl host-ctl --level 3 --drain",
+        status: 4,
         calls: (2, 1, 2),
         ..NOTHING
     },

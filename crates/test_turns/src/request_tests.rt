@@ -58,7 +58,7 @@ fn hears_whole_blocks(
     blocks: &mut Blocks,
     heard: usize,
 ) -> bool {
-    let is_done = init_turns::turn(own, &mut bench.core, &mut bench.edge, blocks);
+    let is_done = init_turns::turn(own, &mut bench.core, &mut bench.edge, blocks, false);
     let list = bench.edge.log().list();
     is_done
         && bench.core.drained()

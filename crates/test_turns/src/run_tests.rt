@@ -402,14 +402,14 @@ fn passes_changed(own: Global, row: &Row, change: &Change) -> Option<bool> {
         faults: change.faults,
         ..*row
     };
-    passes(own, &row, None)
+    passes(own, &row, None, false)
 }
 
 #[test]
 fn runs(rt: HostRuntime) {
     for row in ROWS {
         assert!(rt;
-            passes(rt.alloc(), row, None) == Some(true),
+            passes(rt.alloc(), row, None, false) == Some(true),
             "{} over {}",
             row.replies,
             row.inittab
@@ -417,10 +417,36 @@ fn runs(rt: HostRuntime) {
     }
     for (row, calls) in CALLS {
         assert!(rt;
-            passes(rt.alloc(), row, Some(*calls)) == Some(true),
+            passes(rt.alloc(), row, Some(*calls), false) == Some(true),
             "{calls}"
         );
     }
+}
+
+/// An inittab with a faulty line is read again, and then one without.
+const FAULTY: Row = Row {
+    inittab: "# none",
+    replies: "bytes q / bytes / bytes q / table w:S:wait / table r:S:off:x",
+    limit: (2, false),
+    ended: (2, true),
+    faults: 0,
+    trace: "clock 0 / got reload / nudge / enter sysinit 5 / use 0 / enter S 5 / settle S / \
+            clock 0 / got reload / nudge / use 1 / r:S:off:x / settle S",
+};
+
+fn passes_strictly(own: Global) -> Option<bool> {
+    let trace = changed(own, FAULTY.trace, &[("use 0", "notread")])?;
+    let row = Row {
+        trace: trace.as_str(),
+        ..FAULTY
+    };
+    passes(own, &row, None, true)
+}
+
+#[test]
+fn a_strict_init_takes_no_faulty_inittab(rt: HostRuntime) {
+    assert!(rt; passes(rt.alloc(), &FAULTY, None, false) == Some(true));
+    assert!(rt; passes_strictly(rt.alloc()) == Some(true));
 }
 
 #[test]

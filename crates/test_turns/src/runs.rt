@@ -47,6 +47,7 @@ pub(crate) fn lines_of(alloc: Global, text: &str, parted: &str) -> Result<Vec<u8
 pub(crate) struct Bench<A: Allocator + Copy, B: Allocator, L: Log> {
     pub(crate) core: Core<B>,
     pub(crate) edge: Stamped<MemoryHost<A>, L>,
+    pub(crate) strict: bool,
 }
 
 fn bench_over<A: Allocator + Copy, B: Allocator + Copy, L: Log + Drop>(
@@ -58,7 +59,8 @@ fn bench_over<A: Allocator + Copy, B: Allocator + Copy, L: Log + Drop>(
 ) -> Result<Box<Bench<A, B, L>>, Memory> {
     let edge = Stamped::new(Box::into_inner(host), log);
     let core = Core::new(alloc, table, None)?;
-    Ok(boxed(own, Bench { core, edge })?)
+    let strict = false;
+    Ok(boxed(own, Bench { core, edge, strict })?)
 }
 
 /// A core over an inittab, with a host, each in memory of its own, and with a log.
@@ -76,7 +78,11 @@ pub(crate) fn bench_of<A: Allocator + Copy, B: Allocator + Copy, L: Log + Drop>(
 
 /// What is left of it: its log.
 pub(crate) fn log_of<A: Allocator + Copy, B: Allocator, L: Log>(bench: Box<Bench<A, B, L>>) -> L {
-    let Bench { core: _, edge } = Box::into_inner(bench);
+    let Bench {
+        core: _,
+        edge,
+        strict: _,
+    } = Box::into_inner(bench);
     let (_, log) = edge.into_parts();
     log
 }
@@ -95,6 +101,7 @@ pub(crate) fn serve_on<A: Allocator + Copy, B: Allocator + Copy, L: Log>(
         &mut bench.edge,
         turns,
         drain,
+        bench.strict,
         &mut watch,
     );
     let Unwatched {} = watch;
@@ -164,10 +171,12 @@ pub(crate) fn letters_of(own: Global, host: &MemoryHost) -> Option<Vec<u8>> {
     Some(letters)
 }
 
-/// Makes the run of a row, and gives whether it is as it says, and its calls have these letters, where they are asked.
-pub(crate) fn passes(own: Global, row: &Row, calls: Option<&str>) -> Option<bool> {
+/// Makes the run of a row, of an init that is strict or not, and gives whether it is as it says, and its calls have these
+/// letters, where they are asked.
+pub(crate) fn passes(own: Global, row: &Row, calls: Option<&str>, strict: bool) -> Option<bool> {
     let host = host_of(own, own, row.replies)?;
     let mut bench = bench_of(own, host, own, row.inittab, ListLog::new(own))?;
+    bench.strict = strict;
     if !is_run(own, &mut bench, row) {
         return None;
     }

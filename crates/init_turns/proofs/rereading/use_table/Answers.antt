@@ -1,6 +1,6 @@
-use Rattle.init_turns.proofs.Words.{rules, ◌≡◌, refl, sym, subst, List, ◌∷◌, [], Ok, NewTable, ReadTables, parts_read, Event, Gave, Leads, Logs, Tracks, Leads-used, AddsMade-same, IsStep, kept_still, Grows-none, GrowsBy-call}
+use Rattle.init_turns.proofs.Words.{rules, ◌≡◌, refl, sym, ap, ◌∙◌, subst, true, and_parts, may_take, List, ◌∷◌, [], Ok, NewTable, ReadTables, parts_read, Event, Gave, Leads, Logs, Tracks, Leads-used, AddsMade-same, IsReread, kept_still, Grows-none, GrowsBy-call}
 use Rattle.init_words.specs.Parts.{texts_of}
-use Rattle.inittab_text.specs.Parts.{table_of_texts}
+use Rattle.inittab_text.specs.Parts.{are_readable, table_of_texts}
 use Rattle.trace_events.specs.declared.steps.Step.TheVariants as step
 use Rattle.init_turns.proofs.Parts.{Makes-one}
 use Rattle.init_turns.proofs.rereading.use_table.Goals as goal
@@ -16,11 +16,12 @@ returns-clause-used g c took =
     let now_told = g.E.Edge.told c.use_parts.new.edge in
     let parts = parts_read (λ held. held.items) c.read_tables.result in
     let is : parts ≡ Ok c.deref.result.now = search rules in
+    let taken : may_take c.args.strict (Ok c.deref.result.now) ≡ true = c.use_parts.ensures.taken took in
     let before = Gave (Tracks core) step.Reread in
-    Makes-one g.E.Edge.state told now_told old now log (ReadTables parts) IsStep before (Tracks new)
-    (AddsMade-same told told (g.E.Edge.told c.read_tables.new.self) now_told (ReadTables parts) log refl c.use_parts.ensures.told c.read_tables.ensures.adds) refl
+    Makes-one g.E.Edge.state told now_told old now log (ReadTables parts) (IsReread c.args.strict) before (Tracks new)
+    (AddsMade-same told told (g.E.Edge.told c.read_tables.new.self) now_told (ReadTables parts) log refl c.use_parts.ensures.told c.read_tables.ensures.adds) (ap (may_take c.args.strict) is ∙ taken)
     (subst (λ t. Leads before (Tracks new) old now (ReadTables t ∷ [])) (sym is)
-    (Leads-used core new old now c.deref.result.now (c.use_parts.ensures.readable took) (c.use_parts.ensures.quiet took) (c.use_parts.ensures.fits took) (c.use_parts.ensures.lasts took)
+    (Leads-used core new old now c.deref.result.now (and_parts (are_readable (texts_of c.deref.result.now)) _ taken).0 (c.use_parts.ensures.quiet took) (c.use_parts.ensures.fits took) (c.use_parts.ensures.lasts took)
     (subst (λ l. (so_far : List Event) → Logs (g.E.Edge.state l) now so_far (NewTable (table_of_texts (texts_of c.deref.result.now)) ∷ so_far)) c.read_tables.ensures.log (c.use_parts.ensures.took took))))
     (kept_still before old (ReadTables parts) (λ so_far. refl))
 

@@ -5,5 +5,5 @@ use Rattle.init_turns.proofs.serving.serve.Given as goal
 
 abbrev pub invariant-loop-made : goal.invariant-loop-made
 invariant-loop-made g l = MakesOver g.E.Edge.state (g.E.Edge.told l.fn.edge) (g.E.Edge.told l.edge) (g.E.Edge.state (g.E.Edge.log l.fn.edge)) (g.E.Edge.state (g.E.Edge.log l.edge))
-    (Going l.drain (Fresh l.fn.core) l.made (g.W.Watch.seen l.fn.watch) (g.W.Watch.seen l.watch)) (Fresh l.fn.core) (At l.core l.blocks)
+    (Going l.strict l.drain (Fresh l.fn.core) l.made (g.W.Watch.seen l.fn.watch) (g.W.Watch.seen l.watch)) (Fresh l.fn.core) (At l.core l.blocks)
     × HasRead l.blocks × GrowsBy l.fn.core l.core (g.E.Edge.state (g.E.Edge.log l.fn.edge)) (g.E.Edge.state (g.E.Edge.log l.edge))

@@ -3,7 +3,7 @@ use Rattle.init_turns.proofs.Grown.{turn_grows}
 use Rattle.init_turns.proofs.serving.turn.Goals as goal
 
 pub returns-clause-makes : goal.returns-clause-makes
-returns-clause-makes g c = turn_made g.E.Edge.state c.take_steps.result
+returns-clause-makes g c = turn_made g.E.Edge.state c.args.strict c.take_steps.result
     (g.E.Edge.told c.args.edge.now) (g.E.Edge.told c.hear_clock.new.edge) (g.E.Edge.told c.hear_requests.new.edge) (g.E.Edge.told c.hear_lates.new.edge) (g.E.Edge.told c.take_steps.new.edge)
     (g.E.Edge.state (g.E.Edge.log c.args.edge.now)) (g.E.Edge.state (g.E.Edge.log c.hear_clock.new.edge)) (g.E.Edge.state (g.E.Edge.log c.hear_requests.new.edge)) (g.E.Edge.state (g.E.Edge.log c.hear_lates.new.edge)) (g.E.Edge.state (g.E.Edge.log c.take_steps.new.edge))
     c.args.core.now c.hear_clock.new.core c.hear_requests.new.core c.hear_lates.new.core c.take_steps.new.core

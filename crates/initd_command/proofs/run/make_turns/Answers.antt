@@ -47,7 +47,7 @@ returns g c =
             record {
               served = c.ended_with-served.result;
               noted = noted;
-              turns = served_still (λ (turns : ℕ) (drained : Bool). ServesTurns service.drain service.level table turns None None calls) c.serve_watched-core.result.0 c.ended_with-served.result _ c.ended_with-served.ensures made.0;
+              turns = served_still (λ (turns : ℕ) (drained : Bool). ServesTurns service.strict service.drain service.level table turns None None calls) c.serve_watched-core.result.0 c.ended_with-served.result _ c.ended_with-served.ensures made.0;
               fronts = λ later earlier next call is apart goal p sound opening allowed.
                   let led = made.2 later earlier next call is apart goal p sound opening allowed in
                   (led.0, λ carried. (led.1 carried).0);

@@ -1,10 +1,11 @@
-use Rattle.std.proofs.Common.{◌≡◌, ap, refl, sym, subst, [], ◌∷◌, inl, inr}
+use Rattle.std.proofs.Common.{◌≡◌, ◌∙◌, refl, sym, subst, [], ◌∷◌, inl, inr}
+use Rattle.std.specs.Prelude.{⊤}
 use Rattle.std.proofs.KnownBytes.{Keeps-refl}
 use Rattle.host_calls.specs.Record.{Since}
 use Rattle.initd_options.specs.Options.{run_of}
-use Rattle.initd_command.specs.Endings.{refused}
-use Rattle.initd_command.specs.Ran.{RanOver}
-use Rattle.initd_command.specs.Services.{EndsTold, is_unled, obstacle_of, table_in, told_ending, told_of}
+use Rattle.initd_command.specs.Endings.{refused, turned}
+use Rattle.initd_command.specs.Ran.{MakesTurns}
+use Rattle.initd_command.specs.Services.{EndsTold, obstacle_of}
 use Rattle.initd_command.proofs.Ran.{ran_to}
 use Rattle.initd_command.proofs.run.run_files.Goals as goal
 
@@ -15,19 +16,19 @@ returns-in-Ok g c =
     let run = c.in-Ok.run' in
     let out = g.W.Write.contents c.args.out.now in
     let now_out = g.W.Write.contents c.make_run.new.out in
-    let (end, status, told, reported, ran) = c.make_run.ensures.ended in
+    let (spoken, unled, end, status, told, reported, ran) = c.make_run.ensures.ended in
     let (parts, are, read, (lines, led, taken, opens)) = c.in-Ok.ensures.ok in
-    let tells = subst (λ text. EndsTold service text end out now_out) lines told in (
-      told_ending run.is_unled end,
+    let tells = subst (λ text. EndsTold service text spoken.told end out now_out) lines told in (
+      turned spoken end,
       status,
-      inr (parts, are, read, (taken, end, ap (λ unled. told_ending unled end) led, tells)),
+      inr (parts, are, read, (taken, spoken, unled ∙ led, end, refl, tells)),
       reported,
-      ran_to text_at service g.S.Hosts.own run.opening run.is_unled end
+      ran_to text_at service g.S.Hosts.own run.opening spoken end
           (record { opened = g.S.Hosts.opened c.args.hosts.now; calls = g.S.Hosts.told c.args.hosts.now; out = out })
           (record { opened = g.S.Hosts.opened c.make_run.new.hosts; calls = g.S.Hosts.told c.make_run.new.hosts; out = now_out })
-          (parts, are, read, (opens, tells))
+          (parts, are, read, (taken, unled ∙ led, opens, tells))
           (subst (λ now. Since (g.S.Hosts.opened c.args.hosts.now) now (λ saids. saids ≡ service ∷ [])) (sym c.make_run.ensures.opened) c.in-Ok.ensures.opened)
-          (λ table opening. subst (λ now. RanOver service table end now (g.S.Hosts.told c.make_run.new.hosts)) c.in-Ok.ensures.host (ran table opening))
+          (λ table opening. subst (λ now. Since now (g.S.Hosts.told c.make_run.new.hosts) (MakesTurns ⊤ service table end)) c.in-Ok.ensures.host (ran table opening))
           c.make_run.ensures.own,
     )
 
