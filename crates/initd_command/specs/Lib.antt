@@ -1,4 +1,5 @@
 pub mod Endings
+pub mod Heard
 pub mod Hosts
 pub mod Lines
 pub mod Ran

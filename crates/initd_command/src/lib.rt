@@ -5,6 +5,7 @@ mod check;
 mod command;
 mod ends;
 mod hosts;
+mod laws;
 mod lines;
 mod logs;
 mod os_hosts;
@@ -17,6 +18,7 @@ mod watchers;
 
 pub use command::{SHORT_USAGE, USAGE, run_words};
 pub use hosts::Hosts;
+pub use laws::law_of_telinit;
 pub use os_hosts::OsHosts;
 pub use run::make_turns;
 pub use simulate::simulate_texts;

@@ -1,0 +1,22 @@
+-- What init hears of a request that telinit appended to its channel (telinit(8), initreq.h).
+use Rattle.std.specs.Prelude.{◌≡◌, ℕ, List, [], ◌∷◌, ◌++◌, Some}
+use Rattle.initctl_frame.specs.declared.requests.HeardRequest.{HeardRequest}
+use Rattle.initctl_frame.specs.Blocks.{gots_of}
+use Rattle.initctl_frame.specs.Frames.{heard_of}
+use Rattle.host_calls.specs.Calls.{HostCall}
+use Rattle.host_trace.specs.Point.{Point, point_after}
+use Rattle.host_trace.specs.Requests.{bytes_of, requests_in}
+use Rattle.telinit_command.specs.Channels.{IsAsked, KnownBytes}
+
+-- calls by which init took just these bytes, from where it stood within no block, bring the requests of those that stood
+-- there, and this one behind them
+abbrev pub BringsNext : List ℕ → HeardRequest → List ℕ → Type 0
+BringsNext stood request bytes = (calls : List HostCall) (p : Point) → p.over ≡ [] → bytes_of calls ≡ bytes
+    → requests_in (point_after calls p).past ≡ requests_in p.past ++ (gots_of stood ++ request ∷ [])
+
+-- of the channel that words name, whose bytes were known, the request that they ask for is the next behind those that
+-- stood there
+abbrev pub IsNext : List ℕ → List (List ℕ) → KnownBytes → KnownBytes → Type 0
+IsNext home words old new = (path block : List ℕ) × IsAsked home words path block
+    × ((stood : List ℕ) → old path ≡ Some stood
+    → (bytes : List ℕ) × (new path ≡ Some bytes) × BringsNext stood (heard_of block) bytes)
