@@ -1,4 +1,5 @@
 pub mod LinkLemmas
+pub mod MendingLemmas
 pub mod NameLemmas
 pub mod NeedLemmas
 pub mod PlanLemmas

@@ -1,5 +1,5 @@
 -- Which entries of a folder are taken away and made for it to hold just the links of the plan.
-use Rattle.std.specs.Prelude.{ℕ, Vec, Bool, false, not, ◌==◌, ◌&&◌, ◌||◌, List, ◌∷◌, ◌++◌, map}
+use Rattle.std.specs.Prelude.{ℕ, Vec, Bool, true, false, not, ◌==◌, ◌&&◌, ◌||◌, List, ◌∷◌, ◌++◌, map}
 use Rattle.std.specs.Char.{is_ascii_digit}
 use Rattle.std.specs.List.{filter, list_any}
 use Rattle.std.specs.Str.{byte, bytes_eq}
@@ -32,6 +32,19 @@ is_taken targets planned e = has_name e.name planned && not (is_ours targets e)
 abbrev pub is_stale : List (List ℕ) → List EntryText → EntryText → Bool
 is_stale targets planned e = is_ours targets e && not (list_any (same_entry e) planned)
 
+-- such a link whose name one of the plan has, so that it has to go before that is made
+abbrev pub is_in_way : List (List ℕ) → List EntryText → EntryText → Bool
+is_in_way targets planned e = is_stale targets planned e && has_name e.name planned
+
+-- such a link that can stay until the plan's are made
+abbrev pub is_left_over : List (List ℕ) → List EntryText → EntryText → Bool
+is_left_over targets planned e = is_stale targets planned e && not (has_name e.name planned)
+
+-- those that have to go before, or those that can stay
+abbrev pub goes : Bool → List (List ℕ) → List EntryText → EntryText → Bool
+goes true targets planned e = is_in_way targets planned e
+goes false targets planned e = is_left_over targets planned e
+
 -- a link that the folder doesn't hold
 abbrev pub is_missing : List EntryText → EntryText → Bool
 is_missing held link = not (list_any (same_entry link) held)
@@ -42,11 +55,12 @@ removal level e = change_of Remove level e
 abbrev pub making : Level → EntryText → ChangeText
 making level e = change_of Make level e
 
--- the changes of a folder: what is taken away, and then what is made
+-- the changes of a folder: what is in the way is taken away, then the links are made, and then the rest is taken away
 abbrev pub changes_of : List (List ℕ) → FolderText → List ChangeText
 changes_of targets f =
-    map (removal f.level) (filter (is_stale targets f.planned) f.held)
+    map (removal f.level) (filter (is_in_way targets f.planned) f.held)
     ++ map (making f.level) (filter (is_missing f.held) f.planned)
+    ++ map (removal f.level) (filter (is_left_over targets f.planned) f.held)
 
 -- what a folder holds behind the changes: what it held without the links that the plan doesn't have, and then the
 -- plan's that it didn't hold

@@ -8,6 +8,7 @@ pub mod FolderText
 pub mod Folders
 pub mod Kept
 pub mod Links
+pub mod Mending
 pub mod Names
 pub mod PlannedText
 pub mod Plans

@@ -1,9 +1,12 @@
 //! The changes that make the folders hold just the links of the plan, and the names that are taken.
 
-ghost use Rattle.std.specs.Prelude.{◌≡◌, ◌++◌, ◌∷◌, [], map, flat_map, IfOk, OnOk};
-ghost use Rattle.std.specs.List.{filter, list_any};
+ghost use Rattle.std.specs.Prelude.{◌≡◌, ◌++◌, ◌∷◌, [], ℕ, map, flat_map, take, IfOk, OnOk};
+ghost use Rattle.std.specs.List.{AllByRecursion, filter, list_any};
 ghost use Rattle.std.specs.Str.{bytes_eq};
-ghost use Rattle.rc_links.specs.Changes.{changes_of, is_missing, is_numbered, is_ours, is_stale, is_taken, making, removal, targets_of};
+ghost use Rattle.rc_links.specs.Changes.{changes_of, goes, is_missing, is_numbered, is_ours, is_taken, making, removal, targets_of};
+ghost use Rattle.rc_links.specs.Kept.{kept_script};
+ghost use Rattle.rc_links.specs.Mending.{AreApart, IsMended, Stays, behind};
+ghost use Rattle.rc_links.specs.PlannedText.{PlannedText};
 
 use crate::folder_entries::{FolderEntry, has_entry, has_name};
 use crate::folders::{Folder, LinkAction, LinkChange};
@@ -52,18 +55,33 @@ pub fn is_taken<A: Allocator>(
     has_name(planned, entry.name()) && !is_ours(targets, entry)
 }
 
-/// Adds the removal of an entry that is a numbered link to a planned script, and none of the plan's.
+/// A numbered link to a planned script, and none of the plan's, whose name one of the plan has, or none has.
+fn goes<A: Allocator>(
+    targets: &[Vec<u8, A>],
+    folder: &Folder<A>,
+    named: bool,
+    entry: &FolderEntry<A>,
+) -> bool
+    ensures { result ≡ goes named (targets_of targets.now) folder.now.planned entry.now }
+{
+    is_ours(targets, entry)
+        && !has_entry(folder.planned(), entry)
+        && has_name(folder.planned(), entry.name()) == named
+}
+
+/// Adds the removal of such an entry.
 fn add_removal<A: Allocator + Copy>(
     alloc: A,
     targets: &[Vec<u8, A>],
     folder: &Folder<A>,
+    named: bool,
     entry: &FolderEntry<A>,
     changes: &mut Vec<LinkChange<A>, A>,
 ) -> Result<(), Memory>
     ensures { OnOk result (changes.new.items ≡ changes.old.items ++ map (removal folder.now.level)
-        (filter (is_stale (targets_of targets.now) folder.now.planned) (entry.now ∷ []))) }
+        (filter (goes named (targets_of targets.now) folder.now.planned) (entry.now ∷ []))) }
 {
-    if is_ours(targets, entry) && !has_entry(folder.planned(), entry) {
+    if goes(targets, folder, named, entry) {
         changes.push(LinkChange::new(LinkAction::Remove, folder.level(), entry.copy(alloc)?))?;
     }
     Ok(())
@@ -89,13 +107,14 @@ fn add_removals<A: Allocator + Copy>(
     alloc: A,
     targets: &[Vec<u8, A>],
     folder: &Folder<A>,
+    named: bool,
     changes: &mut Vec<LinkChange<A>, A>,
 ) -> Result<(), Memory>
     ensures { OnOk result (changes.new.items ≡ changes.old.items ++ map (removal folder.now.level)
-        (filter (is_stale (targets_of targets.now) folder.now.planned) folder.now.held)) }
+        (filter (goes named (targets_of targets.now) folder.now.planned) folder.now.held)) }
 {
     for entry in folder.held() {
-        add_removal(alloc, targets, folder, entry, changes)?;
+        add_removal(alloc, targets, folder, named, entry, changes)?;
     }
     Ok(())
 }
@@ -124,20 +143,30 @@ fn add_folder<A: Allocator + Copy>(
     ensures { OnOk result (changes.new.items
         ≡ changes.old.items ++ changes_of (targets_of targets.now) folder.now) }
 {
-    add_removals(alloc, targets, folder, changes)?;
-    add_makings(alloc, folder, changes)
+    add_removals(alloc, targets, folder, true, changes)?;
+    add_makings(alloc, folder, changes)?;
+    add_removals(alloc, targets, folder, false, changes)
 }
 
 /// The changes by which the folders hold just the links of the plan, of all numbered links that lead to a planned
-/// script: in each folder those that are taken away, and then those that are made. The scripts' places are given as
-/// links lead to them.
+/// script: in each folder those that stand in the way of a name of the plan are taken away, then those of the plan are
+/// made, and then the others are taken away. So a script has a link wherever it had one and is to have one, however few
+/// of the changes are made. The scripts' places are given as links lead to them.
 pub fn changes<A: Allocator + Copy>(
     alloc: A,
     targets: &[Vec<u8, A>],
     folders: &[Folder<A>],
 ) -> Result<Vec<LinkChange<A>, A>, Memory>
-    ensures { IfOk result (λ found.
+    ensures changes { IfOk result (λ found.
         found.items ≡ flat_map (changes_of (targets_of targets.now)) folders.now) }
+    // Whichever first ones of the changes are made, the next run by the plan makes of each folder what it is to be,
+    ensures mended { IfOk result (λ found. AreApart folders.now → (count : ℕ)
+        → AllByRecursion (IsMended (targets_of targets.now) (take count found.items)) folders.now) }
+    // and a script that the plan leaves in the runlevels of its links has these to read off the folders.
+    ensures kept { IfOk result (λ found. AreApart folders.now → (count : ℕ) (s : PlannedText)
+        → Stays (targets_of targets.now) s.name folders.now
+        → kept_script (map (behind (take count found.items)) folders.now) s
+        ≡ kept_script folders.now s) }
 {
     let mut found = Vec::new(alloc);
     for folder in folders {

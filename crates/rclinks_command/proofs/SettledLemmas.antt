@@ -2,24 +2,26 @@
 use Rattle.std.proofs.Common.{◌≡◌, ℕ, Bool, true, false, not, ◌&&◌, ◌||◌, cond, List, [], ◌∷◌, ◌++◌, map, flat_map, Some, refl, sym, ap, ◌∙◌, subst, append_assoc}
 use Rattle.std.specs.List.{AllByRecursion, filter, list_any}
 use Rattle.std.specs.Str.{bytes_eq}
-use Rattle.std.proofs.lemmas.Bool.{true≢false, and_parts, or_left, or_right}
+use Rattle.std.proofs.lemmas.Bool.{true≢false, and_left, and_parts, or_left, or_right}
 use Rattle.std.proofs.lemmas.List.{append-nil}
 use Rattle.init_words.specs.declared.levels.Level.{Level}
 use Rattle.init_words.specs.declared.levels.Level.TheVariants.{L0, L1, L2, L3, L4, L5, L6, L7, L8, L9, S}
 use Rattle.init_words.specs.Levels.{same_level}
 use Rattle.init_words.proofs.Same.{same_level-is}
 use Rattle.rc_links.specs.ChangeText.{ChangeText}
-use Rattle.rc_links.specs.Changes.{changes_of, is_missing, is_stale, making, removal, settled}
-use Rattle.rc_links.specs.Entries.{same_entry}
+use Rattle.rc_links.specs.Changes.{changes_of, is_in_way, is_left_over, is_missing, is_stale, making, removal, settled}
+use Rattle.rc_links.specs.Entries.{has_name, same_entry}
 use Rattle.rc_links.specs.EntryText.{EntryText}
 use Rattle.rc_links.specs.FolderText.{FolderText}
 use Rattle.rc_links.specs.Folders.{change_of}
 use Rattle.rc_links.specs.declared.folders.LinkAction.{LinkAction}
 use Rattle.rc_links.specs.declared.folders.LinkAction.TheVariants.{Make, Remove}
 use Rattle.rc_links.specs.PlannedText.{PlannedText}
-use Rattle.rclinks_command.specs.Folders.{KnownFolders, changed, changed_by, changed_in}
+use Rattle.rc_links.specs.Mending.{changed}
+use Rattle.rclinks_command.specs.Folders.{KnownFolders, changed_by, changed_in}
 use Rattle.rclinks_command.specs.Writing.{AreFolders, IsFolder, all_levels, changes_in, planned_at, settled_in}
-use Rattle.rc_links.proofs.LinkLemmas.{same_bytes, same_itself}
+use Rattle.rc_links.proofs.LinkLemmas.{same_bytes}
+use Rattle.rc_links.proofs.MendingLemmas.{all-filter, all_among, entry_itself, has, not_stale, one_entry}
 
 -- changes, and then others
 pub changed_by-append : (dir : List ℕ) (a b : List ChangeText) (other : List ℕ) (level : Level) (es : List EntryText)
@@ -70,16 +72,6 @@ removed dir other level k (x ∷ xs) es at =
     ∙ removed dir other level k xs (filter (λ e. not (same_entry x e)) es) at
     ∙ filter_twice (λ e. not (list_any (λ y. same_entry y e) xs)) (λ e. not (same_entry x e)) (λ e. not (same_entry x e || list_any (λ y. same_entry y e) xs)) es
     (λ e. nor (same_entry x e) (list_any (λ y. same_entry y e) xs))
-
-one_entry : (a b : EntryText) → same_entry a b ≡ true → a ≡ b
-one_entry a b is =
-    let both = and_parts (bytes_eq a.name b.name) (bytes_eq a.leads b.leads) is in
-    let names : a.name ≡ b.name = same_bytes a.name b.name both.0 in
-    let places : a.leads ≡ b.leads = same_bytes a.leads b.leads both.1 in
-    λ i. record { name = names i; leads = places i }
-
-entry_itself : (a : EntryText) → same_entry a a ≡ true
-entry_itself a = ap (λ b. b && bytes_eq a.leads a.leads) (same_itself a.name) ∙ same_itself a.leads
 
 -- those that pass a test have the entry where it passes and is among them
 any_kept_by : (p : EntryText → Bool) (x e : EntryText) (kept all : Bool) (b c : Bool) → p x ≡ b → same_entry x e ≡ c → kept ≡ (p e && all)
@@ -136,21 +128,76 @@ removed_by dir other level k p es at =
     ∙ filter_same_by (λ e. not (list_any (λ y. same_entry y e) (filter p es))) (λ e. not (p e && list_any (λ y. same_entry y e) es)) es (λ e. ap not (any_kept p e es))
     ∙ fails p es es (λ e is. is)
 
+parted : (stale named : Bool) → not stale ≡ (not (stale && named) && not (stale && not named))
+parted true true = refl
+parted true false = refl
+parted false named = refl
+
+filter-append : {X : Type 0} (p : X → Bool) (xs ys : List X) → filter p (xs ++ ys) ≡ filter p xs ++ filter p ys
+filter-append p [] ys = refl
+filter-append p (x ∷ xs) ys = ap (λ zs. cond (p x) (x ∷ zs) zs) (filter-append p xs ys) ∙ sym (cond-append x (filter p xs) (filter p ys) (p x))
+  where
+    cond-append : {X : Type 0} (x : X) (xs ys : List X) (b : Bool) → cond b (x ∷ xs) xs ++ ys ≡ cond b (x ∷ (xs ++ ys)) (xs ++ ys)
+    cond-append x xs ys true = refl
+    cond-append x xs ys false = refl
+
+-- what all pass is left as it is
+filter_all : {X : Type 0} (p : X → Bool) (xs : List X) → AllByRecursion (λ x. p x ≡ true) xs → filter p xs ≡ xs
+filter_all p [] all = refl
+filter_all p (x ∷ xs) all = ap (λ b. cond b (x ∷ filter p xs) (filter p xs)) all.0 ∙ ap (λ ys. x ∷ ys) (filter_all p xs all.1)
+
+all_stay : (targets : List (List ℕ)) (planned es links : List EntryText) → AllByRecursion (λ e. has e planned ≡ true) links
+    → AllByRecursion (λ e. not (is_left_over targets planned e && list_any (λ y. same_entry y e) es) ≡ true) links
+all_stay targets planned es [] all = tt
+all_stay targets planned es (e ∷ links) all =
+    let stale = not_stale targets planned e all.0 in
+    let over : is_left_over targets planned e ≡ false = and_left (is_stale targets planned e) (not (has_name e.name planned)) stale in
+    (ap not (and_left (is_left_over targets planned e) (list_any (λ y. same_entry y e) es) over), all_stay targets planned es links all.1)
+
+-- what is left over goes behind the links that were made, and what was in the way is gone
+left_over_goes : (targets : List (List ℕ)) (planned es : List EntryText)
+    → filter (λ e. not (list_any (λ x. same_entry x e) (filter (is_left_over targets planned) es))) (filter (λ e. not (is_in_way targets planned e)) es ++ filter (is_missing es) planned) ≡ settled targets planned es
+left_over_goes targets planned es =
+    let kept = filter (λ e. not (is_in_way targets planned e)) es in
+    let links = filter (is_missing es) planned in
+    let stays : EntryText → Bool = λ e. not (is_left_over targets planned e && list_any (λ y. same_entry y e) es) in
+    filter_same_by (λ e. not (list_any (λ y. same_entry y e) (filter (is_left_over targets planned) es))) stays (kept ++ links) (λ e. ap not (any_kept (is_left_over targets planned) e es))
+    ∙ filter-append stays kept links
+    ∙ ap (λ ys. ys ++ filter stays links)
+    (fails (is_left_over targets planned) kept es (λ e is. (and_parts (not (is_in_way targets planned e)) (list_any (λ y. same_entry y e) es) (sym (any_kept (λ x. not (is_in_way targets planned x)) e es) ∙ is)).1)
+    ∙ filter_twice (λ e. not (is_left_over targets planned e)) (λ e. not (is_in_way targets planned e)) (λ e. not (is_stale targets planned e)) es (λ e. parted (is_stale targets planned e) (has_name e.name planned)))
+    ∙ ap (λ ys. filter (λ e. not (is_stale targets planned e)) es ++ ys)
+    (filter_all stays links (all_stay targets planned es links (all-filter (λ e. has e planned ≡ true) (is_missing es) planned (all_among planned planned (λ e is. is)))))
+
 -- the changes of a folder settle it
 own_folder : (dir other : List ℕ) (level k : Level) (targets : List (List ℕ)) (planned es : List EntryText) → (bytes_eq dir other && same_level k level) ≡ true
-    → changed_by dir (map (removal k) (filter (is_stale targets planned) es) ++ map (making k) (filter (is_missing es) planned)) other level es ≡ settled targets planned es
+    → changed_by dir (map (removal k) (filter (is_in_way targets planned) es) ++ map (making k) (filter (is_missing es) planned) ++ map (removal k) (filter (is_left_over targets planned) es)) other level es
+    ≡ settled targets planned es
 own_folder dir other level k targets planned es at =
-    changed_by-append dir (map (removal k) (filter (is_stale targets planned) es)) (map (making k) (filter (is_missing es) planned)) other level es
-    ∙ ap (λ ys. changed_by dir (map (making k) (filter (is_missing es) planned)) other level ys) (removed_by dir other level k (is_stale targets planned) es at)
-    ∙ made dir other level k (filter (is_missing es) planned) (filter (λ e. not (is_stale targets planned e)) es) at
+    let ways = map (removal k) (filter (is_in_way targets planned) es) in
+    let links = filter (is_missing es) planned in
+    let kept = filter (λ e. not (is_in_way targets planned e)) es in
+    changed_by-append dir (ways ++ map (making k) links) (map (removal k) (filter (is_left_over targets planned) es)) other level es
+    ∙ ap (λ ys. changed_by dir (map (removal k) (filter (is_left_over targets planned) es)) other level ys)
+    (changed_by-append dir ways (map (making k) links) other level es
+    ∙ ap (λ ys. changed_by dir (map (making k) links) other level ys) (removed_by dir other level k (is_in_way targets planned) es at)
+    ∙ made dir other level k links kept at)
+    ∙ removed dir other level k (filter (is_left_over targets planned) es) (kept ++ links) at
+    ∙ left_over_goes targets planned es
 
 -- the changes of another folder pass it by
 other_folder : (dir other : List ℕ) (level : Level) (targets : List (List ℕ)) (f : FolderText) (es : List EntryText) → (bytes_eq dir other && same_level f.level level) ≡ false
     → changed_by dir (changes_of targets f) other level es ≡ es
 other_folder dir other level targets f es differs =
-    changed_by-append dir (map (removal f.level) (filter (is_stale targets f.planned) f.held)) (map (making f.level) (filter (is_missing f.held) f.planned)) other level es
-    ∙ ap (λ ys. changed_by dir (map (making f.level) (filter (is_missing f.held) f.planned)) other level ys) (away dir other level f.level Remove (filter (is_stale targets f.planned) f.held) es differs)
-    ∙ away dir other level f.level Make (filter (is_missing f.held) f.planned) es differs
+    let ways = map (removal f.level) (filter (is_in_way targets f.planned) f.held) in
+    let makings = map (making f.level) (filter (is_missing f.held) f.planned) in
+    let rest = map (removal f.level) (filter (is_left_over targets f.planned) f.held) in
+    changed_by-append dir (ways ++ makings) rest other level es
+    ∙ ap (λ ys. changed_by dir rest other level ys)
+    (changed_by-append dir ways makings other level es
+    ∙ ap (λ ys. changed_by dir makings other level ys) (away dir other level f.level Remove (filter (is_in_way targets f.planned) f.held) es differs)
+    ∙ away dir other level f.level Make (filter (is_missing f.held) f.planned) es differs)
+    ∙ away dir other level f.level Remove (filter (is_left_over targets f.planned) f.held) es differs
 
 neither : (a b : Bool) → (a || b) ≡ false → (a ≡ false) × (b ≡ false)
 neither true b is = absurd (true≢false is)
@@ -203,7 +250,7 @@ own_known known dir other level plan targets f es is at same holds =
     let here : known dir f.level ≡ Some es = ap (λ d. known d f.level) dirs ∙ ap (λ l. known other l) one ∙ holds in
     let held : f.held ≡ es = is.held es here in
     let both : (bytes_eq dir other && same_level f.level level) ≡ true = ap (λ b. b && same_level f.level level) at ∙ same in
-    ap (λ ys. changed_by dir (map (removal f.level) (filter (is_stale targets f.planned) ys) ++ map (making f.level) (filter (is_missing ys) f.planned)) other level es) held
+    ap (λ ys. changed_by dir (map (removal f.level) (filter (is_in_way targets f.planned) ys) ++ map (making f.level) (filter (is_missing ys) f.planned) ++ map (removal f.level) (filter (is_left_over targets f.planned) ys)) other level es) held
     ∙ own_folder dir other level f.level targets f.planned es both
     ∙ ap (λ links. settled targets links es) (is.planned ∙ ap (λ l. planned_at plan l) one)
 

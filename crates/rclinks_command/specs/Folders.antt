@@ -1,14 +1,11 @@
 -- What the folders of the runlevels hold, as far as it is known, and what they hold behind changes.
-use Rattle.std.specs.Prelude.{◌≡◌, ℕ, not, ◌&&◌, if◌then◌else◌, List, [], ◌∷◌, ◌++◌, Option, Some}
-use Rattle.std.specs.List.{filter}
+use Rattle.std.specs.Prelude.{◌≡◌, ℕ, ◌&&◌, if◌then◌else◌, List, [], ◌∷◌, Option, Some}
 use Rattle.std.specs.Str.{bytes_eq}
 use Rattle.init_words.specs.declared.levels.Level.{Level}
 use Rattle.init_words.specs.Levels.{same_level}
 use Rattle.rc_links.specs.ChangeText.{ChangeText}
-use Rattle.rc_links.specs.Entries.{same_entry}
 use Rattle.rc_links.specs.EntryText.{EntryText}
-use Rattle.rc_links.specs.declared.folders.LinkAction.{LinkAction}
-use Rattle.rc_links.specs.declared.folders.LinkAction.TheVariants.{Make, Remove}
+use Rattle.rc_links.specs.Mending.{changed}
 
 -- the entries of each runlevel's folder in each directory, where they are known
 abbrev pub KnownFolders : Type 0
@@ -26,11 +23,6 @@ Becomes old new f =
 -- each folder that is known holds what it held
 abbrev pub Stays : KnownFolders → KnownFolders → Type 0
 Stays old new = Becomes old new (λ dir level es. es)
-
--- the entries without this one, or with it
-abbrev pub changed : LinkAction → EntryText → List EntryText → List EntryText
-changed Remove e es = filter (λ other. not (same_entry e other)) es
-changed Make e es = es ++ e ∷ []
 
 -- a change of a folder in a directory changes that folder alone
 abbrev pub changed_in : List ℕ → ChangeText → List ℕ → Level → List EntryText → List EntryText

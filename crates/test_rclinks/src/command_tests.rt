@@ -88,7 +88,7 @@ const ROWS: &[&str] = &[
     // A script that has links stays in their runlevels.
     "OLD3|--keep --write etc init.d/net init.d/web|999|0|||NET3 WEB3",
     "OLD0 NET2|--keep --write etc -n init.d/net init.d/web|999|0|\
-     remove rc0.d/K09web ../init.d/web\nmake rc0.d/K01web ../init.d/web\n||OLD0 NET2",
+     make rc0.d/K01web ../init.d/web\nremove rc0.d/K09web ../init.d/web\n||OLD0 NET2",
     // These folders have no script.
     "DB README ABSOLUTE UNNUMBERED ELSEWHERE|--write etc --prune init.d/net|999|0|||\
      README ABSOLUTE UNNUMBERED ELSEWHERE NET0 NET2 NET3",

@@ -1,9 +1,9 @@
 use Rattle.std.proofs.Common.{◌≡◌, ◌++◌, map, drop}
 use Rattle.std.specs.List.{filter}
-use Rattle.rc_links.specs.Changes.{is_stale, removal, targets_of}
+use Rattle.rc_links.specs.Changes.{goes, removal, targets_of}
 use Rattle.rc_links.proofs.changing.add_removals.Given as goal
 
 abbrev pub invariant-loop-entry : goal.invariant-loop-entry
 invariant-loop-entry g l =
-    l.changes.items ++ map (removal l.folder.level) (filter (is_stale (targets_of l.targets) l.folder.planned) (drop l.entry-index l.entry-items))
-    ≡ l.fn.changes.items ++ map (removal l.folder.level) (filter (is_stale (targets_of l.targets) l.folder.planned) l.folder.held)
+    l.changes.items ++ map (removal l.folder.level) (filter (goes l.named (targets_of l.targets) l.folder.planned) (drop l.entry-index l.entry-items))
+    ≡ l.fn.changes.items ++ map (removal l.folder.level) (filter (goes l.named (targets_of l.targets) l.folder.planned) l.folder.held)

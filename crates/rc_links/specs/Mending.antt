@@ -1,0 +1,54 @@
+-- What folders hold at each moment of their changes, and what the next run makes of that.
+use Rattle.std.specs.Prelude.{◌≡◌, ℕ, Bool, false, not, ◌&&◌, if◌then◌else◌, List, [], ◌∷◌, ◌++◌}
+use Rattle.std.specs.List.{AllByRecursion, filter, list_any}
+use Rattle.std.specs.Str.{byte}
+use Rattle.init_words.specs.declared.levels.Level.{Level}
+use Rattle.init_words.specs.Levels.{same_level}
+use Rattle.rc_links.specs.ChangeText.{ChangeText}
+use Rattle.rc_links.specs.Changes.{is_in_way, settled}
+use Rattle.rc_links.specs.Entries.{same_entry}
+use Rattle.rc_links.specs.EntryText.{EntryText}
+use Rattle.rc_links.specs.FolderText.{FolderText}
+use Rattle.rc_links.specs.Kept.{is_link_of}
+use Rattle.rc_links.specs.declared.folders.LinkAction.{LinkAction}
+use Rattle.rc_links.specs.declared.folders.LinkAction.TheVariants.{Make, Remove}
+
+-- the entries without this one, or with it
+abbrev pub changed : LinkAction → EntryText → List EntryText → List EntryText
+changed Remove e es = filter (λ other. not (same_entry e other)) es
+changed Make e es = es ++ e ∷ []
+
+-- what the folder of a runlevel holds behind changes, each of which changes the folder of its runlevel alone
+abbrev pub held_behind : List ChangeText → Level → List EntryText → List EntryText
+held_behind [] level es = es
+held_behind (c ∷ changes) level es =
+    held_behind changes level (if same_level c.level level then changed c.act c.entry es else es)
+
+-- a folder behind changes
+abbrev pub behind : List ChangeText → FolderText → FolderText
+behind changes f = record f { held = held_behind changes f.level f.held }
+
+-- each runlevel has one of the folders at most
+abbrev pub AreApart : List FolderText → Type 0
+AreApart [] = Unit {0}
+AreApart (f ∷ folders) =
+    (list_any (λ (g : FolderText). same_level g.level f.level) folders ≡ false) × AreApart folders
+
+-- two folders hold the same entries
+abbrev pub HoldSame : List EntryText → List EntryText → Type 0
+HoldSame es others = (e : EntryText) → list_any (same_entry e) es ≡ list_any (same_entry e) others
+
+-- behind the changes, one more run by the same plan makes of the folder what a whole run makes of it
+abbrev pub IsMended : List (List ℕ) → List ChangeText → FolderText → Type 0
+IsMended targets changes f =
+    HoldSame (settled targets f.planned (behind changes f).held) (settled targets f.planned f.held)
+
+-- plan and folder both have a link of the letter to the script, or neither; and none of the folder's is in the way
+pub record StaysIn (targets : List (List ℕ)) (letter : ℕ) (name : List ℕ) (f : FolderText) : Type 0 where
+  pub both : list_any (is_link_of letter name) f.planned ≡ list_any (is_link_of letter name) f.held
+  pub clear : list_any (λ e. is_link_of letter name e && is_in_way targets f.planned e) f.held ≡ false
+
+-- the plan leaves the script in the runlevels of its links
+abbrev pub Stays : List (List ℕ) → List ℕ → List FolderText → Type 0
+Stays targets name folders = AllByRecursion (StaysIn targets (byte "S") name) folders
+    × AllByRecursion (StaysIn targets (byte "K") name) folders
