@@ -1,5 +1,6 @@
 pub mod LinkLemmas
 pub mod MendingLemmas
+pub mod MendingRows
 pub mod NameLemmas
 pub mod NeedLemmas
 pub mod PlanLemmas

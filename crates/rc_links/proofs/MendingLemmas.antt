@@ -1,9 +1,9 @@
 -- Folders at each moment of their changes: those of other folders pass one by, what is neither ours nor planned stays,
 -- and a script whose link is planned and held has one throughout.
-use Rattle.std.proofs.Common.{◌≡◌, ℕ, zero, suc, Bool, true, false, not, ◌&&◌, ◌||◌, cond, List, [], ◌∷◌, ◌++◌, map, flat_map, take, refl, sym, ap, ◌∙◌, subst, append_assoc}
+use Rattle.std.proofs.Common.{◌≡◌, ℕ, zero, suc, Bool, true, false, not, ◌&&◌, ◌||◌, cond, List, [], ◌∷◌, ◌++◌, map, flat_map, take, refl, sym, ap, ◌∙◌, append_assoc}
 use Rattle.std.specs.List.{AllByRecursion, filter, list_any}
 use Rattle.std.specs.Str.{byte, bytes_eq}
-use Rattle.std.proofs.lemmas.Bool.{true≢false, and_left, and_parts, false_from_ne_true, or_from, or_left, or_parts, or_right}
+use Rattle.std.proofs.lemmas.Bool.{true≢false, and_parts, false_from_ne_true, or_from, or_left, or_parts, or_right}
 use Rattle.std.proofs.lemmas.List.{append-nil}
 use Rattle.init_words.specs.declared.levels.Level.{Level}
 use Rattle.init_words.specs.Levels.{same_level}
@@ -83,7 +83,7 @@ all-passed P p [] is = tt
 all-passed P p (x ∷ xs) is = all_cond P x (filter p xs) (p x) (is x) (all-passed P p xs is)
 
 -- what holds of all holds of those that pass a test
-all-filter : {X : Type 0} (P : X → Type 0) (p : X → Bool) (xs : List X) → AllByRecursion P xs → AllByRecursion P (filter p xs)
+pub all-filter : {X : Type 0} (P : X → Type 0) (p : X → Bool) (xs : List X) → AllByRecursion P xs → AllByRecursion P (filter p xs)
 all-filter P p [] all = tt
 all-filter P p (x ∷ xs) all = all_cond P x (filter p xs) (p x) (λ _. all.0) (all-filter P p xs all.1)
 
@@ -97,7 +97,7 @@ all_fail p (x ∷ xs) none =
 abbrev pub has : EntryText → List EntryText → Bool
 has e es = list_any (same_entry e) es
 
-all_among : (es all : List EntryText) → ((e : EntryText) → has e es ≡ true → has e all ≡ true) → AllByRecursion (λ e. has e all ≡ true) es
+pub all_among : (es all : List EntryText) → ((e : EntryText) → has e es ≡ true → has e all ≡ true) → AllByRecursion (λ e. has e all ≡ true) es
 all_among [] all among = tt
 all_among (x ∷ es) all among = (
   among x (or_left (same_entry x x) (has x es) (entry_itself x)),
@@ -379,8 +379,8 @@ made k (x ∷ xs) es =
     ∙ made k xs (es ++ x ∷ []) ∙ append_assoc es (x ∷ []) xs
 
 -- a planned link is none that goes
-pub not_stale : (targets : List (List ℕ)) (f : FolderText) (l : EntryText) → has l f.planned ≡ true → is_stale targets f.planned l ≡ false
-not_stale targets f l planned = no_both (is_ours targets l) (has l f.planned) planned
+pub not_stale : (targets : List (List ℕ)) (planned : List EntryText) (l : EntryText) → has l planned ≡ true → is_stale targets planned l ≡ false
+not_stale targets planned l there = no_both (is_ours targets l) (has l planned) there
   where
     no_both : (a b : Bool) → b ≡ true → (a && not b) ≡ false
     no_both true b is = ap not is
@@ -402,7 +402,7 @@ stays_missing targets f m p x l passes there clear also planned missing =
     let back : AllByRecursion (Each (Leaves l)) rest =
     all_mapped (Leaves l) Remove f.level (filter (is_left_over targets f.planned) f.held)
     (all-passed (Leaves l Remove) (is_left_over targets f.planned) f.held
-    (λ e is. other_entry (is_stale targets f.planned) e l (and_parts (is_stale targets f.planned e) (not (has_name e.name f.planned)) is).0 (not_stale targets f l planned))) in
+    (λ e is. other_entry (is_stale targets f.planned) e l (and_parts (is_stale targets f.planned e) (not (has_name e.name f.planned)) is).0 (not_stale targets f.planned l planned))) in
     let among : has l missings ≡ true = has_filter (is_missing f.held) l f.planned ∙ ap (λ b. not b && has l f.planned) missing ∙ planned in
     let then : has l (held_behind (ways ++ makings) f.level f.held) ≡ true =
     ap (has l) (behind_more ways makings f.level f.held ∙ made f.level missings (held_behind ways f.level f.held))
@@ -417,7 +417,7 @@ stays_held : (targets : List (List ℕ)) (f : FolderText) (m : ℕ) (p : EntryTe
     → list_any p (held_behind (take m (changes_of targets f)) f.level f.held) ≡ true
 stays_held targets f m p l also planned there =
     let all : AllByRecursion (Each (Leaves l)) (changes_of targets f) = all_changes (Leaves l) targets f
-    (λ e is. other_entry (is_stale targets f.planned) e l is (not_stale targets f l planned)) (all_free (filter (is_missing f.held) f.planned)) in
+    (λ e is. other_entry (is_stale targets f.planned) e l is (not_stale targets f.planned l planned)) (all_free (filter (is_missing f.held) f.planned)) in
     any_from p l (held_behind (take m (changes_of targets f)) f.level f.held) also (stays_there l (take m (changes_of targets f)) f.level f.held there (all-take (Each (Leaves l)) (changes_of targets f) m all))
   where
     all_free : (es : List EntryText) → AllByRecursion (Leaves l Make) es

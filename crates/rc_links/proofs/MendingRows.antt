@@ -1,0 +1,72 @@
+-- A script that stands in a runlevel which its header doesn't name, at each of its changes; and what can't be had.
+use Rattle.std.proofs.Common.{◌≡◌, ℕ, true, List, [], ◌∷◌, ◌++◌, map, flat_map, take, codes, refl}
+use Rattle.std.specs.Str.{byte}
+use Rattle.init_words.specs.declared.levels.Level.{Level}
+use Rattle.init_words.specs.declared.levels.Level.TheVariants.{L2, L3, L5}
+use Rattle.rc_links.specs.ChangeText.{ChangeText}
+use Rattle.rc_links.specs.Changes.{changes_of, is_in_way, making, removal}
+use Rattle.rc_links.specs.Entries.{entry_of}
+use Rattle.rc_links.specs.EntryText.{EntryText}
+use Rattle.rc_links.specs.FolderText.{FolderText}
+use Rattle.rc_links.specs.Folders.{folder_text}
+use Rattle.rc_links.specs.Kept.{kept_plan, kept_script, levels_in}
+use Rattle.rc_links.specs.Links.{linked_name, links_at}
+use Rattle.rc_links.specs.Mending.{AreApart, Stays, behind}
+use Rattle.rc_links.specs.PlannedText.{PlannedText}
+use Rattle.rc_links.proofs.MendingLemmas.{all_own, kept_stays}
+
+abbrev net : PlannedText
+net = record { name = codes "net"; start = 1; stop = 1; starts = L2 ∷ L3 ∷ []; stops = [] }
+
+abbrev web : PlannedText
+web = record { name = codes "web"; start = 2; stop = 1; starts = L5 ∷ []; stops = [] }
+
+abbrev link : List ℕ → EntryText
+link name = entry_of name (codes "../init.d/" ++ linked_name name)
+
+-- `web` has a link in rc3.d, with another number
+abbrev read : List FolderText
+read = folder_text L3 [] (link (codes "S20web") ∷ link (codes "S01net") ∷ []) ∷ folder_text L5 [] [] ∷ []
+
+abbrev planned : Level → List EntryText
+planned level = map link (links_at (kept_plan read (net ∷ web ∷ [])) level)
+
+abbrev folders : List FolderText
+folders = folder_text L3 (planned L3) (link (codes "S20web") ∷ link (codes "S01net") ∷ []) ∷ folder_text L5 (planned L5) [] ∷ []
+
+abbrev targets : List (List ℕ)
+targets = codes "../init.d/net" ∷ codes "../init.d/web" ∷ []
+
+abbrev changes : List ChangeText
+changes = flat_map (changes_of targets) folders
+
+made_first : changes ≡ making L3 (link (codes "S02web")) ∷ removal L3 (link (codes "S20web")) ∷ []
+made_first = refl
+
+apart : AreApart folders
+apart = (refl, (refl, tt))
+
+stays : Stays targets (codes "web") folders
+stays = (
+  (record { both = refl; clear = refl }, (record { both = refl; clear = refl }, tt)),
+  (record { both = refl; clear = refl }, (record { both = refl; clear = refl }, tt)),
+)
+
+-- it stays in runlevel 3
+throughout : (count : ℕ) → kept_script (map (behind (take count changes)) folders) web ≡ record web { starts = L3 ∷ [] }
+throughout count = kept_stays targets changes count folders web (all_own targets folders apart) stays
+
+-- taken away first, its link would have been no more
+the_other_way : levels_in (byte "S") (codes "web") (map (behind (removal L3 (link (codes "S20web")) ∷ [])) folders) ≡ []
+the_other_way = refl
+
+-- a link that has another's name, which the plan needs, has to go before that is made
+named_otherwise : is_in_way targets (planned L3) (entry_of (codes "S01net") (codes "../init.d/web")) ≡ true
+named_otherwise = refl
+
+-- a script without links that got the first of two is read off that one
+abbrev bare : List FolderText
+bare = folder_text L2 (link (codes "S01net") ∷ []) [] ∷ folder_text L3 (link (codes "S01net") ∷ []) [] ∷ []
+
+first_links : kept_script (map (behind (take 1 (flat_map (changes_of targets) bare))) bare) net ≡ record net { starts = L2 ∷ [] }
+first_links = refl
