@@ -12,34 +12,41 @@ use Rattle.inittab_lint.specs.declared.shell.Operator.TheVariants.{Chain, Pipe, 
 abbrev pub closing : ℕ → Option ℕ
 closing b = if b == 39 || (b == 34 || b == 96) then Some b else if b == 40 then Some 41 else None
 
--- two characters that are no operator: a backslash and any other, <& and >& and >|
-abbrev pub is_plain_pair : ℕ → ℕ → Bool
-is_plain_pair b c = b == 92 || (b == 60 && c == 38 || b == 62 && (c == 38 || c == 124))
+-- the character that ends the part that is open, where one is: as a character of the text leaves it
+abbrev pub part_behind : Option ℕ → ℕ → Option ℕ
+part_behind None b = closing b
+part_behind (Some close) b = if b == close then None else Some close
 
--- the operator that begins here: ; && || chain programs, | is a pipe, & puts into the background
-abbrev pub operator_at : ℕ → ℕ → Option Operator
-operator_at b c =
+-- two characters that are read as one, and are no operator: a backslash and any other, but not within single quotes; and
+-- outside parts <& and >& and >|
+abbrev pub is_pair : Option ℕ → ℕ → ℕ → Bool
+is_pair None b c = b == 92 || (b == 60 && c == 38 || b == 62 && (c == 38 || c == 124))
+is_pair (Some close) b c = b == 92 && not (close == 39)
+
+-- the operator that begins here, outside parts: ; && || chain programs, | is a pipe, & puts into the background
+abbrev pub operator_at : Option ℕ → ℕ → ℕ → Option Operator
+operator_at None b c =
     if b == 59 then Some Chain
     else if b == 38 then (if c == 38 then Some Chain else Some Background)
     else if b == 124 then (if c == 124 then Some Chain else Some Pipe)
     else None
+operator_at (Some close) b c = None
 
 -- a part that is open at the end
 abbrev pub unclosed : Option ℕ → Option Operator
 unclosed None = None
 unclosed (Some close) = Some Unclosed
 
-abbrev pub last_operator : ℕ → Option Operator
-last_operator b = option_or (operator_at b 0) (unclosed (closing b))
+abbrev pub last_operator : Option ℕ → ℕ → Option Operator
+last_operator part b = option_or (operator_at part b 0) (unclosed (part_behind part b))
 
--- the first operator of a text that stands outside such parts; one that is open ends with the given character
+-- the first operator of a text that stands outside such parts
 abbrev pub operator_in : Option ℕ → List ℕ → Option Operator
 operator_in part [] = unclosed part
-operator_in (Some close) (b ∷ text) = operator_in (if b == close then None else Some close) text
-operator_in None (b ∷ []) = last_operator b
-operator_in None (b ∷ c ∷ text) =
-    if is_plain_pair b c then operator_in None text
-    else option_or (operator_at b c) (operator_in (closing b) (c ∷ text))
+operator_in part (b ∷ []) = last_operator part b
+operator_in part (b ∷ c ∷ text) =
+    if is_pair part b c then operator_in part text
+    else option_or (operator_at part b c) (operator_in (part_behind part b) (c ∷ text))
 
 -- one of these has init start the process by the shell
 abbrev pub is_special : ℕ → Bool

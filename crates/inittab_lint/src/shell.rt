@@ -3,7 +3,7 @@
 ghost use Rattle.std.specs.Prelude.{◌≡◌, None, true};
 ghost use Rattle.std.specs.List.{list_all, list_any};
 ghost use Rattle.std.specs.Str.{bytes_eq};
-ghost use Rattle.inittab_lint.specs.Shell.{begins_with, closing, first_word, has_comment, has_hash, is_assigned, is_special, is_name, is_name_byte, is_plain_pair, is_shell_word, last_operator, operator_at, operator_in, unclosed};
+ghost use Rattle.inittab_lint.specs.Shell.{begins_with, closing, first_word, has_comment, has_hash, is_assigned, is_special, is_name, is_name_byte, is_pair, is_shell_word, last_operator, operator_at, operator_in, part_behind, unclosed};
 
 use text_lines::{cut, is_blank, next_word};
 
@@ -31,22 +31,38 @@ fn closing(byte: u8) -> Option<u8>
     }
 }
 
-/// Two bytes of which none begins an operator.
-fn is_plain_pair(byte: u8, next: u8) -> bool
-    ensures { result ≡ is_plain_pair byte next }
+/// What ends the part that is open behind the byte.
+fn part_behind(part: Option<u8>, byte: u8) -> Option<u8>
+    ensures { result ≡ part_behind part byte }
 {
-    match byte {
-        b'\\' => true,
-        b'<' => next == b'&',
-        b'>' => next == b'&' || next == b'|',
-        _ => false,
+    match part {
+        None => closing(byte),
+        Some(close) if byte == close => None,
+        Some(close) => Some(close),
+    }
+}
+
+/// Two bytes that are read as one, and are no operator.
+fn is_pair(part: Option<u8>, byte: u8, next: u8) -> bool
+    ensures { result ≡ is_pair part byte next }
+{
+    match (part, byte) {
+        (Some(close), b'\\') => close != b'\'',
+        (Some(_), _) => false,
+        (None, b'\\') => true,
+        (None, b'<') => next == b'&',
+        (None, b'>') => next == b'&' || next == b'|',
+        (None, _) => false,
     }
 }
 
 /// The operator that begins here.
-fn operator_at(byte: u8, next: u8) -> Option<Operator>
-    ensures { result ≡ operator_at byte next }
+fn operator_at(part: Option<u8>, byte: u8, next: u8) -> Option<Operator>
+    ensures { result ≡ operator_at part byte next }
 {
+    if part.is_some() {
+        return None;
+    }
     match byte {
         b';' => Some(Operator::Chain),
         b'&' if next == b'&' => Some(Operator::Chain),
@@ -68,12 +84,12 @@ fn unclosed(part: Option<u8>) -> Option<Operator>
 }
 
 /// The operator of the last byte.
-fn last_operator(byte: u8) -> Option<Operator>
-    ensures { result ≡ last_operator byte }
+fn last_operator(part: Option<u8>, byte: u8) -> Option<Operator>
+    ensures { result ≡ last_operator part byte }
 {
-    match operator_at(byte, 0) {
+    match operator_at(part, byte, 0) {
         Some(operator) => Some(operator),
-        None => unclosed(closing(byte)),
+        None => unclosed(part_behind(part, byte)),
     }
 }
 
@@ -81,31 +97,24 @@ fn last_operator(byte: u8) -> Option<Operator>
 pub fn operator_of(process: &[u8]) -> Option<Operator>
     ensures { result ≡ operator_in None process.now }
 {
-    let mut open = None;
+    let mut part = None;
     let mut rest = process;
     while let Some((byte, after)) = rest.split_first() {
-        if let Some(end) = open {
-            if *byte == end {
-                open = None;
-            }
-            rest = after;
-            continue;
-        }
         let Some((next, more)) = after.split_first() else {
-            return last_operator(*byte);
+            return last_operator(part, *byte);
         };
-        if is_plain_pair(*byte, *next) {
+        if is_pair(part, *byte, *next) {
             rest = more;
             continue;
         }
-        let found = operator_at(*byte, *next);
+        let found = operator_at(part, *byte, *next);
         if found.is_some() {
             return found;
         }
-        open = closing(*byte);
+        part = part_behind(part, *byte);
         rest = after;
     }
-    unclosed(open)
+    unclosed(part)
 }
 
 /// The byte has init start the process by the shell.
