@@ -5,3 +5,4 @@ pub mod Seeing
 pub mod SeenTexts
 pub mod Sights
 pub mod Stands
+pub mod WhyRows

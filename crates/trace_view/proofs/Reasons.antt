@@ -115,23 +115,23 @@ module _ (id : List ℕ) (past : List Event) where
 nobody_here : (action : Act) (stage : Option Stage) (s : Standing) → is_nothing (not_here action stage s) ≡ false
 nobody_here action stage s = grind arith
 
-nobody_asks : (action : Act) → is_nothing (not_wanted action) ≡ false
-nobody_asks action = grind arith
+nobody_asks : (action : Act) (named : Bool) → is_nothing (not_wanted action named) ≡ false
+nobody_asks action named = grind arith
 
 last_of_all : (full : Bool) → is_nothing (cond full WindowFull Nothing) ≡ not full
 last_of_all true = refl
 last_of_all false = refl
 
-nothing_by : (action : Act) (stage : Option Stage) (starts : Bool) (child : Option ℕ) (stops ran : Bool) (awaited : Option (List ℕ)) (order : Option OrderKind) (wanted : Bool) (owed : Option (List ℕ)) (excluded : Option Excluded) (wish : Option Wish) (hold : Option ℕ) (full : Bool) → is_nothing (why_by action stage (record { starts = starts; child = child; stops = stops; ran = ran; awaited = awaited; order = order; wanted = wanted; owed = owed; excluded = excluded; wish = wish; hold = hold; full = full })) ≡ (starts && is_none child && is_none order && wanted && is_none owed && is_none excluded && is_none wish && is_none hold && not full)
-nothing_by action stage false child stops ran awaited order wanted owed excluded wish hold full = nobody_here action stage (record { starts = false; child = child; stops = stops; ran = ran; awaited = awaited; order = order; wanted = wanted; owed = owed; excluded = excluded; wish = wish; hold = hold; full = full })
-nothing_by action stage true (Some child) stops ran awaited order wanted owed excluded wish hold full = refl
-nothing_by action stage true None stops ran awaited (Some order) wanted owed excluded wish hold full = refl
-nothing_by action stage true None stops ran awaited None false owed excluded wish hold full = nobody_asks action
-nothing_by action stage true None stops ran awaited None true (Some owed) excluded wish hold full = refl
-nothing_by action stage true None stops ran awaited None true None (Some excluded) wish hold full = refl
-nothing_by action stage true None stops ran awaited None true None None (Some wish) hold full = refl
-nothing_by action stage true None stops ran awaited None true None None None (Some hold) full = refl
-nothing_by action stage true None stops ran awaited None true None None None None full = last_of_all full
+nothing_by : (action : Act) (stage : Option Stage) (starts : Bool) (child : Option ℕ) (stops booted ran : Bool) (awaited : Option (List ℕ)) (order : Option OrderKind) (wanted named : Bool) (owed : Option (List ℕ)) (excluded : Option Excluded) (wish : Option Wish) (hold : Option ℕ) (full : Bool) → is_nothing (why_by action stage (record { starts = starts; child = child; stops = stops; booted = booted; ran = ran; awaited = awaited; order = order; wanted = wanted; named = named; owed = owed; excluded = excluded; wish = wish; hold = hold; full = full })) ≡ (starts && is_none child && is_none order && wanted && is_none owed && is_none excluded && is_none wish && is_none hold && not full)
+nothing_by action stage false child stops booted ran awaited order wanted named owed excluded wish hold full = nobody_here action stage (record { starts = false; child = child; stops = stops; booted = booted; ran = ran; awaited = awaited; order = order; wanted = wanted; named = named; owed = owed; excluded = excluded; wish = wish; hold = hold; full = full })
+nothing_by action stage true (Some child) stops booted ran awaited order wanted named owed excluded wish hold full = refl
+nothing_by action stage true None stops booted ran awaited (Some order) wanted named owed excluded wish hold full = refl
+nothing_by action stage true None stops booted ran awaited None false named owed excluded wish hold full = nobody_asks action named
+nothing_by action stage true None stops booted ran awaited None true named (Some owed) excluded wish hold full = refl
+nothing_by action stage true None stops booted ran awaited None true named None (Some excluded) wish hold full = refl
+nothing_by action stage true None stops booted ran awaited None true named None None (Some wish) hold full = refl
+nothing_by action stage true None stops booted ran awaited None true named None None None (Some hold) full = refl
+nothing_by action stage true None stops booted ran awaited None true named None None None None full = last_of_all full
 
 -- a wish stands exactly where there is a first one
 first_stands : (past : List Event) → is_none (first_wish past) ≡ not (wish_stands past)

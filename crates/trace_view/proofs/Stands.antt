@@ -1,5 +1,5 @@
 -- What a view says of an entry is what the past says.
-use Rattle.std.proofs.Common.{arith, ◌≡◌, refl, sym, ◌∙◌, ap, ℕ, Bool, true, false, ◌||◌, ◌&&◌, cond, is_some, List, find, Option, Some, None}
+use Rattle.std.proofs.Common.{arith, ◌≡◌, refl, sym, ◌∙◌, ap, ℕ, Bool, true, false, ◌||◌, ◌&&◌, cond, List, find, Option, Some, None}
 use Rattle.std.specs.Option.{option_map, option_map_or}
 use Rattle.init_words.specs.declared.actions.Act.{Act}
 use Rattle.init_words.specs.declared.entries.Entry.{Entry}
@@ -11,6 +11,7 @@ use Rattle.init_words.proofs.Same.{same_id-is}
 use Rattle.trace_events.specs.Event.{Event}
 use Rattle.trace_events.specs.Past.{table_of, stage_of, Child, is_of, kept_children, open_of}
 use Rattle.trace_events.specs.Wanted.{starts_now, is_wanted, is_excluded}
+use Rattle.trace_events.specs.Wishes.{was_booted}
 use Rattle.trace_events.specs.Timing.{hold_times, is_held, is_full}
 use Rattle.trace_check.specs.Reading.{newest, child_of, term_of}
 use Rattle.trace_check.proofs.Lone.{found_passes}
@@ -20,7 +21,8 @@ use Rattle.trace_view.specs.declared.standings.Excluded.{Excluded}
 use Rattle.trace_view.specs.declared.standings.Standing.{Standing}
 use Rattle.trace_view.specs.declared.whys.Why.{Why}
 use Rattle.trace_view.specs.declared.whys.Why.TheVariants.{NoEntry}
-use Rattle.trace_view.specs.Births.{births_of}
+use Rattle.trace_view.specs.Births.{births_of, ran_early}
+use Rattle.trace_view.specs.Calls.{was_named}
 use Rattle.trace_view.specs.Rows.{ended_of, row_of}
 use Rattle.trace_view.specs.declared.wishes.Wish.{Wish}
 use Rattle.trace_view.specs.declared.wishes.Wishes.{Wishes}
@@ -46,8 +48,8 @@ pub found_own : (id : List ℕ) (table : List Entry) (e : Entry) → entry_of id
 found_own id table e is = ap (λ i. entry_of i table) (sym (same_id-is id e.id (found_passes (has_id id) table e is))) ∙ is
 
 -- the standing of an entry by its parts
-pub stands : (e : Entry) (past : List Event) (starts : Bool) (child : Option ℕ) (stops ran : Bool) (awaited : Option (List ℕ)) (order : Option OrderKind) (wanted : Bool) (owed : Option (List ℕ)) (excluded : Option Excluded) (wish : Option Wish) (hold : Option ℕ) (full : Bool) → starts ≡ starts_now e past → child ≡ option_map number_of (find (is_of e.id) (kept_children past)) → stops ≡ stops_now e.id past → ran ≡ is_some (births_of e.id past) → awaited ≡ option_map entry_id (first_awaited past) → order ≡ open_of e.id past → wanted ≡ is_wanted e past → owed ≡ option_map entry_id (first_owed e.id past) → excluded ≡ option_map excluded_as (find (is_excluded past) (kept_children past)) → wish ≡ first_wish past → hold ≡ cond (is_limited e.act && is_held e.id past) (newest (hold_times e.id past)) None → full ≡ (is_limited e.act && is_full e.id past) → record { starts = starts; child = child; stops = stops; ran = ran; awaited = awaited; order = order; wanted = wanted; owed = owed; excluded = excluded; wish = wish; hold = hold; full = full } ≡ standing_of e past
-stands e past starts child stops ran awaited order wanted owed excluded wish hold full e1 e2 e3 e4 e5 e6 e7 e8 e9 e10 e11 e12 = rw (e1, e2, e3, e4, e5, e6, e7, e8, e9, e10, e11, e12) refl
+pub stands : (e : Entry) (past : List Event) (starts : Bool) (child : Option ℕ) (stops booted ran : Bool) (awaited : Option (List ℕ)) (order : Option OrderKind) (wanted named : Bool) (owed : Option (List ℕ)) (excluded : Option Excluded) (wish : Option Wish) (hold : Option ℕ) (full : Bool) → starts ≡ starts_now e past → child ≡ option_map number_of (find (is_of e.id) (kept_children past)) → stops ≡ stops_now e.id past → booted ≡ was_booted past → ran ≡ ran_early e past → awaited ≡ option_map entry_id (first_awaited past) → order ≡ open_of e.id past → wanted ≡ is_wanted e past → named ≡ was_named e past → owed ≡ option_map entry_id (first_owed e.id past) → excluded ≡ option_map excluded_as (find (is_excluded past) (kept_children past)) → wish ≡ first_wish past → hold ≡ cond (is_limited e.act && is_held e.id past) (newest (hold_times e.id past)) None → full ≡ (is_limited e.act && is_full e.id past) → record { starts = starts; child = child; stops = stops; booted = booted; ran = ran; awaited = awaited; order = order; wanted = wanted; named = named; owed = owed; excluded = excluded; wish = wish; hold = hold; full = full } ≡ standing_of e past
+stands e past starts child stops booted ran awaited order wanted named owed excluded wish hold full e1 e2 e3 e4 e5 e6 e7 e8 e9 e10 e11 e12 e13 e14 = rw (e1, e2, e3, e4, e5, e6, e7, e8, e9, e10, e11, e12, e13, e14) refl
 
 -- the child that may not live, by a table and a stage that are in force
 pub excluded_is : (table : List Entry) (stage : Option Stage) (kept : List Child) (past : List Event) → table ≡ table_of past → stage ≡ stage_of past → kept ≡ kept_children past → option_map excluded_as (find (is_excluded_by table stage) kept) ≡ option_map excluded_as (find (is_excluded past) (kept_children past))

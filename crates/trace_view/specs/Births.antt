@@ -1,9 +1,14 @@
--- How often children of an id were born, and when the latest was.
-use Rattle.std.specs.Prelude.{ℕ, ◌+◌, ◌-◌, ◌^◌, min, if◌then◌else◌, List, [], ◌∷◌, Option, Some, None}
+-- How often children of an id were born, and when the latest was; and which were born before the first level.
+use Rattle.std.specs.Prelude.{ℕ, Bool, false, ◌&&◌, ◌+◌, ◌-◌, ◌^◌, min, if◌then◌else◌, List, [], ◌∷◌, ◌++◌, Option, Some, None}
+use Rattle.std.specs.List.{list_any}
+use Rattle.std.specs.Option.{option_map_or}
+use Rattle.init_words.specs.declared.entries.Entry.{Entry}
+use Rattle.init_words.specs.Actions.{ignores_levels}
 use Rattle.init_words.specs.Ids.{same_id}
 use Rattle.trace_events.specs.declared.happenings.Happening.TheVariants.{Birth}
 use Rattle.trace_events.specs.Event.{Event}
-use Rattle.trace_events.specs.Past.{time_of}
+use Rattle.trace_events.specs.Past.{time_of, Child, is_of, newborn}
+use Rattle.trace_events.specs.Wanted.{same_acts}
 use Rattle.trace_view.specs.declared.rows.Births.{Births}
 
 -- one birth more at this time, counted as far as numbers go
@@ -17,3 +22,23 @@ births_of id [] = None
 births_of id (Birth i number ∷ past) =
     if same_id id i then Some (one_more (time_of past) (births_of id past)) else births_of id past
 births_of id (_ ∷ past) = births_of id past
+
+-- the child was born for an entry whose action starts it before the first level
+abbrev pub is_early : Child → Bool
+is_early child = option_map_or ignores_levels child.act false
+
+abbrev pub or_early : Child → List Child → List Child
+or_early child before = if is_early child then before ++ child ∷ [] else before
+
+-- those of a past, the oldest first
+abbrev pub early_children : List Event → List Child
+early_children [] = []
+early_children (Birth id number ∷ past) = or_early (newborn id number past) (early_children past)
+early_children (_ ∷ past) = early_children past
+
+-- one of them was born for the entry, with its action
+abbrev pub is_born_as : Entry → Child → Bool
+is_born_as e child = is_of e.id child && same_acts child.act (Some e.act)
+
+abbrev pub ran_early : Entry → List Event → Bool
+ran_early e past = list_any (is_born_as e) (early_children past)

@@ -2,12 +2,13 @@
 -- started. A line is counted from 1, and a happening is one line, but for a table, whose entries have one each behind it.
 use Rattle.std.specs.Prelude.{◌≡◌, ℕ, ◌+◌, Bool, true, false, not, max, if◌then◌else◌, List, [], ◌∷◌, reverse, Option, Some, None}
 use Rattle.text_lines.specs.Lines.{newlines}
+use Rattle.init_words.specs.declared.entries.Entry.{Entry}
 use Rattle.init_words.specs.declared.stages.Stage.{Stage}
 use Rattle.init_words.specs.Ids.{same_id}
 use Rattle.initctl_frame.specs.declared.requests.HeardRequest.TheVariants as got
 use Rattle.trace_events.specs.declared.happenings.Happening.TheVariants.{NewTable, Enter, Asked, Hold, Birth, NoBirth, Reaped, Got}
 use Rattle.trace_events.specs.Event.{Event}
-use Rattle.trace_events.specs.Past.{stage_of}
+use Rattle.trace_events.specs.Past.{table_of, stage_of}
 use Rattle.trace_events.specs.Wishes.{is_level}
 use Rattle.trace_text.specs.Lines.{trace_text}
 use Rattle.trace_check.specs.State.{at}
@@ -16,6 +17,8 @@ use Rattle.trace_view.specs.declared.whys.Why.TheVariants as why
 use Rattle.trace_view.specs.declared.wishes.Wish.{Wish}
 use Rattle.trace_view.specs.declared.wishes.Wish.TheVariants as wish
 use Rattle.trace_view.specs.declared.last_lines.KindLines.{KindLines}
+use Rattle.trace_view.specs.Births.{is_early}
+use Rattle.trace_view.specs.Viewing.{newborn_in}
 
 -- the line at which the next happening begins, behind what happened so far
 unfoldable pub line_behind : List Event → ℕ
@@ -93,6 +96,17 @@ last_of about id [] = None
 last_of about id (happening ∷ past) =
     line_after (names id (about happening)) (line_behind past) (last_of about id past)
 
+-- the id whose child was born before the first level, by the table in force
+abbrev pub early_in : List Entry → Event → Option (List ℕ)
+early_in table (Birth id number) = if is_early (newborn_in table id number) then Some id else None
+early_in table _ = None
+
+-- the line at which the last such birth of the id begins
+abbrev pub early_line : List ℕ → List Event → Option ℕ
+early_line id [] = None
+early_line id (happening ∷ past) =
+    line_after (names id (early_in (table_of (happening ∷ past)) happening)) (line_behind past) (early_line id past)
+
 -- the later of two lines
 abbrev pub later : Option ℕ → Option ℕ → Option ℕ
 later None line = line
@@ -106,14 +120,14 @@ wish_line wish.Reread past = reread_line past
 wish_line (wish.Level level) past = last_line is_goal past
 wish_line wish.News past = last_line is_news past
 
--- the line at fault for each reason that has one: the table in force; the stage in force; the birth of its child, or the
--- reaping, where that is later; the open order; since when it wasn't called; its last start; the birth of the child that
+-- the line at fault for each reason that has one: the table in force; its birth before the first level; the stage in
+-- force; the birth of its child, or the reaping, where that is later; the open order; since when it wasn't called; its last start; the birth of the child that
 -- is waited for, or the stage, where that is later; the birth of the child that has to end; the request; the hold
 abbrev pub line_at_fault : List ℕ → Why → List Event → Option ℕ
 line_at_fault id why.NoEntry past = last_line is_table past
 line_at_fault id why.NeverStarts past = last_line is_table past
 line_at_fault id why.NoStage past = None
-line_at_fault id why.RanBefore past = later (last_of born_in id past) (last_of unborn_in id past)
+line_at_fault id why.RanBefore past = early_line id past
 line_at_fault id why.StageOver past = last_line is_entering past
 line_at_fault id (why.StageOwed awaited) past = later (last_of born_in awaited past) (last_line is_entering past)
 line_at_fault id why.OtherStage past = last_line is_entering past
@@ -156,6 +170,7 @@ kinds_after stage line happening kinds = record {
 pub record LinesState : Type 0 where
   pub kinds : KindLines
   pub births : List (List ℕ × ℕ)
+  pub early : List (List ℕ × ℕ)
   pub failures : List (List ℕ × ℕ)
   pub reapings : List (List ℕ × ℕ)
   pub orders : List (List ℕ × ℕ)
@@ -165,6 +180,7 @@ pub record LinesState : Type 0 where
 pub record Lined (lines : LinesState) (past : List Event) : Type 0 where
   pub kinds : lines.kinds ≡ kinds_of past
   pub births : (id : List ℕ) → at id lines.births ≡ last_of born_in id past
+  pub early : (id : List ℕ) → at id lines.early ≡ early_line id past
   pub failures : (id : List ℕ) → at id lines.failures ≡ last_of unborn_in id past
   pub reapings : (id : List ℕ) → at id lines.reapings ≡ last_of reaped_in id past
   pub orders : (id : List ℕ) → at id lines.orders ≡ last_of ordered_in id past

@@ -1,4 +1,5 @@
 pub mod Births
+pub mod Calls
 pub mod LastLines
 pub mod Rows
 pub mod SeenTexts

@@ -1,7 +1,8 @@
 -- Why an entry's start is not due: the first reason that keeps it (init(8)).
-use Rattle.std.specs.Prelude.{ℕ, Bool, true, false, not, ◌&&◌, if◌then◌else◌, List, find, Option, Some, None, is_some}
+use Rattle.std.specs.Prelude.{ℕ, Bool, true, false, not, ◌&&◌, ◌||◌, if◌then◌else◌, List, find, Option, Some, None}
 use Rattle.std.specs.Option.{option_map, option_map_or}
 use Rattle.init_words.specs.declared.actions.Act.{Act}
+use Rattle.init_words.specs.declared.actions.Act.TheVariants as act
 use Rattle.init_words.specs.declared.entries.Entry.{Entry}
 use Rattle.init_words.specs.declared.orders.OrderKind.{OrderKind}
 use Rattle.init_words.specs.declared.stages.Stage.{Stage}
@@ -11,6 +12,7 @@ use Rattle.inittab_text.specs.Tables.{entry_of}
 use Rattle.trace_events.specs.Event.{Event}
 use Rattle.trace_events.specs.Past.{table_of, stage_of, Child, is_of, kept_children, open_of}
 use Rattle.trace_events.specs.Wanted.{starts_now, is_wanted, is_owed, entries_before, is_excluded}
+use Rattle.trace_events.specs.Wishes.{was_booted}
 use Rattle.trace_events.specs.Timing.{hold_times, is_held, is_full}
 use Rattle.trace_check.specs.Reading.{newest}
 use Rattle.trace_view.specs.declared.standings.Excluded.{Excluded}
@@ -18,7 +20,8 @@ use Rattle.trace_view.specs.declared.standings.Standing.{Standing}
 use Rattle.trace_view.specs.declared.wishes.Wish.{Wish}
 use Rattle.trace_view.specs.declared.whys.Why.{Why}
 use Rattle.trace_view.specs.declared.whys.Why.TheVariants.{NoEntry, NeverStarts, NoStage, RanBefore, StageOver, StageOwed, OtherStage, ChildKept, OrderOpen, NotCalled, WasStarted, EarlierOwed, ExcludedKept, WishStands, Held, WindowFull, Nothing}
-use Rattle.trace_view.specs.Births.{births_of}
+use Rattle.trace_view.specs.Births.{ran_early}
+use Rattle.trace_view.specs.Calls.{was_named}
 use Rattle.trace_view.specs.Wishes.{first_wish}
 
 -- how an entry stands: each thing that can keep its start back
@@ -47,10 +50,12 @@ standing_of e past = record {
   starts = starts_now e past;
   child = option_map number_of (find (is_of e.id) (kept_children past));
   stops = stops_now e.id past;
-  ran = is_some (births_of e.id past);
+  booted = was_booted past;
+  ran = ran_early e past;
   awaited = option_map entry_id (first_awaited past);
   order = open_of e.id past;
   wanted = is_wanted e past;
+  named = was_named e past;
   owed = option_map entry_id (first_owed e.id past);
   excluded = option_map excluded_as (find (is_excluded past) (kept_children past));
   wish = first_wish past;
@@ -62,10 +67,12 @@ abbrev pub by_child : Option ℕ → Why → Why
 by_child (Some number) later = ChildKept number
 by_child None later = later
 
--- its action starts it in a stage that is over
-abbrev pub is_past : Act → Stage → Bool
-is_past action Sysinit = false
-is_past action _ = ignores_levels action
+-- its action starts it in a stage that is over: Sysinit, or, in a level, Boot where that was entered
+abbrev pub is_past : Act → Bool → Stage → Bool
+is_past action booted Sysinit = false
+is_past act.Sysinit booted _ = true
+is_past action booted Boot = false
+is_past action booted (Run level) = booted && ignores_levels action
 
 -- of an entry whose stage is to come: before the first level init waits for an entry
 abbrev pub by_awaited : Stage → Option (List ℕ) → Why
@@ -75,7 +82,7 @@ by_awaited _ None = OtherStage
 
 abbrev pub elsewhere : Act → Stage → Standing → Why
 elsewhere action stage s =
-    if is_past action stage then (if s.ran then RanBefore else StageOver) else by_awaited stage s.awaited
+    if is_past action s.booted stage then (if s.ran then RanBefore else StageOver) else by_awaited stage s.awaited
 
 -- it doesn't start in the stage: its action is never started, no stage has begun, it has a child that lives on, or its
 -- stage is another
@@ -86,9 +93,10 @@ not_here action (Some stage) s =
     else if s.stops then elsewhere action stage s
     else by_child s.child (elsewhere action stage s)
 
--- it starts in the stage, and nothing of it runs, but its action doesn't ask for it
-abbrev pub not_wanted : Act → Why
-not_wanted action = if wanted_by action true true false then WasStarted else NotCalled
+-- it starts in the stage, and nothing of it runs, but its action doesn't ask for it: of one that has to be called nothing
+-- named it, or it was called and started
+abbrev pub not_wanted : Act → Bool → Why
+not_wanted action named = if wanted_by action true true false || named then WasStarted else NotCalled
 
 abbrev pub by_order : Option OrderKind → Why → Why
 by_order (Some ask) later = OrderOpen ask
@@ -116,7 +124,7 @@ why_by action stage s =
     if not s.starts then not_here action stage s
     else by_child s.child
     (by_order s.order
-    (if not s.wanted then not_wanted action
+    (if not s.wanted then not_wanted action s.named
     else by_owed s.owed
     (by_excluded s.excluded
     (by_wish s.wish

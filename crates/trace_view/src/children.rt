@@ -1,14 +1,16 @@
 //! The unreaped and the kept children, the youngest first.
 
 ghost use Rattle.std.specs.Prelude.{◌≡◌, not, find, filter, false, option_map, option_copied, OnOk, IfOk};
+ghost use Rattle.std.specs.List.{list_any};
 ghost use Rattle.std.specs.Option.{option_map_or};
 ghost use Rattle.trace_events.specs.Past.{Child, is_of, is_child};
-ghost use Rattle.trace_view.specs.Viewing.{newborn_in, unreaped_after, kept_after, is_excluded_by};
+ghost use Rattle.trace_view.specs.Births.{is_born_as, is_early};
+ghost use Rattle.trace_view.specs.Viewing.{early_after, newborn_in, unreaped_after, kept_after, is_excluded_by};
 ghost use Rattle.trace_view.specs.Why.{number_of, excluded_as};
 ghost use Rattle.trace_view.specs.Rows.{gone_ids};
 
 use crate::standings::Excluded;
-use init_words::{Act, ChildNumber, Id, Memory, Stage, lives};
+use init_words::{Act, ChildNumber, Entry, Id, Memory, Stage, lives};
 use inittab_text::Table;
 use std::alloc::Allocator;
 use std::marker::Model;
@@ -33,7 +35,7 @@ impl Model for BornChild {
 }
 
 /// The child that a birth makes, by the table in force.
-fn newborn<A: Allocator>(table: &Table<A>, id: Id, number: ChildNumber) -> BornChild
+pub(crate) fn newborn<A: Allocator>(table: &Table<A>, id: Id, number: ChildNumber) -> BornChild
     ensures { result ≡ newborn_in table.now id number }
 {
     let act = match table.get(&id) {
@@ -111,6 +113,52 @@ pub(crate) fn take_kept<A: Allocator + Copy, B: Allocator>(
         }
         _ => Ok(()),
     }
+}
+
+/// The child was born for an entry whose action starts it before the first level.
+pub(crate) fn is_early(child: &BornChild) -> bool
+    ensures { result ≡ is_early child.now }
+{
+    match child.act {
+        Some(act) => act.ignores_levels(),
+        None => false,
+    }
+}
+
+/// The children that were born so, the oldest first.
+pub(crate) fn take_early<A: Allocator, B: Allocator>(
+    early: &mut Vec<BornChild, A>,
+    table: &Table<A>,
+    happening: &HappeningIn<B>,
+) -> Result<(), Memory>
+    ensures { OnOk result (early.new.items
+        ≡ early_after table.now happening.now early.old.items) }
+{
+    let Happening::Birth(id, number) = happening else {
+        return Ok(());
+    };
+    let child = newborn(table, *id, *number);
+    if is_early(&child) {
+        early.push(child)?;
+    }
+    Ok(())
+}
+
+/// The child was born for the entry, with its action.
+fn is_born_as(entry: &Entry, child: &BornChild) -> bool
+    ensures { result ≡ is_born_as entry.now child.now }
+{
+    match child.act {
+        Some(act) => entry.id == child.id && act == entry.act,
+        None => false,
+    }
+}
+
+/// One of the children was.
+pub(crate) fn has_born_as(entry: &Entry, children: &[BornChild]) -> bool
+    ensures { result ≡ list_any (is_born_as entry.now) children.now }
+{
+    children.iter().any(|child| is_born_as(entry, child))
 }
 
 /// The youngest child of the id.

@@ -4,8 +4,9 @@ ghost use Rattle.std.specs.Prelude.{◌≡◌, ℕ, List, [], ◌∷◌, OnOk};
 ghost use Rattle.trace_events.specs.Event.{Event};
 ghost use Rattle.trace_events.specs.Past.{stage_of};
 ghost use Rattle.trace_check.specs.State.{at};
-ghost use Rattle.trace_view.specs.LastLines.{Lined, born_in, held_in, is_entering, is_goal, is_news, is_reexec, is_reread, is_table, kinds_after, last_line, last_of, later, line_after, line_at_fault, line_behind, names, no_kinds, ordered_in, reaped_in, unborn_in, wish_line};
+ghost use Rattle.trace_view.specs.LastLines.{Lined, born_in, early_in, early_line, held_in, is_entering, is_goal, is_news, is_reexec, is_reread, is_table, kinds_after, last_line, last_of, later, line_after, line_at_fault, line_behind, names, no_kinds, ordered_in, reaped_in, unborn_in, wish_line};
 
+use crate::children::{is_early, newborn};
 use crate::seen_texts::Sees;
 use crate::views::TraceView;
 use crate::whys::Why;
@@ -13,6 +14,7 @@ use crate::wishes::Wish;
 use indexmap::IndexMap;
 use init_words::{Id, Memory, Stage};
 use initctl_frame::HeardRequest;
+use inittab_text::Table;
 use std::alloc::{Allocator, Global};
 use std::hash::{BuildHasherDefault, FoldHasher};
 use std::marker::Model;
@@ -53,6 +55,7 @@ pub(crate) struct KindLines {
 pub struct LastLines<A: Allocator = Global> {
     kinds: KindLines,
     births: LineById<A>,
+    early: LineById<A>,
     failures: LineById<A>,
     reapings: LineById<A>,
     orders: LineById<A>,
@@ -67,6 +70,7 @@ impl<A: Allocator> Model for LastLines<A> {
     ghost view = { λ l. record {
       kinds = l.kinds;
       births = l.births.entries;
+      early = l.early.entries;
       failures = l.failures.entries;
       reapings = l.reapings.entries;
       orders = l.orders.entries;
@@ -123,6 +127,16 @@ fn born_in<B: Allocator>(happening: &HappeningIn<B>) -> Option<Id>
 {
     match happening {
         Happening::Birth(id, _) => Some(*id),
+        _ => None,
+    }
+}
+
+/// The id whose child was born before the first level.
+fn early_in<A: Allocator, B: Allocator>(table: &Table<A>, happening: &HappeningIn<B>) -> Option<Id>
+    ensures { result ≡ early_in table.now happening.now }
+{
+    match happening {
+        Happening::Birth(id, number) if is_early(&newborn(table, *id, *number)) => Some(*id),
         _ => None,
     }
 }
@@ -244,6 +258,13 @@ impl<A: Allocator> LastLines<A> {
         line_of(&self.births, id)
     }
 
+    /// The line of the last birth of a child of an id before the first level.
+    fn early(&self, id: &Id) -> Option<u64>
+        ensures { (past : List Event) → Lined self.now past → result ≡ early_line id.now past }
+    {
+        line_of(&self.early, id)
+    }
+
     /// The line of the last start of an id, also of one that failed.
     fn start(&self, id: &Id) -> Option<u64>
         ensures { (past : List Event) → Lined self.now past
@@ -304,7 +325,7 @@ impl<A: Allocator> LastLines<A> {
             Why::NoEntry => self.kinds.table,
             Why::NeverStarts => self.kinds.table,
             Why::NoStage => None,
-            Why::RanBefore => self.start(id),
+            Why::RanBefore => self.early(id),
             Why::StageOver => self.kinds.entering,
             Why::StageOwed(awaited) => self.awaited(&awaited),
             Why::OtherStage => self.kinds.entering,
@@ -329,6 +350,7 @@ impl<A: Allocator + Copy> Sees<A> for LastLines<A> {
         LastLines {
             kinds: KindLines::new(),
             births: nothing(alloc),
+            early: nothing(alloc),
             failures: nothing(alloc),
             reapings: nothing(alloc),
             orders: nothing(alloc),
@@ -338,12 +360,13 @@ impl<A: Allocator + Copy> Sees<A> for LastLines<A> {
 
     fn see(
         &mut self,
-        _view: &TraceView<A>,
+        view: &TraceView<A>,
         stage: Option<Stage>,
         line: u64,
         happening: &HappeningIn<A>,
     ) -> Result<(), Memory> {
         mark(&mut self.births, born_in(happening), line)?;
+        mark(&mut self.early, early_in(view.table(), happening), line)?;
         mark(&mut self.failures, unborn_in(happening), line)?;
         mark(&mut self.reapings, reaped_in(happening), line)?;
         mark(&mut self.orders, ordered_in(happening), line)?;

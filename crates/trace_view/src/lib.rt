@@ -4,6 +4,7 @@
 //! is what the definitions of traces read off the past: a start is due exactly where nothing keeps it.
 #![tactic(auto)]
 
+mod calls;
 mod children;
 mod last_lines;
 mod laws;

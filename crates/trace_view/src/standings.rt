@@ -19,7 +19,9 @@ pub struct Standing {
     pub child: Option<ChildNumber>,
     /// That child may not live in the stage in force.
     pub stops: bool,
-    /// A child of it was born.
+    /// Boot was entered.
+    pub booted: bool,
+    /// A child of it was born before the first level, when it had its action of now.
     pub ran: bool,
     /// The first entry of all that init waits for.
     pub awaited: Option<Id>,
@@ -27,6 +29,8 @@ pub struct Standing {
     pub order: Option<OrderKind>,
     /// Its action asks for a start.
     pub wanted: bool,
+    /// News of the power or a letter named it since the stage was entered or the table read.
+    pub named: bool,
     /// The first earlier entry that init waits for.
     pub owed: Option<Id>,
     /// The youngest child that may not live, of any id.

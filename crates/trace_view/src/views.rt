@@ -15,8 +15,10 @@ ghost use Rattle.trace_view.specs.Why.{entry_id, first_awaited, standing_of, sto
 ghost use Rattle.trace_view.specs.Rows.{row_of, gone_ids, is_settled_now, settled_in};
 ghost use Rattle.trace_view.specs.Wishes.{asked_level, first_wish, next_stage};
 
+use crate::calls::Calls;
 use crate::children::{
-    BornChild, child_of_id, excluded_of, excludes, gone_of, number_of_id, take_kept, take_unreaped,
+    BornChild, child_of_id, excluded_of, excludes, gone_of, has_born_as, number_of_id, take_early,
+    take_kept, take_unreaped,
 };
 use crate::rows::{Births, ById, Ending, Row, birth_of, end_of, nothing, take_birth, take_end};
 use crate::standings::Standing;
@@ -39,7 +41,9 @@ pub struct TraceView<A: Allocator = Global> {
     unreaped: Vec<BornChild, A>,
     kept: Vec<BornChild, A>,
     wishes: Wishes,
+    calls: Calls,
     births: ById<Births, A>,
+    early: Vec<BornChild, A>,
     ends: ById<Ending, A>,
 }
 
@@ -53,7 +57,9 @@ impl<A: Allocator> Model for TraceView<A> {
       unreaped = v.unreaped.items;
       kept = v.kept.items;
       wishes = v.wishes;
+      calls = v.calls;
       births = v.births.entries;
+      early = v.early.items;
       ends = v.ends.entries;
     } };
 }
@@ -139,7 +145,9 @@ impl<A: Allocator + Copy> TraceView<A> {
             unreaped: Vec::new(alloc),
             kept: Vec::new(alloc),
             wishes: Wishes::new(),
+            calls: Calls::new(),
             births: nothing(alloc),
+            early: Vec::new(alloc),
             ends: nothing(alloc),
         }
     }
@@ -166,8 +174,10 @@ impl<A: Allocator + Copy> TraceView<A> {
         )?;
         take_unreaped(&mut self.unreaped, table, happening)?;
         take_birth(&mut self.births, time, happening)?;
+        take_early(&mut self.early, table, happening)?;
         take_end(&mut self.ends, time, happening)?;
         self.wishes = self.wishes.after(stage, happening);
+        self.calls = self.calls.after(happening);
         Ok(None)
     }
 }
@@ -193,10 +203,12 @@ impl<A: Allocator> TraceView<A> {
             starts: starts_in(entry, stage),
             child: number_of_id(kept, id),
             stops: excludes(child_of_id(kept, id), table, stage),
-            ran: birth_of(&self.births, &id).is_some(),
+            booted: self.wishes.booted,
+            ran: has_born_as(entry, self.early.as_slice()),
             awaited: self.awaited(),
             order: self.judge.order(&id),
             wanted: self.judge.is_wanted(entry),
+            named: self.calls.name(entry),
             owed: id_of(self.judge.first_owed(&id)),
             excluded: excluded_of(kept, table, stage),
             wish: self.wishes.first(stage),

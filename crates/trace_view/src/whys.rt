@@ -16,19 +16,19 @@ pub enum Why {
     NeverStarts,
     /// No stage has begun.
     NoStage,
-    /// Its stage is over, and it ran.
+    /// Its stage is over, and it ran in it.
     RanBefore,
-    /// Its stage is over, and it never ran.
+    /// Its stage is over, and it never ran in it.
     StageOver,
     /// Its stage is to come, and init waits for an entry.
     StageOwed(Id),
-    /// It names other levels than the one in force, or belongs to another stage.
+    /// It names other levels than the one in force, or belongs to another stage, which may be to come.
     OtherStage,
     /// A child of it was not told to have ended.
     ChildKept(ChildNumber),
     /// An order about it is open.
     OrderOpen(OrderKind),
-    /// Nothing called it.
+    /// Nothing called it since the stage began or the table was read.
     NotCalled,
     /// It was started since the stage began.
     WasStarted,
@@ -47,13 +47,14 @@ pub enum Why {
 }
 
 /// The action starts its entries in a stage that is over.
-fn is_past(act: Act, stage: Stage) -> bool
-    ensures { result ≡ is_past act stage }
+fn is_past(act: Act, booted: bool, stage: Stage) -> bool
+    ensures { result ≡ is_past act booted stage }
 {
-    match stage {
-        Stage::Sysinit => false,
-        Stage::Boot => act.ignores_levels(),
-        Stage::Run(_) => act.ignores_levels(),
+    match (act, stage) {
+        (_, Stage::Sysinit) => false,
+        (Act::Sysinit, _) => true,
+        (_, Stage::Boot) => false,
+        (_, Stage::Run(_)) => booted && act.ignores_levels(),
     }
 }
 
@@ -72,7 +73,7 @@ fn by_awaited(stage: Stage, awaited: Option<Id>) -> Why
 fn elsewhere(act: Act, stage: Stage, standing: &Standing) -> Why
     ensures { result ≡ elsewhere act stage standing.now }
 {
-    if !is_past(act, stage) {
+    if !is_past(act, standing.booted, stage) {
         return by_awaited(stage, standing.awaited);
     }
     if standing.ran {
@@ -99,10 +100,10 @@ fn not_here(act: Act, stage: Option<Stage>, standing: &Standing) -> Why
 }
 
 /// Why an entry of which nothing runs isn't asked for.
-fn not_wanted(act: Act) -> Why
-    ensures { result ≡ not_wanted act }
+fn not_wanted(act: Act, named: bool) -> Why
+    ensures { result ≡ not_wanted act named }
 {
-    if act.is_wanted(true, true, false) {
+    if act.is_wanted(true, true, false) || named {
         Why::WasStarted
     } else {
         Why::NotCalled
@@ -123,7 +124,7 @@ pub fn why_by(act: Act, stage: Option<Stage>, standing: &Standing) -> Why
         return Why::OrderOpen(ask);
     }
     if !standing.wanted {
-        return not_wanted(act);
+        return not_wanted(act, standing.named);
     }
     if let Some(earlier) = standing.owed {
         return Why::EarlierOwed(earlier);

@@ -1,9 +1,12 @@
-use Rattle.std.proofs.Common.{◌∙◌, ap, cond, false, is_some, option_map, find, subst, None}
+use Rattle.std.proofs.Common.{◌∙◌, ap, cond, false, option_map, find, subst, None}
+use Rattle.std.specs.List.{list_any}
 use Rattle.std.specs.Option.{option_map_or}
-use Rattle.init_words.specs.declared.entries.Entry.{Entry}
 use Rattle.trace_events.specs.Past.{is_of}
 use Rattle.trace_events.specs.Wanted.{starts_in}
+use Rattle.trace_view.specs.Births.{is_born_as}
+use Rattle.trace_view.specs.Calls.{is_named_by}
 use Rattle.trace_view.specs.Viewing.{Viewed}
+use Rattle.trace_view.specs.declared.wishes.Wishes.{Wishes}
 use Rattle.trace_view.specs.Why.{number_of}
 use Rattle.trace_view.specs.Viewing.{is_excluded_by}
 use Rattle.trace_view.specs.Why.{entry_id}
@@ -14,14 +17,16 @@ pub returns : goal.returns
 returns g c = rw (← c.self.view_is) (λ past seen found.
     let judged = seen.judged in
     let on = c.stage-stage.ensures past judged in
-    stands c.args.entry.now past _ _ _ _ _ _ _ _ _ _ _ _
+    stands c.args.entry.now past _ _ _ _ _ _ _ _ _ _ _ _ _ _
     (c.starts_in.ensures ∙ ap (starts_in c.args.entry.now) on)
     (c.number_of_id.ensures ∙ ap (λ xs. option_map number_of (find (is_of c.args.entry.now.id) xs)) (c.as_slice-kept.ensures.value ∙ seen.kept))
     (c.excludes.ensures ∙ ap (λ o. option_map_or (is_excluded_by c.table-table.result.now c.stage-stage.result) o false) c.child_of_id.ensures ∙ lives_not c.args.entry.now.id _ _ _ _ past (c.table-table.ensures.value past judged) on (c.as_slice-kept.ensures.value ∙ seen.kept))
-    (c.is_some.ensures ∙ ap is_some (c.birth_of.ensures ∙ seen.births c.args.entry.now.id))
+    (ap (λ (w : Wishes). w.booted) seen.wishes)
+    (c.has_born_as.ensures ∙ ap (list_any (is_born_as c.args.entry.now)) (c.as_slice.ensures.value ∙ seen.early))
     (c.awaited.ensures past (subst (λ v. Viewed v past) c.self.view_is seen))
     (c.order.ensures past judged)
     (c.is_wanted.ensures past judged found)
+    (c.name.ensures ∙ ap (is_named_by c.args.entry.now) seen.calls)
     (c.id_of.ensures ∙ ap (option_map entry_id) (c.first_owed.ensures past judged))
     (c.excluded_of.ensures ∙ excluded_is _ _ _ past (c.table-table.ensures.value past judged) on (c.as_slice-kept.ensures.value ∙ seen.kept))
     (c.first.ensures ∙ wish_is _ _ past on seen.wishes)

@@ -1,0 +1,77 @@
+-- Which entries news of the power or a letter named since the last Enter and the last table (init(8), telinit(8)).
+use Rattle.std.specs.Prelude.{Bool, false, ◌&&◌, ◌||◌, List, [], ◌∷◌}
+use Rattle.init_words.specs.declared.entries.Entry.{Entry}
+use Rattle.init_words.specs.declared.levels.Letter.{Letter}
+use Rattle.init_words.specs.declared.levels.Letter.TheVariants as letter
+use Rattle.init_words.specs.declared.levels.Mark.TheVariants.{OnCall}
+use Rattle.init_words.specs.declared.orders.PowerKind.{PowerKind}
+use Rattle.init_words.specs.declared.orders.PowerKind.TheVariants as power
+use Rattle.init_words.specs.Actions.{is_called_by, is_ondemand}
+use Rattle.init_words.specs.Levels.{names, same_letter}
+use Rattle.init_words.specs.Orders.{same_power}
+use Rattle.trace_events.specs.declared.happenings.Happening.TheVariants.{NewTable, Enter, Call, Power}
+use Rattle.trace_events.specs.Event.{Event}
+use Rattle.trace_view.specs.declared.calls.Calls.{Calls}
+
+-- entries were called for this news
+abbrev pub is_called_for : PowerKind → List Event → Bool
+is_called_for kind [] = false
+is_called_for kind (Enter stage grace ∷ past) = false
+is_called_for kind (NewTable table ∷ past) = false
+is_called_for kind (Power k ∷ past) = same_power kind k || is_called_for kind past
+is_called_for kind (_ ∷ past) = is_called_for kind past
+
+-- entries were called by this letter
+abbrev pub is_lettered : Letter → List Event → Bool
+is_lettered letter [] = false
+is_lettered letter (Enter stage grace ∷ past) = false
+is_lettered letter (NewTable table ∷ past) = false
+is_lettered letter (Call l ∷ past) = same_letter letter l || is_lettered letter past
+is_lettered letter (_ ∷ past) = is_lettered letter past
+
+abbrev pub calls_of : List Event → Calls
+calls_of past = record {
+  fail = is_called_for power.Fail past;
+  fail_now = is_called_for power.FailNow past;
+  ok = is_called_for power.Ok past;
+  a = is_lettered letter.A past;
+  b = is_lettered letter.B past;
+  c = is_lettered letter.C past;
+}
+
+-- one of them named the entry: it is called for the news, or has the letter among its runlevels
+abbrev pub is_named_by : Entry → Calls → Bool
+is_named_by e calls =
+    is_called_by power.Fail e.act && calls.fail || (is_called_by power.FailNow e.act && calls.fail_now
+    || (is_called_by power.Ok e.act && calls.ok || is_ondemand e.act
+    && (names (OnCall letter.A) e.levels.items && calls.a || (names (OnCall letter.B) e.levels.items && calls.b
+    || names (OnCall letter.C) e.levels.items && calls.c))))
+
+abbrev pub was_named : Entry → List Event → Bool
+was_named e past = is_named_by e (calls_of past)
+
+-- what a happening makes of them
+abbrev pub no_calls : Calls
+no_calls = record { fail = false; fail_now = false; ok = false; a = false; b = false; c = false }
+
+abbrev pub called_for_after : PowerKind → Event → Bool → Bool
+called_for_after kind (Enter stage grace) before = false
+called_for_after kind (NewTable table) before = false
+called_for_after kind (Power k) before = same_power kind k || before
+called_for_after kind _ before = before
+
+abbrev pub lettered_after : Letter → Event → Bool → Bool
+lettered_after letter (Enter stage grace) before = false
+lettered_after letter (NewTable table) before = false
+lettered_after letter (Call l) before = same_letter letter l || before
+lettered_after letter _ before = before
+
+abbrev pub calls_after : Event → Calls → Calls
+calls_after happening calls = record {
+  fail = called_for_after power.Fail happening calls.fail;
+  fail_now = called_for_after power.FailNow happening calls.fail_now;
+  ok = called_for_after power.Ok happening calls.ok;
+  a = lettered_after letter.A happening calls.a;
+  b = lettered_after letter.B happening calls.b;
+  c = lettered_after letter.C happening calls.c;
+}
