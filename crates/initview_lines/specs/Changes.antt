@@ -1,28 +1,28 @@
 -- What becomes of the entries of an inittab in a level, where init reads another one in its place (inittab(5), init(8)).
-use Rattle.std.specs.Prelude.{ℕ, Bool, false, if◌then◌else◌, List, [], ◌∷◌, ◌++◌, codes, Option, Some, None, is_some}
+use Rattle.std.specs.Prelude.{ℕ, Bool, false, ◌&&◌, if◌then◌else◌, List, [], ◌∷◌, ◌++◌, codes, Option, Some, None, is_some}
+use Rattle.std.specs.List.{list_any}
 use Rattle.std.specs.Option.{option_map}
 use Rattle.std.specs.Str.{bytes_eq}
 use Rattle.init_words.specs.declared.actions.Act.{Act}
 use Rattle.init_words.specs.declared.entries.Entry.{Entry}
 use Rattle.init_words.specs.declared.levels.Level.{Level}
-use Rattle.init_words.specs.declared.stages.Stage.{Stage}
 use Rattle.init_words.specs.declared.stages.Stage.TheVariants.{Run}
 use Rattle.init_words.specs.Entries.{lives_of}
 use Rattle.inittab_text.specs.Tables.{entry_of}
 use Rattle.trace_events.specs.Wanted.{may_live}
 use Rattle.initview_lines.specs.declared.changes.Change.{Change}
 use Rattle.initview_lines.specs.declared.changes.Change.TheVariants.{Keep, NextStart, Stop, StopStart, Start, NotAgain, NotHere}
-use Rattle.trace_laws.specs.Plans.{is_started}
+use Rattle.trace_laws.specs.Plans.{is_started, stages_to}
 use Rattle.initview_lines.specs.Words.{act_words, level_words, padded}
 
-abbrev pub starts_there : Stage → Option Entry → Bool
-starts_there stage None = false
-starts_there stage (Some e) = is_started stage e
+abbrev pub starts_there : Level → Option Entry → Bool
+starts_there level None = false
+starts_there level (Some e) = is_started (Run level) e
 
--- a child of the entry may be there
-abbrev pub lives_there : Stage → Option Entry → Bool
-lives_there stage None = false
-lives_there stage (Some e) = lives_of e stage
+-- a child of the entry is there: a stage on the way to the level starts it of itself, and it may live there
+abbrev pub is_there : Level → Option Entry → Bool
+is_there level None = false
+is_there level (Some e) = list_any (λ stage. is_started stage e) (stages_to level) && lives_of e (Run level)
 
 abbrev pub act_there : Option Entry → Option Act
 act_there entry = option_map (λ (e : Entry). e.act) entry
@@ -34,12 +34,12 @@ same_process _ _ = false
 
 -- a child that may live is kept, and has another process from its next start on; one that may not is stopped, and the
 -- entry started anew where it starts there; so is one that had no child there
-abbrev pub change_in : Stage → Option Entry → Option Entry → Change
-change_in stage old new =
-    if lives_there stage old then
-    if may_live new (act_there old) (Some stage) then (if same_process old new then Keep else NextStart)
-    else (if starts_there stage new then StopStart else Stop)
-    else (if starts_there stage new then Start else NotHere)
+abbrev pub change_in : Level → Option Entry → Option Entry → Change
+change_in level old new =
+    if is_there level old then
+    if may_live new (act_there old) (Some (Run level)) then (if same_process old new then Keep else NextStart)
+    else (if starts_there level new then StopStart else Stop)
+    else (if starts_there level new then Start else NotHere)
 
 abbrev pub change_words : Change → List ℕ
 change_words Keep = codes "keep"
@@ -53,7 +53,7 @@ change_words NotHere = codes "not here"
 -- the line of an id: its action in the new inittab, and what becomes of it
 abbrev pub change_line : Level → List ℕ → Option Entry → Option Entry → List ℕ
 change_line level id old new =
-    padded 9 id ++ (padded 14 (act_words (act_there new)) ++ (change_words (change_in (Run level) old new) ++ codes "\n"))
+    padded 9 id ++ (padded 14 (act_words (act_there new)) ++ (change_words (change_in level old new) ++ codes "\n"))
 
 abbrev pub line_of_id : Level → List Entry → List Entry → List ℕ → List ℕ
 line_of_id level old new id = change_line level id (entry_of id old) (entry_of id new)

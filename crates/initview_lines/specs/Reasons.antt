@@ -1,10 +1,12 @@
 -- Why an id isn't started next, in words, and what to do. Times are seconds.
-use Rattle.std.specs.Prelude.{ℕ, List, [], ◌++◌, codes, Option, Some, None}
+use Rattle.std.specs.Prelude.{ℕ, Bool, true, false, not, if◌then◌else◌, List, [], ◌++◌, codes, Option, Some, None}
+use Rattle.std.specs.Option.{option_map_or}
 use Rattle.init_words.specs.declared.actions.Act.{Act}
 use Rattle.init_words.specs.declared.orders.OrderKind.{OrderKind}
 use Rattle.init_words.specs.declared.orders.OrderKind.TheVariants as ask
 use Rattle.init_words.specs.declared.stages.Stage.{Stage}
 use Rattle.init_words.specs.declared.stages.Stage.TheVariants.{Run}
+use Rattle.init_words.specs.Actions.{ignores_levels, wanted_by}
 use Rattle.trace_events.specs.Event.{Event}
 use Rattle.trace_events.specs.Past.{stage_of, time_of}
 use Rattle.trace_view.specs.declared.rows.Births.{Births}
@@ -82,29 +84,45 @@ reason_words stage now row (why.Held since) = held_reason now since
 reason_words stage now row why.WindowFull = codes "it was started ten times in two minutes: it is held next"
 reason_words stage now row why.Nothing = codes "nothing keeps it: its start is due"
 
--- what to do
-abbrev pub other_advice : Option Stage → List ℕ
-other_advice (Some (Run level)) = codes "go to a level that its line names, or name this one and run telinit q"
-other_advice _ = codes "wait for the first level"
+-- what to do; where Boot was not entered, the way to another level goes through it
+abbrev pub level_advice : Bool → List ℕ
+level_advice boots =
+    if boots then codes "go to another level"
+    else codes "go to a level that its line names, or name this one and run telinit q"
 
-abbrev pub advice_of : Option Stage → Why → List ℕ
-advice_of stage why.NoEntry = codes "add its line to the inittab, or mend it, and run telinit q"
-advice_of stage why.NeverStarts = codes "give its line another action, and run telinit q"
-advice_of stage why.NoStage = codes "wait for stage sysinit"
-advice_of stage why.RanBefore = codes "run it by hand, or boot again"
-advice_of stage why.StageOver = codes "run it by hand, or boot again"
-advice_of stage (why.StageOwed awaited) = codes "ask why that one isn't done"
-advice_of stage why.OtherStage = other_advice stage
-advice_of stage (why.ChildKept number) = codes "end the child to have it started anew, where its action says so"
-advice_of stage (why.OrderOpen asked) = codes "wait for the answer"
-advice_of stage why.NotCalled = codes "call it by telinit a, b or c, or by news of the power, as its action says"
-advice_of stage why.WasStarted = codes "go to another level and back to have it started again"
-advice_of stage (why.EarlierOwed earlier) = codes "ask why that one isn't done"
-advice_of stage (why.ExcludedKept child) = codes "wait: init sends TERM, and KILL when the grace is over"
-advice_of stage (why.WishStands wish) = codes "wait for init's next turn"
-advice_of stage (why.Held since) = codes "see why its children end so soon; telinit q ends the hold"
-advice_of stage why.WindowFull = codes "see why its children end so soon"
-advice_of stage why.Nothing = codes "wait for init's next turn"
+abbrev pub other_advice : Option Stage → Option Act → List ℕ
+other_advice (Some (Run level)) action = level_advice (option_map_or ignores_levels action false)
+other_advice _ action = codes "wait for the first level"
+
+-- an entry of the action starts only where it is called
+abbrev pub waits_for_call : Option Act → Bool
+waits_for_call action = option_map_or (λ a. not (wanted_by a true true false)) action false
+
+abbrev pub call_advice : List ℕ
+call_advice = codes "call it by telinit a, b or c, or by news of the power, as its action says"
+
+abbrev pub again_advice : Bool → List ℕ
+again_advice called =
+    if called then call_advice else codes "go to another level and back to have it started again"
+
+abbrev pub advice_of : Option Stage → Option Act → Why → List ℕ
+advice_of stage action why.NoEntry = codes "add its line to the inittab, or mend it, and run telinit q"
+advice_of stage action why.NeverStarts = codes "give its line another action, and run telinit q"
+advice_of stage action why.NoStage = codes "wait for stage sysinit"
+advice_of stage action why.RanBefore = codes "run it by hand, or boot again"
+advice_of stage action why.StageOver = codes "run it by hand, or boot again"
+advice_of stage action (why.StageOwed awaited) = codes "ask why that one isn't done"
+advice_of stage action why.OtherStage = other_advice stage action
+advice_of stage action (why.ChildKept number) = codes "end the child to have it started anew, where its action says so"
+advice_of stage action (why.OrderOpen asked) = codes "wait for the answer"
+advice_of stage action why.NotCalled = call_advice
+advice_of stage action why.WasStarted = again_advice (waits_for_call action)
+advice_of stage action (why.EarlierOwed earlier) = codes "ask why that one isn't done"
+advice_of stage action (why.ExcludedKept child) = codes "wait: init sends TERM, and KILL when the grace is over"
+advice_of stage action (why.WishStands wish) = codes "wait for init's next turn"
+advice_of stage action (why.Held since) = codes "see why its children end so soon; telinit q ends the hold"
+advice_of stage action why.WindowFull = codes "see why its children end so soon"
+advice_of stage action why.Nothing = codes "wait for init's next turn"
 
 -- the line at fault of a trace, where there is one
 abbrev pub fault_words : List ℕ → Option ℕ → List ℕ
@@ -115,7 +133,7 @@ fault_words name (Some line) = codes " (" ++ (name ++ numbered (codes ":") line 
 abbrev pub reason_text : Option Stage → ℕ → List ℕ → Row → List ℕ → Option ℕ → List ℕ
 reason_text stage now id row name line =
     id ++ (codes ": " ++ (reason_words stage now row row.why ++ (fault_words name line
-    ++ (codes "\n  " ++ (advice_of stage row.why ++ codes "\n")))))
+    ++ (codes "\n  " ++ (advice_of stage row.act row.why ++ codes "\n")))))
 
 -- of the id in the trace of a name
 abbrev pub why_text : List ℕ → List ℕ → Option ℕ → List Event → List ℕ

@@ -2,8 +2,9 @@
 
 ghost use Rattle.std.specs.Prelude.{◌≡◌, ◌++◌, Some, codes, option_copied, IfOk, OnOk};
 ghost use Rattle.trace_events.specs.Wanted.{may_live};
-ghost use Rattle.trace_laws.specs.Plans.{is_started};
-ghost use Rattle.initview_lines.specs.Changes.{act_there, change_in, change_line, change_words, changes_text, gone_line, gone_lines, line_of_id, lives_there, new_lines, same_process, starts_there};
+ghost use Rattle.std.specs.List.{list_any};
+ghost use Rattle.trace_laws.specs.Plans.{is_started, stages_to};
+ghost use Rattle.initview_lines.specs.Changes.{act_there, change_in, change_line, change_words, changes_text, gone_line, gone_lines, is_there, line_of_id, new_lines, same_process, starts_there};
 ghost use Rattle.initview_lines.specs.Words.{level_words};
 
 use crate::words::{act_words, add_level, add_padded, put};
@@ -26,7 +27,7 @@ pub enum Change {
     Start,
     /// It was started in the level already, and isn't started again.
     NotAgain,
-    /// It doesn't run in the level, before or after.
+    /// Nothing starts it in the level of itself, before or after.
     NotHere,
 }
 
@@ -37,21 +38,30 @@ pub(crate) fn is_started(stage: Stage, entry: &Entry) -> bool
     starts(entry, stage) && entry.act.is_wanted(true, true, false)
 }
 
-fn starts_there(stage: Stage, entry: Option<&Entry>) -> bool
-    ensures { result ≡ starts_there stage (option_copied entry.entry) }
+fn starts_there(level: Level, entry: Option<&Entry>) -> bool
+    ensures { result ≡ starts_there level (option_copied entry.entry) }
 {
     match entry {
-        Some(entry) => is_started(stage, entry),
+        Some(entry) => is_started(Stage::Run(level), entry),
         None => false,
     }
 }
 
-/// A child of the entry may be there.
-fn lives_there(stage: Stage, entry: Option<&Entry>) -> bool
-    ensures { result ≡ lives_there stage (option_copied entry.entry) }
+/// Init starts the entry of itself on the way to the level.
+fn is_on_way(level: Level, entry: &Entry) -> bool
+    ensures { result ≡ list_any (λ stage. is_started stage entry.now) (stages_to level) }
+{
+    is_started(Stage::Sysinit, entry)
+        || level != Level::S && is_started(Stage::Boot, entry)
+        || is_started(Stage::Run(level), entry)
+}
+
+/// A child of the entry is there.
+fn is_there(level: Level, entry: Option<&Entry>) -> bool
+    ensures { result ≡ is_there level (option_copied entry.entry) }
 {
     match entry {
-        Some(entry) => lives(entry, stage),
+        Some(entry) => is_on_way(level, entry) && lives(entry, Stage::Run(level)),
         None => false,
     }
 }
@@ -84,19 +94,19 @@ pub(crate) fn same_process(old: Option<&Entry>, new: Option<&Entry>) -> bool
     }
 }
 
-/// What becomes in a stage of an id that had the one entry and has the other.
-fn change_in(stage: Stage, old: Option<&Entry>, new: Option<&Entry>) -> Change
-    ensures { result ≡ change_in stage (option_copied old.entry) (option_copied new.entry) }
+/// What becomes in a level of an id that had the one entry and has the other.
+fn change_in(level: Level, old: Option<&Entry>, new: Option<&Entry>) -> Change
+    ensures { result ≡ change_in level (option_copied old.entry) (option_copied new.entry) }
 {
-    let starts = starts_there(stage, new);
-    if !lives_there(stage, old) {
+    let starts = starts_there(level, new);
+    if !is_there(level, old) {
         return if starts {
             Change::Start
         } else {
             Change::NotHere
         };
     }
-    if !may_live(new, act_there(old), stage) {
+    if !may_live(new, act_there(old), Stage::Run(level)) {
         return if starts {
             Change::StopStart
         } else {
@@ -136,7 +146,7 @@ fn add_change(
 {
     add_padded(text, 9, id.as_bytes())?;
     add_padded(text, 14, act_words(act_there(new)))?;
-    put(text, change_words(change_in(Stage::Run(level), old, new)))?;
+    put(text, change_words(change_in(level, old, new)))?;
     put(text, b"\n")
 }
 

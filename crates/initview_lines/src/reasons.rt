@@ -1,9 +1,11 @@
 //! Why an id isn't started next, and what to do.
 
-ghost use Rattle.std.specs.Prelude.{◌≡◌, ◌++◌, List, IfOk, OnOk};
+ghost use Rattle.std.specs.Prelude.{◌≡◌, ◌++◌, false, List, IfOk, OnOk};
+ghost use Rattle.std.specs.Option.{option_map_or};
+ghost use Rattle.init_words.specs.Actions.{ignores_levels};
 ghost use Rattle.trace_events.specs.Event.{Event};
 ghost use Rattle.trace_view.specs.Viewing.{Viewed};
-ghost use Rattle.initview_lines.specs.Reasons.{act_reason, advice_of, awaited_reason, done_reason, earlier_reason, excluded_reason, fault_words, held_reason, kept_reason, order_reason, other_advice, ran_reason, reason_text, reason_words, runs_reason, stage_reason, why_text, wish_reason};
+ghost use Rattle.initview_lines.specs.Reasons.{act_reason, advice_of, again_advice, awaited_reason, call_advice, done_reason, earlier_reason, excluded_reason, fault_words, held_reason, kept_reason, level_advice, order_reason, other_advice, ran_reason, reason_text, reason_words, runs_reason, stage_reason, waits_for_call, why_text, wish_reason};
 ghost use Rattle.initview_lines.specs.Status.{births_words};
 
 use crate::status::add_births;
@@ -49,7 +51,7 @@ fn add_why(
     add_reason(text, stage, now, row)?;
     add_fault(text, name, line)?;
     text.extend_from_slice(b"\n  ")?;
-    text.extend_from_slice(advice_of(stage, row.why))?;
+    text.extend_from_slice(advice_of(stage, row.act, row.why))?;
     put(text, b"\n")?;
     Ok(())
 }
@@ -101,20 +103,66 @@ fn add_reason(
     }
 }
 
+/// An entry of the action names no level: where it isn't started in one, it is on the way to another.
+fn ignores_levels(act: Option<Act>) -> bool
+    ensures { result ≡ option_map_or ignores_levels act false }
+{
+    match act {
+        Some(act) => act.ignores_levels(),
+        None => false,
+    }
+}
+
+fn level_advice(boots: bool) -> &'static [u8]
+    ensures { result.now ≡ level_advice boots }
+{
+    if boots {
+        b"go to another level"
+    } else {
+        b"go to a level that its line names, or name this one and run telinit q"
+    }
+}
+
 /// What to do about an entry of another stage.
-fn other_advice(stage: Option<Stage>) -> &'static [u8]
-    ensures { result.now ≡ other_advice stage }
+fn other_advice(stage: Option<Stage>, act: Option<Act>) -> &'static [u8]
+    ensures { result.now ≡ other_advice stage act }
 {
     match stage {
-        Some(Stage::Run(_)) =>
-            b"go to a level that its line names, or name this one and run telinit q",
+        Some(Stage::Run(_)) => level_advice(ignores_levels(act)),
         _ => b"wait for the first level",
     }
 }
 
+/// An entry of the action starts only where it is called.
+fn waits_for_call(act: Option<Act>) -> bool
+    ensures { result ≡ waits_for_call act }
+{
+    match act {
+        Some(act) => !act.is_wanted(true, true, false),
+        None => false,
+    }
+}
+
+fn call_advice() -> &'static [u8]
+    ensures { result.now ≡ call_advice }
+{
+    b"call it by telinit a, b or c, or by news of the power, as its action says"
+}
+
+/// What to do about an entry that was started.
+fn again_advice(called: bool) -> &'static [u8]
+    ensures { result.now ≡ again_advice called }
+{
+    if called {
+        call_advice()
+    } else {
+        b"go to another level and back to have it started again"
+    }
+}
+
 /// What to do.
-fn advice_of(stage: Option<Stage>, why: Why) -> &'static [u8]
-    ensures { result.now ≡ advice_of stage why }
+fn advice_of(stage: Option<Stage>, act: Option<Act>, why: Why) -> &'static [u8]
+    ensures { result.now ≡ advice_of stage act why }
 {
     match why {
         Why::NoEntry => b"add its line to the inittab, or mend it, and run telinit q",
@@ -123,12 +171,11 @@ fn advice_of(stage: Option<Stage>, why: Why) -> &'static [u8]
         Why::RanBefore => b"run it by hand, or boot again",
         Why::StageOver => b"run it by hand, or boot again",
         Why::StageOwed(_) => b"ask why that one isn't done",
-        Why::OtherStage => other_advice(stage),
+        Why::OtherStage => other_advice(stage, act),
         Why::ChildKept(_) => b"end the child to have it started anew, where its action says so",
         Why::OrderOpen(_) => b"wait for the answer",
-        Why::NotCalled =>
-            b"call it by telinit a, b or c, or by news of the power, as its action says",
-        Why::WasStarted => b"go to another level and back to have it started again",
+        Why::NotCalled => call_advice(),
+        Why::WasStarted => again_advice(waits_for_call(act)),
         Why::EarlierOwed(_) => b"ask why that one isn't done",
         Why::ExcludedKept(_) => b"wait: init sends TERM, and KILL when the grace is over",
         Why::WishStands(_) => b"wait for init's next turn",
