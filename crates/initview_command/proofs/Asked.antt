@@ -1,9 +1,9 @@
 -- The command line, and what its words ask is done.
-use Rattle.std.proofs.Common.{◌≡◌, ◌∙◌, [], ap, inl, inr, refl, sym, true, false, ℕ, Bool, codes, List, Option, Some, None, subst, unwrap_or, IsSome}
+use Rattle.std.proofs.Common.{◌≡◌, ◌∙◌, [], ap, inl, inr, refl, sym, true, false, ℕ, Bool, codes, List, Option, Some, None, subst, unwrap_or, IsSome, option_and_then}
 use Rattle.std.proofs.KnownBytes.{Keeps-refl}
 use Rattle.clap.specs.Words.{Row, all_of, is_simple_and_free}
 use Rattle.clap.proofs.OnLiterals.{clap_on_literals}
-use Rattle.program_io.specs.declared.statuses.TheConstants.{DEVICE_FAULT, REFUSED}
+use Rattle.program_io.specs.declared.statuses.TheConstants.{DEVICE_FAULT}
 use Rattle.program_io.specs.Known.{KnownTexts}
 use Rattle.command_words.specs.CommandLines.{bare_line, given_by, line_of}
 use Rattle.command_words.specs.Faults.{reason_of}
@@ -11,9 +11,10 @@ use Rattle.command_words.specs.declared.faults.WordFault.{WordFault}
 use Rattle.command_words.specs.declared.faults.WordFault.TheVariants.{Usage, Memory}
 use Rattle.command_words.specs.VersionLine.{PrintsVersion}
 use Rattle.initview_command.specs.declared.asking.What.{What}
-use Rattle.initview_command.specs.Asking.{command_line, files_of, folder_of, path_of}
+use Rattle.initview_command.specs.Asking.{asked_of, command_line, files_of, folder_of, path_of, what_of, words_said}
 use Rattle.initview_command.specs.Writers.{KnownWriters}
-use Rattle.initview_command.specs.Endings.{Does, EndsAs, EndsFor, EndsGiven, EndsOf, EndsOn, EndsWhere}
+use Rattle.initview_command.specs.Refusals.{ReportsRefusal}
+use Rattle.initview_command.specs.Endings.{Does, EndsAs, EndsFor, EndsGiven, EndsOf, EndsOn, EndsWhere, Refuses}
 
 -- the command line uses no more of clap than what is known of it
 pub is_free_line : is_simple_and_free command_line ≡ true
@@ -59,11 +60,28 @@ module _ (text_at growing_at : KnownTexts) (writers : KnownWriters) (status : �
   given_done words rows is done =
       inl (subst (λ r. EndsWhere text_at growing_at writers r status old new) (sym is) done)
 
-pub fault_done : (text_at growing_at : KnownTexts) (writers : KnownWriters) (status : ℕ) (now : Option (List ℕ))
+-- the exit statuses of words that are refused
+pub refuses : (status : ℕ) (before after now : Option (List ℕ)) → ReportsRefusal status before after
+    → Refuses status now now
+refuses status before after now (inl told) = (inl told.0, Keeps-refl now)
+refuses status before after now (inr told) = (inr told.0, Keeps-refl now)
+
+pub fault_done : (text_at growing_at : KnownTexts) (writers : KnownWriters) (status : ℕ) (before after now : Option (List ℕ))
     (words : List (List ℕ)) (fault : WordFault) → (IsSome (reason_of fault) → given_by command_line words ≡ None)
-    → (IsSome (reason_of fault) → status ≡ REFUSED) → (fault ≡ Memory → status ≡ DEVICE_FAULT)
+    → ReportsRefusal status before after → (fault ≡ Memory → status ≡ DEVICE_FAULT)
     → EndsOn text_at growing_at writers words status now now
-fault_done text_at growing_at writers status now words (Usage reason) none refused memory =
+fault_done text_at growing_at writers status before after now words (Usage reason) none refused memory =
     inl (subst (λ r. EndsWhere text_at growing_at writers r status now now) (sym (none refl))
-    (refused refl, Keeps-refl now))
-fault_done text_at growing_at writers status now words Memory none refused memory = inr (memory refl, Keeps-refl now)
+    (refuses status before after now refused))
+fault_done text_at growing_at writers status before after now words Memory none refused memory = inr (memory refl, Keeps-refl now)
+
+-- what words ask, by the rows that they give
+pub asked_none : (words : List (List ℕ)) (rows : List Row) → given_by command_line words ≡ Some rows
+    → asked_of words ≡ None → what_of rows (words_said rows) ≡ None
+asked_none words rows given none = sym (ap (option_and_then (λ r. what_of r (words_said r))) given) ∙ none
+
+pub words_none : (rows : List Row) (words : List (List ℕ)) (given : Option (List (List ℕ)))
+    → given ≡ all_of (codes "WORD") rows → unwrap_or given [] ≡ words
+    → what_of rows (words_said rows) ≡ None → what_of rows words ≡ None
+words_none rows words given all are none =
+    ap (what_of rows) (sym are ∙ ap (λ ws. unwrap_or ws []) all) ∙ none

@@ -4,7 +4,7 @@ use Rattle.std.specs.List.{list_all}
 use Rattle.std.specs.Option.{is_some, option_map}
 use Rattle.std.specs.Str.{bytes_eq}
 use Rattle.clap.specs.Words.{App, Row, Text, all_of, first_of}
-use Rattle.command_words.specs.CommandLines.{Line, is_set, line_of, value_said, written}
+use Rattle.command_words.specs.CommandLines.{Line, given_by, is_set, line_of, value_said, written}
 use Rattle.init_words.specs.declared.levels.Level.{Level}
 use Rattle.init_words.specs.Ids.{id_read}
 use Rattle.init_words.specs.Levels.{level_read}
@@ -167,6 +167,10 @@ where_only rows what = if has_only rows what then Some what else None
 
 abbrev pub what_of : List Row → List Text → Option What
 what_of rows words = option_and_then (where_only rows) (asked rows words)
+
+-- what a command line asks
+abbrev pub asked_of : List Text → Option What
+asked_of words = option_and_then (λ rows. what_of rows (words_said rows)) (given_by command_line words)
 
 -- the path of the trace, or the folders of programs; and the paths of the files of inittabs
 abbrev pub second_of : List Text → Text

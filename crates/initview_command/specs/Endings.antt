@@ -36,13 +36,16 @@ Does text_at growing_at writers path files folder (Timing level) status old new 
 Does text_at growing_at writers path files folder (Tables question) status old new =
     Answers text_at files folder question status old new
 
--- so of what a command line gives, by its options and words; where they ask nothing it is refused, and nothing was
--- written
+-- words are refused, or memory ran out, and nothing was written
+abbrev pub Refuses : ℕ → Option (List ℕ) → Option (List ℕ) → Type 0
+Refuses status old new = ((status ≡ REFUSED) ⊎ (status ≡ DEVICE_FAULT)) × Keeps old new
+
+-- so of what a command line gives, by its options and words; where they ask nothing it is refused
 abbrev pub EndsFor : KnownTexts → KnownTexts → KnownWriters → List Row → List (List ℕ) → Option What → ℕ
     → Option (List ℕ) → Option (List ℕ) → Type 0
 EndsFor text_at growing_at writers rows words (Some what) status old new =
     Does text_at growing_at writers (path_of what rows words) (files_of what words) (folder_of rows) what status old new
-EndsFor text_at growing_at writers rows words None status old new = (status ≡ REFUSED) × Keeps old new
+EndsFor text_at growing_at writers rows words None status old new = Refuses status old new
 
 abbrev pub EndsGiven : KnownTexts → KnownTexts → KnownWriters → List Row → List (List ℕ) → ℕ → Option (List ℕ)
     → Option (List ℕ) → Type 0
@@ -58,7 +61,7 @@ EndsOf text_at growing_at writers rows status old new =
 abbrev pub EndsWhere : KnownTexts → KnownTexts → KnownWriters → Option (List Row) → ℕ → Option (List ℕ)
     → Option (List ℕ) → Type 0
 EndsWhere text_at growing_at writers (Some rows) status old new = EndsOf text_at growing_at writers rows status old new
-EndsWhere text_at growing_at writers None status old new = (status ≡ REFUSED) × Keeps old new
+EndsWhere text_at growing_at writers None status old new = Refuses status old new
 
 -- or memory ran out, and nothing was written
 abbrev pub EndsOn : KnownTexts → KnownTexts → KnownWriters → List (List ℕ) → ℕ → Option (List ℕ) → Option (List ℕ)

@@ -4,6 +4,7 @@ pub mod Endings
 pub mod Explaining
 pub mod Following
 pub mod Planning
+pub mod Refusals
 pub mod Reloading
 pub mod Showing
 pub mod Tables

@@ -1,7 +1,10 @@
 //! The words of `initview`, and what it does for them.
 
-ghost use Rattle.std.specs.Prelude.{◌≡◌, map, option_map, string_bytes};
+ghost use Rattle.std.specs.Prelude.{◌≡◌, false, map, option_map, string_bytes, None};
+ghost use Rattle.command_words.specs.CommandLines.{asks_version};
 ghost use Rattle.clap.specs.Words.{found_of, rows_of};
+ghost use Rattle.initview_command.specs.Asking.{asked_of, what_of, words_said};
+ghost use Rattle.initview_command.specs.Refusals.{ReportsRefusal};
 ghost use Rattle.initview_command.specs.Endings.{Does, EndsBy, EndsGiven, EndsOf};
 
 use crate::asking::{What, files_of, matched, path_of, what_of};
@@ -74,16 +77,20 @@ pub fn run_words<T: Texts, G: GrowingTexts, W: Write, E: Write>(
     out: &mut W,
     err: &mut E,
 ) -> u8
-    ensures { EndsBy (T.text_at texts.now) (G.text_at growing.now)
+    ensures ends { EndsBy (T.text_at texts.now) (G.text_at growing.now)
         (G.writer_at growing.now) (map string_bytes words.now)
         result (W.contents out.old) (W.contents out.new) }
+    // Of words that ask nothing a reason and the usage of a command are reported.
+    ensures refused { asks_version (map string_bytes words.now) ≡ false
+        → asked_of (map string_bytes words.now) ≡ None
+        → ReportsRefusal result (E.contents err.old) (E.contents err.new) }
 {
     if is_version(words) {
         return print_version("initview", out, err);
     }
     match matched(alloc, words) {
         Ok(matches) => run_matches(texts, growing, alloc, &matches, out, err),
-        Err(fault) => report_fault(&fault, words, err),
+        Err(fault) => report_fault(alloc, &fault, words, err),
     }
 }
 
@@ -96,8 +103,11 @@ fn run_matches<T: Texts, G: GrowingTexts, W: Write, E: Write>(
     out: &mut W,
     err: &mut E,
 ) -> u8
-    ensures { EndsOf (T.text_at texts.now) (G.text_at growing.now) (G.writer_at growing.now)
+    ensures ends { EndsOf (T.text_at texts.now) (G.text_at growing.now) (G.writer_at growing.now)
         (rows_of (found_of matches.now)) result (W.contents out.old) (W.contents out.new) }
+    ensures refused { what_of (rows_of (found_of matches.now))
+        (words_said (rows_of (found_of matches.now))) ≡ None
+        → ReportsRefusal result (E.contents err.old) (E.contents err.new) }
 {
     match words_of(matches, "WORD") {
         Some(words) => run_given(texts, growing, alloc, matches, words, out, err),
@@ -115,9 +125,11 @@ fn run_given<'a, T: Texts, G: GrowingTexts, W: Write, E: Write>(
     out: &mut W,
     err: &mut E,
 ) -> u8
-    ensures { EndsGiven (T.text_at texts.now) (G.text_at growing.now) (G.writer_at growing.now)
+    ensures ends { EndsGiven (T.text_at texts.now) (G.text_at growing.now) (G.writer_at growing.now)
         (rows_of (found_of matches.now)) (map (λ word. word.now) words.now)
         result (W.contents out.old) (W.contents out.new) }
+    ensures refused { what_of (rows_of (found_of matches.now)) (map (λ word. word.now) words.now)
+        ≡ None → ReportsRefusal result (E.contents err.old) (E.contents err.new) }
 {
     match what_of(matches, words) {
         Some(what) => {
@@ -126,7 +138,7 @@ fn run_given<'a, T: Texts, G: GrowingTexts, W: Write, E: Write>(
             let folder = word_of(matches, "--inittab-dir");
             run_asked(texts, growing, alloc, &what, path, files, folder, out, err)
         }
-        None => report_refusal(matches, words, err),
+        None => report_refusal(alloc, matches, words, err),
     }
 }
 

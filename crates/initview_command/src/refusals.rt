@@ -1,18 +1,18 @@
 //! Why words are no command line: the reason, what was probably meant, and the command's line of usage.
 
-ghost use Rattle.std.specs.Prelude.{◌≡◌, IsSome};
-ghost use Rattle.command_words.specs.Faults.{reason_of};
+ghost use Rattle.std.specs.Prelude.{◌≡◌, string_bytes, IfOk};
 ghost use Rattle.command_words.specs.declared.faults.WordFault.TheVariants.{Memory};
-ghost use Rattle.program_io.specs.declared.statuses.TheConstants.{DEVICE_FAULT, REFUSED};
+ghost use Rattle.program_io.specs.declared.statuses.TheConstants.{DEVICE_FAULT};
+ghost use Rattle.initview_command.specs.Refusals.{ReportsRefusal, usage_line};
 
 use crate::asking::{OPTIONS, What, asked, belongs, level_in};
 use crate::charting::lines_of;
 use crate::command::USAGE;
 use crate::telling::report_memory;
 use clap::ArgMatches;
-use command_words::{WordFault, is_slip, word_of};
+use command_words::{WordFault, is_slip, report_refused_words, word_of};
 use init_words::Id;
-use program_io::{REFUSED, report_usage};
+use std::alloc::{AllocError, Global};
 use std::io::Write;
 
 /// A command, and how many words stand behind it at least and at most.
@@ -61,9 +61,13 @@ fn usage_of(name: &str) -> &'static str {
     "initview why | status | left | timeline | follow | lint | diff | plan ..; initview --help says more"
 }
 
-fn tell_usage<E: Write>(name: &str, err: &mut E) {
-    let usage = usage_of(name);
-    let _ = writeln!(err, "usage: {usage}");
+fn usage_line(alloc: Global, usage: &str) -> Result<String, AllocError>
+    ensures { IfOk result (λ line. string_bytes line ≡ usage_line usage.now) }
+{
+    let mut line = String::from_str(alloc, "usage: ")?;
+    line.push_str(usage)?;
+    line.push_str("\n")?;
+    Ok(line)
 }
 
 /// Why the value of an option is refused, and which it is.
@@ -88,82 +92,115 @@ fn id_in<'a>(name: &str, words: &[&'a str]) -> Option<&'a str> {
     }
 }
 
-/// Tells what is wrong with the words behind a command, and with the values of options.
-fn tell_words<E: Write>(matches: &ArgMatches, command: Command, words: &[&str], err: &mut E) {
+/// What is wrong with the words behind a command, and with the values of options.
+fn words_reason(
+    alloc: Global,
+    matches: &ArgMatches,
+    command: Command,
+    words: &[&str],
+) -> Result<String, AllocError> {
     let (name, least, most) = command;
-    let _ = match (value_reason(matches), words.get(most), id_in(name, words)) {
-        (Some((option, value, reason)), _, _) => {
-            writeln!(err, "initview: {option} {value}: {reason}")
-        }
-        _ if words.len() < least => writeln!(err, "initview: {name}: a word is missing"),
-        (None, Some(word), _) => writeln!(err, "initview: {name}: one word is too many: {word}"),
+    match (value_reason(matches), words.get(most), id_in(name, words)) {
+        (Some((option, value, reason)), _, _) => format!(in alloc; "{option} {value}: {reason}"),
+        _ if words.len() < least => format!(in alloc; "{name}: a word is missing"),
+        (None, Some(word), _) => format!(in alloc; "{name}: one word is too many: {word}"),
         (None, None, Some(word)) if Id::read(word.as_bytes()).is_none() => {
-            writeln!(
-                err,
-                "initview: {word}: an ID is 1 to 8 characters of those that inittab(5) allows"
-            )
+            format!(in alloc; "{word}: an ID is 1 to 8 characters of those that inittab(5) allows")
         }
-        _ => writeln!(
-            err,
-            "initview: {name}: an option is given beside one that rules it out"
-        ),
-    };
+        _ => format!(in alloc; "{name}: an option is given beside one that rules it out"),
+    }
 }
 
-/// Tells the options that are not those of what is asked.
-fn tell_options<E: Write>(matches: &ArgMatches, name: &str, what: &What, err: &mut E) {
+/// The options that are not those of what is asked, in a line each.
+fn options_reason(
+    alloc: Global,
+    matches: &ArgMatches,
+    name: &str,
+    what: &What,
+) -> Result<String, AllocError> {
+    let mut reason = String::new(alloc);
     for row in OPTIONS {
         if !belongs(matches, what, *row) {
             let option = row.0;
-            let _ = writeln!(err, "initview: {name}: no such option: {option}");
+            let before = if reason.is_empty() {
+                ""
+            } else {
+                "\ninitview: "
+            };
+            write!(reason, "{before}{name}: no such option: {option}")?;
         }
+    }
+    Ok(reason)
+}
+
+/// There is no such command, and which was probably meant.
+fn command_reason(alloc: Global, name: &str) -> Result<String, AllocError> {
+    match command_meant(name) {
+        Some(meant) => format!(in alloc; "no such command: {name}: {meant}?"),
+        None => format!(in alloc; "no such command: {name}"),
     }
 }
 
-/// Tells why options and words, of which the first is the command, are no command line, and gives the exit status.
-pub(crate) fn report_refusal<E: Write>(matches: &ArgMatches, words: &[&str], err: &mut E) -> u8
-    ensures { result ≡ REFUSED }
-{
-    if let [name, rest @ ..] = words {
-        match (command_of(*name), asked(matches, words)) {
-            (Some(_), Some(what)) => tell_options(matches, *name, &what, err),
-            (Some(command), None) => tell_words(matches, command, rest, err),
-            (None, _) => tell_command(*name, err),
-        }
-        tell_usage(*name, err);
-    }
-    REFUSED
-}
-
-/// Tells that there is no such command, and which was probably meant.
-fn tell_command<E: Write>(name: &str, err: &mut E) {
-    let _ = match command_meant(name) {
-        Some(meant) => writeln!(err, "initview: no such command: {name}: {meant}?"),
-        None => writeln!(err, "initview: no such command: {name}"),
+/// Why options and words, of which the first is the command, are no command line.
+fn refusal_of(alloc: Global, matches: &ArgMatches, words: &[&str]) -> Result<String, AllocError> {
+    let [name, rest @ ..] = words else {
+        return String::from_str(alloc, "a word is missing");
     };
+    match (command_of(*name), asked(matches, words)) {
+        (Some(_), Some(what)) => options_reason(alloc, matches, *name, &what),
+        (Some(command), None) => words_reason(alloc, matches, command, rest),
+        (None, _) => command_reason(alloc, *name),
+    }
+}
+
+/// Tells why options and words are no command line, and gives the exit status.
+pub(crate) fn report_refusal<E: Write>(
+    alloc: Global,
+    matches: &ArgMatches,
+    words: &[&str],
+    err: &mut E,
+) -> u8
+    ensures { ReportsRefusal result (E.contents err.old) (E.contents err.new) }
+{
+    let name = match words {
+        [name, ..] => *name,
+        [] => "",
+    };
+    match refusal_of(alloc, matches, words) {
+        Ok(reason) => report_reason(alloc, reason.as_str(), name, err),
+        Err(AllocError) => report_memory(err),
+    }
 }
 
 /// Tells why words weren't read, and gives the exit status.
-pub(crate) fn report_fault<E: Write>(fault: &WordFault, words: &[String], err: &mut E) -> u8
-    ensures usage { IsSome (reason_of fault.now) → result ≡ REFUSED }
+pub(crate) fn report_fault<E: Write>(
+    alloc: Global,
+    fault: &WordFault,
+    words: &[String],
+    err: &mut E,
+) -> u8
+    ensures report { ReportsRefusal result (E.contents err.old) (E.contents err.new) }
     ensures memory { fault.now ≡ Memory → result ≡ DEVICE_FAULT }
 {
     match fault {
-        WordFault::Usage(reason) => report_reason(reason.as_str(), words, err),
+        WordFault::Usage(reason) => report_reason(
+            alloc,
+            reason.as_str(),
+            command_among(words),
+            err,
+        ),
         WordFault::Memory => report_memory(err),
     }
 }
 
-/// Tells a reason, and the usage of the command that is among the words; or the whole usage where help is asked for.
-fn report_reason<E: Write>(reason: &str, words: &[String], err: &mut E) -> u8
-    ensures { result ≡ REFUSED }
+/// Tells a reason, and the usage of the command of this name; or the whole usage where help is asked for.
+fn report_reason<E: Write>(alloc: Global, reason: &str, name: &str, err: &mut E) -> u8
+    ensures { ReportsRefusal result (E.contents err.old) (E.contents err.new) }
 {
-    if reason.is_empty() {
-        return report_usage(USAGE, err);
+    match usage_line(alloc, usage_of(name)) {
+        Ok(usage) => report_refused_words("initview", reason, USAGE, usage.as_str(), err),
+        Err(AllocError) => report_memory(err),
     }
-    let _ = writeln!(err, "initview: {reason}");
-    tell_usage(command_among(words), err);
-    REFUSED
 }
 
 fn command_among(words: &[String]) -> &str {

@@ -3,6 +3,7 @@
 ghost use Rattle.std.specs.Prelude.{◌≡◌, true};
 ghost use Rattle.std.specs.Io.KnownBytes.{Appends};
 ghost use Rattle.program_io.specs.Writing.{AppendsPrefix};
+ghost use Rattle.initview_command.specs.Refusals.{memory_line};
 
 use program_io::{DEVICE_FAULT, write_text};
 use std::io;
@@ -17,7 +18,8 @@ pub(crate) fn tell<W: Write>(text: &[u8], out: &mut W) -> bool
 }
 
 pub(crate) fn report_memory<E: Write>(err: &mut E) -> u8
-    ensures { result ≡ DEVICE_FAULT }
+    ensures status { result ≡ DEVICE_FAULT }
+    ensures report { AppendsPrefix (E.contents err.old) (E.contents err.new) memory_line }
 {
     let _ = write_text(err, b"initview: out of memory\n");
     DEVICE_FAULT

@@ -3,4 +3,4 @@ use Rattle.std.proofs.KnownBytes.{Keeps-refl}
 use Rattle.initview_command.proofs.showing.show_file.Goals as goal
 
 pub returns-in-Err : goal.returns-in-Err
-returns-in-Err g c = inr (c.report_memory.ensures, Keeps-refl (g.W.Write.contents c.args.out.now))
+returns-in-Err g c = inr (c.report_memory.ensures.status, Keeps-refl (g.W.Write.contents c.args.out.now))
