@@ -1,5 +1,6 @@
 pub mod PathLemmas
 pub mod ReadingLemmas
+pub mod ReportLemmas
 pub mod RunLemmas
 pub mod SettledLemmas
 pub mod SkippingLemmas

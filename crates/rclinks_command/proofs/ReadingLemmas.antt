@@ -1,18 +1,17 @@
 -- What the paths of scripts give.
 use Rattle.std.proofs.Common.{◌≡◌, ◌⊎◌, inl, inr, ℕ, suc, Bool, true, false, List, [], ◌∷◌, ◌++◌, length, slice_get, unwrap_or, None, Some, refl, ap, sym, subst, ◌∙◌, append_assoc, append-nil, arith, map, string_bytes, String, Global, get_or, take, ◌+◌, ◌<◌}
-use Rattle.std.specs.Bool.{◌==◌}
 use Rattle.std.proofs.lemmas.Bool.{both_ways}
 use Rattle.std.proofs.lemmas.List.{map-append}
 use Rattle.std.proofs.lemmas.Option.{none-some}
 use Rattle.program_io.specs.Known.{KnownTexts}
 use Rattle.rc_links.proofs.NameLemmas.{cut_at}
 use Rattle.rc_links.specs.ScriptText.{ScriptText}
-use Rattle.rclinks_command.specs.Command.{AreScripts, HasRefused}
-use Rattle.rclinks_command.specs.Files.{IsNoScriptAt, IsScriptAt, file_status}
+use Rattle.rclinks_command.specs.Command.{HasRefused}
+use Rattle.rclinks_command.specs.Files.{AreScripts, IsNoScriptAt, IsScriptAt, file_status}
 use Rattle.rclinks_command.specs.Reading.{Reads, ReadsOne, ReadsTo}
 use Rattle.rclinks_command.specs.declared.files.FileFault.{FileFault}
 
-nil_is_no_cons : {X : Type 0} (x : X) (xs : List X) → [] ≡ x ∷ xs → ⊥
+pub nil_is_no_cons : {X : Type 0} (x : X) (xs : List X) → [] ≡ x ∷ xs → ⊥
 nil_is_no_cons x xs is = let lengths : 0 ≡ suc (length xs) = ap length is in absurd (omega (arith, lengths))
 
 -- where no file has a fault, all paths give scripts
@@ -74,11 +73,6 @@ pub reads_next : (text_at : KnownTexts) (words : List (String Global)) (n : ℕ)
 reads_next text_at words n word old new before after within is read one =
     let next = ap (λ ws. map string_bytes ws) (cut_at words n word within is).1 ∙ map-append string_bytes (take n words) (word ∷ []) in
     subst (λ ps. Reads text_at ps new after) (sym next) (reads_push text_at (map string_bytes (take n words)) (string_bytes word) old new before after read one)
-
--- some faults are none where their count is not 0
-pub no_fault_counts : (faults : List FileFault) → (length faults == 0) ≡ false → faults ≡ [] → ⊥
-no_fault_counts [] counts none = both_ways true counts refl
-no_fault_counts (found ∷ faults) counts none = nil_is_no_cons found faults (sym none)
 
 -- the first fault refuses a run for its file
 pub refused_first : (text_at : KnownTexts) (paths read later : List (List ℕ)) (scripts : List ScriptText) (faults more : List FileFault) (found : FileFault)

@@ -14,20 +14,14 @@ use Rattle.rc_links.specs.declared.faults.PlanFault.TheVariants as plan_fault
 use Rattle.clap.specs.Words.{App, Row, all_of, first_of}
 use Rattle.command_words.specs.CommandLines.{given_by, is_set, line_of, written}
 use Rattle.rclinks_command.specs.Facilities.{files_with}
-use Rattle.rclinks_command.specs.Files.{IsNoScriptAt, IsScriptAt, file_status}
+use Rattle.rclinks_command.specs.Files.{AreScripts, IsNoScriptAt, file_status}
 use Rattle.rclinks_command.specs.Folders.{KnownFolders, KnownScripts}
 use Rattle.rclinks_command.specs.Reading.{Reads}
+use Rattle.rclinks_command.specs.Reports.{ReportsRefused}
 use Rattle.rclinks_command.specs.Skipping.{LeavesSome}
 use Rattle.rclinks_command.specs.Writing.{InFolders, IsTaken, IsWritten, IsWrittenPart, Previews}
 use Rattle.rclinks_command.specs.declared.command.TheConstants.{OPTIONS}
 use Rattle.rclinks_command.specs.declared.files.FileFault.{FileFault}
-
--- a script for each path, in order
-abbrev pub AreScripts : KnownTexts → List (List ℕ) → List ScriptText → Type 0
-AreScripts text_at [] [] = Unit {0}
-AreScripts text_at [] (s ∷ scripts) = ⊥
-AreScripts text_at (path ∷ paths) [] = ⊥
-AreScripts text_at (path ∷ paths) (s ∷ scripts) = IsScriptAt text_at path s × AreScripts text_at paths scripts
 
 -- 4 for lack of memory, 1 for another fault of the plan
 abbrev pub plan_status : {A : Type 0} → PlanFault A → ℕ
@@ -167,3 +161,8 @@ IsRefusedFor text_at skips paths = HasRefused text_at paths ⊎ ScriptsOf text_a
 abbrev pub IsRefusedBy : KnownTexts → Line → KnownScripts → KnownFolders → Type 0
 IsRefusedBy text_at line scripts before =
     IsRefusedFor text_at line.skips line.files ⊎ PlanOf text_at line (TakenBy line.dir line scripts before)
+
+-- the report of a run that is refused for a file or the plan; or a name is taken
+abbrev pub TellsRefused : KnownTexts → Line → KnownScripts → KnownFolders → Option (List ℕ) → Option (List ℕ) → Type 0
+TellsRefused text_at line scripts before old new =
+    ReportsRefused text_at line.files old new ⊎ PlanOf text_at line (TakenBy line.dir line scripts before)

@@ -33,6 +33,13 @@ abbrev pub IsScriptAt : KnownTexts → List ℕ → ScriptText → Type 0
 IsScriptAt text_at path script =
     (text : List ℕ) × IsTextAt text_at path text × IsScriptOf (last_part path) text script
 
+-- a script for each path, in order
+abbrev pub AreScripts : KnownTexts → List (List ℕ) → List ScriptText → Type 0
+AreScripts text_at [] [] = Unit {0}
+AreScripts text_at [] (s ∷ scripts) = ⊥
+AreScripts text_at (path ∷ paths) [] = ⊥
+AreScripts text_at (path ∷ paths) (s ∷ scripts) = IsScriptAt text_at path s × AreScripts text_at paths scripts
+
 -- the fault of a file with this text, whose header has this one: a keyword that stands twice, with the second's line
 abbrev pub refusal_of : List ℕ → HeaderFault → FileFault
 refusal_of text header_fault.NoBegin = fault.Header header_fault.NoBegin None

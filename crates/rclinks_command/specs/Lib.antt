@@ -3,6 +3,7 @@ pub mod Facilities
 pub mod Files
 pub mod Folders
 pub mod Reading
+pub mod Reports
 pub mod Said
 pub mod Skipping
 pub mod Writing

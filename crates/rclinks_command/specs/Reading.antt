@@ -1,5 +1,5 @@
 -- The scripts of paths, some of which may give none.
-use Rattle.std.specs.Prelude.{◌≡◌, ◌≢◌, ◌⊎◌, ℕ, Bool, false, List, [], ◌∷◌, ◌++◌}
+use Rattle.std.specs.Prelude.{◌≡◌, ◌≢◌, ◌⊎◌, ℕ, Bool, true, false, List, [], ◌∷◌, ◌++◌}
 use Rattle.program_io.specs.Known.{KnownTexts}
 use Rattle.rc_links.specs.ScriptText.{ScriptText}
 use Rattle.rclinks_command.specs.Files.{IsNoScriptAt, IsScriptAt}
@@ -19,6 +19,11 @@ Reads text_at (path ∷ paths) scripts faults =
     × Reads text_at paths more faults)
     ⊎ ((found : FileFault) × (more : List FileFault) × (faults ≡ found ∷ more) × IsNoScriptAt text_at path found
     × Reads text_at paths scripts more)
+
+-- there are some
+abbrev pub has_faults : List FileFault → Bool
+has_faults [] = false
+has_faults (found ∷ faults) = true
 
 -- the same of all paths; or, where it doesn't go on behind a fault, of those up to the first one
 abbrev pub ReadsTo : Bool → KnownTexts → List (List ℕ) → List ScriptText → List FileFault → Type 0

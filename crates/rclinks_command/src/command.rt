@@ -10,7 +10,9 @@ ghost use Rattle.command_words.specs.VersionLine.{PrintsVersion};
 ghost use Rattle.rc_links.specs.Links.{plan_text};
 ghost use Rattle.rc_links.specs.Plans.{IsPlan};
 ghost use Rattle.rclinks_command.specs.Said.{line_said};
-ghost use Rattle.rclinks_command.specs.Command.{goes_on, Does, DoesBy, DoesIn, DoesPart, HasNoPlan, IsRefusedBy, IsRefusedFor, PartBy, PartIn, Says, ScriptsOf, TakenBy, asked_by, command_line, line_with, plan_status, rclinks_read_of, writes, writes_by};
+ghost use Rattle.rclinks_command.specs.Command.{goes_on, Does, DoesBy, DoesIn, DoesPart, HasNoPlan, IsRefusedBy, IsRefusedFor, PartBy, PartIn, Says, ScriptsOf, TakenBy, TellsRefused, asked_by, command_line, line_with, rclinks_read_of, writes, writes_by};
+ghost use Rattle.rclinks_command.specs.Files.{file_status};
+ghost use Rattle.rclinks_command.specs.Reports.{ReportsPlan, ReportsRefused};
 ghost use Rattle.rclinks_command.specs.Skipping.{LeavesSome};
 ghost use Rattle.rclinks_command.specs.Writing.{InFolders, IsTaken};
 
@@ -19,8 +21,8 @@ use crate::files::FileFault;
 use crate::folders::LinkFolders;
 use crate::planned::kept_in;
 use crate::reading::read_files;
-use crate::skipping::{plan_rest, tell_first};
-use crate::telling::tell_system_names;
+use crate::skipping::{plan_rest, report_first, status_of};
+use crate::telling::warn_of_names;
 use crate::writing::{preview, write_folders};
 use clap::ArgMatches;
 use command_words::{
@@ -138,16 +140,6 @@ fn files_of(
     }
 }
 
-/// The exit status of a fault of the plan.
-fn status_of(fault: &PlanFault) -> u8
-    ensures { result ≡ plan_status fault.now }
-{
-    match fault {
-        PlanFault::Memory => DEVICE_FAULT,
-        _ => REFUSED,
-    }
-}
-
 /// Writes a text, and gives the exit status.
 fn write_links<W: Write, E: Write>(text: &[u8], out: &mut W, err: &mut E) -> u8
     ensures statuses { (result ≡ DONE) ⊎ (result ≡ DEVICE_FAULT) }
@@ -199,16 +191,24 @@ fn plan_all<'w, E: Write>(
     ensures planned { IfOk result (IsPlan scripts.old.items) }
     ensures refused { IfErr result (λ status. (status ≡ DEVICE_FAULT)
         ⊎ (status ≡ REFUSED) × HasNoPlan scripts.old.items) }
+    ensures told { all ≡ false → IfErr result (λ status. status ≡ REFUSED
+        → ReportsPlan scripts.old.items (E.contents err.old) (E.contents err.new)) }
 {
+    warn_of_names(alloc, scripts.as_slice(), paths.as_slice(), err);
     match plan(alloc, scripts.as_slice()) {
         Ok(plan) => Ok(plan),
         Err(fault) => {
             if all {
                 tell_faults(alloc, scripts, paths, err);
-            } else {
-                tell_first(&fault, scripts.as_slice(), paths.as_slice(), err);
+                return Err(status_of(&fault));
             }
-            Err(status_of(&fault))
+            Err(report_first(
+                alloc,
+                &fault,
+                scripts.as_slice(),
+                paths.as_slice(),
+                err,
+            ))
         }
     }
 }
@@ -225,10 +225,32 @@ fn plan_left<'w, E: Write>(
     ensures refused { IfErr result (λ status. (status ≡ DEVICE_FAULT)
         ⊎ (status ≡ REFUSED) × HasNoPlan scripts.new.items) }
 {
+    warn_of_names(alloc, scripts.as_slice(), paths.as_slice(), err);
     match plan_rest(alloc, scripts, paths, true, err) {
         Ok(plan) => Ok(plan),
         Err(fault) => Err(status_of(&fault)),
     }
+}
+
+/// Tells all faults of the scripts that the other files give, where that is asked for, and gives the exit status of the
+/// first file's.
+fn refuse_file<'w, E: Write>(
+    alloc: Global,
+    all: bool,
+    fault: &FileFault,
+    scripts: &mut Vec<Script>,
+    paths: &mut Vec<&'w str>,
+    err: &mut E,
+) -> u8
+    ensures status { result ≡ file_status fault.now }
+    ensures told { all ≡ false → err.new ≡ err.old }
+{
+    if !all {
+        return fault.status();
+    }
+    warn_of_names(alloc, scripts.as_slice(), paths.as_slice(), err);
+    tell_faults(alloc, scripts, paths, err);
+    fault.status()
 }
 
 /// The plan of the files' scripts; the exit status where a file or the plan is refused, a file can't be read or memory
@@ -244,6 +266,9 @@ fn plan_of<T: Texts, E: Write>(
     ensures refused { IfErr result (λ status. (status ≡ DEVICE_FAULT)
         ⊎ (status ≡ REFUSED) × IsRefusedFor (T.text_at texts.now) line.now.skips
         (map string_bytes line.now.files.now)) }
+    ensures told { goes_on (line_said line.now) ≡ false → IfErr result (λ status. status ≡ REFUSED
+        → ReportsRefused (T.text_at texts.now) (map string_bytes line.now.files.now)
+        (E.contents err.old) (E.contents err.new)) }
 {
     let mut scripts = Vec::new(alloc);
     let mut paths = Vec::new(alloc);
@@ -260,20 +285,19 @@ fn plan_of<T: Texts, E: Write>(
     let Ok(faults) = read else {
         return Err(report_no_memory("rclinks", err));
     };
-    if line.goes_on() || faults.is_empty() {
-        tell_system_names(scripts.as_slice(), paths.as_slice(), err);
-    }
     if line.skips {
         return plan_left(alloc, &mut scripts, &mut paths, err);
     }
     match faults.first() {
         None => plan_all(alloc, line.all, &mut scripts, &mut paths, err),
-        Some(fault) => {
-            if line.all {
-                tell_faults(alloc, &mut scripts, &mut paths, err);
-            }
-            Err(fault.status())
-        }
+        Some(fault) => Err(refuse_file(
+            alloc,
+            line.all,
+            fault,
+            &mut scripts,
+            &mut paths,
+            err,
+        )),
     }
 }
 
@@ -410,6 +434,9 @@ fn run_line<T: Texts, F: LinkFolders, W: Write, E: Write>(
         (W.contents out.new) }
     ensures refused { result ≡ REFUSED → IsRefusedBy (T.text_at texts.now) (line_said line.now)
         (F.scripts_in folders.old) (F.held folders.old) }
+    ensures told { goes_on (line_said line.now) ≡ false → result ≡ REFUSED
+        → TellsRefused (T.text_at texts.now) (line_said line.now) (F.scripts_in folders.old)
+        (F.held folders.old) (E.contents err.old) (E.contents err.new) }
     ensures quiet { result ≡ REFUSED → (out.new ≡ out.old) × (folders.new ≡ folders.old) }
     ensures kept { writes (line_said line.now) ≡ false → folders.new ≡ folders.old }
     ensures silent { writes (line_said line.now) ≡ true → out.new ≡ out.old }
@@ -441,6 +468,10 @@ fn run_matches<T: Texts, F: LinkFolders, W: Write, E: Write>(
     ensures refused { result ≡ REFUSED → IsRefusedBy (T.text_at texts.now)
         (line_with (map string_bytes facilities.now) (asked_by (rows_of (found_of matches.now))))
         (F.scripts_in folders.old) (F.held folders.old) }
+    ensures told { goes_on (asked_by (rows_of (found_of matches.now))) ≡ false → result ≡ REFUSED
+        → TellsRefused (T.text_at texts.now)
+        (line_with (map string_bytes facilities.now) (asked_by (rows_of (found_of matches.now))))
+        (F.scripts_in folders.old) (F.held folders.old) (E.contents err.old) (E.contents err.new) }
     ensures quiet { result ≡ REFUSED → (out.new ≡ out.old) × (folders.new ≡ folders.old) }
     ensures kept { writes (asked_by (rows_of (found_of matches.now))) ≡ false
         → folders.new ≡ folders.old }
@@ -498,6 +529,12 @@ pub fn run_words<T: Texts, F: LinkFolders, W: Write, E: Write>(
         ⊎ Says (map string_bytes words.now) (λ line. IsRefusedBy (T.text_at texts.now)
         (line_with (map string_bytes facilities.now) line) (F.scripts_in folders.old)
         (F.held folders.old)) }
+    // Without --all and --skip warnings are told, and then a file's path or the plan's first fault, unless a name is taken.
+    ensures told { asks_version (map string_bytes words.now) ≡ false → result ≡ REFUSED
+        → (rclinks_read_of (map string_bytes words.now) ≡ None)
+        ⊎ Says (map string_bytes words.now) (λ line. goes_on line ≡ false
+        → TellsRefused (T.text_at texts.now) (line_with (map string_bytes facilities.now) line)
+        (F.scripts_in folders.old) (F.held folders.old) (E.contents err.old) (E.contents err.new)) }
     ensures quiet { result ≡ REFUSED → (out.new ≡ out.old) × (folders.new ≡ folders.old) }
     // Nothing is changed but by `--write` without `-n`, and then nothing is printed.
     ensures kept { writes_by (rclinks_read_of (map string_bytes words.now)) ≡ false

@@ -1,11 +1,13 @@
 //! The scripts and facility files that paths lead to.
 
-ghost use Rattle.std.specs.Prelude.{◌≡◌, true, false, None, Err, IfOk, IfErr, IfSome, string_bytes};
+ghost use Rattle.std.specs.Prelude.{◌≡◌, true, false, None, Err, IfOk, IfErr, IfSome, codes, string_bytes};
 ghost use Rattle.rc_header.specs.Headers.{frame_fault};
 ghost use Rattle.rc_links.specs.Names.{is_name};
 ghost use Rattle.rclinks_command.specs.Files.{IsNoScript, IsNoScriptAt, IsScriptAt, IsScriptOf, file_status, last_part, refusal_of};
+ghost use Rattle.rclinks_command.specs.Reports.{ReportsWhy, TellsWhy, Warns};
 
-use crate::remarks::{behind_end, tell_odd_lines};
+use crate::lines::tell_why;
+use crate::remarks::{behind_end, warn_of_lines};
 use init_words::Memory;
 use program_io::{DEVICE_FAULT, REFUSED, Texts};
 use rc_header::{HeaderFault, second_line};
@@ -120,29 +122,49 @@ pub fn script_in(alloc: Global, name: &[u8], text: &[u8]) -> Result<Script, File
     }
 }
 
-/// Writes why a file of this text gives no script: a line that is always the same, and one that says the reason, the
-/// line of the file that it is about, and what to write in its place; and that it is left out, where it is.
-fn tell_refusal<E: Write>(path: &str, text: &[u8], fault: &FileFault, skips: bool, err: &mut E) {
-    let line = match fault {
-        FileFault::Memory => return,
-        FileFault::Unread(_) => "cannot read",
-        FileFault::Name | FileFault::Header(_, _) => "bad header",
+/// Tells the reason why a file of this text gives no script, the line of the file that it is about, and what to write in
+/// its place; and that it is left out, where it is.
+fn tell_reason<E: Write>(path: &str, text: &[u8], fault: &FileFault, skips: bool, more: &mut E) {
+    let _ = match behind_end(text, fault) {
+        Some((number, behind)) => writeln!(
+            more,
+            "{path}: line {number}: \"{behind}\" stands behind \"### END INIT INFO\", which ends no header then"
+        ),
+        None => writeln!(more, "{path}: {fault}"),
     };
-    let _ = writeln!(err, "rclinks: {line}: {path}");
-    match behind_end(text, fault) {
-        Some((number, more)) => {
-            let _ = writeln!(
-                err,
-                "rclinks: {path}: line {number}: \"{more}\" stands behind \"### END INIT INFO\", which ends no header then"
-            );
-        }
-        None => {
-            let _ = writeln!(err, "rclinks: {path}: {fault}");
-        }
-    }
     if skips {
-        let _ = writeln!(err, "rclinks: {path}: left out");
+        let _ = writeln!(more, "{path}: left out");
     }
+}
+
+/// The word in front of the path of a file that gives no script.
+fn word_of(fault: &FileFault) -> &'static [u8]
+    ensures { file_status fault.now ≡ 1 → result.now ≡ codes "bad header: " }
+{
+    match fault {
+        FileFault::Unread(_) | FileFault::Memory => b"cannot read: ",
+        FileFault::Name | FileFault::Header(_, _) => b"bad header: ",
+    }
+}
+
+/// Tells why a file of this text gives no script: a line that is always the same, and the reason.
+fn tell_refusal<E: Write>(
+    alloc: Global,
+    path: &str,
+    text: &[u8],
+    fault: &FileFault,
+    skips: bool,
+    err: &mut E,
+)
+    ensures { file_status fault.now ≡ 1
+        → TellsWhy (codes "bad header: ") path.now (E.contents err.old) (E.contents err.new) }
+{
+    if let FileFault::Memory = fault {
+        return;
+    }
+    let mut more = Vec::new(alloc);
+    tell_reason(path, text, fault, skips, &mut more);
+    tell_why(word_of(fault), path.as_bytes(), more.as_slice(), err);
 }
 
 /// Reads the script of a path. What is odd in the lines of its header is told, and why it gives none.
@@ -155,21 +177,24 @@ pub(crate) fn script_of<T: Texts, E: Write>(
 ) -> Result<Script, FileFault>
     ensures script { IfOk result (IsScriptAt (T.text_at texts.now) path.now) }
     ensures fault { IfErr result (IsNoScriptAt (T.text_at texts.now) path.now) }
+    ensures warned { IfOk result (λ _. Warns (E.contents err.old) (E.contents err.new)) }
+    ensures told { IfErr result (λ fault. file_status fault ≡ 1
+        → ReportsWhy (codes "bad header: ") path.now (E.contents err.old) (E.contents err.new)) }
 {
     match texts.read_file(alloc, path) {
         Ok(text) => {
-            tell_odd_lines(path, text.as_slice(), err);
+            warn_of_lines(alloc, path, text.as_slice(), err);
             match script_in(alloc, last_part(path.as_bytes()), text.as_slice()) {
                 Ok(script) => Ok(script),
                 Err(fault) => {
-                    tell_refusal(path, text.as_slice(), &fault, skips, err);
+                    tell_refusal(alloc, path, text.as_slice(), &fault, skips, err);
                     Err(fault)
                 }
             }
         }
         Err(error) => {
             let fault = FileFault::Unread(error);
-            tell_refusal(path, &[], &fault, skips, err);
+            tell_refusal(alloc, path, &[], &fault, skips, err);
             Err(fault)
         }
     }

@@ -7,6 +7,7 @@ mod facilities;
 mod faulty;
 mod files;
 mod folders;
+mod lines;
 mod planned;
 mod reading;
 mod remarks;

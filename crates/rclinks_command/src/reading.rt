@@ -1,10 +1,11 @@
 //! All files of a command line, read; what can't be read is told.
 
-ghost use Rattle.std.specs.Prelude.{◌≡◌, [], map, string_bytes, IfOk, OnOk};
-ghost use Rattle.rclinks_command.specs.Reading.{ReadsOne, ReadsTo};
+ghost use Rattle.std.specs.Prelude.{◌≡◌, ◌&&◌, [], false, not, map, string_bytes, IfOk, OnOk};
+ghost use Rattle.rclinks_command.specs.Reading.{ReadsOne, ReadsTo, has_faults};
+ghost use Rattle.rclinks_command.specs.Reports.{TellsFiles, TellsOne};
 
 use crate::files::{FileFault, script_of};
-use crate::remarks::tell_odd_header;
+use crate::remarks::warn_of_header;
 use init_words::Memory;
 use program_io::Texts;
 use rc_links::Script;
@@ -22,12 +23,14 @@ fn read_one<'w, T: Texts, E: Write>(
     faults: &mut Vec<FileFault>,
     err: &mut E,
 ) -> Result<(), Memory>
-    ensures { OnOk result (ReadsOne (T.text_at texts.now) path.now scripts.old.items
+    ensures read { OnOk result (ReadsOne (T.text_at texts.now) path.now scripts.old.items
         scripts.new.items faults.old.items faults.new.items) }
+    ensures told { OnOk result (TellsOne (T.text_at texts.now) path.now faults.old.items
+        faults.new.items (E.contents err.old) (E.contents err.new)) }
 {
     match script_of(texts, alloc, path, skips, err) {
         Ok(script) => {
-            tell_odd_header(path, script.header(), err);
+            warn_of_header(alloc, path, script.header(), err);
             scripts.push(script)?;
             paths.push(path)?;
         }
@@ -35,6 +38,13 @@ fn read_one<'w, T: Texts, E: Write>(
         Err(fault) => faults.push(fault)?,
     }
     Ok(())
+}
+
+/// The files behind a fault are not read.
+fn is_over(goes_on: bool, faults: &[FileFault]) -> bool
+    ensures { result ≡ (not goes_on && has_faults faults.now) }
+{
+    !goes_on && matches!(faults, [_, ..])
 }
 
 /// Reads the scripts of the paths, in order, and gives the faults of the files that give none, which are told. Where it
@@ -50,14 +60,17 @@ pub(crate) fn read_files<'w, T: Texts, E: Write>(
     err: &mut E,
 ) -> Result<Vec<FileFault>, Memory>
     requires { scripts.old.items ≡ [] }
-    ensures { IfOk result (λ faults. ReadsTo goes_on (T.text_at texts.now)
+    ensures read { IfOk result (λ faults. ReadsTo goes_on (T.text_at texts.now)
         (map string_bytes words.now) scripts.new.items faults.items) }
+    ensures told { IfOk result (λ faults. goes_on ≡ false → TellsFiles (T.text_at texts.now)
+        (map string_bytes words.now) faults.items (E.contents err.old) (E.contents err.new)) }
 {
     let mut faults = Vec::new(alloc);
     for word in words {
         let path = word.as_str();
         read_one(texts, alloc, path, skips, scripts, paths, &mut faults, err)?;
-        if !goes_on && !faults.is_empty() {
+        let over = is_over(goes_on, faults.as_slice());
+        if over {
             return Ok(faults);
         }
     }

@@ -1,14 +1,26 @@
-//! Warnings: what stands in a header and counts for nothing.
+//! Warnings: what stands in a header and counts for nothing. Each is a line without the words in front of it.
+
+ghost use Rattle.rclinks_command.specs.Reports.{Warns};
 
 use crate::files::FileFault;
+use crate::lines::tell_lines;
 use init_words::Level;
 use rc_header::{Header, HeaderFault, Keyword, begun, block_line, known_of};
+use std::alloc::Global;
 use std::io::Write;
 use std::str;
 use text_lines::next_word;
 
-/// Tells what is odd in the lines of a file's header, whether or not it can be read.
-pub(crate) fn tell_odd_lines<E: Write>(path: &str, text: &[u8], err: &mut E) {
+/// Warns of what is odd in the lines of a file's header, whether or not it can be read.
+pub(crate) fn warn_of_lines<E: Write>(alloc: Global, path: &str, text: &[u8], err: &mut E)
+    ensures { Warns (E.contents err.old) (E.contents err.new) }
+{
+    let mut odd = Vec::new(alloc);
+    tell_odd_lines(path, text, &mut odd);
+    tell_lines(b"warning: ", odd.as_slice(), err);
+}
+
+fn tell_odd_lines<E: Write>(path: &str, text: &[u8], odd: &mut E) {
     let Some((begin, body)) = begun(text) else {
         return;
     };
@@ -16,7 +28,7 @@ pub(crate) fn tell_odd_lines<E: Write>(path: &str, text: &[u8], err: &mut E) {
     let mut rest = body;
     while let Some((line, more)) = block_line(rest) {
         number = number.saturating_add(1);
-        tell_odd_line(path, number, line, err);
+        tell_odd_line(path, number, line, odd);
         rest = more;
     }
 }
@@ -44,33 +56,33 @@ pub(crate) fn behind_end<'t>(text: &'t [u8], fault: &FileFault) -> Option<(usize
 }
 
 /// Tells what is odd in a line of a header.
-fn tell_odd_line<E: Write>(path: &str, number: usize, line: &[u8], err: &mut E) {
+fn tell_odd_line<E: Write>(path: &str, number: usize, line: &[u8], odd: &mut E) {
     if let [b'#', b'\t', ..] = line {
         let _ = writeln!(
-            err,
-            "rclinks: warning: {path}: line {number}: a tab behind \"#\": it is no keyword's line"
+            odd,
+            "{path}: line {number}: a tab behind \"#\": it is no keyword's line"
         );
     }
     if let [.., b'\r'] = line {
         let _ = writeln!(
-            err,
-            "rclinks: warning: {path}: line {number}: it ends with a carriage return"
+            odd,
+            "{path}: line {number}: it ends with a carriage return"
         );
     }
     if let Some((Keyword::DefaultStart | Keyword::DefaultStop, levels)) = known_of(line) {
-        tell_odd_levels(path, number, levels, err);
+        tell_odd_levels(path, number, levels, odd);
     }
 }
 
 /// Tells the words that are no runlevels of the system.
-fn tell_odd_levels<E: Write>(path: &str, number: usize, levels: &[u8], err: &mut E) {
+fn tell_odd_levels<E: Write>(path: &str, number: usize, levels: &[u8], odd: &mut E) {
     let mut rest = levels;
     while let Some((word, more)) = next_word(rest) {
         if let Some(reason) = odd_level(word) {
             let word = str::from_utf8(word).unwrap_or("?");
             let _ = writeln!(
-                err,
-                "rclinks: warning: {path}: line {number}: \"{word}\" is {reason}"
+                odd,
+                "{path}: line {number}: \"{word}\" is {reason}"
             );
         }
         rest = more;
@@ -86,30 +98,38 @@ fn odd_level(word: &[u8]) -> Option<&'static str> {
     }
 }
 
-/// Tells what is odd in a header that was read: a runlevel in both lists, and `$all`.
-pub(crate) fn tell_odd_header<E: Write>(path: &str, header: &Header, err: &mut E) {
+/// Warns of what is odd in a header that was read: a runlevel in both lists, and `$all`.
+pub(crate) fn warn_of_header<E: Write>(alloc: Global, path: &str, header: &Header, err: &mut E)
+    ensures { Warns (E.contents err.old) (E.contents err.new) }
+{
+    let mut odd = Vec::new(alloc);
+    tell_odd_header(path, header, &mut odd);
+    tell_lines(b"warning: ", odd.as_slice(), err);
+}
+
+fn tell_odd_header<E: Write>(path: &str, header: &Header, odd: &mut E) {
     for level in header.default_start() {
         if header.default_stop().contains(level) {
             let code = char::from(level.code());
             let _ = writeln!(
-                err,
-                "rclinks: warning: {path}: runlevel {code} stands in Default-Start and Default-Stop"
+                odd,
+                "{path}: runlevel {code} stands in Default-Start and Default-Stop"
             );
         }
     }
-    tell_all_name(path, "Required-Start", header.required_start(), err);
-    tell_all_name(path, "Should-Start", header.should_start(), err);
-    tell_all_name(path, "Required-Stop", header.required_stop(), err);
-    tell_all_name(path, "Should-Stop", header.should_stop(), err);
+    tell_all_name(path, "Required-Start", header.required_start(), odd);
+    tell_all_name(path, "Should-Start", header.should_start(), odd);
+    tell_all_name(path, "Required-Stop", header.required_stop(), odd);
+    tell_all_name(path, "Should-Stop", header.should_stop(), odd);
 }
 
 /// Tells `$all` among the names of a keyword.
-fn tell_all_name<E: Write>(path: &str, keyword: &str, names: &[String], err: &mut E) {
+fn tell_all_name<E: Write>(path: &str, keyword: &str, names: &[String], odd: &mut E) {
     for name in names {
         if name.as_str() == "$all" {
             let _ = writeln!(
-                err,
-                "rclinks: warning: {path}: {keyword} names $all, which orders nothing"
+                odd,
+                "{path}: {keyword} names $all, which orders nothing"
             );
         }
     }

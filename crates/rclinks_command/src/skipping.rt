@@ -1,27 +1,53 @@
 //! The plan of what is left where faulty scripts are left out.
 
-ghost use Rattle.std.specs.Prelude.{◌≡◌, ◌<◌, ◌+◌, ◌++◌, IfOk, IfErr, length, take, drop};
+ghost use Rattle.std.specs.Prelude.{◌≡◌, ◌⊎◌, ◌<◌, ◌+◌, ◌++◌, [], IfOk, IfErr, length, take, drop};
+ghost use Rattle.rc_links.specs.FaultTexts.{fault_text};
 ghost use Rattle.rc_links.specs.Plans.{IsPlan, IsRefused};
+ghost use Rattle.rclinks_command.specs.Command.{plan_status};
+ghost use Rattle.rclinks_command.specs.Reports.{TellsWhy};
 ghost use Rattle.rclinks_command.specs.Skipping.{LeavesSome};
 
 use crate::faulty::place_of;
+use crate::lines::{tell_lines, tell_why};
 use crate::telling::{tell_fault, tell_last, tell_who};
 use init_words::Memory;
+use program_io::{DEVICE_FAULT, REFUSED, report_no_memory};
 use rc_links::{Plan, PlanFault, Script, plan};
 use std::alloc::Global;
 use std::io::Write;
 
-/// Tells a fault of scripts that have no plan, and who is at fault.
-pub(crate) fn tell_first<E: Write>(
+/// The exit status of a fault of the plan.
+pub(crate) fn status_of(fault: &PlanFault) -> u8
+    ensures { result ≡ plan_status fault.now }
+{
+    match fault {
+        PlanFault::Memory => DEVICE_FAULT,
+        _ => REFUSED,
+    }
+}
+
+/// Reports a fault of scripts that have no plan, and who is at fault, and gives the exit status.
+pub(crate) fn report_first<E: Write>(
+    alloc: Global,
     fault: &PlanFault,
     scripts: &[Script],
     paths: &[&str],
     err: &mut E,
-) {
+) -> u8
+    ensures status { (result ≡ DEVICE_FAULT) ⊎ (result ≡ plan_status fault.now) }
+    ensures told { result ≡ REFUSED
+        → TellsWhy [] (fault_text fault.now) (E.contents err.old) (E.contents err.new) }
+{
+    let Ok(why) = format!(in alloc; "{fault}") else {
+        return report_no_memory("rclinks", err);
+    };
+    let mut more = Vec::new(alloc);
     match place_of(scripts, fault) {
-        Some(place) => tell_who(fault, scripts, paths, place, &[], true, err),
-        None => tell_last(fault, err),
+        Some(place) => tell_who(fault, scripts, paths, place, &[], true, &mut more),
+        None => tell_last(fault, &mut more),
     }
+    tell_why(b"", why.as_bytes(), more.as_slice(), err);
+    status_of(fault)
 }
 
 /// Takes a script out, with its path, and keeps it among those that are left out.
@@ -63,10 +89,14 @@ pub(crate) fn plan_rest<'w, E: Write>(
             Err(fault) => fault,
         };
         let Some(place) = place_of(scripts.as_slice(), &fault) else {
-            tell_last(&fault, err);
+            let _ = writeln!(err, "rclinks: {fault}");
+            let mut more = Vec::new(alloc);
+            tell_last(&fault, &mut more);
+            tell_lines(b"", more.as_slice(), err);
             return Err(fault);
         };
         tell_fault(
+            alloc,
             &fault,
             scripts.as_slice(),
             paths.as_slice(),

@@ -1,7 +1,11 @@
 //! Who needs what: the faults of a plan, told with names and paths.
 
+ghost use Rattle.rclinks_command.specs.Reports.{Warns};
+
 use crate::faulty::{has_name, is_provided};
+use crate::lines::tell_lines;
 use rc_links::{PlanFault, Script};
+use std::alloc::Global;
 use std::io::Write;
 
 /// A keyword, and the name after it by which a script needs another.
@@ -18,6 +22,7 @@ fn path_at<'w>(paths: &[&'w str], place: usize) -> &'w str {
 /// Tells a fault of scripts that have no plan, and who is at fault with whom: the script at the place. `outs` are the
 /// scripts that are left out; of what names them nothing is told but where that is asked for.
 pub(crate) fn tell_fault<E: Write>(
+    alloc: Global,
     fault: &PlanFault,
     scripts: &[Script],
     paths: &[&str],
@@ -32,15 +37,17 @@ pub(crate) fn tell_fault<E: Write>(
     {
         return;
     }
-    tell_who(fault, scripts, paths, place, outs, false, err);
+    let _ = writeln!(err, "rclinks: {fault}");
+    let mut more = Vec::new(alloc);
+    tell_who(fault, scripts, paths, place, outs, false, &mut more);
+    tell_lines(b"", more.as_slice(), err);
     if skips {
         let path = path_at(paths, place);
         let _ = writeln!(err, "rclinks: {path}: left out");
     }
 }
 
-/// Tells a fault, and who is at fault with whom: the script at the place; of the names that it misses the first alone, or
-/// all.
+/// Tells who is at fault with whom: the script at the place; of the names that it misses the first alone, or all.
 pub(crate) fn tell_who<E: Write>(
     fault: &PlanFault,
     scripts: &[Script],
@@ -48,31 +55,29 @@ pub(crate) fn tell_who<E: Write>(
     place: usize,
     outs: &[Script],
     first: bool,
-    err: &mut E,
+    more: &mut E,
 ) {
-    let _ = writeln!(err, "rclinks: {fault}");
     let Some(script) = scripts.get(place) else {
         return;
     };
     let path = path_at(paths, place);
     match fault {
         PlanFault::DoubleProvide(name) => {
-            tell_double(name.as_str(), scripts, paths, place, path, err);
+            tell_double(name.as_str(), scripts, paths, place, path, more);
         }
         PlanFault::Missing(name) => {
             let only = if first { Some(name.as_str()) } else { None };
-            tell_missing(script, path, only, scripts, outs, err);
+            tell_missing(script, path, only, scripts, outs, more);
         }
-        PlanFault::Cycle(names) => tell_cycle(names.as_slice(), scripts, err),
+        PlanFault::Cycle(names) => tell_cycle(names.as_slice(), scripts, more),
         PlanFault::TooDeep | PlanFault::Memory => {}
     }
 }
 
-/// Tells the fault of scripts for which none of them can be left out.
-pub(crate) fn tell_last<E: Write>(fault: &PlanFault, err: &mut E) {
-    let _ = writeln!(err, "rclinks: {fault}");
+/// Tells more of a fault of scripts for which none of them can be left out.
+pub(crate) fn tell_last<E: Write>(fault: &PlanFault, more: &mut E) {
     if let PlanFault::TooDeep = fault {
-        let _ = writeln!(err, "rclinks: more than 99 scripts need each the next");
+        let _ = writeln!(more, "more than 99 scripts need each the next");
     }
 }
 
@@ -83,7 +88,7 @@ fn tell_double<E: Write>(
     paths: &[&str],
     place: usize,
     path: &str,
-    err: &mut E,
+    more: &mut E,
 ) {
     let is_named = match scripts.get(place) {
         Some(script) => has_name(name, script.header().provides()),
@@ -93,11 +98,11 @@ fn tell_double<E: Write>(
         let other = &scripts[earlier];
         let first = path_at(paths, earlier);
         if is_named && has_name(name, other.header().provides()) {
-            let _ = writeln!(err, "rclinks: {first} and {path} provide {name}");
+            let _ = writeln!(more, "{first} and {path} provide {name}");
             return;
         }
         if !is_named && other.name() == name {
-            let _ = writeln!(err, "rclinks: {first} and {path} have the name {name}");
+            let _ = writeln!(more, "{first} and {path} have the name {name}");
             return;
         }
     }
@@ -110,7 +115,7 @@ fn tell_missing<E: Write>(
     only: Option<&str>,
     scripts: &[Script],
     outs: &[Script],
-    err: &mut E,
+    more: &mut E,
 ) {
     let header = script.header();
     tell_absent(
@@ -120,7 +125,7 @@ fn tell_missing<E: Write>(
         only,
         scripts,
         outs,
-        err,
+        more,
     );
     tell_absent(
         path,
@@ -129,7 +134,7 @@ fn tell_missing<E: Write>(
         only,
         scripts,
         outs,
-        err,
+        more,
     );
 }
 
@@ -141,7 +146,7 @@ fn tell_absent<E: Write>(
     only: Option<&str>,
     scripts: &[Script],
     outs: &[Script],
-    err: &mut E,
+    more: &mut E,
 ) {
     for name in names {
         let name = name.as_str();
@@ -156,12 +161,12 @@ fn tell_absent<E: Write>(
         } else {
             "which no file provides"
         };
-        let _ = writeln!(err, "rclinks: {path}: {keyword} names {name}, {reason}");
+        let _ = writeln!(more, "{path}: {keyword} names {name}, {reason}");
     }
 }
 
 /// Tells the way of a cycle, name by name.
-fn tell_cycle<E: Write>(names: &[String], scripts: &[Script], err: &mut E) {
+fn tell_cycle<E: Write>(names: &[String], scripts: &[Script], more: &mut E) {
     let starts = is_start_cycle(names, scripts);
     for at in 0..names.len() {
         let Some((from, to)) = step_of(names, scripts, at) else {
@@ -176,8 +181,8 @@ fn tell_cycle<E: Write>(names: &[String], scripts: &[Script], err: &mut E) {
             let who = who.name();
             let whom = whom.name();
             let _ = writeln!(
-                err,
-                "rclinks: {who}: {keyword} names {name}, which {whom} provides"
+                more,
+                "{who}: {keyword} names {name}, which {whom} provides"
             );
         }
     }
@@ -250,13 +255,26 @@ fn first_provided<'s>(names: &'s [String], script: &Script) -> Option<&'s str> {
     None
 }
 
-/// Tells the names of the system that scripts name and none provides, each once.
-pub(crate) fn tell_system_names<E: Write>(scripts: &[Script], paths: &[&str], err: &mut E) {
+/// Warns of the names of the system that scripts name and none provides, of each once.
+pub(crate) fn warn_of_names<E: Write>(
+    alloc: Global,
+    scripts: &[Script],
+    paths: &[&str],
+    err: &mut E,
+)
+    ensures { Warns (E.contents err.old) (E.contents err.new) }
+{
+    let mut odd = Vec::new(alloc);
+    tell_system_names(scripts, paths, &mut odd);
+    tell_lines(b"warning: ", odd.as_slice(), err);
+}
+
+fn tell_system_names<E: Write>(scripts: &[Script], paths: &[&str], odd: &mut E) {
     for place in 0..scripts.len() {
         let header = scripts[place].header();
         let path = path_at(paths, place);
-        tell_system(header.required_start(), path, scripts, place, err);
-        tell_system(header.should_start(), path, scripts, place, err);
+        tell_system(header.required_start(), path, scripts, place, odd);
+        tell_system(header.should_start(), path, scripts, place, odd);
     }
 }
 
@@ -266,7 +284,7 @@ fn tell_system<E: Write>(
     path: &str,
     scripts: &[Script],
     place: usize,
-    err: &mut E,
+    odd: &mut E,
 ) {
     for name in names {
         let name = name.as_str();
@@ -276,8 +294,8 @@ fn tell_system<E: Write>(
             && !is_named(&scripts[..place.min(scripts.len())], name)
         {
             let _ = writeln!(
-                err,
-                "rclinks: warning: {path}: names {name}, which no file provides: it orders nothing"
+                odd,
+                "{path}: names {name}, which no file provides: it orders nothing"
             );
         }
     }

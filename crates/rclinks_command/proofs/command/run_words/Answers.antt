@@ -32,3 +32,10 @@ returns-in-Err-clause-refused g c = λ is.
 pub returns-in-Err-clause-usage : goal.returns-in-Err-clause-usage
 returns-in-Err-clause-usage g c = λ _ _.
     reported_by c.in-Err.fault c.report_word_fault.result (codes "rclinks") USAGE.now SHORT_USAGE.now _ _ c.report_word_fault.ensures.usage c.report_word_fault.ensures.memory
+
+pub returns-in-Ok-clause-told : goal.returns-in-Ok-clause-told
+returns-in-Ok-clause-told g c = λ _ is. inr (_, ap (option_map asked_by) c.in-Ok.ensures.ok, λ plain. c.run_matches.ensures.told plain is)
+
+pub returns-in-Err-clause-told : goal.returns-in-Err-clause-told
+returns-in-Err-clause-told g c = λ _ is.
+    inl (ap (option_map asked_by) (refused_by c.in-Err.fault c.report_word_fault.result c.in-Err.ensures.usage c.report_word_fault.ensures.memory is))

@@ -1,0 +1,93 @@
+-- Lines that a writer gained, one after the other.
+use Rattle.std.proofs.Common.{◌≡◌, ◌⊎◌, inl, inr, ℕ, suc, ◌+◌, ◌<◌, Bool, true, false, not, ◌&&◌, List, [], ◌∷◌, ◌++◌, Option, String, Global, refl, sym, ap, ◌∙◌, subst, arith, length, get_or, take, drop, map, string_bytes, codes}
+use Rattle.std.proofs.lemmas.List.{map-append, take-append-drop}
+use Rattle.program_io.specs.Known.{KnownTexts}
+use Rattle.program_io.specs.Writing.{AppendsPrefix}
+use Rattle.rc_links.proofs.NameLemmas.{cut_at}
+use Rattle.rc_links.specs.ScriptText.{ScriptText}
+use Rattle.std.proofs.lemmas.Bool.{true≢false}
+use Rattle.rclinks_command.specs.Reading.{Reads, has_faults}
+use Rattle.rclinks_command.specs.Files.{file_status}
+use Rattle.rclinks_command.specs.Reports.{Gains, ReportsFile, ReportsPlan, ReportsWhy, TellsFiles, TellsLines, TellsOne, Warns, line_of}
+use Rattle.rclinks_command.specs.declared.files.FileFault.{FileFault}
+use Rattle.rclinks_command.proofs.ReadingLemmas.{all_scripts, nil_is_no_cons}
+
+gains-then : (word : List ℕ) (lines more : List (List ℕ)) (old mid new : Option (List ℕ)) → Gains word lines old mid → Gains word more mid new → Gains word (lines ++ more) old new
+gains-then word [] more old mid new first then = subst (λ m. Gains word more m new) first then
+gains-then word (line ∷ lines) more old mid new first then = (first.0, first.1, gains-then word lines more first.0 mid new first.2 then)
+
+-- lines, and then others
+pub tells-then : (word : List ℕ) (old mid new : Option (List ℕ)) → TellsLines word old mid → TellsLines word mid new → TellsLines word old new
+tells-then word old mid new first then = (first.0 ++ then.0, gains-then word first.0 then.0 old mid new first.1 then.1)
+
+pub tells_none : (word : List ℕ) (old : Option (List ℕ)) → TellsLines word old old
+tells_none word old = ([], refl)
+
+-- one line more
+pub tells_more : (word rest : List ℕ) (old mid new : Option (List ℕ)) → TellsLines word old mid → AppendsPrefix mid new (line_of word rest) → TellsLines word old new
+tells_more word rest old mid new first then = tells-then word old mid new first (rest ∷ [], (new, then, refl))
+
+-- warnings, and then why
+pub warned_why : (word rest : List ℕ) (old mid new : Option (List ℕ)) → Warns old mid → ReportsWhy word rest mid new → ReportsWhy word rest old new
+warned_why word rest old mid new first then = (then.0, tells-then (codes "warning: ") old mid then.0 first then.1, then.2)
+
+-- the file behind those that give scripts is refused, which is told
+pub told_file : (text_at : KnownTexts) (words : List (String Global)) (n : ℕ) (word : String Global) (scripts : List ScriptText) (before after : List FileFault) (a b c : Option (List ℕ))
+    → n < length words → word ≡ get_or words n word → Reads text_at (map string_bytes (take n words)) scripts before → (before ≡ []) × Warns a b
+    → TellsOne text_at (string_bytes word) before after b c → (after ≡ [] → ⊥) → TellsFiles text_at (map string_bytes words) after a c
+told_file text_at words n word scripts before after a b c within is read so_far one some = elim one [
+  | inl good ↦ absurd (some (good.0 ∙ so_far.0))
+  | inr bad ↦ inr (bad.0, bad.1 ∙ ap (λ fs. fs ++ bad.0 ∷ []) so_far.0, λ status. (
+      map string_bytes (take n words),
+      map string_bytes (drop (n + 1) words),
+      string_bytes word,
+      sym (ap (map string_bytes) (take-append-drop n words)) ∙ map-append string_bytes (take n words) (drop n words)
+      ∙ ap (λ ws. map string_bytes (take n words) ++ map string_bytes ws) (cut_at words n word within is).0,
+      (scripts, all_scripts text_at (map string_bytes (take n words)) scripts (subst (λ fs. Reads text_at (map string_bytes (take n words)) scripts fs) so_far.0 read)),
+      bad.0,
+      bad.2,
+      status,
+      warned_why (codes "bad header: ") (string_bytes word) a b c so_far.1 (bad.3 status),
+    ))
+]
+
+-- one more gives a script
+pub warned_on : (text_at : KnownTexts) (path : List ℕ) (before after : List FileFault) (a b c : Option (List ℕ)) → (before ≡ []) × Warns a b → TellsOne text_at path before after b c → after ≡ [] → (after ≡ []) × Warns a c
+warned_on text_at path before after a b c so_far one none = elim one [
+  | inl good ↦ (none, tells-then (codes "warning: ") a b c so_far.1 good.1)
+  | inr bad ↦ absurd (append_some before bad.0 (sym bad.1 ∙ none))
+]
+  where
+    append_some : {X : Type 0} (xs : List X) (x : X) → xs ++ x ∷ [] ≡ [] → ⊥
+    append_some [] x is = let lengths = ap length is in absurd (omega (arith, lengths))
+    append_some (y ∷ xs) x is = let lengths = ap length is in absurd (omega (arith, lengths))
+
+-- where all files give scripts, warnings were told
+pub warned_told : (text_at : KnownTexts) (paths : List (List ℕ)) (faults : List FileFault) (old new : Option (List ℕ)) → TellsFiles text_at paths faults old new → faults ≡ [] → Warns old new
+warned_told text_at paths faults old new tells none = elim tells [
+  | inl good ↦ good.1
+  | inr bad ↦ absurd (nil_is_no_cons bad.0 [] (sym none ∙ bad.1))
+]
+
+-- the first fault was told
+pub refused_told : (text_at : KnownTexts) (paths : List (List ℕ)) (faults more : List FileFault) (fault : FileFault) (old new : Option (List ℕ)) → TellsFiles text_at paths faults old new → faults ≡ fault ∷ more → file_status fault ≡ 1
+    → ReportsFile text_at paths old new
+refused_told text_at paths faults more fault old new tells first status = elim tells [
+  | inl good ↦ absurd (nil_is_no_cons fault more (sym good.0 ∙ first))
+  | inr bad ↦ bad.2 (ap file_status (sym (ap (λ fs. get_or fs 0 fault) (sym first ∙ bad.1))) ∙ status)
+]
+
+-- warnings, and why there is no plan
+pub plan_told : (scripts : List ScriptText) (old mid new : Option (List ℕ)) → Warns old mid → ReportsPlan scripts mid new → ReportsPlan scripts old new
+plan_told scripts old mid new first then = (then.0, tells-then (codes "warning: ") old mid then.0 first then.1, then.2)
+
+-- where nothing is read behind these faults, there are some
+pub over_parts : (goes_on : Bool) (faults : List FileFault) → (not goes_on && has_faults faults) ≡ true → (goes_on ≡ false) × (faults ≡ [] → ⊥)
+over_parts true faults is = absurd (true≢false (sym is))
+over_parts false [] is = absurd (true≢false (sym is))
+over_parts false (found ∷ faults) is = (refl, λ none. nil_is_no_cons found faults (sym none))
+
+pub not_over : (goes_on : Bool) (faults : List FileFault) → (not goes_on && has_faults faults) ≡ false → goes_on ≡ false → faults ≡ []
+not_over true faults is plain = absurd (true≢false plain)
+not_over false [] is plain = refl
+not_over false (found ∷ faults) is plain = absurd (true≢false is)
