@@ -37,18 +37,22 @@ pub told_file : (text_at : KnownTexts) (words : List (String Global)) (n : ℕ) 
     → TellsOne text_at (string_bytes word) before after b c → (after ≡ [] → ⊥) → TellsFiles text_at (map string_bytes words) after a c
 told_file text_at words n word scripts before after a b c within is read so_far one some = elim one [
   | inl good ↦ absurd (some (good.0 ∙ so_far.0))
-  | inr bad ↦ inr (bad.0, bad.1 ∙ ap (λ fs. fs ++ bad.0 ∷ []) so_far.0, λ status. (
+  | inr bad ↦ inr (
+    bad.0,
+    bad.1 ∙ ap (λ fs. fs ++ bad.0 ∷ []) so_far.0,
+    λ status. (
       map string_bytes (take n words),
       map string_bytes (drop (n + 1) words),
       string_bytes word,
       sym (ap (map string_bytes) (take-append-drop n words)) ∙ map-append string_bytes (take n words) (drop n words)
-      ∙ ap (λ ws. map string_bytes (take n words) ++ map string_bytes ws) (cut_at words n word within is).0,
+          ∙ ap (λ ws. map string_bytes (take n words) ++ map string_bytes ws) (cut_at words n word within is).0,
       (scripts, all_scripts text_at (map string_bytes (take n words)) scripts (subst (λ fs. Reads text_at (map string_bytes (take n words)) scripts fs) so_far.0 read)),
       bad.0,
       bad.2,
       status,
       warned_why (codes "bad header: ") (string_bytes word) a b c so_far.1 (bad.3 status),
-    ))
+    ),
+  )
 ]
 
 -- one more gives a script

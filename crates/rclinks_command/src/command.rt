@@ -202,13 +202,7 @@ fn plan_all<'w, E: Write>(
                 tell_faults(alloc, scripts, paths, err);
                 return Err(status_of(&fault));
             }
-            Err(report_first(
-                alloc,
-                &fault,
-                scripts.as_slice(),
-                paths.as_slice(),
-                err,
-            ))
+            Err(report_first(alloc, &fault, scripts.as_slice(), paths.as_slice(), err))
         }
     }
 }
@@ -290,14 +284,7 @@ fn plan_of<T: Texts, E: Write>(
     }
     match faults.first() {
         None => plan_all(alloc, line.all, &mut scripts, &mut paths, err),
-        Some(fault) => Err(refuse_file(
-            alloc,
-            line.all,
-            fault,
-            &mut scripts,
-            &mut paths,
-            err,
-        )),
+        Some(fault) => Err(refuse_file(alloc, line.all, fault, &mut scripts, &mut paths, err)),
     }
 }
 

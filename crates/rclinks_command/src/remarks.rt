@@ -64,10 +64,7 @@ fn tell_odd_line<E: Write>(path: &str, number: usize, line: &[u8], odd: &mut E) 
         );
     }
     if let [.., b'\r'] = line {
-        let _ = writeln!(
-            odd,
-            "{path}: line {number}: it ends with a carriage return"
-        );
+        let _ = writeln!(odd, "{path}: line {number}: it ends with a carriage return");
     }
     if let Some((Keyword::DefaultStart | Keyword::DefaultStop, levels)) = known_of(line) {
         tell_odd_levels(path, number, levels, odd);
@@ -80,10 +77,7 @@ fn tell_odd_levels<E: Write>(path: &str, number: usize, levels: &[u8], odd: &mut
     while let Some((word, more)) = next_word(rest) {
         if let Some(reason) = odd_level(word) {
             let word = str::from_utf8(word).unwrap_or("?");
-            let _ = writeln!(
-                odd,
-                "{path}: line {number}: \"{word}\" is {reason}"
-            );
+            let _ = writeln!(odd, "{path}: line {number}: \"{word}\" is {reason}");
         }
         rest = more;
     }
@@ -127,10 +121,7 @@ fn tell_odd_header<E: Write>(path: &str, header: &Header, odd: &mut E) {
 fn tell_all_name<E: Write>(path: &str, keyword: &str, names: &[String], odd: &mut E) {
     for name in names {
         if name.as_str() == "$all" {
-            let _ = writeln!(
-                odd,
-                "{path}: {keyword} names $all, which orders nothing"
-            );
+            let _ = writeln!(odd, "{path}: {keyword} names $all, which orders nothing");
         }
     }
 }

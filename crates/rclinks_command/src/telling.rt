@@ -180,10 +180,7 @@ fn tell_cycle<E: Write>(names: &[String], scripts: &[Script], more: &mut E) {
         if let Some((keyword, name)) = naming {
             let who = who.name();
             let whom = whom.name();
-            let _ = writeln!(
-                more,
-                "{who}: {keyword} names {name}, which {whom} provides"
-            );
+            let _ = writeln!(more, "{who}: {keyword} names {name}, which {whom} provides");
         }
     }
 }

@@ -1,0 +1,10 @@
+use Rattle.std.proofs.Common.{map, string_bytes}
+use Rattle.clap.specs.Words.{found_of, rows_of}
+use Rattle.rclinks_command.specs.Command.{asked_by}
+use Rattle.rclinks_command.proofs.RunLemmas.{retold}
+use Rattle.rclinks_command.proofs.command.run_matches.Goals as goal
+
+pub returns-in-Ok-clause-told : goal.returns-in-Ok-clause-told
+returns-in-Ok-clause-told g c =
+    retold _ (asked_by (rows_of (found_of c.args.matches.now))) _ (map string_bytes c.args.facilities.now) (map string_bytes c.in-Ok.files.items) _ _ _ _ _
+    (rw c.as_slice.ensures.value at c.line_of-line.ensures) c.in-Ok.ensures c.run_line.ensures.told
