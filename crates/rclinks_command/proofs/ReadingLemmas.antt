@@ -1,5 +1,5 @@
 -- What the paths of scripts give.
-use Rattle.std.proofs.Common.{◌≡◌, ◌⊎◌, inl, inr, ℕ, suc, Bool, true, false, List, [], ◌∷◌, ◌++◌, length, slice_get, unwrap_or, None, Some, refl, ap, sym, subst, ◌∙◌, append_assoc, append-nil, arith, map, string_bytes, String, Global, get_or, take, ◌+◌, ◌<◌}
+use Rattle.std.proofs.Common.{◌≡◌, ◌⊎◌, inl, inr, ℕ, suc, Bool, true, List, [], ◌∷◌, ◌++◌, length, slice_get, unwrap_or, None, Some, refl, ap, sym, subst, ◌∙◌, append_assoc, append-nil, arith, map, string_bytes, String, Global, get_or, take, ◌+◌, ◌<◌}
 use Rattle.std.proofs.lemmas.Bool.{both_ways}
 use Rattle.std.proofs.lemmas.List.{map-append}
 use Rattle.std.proofs.lemmas.Option.{none-some}

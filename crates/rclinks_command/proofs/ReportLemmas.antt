@@ -1,5 +1,5 @@
 -- Lines that a writer gained, one after the other.
-use Rattle.std.proofs.Common.{◌≡◌, ◌⊎◌, inl, inr, ℕ, suc, ◌+◌, ◌<◌, Bool, true, false, not, ◌&&◌, List, [], ◌∷◌, ◌++◌, Option, String, Global, refl, sym, ap, ◌∙◌, subst, arith, length, get_or, take, drop, map, string_bytes, codes}
+use Rattle.std.proofs.Common.{◌≡◌, inl, inr, ℕ, ◌+◌, ◌<◌, Bool, true, false, not, ◌&&◌, List, [], ◌∷◌, ◌++◌, Option, String, Global, refl, sym, ap, ◌∙◌, subst, arith, length, get_or, take, drop, map, string_bytes, codes}
 use Rattle.std.proofs.lemmas.List.{map-append, take-append-drop}
 use Rattle.program_io.specs.Known.{KnownTexts}
 use Rattle.program_io.specs.Writing.{AppendsPrefix}
