@@ -46,13 +46,18 @@ two_digits sign number = sign ++ numbered (zero_before number) number []
 abbrev pub date_text : Date → List ℕ
 date_text date = numbered [] date.year [] ++ (two_digits (codes "-") date.month ++ two_digits (codes "-") date.day)
 
-abbrev pub time_text : ℕ → List ℕ
-time_text seconds =
-    two_digits (codes "T") (seconds / 3_600 % 24) ++ (two_digits (codes ":") (seconds / 60 % 60)
-    ++ (two_digits (codes ":") (seconds % 60) ++ codes "Z"))
+abbrev pub hours_text : ℕ → List ℕ
+hours_text seconds =
+    two_digits [] (seconds / 3_600 % 24) ++ (two_digits (codes ":") (seconds / 60 % 60) ++ two_digits (codes ":") (seconds % 60))
 
 unfoldable pub time_of_day : ℕ → List ℕ
-time_of_day seconds = date_text (date_of seconds) ++ time_text seconds
+time_of_day seconds = date_text (date_of seconds) ++ (codes "T" ++ (hours_text seconds ++ codes "Z"))
+
+-- the day and the time of day, or that alone in 1970, where no clock of init's has been
+abbrev pub moment : ℕ → List ℕ
+moment seconds =
+    if nat_lt seconds 31_536_000 then hours_text seconds
+    else date_text (date_of seconds) ++ (codes " " ++ hours_text seconds)
 
 -- a reading between two texts: the seconds, and the time of day
 abbrev pub clocked : List ℕ → ℕ → List ℕ → List ℕ

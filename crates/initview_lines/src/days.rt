@@ -1,7 +1,7 @@
 //! The time of day of a reading of the clock.
 
 ghost use Rattle.std.specs.Prelude.{◌≡◌, ◌++◌, OnOk};
-ghost use Rattle.initview_lines.specs.Days.{clocked, date_of, date_text, time_of_day, time_text, two_digits, zero_before};
+ghost use Rattle.initview_lines.specs.Days.{clocked, date_of, date_text, hours_text, moment, time_of_day, two_digits, zero_before};
 
 use crate::words::{add_number, put};
 use std::alloc::AllocError;
@@ -64,13 +64,32 @@ fn add_date(text: &mut Vec<u8>, date: Date) -> Result<(), AllocError>
     add_two(text, b"-", date.day)
 }
 
-fn add_time(text: &mut Vec<u8>, seconds: u64) -> Result<(), AllocError>
-    ensures { OnOk result (text.new.items ≡ text.old.items ++ time_text seconds) }
+/// Adds the time of day of a reading of the clock: `07:15:00`.
+pub fn add_hours(text: &mut Vec<u8>, seconds: u64) -> Result<(), AllocError>
+    ensures { OnOk result (text.new.items ≡ text.old.items ++ hours_text seconds) }
 {
-    add_two(text, b"T", seconds / 3_600 % 24)?;
+    add_two(text, b"", seconds / 3_600 % 24)?;
     add_two(text, b":", seconds / 60 % 60)?;
-    add_two(text, b":", seconds % 60)?;
-    put(text, b"Z")
+    add_two(text, b":", seconds % 60)
+}
+
+/// Adds the day of a reading of the clock: `2026-01-31`.
+pub fn add_day(text: &mut Vec<u8>, seconds: u64) -> Result<(), AllocError>
+    ensures { OnOk result (text.new.items ≡ text.old.items ++ date_text (date_of seconds)) }
+{
+    add_date(text, Date::of(seconds))
+}
+
+/// Adds the day and the time of day, or that alone in 1970, where no clock of init's has been.
+pub fn add_moment(text: &mut Vec<u8>, seconds: u64) -> Result<(), AllocError>
+    ensures { OnOk result (text.new.items ≡ text.old.items ++ moment seconds) }
+{
+    if seconds < 31_536_000 {
+        return add_hours(text, seconds);
+    }
+    add_day(text, seconds)?;
+    put(text, b" ")?;
+    add_hours(text, seconds)
 }
 
 /// Adds the time of day of a reading of the clock, in seconds since the beginning of 1970, in Coordinated Universal Time
@@ -78,8 +97,10 @@ fn add_time(text: &mut Vec<u8>, seconds: u64) -> Result<(), AllocError>
 pub(crate) fn add_time_of_day(text: &mut Vec<u8>, seconds: u64) -> Result<(), AllocError>
     ensures { OnOk result (text.new.items ≡ text.old.items ++ time_of_day seconds) }
 {
-    add_date(text, Date::of(seconds))?;
-    add_time(text, seconds)?;
+    add_day(text, seconds)?;
+    put(text, b"T")?;
+    add_hours(text, seconds)?;
+    put(text, b"Z")?;
     Ok(())
 }
 

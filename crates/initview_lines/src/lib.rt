@@ -17,7 +17,7 @@ mod status;
 mod words;
 
 pub use changes::{Change, change_lines};
-pub use days::add_clock;
+pub use days::{add_clock, add_day, add_hours, add_moment};
 pub use happenings::add_happening;
 pub use left::{is_starting, left_lines};
 pub use pieces::take_lines;
