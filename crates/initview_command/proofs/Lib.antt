@@ -1,5 +1,4 @@
 pub mod Asked
-pub mod Drawn
 pub mod Explained
 pub mod Files
 pub mod Followed

@@ -8,7 +8,7 @@ use Rattle.initview_command.specs.declared.charting.Form.{Form}
 use Rattle.initview_command.specs.declared.charting.Form.TheVariants.{Lines, Svg}
 use Rattle.initview_command.specs.declared.charting.TheConstants.{WIDTH_LEAST, WIDTH_LIMIT}
 
--- lines of a width: 20 to 1,000 columns
+-- lines of a width: 40 to 1,000 columns
 abbrev pub lines_if : ℕ → Option Form
 lines_if width = if nat_le WIDTH_LEAST width then Some (Lines width) else None
 

@@ -77,7 +77,7 @@ fn value_reason<'a>(matches: &ArgMatches<'a>) -> Option<(&'static str, &'a str, 
             Some(("--level", level, "a LEVEL is one of 0 to 9 and S"))
         }
         (_, Some(width)) if lines_of(width).is_none() => {
-            Some(("--width", width, "a width N is 20 to 1000 columns"))
+            Some(("--width", width, "a width N is 40 to 1000 columns"))
         }
         _ => None,
     }

@@ -1,140 +1,111 @@
 -- A timeline as lines of text: a row for the stages, and one for each id, of as many columns as there is room.
-use Rattle.std.specs.Prelude.{ℕ, ◌+◌, ◌-◌, Bool, true, false, ◌&&◌, ◌==◌, nat_le, zero, suc, if◌then◌else◌, List, [], ◌∷◌, ◌++◌, codes, Option, Some, None}
-use Rattle.std.specs.List.{list_any}
-use Rattle.init_words.specs.declared.orders.SignalKind.{SignalKind}
-use Rattle.init_words.specs.declared.orders.SignalKind.TheVariants as sig
+use Rattle.std.specs.Prelude.{ℕ, ◌+◌, ◌-◌, ◌*◌, ◌/◌, ◌%◌, Bool, true, false, ◌&&◌, ◌==◌, nat_le, nat_lt, zero, suc, if◌then◌else◌, List, [], ◌∷◌, ◌++◌, codes, length, Option, Some, None}
+use Rattle.std.specs.List.{flat_map}
 use Rattle.init_words.specs.declared.stages.Stage.{Stage}
 use Rattle.init_words.specs.declared.stages.Stage.TheVariants as stage
 use Rattle.init_words.specs.Levels.{level_code}
 use Rattle.trace_events.specs.Event.{Event}
-use Rattle.trace_events.specs.Past.{time_of}
-use Rattle.initview_lines.specs.Days.{clocked}
-use Rattle.initview_lines.specs.Words.{numbered, padded}
-use Rattle.initview_timeline.specs.declared.marks.Shown.{Shown}
-use Rattle.initview_timeline.specs.declared.marks.Shown.TheVariants.{Entered, Settled, Born, NotBorn, Sent, Held}
-use Rattle.initview_timeline.specs.declared.marks.TimelineMark.{TimelineMark}
+use Rattle.initview_lines.specs.Days.{hours_text, moment}
+use Rattle.initview_lines.specs.Words.{numbered, padded, stage_words, status_words}
 use Rattle.initview_timeline.specs.declared.frames.Frame.{Frame}
-use Rattle.initview_timeline.specs.declared.lives.Life.{Life}
-use Rattle.initview_timeline.specs.Frames.{frame_of, place_of, span_of}
-use Rattle.initview_timeline.specs.Lives.{end_time, ids_of, is_of_stage, lives_of, marks_for}
-use Rattle.initview_timeline.specs.Marks.{marks_of}
+use Rattle.initview_timeline.specs.declared.looks.TheConstants.{LEGEND_LINES, YEAR}
+use Rattle.initview_timeline.specs.declared.pieces.Drawn.{Drawn}
+use Rattle.initview_timeline.specs.declared.pieces.Drawn.TheVariants as drawn
+use Rattle.initview_timeline.specs.declared.pieces.Piece.{Piece}
+use Rattle.initview_timeline.specs.Pieces.{Drawing}
+use Rattle.initview_timeline.specs.declared.rows.Row.{Row}
+use Rattle.initview_timeline.specs.declared.rows.State.{State}
+use Rattle.initview_timeline.specs.declared.rows.State.TheVariants as state
+use Rattle.initview_timeline.specs.Frames.{place_of, time_of_place, times}
+use Rattle.initview_timeline.specs.Rows.{Scene, drawn_of, frame_of, ill_from, rows_of, stage_pieces}
 
--- the letter of a stage, of a signal, a hold or a failed start
 abbrev pub stage_letter : Stage → ℕ
 stage_letter stage.Sysinit = 105
 stage_letter stage.Boot = 98
 stage_letter (stage.Run level) = level_code level
 
-abbrev pub signal_letter : SignalKind → ℕ
-signal_letter sig.Term = 84
-signal_letter sig.Kill = 75
+-- the sign of a piece in a column: | where a life begins; then w where init waits for its end, else =
+abbrev pub sign_of : Drawn → Bool → ℕ
+sign_of (drawn.Name stage to) first = stage_letter stage
+sign_of (drawn.Waited l) first = if first then 124 else 119
+sign_of (drawn.Lives l) first = if first then 124 else 61
+sign_of (drawn.Settled stage) first = 61
+sign_of (drawn.Stage stage) first = 45
+sign_of (drawn.Stops l) first = 45
+sign_of drawn.Held first = 126
+sign_of drawn.Due first = 63
+sign_of (drawn.Failed l) first = 120
+sign_of drawn.Killed first = 75
+sign_of drawn.Unborn first = 33
 
-abbrev pub letter_of : Shown → Option ℕ
-letter_of (Entered stage) = Some (stage_letter stage)
-letter_of (NotBorn id) = Some 33
-letter_of (Sent id signal) = Some (signal_letter signal)
-letter_of (Held id) = Some 72
-letter_of _ = None
+-- of the bars that stand in a column the last counts, and of the signs before them; a point stands where none does
+abbrev pub stands_in : Frame → ℕ → Piece → Bool
+stands_in f column p = nat_le (place_of f p.from) column && nat_le column (place_of f p.to)
 
--- the last letter in a column
-abbrev pub or_before : Option ℕ → Option ℕ → Option ℕ
-or_before (Some letter) before = Some letter
-or_before None before = before
+abbrev pub last_in : Frame → ℕ → ℕ → List Piece → ℕ
+last_in f column found [] = found
+last_in f column found (p ∷ ps) =
+    last_in f column (if stands_in f column p then sign_of p.what (place_of f p.from == column) else found) ps
 
-abbrev pub letter_from : Frame → ℕ → Option ℕ → List TimelineMark → Option ℕ
-letter_from f column found [] = found
-letter_from f column found (mark ∷ marks) =
-    letter_from f column (if place_of f mark.time == column then or_before (letter_of mark.what) found else found) marks
+abbrev pub cell : Frame → Drawing → ℕ → ℕ
+cell f pieces column = last_in f column (last_in f column 46 pieces.bars) pieces.signs
 
--- a child is born in a column, or lives in it: from that of its birth to that of its end
-abbrev pub is_birth : Shown → Bool
-is_birth (Born id number) = true
-is_birth _ = false
+abbrev pub cells_to : Frame → Drawing → ℕ → List ℕ
+cells_to f pieces zero = []
+cells_to f pieces (suc columns) = cells_to f pieces columns ++ cell f pieces columns ∷ []
 
-abbrev pub is_born_in : Frame → ℕ → TimelineMark → Bool
-is_born_in f column mark = is_birth mark.what && place_of f mark.time == column
+abbrev pub cells : Frame → Drawing → List ℕ
+cells f pieces = cells_to f pieces (f.last + 1)
 
-abbrev pub lives_in : Frame → ℕ → Life → Bool
-lives_in f column life =
-    nat_le (place_of f life.from) column && nat_le column (place_of f (end_time f.end life.end))
+-- behind them stands how an id is at the end, and how much went wrong
+abbrev pub state_words : State → List ℕ
+state_words state.Due = codes "not yet"
+state_words state.Runs = codes "runs"
+state_words state.Stopping = codes "stopping"
+state_words state.Stopped = codes "stopped"
+state_words state.Held = codes "held"
+state_words (state.Ended None) = codes "no start"
+state_words (state.Ended (Some status)) = status_words (Some status)
 
--- what stands in a column of an id's row: the last letter, | for a birth, = for a living child, or a point
-abbrev pub or_ground : Option ℕ → ℕ → ℕ
-or_ground (Some letter) other = letter
-or_ground None other = other
+abbrev pub end_part : List ℕ → ℕ → List ℕ
+end_part words faults = if faults == 0 then words ++ codes "\n" else padded 9 words ++ numbered [] faults (codes "\n")
 
-abbrev pub ground_of : Frame → List TimelineMark → List Life → ℕ → ℕ
-ground_of f marks lives column =
-    if list_any (is_born_in f column) marks then 124
-    else if list_any (lives_in f column) lives then 61
-    else 46
+abbrev pub row_line : Frame → Row → List ℕ
+row_line f r =
+    padded 9 r.id ++ (cells f r.pieces ++ (codes " " ++ end_part (state_words r.state) (length r.pieces.signs)))
 
-abbrev pub cell : Frame → List TimelineMark → List Life → ℕ → ℕ
-cell f marks lives column = or_ground (letter_from f column None marks) (ground_of f marks lives column)
+abbrev pub row_lines : Frame → List Row → List ℕ
+row_lines f rows = flat_map (row_line f) rows
 
-abbrev pub cells : Frame → List TimelineMark → List Life → ℕ → List ℕ
-cells f marks lives zero = []
-cells f marks lives (suc columns) = cells f marks lives columns ++ cell f marks lives columns ∷ []
+abbrev pub stage_line : Frame → Drawing → List ℕ
+stage_line f pieces = padded 9 (codes "level") ++ (cells f pieces ++ codes "\n")
 
-abbrev pub row : Frame → List ℕ → List TimelineMark → List ℕ
-row f id marks = padded 9 id ++ (cells f marks (lives_of marks) (f.last + 1) ++ codes "\n")
-
-abbrev pub rows : Frame → List TimelineMark → List (List ℕ) → List ℕ
-rows f marks [] = []
-rows f marks (id ∷ ids) = row f id (marks_for id marks) ++ rows f marks ids
-
--- the row of the stages: the letter of the last stage that is entered in a column, - where a stage is in force, = where it
--- was announced settled
-abbrev pub kept_stage : TimelineMark → List TimelineMark
-kept_stage mark = if is_of_stage mark.what then mark ∷ [] else []
-
-abbrev pub stage_marks : List TimelineMark → List TimelineMark
-stage_marks [] = []
-stage_marks (mark ∷ marks) = kept_stage mark ++ stage_marks marks
-
-abbrev pub force_of : Shown → ℕ
-force_of (Settled level) = 61
-force_of _ = 45
-
-abbrev pub force_from : Frame → ℕ → ℕ → List TimelineMark → ℕ
-force_from f column found [] = found
-force_from f column found (mark ∷ marks) =
-    force_from f column (if nat_le (place_of f mark.time) column then force_of mark.what else found) marks
-
-abbrev pub stage_cell : Frame → List TimelineMark → ℕ → ℕ
-stage_cell f marks column = or_ground (letter_from f column None marks) (force_from f column 46 marks)
-
-abbrev pub stage_cells : Frame → List TimelineMark → ℕ → List ℕ
-stage_cells f marks zero = []
-stage_cells f marks (suc columns) = stage_cells f marks columns ++ stage_cell f marks columns ∷ []
-
-abbrev pub stage_row : Frame → List TimelineMark → List ℕ
-stage_row f marks = padded 9 (codes "stage") ++ (stage_cells f (stage_marks marks) (f.last + 1) ++ codes "\n")
-
--- the times of the first column and of the last, and what stands between them
+-- the times of a drawing
 abbrev pub times_words : Frame → List ℕ
 times_words f =
-    clocked (codes "clock ") f.start (codes " to ") ++ (clocked [] f.end (codes ", ") ++ numbered [] (span_of f) (codes " s"))
+    moment f.start ++ (codes " to " ++ (moment f.end ++ (if nat_lt f.end YEAR then [] else codes " UTC")))
 
-abbrev pub times_line : Frame → List ℕ
-times_line f = times_words f ++ codes "\n"
+-- how it all is at the end, up to of how many ids something is ill
+abbrev pub facts_words : Scene → List ℕ
+facts_words s = stage_words s.stage ++ (if s.settled then codes ", settled, " else codes ", not settled, ")
 
--- the words of a signal
-abbrev pub signal_words : SignalKind → List ℕ
-signal_words sig.Term = codes "TERM sent"
-signal_words sig.Kill = codes "KILL sent"
+-- the time of day of every fourteenth column that has room for it
+abbrev pub axis_to : Frame → ℕ → List ℕ
+axis_to f zero = []
+axis_to f (suc number) = axis_to f number ++ (codes "     |" ++ hours_text (time_of_place f (times number 14)))
 
-abbrev pub legend : List ℕ
-legend =
-    codes "stage: i sysinit, b boot, 0 to 9 and S levels; - entered, = settled\n"
-    ++ codes "ids: | started, = runs, T TERM sent, K KILL sent, H held, ! start failed\n"
+abbrev pub axis : Frame → List ℕ
+axis f = padded 4 [] ++ (axis_to f ((f.last + 4) / 14) ++ codes "\n")
 
-abbrev pub chart_by : Frame → List TimelineMark → List ℕ
-chart_by f marks = times_line f ++ (stage_row f marks ++ (rows f marks (ids_of marks) ++ legend))
+-- the lines of a width: nine columns for the ids, thirteen for the end, and the others for the times
+abbrev pub chart_by : Frame → Scene → List Row → List ℕ
+chart_by f s rows =
+    times_words f ++ (codes "\n" ++ (facts_words s ++ (numbered [] (ill_from 0 rows) (codes " of ")
+    ++ (numbered [] (length rows) (codes " with faults\n")
+    ++ (axis f ++ (stage_line f (stage_pieces s) ++ (row_lines f rows ++ LEGEND_LINES.now)))))))
 
--- the lines of a width: nine columns for the ids, and the others for the times
-abbrev pub chart_of : ℕ → List TimelineMark → ℕ → List ℕ
-chart_of width marks time = chart_by (frame_of marks time (width - 10)) marks
+abbrev pub chart_of : ℕ → Scene → List ℕ
+chart_of width s = chart_by (frame_of s (width - 23)) s (rows_of s)
 
 abbrev pub chart_text : ℕ → List Event → List ℕ
-chart_text width past = chart_of width (marks_of past) (time_of past)
+chart_text width past = chart_of width (drawn_of past)

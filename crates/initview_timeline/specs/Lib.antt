@@ -1,7 +1,9 @@
 pub mod Chart
 pub mod Frames
+pub mod Laws
 pub mod Lives
 pub mod Marks
-pub mod Pictures
+pub mod Pieces
+pub mod Rows
 pub mod Svg
 pub mod Times

@@ -3,7 +3,7 @@ use Rattle.std.specs.Prelude.{ℕ, List, [], ◌∷◌, ◌++◌, Option, Some, 
 use Rattle.init_words.specs.declared.orders.OrderKind.{OrderKind}
 use Rattle.init_words.specs.declared.orders.OrderKind.TheVariants as ask
 use Rattle.init_words.specs.declared.orders.SignalKind.TheVariants as sig
-use Rattle.trace_events.specs.declared.happenings.Happening.TheVariants.{Enter, Settle, Hold, Birth, NoBirth, Reaped, Hit}
+use Rattle.trace_events.specs.declared.happenings.Happening.TheVariants.{NewTable, Enter, Settle, Hold, Birth, NoBirth, Reaped, Hit, Clock}
 use Rattle.trace_events.specs.Event.{Event}
 use Rattle.trace_events.specs.Past.{open_of, time_of}
 use Rattle.initview_timeline.specs.declared.marks.Shown.{Shown}
@@ -18,6 +18,7 @@ sent_for id _ = None
 
 -- what is shown of a happening in its past
 abbrev pub shown_of : Event → List Event → Option Shown
+shown_of (NewTable table) past = Some shown.Read
 shown_of (Enter stage grace) past = Some (shown.Entered stage)
 shown_of (Settle level) past = Some (shown.Settled level)
 shown_of (Hold id) past = Some (shown.Held id)
@@ -35,3 +36,20 @@ mark_at time (Some what) = record { time = time; what = what } ∷ []
 abbrev pub marks_of : List Event → List TimelineMark
 marks_of [] = []
 marks_of (happening ∷ past) = marks_of past ++ mark_at (time_of (happening ∷ past)) (shown_of happening past)
+
+-- the first reading of the clock
+abbrev pub start_after : Option ℕ → Event → Option ℕ
+start_after None (Clock time) = Some time
+start_after start _ = start
+
+abbrev pub start_of : List Event → Option ℕ
+start_of [] = None
+start_of (happening ∷ past) = start_after (start_of past) happening
+
+-- what is kept of a past
+pub record SeenMarks : Type 0 where
+  pub marks : List TimelineMark
+  pub start : Option ℕ
+
+abbrev pub seen_of : List Event → SeenMarks
+seen_of past = record { marks = marks_of past; start = start_of past }

@@ -18,7 +18,7 @@ first_of [] = None
 first_of (life ∷ lives) = Some life
 
 abbrev pub timed_of : List TimelineMark → Entry → Timed
-timed_of marks e = record { id = e.id; act = e.act; life = first_of (lives_of (marks_for e.id marks)) }
+timed_of marks e = record { id = e.id; act = e.act; life = first_of (lives_of (marks_for (Some e.id) marks)) }
 
 -- the seconds of a life that ended, and 0 of any other
 abbrev pub seconds_to : ℕ → Option Ending → ℕ

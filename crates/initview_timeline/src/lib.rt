@@ -4,14 +4,18 @@
 
 mod chart;
 mod frames;
+mod laws;
 mod lives;
 mod looks;
 mod marks;
-mod pictures;
+mod pieces;
+mod rows;
 mod svg;
 mod times;
 
 pub use chart::chart_lines;
+pub use laws::law_of_rows;
 pub use marks::{Marks, Shown, TimelineMark};
+pub use rows::Seen;
 pub use svg::svg_text;
 pub use times::add_path_times;

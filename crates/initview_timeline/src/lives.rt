@@ -1,46 +1,45 @@
-//! The rows of a timeline, and what stands in them.
+//! What a timeline knows of an id: the lives of its children, and what happened to it besides.
 
-ghost use Rattle.std.specs.Prelude.{◌≡◌, ◌++◌, Some, IfOk, OnOk};
+ghost use Rattle.std.specs.Prelude.{◌≡◌, Some, IfOk, OnOk};
 ghost use Rattle.std.specs.List.{list_any};
 ghost use Rattle.init_words.specs.Ids.{same_id};
-ghost use Rattle.initview_timeline.specs.Lives.{end_of, end_time, ending_if, ending_in, id_of, ids_from, ids_of, is_for, is_of_stage, kept_for, life_of, lives_of, marks_for, next_stage, with_id};
+ghost use Rattle.initview_timeline.specs.Lives.{id_of, ids_from, is_for, last_after, life_after, lives_after, lives_of, marks_for, with_id};
 
 use crate::marks::{Shown, TimelineMark};
-use init_words::{ChildNumber, Id, Status};
+use init_words::{ChildNumber, Id, SignalKind};
 use std::alloc::{AllocError, Global};
 use trace_view::Ending;
 
-/// The life of a child: its number, when it was born, and how and when it ended, where it has. Times are seconds.
+/// The life of a child: its number, when it was born, when it was first sent TERM, and how and when it ended, where it
+/// was and has. Times are seconds.
 #[derive(Clone, Copy)]
 pub struct Life {
     pub number: ChildNumber,
     pub from: u64,
+    pub term: Option<u64>,
     pub end: Option<Ending>,
 }
 
 /// The id that it happened to.
-pub(crate) fn id_of(what: Shown) -> Option<Id>
+fn id_of(what: Shown) -> Option<Id>
     ensures { result ≡ id_of what }
 {
     match what {
-        Shown::Entered(_) => None,
-        Shown::Settled(_) => None,
-        Shown::Born(id, _) => Some(id),
-        Shown::NotBorn(id) => Some(id),
+        Shown::Read | Shown::Entered(_) | Shown::Settled(_) => None,
+        Shown::NotBorn(id) | Shown::Held(id) => Some(id),
+        Shown::Born(id, _) | Shown::Sent(id, _) => Some(id),
         Shown::Ended(id, _, _) => Some(id),
-        Shown::Sent(id, _) => Some(id),
-        Shown::Held(id) => Some(id),
     }
 }
 
-/// The id is one of these.
 fn is_found(ids: &[Id], id: Id) -> bool
     ensures { result ≡ list_any (same_id id) ids.now }
 {
     ids.iter().any(|found| id == *found)
 }
 
-fn add_new(ids: &mut Vec<Id>, id: Id) -> Result<(), AllocError>
+/// Adds an id where it isn't there yet.
+pub(crate) fn add_new(ids: &mut Vec<Id>, id: Id) -> Result<(), AllocError>
     ensures { OnOk result (ids.new.items ≡ with_id ids.old.items (Some id)) }
 {
     if is_found(ids.as_slice(), id) {
@@ -50,146 +49,90 @@ fn add_new(ids: &mut Vec<Id>, id: Id) -> Result<(), AllocError>
     Ok(())
 }
 
-/// Adds the id that it happened to, where it isn't there yet.
-fn add_id(ids: &mut Vec<Id>, id: Option<Id>) -> Result<(), AllocError>
-    ensures { OnOk result (ids.new.items ≡ with_id ids.old.items id) }
-{
-    match id {
-        Some(id) => add_new(ids, id),
-        None => Ok(()),
-    }
-}
-
-fn add_ids(ids: &mut Vec<Id>, marks: &[TimelineMark]) -> Result<(), AllocError>
+/// Adds each id to which something happened, where it isn't there yet.
+pub(crate) fn add_ids(ids: &mut Vec<Id>, marks: &[TimelineMark]) -> Result<(), AllocError>
     ensures { OnOk result (ids.new.items ≡ ids_from ids.old.items marks.now) }
 {
     let mut rest = marks;
     while let Some((mark, others)) = rest.split_first() {
-        add_id(ids, id_of(mark.what))?;
+        if let Some(id) = id_of(mark.what) {
+            add_new(ids, id)?;
+        }
         rest = others;
     }
     Ok(())
 }
 
-/// The ids, each once, in the order in which something first happened to them.
-pub(crate) fn ids_of(alloc: Global, marks: &[TimelineMark]) -> Result<Vec<Id>, AllocError>
-    ensures { IfOk result (λ ids. ids.items ≡ ids_of marks.now) }
+/// It stands in the row of this id, or of the stages.
+pub(crate) fn is_for(id: &Option<Id>, what: Shown) -> bool
+    ensures { result ≡ is_for id.now what }
 {
-    let mut ids = Vec::new(alloc);
-    add_ids(&mut ids, marks)?;
-    Ok(ids)
+    *id == id_of(what)
 }
 
-fn is_for(id: &Id, other: Option<Id>) -> bool
-    ensures { result ≡ is_for id.now other }
-{
-    match other {
-        Some(other) => *id == other,
-        None => false,
-    }
-}
-
-fn add_kept(kept: &mut Vec<TimelineMark>, id: &Id, mark: &TimelineMark) -> Result<(), AllocError>
-    ensures { OnOk result (kept.new.items ≡ kept.old.items ++ kept_for id.now mark.now) }
-{
-    if is_for(id, id_of(mark.what)) {
-        kept.push(*mark)?;
-    }
-    Ok(())
-}
-
-fn add_marks_for(
-    kept: &mut Vec<TimelineMark>,
-    id: &Id,
-    marks: &[TimelineMark],
-) -> Result<(), AllocError>
-    ensures { OnOk result (kept.new.items ≡ kept.old.items ++ marks_for id.now marks.now) }
-{
-    let mut rest = marks;
-    while let Some((mark, others)) = rest.split_first() {
-        add_kept(kept, id, mark)?;
-        rest = others;
-    }
-    Ok(())
-}
-
-/// The marks of an id.
+/// The marks of a row.
 pub(crate) fn marks_for(
     alloc: Global,
-    id: &Id,
+    id: &Option<Id>,
     marks: &[TimelineMark],
 ) -> Result<Vec<TimelineMark>, AllocError>
     ensures { IfOk result (λ kept. kept.items ≡ marks_for id.now marks.now) }
 {
     let mut kept = Vec::new(alloc);
-    add_marks_for(&mut kept, id, marks)?;
-    Ok(kept)
-}
-
-/// The end, where it is that of the child of this number.
-fn ending_if(number: ChildNumber, ended: ChildNumber, time: u64, status: Status) -> Option<Ending>
-    ensures { result ≡ ending_if number ended time status }
-{
-    if number.0 == ended.0 {
-        Some(Ending {
-            status: Some(status),
-            time,
-        })
-    } else {
-        None
-    }
-}
-
-fn ending_in(number: ChildNumber, time: u64, what: Shown) -> Option<Ending>
-    ensures { result ≡ ending_in number time what }
-{
-    match what {
-        Shown::Ended(_, ended, status) => ending_if(number, ended, time, status),
-        _ => None,
-    }
-}
-
-/// How the child of this number ended: its first end in these marks.
-pub(crate) fn end_of(number: ChildNumber, later: &[TimelineMark]) -> Option<Ending>
-    ensures { result ≡ end_of number later.now }
-{
-    let mut rest = later;
+    let mut rest = marks;
     while let Some((mark, others)) = rest.split_first() {
-        let ending = ending_in(number, mark.time, mark.what);
-        if ending.is_some() {
-            return ending;
+        if is_for(id, mark.what) {
+            kept.push(*mark)?;
         }
         rest = others;
     }
-    None
+    Ok(kept)
 }
 
-fn add_life(
-    lives: &mut Vec<Life>,
-    mark: &TimelineMark,
-    later: &[TimelineMark],
-) -> Result<(), AllocError>
-    ensures { OnOk result (lives.new.items
-        ≡ lives.old.items ++ life_of mark.now.time mark.now.what later.now) }
+/// What a mark of its id makes of a life.
+fn life_after(life: Life, mark: &TimelineMark) -> Life
+    ensures { result ≡ life_after life mark.now.time mark.now.what }
 {
-    if let Shown::Born(_, number) = mark.what {
-        lives.push(Life {
-            number,
-            from: mark.time,
-            end: end_of(number, later),
-        })?;
+    let mut life = life;
+    match mark.what {
+        Shown::Sent(_, SignalKind::Term) => life.term = life.term.or(Some(mark.time)),
+        Shown::Ended(_, _, status) => {
+            life.end = Some(Ending {
+                status: Some(status),
+                time: mark.time,
+            });
+        }
+        _ => {}
     }
+    life
+}
+
+/// What a mark of its id makes of the last life.
+fn change_last(lives: &mut Vec<Life>, mark: &TimelineMark) -> Result<(), AllocError>
+    ensures { OnOk result (lives.new.items
+        ≡ last_after lives.old.items mark.now.time mark.now.what) }
+{
+    let Some(life) = lives.pop() else {
+        return Ok(());
+    };
+    lives.push(life_after(life, mark))?;
     Ok(())
 }
 
-fn add_lives(lives: &mut Vec<Life>, marks: &[TimelineMark]) -> Result<(), AllocError>
-    ensures { OnOk result (lives.new.items ≡ lives.old.items ++ lives_of marks.now) }
+/// Takes a mark of an id: a birth begins a life, and anything else belongs to the last one.
+fn take(lives: &mut Vec<Life>, mark: &TimelineMark) -> Result<(), AllocError>
+    ensures { OnOk result (lives.new.items
+        ≡ lives_after lives.old.items mark.now.time mark.now.what) }
 {
-    let mut rest = marks;
-    while let Some((mark, later)) = rest.split_first() {
-        add_life(lives, mark, later)?;
-        rest = later;
-    }
+    let Shown::Born(_, number) = mark.what else {
+        return change_last(lives, mark);
+    };
+    lives.push(Life {
+        number,
+        from: mark.time,
+        term: None,
+        end: None,
+    })?;
     Ok(())
 }
 
@@ -198,36 +141,10 @@ pub(crate) fn lives_of(alloc: Global, marks: &[TimelineMark]) -> Result<Vec<Life
     ensures { IfOk result (λ lives. lives.items ≡ lives_of marks.now) }
 {
     let mut lives = Vec::new(alloc);
-    add_lives(&mut lives, marks)?;
-    Ok(lives)
-}
-
-/// The last time of a life: its end, or that of the trace.
-pub(crate) fn end_time(time: u64, end: Option<Ending>) -> u64
-    ensures { result ≡ end_time time end }
-{
-    match end {
-        Some(ending) => ending.time,
-        None => time,
-    }
-}
-
-/// The time of the next stage, or the last one.
-pub(crate) fn next_stage(last: u64, later: &[TimelineMark]) -> u64
-    ensures { result ≡ next_stage last later.now }
-{
-    let mut rest = later;
+    let mut rest = marks;
     while let Some((mark, others)) = rest.split_first() {
-        if let Shown::Entered(_) = mark.what {
-            return mark.time;
-        }
+        take(&mut lives, mark)?;
         rest = others;
     }
-    last
-}
-
-pub(crate) fn is_of_stage(what: Shown) -> bool
-    ensures { result ≡ is_of_stage what }
-{
-    matches!(what, Shown::Entered(_) | Shown::Settled(_))
+    Ok(lives)
 }

@@ -4,7 +4,7 @@ ghost use Rattle.std.specs.Prelude.{◌≡◌, ◌∷◌, ◌++◌, List, OnOk};
 ghost use Rattle.trace_events.specs.Event.{Event};
 ghost use Rattle.trace_events.specs.Past.{time_of};
 ghost use Rattle.trace_view.specs.Viewing.{Viewed};
-ghost use Rattle.initview_timeline.specs.Marks.{mark_at, sent_for, shown_of};
+ghost use Rattle.initview_timeline.specs.Marks.{mark_at, sent_for, shown_of, start_after};
 
 use init_words::{ChildNumber, Id, Level, Memory, OrderKind, SignalKind, Stage, Status};
 use std::alloc::{Allocator, Global};
@@ -15,6 +15,8 @@ use trace_view::{Sees, TraceView};
 /// What a timeline shows.
 #[derive(Clone, Copy)]
 pub enum Shown {
+    /// A table came into force.
+    Read,
     /// A stage was entered.
     Entered(Stage),
     /// A runlevel was announced settled.
@@ -58,6 +60,7 @@ fn shown_of<A: Allocator, B: Allocator>(
         → result ≡ shown_of happening.now past }
 {
     match happening {
+        Happening::NewTable(_) => Some(Shown::Read),
         Happening::Enter(stage, _) => Some(Shown::Entered(*stage)),
         Happening::Settle(level) => Some(Shown::Settled(*level)),
         Happening::Hold(id) => Some(Shown::Held(*id)),
@@ -99,38 +102,56 @@ fn take_mark<A: Allocator, B: Allocator>(
     Ok(())
 }
 
-/// The marks of what was seen, the oldest first.
+/// The first reading of the clock, after a happening.
+fn start_after<B: Allocator>(start: Option<u64>, happening: &HappeningIn<B>) -> Option<u64>
+    ensures { result ≡ start_after start happening.now }
+{
+    match (start, happening) {
+        (None, Happening::Clock(time)) => Some(*time),
+        _ => start,
+    }
+}
+
+/// The marks of what was seen, the oldest first, and the first reading of the clock.
 #[derive(Drop)]
 pub struct Marks<A: Allocator = Global> {
     marks: Vec<TimelineMark, A>,
+    start: Option<u64>,
 }
 
 impl<A: Allocator> Model for Marks<A> {
-    ghost use Rattle.std.specs.Prelude.{List};
-    ghost use Rattle.initview_timeline.specs.declared.marks.TimelineMark.{TimelineMark};
+    ghost use Rattle.initview_timeline.specs.Marks.{SeenMarks};
 
-    ghost Value = { List TimelineMark };
+    ghost Value = { SeenMarks };
 
-    ghost view = { λ m. m.marks.items };
+    ghost view = { λ m. record { marks = m.marks.items; start = m.start } };
 }
 
 impl<A: Allocator> Marks<A> {
     pub fn as_slice(&self) -> &[TimelineMark]
-        ensures { result.now ≡ self.now }
+        ensures { result.now ≡ self.now.marks }
     {
         self.marks.as_slice()
+    }
+
+    /// The first reading of the clock, in seconds.
+    pub fn start(&self) -> Option<u64>
+        ensures { result ≡ self.now.start }
+    {
+        self.start
     }
 }
 
 impl<A: Allocator + Copy> Sees<A> for Marks<A> {
     ghost use Rattle.std.specs.Prelude.{◌≡◌};
-    ghost use Rattle.initview_timeline.specs.Marks.{marks_of};
+    ghost use Rattle.initview_timeline.specs.Marks.{seen_of};
 
-    ghost has_seen = { λ marks past. marks ≡ marks_of past };
+    ghost has_seen = { λ marks past. marks ≡ seen_of past };
 
     fn new(alloc: A) -> Marks<A> {
         Marks {
             marks: Vec::new(alloc),
+            start: None,
         }
     }
 
@@ -141,6 +162,7 @@ impl<A: Allocator + Copy> Sees<A> for Marks<A> {
         _line: u64,
         happening: &HappeningIn<A>,
     ) -> Result<(), Memory> {
+        self.start = start_after(self.start, happening);
         take_mark(&mut self.marks, view, happening)?;
         Ok(())
     }

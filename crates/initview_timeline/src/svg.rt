@@ -1,22 +1,23 @@
 //! A timeline as a picture: one SVG document.
 
-ghost use Rattle.std.specs.Prelude.{◌≡◌, ◌++◌, length, IfOk, OnOk};
+ghost use Rattle.std.specs.Prelude.{◌≡◌, ◌++◌, IfOk, OnOk};
 ghost use Rattle.std.specs.List.{flat_map};
-ghost use Rattle.initview_timeline.specs.Svg.{bar_text, bottom_of, document, drawn_text, element, end_words, ended_look, escaped_byte, front, label, label_by, life_look, look, name_words, said_of, svg_of, tip};
+ghost use Rattle.initview_timeline.specs.Svg.{axis_time, bar_text, elements, escaped_byte, front, look_of, loud_if, name_by, row_height, row_text, rows_text, said_of, second_words, sign_text, svg_of, tick_text, ticks_text, tip, whose};
+ghost use Rattle.initview_timeline.specs.Rows.{scene_of};
 
-use crate::chart::{add_times, signal_words, stage_letter};
+use crate::chart::{add_facts, add_state, add_times, stage_letter};
 use crate::frames::Frame;
-use crate::lives::ids_of;
 use crate::looks::{
-    BELOW, DONE, DRAWING, FAILED, GAP, HEAD, HELD, KILL, KILLED, LEGEND, LETTER_ROOM, MARGINS,
-    NAME, ROW, ROWS, RUNS, SETTLED, STAGE, STYLE, TERM, TICK, UNBORN, WORDS_ROOM,
+    AT_END, BAND, DAY, DRAWING, DUE, FAILED, FAULTS, HEAD, HELD, HOUR, KILLED, LEGEND, LETTER_ROOM,
+    LEVEL, LIVES, LOW, LOW_HOURS, LOW_ROWS, LOW_SECONDS, MANY, MARGINS, NAME, NAME_AT, SETTLED,
+    STAGE, STATE, STOPS, STYLE, TALL, TALL_ROWS, TICK, TICKS, TOP_HOURS, TOP_SECONDS, UNBORN,
+    WAITED, WORDS_ROOM, YEAR,
 };
-use crate::marks::{Shown, TimelineMark};
-use crate::pictures::{Drawn, Shape, shapes_of};
-use init_words::{Id, SignalKind, Stage, Status};
-use initview_lines::{add_level, add_number, add_stage, add_status, put};
+use crate::pieces::{Drawn, Piece, Pieces};
+use crate::rows::{Row, Seen, frame_of, ill, is_ill, is_loud, rows_of, stage_pieces};
+use init_words::Stage;
+use initview_lines::{add_day, add_hours, add_moment, add_number, add_stage, add_status, put};
 use std::alloc::{AllocError, Global};
-use trace_view::Ending;
 
 fn add_escaped_byte(text: &mut Vec<u8>, byte: u8) -> Result<(), AllocError>
     ensures { OnOk result (text.new.items ≡ text.old.items ++ escaped_byte byte) }
@@ -43,95 +44,91 @@ fn add_escaped(text: &mut Vec<u8>, bytes: &[u8]) -> Result<(), AllocError>
     Ok(())
 }
 
-fn ended_look(status: Option<Status>) -> &'static [u8]
-    ensures { result.now ≡ ended_look status }
-{
-    match status {
-        Some(Status::Exit(0)) => DONE,
-        Some(Status::Killed) => KILLED,
-        _ => FAILED,
-    }
-}
-
-fn life_look(end: Option<Ending>) -> &'static [u8]
-    ensures { result.now ≡ life_look end }
-{
-    match end {
-        Some(ending) => ended_look(ending.status),
-        None => RUNS,
-    }
-}
-
-fn look(what: Shown, end: Option<Ending>) -> &'static [u8]
-    ensures { result.now ≡ look what end }
+/// How a piece is drawn, up to its place.
+fn look_of(what: Drawn) -> &'static [u8]
+    ensures { result.now ≡ look_of what }
 {
     match what {
-        Shown::Entered(_) => STAGE,
-        Shown::Settled(_) => SETTLED,
-        Shown::Born(_, _) => life_look(end),
-        Shown::Sent(_, SignalKind::Term) => TERM,
-        Shown::Sent(_, SignalKind::Kill) => KILL,
-        Shown::Held(_) => HELD,
-        Shown::NotBorn(_) => UNBORN,
-        Shown::Ended(_, _, _) => b"",
+        Drawn::Stage(_) => STAGE,
+        Drawn::Settled(_) => SETTLED,
+        Drawn::Name(_, _) => NAME,
+        Drawn::Waited(_) => WAITED,
+        Drawn::Lives(_) => LIVES,
+        Drawn::Stops(_) => STOPS,
+        Drawn::Held => HELD,
+        Drawn::Due => DUE,
+        Drawn::Failed(_) => FAILED,
+        Drawn::Killed => KILLED,
+        Drawn::Unborn => UNBORN,
     }
 }
 
-fn add_end(text: &mut Vec<u8>, end: Option<Ending>) -> Result<(), AllocError>
-    ensures { OnOk result (text.new.items ≡ text.old.items ++ end_words end) }
-{
-    match end {
-        Some(ending) => add_status(text, ending.status),
-        None => put(text, b"runs still"),
-    }
-}
-
-/// Adds an id, and words behind it.
-fn add_named(text: &mut Vec<u8>, id: &Id, words: &[u8]) -> Result<(), AllocError>
-    ensures { OnOk result (text.new.items
-        ≡ text.old.items ++ (flat_map escaped_byte id.now ++ words.now)) }
-{
-    add_escaped(text, id.as_bytes())?;
-    put(text, words)?;
-    Ok(())
-}
-
-/// Adds what is said of a bar or a sign.
-fn add_said(text: &mut Vec<u8>, what: Shown, end: Option<Ending>) -> Result<(), AllocError>
-    ensures { OnOk result (text.new.items ≡ text.old.items ++ said_of what end) }
+/// Adds what a piece is, behind its times.
+fn add_said(text: &mut Vec<u8>, what: Drawn) -> Result<(), AllocError>
+    ensures { OnOk result (text.new.items ≡ text.old.items ++ said_of what) }
 {
     match what {
-        Shown::Entered(stage) => add_stage(text, Some(stage)),
-        Shown::Settled(level) => {
-            add_level(text, level)?;
-            put(text, b" settled")
-        }
-        Shown::Born(id, number) => {
-            add_escaped(text, id.as_bytes())?;
-            add_number(text, b" ", u64::from(number.0), b": ")?;
-            add_end(text, end)
-        }
-        Shown::Sent(id, signal) => {
-            add_named(text, &id, b": ")?;
-            put(text, signal_words(signal))
-        }
-        Shown::Held(id) => add_named(text, &id, b": held"),
-        Shown::NotBorn(id) => add_named(text, &id, b": start failed"),
-        Shown::Ended(_, _, _) => Ok(()),
+        Drawn::Stage(_) | Drawn::Name(_, _) => put(text, b"entered"),
+        Drawn::Settled(_) => put(text, b"settled"),
+        Drawn::Waited(life) | Drawn::Lives(life) | Drawn::Failed(life) => match life.end {
+            Some(ending) => add_status(text, ending.status),
+            None => put(text, b"runs"),
+        },
+        Drawn::Stops(_) => put(text, b"TERM sent"),
+        Drawn::Held => put(text, b"held"),
+        Drawn::Due => put(text, b"not started"),
+        Drawn::Killed => put(text, b"KILL sent"),
+        Drawn::Unborn => put(text, b"start failed"),
     }
 }
 
-/// Begins a bar or a sign: what is said of it, and when it began.
-fn add_tip(text: &mut Vec<u8>, mark: &TimelineMark, end: Option<Ending>) -> Result<(), AllocError>
-    ensures { OnOk result (text.new.items ≡ text.old.items ++ tip mark.now end) }
+/// Adds of whom a piece is: a stage, an id, or a child of it.
+fn add_whose(text: &mut Vec<u8>, id: &[u8], what: Drawn) -> Result<(), AllocError>
+    ensures { OnOk result (text.new.items ≡ text.old.items ++ whose id.now what) }
 {
-    put(text, b"<title>")?;
-    add_said(text, mark.what, end)?;
-    add_number(text, b", clock ", mark.time, b"")
+    match what {
+        Drawn::Stage(stage) | Drawn::Settled(stage) | Drawn::Name(stage, _) => {
+            add_stage(text, Some(stage))
+        }
+        Drawn::Waited(life) | Drawn::Lives(life) | Drawn::Stops(life) | Drawn::Failed(life) => {
+            add_escaped(text, id)?;
+            add_number(text, b" ", u64::from(life.number.0), b"")
+        }
+        Drawn::Held | Drawn::Due | Drawn::Killed | Drawn::Unborn => add_escaped(text, id),
+    }
 }
 
-fn add_label_words(text: &mut Vec<u8>, room: u64, stage: Stage) -> Result<(), AllocError>
-    ensures { OnOk result (text.new.items ≡ text.old.items ++ label_by room stage) }
+/// Begins a piece: what is said of it where the pointer rests on it, and how it is drawn.
+fn add_tip(text: &mut Vec<u8>, id: &[u8], piece: &Piece) -> Result<(), AllocError>
+    ensures { OnOk result (text.new.items ≡ text.old.items ++ tip id.now piece.now) }
+{
+    put(text, b"<g><title>")?;
+    add_whose(text, id, piece.what)?;
+    put(text, b": ")?;
+    add_moment(text, piece.from)?;
+    if piece.to != piece.from {
+        put(text, b" to ")?;
+        add_moment(text, piece.to)?;
+    }
+    put(text, b": ")?;
+    add_said(text, piece.what)?;
+    put(text, b"</title>")?;
+    put(text, look_of(piece.what))
+}
+
+/// Adds a bar, from its place on, as wide as it lasts.
+fn add_bar(text: &mut Vec<u8>, frame: Frame, id: &[u8], piece: &Piece) -> Result<(), AllocError>
+    ensures { OnOk result (text.new.items ≡ text.old.items ++ bar_text frame id.now piece.now) }
+{
+    let width = frame.width(piece.from, piece.to);
+    add_tip(text, id, piece)?;
+    add_number(text, b"", frame.left(piece.from, piece.to), b"\" width=\"")?;
+    add_number(text, b"", width, b"\"/></g>\n")
+}
+
+/// Adds a stage's words where there is room for them, else its letter where there is room for that.
+fn add_name(text: &mut Vec<u8>, room: u64, stage: Stage) -> Result<(), AllocError>
+    ensures { OnOk result (text.new.items ≡ text.old.items ++ name_by room stage) }
 {
     if room >= WORDS_ROOM {
         add_stage(text, Some(stage))
@@ -142,138 +139,202 @@ fn add_label_words(text: &mut Vec<u8>, room: u64, stage: Stage) -> Result<(), Al
     }
 }
 
-/// Adds a stage's words where there is room for them, else its letter where there is room for that.
-fn add_label(text: &mut Vec<u8>, room: u64, what: Shown) -> Result<(), AllocError>
-    ensures { OnOk result (text.new.items ≡ text.old.items ++ label room what) }
+/// Adds a sign at its place, and the name of a stage.
+fn add_sign(text: &mut Vec<u8>, frame: Frame, id: &[u8], piece: &Piece) -> Result<(), AllocError>
+    ensures { OnOk result (text.new.items ≡ text.old.items ++ sign_text frame id.now piece.now) }
 {
-    match what {
-        Shown::Entered(stage) => {
-            put(text, b"<text y=\"14\" x=\"4\">")?;
-            add_label_words(text, room, stage)?;
-            put(text, b"</text>")
-        }
-        _ => Ok(()),
+    let left = frame.place(piece.from);
+    add_tip(text, id, piece)?;
+    add_number(text, b"", left, b"\"/>")?;
+    if let Drawn::Name(stage, to) = piece.what {
+        add_number(text, NAME_AT, left, b"\">")?;
+        add_name(text, frame.width(piece.from, to), stage)?;
+        put(text, b"</text>")?;
     }
-}
-
-fn add_bar(
-    text: &mut Vec<u8>,
-    width: u64,
-    mark: &TimelineMark,
-    to: u64,
-    end: Option<Ending>,
-) -> Result<(), AllocError>
-    ensures { OnOk result (text.new.items
-        ≡ text.old.items ++ bar_text width mark.now to end) }
-{
-    add_tip(text, mark, end)?;
-    add_number(text, b" to ", to, b"</title>")?;
-    put(text, look(mark.what, end))?;
-    add_number(text, b"", width, b"\"/>")?;
-    add_label(text, width, mark.what)
-}
-
-fn add_name(text: &mut Vec<u8>, id: Option<Id>) -> Result<(), AllocError>
-    ensures { OnOk result (text.new.items ≡ text.old.items ++ name_words id) }
-{
-    match id {
-        Some(id) => add_escaped(text, id.as_bytes()),
-        None => put(text, b"stage"),
-    }
-}
-
-fn add_drawn(text: &mut Vec<u8>, what: Drawn) -> Result<(), AllocError>
-    ensures { OnOk result (text.new.items ≡ text.old.items ++ drawn_text what) }
-{
-    match what {
-        Drawn::Tick(time) => add_number(text, TICK, time, b"</text>"),
-        Drawn::Name(id) => {
-            put(text, NAME)?;
-            add_name(text, id)?;
-            put(text, b"</text>")
-        }
-        Drawn::Bar(width, mark, to, end) => add_bar(text, width, &mark, to, end),
-        Drawn::Sign(mark) => {
-            add_tip(text, &mark, None)?;
-            put(text, b"</title>")?;
-            put(text, look(mark.what, None))
-        }
-    }
-}
-
-/// Adds a shape, as a group at its place.
-fn add_shape(text: &mut Vec<u8>, shape: &Shape) -> Result<(), AllocError>
-    ensures { OnOk result (text.new.items ≡ text.old.items ++ element shape.now) }
-{
-    add_number(text, b"<g transform=\"translate(", shape.left, b" ")?;
-    add_number(text, b"", shape.top, b")\">")?;
-    add_drawn(text, shape.what)?;
     put(text, b"</g>\n")
 }
 
-fn add_shapes(text: &mut Vec<u8>, shapes: &[Shape]) -> Result<(), AllocError>
-    ensures { OnOk result (text.new.items ≡ text.old.items ++ flat_map element shapes.now) }
+fn add_pieces(
+    text: &mut Vec<u8>,
+    frame: Frame,
+    id: &[u8],
+    pieces: &Pieces,
+) -> Result<(), AllocError>
+    ensures { OnOk result (text.new.items ≡ text.old.items ++ elements frame id.now pieces.now) }
 {
-    let mut rest = shapes;
-    while let Some((shape, others)) = rest.split_first() {
-        add_shape(text, shape)?;
+    let mut bars = pieces.bars.as_slice();
+    while let Some((bar, others)) = bars.split_first() {
+        add_bar(text, frame, id, bar)?;
+        bars = others;
+    }
+    let mut signs = pieces.signs.as_slice();
+    while let Some((sign, others)) = signs.split_first() {
+        add_sign(text, frame, id, sign)?;
+        signs = others;
+    }
+    Ok(())
+}
+
+/// Adds what stands below a time of the axis: the seconds from the first time, or the day.
+fn add_second(text: &mut Vec<u8>, frame: Frame, time: u64) -> Result<(), AllocError>
+    ensures { OnOk result (text.new.items ≡ text.old.items ++ second_words frame time) }
+{
+    if frame.span() < HOUR {
+        add_number(text, b"+", time.saturating_sub(frame.start), b" s")
+    } else if frame.span() >= DAY && time >= YEAR {
+        add_day(text, time)
+    } else {
+        Ok(())
+    }
+}
+
+/// Adds a time of the axis, above or below the rows.
+fn add_axis_time(
+    text: &mut Vec<u8>,
+    frame: Frame,
+    time: u64,
+    above: &[u8],
+    below: &[u8],
+) -> Result<(), AllocError>
+    ensures { OnOk result (text.new.items
+        ≡ text.old.items ++ axis_time frame time above.now below.now) }
+{
+    put(text, above)?;
+    add_hours(text, time)?;
+    put(text, below)?;
+    add_second(text, frame, time)?;
+    put(text, b"</text>")
+}
+
+/// Adds a tick: a line down, and its time above the rows and below them.
+fn add_tick(text: &mut Vec<u8>, frame: Frame, time: u64) -> Result<(), AllocError>
+    ensures { OnOk result (text.new.items ≡ text.old.items ++ tick_text frame time) }
+{
+    add_number(text, b"<g transform=\"translate(", frame.place(time), TICK)?;
+    add_axis_time(text, frame, time, TOP_HOURS, TOP_SECONDS)?;
+    add_axis_time(text, frame, time, LOW_HOURS, LOW_SECONDS)?;
+    put(text, b"</g>\n")
+}
+
+/// Adds the ticks that aren't behind the last time.
+fn add_ticks(text: &mut Vec<u8>, frame: Frame) -> Result<(), AllocError>
+    ensures { OnOk result (text.new.items ≡ text.old.items ++ ticks_text frame TICKS) }
+{
+    for number in 0..TICKS {
+        let time = frame.tick(number);
+        if time <= frame.end {
+            add_tick(text, frame, time)?;
+        }
+    }
+    Ok(())
+}
+
+/// How far it is from one row to the next.
+fn row_height(count: usize) -> u64
+    ensures { result ≡ row_height count }
+{
+    if count > MANY { LOW } else { TALL }
+}
+
+/// Ends a text that is loud where it has to be.
+fn loud_if(loud: bool) -> &'static [u8]
+    ensures { result.now ≡ loud_if loud }
+{
+    if loud { b" r\">" } else { b"\">" }
+}
+
+/// Adds the row of an id at a place from above.
+fn add_row(
+    text: &mut Vec<u8>,
+    frame: Frame,
+    top: u64,
+    height: u64,
+    row: &Row,
+) -> Result<(), AllocError>
+    ensures { OnOk result (text.new.items
+        ≡ text.old.items ++ row_text frame top height row.now) }
+{
+    let faults = row.pieces.signs.len() as u64;
+    add_number(text, b"<svg y=\"", top, b"\" height=\"")?;
+    add_number(text, b"", height, BAND)?;
+    put(text, loud_if(is_ill(row)))?;
+    add_escaped(text, row.id.as_bytes())?;
+    put(text, STATE)?;
+    put(text, loud_if(is_loud(row.state)))?;
+    add_state(text, row.state)?;
+    if faults > 0 {
+        add_number(text, FAULTS, faults, b"")?;
+    }
+    put(text, b"</text>\n")?;
+    add_pieces(text, frame, row.id.as_bytes(), &row.pieces)?;
+    put(text, b"</svg>\n")
+}
+
+/// Adds the rows of the ids, one below the other.
+fn add_rows(text: &mut Vec<u8>, frame: Frame, height: u64, rows: &[Row]) -> Result<(), AllocError>
+    ensures { OnOk result (text.new.items
+        ≡ text.old.items ++ rows_text frame LEVEL height rows.now) }
+{
+    let mut top = LEVEL;
+    let mut rest = rows;
+    while let Some((row, others)) = rest.split_first() {
+        add_row(text, frame, top, height, row)?;
+        top = top.saturating_add(height);
         rest = others;
     }
     Ok(())
 }
 
-/// Adds what stands before the shapes: the size, the title, the colors and the heading.
-fn add_front(text: &mut Vec<u8>, frame: Frame, height: u64) -> Result<(), AllocError>
-    ensures { OnOk result (text.new.items ≡ text.old.items ++ front frame height) }
+/// Adds what stands above the rows: the size, the colors, the times, how it all is at the end, and what the shapes mean.
+fn add_front(
+    text: &mut Vec<u8>,
+    seen: &Seen,
+    frame: Frame,
+    rows: &[Row],
+    bottom: u64,
+) -> Result<(), AllocError>
+    ensures { OnOk result (text.new.items
+        ≡ text.old.items ++ front (scene_of seen.now) frame rows.now bottom) }
 {
-    add_number(text, HEAD, height, b"\" viewBox=\"0 0 1030 ")?;
+    let height = bottom.saturating_add(MARGINS);
+    add_number(text, HEAD, height, b"\" viewBox=\"0 0 1130 ")?;
     add_number(text, b"", height, b"\">\n<title>init: ")?;
     add_times(text, frame)?;
     put(text, STYLE)?;
     add_times(text, frame)?;
-    Ok(())
+    put(text, b"</text>\n<text x=\"80\" y=\"40\">")?;
+    add_facts(text, seen)?;
+    put(text, b"<tspan class=\"z")?;
+    put(text, loud_if(ill(rows) > 0))?;
+    add_number(text, b"", ill(rows), b" of ")?;
+    add_number(text, b"", rows.len() as u64, LEGEND)?;
+    let begin = if rows.len() > MANY {
+        LOW_ROWS
+    } else {
+        TALL_ROWS
+    };
+    put(text, begin)?;
+    add_number(text, b"", bottom, b"\">\n")
 }
 
-fn add_document(
-    text: &mut Vec<u8>,
-    frame: Frame,
-    bottom: u64,
-    shapes: &[Shape],
-) -> Result<(), AllocError>
-    ensures { OnOk result (text.new.items
-        ≡ text.old.items ++ document frame bottom shapes.now) }
-{
-    add_front(text, frame, bottom.saturating_add(MARGINS))?;
-    add_number(text, ROWS, bottom, b"\">\n")?;
-    add_shapes(text, shapes)?;
-    add_number(text, BELOW, bottom.saturating_add(GAP), LEGEND)?;
-    Ok(())
-}
-
-/// Where the rows of so many ids end, behind that of the stages.
-fn bottom_of(count: u64) -> u64
-    ensures { result ≡ bottom_of count }
-{
-    count.saturating_add(1).saturating_mul(ROW)
-}
-
-/// A timeline as an SVG document, by its marks, the oldest first, and the last time, in seconds: over an axis of readings
-/// of the clock a row for the stages, and one for each id, in the order in which something first happened to them. Bars
-/// are stages and lives of children, signs are signals, holds and failed starts, and each says by a tooltip what it is. The
-/// document is 1,030 wide and 104 higher than its rows, of 24 each; a browser shows it by itself, on a light or a dark
-/// ground.
-pub fn svg_text(alloc: Global, marks: &[TimelineMark], time: u64) -> Result<Vec<u8>, AllocError>
-    ensures { IfOk result (λ text. text.items ≡ svg_of marks.now time) }
+/// A timeline as an SVG document: its times, how it all is at the end and what the shapes mean; an axis of the times of day
+/// above the rows and below them; a row for the stages, and one for each id, with how it is at the end and how much went
+/// wrong. Lives are quiet; what went wrong is loud; each shape says by a tooltip what it is. The document is 1,130 wide, and
+/// its rows are 22 high each, or 12 where there are more than 60. A browser shows it by itself, on a light or a dark ground.
+pub fn svg_text(alloc: Global, seen: &Seen) -> Result<Vec<u8>, AllocError>
+    ensures { IfOk result (λ text. text.items ≡ svg_of (scene_of seen.now)) }
 {
     let mut text = Vec::new(alloc);
-    let ids = ids_of(alloc, marks)?;
-    let frame = Frame::of(marks, time, DRAWING);
-    let shapes = shapes_of(alloc, frame, ids.as_slice(), marks)?;
-    add_document(
-        &mut text,
-        frame,
-        bottom_of(ids.len() as u64),
-        shapes.as_slice(),
-    )?;
+    let frame = frame_of(seen, DRAWING);
+    let rows = rows_of(alloc, seen)?;
+    let stages = stage_pieces(alloc, seen)?;
+    let height = row_height(rows.len());
+    let bottom = LEVEL.saturating_add(height.saturating_mul(rows.len() as u64));
+    add_front(&mut text, seen, frame, rows.as_slice(), bottom)?;
+    add_ticks(&mut text, frame)?;
+    put(&mut text, AT_END)?;
+    add_pieces(&mut text, frame, b"", &stages)?;
+    add_rows(&mut text, frame, height, rows.as_slice())?;
+    put(&mut text, b"</svg>\n</svg>\n")?;
     Ok(text)
 }

@@ -38,7 +38,7 @@ fn add_timed(
     ensures { OnOk result (timed.new.items
         ≡ timed.old.items ++ timed_of marks.now entry.now ∷ []) }
 {
-    let own = marks_for(alloc, &entry.id, marks)?;
+    let own = marks_for(alloc, &Some(entry.id), marks)?;
     let lives = lives_of(alloc, own.as_slice())?;
     timed.push(Timed {
         id: entry.id,

@@ -1,7 +1,6 @@
-use Rattle.std.proofs.Common.{◌∙◌}
-use Rattle.initview_command.proofs.Drawn.{lines_are}
+use Rattle.std.proofs.Common.{◌∙◌, ap}
+use Rattle.initview_timeline.specs.Chart.{chart_of}
 use Rattle.initview_command.proofs.charting.draw_lines.Goals as goal
 
 pub returns : goal.returns
-returns c = λ past seen marked.
-    c.in_ok-text.ensures ∙ lines_are c.args.width c.args.marks.now c.time.result past marked (c.time.ensures past seen)
+returns c = λ past seen marked. c.in_ok-text.ensures ∙ ap (λ s. chart_of c.args.width s) (c.seen_by.ensures past seen marked)

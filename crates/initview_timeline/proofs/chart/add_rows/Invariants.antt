@@ -1,10 +1,10 @@
 use Rattle.std.proofs.Common.{◌≡◌, ◌++◌, length}
-use Rattle.initview_timeline.specs.Chart.{rows}
+use Rattle.initview_timeline.specs.Chart.{row_lines}
 use Rattle.initview_timeline.proofs.chart.add_rows.Given as goal
 
--- the text so far, and behind it the rows of the ids that are left, is the text and all rows
-abbrev pub invariant-loop-id : goal.invariant-loop-id
-invariant-loop-id l = l.text.items ++ rows l.frame l.marks l.rest ≡ l.fn.text.items ++ rows l.frame l.marks l.ids
+-- the text so far, and behind it the rows that are left, is the text and all rows
+abbrev pub invariant-loop-row : goal.invariant-loop-row
+invariant-loop-row l = l.text.items ++ row_lines l.frame l.rest ≡ l.fn.text.items ++ row_lines l.frame l.rows
 
-abbrev pub decreases-loop-id : goal.decreases-loop-id
-decreases-loop-id l = length l.rest
+abbrev pub decreases-loop-row : goal.decreases-loop-row
+decreases-loop-row l = length l.rest

@@ -4,6 +4,6 @@ use Rattle.initview_command.proofs.charting.FormAsks.answer.Goals as goal
 
 pub returns : goal.returns
 returns c = λ past seen has. (
-  c.in_ok-drawn.ensures past (subst (λ (v : ViewState). Viewed v past) (sym c.view.ensures) seen) (c.as_slice.ensures ∙ c.seen.ensures ∙ has),
+  c.in_ok-drawn.ensures past (subst (λ (v : ViewState). Viewed v past) (sym c.view.ensures) seen) (c.seen.ensures ∙ has),
   c.stop_status.ensures,
 )

@@ -1,0 +1,10 @@
+use Rattle.std.proofs.Common.{◌≡◌, [], length}
+use Rattle.initview_timeline.specs.Lives.{lives_from}
+use Rattle.initview_timeline.proofs.lives.lives_of.Given as goal
+
+-- the lives so far, with the marks that are left, are those of all
+abbrev pub invariant-loop-mark : goal.invariant-loop-mark
+invariant-loop-mark l = lives_from l.lives.items l.rest ≡ lives_from [] l.marks
+
+abbrev pub decreases-loop-mark : goal.decreases-loop-mark
+decreases-loop-mark l = length l.rest

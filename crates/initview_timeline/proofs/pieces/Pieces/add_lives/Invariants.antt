@@ -1,0 +1,12 @@
+use Rattle.std.proofs.Common.{◌≡◌, ◌++◌, length}
+use Rattle.initview_timeline.specs.Pieces.{bars_of, signs_of}
+use Rattle.initview_timeline.proofs.pieces.Pieces.add_lives.Given as goal
+
+-- what is drawn so far, and behind it the lives that are left
+abbrev pub invariant-loop-life : goal.invariant-loop-life
+invariant-loop-life l =
+    (l.self.bars ++ bars_of l.last l.waited l.rest ≡ l.fn.self.bars ++ bars_of l.last l.waited l.lives)
+    × (l.self.signs ++ signs_of l.last l.rest ≡ l.fn.self.signs ++ signs_of l.last l.lives)
+
+abbrev pub decreases-loop-life : goal.decreases-loop-life
+decreases-loop-life l = length l.rest

@@ -1,0 +1,12 @@
+use Rattle.std.proofs.Common.{◌≡◌, ◌++◌, length}
+use Rattle.initview_timeline.specs.Pieces.{marks_bars, marks_signs}
+use Rattle.initview_timeline.proofs.pieces.Pieces.add_marks.Given as goal
+
+-- what is drawn so far, and behind it the marks that are left
+abbrev pub invariant-loop-mark : goal.invariant-loop-mark
+invariant-loop-mark l =
+    (l.self.bars ++ marks_bars l.last l.id l.rest ≡ l.fn.self.bars ++ marks_bars l.last l.id l.marks)
+    × (l.self.signs ++ marks_signs l.last l.id l.rest ≡ l.fn.self.signs ++ marks_signs l.last l.id l.marks)
+
+abbrev pub decreases-loop-mark : goal.decreases-loop-mark
+decreases-loop-mark l = length l.rest

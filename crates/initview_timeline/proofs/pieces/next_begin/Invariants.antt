@@ -1,0 +1,10 @@
+use Rattle.std.proofs.Common.{◌≡◌, length}
+use Rattle.initview_timeline.specs.Pieces.{next_begin}
+use Rattle.initview_timeline.proofs.pieces.next_begin.Given as goal
+
+-- none of those before begins
+abbrev pub invariant-loop-mark : goal.invariant-loop-mark
+invariant-loop-mark l = next_begin l.last l.id l.rest ≡ next_begin l.last l.id l.later
+
+abbrev pub decreases-loop-mark : goal.decreases-loop-mark
+decreases-loop-mark l = length l.rest

@@ -1,0 +1,10 @@
+use Rattle.std.proofs.Common.{◌≡◌, length}
+use Rattle.initview_timeline.specs.Rows.{is_held}
+use Rattle.initview_timeline.proofs.rows.is_held.Given as goal
+
+-- no hold before is in force
+abbrev pub invariant-loop-mark : goal.invariant-loop-mark
+invariant-loop-mark l = is_held l.end l.id l.rest ≡ is_held l.end l.id l.marks
+
+abbrev pub decreases-loop-mark : goal.decreases-loop-mark
+decreases-loop-mark l = length l.rest

@@ -1,0 +1,10 @@
+use Rattle.std.proofs.Common.{◌≡◌, length}
+use Rattle.initview_timeline.specs.Rows.{of_stage}
+use Rattle.initview_timeline.proofs.rows.of_stage.Given as goal
+
+-- with the marks that are left, they are those of all
+abbrev pub invariant-loop-mark : goal.invariant-loop-mark
+invariant-loop-mark l = of_stage l.found l.rest ≡ of_stage l.marks l.marks
+
+abbrev pub decreases-loop-mark : goal.decreases-loop-mark
+decreases-loop-mark l = length l.rest

@@ -1,0 +1,55 @@
+use Rattle.std.proofs.Common.{◌≡◌, ◌∙◌, ap, ℕ, Bool, List, [], ◌∷◌, ◌++◌, Some, append_assoc}
+use Rattle.initview_timeline.specs.declared.lives.Life.{Life}
+use Rattle.initview_timeline.specs.declared.marks.TimelineMark.{TimelineMark}
+use Rattle.initview_timeline.specs.declared.pieces.Piece.{Piece}
+use Rattle.initview_timeline.specs.declared.rows.Row.{Row}
+use Rattle.initview_timeline.specs.declared.rows.State.{State}
+use Rattle.initview_timeline.specs.Lives.{lives_of, marks_for}
+use Rattle.initview_timeline.specs.Pieces.{Drawing, bars_of, marks_bars, marks_signs, signs_of}
+use Rattle.initview_timeline.specs.Rows.{Scene, due_bars, is_waited, row_of, scene_of, state_of}
+use Rattle.initview_timeline.proofs.rows.row_of.Goals as goal
+
+behind : (xs ys zs one two three : List Piece) → one ≡ xs → two ≡ one ++ ys → three ≡ two ++ zs → three ≡ xs ++ (ys ++ zs)
+behind xs ys zs one two three is so then =
+    then ∙ ap (λ t. t ++ zs) (so ∙ ap (λ t. t ++ ys) is) ∙ append_assoc xs ys zs
+
+-- the row by its parts
+abbrev row_with : Scene → List ℕ → State → Bool → List Life → Row
+row_with s id end waited lives = record {
+  id = id;
+  state = end;
+  pieces = record {
+    bars = due_bars end s ++ (bars_of s.end waited lives ++ marks_bars s.end (Some id) s.marks);
+    signs = signs_of s.end lives ++ marks_signs s.end (Some id) s.marks;
+  };
+}
+
+drawn : (id : List ℕ) (end : State) (pieces : Drawing) (bars signs : List Piece) → pieces.bars ≡ bars → pieces.signs ≡ signs → ◌≡◌ {A = Row} (record { id = id; state = end; pieces = pieces }) (record { id = id; state = end; pieces = record { bars = bars; signs = signs } })
+drawn id end pieces bars signs b s =
+    ap (λ bs. record { id = id; state = end; pieces = record { bars = bs; signs = pieces.signs } }) b
+    ∙ ap (λ ss. record { id = id; state = end; pieces = record { bars = bars; signs = ss } }) s
+
+parts : (s : Scene) (id : List ℕ) (own : List TimelineMark) (end : State) (waited : Bool) (lives : List Life) → own ≡ marks_for (Some id) s.marks → end ≡ state_of s id own → waited ≡ is_waited id s.entries → lives ≡ lives_of own → row_with s id end waited lives ≡ row_of s id
+parts s id own end waited lives marked ended waits lived =
+    ap (λ w. row_with s id end w lives) waits
+    ∙ ap (λ ls. row_with s id end (is_waited id s.entries) ls) (lived ∙ ap lives_of marked)
+    ∙ ap (λ e. row_with s id e (is_waited id s.entries) (lives_of (marks_for (Some id) s.marks))) (ended ∙ ap (λ o. state_of s id o) marked)
+
+pub returns : goal.returns
+returns c =
+    let s = scene_of c.args.seen.now in
+    let id = c.args.id in
+    let end = c.state_of-state.result in
+    let lives = c.as_slice-3.result.now in
+    drawn id end c.add_marks.new.self
+    (due_bars end s ++ (bars_of s.end c.is_waited.result lives ++ marks_bars s.end (Some id) s.marks))
+    (signs_of s.end lives ++ marks_signs s.end (Some id) s.marks)
+    (behind (due_bars end s) (bars_of s.end c.is_waited.result lives) (marks_bars s.end (Some id) s.marks) _ _ _
+    (c.in_ok-add_due.ensures.bars ∙ ap (λ (p : Drawing). p.bars ++ due_bars end s) c.new-pieces.ensures)
+    c.in_ok-add_lives.ensures.bars c.in_ok-add_marks.ensures.bars)
+    (behind [] (signs_of s.end lives) (marks_signs s.end (Some id) s.marks) _ _ _
+    (c.in_ok-add_due.ensures.signs ∙ ap (λ (p : Drawing). p.signs) c.new-pieces.ensures)
+    c.in_ok-add_lives.ensures.signs c.in_ok-add_marks.ensures.signs)
+    ∙ parts s id c.in_ok-own.own.items end c.is_waited.result lives c.in_ok-own.ensures
+    (c.state_of-state.ensures ∙ ap (λ o. state_of s id o) c.as_slice-2.ensures.value) c.is_waited.ensures
+    (c.as_slice-3.ensures.value ∙ c.in_ok-lives.ensures ∙ ap lives_of c.as_slice.ensures.value)

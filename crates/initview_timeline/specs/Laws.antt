@@ -1,0 +1,43 @@
+-- What the laws of a timeline speak of.
+use Rattle.std.specs.Prelude.{ℕ, Bool, true, false, List, [], ◌∷◌, ◌++◌, Some}
+use Rattle.init_words.specs.declared.orders.SignalKind.TheVariants as sig
+use Rattle.initview_timeline.specs.declared.marks.Shown.{Shown}
+use Rattle.initview_timeline.specs.declared.marks.Shown.TheVariants.{Born, NotBorn, Sent}
+use Rattle.initview_timeline.specs.declared.marks.TimelineMark.{TimelineMark}
+use Rattle.initview_timeline.specs.declared.pieces.Drawn.{Drawn}
+use Rattle.initview_timeline.specs.declared.pieces.Drawn.TheVariants.{Waited, Lives}
+use Rattle.initview_timeline.specs.declared.pieces.Piece.{Piece}
+use Rattle.initview_timeline.specs.Lives.{marks_for}
+use Rattle.initview_timeline.specs.Rows.{Scene}
+
+-- what happened to an id
+abbrev pub own : Scene → List ℕ → List TimelineMark
+own s id = marks_for (Some id) s.marks
+
+-- the child of a birth, and when it was born
+abbrev pub birth_at : ℕ → Shown → List (ℕ × ℕ)
+birth_at time (Born id number) = (number, time) ∷ []
+birth_at time _ = []
+
+abbrev pub births : List TimelineMark → List (ℕ × ℕ)
+births [] = []
+births (mark ∷ marks) = birth_at mark.time mark.what ++ births marks
+
+-- the child of a bar of a life, and from when on it is drawn
+abbrev pub life_from : ℕ → Drawn → List (ℕ × ℕ)
+life_from from (Waited l) = (l.number, from) ∷ []
+life_from from (Lives l) = (l.number, from) ∷ []
+life_from from _ = []
+
+abbrev pub lives_drawn : List Piece → List (ℕ × ℕ)
+lives_drawn [] = []
+lives_drawn (p ∷ ps) = life_from p.from p.what ++ lives_drawn ps
+
+-- KILL was sent, or a start failed
+abbrev pub says_fault : Shown → Bool
+says_fault (Sent id sig.Kill) = true
+says_fault (NotBorn id) = true
+says_fault _ = false
+
+abbrev pub is_fault : TimelineMark → Bool
+is_fault mark = says_fault mark.what

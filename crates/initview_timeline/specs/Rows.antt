@@ -1,0 +1,188 @@
+-- The rows of a timeline: which ids have one, how each is at the end, and what is drawn in it.
+use Rattle.std.specs.Prelude.{ℕ, ◌-◌, ◌^◌, Bool, true, false, ◌&&◌, ◌||◌, nat_lt, min, not, if◌then◌else◌, unwrap_or, List, [], ◌∷◌, ◌++◌, map, length, Option, Some, None}
+use Rattle.std.specs.List.{list_any}
+use Rattle.init_words.specs.Actions.{wanted_by}
+use Rattle.init_words.specs.Entries.{starts_of, waited_of}
+use Rattle.init_words.specs.Ids.{same_id}
+use Rattle.init_words.specs.declared.children.Status.{Status}
+use Rattle.init_words.specs.declared.entries.Entry.{Entry}
+use Rattle.init_words.specs.declared.orders.SignalKind.TheVariants as sig
+use Rattle.init_words.specs.declared.stages.Stage.{Stage}
+use Rattle.respawn_limit.specs.declared.TheConstants.{HOLD}
+use Rattle.trace_events.specs.Event.{Event}
+use Rattle.trace_events.specs.Past.{stage_of, table_of, time_of}
+use Rattle.trace_view.specs.Rows.{is_settled_now}
+use Rattle.initview_timeline.specs.declared.frames.Frame.{Frame}
+use Rattle.initview_timeline.specs.declared.lives.Life.{Life}
+use Rattle.initview_timeline.specs.declared.marks.Shown.{Shown}
+use Rattle.initview_timeline.specs.declared.marks.Shown.TheVariants.{Entered, Born, NotBorn, Ended, Sent, Held}
+use Rattle.initview_timeline.specs.declared.marks.TimelineMark.{TimelineMark}
+use Rattle.initview_timeline.specs.declared.pieces.Drawn.TheVariants as drawn
+use Rattle.initview_timeline.specs.declared.pieces.Piece.{Piece}
+use Rattle.initview_timeline.specs.declared.rows.Row.{Row}
+use Rattle.initview_timeline.specs.declared.rows.Seen.{Seen}
+use Rattle.initview_timeline.specs.declared.rows.State.{State}
+use Rattle.initview_timeline.specs.declared.rows.State.TheVariants as state
+use Rattle.initview_timeline.specs.Frames.{plus}
+use Rattle.initview_timeline.specs.Lives.{ids_from, is_for, lives_of, marks_for, with_id}
+use Rattle.initview_timeline.specs.Marks.{marks_of, start_of}
+use Rattle.initview_timeline.specs.Pieces.{Drawing, bars_of, is_done, is_start, marks_bars, marks_signs, next_begin, piece, signs_of}
+
+-- what a timeline is drawn of, as lists, and by a past
+pub record Scene : Type 0 where
+  pub entries : List Entry
+  pub marks : List TimelineMark
+  pub stage : Option Stage
+  pub settled : Bool
+  pub start : Option ℕ
+  pub end : ℕ
+
+abbrev pub scene_of : Seen → Scene
+scene_of s = record {
+  entries = s.entries.now;
+  marks = s.marks.now;
+  stage = s.stage;
+  settled = s.settled;
+  start = s.start;
+  end = s.end;
+}
+
+abbrev pub drawn_of : List Event → Scene
+drawn_of past = record {
+  entries = table_of past;
+  marks = marks_of past;
+  stage = stage_of past;
+  settled = is_settled_now past;
+  start = start_of past;
+  end = time_of past;
+}
+
+-- from the first reading of the clock up to the last
+abbrev pub frame_of : Scene → ℕ → Frame
+frame_of s last = record { start = unwrap_or s.start s.end; end = s.end; last = last }
+
+-- the ids: of the table those that start of themselves in the stage in force, or to which something happened, in its
+-- order; and then the others to which something happened
+abbrev pub starts_now : Entry → Option Stage → Bool
+starts_now e None = false
+starts_now e (Some stage) = starts_of e stage && wanted_by e.act true true false
+
+abbrev pub had_marks : List ℕ → List TimelineMark → Bool
+had_marks id marks = list_any (λ (mark : TimelineMark). is_for (Some id) mark.what) marks
+
+abbrev pub table_ids : List (List ℕ) → Scene → List Entry → List (List ℕ)
+table_ids found s [] = found
+table_ids found s (e ∷ es) =
+    table_ids (if starts_now e s.stage || had_marks e.id s.marks then with_id found (Some e.id) else found) s es
+
+abbrev pub ids_of : Scene → List (List ℕ)
+ids_of s = ids_from (table_ids [] s s.entries) s.marks
+
+-- how an id is after a mark of its own: a child that was asked to end has stopped, whatever its status
+abbrev pub ended_from : State → Status → State
+ended_from state.Stopping status = state.Stopped
+ended_from _ status = state.Ended (Some status)
+
+abbrev pub asked_from : State → State
+asked_from state.Runs = state.Stopping
+asked_from s = s
+
+abbrev pub state_after : State → Shown → State
+state_after s (Born id number) = state.Runs
+state_after s (NotBorn id) = state.Ended None
+state_after s (Sent id sig.Term) = asked_from s
+state_after s (Ended id number status) = ended_from s status
+state_after s _ = s
+
+abbrev pub state_from : State → List TimelineMark → State
+state_from s [] = s
+state_from s (mark ∷ marks) = state_from (state_after s mark.what) marks
+
+-- one that an operator has to look at
+abbrev pub is_loud : State → Bool
+is_loud state.Held = true
+is_loud (state.Ended status) = not (is_done status)
+is_loud _ = false
+
+-- a hold is in force at a time: it began less than five minutes ago, and no stage, table or start of the id ended it
+abbrev pub is_hold : Option (List ℕ) → Shown → Bool
+is_hold id (Held i) = is_for id (Held i)
+is_hold id _ = false
+
+abbrev pub is_held : ℕ → Option (List ℕ) → List TimelineMark → Bool
+is_held end id [] = false
+is_held end id (mark ∷ later) =
+    is_hold id mark.what && nat_lt end (min (plus mark.time HOLD) (next_begin (2 ^ 64 - 1) id later)) || is_held end id later
+
+-- the marks from the last stage on
+abbrev pub from_stage : List TimelineMark → Shown → List TimelineMark → List TimelineMark
+from_stage found (Entered stage) marks = marks
+from_stage found _ marks = found
+
+abbrev pub of_stage : List TimelineMark → List TimelineMark → List TimelineMark
+of_stage found [] = found
+of_stage found (mark ∷ marks) = of_stage (from_stage found mark.what (mark ∷ marks)) marks
+
+-- an id waits: it starts in the stage in force, which isn't settled, and was not started in it
+abbrev pub starts_there : List ℕ → Option Stage → List Entry → Bool
+starts_there id stage entries = list_any (λ (e : Entry). same_id id e.id && starts_now e stage) entries
+
+abbrev pub is_begun : List ℕ → List TimelineMark → Bool
+is_begun id marks = list_any (λ (mark : TimelineMark). is_start (Some id) mark.what) marks
+
+abbrev pub waits : Scene → List ℕ → Bool
+waits s id = not s.settled && starts_there id s.stage s.entries && not (is_begun id (of_stage s.marks s.marks))
+
+abbrev pub is_up : State → Bool
+is_up state.Runs = true
+is_up state.Stopping = true
+is_up _ = false
+
+-- how an id is at the end
+abbrev pub state_by : Bool → Bool → State → State
+state_by held due s = if held then state.Held else if due && not (is_up s) then state.Due else s
+
+abbrev pub state_of : Scene → List ℕ → List TimelineMark → State
+state_of s id own = state_by (is_held s.end (Some id) s.marks) (waits s id) (state_from state.Due own)
+
+-- what is drawn of an id: that it is due, since the stage in force was entered; its lives and its holds; and upon them what
+-- went wrong
+abbrev pub due_from : ℕ → List TimelineMark → List Piece
+due_from end [] = []
+due_from end (mark ∷ marks) = piece drawn.Due mark.time end
+
+abbrev pub due_bars : State → Scene → List Piece
+due_bars state.Due s = due_from s.end (of_stage s.marks s.marks)
+due_bars _ s = []
+
+abbrev pub is_waited : List ℕ → List Entry → Bool
+is_waited id entries = list_any (λ (e : Entry). same_id id e.id && waited_of e) entries
+
+abbrev pub row_by : Scene → List ℕ → State → List Life → Row
+row_by s id end lives = record {
+  id = id;
+  state = end;
+  pieces = record {
+    bars = due_bars end s ++ (bars_of s.end (is_waited id s.entries) lives ++ marks_bars s.end (Some id) s.marks);
+    signs = signs_of s.end lives ++ marks_signs s.end (Some id) s.marks;
+  };
+}
+
+abbrev pub row_of : Scene → List ℕ → Row
+row_of s id = row_by s id (state_of s id (marks_for (Some id) s.marks)) (lives_of (marks_for (Some id) s.marks))
+
+abbrev pub rows_of : Scene → List Row
+rows_of s = map (row_of s) (ids_of s)
+
+-- what is drawn of the stages
+abbrev pub stage_pieces : Scene → Drawing
+stage_pieces s = record { bars = marks_bars s.end None s.marks; signs = marks_signs s.end None s.marks }
+
+-- something of an id went wrong, or is wrong at the end
+abbrev pub is_ill : Row → Bool
+is_ill r = nat_lt 0 (length r.pieces.signs) || is_loud r.state
+
+-- how many rows are ill
+abbrev pub ill_from : ℕ → List Row → ℕ
+ill_from n [] = n
+ill_from n (r ∷ rs) = ill_from (if is_ill r then plus n 1 else n) rs
