@@ -114,14 +114,16 @@ done
 for facility in contrib/facilities/*; do
     put 644 "$facility" "share/initd/facilities/${facility##*/}"
 done
-for page in README.md docs/SYSVINIT.md docs/DECISIONS.md examples/timeline/timeline.svg; do
+for page in docs/SYSVINIT.md docs/DECISIONS.md examples/timeline/timeline.svg; do
     put 644 "$page" "share/doc/initd/${page##*/}"
 done
-# The page shows the picture that lies beside it.
-page=$root/share/initd/OPERATING.md
-sed 's|(../examples/timeline/timeline.svg)|(timeline.svg)|' docs/OPERATING.md >"$page"
-put 644 "$page" share/doc/initd/OPERATING.md
-rm "$page"
+# These show the picture that lies beside them.
+for page in README.md docs/OPERATING.md; do
+    shown=$root/share/initd/${page##*/}
+    sed 's|([./]*examples/timeline/timeline.svg)|(timeline.svg)|' "$page" >"$shown"
+    put 644 "$shown" "share/doc/initd/${page##*/}"
+    rm "$shown"
+done
 if [ -f "$root/$list" ]; then
     grep -vxF -f "$new" "$root/$list" | while read -r file; do
         rm -f "$root/$file"
