@@ -125,7 +125,11 @@ pub(crate) fn add_times(text: &mut Vec<u8>, frame: Frame) -> Result<(), AllocErr
     add_moment(text, frame.start)?;
     put(text, b" to ")?;
     add_moment(text, frame.end)?;
-    put(text, if frame.end < YEAR { b"" } else { b" UTC" })
+    if frame.end < YEAR {
+        return Ok(());
+    }
+    put(text, b" UTC")?;
+    Ok(())
 }
 
 /// Adds how it all is at the end, up to of how many ids something is ill.

@@ -1,3 +1,4 @@
+use native.Mathlib.Numerals.{unary_clauses}
 use Rattle.std.proofs.Common.{◌≡◌, ◌∙◌, ap, ℕ, List, [], ◌++◌, codes, append_assoc}
 use Rattle.init_words.proofs.Behind.{two_more}
 use Rattle.initview_lines.specs.Days.{hours_text}
@@ -15,7 +16,7 @@ one_time text front times mark hours now put all is so then =
 pub loop-number-preserved : goal.loop-number-preserved
 loop-number-preserved c =
     let hour = λ (place : ℕ). hours_text (time_of_place c.args.frame place) in
-    one_time c.args.text.now.items (padded 4 []) (axis_to c.args.frame c.loop-number.number) (codes "     |") (hour _) _ _ _
-        c.loop-number.invariant c.in_ok-put.ensures
-        (c.in_ok-add_hours.ensures ∙ ap (λ time. c.put.new.text.items ++ hours_text time) c.time_of_place.ensures
-        ∙ ap (λ place. c.put.new.text.items ++ hour place) c.saturating_mul.ensures)
+    simp unary_clauses (one_time c.args.text.now.items (padded 4 []) (axis_to c.args.frame c.loop-number.number) (codes "     |") (hour _) _ _ _
+    c.loop-number.invariant c.in_ok-put.ensures
+    (c.in_ok-add_hours.ensures ∙ ap (λ time. c.put.new.text.items ++ hours_text time) c.time_of_place.ensures
+    ∙ ap (λ place. c.put.new.text.items ++ hour place) c.saturating_mul.ensures))

@@ -10,6 +10,6 @@ joined m n s t marks start = ap (λ k. record { marks = k; start = s }) marks �
 pub returns : goal.returns
 returns g c = rw (← c.self.view_is) (λ past seen on here marked.
     joined _ _ _ _
-        (c.in_ok-take_mark.ensures past seen
-        ∙ ap (λ (m : SeenMarks). m.marks ++ mark_at (time_of (c.args.happening.now ∷ past)) (shown_of c.args.happening.now past)) marked)
-        (c.start_after.ensures ∙ ap (λ (m : SeenMarks). start_after m.start c.args.happening.now) marked))
+    (c.in_ok-take_mark.ensures past seen
+    ∙ ap (λ (m : SeenMarks). m.marks ++ mark_at (time_of (c.args.happening.now ∷ past)) (shown_of c.args.happening.now past)) marked)
+    (c.start_after-self-inside.ensures ∙ ap (λ (m : SeenMarks). start_after m.start c.args.happening.now) marked))
