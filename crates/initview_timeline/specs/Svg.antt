@@ -120,10 +120,12 @@ tick_text f time =
     numbered (codes "<g transform=\"translate(") (place_of f time) TICK.now
     ++ (axis_time f time TOP_HOURS.now TOP_SECONDS.now ++ (axis_time f time LOW_HOURS.now LOW_SECONDS.now ++ codes "</g>\n"))
 
+abbrev pub tick_within : Frame → ℕ → List ℕ
+tick_within f time = if nat_le time f.end then tick_text f time else []
+
 abbrev pub ticks_text : Frame → ℕ → List ℕ
 ticks_text f zero = []
-ticks_text f (suc number) =
-    ticks_text f number ++ (if nat_le (tick_time f number) f.end then tick_text f (tick_time f number) else [])
+ticks_text f (suc number) = ticks_text f number ++ tick_within f (tick_time f number)
 
 -- a row: its name, loud where something is ill, how it is at the end, how much went wrong, and its pieces
 abbrev pub loud_if : Bool → List ℕ
@@ -151,6 +153,9 @@ row_height count = if nat_lt MANY count then LOW else TALL
 abbrev pub bottom_of : ℕ → ℕ
 bottom_of count = plus LEVEL (times (row_height count) count)
 
+abbrev pub rows_begin : ℕ → List ℕ
+rows_begin count = if nat_lt MANY count then LOW_ROWS.now else TALL_ROWS.now
+
 -- above the rows stand the size, the title, the colors, the times, how it all is, and what the shapes mean
 unfoldable pub front : Scene → Frame → List Row → ℕ → List ℕ
 front s f rows bottom =
@@ -158,8 +163,7 @@ front s f rows bottom =
     ++ (numbered [] (plus bottom MARGINS) (codes "\">\n<title>init: ") ++ (times_words f ++ (STYLE.now ++ (times_words f
     ++ (codes "</text>\n<text x=\"80\" y=\"40\">" ++ (facts_words s ++ (codes "<tspan class=\"z"
     ++ (loud_if (nat_lt 0 (ill_from 0 rows)) ++ (numbered [] (ill_from 0 rows) (codes " of ") ++ (numbered [] (length rows) LEGEND.now
-    ++ ((if nat_lt MANY (length rows) then LOW_ROWS.now else TALL_ROWS.now)
-    ++ numbered [] bottom (codes "\">\n"))))))))))))
+    ++ (rows_begin (length rows) ++ numbered [] bottom (codes "\">\n"))))))))))))
 
 unfoldable pub document : Scene → Frame → List Row → List ℕ
 document s f rows =

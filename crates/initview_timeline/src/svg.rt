@@ -2,7 +2,7 @@
 
 ghost use Rattle.std.specs.Prelude.{◌≡◌, ◌++◌, IfOk, OnOk};
 ghost use Rattle.std.specs.List.{flat_map};
-ghost use Rattle.initview_timeline.specs.Svg.{axis_time, bar_text, elements, escaped_byte, front, look_of, loud_if, name_by, row_height, row_text, rows_text, said_of, second_words, sign_text, svg_of, tick_text, ticks_text, tip, whose};
+ghost use Rattle.initview_timeline.specs.Svg.{axis_time, bar_text, elements, escaped_byte, faults_part, front, label, look_of, loud_if, name_by, row_height, row_text, rows_begin, rows_text, said_of, second_words, sign_text, svg_of, tick_text, tick_within, ticks_text, tip, to_words, whose};
 ghost use Rattle.initview_timeline.specs.Rows.{scene_of};
 
 use crate::chart::{add_facts, add_state, add_times, stage_letter};
@@ -98,6 +98,17 @@ fn add_whose(text: &mut Vec<u8>, id: &[u8], what: Drawn) -> Result<(), AllocErro
     }
 }
 
+/// Adds the time at which a piece ends, where that isn't the time at which it begins.
+fn add_to(text: &mut Vec<u8>, piece: &Piece) -> Result<(), AllocError>
+    ensures { OnOk result (text.new.items ≡ text.old.items ++ to_words piece.now) }
+{
+    if piece.to == piece.from {
+        return Ok(());
+    }
+    put(text, b" to ")?;
+    add_moment(text, piece.to)
+}
+
 /// Begins a piece: what is said of it where the pointer rests on it, and how it is drawn.
 fn add_tip(text: &mut Vec<u8>, id: &[u8], piece: &Piece) -> Result<(), AllocError>
     ensures { OnOk result (text.new.items ≡ text.old.items ++ tip id.now piece.now) }
@@ -106,14 +117,12 @@ fn add_tip(text: &mut Vec<u8>, id: &[u8], piece: &Piece) -> Result<(), AllocErro
     add_whose(text, id, piece.what)?;
     put(text, b": ")?;
     add_moment(text, piece.from)?;
-    if piece.to != piece.from {
-        put(text, b" to ")?;
-        add_moment(text, piece.to)?;
-    }
+    add_to(text, piece)?;
     put(text, b": ")?;
     add_said(text, piece.what)?;
     put(text, b"</title>")?;
-    put(text, look_of(piece.what))
+    put(text, look_of(piece.what))?;
+    Ok(())
 }
 
 /// Adds a bar, from its place on, as wide as it lasts.
@@ -139,19 +148,35 @@ fn add_name(text: &mut Vec<u8>, room: u64, stage: Stage) -> Result<(), AllocErro
     }
 }
 
+/// Adds the name of a stage at its place.
+fn add_label(
+    text: &mut Vec<u8>,
+    frame: Frame,
+    from: u64,
+    what: Drawn,
+) -> Result<(), AllocError>
+    ensures { OnOk result (text.new.items ≡ text.old.items ++ label frame from what) }
+{
+    match what {
+        Drawn::Name(stage, to) => {
+            add_number(text, NAME_AT, frame.place(from), b"\">")?;
+            add_name(text, frame.width(from, to), stage)?;
+            put(text, b"</text>")?;
+            Ok(())
+        }
+        _ => Ok(()),
+    }
+}
+
 /// Adds a sign at its place, and the name of a stage.
 fn add_sign(text: &mut Vec<u8>, frame: Frame, id: &[u8], piece: &Piece) -> Result<(), AllocError>
     ensures { OnOk result (text.new.items ≡ text.old.items ++ sign_text frame id.now piece.now) }
 {
-    let left = frame.place(piece.from);
     add_tip(text, id, piece)?;
-    add_number(text, b"", left, b"\"/>")?;
-    if let Drawn::Name(stage, to) = piece.what {
-        add_number(text, NAME_AT, left, b"\">")?;
-        add_name(text, frame.width(piece.from, to), stage)?;
-        put(text, b"</text>")?;
-    }
-    put(text, b"</g>\n")
+    add_number(text, b"", frame.place(piece.from), b"\"/>")?;
+    add_label(text, frame, piece.from, piece.what)?;
+    put(text, b"</g>\n")?;
+    Ok(())
 }
 
 fn add_pieces(
@@ -213,7 +238,19 @@ fn add_tick(text: &mut Vec<u8>, frame: Frame, time: u64) -> Result<(), AllocErro
     add_number(text, b"<g transform=\"translate(", frame.place(time), TICK)?;
     add_axis_time(text, frame, time, TOP_HOURS, TOP_SECONDS)?;
     add_axis_time(text, frame, time, LOW_HOURS, LOW_SECONDS)?;
-    put(text, b"</g>\n")
+    put(text, b"</g>\n")?;
+    Ok(())
+}
+
+/// Adds a tick, unless it is behind the last time.
+fn add_tick_within(text: &mut Vec<u8>, frame: Frame, time: u64) -> Result<(), AllocError>
+    ensures { OnOk result (text.new.items ≡ text.old.items ++ tick_within frame time) }
+{
+    if time <= frame.end {
+        add_tick(text, frame, time)
+    } else {
+        Ok(())
+    }
 }
 
 /// Adds the ticks that aren't behind the last time.
@@ -221,10 +258,7 @@ fn add_ticks(text: &mut Vec<u8>, frame: Frame) -> Result<(), AllocError>
     ensures { OnOk result (text.new.items ≡ text.old.items ++ ticks_text frame TICKS) }
 {
     for number in 0..TICKS {
-        let time = frame.tick(number);
-        if time <= frame.end {
-            add_tick(text, frame, time)?;
-        }
+        add_tick_within(text, frame, frame.tick(number))?;
     }
     Ok(())
 }
@@ -243,6 +277,16 @@ fn loud_if(loud: bool) -> &'static [u8]
     if loud { b" r\">" } else { b"\">" }
 }
 
+/// Adds how much went wrong, where something did.
+fn add_faults(text: &mut Vec<u8>, faults: u64) -> Result<(), AllocError>
+    ensures { OnOk result (text.new.items ≡ text.old.items ++ faults_part faults) }
+{
+    if faults == 0 {
+        return Ok(());
+    }
+    add_number(text, FAULTS, faults, b"")
+}
+
 /// Adds the row of an id at a place from above.
 fn add_row(
     text: &mut Vec<u8>,
@@ -254,7 +298,6 @@ fn add_row(
     ensures { OnOk result (text.new.items
         ≡ text.old.items ++ row_text frame top height row.now) }
 {
-    let faults = row.pieces.signs.len() as u64;
     add_number(text, b"<svg y=\"", top, b"\" height=\"")?;
     add_number(text, b"", height, BAND)?;
     put(text, loud_if(is_ill(row)))?;
@@ -262,12 +305,11 @@ fn add_row(
     put(text, STATE)?;
     put(text, loud_if(is_loud(row.state)))?;
     add_state(text, row.state)?;
-    if faults > 0 {
-        add_number(text, FAULTS, faults, b"")?;
-    }
+    add_faults(text, row.pieces.signs.len() as u64)?;
     put(text, b"</text>\n")?;
     add_pieces(text, frame, row.id.as_bytes(), &row.pieces)?;
-    put(text, b"</svg>\n")
+    put(text, b"</svg>\n")?;
+    Ok(())
 }
 
 /// Adds the rows of the ids, one below the other.
@@ -283,6 +325,13 @@ fn add_rows(text: &mut Vec<u8>, frame: Frame, height: u64, rows: &[Row]) -> Resu
         rest = others;
     }
     Ok(())
+}
+
+/// Begins the rows: their signs are small where there are many.
+fn rows_begin(count: usize) -> &'static [u8]
+    ensures { result.now ≡ rows_begin count }
+{
+    if count > MANY { LOW_ROWS } else { TALL_ROWS }
 }
 
 /// Adds what stands above the rows: the size, the colors, the times, how it all is at the end, and what the shapes mean.
@@ -305,16 +354,13 @@ fn add_front(
     put(text, b"</text>\n<text x=\"80\" y=\"40\">")?;
     add_facts(text, seen)?;
     put(text, b"<tspan class=\"z")?;
-    put(text, loud_if(ill(rows) > 0))?;
-    add_number(text, b"", ill(rows), b" of ")?;
+    let faulty = ill(rows);
+    put(text, loud_if(faulty > 0))?;
+    add_number(text, b"", faulty, b" of ")?;
     add_number(text, b"", rows.len() as u64, LEGEND)?;
-    let begin = if rows.len() > MANY {
-        LOW_ROWS
-    } else {
-        TALL_ROWS
-    };
-    put(text, begin)?;
-    add_number(text, b"", bottom, b"\">\n")
+    put(text, rows_begin(rows.len()))?;
+    add_number(text, b"", bottom, b"\">\n")?;
+    Ok(())
 }
 
 /// A timeline as an SVG document: its times, how it all is at the end and what the shapes mean; an axis of the times of day
