@@ -1,5 +1,5 @@
 -- A picture as one SVG document: an axis above the rows and below them, and each piece of each row as one element.
-use Rattle.std.specs.Prelude.{ℕ, ◌+◌, ◌-◌, ◌==◌, Bool, true, false, ◌&&◌, nat_le, nat_lt, zero, suc, if◌then◌else◌, List, [], ◌∷◌, ◌++◌, codes, length, Option, Some, None}
+use Rattle.std.specs.Prelude.{ℕ, ◌-◌, ◌==◌, Bool, true, false, ◌&&◌, nat_le, nat_lt, zero, suc, if◌then◌else◌, List, [], ◌∷◌, ◌++◌, codes, length, Option, Some, None}
 use Rattle.std.specs.List.{flat_map}
 use Rattle.init_words.specs.declared.stages.Stage.{Stage}
 use Rattle.trace_events.specs.Event.{Event}
@@ -118,7 +118,8 @@ axis_time f time above below = above ++ (hours_text time ++ (below ++ (second_wo
 abbrev pub tick_text : Frame → ℕ → List ℕ
 tick_text f time =
     numbered (codes "<g transform=\"translate(") (place_of f time) TICK.now
-    ++ (axis_time f time TOP_HOURS.now TOP_SECONDS.now ++ (axis_time f time LOW_HOURS.now LOW_SECONDS.now ++ codes "</g>\n"))
+    ++ (axis_time f time TOP_HOURS.now TOP_SECONDS.now
+    ++ (axis_time f time LOW_HOURS.now LOW_SECONDS.now ++ codes "</g>\n"))
 
 abbrev pub tick_within : Frame → ℕ → List ℕ
 tick_within f time = if nat_le time f.end then tick_text f time else []
@@ -162,8 +163,9 @@ front s f rows bottom =
     numbered HEAD.now (plus bottom MARGINS) (codes "\" viewBox=\"0 0 1130 ")
     ++ (numbered [] (plus bottom MARGINS) (codes "\">\n<title>init: ") ++ (times_words f ++ (STYLE.now ++ (times_words f
     ++ (codes "</text>\n<text x=\"80\" y=\"40\">" ++ (facts_words s ++ (codes "<tspan class=\"z"
-    ++ (loud_if (nat_lt 0 (ill_from 0 rows)) ++ (numbered [] (ill_from 0 rows) (codes " of ") ++ (numbered [] (length rows) LEGEND.now
-    ++ (rows_begin (length rows) ++ numbered [] bottom (codes "\">\n"))))))))))))
+    ++ (loud_if (nat_lt 0 (ill_from 0 rows)) ++ (numbered [] (ill_from 0 rows) (codes " of ")
+    ++ (numbered [] (length rows) LEGEND.now ++ (rows_begin (length rows)
+    ++ numbered [] bottom (codes "\">\n"))))))))))))
 
 unfoldable pub document : Scene → Frame → List Row → List ℕ
 document s f rows =

@@ -149,12 +149,7 @@ fn add_name(text: &mut Vec<u8>, room: u64, stage: Stage) -> Result<(), AllocErro
 }
 
 /// Adds the name of a stage at its place.
-fn add_label(
-    text: &mut Vec<u8>,
-    frame: Frame,
-    from: u64,
-    what: Drawn,
-) -> Result<(), AllocError>
+fn add_label(text: &mut Vec<u8>, frame: Frame, from: u64, what: Drawn) -> Result<(), AllocError>
     ensures { OnOk result (text.new.items ≡ text.old.items ++ label frame from what) }
 {
     match what {

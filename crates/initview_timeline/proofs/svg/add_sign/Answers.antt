@@ -14,6 +14,7 @@ returns c =
     (codes "</g>\n")
     _ _ _ _
     c.in_ok-add_tip.ensures
-    (c.in_ok-add_number.ensures ∙ ap (λ place. c.add_tip.new.text.items ++ numbered [] place (codes "\"/>")) c.place.ensures)
+    (c.in_ok-add_number.ensures
+    ∙ ap (λ place. c.add_tip.new.text.items ++ numbered [] place (codes "\"/>")) c.place.ensures)
     c.in_ok-add_label.ensures
     c.in_ok-put.ensures

@@ -14,7 +14,9 @@ returns c =
     (axis_time c.args.frame c.args.time LOW_HOURS.now LOW_SECONDS.now)
     (codes "</g>\n")
     _ _ _ _
-    (c.in_ok-add_number.ensures ∙ ap (λ place. c.args.text.now.items ++ numbered (codes "<g transform=\"translate(") place TICK.now) c.place.ensures)
+    (c.in_ok-add_number.ensures
+    ∙ ap (λ place. c.args.text.now.items ++ numbered (codes "<g transform=\"translate(") place TICK.now)
+    c.place.ensures)
     c.in_ok-add_axis_time.ensures
     c.in_ok-add_axis_time-2.ensures
     c.in_ok-put.ensures

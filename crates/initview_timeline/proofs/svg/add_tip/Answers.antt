@@ -5,7 +5,10 @@ use Rattle.init_words.proofs.Behind.{four_more, three_more}
 use Rattle.initview_timeline.proofs.svg.add_tip.Goals as goal
 
 -- nine texts, one behind the other
-nine_more : (text a1 a2 a3 a4 a5 a6 a7 a8 a9 x1 x2 x3 x4 x5 x6 x7 x8 x9 : List ℕ) → x1 ≡ text ++ a1 → x2 ≡ x1 ++ a2 → x3 ≡ x2 ++ a3 → x4 ≡ x3 ++ a4 → x5 ≡ x4 ++ a5 → x6 ≡ x5 ++ a6 → x7 ≡ x6 ++ a7 → x8 ≡ x7 ++ a8 → x9 ≡ x8 ++ a9 → x9 ≡ text ++ (a1 ++ (a2 ++ (a3 ++ (a4 ++ (a5 ++ (a6 ++ (a7 ++ (a8 ++ a9))))))))
+nine_more : (text a1 a2 a3 a4 a5 a6 a7 a8 a9 x1 x2 x3 x4 x5 x6 x7 x8 x9 : List ℕ)
+    → x1 ≡ text ++ a1 → x2 ≡ x1 ++ a2 → x3 ≡ x2 ++ a3 → x4 ≡ x3 ++ a4 → x5 ≡ x4 ++ a5 → x6 ≡ x5 ++ a6
+    → x7 ≡ x6 ++ a7 → x8 ≡ x7 ++ a8 → x9 ≡ x8 ++ a9
+    → x9 ≡ text ++ (a1 ++ (a2 ++ (a3 ++ (a4 ++ (a5 ++ (a6 ++ (a7 ++ (a8 ++ a9))))))))
 nine_more text a1 a2 a3 a4 a5 a6 a7 a8 a9 x1 x2 x3 x4 x5 x6 x7 x8 x9 e1 e2 e3 e4 e5 e6 e7 e8 e9 =
     four_more text a1 a2 a3 (a4 ++ (a5 ++ (a6 ++ (a7 ++ (a8 ++ a9))))) x1 x2 x3 x9 e1 e2 e3
     (four_more x3 a4 a5 a6 (a7 ++ (a8 ++ a9)) x4 x5 x6 x9 e4 e5 e6
