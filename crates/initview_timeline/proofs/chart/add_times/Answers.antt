@@ -10,10 +10,10 @@ returns-then-frame-lt-YEAR c =
     let start = moment c.args.frame.start in
     let end = moment c.args.frame.end in
     three_more text start (codes " to ") end _ _ _
-        c.in_ok-add_moment.ensures c.in_ok-put.ensures c.in_ok-add_moment-2.ensures
+    c.in_ok-add_moment.ensures c.in_ok-put.ensures c.in_ok-add_moment-2.ensures
     ∙ ap (λ last. text ++ (start ++ (codes " to " ++ last))) (sym (append-nil end))
     ∙ ap (λ (b : Bool). text ++ (start ++ (codes " to " ++ (end ++ (if b then [] else codes " UTC")))))
-        (sym (lt-ltb c.args.frame.end YEAR c.if-frame-lt-YEAR.true))
+    (sym (lt-ltb c.args.frame.end YEAR c.if-frame-lt-YEAR.true))
 
 pub returns : goal.returns
 returns c =
@@ -21,6 +21,6 @@ returns c =
     let start = moment c.args.frame.start in
     let end = moment c.args.frame.end in
     four_more text start (codes " to ") end (codes " UTC") _ _ _ _
-        c.in_ok-add_moment.ensures c.in_ok-put.ensures c.in_ok-add_moment-2.ensures c.in_ok-put-2.ensures
+    c.in_ok-add_moment.ensures c.in_ok-put.ensures c.in_ok-add_moment-2.ensures c.in_ok-put-2.ensures
     ∙ ap (λ (b : Bool). text ++ (start ++ (codes " to " ++ (end ++ (if b then [] else codes " UTC")))))
-        (sym (le-ltb c.args.frame.end YEAR c.if-frame-lt-YEAR.false))
+    (sym (le-ltb c.args.frame.end YEAR c.if-frame-lt-YEAR.false))
