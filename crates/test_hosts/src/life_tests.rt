@@ -74,12 +74,15 @@ const TOLD_LIVES: &[Life] = &[
 const SAID: &str = "\
 initd: cannot read k.ctl: it is no plain file
 initd: k.ctl has 1 request from before: it is carried out; remove it, or give --fresh, to begin without
+initd: k.ctl: request 1 has no magic number: passed over
 initd: k.ctl: read again
 true
 initd: cannot read k.ctl: it is no plain file
 initd: k.ctl has 1 request from before: it is passed over, as --fresh says
 initd: k.ctl: read again
 true
+initd: k.ctl: request 1 has no magic number: passed over
+initd: k.ctl: request 2 has no magic number: passed over
 initd: k.ctl has 20 bytes that are no whole request: every later request is out of step; truncate -s /384 k.ctl, or remove it
 true
 initd: cannot write standard output: No space left on device (os error 28)

@@ -132,13 +132,14 @@ fn are_lines_seen(own: Global, heap: &LocalHeap) -> Option<bool> {
     (line == Some(8) && text.end().0.is_none()).then_some(true)
 }
 
-/// Whether a heap has room for the view and the marks; where it has, all are there: three stages, and two children.
+/// Whether a heap has room for the view and the marks; where it has, all are there: a table, three stages, and two
+/// children.
 fn are_marks_seen(own: Global, heap: &LocalHeap) -> Option<bool> {
     let mut text = seen_over::<Marks<&LocalHeap>>(own, heap).ok()?;
     if take_all(&mut text).is_err() {
         return Some(false);
     }
-    (text.seen().as_slice().len() == 5 && text.end().0.is_none()).then_some(true)
+    (text.seen().as_slice().len() == 6 && text.end().0.is_none()).then_some(true)
 }
 
 /// A trace and its brief form.
