@@ -8,7 +8,7 @@ ghost use Rattle.host_system.specs.Hosts.{is_look_answer, is_signal_answer};
 use crate::commands::{BoxedCommand, command_of, needs_shell};
 use crate::held::HeldChild;
 use crate::logs::Logs;
-use crate::terms::TermSender;
+use crate::terms::{TermSender, check_sending};
 use host_files::boxed;
 use host_messages::{ChildLine, ChildNews, Escaped, escape};
 use indexmap::IndexMap;
@@ -76,6 +76,19 @@ impl<R: Processes, A: Allocator + Copy> Children<R, A> {
         ensures { self.new ≡ self.old }
     {
         self.news.tell_all();
+    }
+
+    /// Says on standard error where none can be sent TERM.
+    pub(crate) fn tell_unsendable(&self, rt: &R)
+    where
+        R: Eprint,
+    {
+        if let Err(error) = check_sending(rt, self.alloc) {
+            let program = self.program;
+            let _ = eprintln!(rt;
+                "{program}: no child can be sent TERM: {error}: start {program} with a PATH that has sh and kill"
+            );
+        }
     }
 
     /// From now on the output of the children that are started goes to logs in this folder.
@@ -248,7 +261,7 @@ impl<R: Processes, A: Allocator + Copy> Children<R, A> {
     pub(crate) fn end_turn(&mut self)
         ensures { self.new ≡ self.old }
     {
-        self.terms.end();
+        let _ = self.terms.end();
     }
 
     /// Sends the id's child the signal.

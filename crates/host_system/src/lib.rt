@@ -6,10 +6,12 @@ mod bell_making;
 mod children;
 mod commands;
 mod held;
+mod host_options;
 mod logs;
 mod os_hosts;
 mod pauses;
 mod steady_clocks;
 mod terms;
 
+pub use host_options::{HostOptions, Pace};
 pub use os_hosts::OsHost;

@@ -4,6 +4,7 @@ ghost use Rattle.std.specs.Prelude.{◌≡◌, List, [], Ok, IfOk, OnErr, IsErr,
 
 use crate::bell_making::make_bell;
 use crate::children::Children;
+use crate::host_options::HostOptions;
 use crate::pauses::{Pauses, has_stirred};
 use crate::steady_clocks::SteadyClock;
 use host_calls::{Host, HostFault, Reply, counted, is_failed_reply};
@@ -92,35 +93,20 @@ impl<R: Processes + Files<File = File> + Clock + Print + Eprint + Drop, A: Alloc
     R,
     A,
 > {
-    /// A host without children, which says what fails by the name of the program, over the paths of the inittab, of the
-    /// channel of requests, of the text of init's state and of the folder of the inittab's further files, where it has
-    /// one, which `with_folder` reads. A text of the state is written to the path with `.new` after it before it is put
-    /// in its place; where something else than a plain file stands at one of the two it is refused. Each of its pauses lasts a second.
-    pub fn new(
-        rt: R,
-        alloc: A,
-        program: &'static str,
-        inittab: &str,
-        channel: &str,
-        state: &str,
-        folder: Option<&str>,
-    ) -> Result<OsHost<R, A>, Memory>
+    /// A host without children.
+    pub fn new(rt: R, alloc: A, options: &HostOptions) -> Result<OsHost<R, A>, Memory>
         ensures { IfOk result (λ host. host ≡ record {
           faults = 0;
-          strict = false;
-          verbose = false;
-          fresh = false;
+          strict = options.now.strict;
+          verbose = options.now.verbose;
+          fresh = options.now.fresh;
           held = [];
         }) }
     {
-        let children = Children::new(alloc, program)?;
-        let channel = Channel::new(alloc, program, channel)?;
-        let inittab = InittabFiles::new(alloc, program, inittab, folder)?;
-        let state = StateFile::new(alloc, program, state)?;
-        let output = boxed(alloc, Output::new(alloc, program))?;
-        let pauses = boxed(alloc, Pauses::of_a_second())?;
-        let clock = boxed(alloc, SteadyClock::new(program))?;
-        let host = OsHostParts {
+        let children = Children::new(alloc, options.program)?;
+        let (channel, inittab, state) = files_of(alloc, options)?;
+        let (output, pauses, clock) = outputs_of(alloc, options)?;
+        let parts = OsHostParts {
             rt,
             alloc,
             children,
@@ -130,89 +116,14 @@ impl<R: Processes + Files<File = File> + Clock + Print + Eprint + Drop, A: Alloc
             output,
             pauses,
             clock,
-            strict: false,
-            verbose: false,
-            fresh: false,
+            strict: options.strict,
+            verbose: options.verbose,
+            fresh: options.fresh,
             faults: 0,
         };
-        Ok(OsHost {
-            host: boxed(alloc, host)?,
-        })
-    }
-
-    /// The host with pauses of at most this length in seconds, a decimal of 0.01 to 60 with at most two digits after
-    /// the point; any other text leaves them as they are, as long as they were. Since the last pause a child may have been born or reaped, a
-    /// signal sent or bytes taken: then the next one lasts a thousandth of the length, or less where there are few
-    /// children: two millionths of a second a child, and at least a hundred. Else it lasts twice as long as the last,
-    /// but no longer than the length; where there are children and pauses go by cost, no longer than two thousand times
-    /// what the last turn took either, and that is taken for a tenth of a second at least.
-    pub fn with_pause(mut self, length: &str, by_cost: bool) -> Result<OsHost<R, A>, Memory>
-        ensures { IfOk result (λ host. host ≡ self) }
-    {
-        let host = &mut *self.host;
-        host.pauses.grow_to(length, by_cost);
-        Ok(self)
-    }
-
-    /// The host that makes its bell first, by mkfifo(1), where that is wanted and nothing stands at the bell's path. A
-    /// bell that can't be made is told, and gone on without.
-    pub fn with_bell(mut self, wanted: bool) -> OsHost<R, A>
-        ensures { result ≡ self }
-    {
-        if wanted {
-            self.host.make_bell();
-        }
-        self
-    }
-
-    /// The host with pauses for one child that is waited for: each lasts a tenth of the time since the child was born or
-    /// sent a signal, a ten-thousandth of a second to a second.
-    pub fn waiting(mut self) -> OsHost<R, A>
-        ensures { result ≡ self }
-    {
-        let host = &mut *self.host;
-        *host.pauses = Pauses::of_a_tenth();
-        self
-    }
-
-    /// The host that puts no text of its state over the file at this path, as over no other of its own, and that tells
-    /// on standard error where no text could be put at the state's path as things stand.
-    pub fn sparing(mut self, path: &str) -> Result<OsHost<R, A>, Memory>
-        ensures { IfOk result (λ host. host ≡ self) }
-    {
-        self.host.spare(path)?;
-        Ok(self)
-    }
-
-    /// The host that tells on standard error of each birth, each end and each signal of a child, and once of each file
-    /// that comes to stand in the inittab's folder and is passed over; those that stand there now are taken for told.
-    pub fn verbose(mut self) -> OsHost<R, A>
-        ensures { result ≡ record self { verbose = true } }
-    {
-        let host = &mut *self.host;
-        host.tell_all();
-        host.verbose = true;
-        self
-    }
-
-    /// The host of an init that takes no inittab of which a line is faulty: it says so.
-    pub fn strict(mut self) -> OsHost<R, A>
-        ensures { result ≡ record self { strict = true } }
-    {
-        let host = &mut *self.host;
-        host.strict = true;
-        self
-    }
-
-    /// The host that passes over the requests that stand in the channel at its first reading: that begins at the end
-    /// of the last whole one. A channel that isn't there then has none.
-    pub fn fresh(mut self) -> OsHost<R, A>
-        ensures { result ≡ record self { fresh = true } }
-    {
-        let host = &mut *self.host;
-        host.channel.pass_over_old();
-        host.fresh = true;
-        self
+        let mut host = boxed(alloc, parts)?;
+        host.begin(options)?;
+        Ok(OsHost { host })
     }
 
     /// The host that holds this lock of its channel, and takes that of each other file that comes to stand at the
@@ -230,48 +141,84 @@ impl<R: Processes + Files<File = File> + Clock + Print + Eprint + Drop, A: Alloc
         let host = &*self.host;
         host.output.has_printed()
     }
+}
 
-    /// The host that appends what each child prints to `ID.log` in the folder, or to `_.log` where the id begins with
-    /// a point or has a slash, which is told. Its children have no input. Each is started by `sh`, which becomes the
-    /// process, or says in the log that there is none and ends with a status. Where a log can't be opened that is told,
-    /// and the child is started as without logs.
-    pub fn with_logs(mut self, folder: &str) -> Result<OsHost<R, A>, Memory>
-        ensures { IfOk result (λ host. host ≡ self) }
-    {
-        let host = &mut *self.host;
-        host.children.log_to(folder)?;
-        Ok(self)
-    }
+/// What a host reads and writes files by.
+type HostFiles<A> = (
+    Box<Channel<A>, A>,
+    Box<InittabFiles<A>, A>,
+    Box<StateFile<A>, A>,
+);
+
+fn files_of<A: Allocator + Copy>(alloc: A, options: &HostOptions) -> Result<HostFiles<A>, Memory> {
+    let HostOptions {
+        program,
+        inittab,
+        folder,
+        channel,
+        state,
+        ..
+    } = *options;
+    let channel = Channel::new(alloc, program, channel)?;
+    let inittab = InittabFiles::new(alloc, program, inittab, folder)?;
+    Ok((channel, inittab, StateFile::new(alloc, program, state)?))
+}
+
+/// What a host prints by, and how it passes time.
+type HostOutputs<A> = (Box<Output<A>, A>, Box<Pauses, A>, Box<SteadyClock, A>);
+
+fn outputs_of<A: Allocator + Copy>(
+    alloc: A,
+    options: &HostOptions,
+) -> Result<HostOutputs<A>, Memory> {
+    let output = boxed(alloc, Output::new(alloc, options.program))?;
+    let pauses = boxed(alloc, Pauses::of(options.pace))?;
+    Ok((
+        output,
+        pauses,
+        boxed(alloc, SteadyClock::new(options.program))?,
+    ))
 }
 
 impl<
     R: Processes + Files<File = File> + Clock + Print + Eprint + Drop,
     A: Allocator + Copy,
 > OsHostParts<R, A> {
+    /// Does what is asked for before the first call.
+    fn begin(&mut self, options: &HostOptions) -> Result<(), Memory>
+        ensures { self.new ≡ self.old }
+    {
+        if options.bell {
+            make_bell(&self.rt, self.alloc, &self.channel);
+        }
+        if let Some(path) = options.spared {
+            self.spare(path)?;
+        }
+        if options.sends_term {
+            self.children.tell_unsendable(&self.rt);
+        }
+        if options.fresh {
+            self.channel.pass_over_old();
+        }
+        if options.verbose {
+            self.children.tell_all();
+            self.inittab.tell_all(&self.rt);
+        }
+        if let Some(folder) = options.logs {
+            self.children.log_to(folder)?;
+        }
+        Ok(())
+    }
+
     fn spare(&mut self, path: &str) -> Result<(), Memory>
         ensures { self.new ≡ self.old }
     {
-        let alloc = self.alloc;
-        self.state.spare(alloc, path)?;
+        self.state.spare(self.alloc, path)?;
         let inittab = self.inittab.path();
         let _ = self
             .state
             .tell_blocked(&self.rt, inittab, self.channel.path());
         Ok(())
-    }
-
-    fn make_bell(&mut self)
-        ensures { self.new ≡ self.old }
-    {
-        let alloc = self.alloc;
-        make_bell(&self.rt, alloc, &self.channel);
-    }
-
-    fn tell_all(&mut self)
-        ensures { self.new ≡ self.old }
-    {
-        self.children.tell_all();
-        self.inittab.tell_all(&self.rt);
     }
 
     /// Tells of an inittab's files how they are read: the faults of the lines, or why there is no table. Gives whether

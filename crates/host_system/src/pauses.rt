@@ -1,5 +1,6 @@
 //! How long a pause is.
 
+use crate::host_options::Pace;
 use crate::steady_clocks::TurnTimer;
 use host_calls::Reply;
 use init_words::Answer;
@@ -44,8 +45,22 @@ pub(crate) struct Pauses {
 }
 
 impl Pauses {
-    /// Pauses of a second each.
-    pub(crate) fn of_a_second() -> Pauses {
+    /// Pauses of this pace.
+    pub(crate) fn of(pace: Pace) -> Pauses {
+        let mut pauses = Pauses::of_a_second();
+        match pace {
+            Pace::Second => {}
+            Pace::Tenth => {
+                pauses.shortest = SHORT;
+                pauses.next = SHORT;
+                pauses.passed = Some(0);
+            }
+            Pace::UpTo { length, by_cost } => pauses.grow_to(length, by_cost),
+        }
+        pauses
+    }
+
+    fn of_a_second() -> Pauses {
         Pauses {
             shortest: SECOND,
             longest: SECOND,
@@ -57,23 +72,8 @@ impl Pauses {
         }
     }
 
-    /// Pauses that are each a tenth of the time since something happened, a ten-thousandth of a second to a second.
-    pub(crate) fn of_a_tenth() -> Pauses {
-        Pauses {
-            shortest: SHORT,
-            longest: SECOND,
-            next: SHORT,
-            by_cost: false,
-            stirred: false,
-            passed: Some(0),
-            watch: TurnTimer::new(),
-        }
-    }
-
-    /// Pauses that grow from a thousandth of this length up to it, or, where they go by what a turn costs, over children
-    /// up to two thousand times what the last turn took, where that is shorter. A length that is no decimal of 0.01 to
-    /// 60 with at most two digits after the point leaves them as they are.
-    pub(crate) fn grow_to(&mut self, length: &str, by_cost: bool) {
+    /// Lets pauses grow up to this length, where it is one.
+    fn grow_to(&mut self, length: &str, by_cost: bool) {
         let Some(hundredths) = read_hundredths(length.as_bytes()) else {
             return;
         };

@@ -5,10 +5,15 @@ use program_io::write_text;
 use std::alloc::{AllocError, Allocator};
 use std::io;
 use std::io::{Error, ErrorKind, Read};
-use std::process::{Child, OpenProcess, Processes, Stdio};
+use std::process::{Child, ExitStatus, OpenProcess, Processes, Stdio};
 
-/// What the shell does: for each number that it reads, it sends TERM to the process, and answers with kill(1)'s status.
-const HELPER: &str = "while read -r number; do kill -TERM \"$number\"; echo \"$?\"; done";
+/// What the shell does: for each number that it reads, it sends TERM to the process, and answers 0 where it was sent, `-`
+/// where there is no kill(1), and else 1.
+const HELPER: &str = "while read -r number; do kill -TERM \"$number\"; \
+    case $? in 0) echo 0 ;; 127) echo - ;; *) echo 1 ;; esac; done";
+
+/// What a shell does that ends with 0 where it finds kill(1).
+const FINDS_KILL: &str = "command -v kill >/dev/null";
 
 /// The shell that sends TERM, where it was started since the last pause.
 #[derive(Drop)]
@@ -33,13 +38,24 @@ impl<P: OpenProcess + Drop> TermSender<P> {
         let Some(shell) = &mut self.shell else {
             return Err(Error::from(ErrorKind::BrokenPipe));
         };
-        match is_sent(alloc, shell, number) {
-            Ok(true) => Ok(()),
-            Ok(false) => Err(Error::other("kill failed")),
-            Err(error) => {
-                self.end();
-                Err(error)
+        match answer_of(alloc, shell, number) {
+            Ok(b'0') => Ok(()),
+            Ok(b'-') => Err(no_kill()),
+            Ok(_) => Err(Error::other("kill failed")),
+            Err(error) => Err(self.failed(error)),
+        }
+    }
+
+    /// Lets a shell end that failed so, and says why it did where it was ended.
+    fn failed(&mut self, error: Error) -> Error {
+        match self.end() {
+            Some(status) if status.code().is_none() => {
+                Error::other("the shell that sends it was killed")
             }
+            Some(_) if error.kind() == ErrorKind::UnexpectedEof => {
+                Error::other("the shell that sends it ended")
+            }
+            _ => error,
         }
     }
 
@@ -50,17 +66,42 @@ impl<P: OpenProcess + Drop> TermSender<P> {
         alloc: A,
     ) -> io::Result<()> {
         if self.shell.is_none() {
-            self.shell = Some(helper_command(alloc)?.spawn(rt)?);
+            self.shell = Some(started(rt, helper_command(alloc)?)?);
         }
         Ok(())
     }
 
     /// Lets the shell end, and waits for it.
-    pub(crate) fn end(&mut self) {
-        if let Some(mut shell) = self.shell.take() {
-            let _ = shell.wait();
-        }
+    pub(crate) fn end(&mut self) -> Option<ExitStatus> {
+        self.shell.take()?.wait().ok()
     }
+}
+
+/// Why no process can be sent TERM: there is no `sh`, or it finds no `kill`.
+pub(crate) fn check_sending<R: Processes, A: Allocator + Copy>(rt: &R, alloc: A) -> io::Result<()> {
+    let mut shell = started(rt, shell_command(alloc, FINDS_KILL)?)?;
+    if shell.wait()?.success() {
+        Ok(())
+    } else {
+        Err(no_kill())
+    }
+}
+
+/// Starts a shell.
+fn started<R: Processes, A: Allocator + Copy>(
+    rt: &R,
+    mut command: BoxedCommand<A>,
+) -> io::Result<Child<R::Started>> {
+    match command.spawn(rt) {
+        Err(error) if error.kind() == ErrorKind::NotFound => {
+            Err(Error::new(ErrorKind::NotFound, "sh: not found in PATH"))
+        }
+        spawned => spawned,
+    }
+}
+
+fn no_kill() -> Error {
+    Error::new(ErrorKind::NotFound, "kill: not found in PATH")
 }
 
 fn helper_command<A: Allocator + Copy>(alloc: A) -> Result<BoxedCommand<A>, AllocError> {
@@ -70,12 +111,12 @@ fn helper_command<A: Allocator + Copy>(alloc: A) -> Result<BoxedCommand<A>, Allo
     Ok(command)
 }
 
-/// Hands the number to the shell, and gives whether TERM was sent.
-fn is_sent<P: OpenProcess, A: Allocator + Copy>(
+/// Hands the number to the shell, and gives its answer.
+fn answer_of<P: OpenProcess, A: Allocator + Copy>(
     alloc: A,
     shell: &mut Child<P>,
     number: u32,
-) -> io::Result<bool> {
+) -> io::Result<u8> {
     let line = format!(in alloc; "{number}\n")?;
     let Some(input) = &mut shell.stdin else {
         return Err(Error::from(ErrorKind::BrokenPipe));
@@ -86,5 +127,5 @@ fn is_sent<P: OpenProcess, A: Allocator + Copy>(
     };
     let mut answer = [0; 2];
     output.read_exact(&mut answer)?;
-    Ok(answer == *b"0\n")
+    Ok(answer[0])
 }

@@ -7,7 +7,7 @@ ghost use Rattle.initd_command.specs.Hosts.{host_said};
 use crate::hosts::Hosts;
 use crate::run::{folder_of, trace_of};
 use host_messages::StampedRuntime;
-use host_system::OsHost;
+use host_system::{HostOptions, OsHost, Pace};
 use host_telling::{CallList, Noted, Telling, no_calls};
 use init_words::Memory;
 use initd_options::RunWords;
@@ -99,29 +99,26 @@ where
     R: Processes + Files<File = File> + Clock + Print + Eprint + Clone + Drop,
     ensures { IfOk result (λ host. host ≡ host_said (run_of said.now)) }
 {
-    let inittab = said.inittab.as_str();
-    let initctl = said.initctl.as_str();
-    let state = said.state.as_str();
-    let host = OsHost::new(
-        rt.clone()?,
-        alloc,
-        "initd",
-        inittab,
-        initctl,
-        state,
-        folder_of(said),
-    )?;
-    let host = host
-        .with_bell(said.bell)
-        .with_pause(said.pause.as_str(), !writes_looks(said))?
-        .sparing(trace_of(said))?;
-    let host = if said.fresh { host.fresh() } else { host };
-    let host = if said.verbose { host.verbose() } else { host };
-    let host = if said.strict { host.strict() } else { host };
-    match &said.logs {
-        Some(folder) => host.with_logs(folder.as_str()),
-        None => Ok(host),
-    }
+    let pace = Pace::UpTo {
+        length: said.pause.as_str(),
+        by_cost: !writes_looks(said),
+    };
+    let options = HostOptions {
+        program: "initd",
+        inittab: said.inittab.as_str(),
+        folder: folder_of(said),
+        channel: said.initctl.as_str(),
+        state: said.state.as_str(),
+        spared: Some(trace_of(said)),
+        logs: said.logs.as_ref().map(String::as_str),
+        pace,
+        bell: said.bell,
+        fresh: said.fresh,
+        verbose: said.verbose,
+        strict: said.strict,
+        sends_term: true,
+    };
+    OsHost::new(rt.clone()?, alloc, &options)
 }
 
 /// The trace of the run has its looks: there is one, and it isn't brief.

@@ -2,7 +2,7 @@
 
 ghost use Rattle.std.specs.Prelude.{◌≡◌, [], IfOk};
 
-use host_system::OsHost;
+use host_system::{HostOptions, OsHost, Pace};
 use host_telling::{Telling, no_calls};
 use init_words::Memory;
 use std::alloc::Global;
@@ -16,6 +16,9 @@ where
     R: Processes + Files<File = File> + Clock + Print + Eprint + Drop,
     ensures { IfOk result (λ host. host.calls ≡ []) }
 {
-    let host = OsHost::new(rt, alloc, "rc", "", "", "", None)?;
-    Ok(Telling::after(&no_calls(), host.waiting()))
+    let options = HostOptions {
+        pace: Pace::Tenth,
+        ..HostOptions::of("rc")
+    };
+    Ok(Telling::after(&no_calls(), OsHost::new(rt, alloc, &options)?))
 }

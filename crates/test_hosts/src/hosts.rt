@@ -5,7 +5,7 @@
 //! `lacks` memory, and counts a fault just then. All orders are about one id.
 
 use host_calls::{Host, HostFault, Reply};
-use host_system::OsHost;
+use host_system::{HostOptions, OsHost, Pace};
 use init_words::{Answer, Id, Memory, Part, SignalKind, Stage};
 use std::alloc::Allocator;
 use std::fs;
@@ -32,15 +32,26 @@ pub(crate) fn host_of<A: Allocator + Copy>(
     kind: &str,
 ) -> Result<Box<SystemHost<A>>, Memory> {
     let (inittab, channel, state, folder) = paths;
-    let host = OsHost::new(*rt, alloc, "initd", inittab, channel, state, folder)?;
-    let host = match kind {
-        "" => host,
-        "fresh" => host.fresh(),
-        "verbose" => host.verbose(),
-        "logs" => host.with_logs("a folder of a long enough name")?,
-        length => host.with_pause(length, true)?,
+    let mut options = HostOptions {
+        inittab,
+        folder,
+        channel,
+        state,
+        ..HostOptions::of("initd")
     };
-    Ok(boxed(rt.alloc(), host)?)
+    match kind {
+        "" => {}
+        "fresh" => options.fresh = true,
+        "verbose" => options.verbose = true,
+        "logs" => options.logs = Some("a folder of a long enough name"),
+        length => {
+            options.pace = Pace::UpTo {
+                length,
+                by_cost: true,
+            }
+        }
+    }
+    Ok(boxed(rt.alloc(), OsHost::new(*rt, alloc, &options)?)?)
 }
 
 fn word_of(reply: Reply) -> &'static str {
