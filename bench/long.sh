@@ -1,6 +1,6 @@
 #!/bin/bash
 # Whether a long run stays lawful and small: 50 services of which one dies each second, requests all the time, 10,000 in
-# three hours, the trace put away each five minutes, and each happening judged. It prints init's memory after the first minute
+# three hours, the trace put away at each half mebibyte, and each happening judged. It prints init's memory after the first minute
 # and at the end, its processor time, and the verdicts of the run and of all pieces of its trace together.
 # usage: bench/long.sh INITD TELINIT [SECONDS]     (as `rt run` leaves them; three hours where the seconds are left out)
 set -eu
@@ -8,7 +8,6 @@ initd=$(realpath "$1")
 telinit=$(realpath "$2")
 seconds=${3:-10800}
 requests=$((seconds * 10000 / 10800))
-rotation=$((seconds < 1800 ? seconds / 6 : 300))
 first=$((seconds < 120 ? seconds / 2 : 60))
 folder=$(mktemp -d)
 cd "$folder"
@@ -32,30 +31,20 @@ request() {
     sent=$((sent + 1))
 }
 
-# puts the trace away, and waits until init writes another
-rotate() {
-    pieces=$((pieces + 1))
-    mv trace "trace.$pieces"
-    ask u
-    until [ -e trace ]; do sleep 0.02; done
-}
-
 echo 'id:3:initdefault:' > inittab
 for number in $(seq 50); do echo "s$number:3:respawn:sleep 100000"; done >> inittab
 # Level 4 has one, so that the run isn't drained there.
 sed -i s/^s50:3/s50:34/ inittab
-"$initd" run --forever --fresh --drain --judge --brief --trace trace > said 2> told &
+"$initd" run --forever --fresh --drain --judge --brief --trace trace --trace-size 512K > said 2> told &
 pid=$!
 until grep -q 'Runlevel 3 settled' said; do sleep 0.1; done
 
 begin=$(date +%s)
 sent=0
-pieces=0
 deaths=0
 early=
 while now=$(($(date +%s) - begin)) && [ "$now" -lt "$seconds" ]; do
     if [ -z "$early" ] && [ "$now" -ge "$first" ]; then early=$(memory); fi
-    [ "$now" -lt $(((pieces + 1) * rotation)) ] || rotate
     if kill -s KILL $(pgrep -P "$pid" sleep | shuf -n 1) 2> /dev/null; then deaths=$((deaths + 1)); fi
     until [ "$sent" -ge $((requests * (now + 1) / seconds)) ]; do request; done
     sleep 1
@@ -63,10 +52,9 @@ done
 until [ "$sent" -ge "$requests" ]; do request; done
 ask 3
 sleep 2
-echo "$seconds seconds: $deaths deaths, $sent requests, $((pieces + 1)) pieces of a trace"
+echo "$seconds seconds: $deaths deaths, $sent requests, $(find . -name 'trace*' | wc -l) pieces of a trace"
 echo "memory: $early kB after $first seconds, $(memory) kB at the end; processor time: $(used) seconds"
 ask 0
 wait "$pid" || echo "the run ended with $?"
 grep -e lawful told
-cat $(for piece in $(seq "$pieces"); do echo "trace.$piece"; done) trace > whole
-echo "all pieces: $("$initd" check whole 2> judged), $(cat judged)"
+echo "all pieces: $("$initd" check --pieces trace 2> judged), $(cat judged)"

@@ -8,7 +8,9 @@ ghost use Rattle.program_io.specs.declared.channel_files.TheConstants.{REQUEST};
 
 use crate::bells::Bell;
 use crate::boxes::boxed;
-use host_messages::{PassedOver, Trouble, tell_made_anew, tell_old, tell_torn};
+use host_messages::{
+    PassedOver, Trouble, tell_made_anew, tell_old, tell_other_owner, tell_torn, tell_written_over,
+};
 use initctl_frame::{HeardRequest, decode};
 use program_io::{ChannelLock, REQUEST, lock_channel};
 use std::alloc::{AllocError, Allocator};
@@ -34,6 +36,10 @@ pub struct Channel<A: Allocator> {
     lock: Option<ChannelLock>,
     /// The device and the number of the file that stood at the path when there was one last.
     file: Option<(u64, u64)>,
+    /// The user that it is of.
+    owner: Option<u32>,
+    /// When it was last written to, as it was found read to this end: seconds and nanoseconds.
+    end: Option<(u64, i64, i64)>,
     /// That file, open.
     open: Option<File>,
     /// No file stood at the path at the last look.
@@ -70,6 +76,8 @@ impl<A: Allocator + Copy> Channel<A> {
             begun: false,
             lock: None,
             file: None,
+            owner: None,
+            end: None,
             open: None,
             missing: false,
             heard: 0,
@@ -201,15 +209,40 @@ impl<A: Allocator + Copy> Channel<A> {
         self.lock_found(rt, &found)?;
         if self.is_anew(&found) {
             self.go_to(0);
+            self.end = None;
             tell_made_anew(rt, self.path.as_str());
         }
+        self.note_owner(rt, found.uid());
         self.keep_open(rt, &found);
         self.missing = false;
         let is_whole = self.is_whole(&found);
         if !is_whole {
+            self.note_end(rt, &found);
             self.tell_torn(rt, found.len());
         }
         Ok(is_whole)
+    }
+
+    /// Tells that the channel is of another user than before.
+    fn note_owner(&mut self, rt: &impl Eprint, owner: u32) {
+        let before = self.owner.unwrap_or(owner);
+        if before != owner {
+            tell_other_owner(rt, self.path.as_str(), before, owner);
+        }
+        self.owner = Some(owner);
+    }
+
+    /// Notes a channel that was read to its end, and tells that it was written to since, where it has no byte more.
+    fn note_end(&mut self, rt: &impl Eprint, found: &Metadata) {
+        let end = (found.len(), found.mtime(), found.mtime_nsec());
+        let is_written_over = match &self.end {
+            Some(before) => before.0 == end.0 && *before != end,
+            None => false,
+        };
+        if is_written_over {
+            tell_written_over(rt, self.path.as_str());
+        }
+        self.end = Some(end);
     }
 
     /// Takes the lock of the file that was found, where the lock that is held is another file's.

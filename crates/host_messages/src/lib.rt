@@ -24,7 +24,7 @@ mod starts;
 mod troubles;
 
 pub use announcements::announcement_text;
-pub use channel_lines::{tell_made_anew, tell_old, tell_torn};
+pub use channel_lines::{tell_made_anew, tell_old, tell_other_owner, tell_torn, tell_written_over};
 pub use child_news::ChildNews;
 pub use costs::ChildLine;
 pub use file_lines::{tell_log, tell_no_bell, tell_no_log, tell_passed};

@@ -1,13 +1,13 @@
 -- How a command line of initd ends, by what it says: a simulated run of init, a judged trace, or a run over the
 -- operating system.
-use Rattle.std.specs.Prelude.{◌≡◌, ◌⊎◌, ℕ, List, codes, Option, Some, None}
+use Rattle.std.specs.Prelude.{◌≡◌, ◌⊎◌, ℕ, if◌then◌else◌, List, codes, Option, Some, None}
 use Rattle.std.specs.Io.KnownBytes.{Appends, Keeps}
 use Rattle.program_io.specs.Writing.{AppendsPrefix}
 use Rattle.command_words.specs.VersionLine.{version_line}
 use Rattle.program_io.specs.Known.{IsTextAt, KnownTexts}
 use Rattle.simulator.specs.declared.running.SimFault.{SimFault}
 use Rattle.simulator.specs.Simulation.{Done, Ends, Scenario, scenario}
-use Rattle.initd_options.specs.CommandLine.{SimulateSaid, InitdSaid, judges, initd_read_of, simulates, runs, version}
+use Rattle.initd_options.specs.CommandLine.{CheckSaid, SimulateSaid, InitdSaid, judges, initd_read_of, simulates, runs, version}
 use Rattle.initd_command.specs.Endings.{Ending, EndsUnread, done, usage, refused, no_memory, stopped, unflushed, unversioned}
 use Rattle.initd_command.specs.Services.{EndsRun}
 use Rattle.initd_command.specs.Verdicts.{EndsCheck}
@@ -32,11 +32,15 @@ EndsVersion done old new = Appends old new (version_line (codes "initd"))
 EndsVersion unversioned old new = AppendsPrefix old new (version_line (codes "initd"))
 EndsVersion _ old new = ⊥
 
+-- the texts at the paths of traces that are judged: nothing is known of one with the pieces that were put away before it
+abbrev pub judged_at : KnownTexts → CheckSaid → KnownTexts
+judged_at text_at said = if said.pieces then (λ _. None) else text_at
+
 -- how a command line ends that was read
 abbrev pub EndsSaid : KnownTexts → InitdSaid → Ending → Option (List ℕ) → Option (List ℕ) → Type 0
 EndsSaid text_at version ending old new = EndsVersion ending old new
 EndsSaid text_at (simulates run) ending old new = EndsSimulate text_at run ending old new
-EndsSaid text_at (judges check) ending old new = EndsCheck text_at check ending old new
+EndsSaid text_at (judges check) ending old new = EndsCheck (judged_at text_at check) check ending old new
 EndsSaid text_at (runs service) ending old new = EndsRun text_at service ending old new
 
 -- how words end that are no command line, and how they end by what they say

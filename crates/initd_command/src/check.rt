@@ -3,6 +3,7 @@
 ghost use Rattle.std.specs.Prelude.{◌≡◌, ◌++◌, ℕ, List, Some, [], option_map, string_bytes, IfOk, OnOk};
 ghost use Rattle.initd_options.specs.CommandLine.{check_of};
 ghost use Rattle.initd_command.specs.Endings.{Ending, Reports, ReportsJudged, ReportsLeft, ReportsWithin, status_of, left_message, torn_message, unfinished_message, within_message};
+ghost use Rattle.initd_command.specs.Runs.{judged_at};
 ghost use Rattle.initd_command.specs.Turned.{ReportsText};
 ghost use Rattle.initd_command.specs.Verdicts.{EndsBreach, EndsCheck, EndsFound, EndsLawful, EndsTold, IsJudge, breach_message, cut_at, first_byte, message_of, unlawful_text, verdict_of, verdict_text, within_of};
 
@@ -10,13 +11,16 @@ use crate::lines::front_line;
 use crate::reports::{
     numbered, report, report_bytes, report_cannot, report_lines, report_made, report_memory, tell,
 };
+use host_files::PiecedFiles;
 use init_words::Memory;
 use initd_options::CheckWords;
 use itoa::Buffer;
 use program_io::{DEVICE_FAULT, DONE, PieceTaker, REFUSED, Texts, UNLAWFUL};
 use std::alloc::{AllocError, Global};
+use std::fs::File;
 use std::io;
 use std::io::Write;
+use std::rt::Files;
 use trace_verdict::{Breach, Finding, TextJudge};
 
 /// The judge of a trace whose text is read in pieces, and the text's first byte.
@@ -78,8 +82,29 @@ fn file_judge(alloc: Global) -> Result<Box<FileJudge>, AllocError>
     Ok(Box::new(alloc, FileJudge::new(alloc))?)
 }
 
+/// Reads a trace, with the pieces that were put away before it where they are asked for, and judges it.
+pub(crate) fn check_files<R: Files<File = File> + Eprint, T: Texts, W: Write, E: Write>(
+    rt: &R,
+    texts: &T,
+    alloc: Global,
+    said: &CheckWords,
+    out: &mut W,
+    err: &mut E,
+) -> u8
+    ensures { (ending : Ending) × (result ≡ status_of ending)
+        × EndsCheck (judged_at (T.text_at texts.now) (check_of said.now)) (check_of said.now) ending
+        (W.contents out.old) (W.contents out.new)
+        × Reports ending (E.contents err.old) (E.contents err.new) }
+{
+    if said.pieces {
+        let pieces = PiecedFiles::new(rt, alloc, "initd");
+        return check_file(&pieces, alloc, said, out, err);
+    }
+    check_file(texts, alloc, said, out, err)
+}
+
 /// Reads a trace and judges it.
-pub(crate) fn check_file<T: Texts, W: Write, E: Write>(
+fn check_file<T: Texts, W: Write, E: Write>(
     texts: &T,
     alloc: Global,
     said: &CheckWords,

@@ -5,7 +5,7 @@ ghost use Rattle.initd_command.specs.Endings.{Ending, Reports, status_of};
 ghost use Rattle.initd_command.specs.Ran.{AsksBy};
 ghost use Rattle.initd_command.specs.Runs.{EndsBy, EndsVersion};
 
-use crate::check::check_file;
+use crate::check::check_files;
 use crate::hosts::Hosts;
 use crate::reports::{report, report_memory};
 use crate::run::run_files;
@@ -22,7 +22,7 @@ use std::rt::{Clock, Files};
 /// What standard error gets where help is asked for.
 pub const USAGE: &str = "usage: initd run [OPTION]..
        initd simulate [--level L] TABLE SCRIPT
-       initd check [--growing] TRACE
+       initd check [--growing] [--pieces] TRACE
        initd --version
   --inittab P      the inittab(5); inittab where it is left out
   --inittab-dir DIR
@@ -33,6 +33,9 @@ pub const USAGE: &str = "usage: initd run [OPTION]..
   --state P        the file that carries init's state where init re-executes itself; initd.state
                    where it is left out
   --trace P        the file that the trace of the run is written to; none where it is left out
+  --trace-size SIZE
+                   put the trace's file away as P.1, P.2, .. where it has grown so long, 4K to 1024G,
+                   and go on in a new one; K, M and G are 1024 bytes, 1024 K and 1024 M
   --brief          leave looks that found nothing and idle rounds out of the trace, of which there
                    has to be one
   --judge          judge each happening while the run goes on, as check judges a trace, and tell a
@@ -56,6 +59,7 @@ pub const USAGE: &str = "usage: initd run [OPTION]..
   --bell           make the FIFO that telinit rings, P.bell beside the file of requests, where
                    there is none: a request is heard at once then
   --growing        judge a trace that is still written up to its last whole happening
+  --pieces         judge with the trace the pieces TRACE.1, TRACE.2, .. that were put away before it
   TABLE            an inittab(5)
   SCRIPT           what the system did, one happening a line
   TRACE            a trace of init, which is judged
@@ -63,7 +67,7 @@ pub const USAGE: &str = "usage: initd run [OPTION]..
 
 /// What standard error gets of words that are no command line, behind a line that says why.
 pub const SHORT_USAGE: &str =
-    "usage: initd run [OPTION].. | simulate [--level L] TABLE SCRIPT | check [--growing] TRACE | --help\n";
+    "usage: initd run [OPTION].. | simulate [--level L] TABLE SCRIPT | check [--growing] [--pieces] TRACE | --help\n";
 
 /// What is reported where the version could not be written.
 const UNVERSIONED: &str = "initd: the version could not be written\n";
@@ -104,7 +108,7 @@ where
     match read_words(alloc, words.as_slice()) {
         Ok(Words::Version) => tell_version(out, err),
         Ok(Words::Simulate(said)) => simulate_files(texts, alloc, &said, out, err),
-        Ok(Words::Check(said)) => check_file(texts, alloc, &said, out, err),
+        Ok(Words::Check(said)) => check_files(rt, texts, alloc, &said, out, err),
         Ok(Words::Run(said)) => run_files(rt, texts, hosts, alloc, &said, out, err),
         Err(WordFault::Usage(reason)) => {
             report_refused_words("initd", reason.as_str(), USAGE, SHORT_USAGE, err)

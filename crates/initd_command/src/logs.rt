@@ -1,13 +1,17 @@
 //! Logs of a run: none, and a file.
 
+ghost use Rattle.std.specs.Prelude.{◌≡◌, false};
+
+use host_files::{are_same, newest_piece, piece_path};
 use program_io::write_text;
 use std::alloc::{Allocator, Global};
-use std::fs::{File, OpenOptions, TryLockError};
+use std::fs::{File, OpenOptions, TryLockError, hard_link, metadata, remove_file, rename};
 use std::io;
 use std::io::{ErrorKind, Write};
 use std::rt::Files;
 use trace_events::{Handed, Happening, HappeningIn};
-use trace_log::{EndedLog, Log, LogFault, StreamLog};
+use trace_log::{EndedLog, Log, LogFault};
+use trace_text::print_one;
 
 /// A log that takes all and keeps nothing.
 #[derive(Drop)]
@@ -70,9 +74,23 @@ const WRITE_LENGTH: usize = 16_384;
 struct AnewFile {
     file: File,
     is_begun: bool,
+    /// How many bytes it took.
+    length: u64,
+    /// How many of the kept bytes it took, or the file before it.
+    count: usize,
 }
 
 impl AnewFile {
+    /// A file to which nothing was written, behind one that took so many of the kept bytes.
+    fn new(file: File, count: usize) -> AnewFile {
+        AnewFile {
+            file,
+            is_begun: false,
+            length: 0,
+            count,
+        }
+    }
+
     /// Empties a plain file. Of what is none nothing is left to lose.
     fn begin(&mut self) -> io::Result<()> {
         if self.file.metadata()?.is_file() {
@@ -88,24 +106,8 @@ impl Write for AnewFile {
         if !self.is_begun {
             self.begin()?;
         }
-        self.file.write(buf)
-    }
-
-    fn flush(&mut self) -> io::Result<()> {
-        self.file.flush()
-    }
-}
-
-/// A file, and how many bytes it took.
-#[derive(Drop)]
-struct Counted<F: Write + Drop> {
-    file: F,
-    count: usize,
-}
-
-impl<F: Write + Drop> Write for Counted<F> {
-    fn write(&mut self, buf: &[u8]) -> io::Result<usize> {
         let count = self.file.write(buf)?;
+        self.length = self.length.saturating_add(count as u64);
         self.count = self.count.saturating_add(count);
         Ok(count)
     }
@@ -116,31 +118,16 @@ impl<F: Write + Drop> Write for Counted<F> {
 }
 
 /// The file of a trace. Looks that found nothing are kept, to be written with what comes next in one write, as are bytes
-/// that it doesn't take. A contract sees none of them.
+/// that it doesn't take.
 #[derive(Drop)]
-struct TraceFile<F: Write + Drop> {
-    /// The file, and how many of the kept bytes it took.
-    file: Counted<F>,
+struct TraceFile {
+    file: AnewFile,
     kept: Vec<u8>,
     /// Why it could not be written last.
     fault: Option<io::Error>,
 }
 
-impl<F: Write + Drop> TraceFile<F> {
-    /// A file, and bytes that are to stand there first.
-    fn new(file: F, kept: Vec<u8>) -> TraceFile<F> {
-        TraceFile {
-            file: Counted { file, count: 0 },
-            kept,
-            fault: None,
-        }
-    }
-
-    /// The bytes that the file has not taken.
-    fn rest(&self) -> &[u8] {
-        rest_of(&self.kept, self.file.count)
-    }
-
+impl TraceFile {
     /// A look that found nothing, whose lines these are, is kept: the next line that is none is the next reading of the
     /// clock at the latest.
     fn can_wait(&self, line: &[u8]) -> bool {
@@ -148,6 +135,22 @@ impl<F: Write + Drop> TraceFile<F> {
             || line.starts_with(b"still ")
             || line.starts_with(b"told ") && !self.kept.is_empty();
         is_idle && self.kept.len() < WRITE_LENGTH
+    }
+
+    /// Writes lines, or keeps them. Neither is done where too many bytes are kept.
+    fn add(&mut self, line: &[u8]) -> Result<(), LogFault> {
+        let length = self.kept.len().saturating_add(line.len());
+        if self.fault.is_some() && length > KEPT_LIMIT {
+            return Err(LogFault::Device);
+        }
+        let can_wait = self.can_wait(line);
+        if self.kept.extend_from_slice(line).is_err() {
+            return Err(LogFault::Memory);
+        }
+        if !can_wait {
+            self.catch_up();
+        }
+        Ok(())
     }
 
     /// Writes what is kept, as far as the file takes it.
@@ -162,98 +165,91 @@ impl<F: Write + Drop> TraceFile<F> {
             Err(error) => self.fault = Some(error),
         }
     }
-}
 
-/// The file of a trace that is begun anew, and bytes that are to stand there first.
-fn anew(file: File, kept: Vec<u8>) -> TraceFile<AnewFile> {
-    let file = AnewFile {
-        file,
-        is_begun: false,
-    };
-    TraceFile::new(file, kept)
-}
-
-/// The bytes behind so many.
-fn rest_of(kept: &[u8], count: usize) -> &[u8] {
-    kept.get(count..).unwrap_or(&[])
+    /// Goes on in another file, first with what this one didn't take.
+    fn go_on_in(&mut self, file: File) {
+        self.file = AnewFile::new(file, self.file.count);
+    }
 }
 
 /// Writes the bytes behind so many.
 fn write_rest<F: Write>(file: &mut F, kept: &[u8], count: usize) -> io::Result<()> {
-    write_text(file, rest_of(kept, count))
+    write_text(file, kept.get(count..).unwrap_or(&[]))
 }
 
-impl<F: Write + Drop> Write for TraceFile<F> {
-    /// Takes all bytes. An error is that too many are kept.
-    fn write(&mut self, buf: &[u8]) -> io::Result<usize> {
-        let length = self.kept.len().saturating_add(buf.len());
-        if self.fault.is_some() && length > KEPT_LIMIT {
-            return Err(io::Error::from(ErrorKind::StorageFull));
-        }
-        let can_wait = self.can_wait(buf);
-        self.kept.extend_from_slice(buf)?;
-        if !can_wait {
-            self.catch_up();
-        }
-        Ok(buf.len())
-    }
-
-    fn flush(&mut self) -> io::Result<()> {
-        Ok(())
-    }
-}
-
-/// The log of a trace in a file. Where the file is gone from its path when init has re-executed itself, the trace goes
-/// on in a new one there: so a trace is renamed away, piece by piece, and the pieces one behind the other are the trace.
+/// The log of a trace in a file. The pieces one behind the other are the trace: where the file is gone from its path when
+/// init has re-executed itself, the trace goes on in a new one there; and one that has grown to a length is put away at
+/// the end of a turn, where that is asked for.
 ///
 /// Where the file can't be written, that is told on standard error, and what it doesn't take is kept in memory until it
-/// does: then nothing of the trace is missing, and that is told. Of more than a mebibyte init goes on without it, until a
-/// new file is made so. Then a part of the trace stands in no piece, and the log fails at its end, as it does where the
-/// file has not taken all by then.
+/// does: then nothing of the trace is missing, and that is told. Where more than a mebibyte would be kept the log fails,
+/// with what is kept: the trace ends there. It isn't whole at its end either where the file has not taken all by then.
 #[derive(Drop)]
 pub(crate) struct FileLog<'a, R> {
     rt: &'a R,
     alloc: Global,
     path: &'a str,
-    log: StreamLog<TraceFile<AnewFile>>,
+    file: TraceFile,
+    /// At which length in bytes it is put away, and by how much more where that can't be done.
+    put_away_at: u64,
+    step: u64,
     /// It was told that bytes are kept.
     is_waiting: bool,
-    /// A part of the trace stands in no piece.
-    is_torn: bool,
+    is_failed: bool,
 }
 
 impl<'a, R: Files<File = File> + Eprint> FileLog<'a, R> {
-    /// The log of the file at the path, which is begun anew.
-    pub(crate) fn new(rt: &'a R, alloc: Global, path: &'a str, file: File) -> FileLog<'a, R> {
+    /// The log of the file at the path, which is begun anew; and of how many bytes at least a file is put away.
+    pub(crate) fn new(
+        rt: &'a R,
+        alloc: Global,
+        path: &'a str,
+        file: File,
+        size: Option<u64>,
+    ) -> FileLog<'a, R>
+        ensures { result.is_failed ≡ false }
+    {
+        let step = size.unwrap_or(u64::MAX);
         FileLog {
             rt,
             alloc,
             path,
-            log: StreamLog::new(alloc, anew(file, Vec::new(alloc))),
+            file: TraceFile {
+                file: AnewFile::new(file, 0),
+                kept: Vec::new(alloc),
+                fault: None,
+            },
+            put_away_at: step,
+            step,
             is_waiting: false,
-            is_torn: false,
+            is_failed: false,
         }
     }
 
-    /// Writes a happening, unless the file could not be written before.
-    fn write<B: Allocator>(&mut self, happening: &HappeningIn<B>) {
-        if self.log.failed() {
-            return;
+    /// Writes a happening, and goes on in a new file where it is time to.
+    fn write<B: Allocator>(&mut self, happening: &HappeningIn<B>) -> Result<(), LogFault> {
+        if matches!(happening, Happening::Clock(_)) {
+            self.put_away();
         }
-        match self.log.take(happening) {
-            Ok(()) => self.tell_waiting(),
-            Err(fault) => {
-                self.is_torn = true;
-                self.is_waiting = false;
-                self.tell_torn(fault);
-            }
+        if let Err(fault) = self.add(happening) {
+            self.tell_failed(fault);
+            return Err(fault);
         }
+        self.tell_waiting();
+        if matches!(happening, Happening::Handed(Handed::Whole)) {
+            self.begin_anew();
+        }
+        Ok(())
+    }
+
+    fn add<B: Allocator>(&mut self, happening: &HappeningIn<B>) -> Result<(), LogFault> {
+        self.file.add(&print_one(self.alloc, happening)?)
     }
 
     /// Tells that bytes are kept since the file can't be written, and that it was.
     fn tell_waiting(&mut self) {
         let path = self.path;
-        match &self.log.writer().fault {
+        match &self.file.fault {
             Some(error) if !self.is_waiting => {
                 self.is_waiting = true;
                 tell_waiting(self.rt, path, error);
@@ -269,9 +265,9 @@ impl<'a, R: Files<File = File> + Eprint> FileLog<'a, R> {
     }
 
     /// Says why a happening could not be written.
-    fn tell_torn(&self, fault: LogFault) {
+    fn tell_failed(&self, fault: LogFault) {
         let path = self.path;
-        let _ = match &self.log.writer().fault {
+        let _ = match &self.file.fault {
             Some(error) => eprintln!(self.rt;
                 "initd: cannot write the trace {path}: {error}: init goes on without it"
             ),
@@ -281,49 +277,98 @@ impl<'a, R: Files<File = File> + Eprint> FileLog<'a, R> {
         };
     }
 
-    /// Goes on in a new file, where there is none at the path. What the file before didn't take stands there first.
+    /// Goes on in a new file, where there is none at the path.
     fn begin_anew(&mut self) {
         let path = self.path;
-        let is_torn = self.log.failed();
-        let is_off = is_torn || self.is_waiting;
-        let created = OpenOptions::new()
-            .write(true)
-            .create_new(true)
-            .open(self.rt, path);
-        let _ = match created {
+        let _ = match created(self.rt, path) {
             Ok(file) => {
-                let _ = takes_lock(&file);
-                self.go_on_in(file, is_torn);
-                tell_resumed(self.rt, path, is_torn)
+                self.file.go_on_in(file);
+                self.put_away_at = self.step;
+                Ok(())
             }
-            Err(error) if error.kind() == ErrorKind::AlreadyExists => {
-                tell_occupied(self.rt, path, is_off)
-            }
-            Err(error) if is_torn => eprintln!(self.rt;
-                "initd: cannot create the trace {path}: {error}: init goes on without it"
-            ),
-            Err(error) => eprintln!(self.rt;
+            Err(error) if error.kind() != ErrorKind::AlreadyExists => eprintln!(self.rt;
                 "initd: trace {path}: {error}: it goes on in the file that was there before"
             ),
+            Err(_) if self.is_waiting => eprintln!(self.rt;
+                "initd: the trace {path} is not written still: rename the file, and give telinit u, to go on in a new one"
+            ),
+            Err(_) => Ok(()),
         };
     }
 
-    /// Goes on in this file, first with what the file before didn't take, where the trace isn't torn.
-    fn go_on_in(&mut self, file: File, is_torn: bool) {
-        let rest = if is_torn {
-            &[]
-        } else {
-            self.log.writer().rest()
-        };
-        let kept = match Vec::from_slice(self.alloc, rest) {
-            Ok(kept) => kept,
-            Err(_) => {
-                self.is_torn = true;
-                Vec::new(self.alloc)
+    /// Puts the file away as the next piece, and goes on in a new one, where it has grown so far and has taken all. Where
+    /// that can't be done it goes on in the same one.
+    fn put_away(&mut self) {
+        if self.file.file.length < self.put_away_at {
+            return;
+        }
+        self.file.catch_up();
+        if self.file.fault.is_some() {
+            return;
+        }
+        let path = self.path;
+        match self.next_file() {
+            Ok(file) => {
+                self.file.go_on_in(file);
+                self.put_away_at = self.step;
             }
-        };
-        self.log = StreamLog::new(self.alloc, anew(file, kept));
+            Err(error) => {
+                self.put_away_at = self.file.file.length.saturating_add(self.step);
+                let _ = eprintln!(self.rt;
+                    "initd: cannot put the trace {path} away: {error}: it goes on in the same file"
+                );
+            }
+        }
     }
+
+    /// A new file at the path, whose own file is put away. The new one has its lock before it comes there.
+    fn next_file(&self) -> io::Result<File> {
+        let new = format!(in self.alloc; "{}.new", self.path)?;
+        let _ = remove_file(self.rt, new.as_str());
+        let file = created(self.rt, new.as_str())?;
+        match self.exchange(new.as_str()) {
+            Ok(()) => Ok(file),
+            Err(error) => {
+                let _ = remove_file(self.rt, new.as_str());
+                Err(error)
+            }
+        }
+    }
+
+    /// Gives the file at the path the name of a piece, where it is the trace's own, and another file that of the path.
+    fn exchange(&self, new: &str) -> io::Result<()> {
+        match metadata(self.rt, self.path) {
+            Ok(found) if !found.is_file() => return Err(io::Error::other("it is no plain file")),
+            Ok(found) if are_same(&found, &self.file.file.file.metadata()?) => {
+                let newest = newest_piece(self.rt, self.alloc, self.path)?;
+                let piece = piece_path(self.alloc, self.path, newest.saturating_add(1))?;
+                give_name(self.rt, self.path, piece.as_str())?;
+            }
+            Ok(_) => return Err(io::Error::other("another file stands there")),
+            Err(error) if error.kind() == ErrorKind::NotFound => {}
+            Err(error) => return Err(error),
+        }
+        rename(self.rt, new, self.path)
+    }
+}
+
+/// Gives a file another name. It keeps the one that it has until another file takes that, where the file system lets one
+/// file have two.
+fn give_name<R: Files>(rt: &R, path: &str, name: &str) -> io::Result<()> {
+    match hard_link(rt, path, name) {
+        Ok(()) => Ok(()),
+        Err(_) => rename(rt, path, name),
+    }
+}
+
+/// A new file, under its lock.
+fn created<R: Files<File = File>>(rt: &R, path: &str) -> io::Result<File> {
+    let file = OpenOptions::new()
+        .write(true)
+        .create_new(true)
+        .open(rt, path)?;
+    let _ = takes_lock(&file);
+    Ok(file)
 }
 
 /// Says that bytes are kept since the file can't be written.
@@ -333,43 +378,21 @@ fn tell_waiting(rt: &impl Eprint, path: &str, error: &io::Error) {
     );
 }
 
-/// Says, of a trace that could not be written, that it is written again.
-fn tell_resumed(rt: &impl Eprint, path: &str, is_off: bool) -> io::Result<()> {
-    if !is_off {
-        return Ok(());
-    }
-    eprintln!(rt;
-        "initd: the trace {path} is written again, in a new file: what happened in between stands in none"
-    )
-}
-
-/// Says, of a trace that could not be written, what it takes to go on.
-fn tell_occupied(rt: &impl Eprint, path: &str, is_off: bool) -> io::Result<()> {
-    if !is_off {
-        return Ok(());
-    }
-    eprintln!(rt;
-        "initd: the trace {path} is not written still: rename the file, and give telinit u, to go on in a new one"
-    )
-}
-
 impl<R: Files<File = File> + Eprint> Log for FileLog<'_, R> {
-    ghost use Rattle.std.specs.Prelude.{false, None, ⊤};
+    ghost use Rattle.std.specs.Prelude.{None, ⊤};
     ghost use Rattle.trace_log.specs.Logs.{LogState};
 
-    ghost state = { λ _.
-        let unknown : LogState = record { taken = λ _. ⊤; failed = false; noted = None } in unknown };
+    ghost state = { λ log.
+        let files : LogState = record { taken = λ _. ⊤; failed = log.is_failed; noted = None } in files };
 
     fn take<B: Allocator>(&mut self, happening: &HappeningIn<B>) -> Result<(), LogFault> {
-        self.write(happening);
-        if matches!(happening, Happening::Handed(Handed::Whole)) {
-            self.begin_anew();
-        }
-        Ok(())
+        let taken = self.write(happening);
+        self.is_failed = taken.is_err();
+        taken
     }
 
     fn failed(&self) -> bool {
-        false
+        self.is_failed
     }
 }
 
@@ -384,18 +407,17 @@ impl<R: Files<File = File> + Eprint> EndedLog for FileLog<'_, R> {
     fn end(self) -> ((), bool) {
         let FileLog {
             rt,
-            alloc: _,
             path,
-            log,
+            mut file,
             is_waiting,
-            is_torn,
+            is_failed,
+            ..
         } = self;
-        let (mut file, _) = log.end();
         file.catch_up();
         match &file.fault {
             Some(error) if !is_waiting => tell_waiting(rt, path, error),
             _ => {}
         }
-        ((), !is_torn && file.fault.is_none())
+        ((), !is_failed && file.fault.is_none())
     }
 }

@@ -536,6 +536,7 @@ where
     let is_told = tell(&faults, out);
     report_untold(is_told, err);
     report_unled(is_unled, err);
+    tell_endless(rt, said);
     let stamped = StampedRuntime::new(rt, alloc, said.stamp);
     let (status, host) = make_traced(&stamped, alloc, said, opening, host, trace, err);
     let is_printed = hosts.close(host);
@@ -543,6 +544,19 @@ where
         status
     } else {
         DEVICE_FAULT
+    }
+}
+
+/// Says of a run that is to give an entry's result, and isn't ended where it is drained, that it goes on behind that.
+fn tell_endless(rt: &impl Eprint, said: &RunWords) {
+    match &said.result {
+        Some(id) if !said.drain => {
+            let id = id.as_str();
+            let _ = eprintln!(rt;
+                "initd: --result {id}: without --drain the run goes on when {id} has ended"
+            );
+        }
+        _ => {}
     }
 }
 
@@ -566,7 +580,7 @@ where
     let Some(file) = trace else {
         return make_over(rt, alloc, said, opening, host, NoLog {}, err);
     };
-    let log = FileLog::new(rt, alloc, trace_of(said), file);
+    let log = FileLog::new(rt, alloc, trace_of(said), file, said.trace_size);
     if said.brief {
         let log = BriefLog::new(log);
         return make_over(rt, alloc, said, opening, host, log, err);

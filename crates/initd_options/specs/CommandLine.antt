@@ -1,4 +1,4 @@
--- The command lines `initd simulate [--level L] TABLE SCRIPT`, `initd check [--growing] TRACE` and `initd run ..`, and
+-- The command lines `initd simulate [--level L] TABLE SCRIPT`, `initd check [--growing] [--pieces] TRACE` and `initd run ..`, and
 -- `initd --version`. What they take is said by clap's own words; they are opaque, since a goal that sees them sees the whole
 -- parser.
 use Rattle.std.specs.Prelude.{Bool, true, if◌then◌else◌, List, [], codes, Option, Some, None, option_map, length, ◌==◌, string_bytes}
@@ -30,9 +30,10 @@ pub record SimulateSaid : Type 0 where
   pub table : Text
   pub script : Text
 
--- whether the trace may be unfinished, and its path
+-- whether the trace may be unfinished, whether it is read with the pieces before it, and its path
 pub record CheckSaid : Type 0 where
   pub growing : Bool
+  pub pieces : Bool
   pub trace : Text
 
 -- the version, a simulated run of init, a trace that is judged, or a run over the operating system
@@ -46,7 +47,7 @@ abbrev pub simulation_of : SimulateWords → SimulateSaid
 simulation_of words = record { level = words.level; table = string_bytes words.table; script = string_bytes words.script }
 
 abbrev pub check_of : CheckWords → CheckSaid
-check_of words = record { growing = words.growing; trace = string_bytes words.trace }
+check_of words = record { growing = words.growing; pieces = words.pieces; trace = string_bytes words.trace }
 
 abbrev pub said_of : Words → InitdSaid
 said_of Version = version
@@ -66,7 +67,11 @@ simulation_said rows =
 
 -- what the words after `check` say
 abbrev pub check_said : List Row → CheckSaid
-check_said rows = record { growing = is_set (codes "--growing") rows; trace = value_said (codes "TRACE") rows }
+check_said rows = record {
+  growing = is_set (codes "--growing") rows;
+  pieces = is_set (codes "--pieces") rows;
+  trace = value_said (codes "TRACE") rows;
+}
 
 abbrev pub run_said_by : Option (Text × List Row) → Option InitdSaid
 run_said_by None = None

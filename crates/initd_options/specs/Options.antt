@@ -1,6 +1,7 @@
 -- What the options of `initd run` say.
-use Rattle.std.specs.Prelude.{ℕ, Bool, true, false, ◌+◌, ◌-◌, ◌*◌, ◌==◌, ◌&&◌, if◌then◌else◌, nat_lt, nat_le, List, [], ◌∷◌, ◌++◌, map, codes, Option, Some, None, option_and_then, option_map, string_bytes}
+use Rattle.std.specs.Prelude.{ℕ, Bool, true, false, ◌+◌, ◌-◌, ◌*◌, ◌^◌, ◌==◌, ◌&&◌, if◌then◌else◌, nat_lt, nat_le, List, [], ◌∷◌, ◌++◌, map, length, codes, Option, Some, None, option_and_then, option_map, string_bytes}
 use Rattle.std.specs.Char.{is_ascii_digit}
+use Rattle.std.specs.Option.{option_or}
 use Rattle.clap.specs.Words.{Row, Text, first_of}
 use Rattle.command_words.specs.CommandLines.{is_set, value_said}
 use Rattle.init_words.specs.declared.levels.Level.{Level}
@@ -8,7 +9,7 @@ use Rattle.init_words.specs.Ids.{id_read}
 use Rattle.text_lines.specs.Lines.{cut}
 use Rattle.text_lines.specs.Numbers.{number_read}
 use Rattle.initd_options.specs.declared.options.RunWords.{RunWords}
-use Rattle.initd_options.specs.declared.options.TheConstants.{FOREVER, PAUSE_LIMIT, PAUSE_SECONDS, TURNS_DEFAULT, TURNS_LIMIT}
+use Rattle.initd_options.specs.declared.options.TheConstants.{FOREVER, PAUSE_LIMIT, PAUSE_SECONDS, SIZE_LEAST, SIZE_MOST, TURNS_DEFAULT, TURNS_LIMIT, UNITS_LIMIT}
 use Rattle.initd_options.specs.Levels.{level_said}
 
 -- a word without the zeros in front of it
@@ -91,9 +92,34 @@ brief_in brief trace = Some brief
 abbrev pub brief_said : List Row → Option Bool
 brief_said rows = brief_in (is_set (codes "--brief") rows) (first_of (codes "--trace") rows)
 
+-- the bytes of so many units, of which the word has the number and behind it the letter
+abbrev pub in_units : ℕ → Option (List ℕ × List ℕ) → Option ℕ
+in_units unit None = None
+in_units unit (Some parts) =
+    option_and_then (λ number. if length parts.1 == 0 then Some (number * unit) else None) (number_read UNITS_LIMIT parts.0)
+
+abbrev pub units_read : ℕ → ℕ → Text → Option ℕ
+units_read letter unit word = in_units unit (cut letter word)
+
+-- a number of bytes, or of kibibytes (K), mebibytes (M) or gibibytes (G), from the least to the greatest length
+abbrev pub size_read : Text → Option ℕ
+size_read word =
+    option_and_then (λ size. if nat_le SIZE_LEAST size && nat_le size SIZE_MOST then Some size else None)
+    (option_or (option_or (option_or (number_read (2 ^ 64) word) (units_read 75 1024 word)) (units_read 77 1048576 word))
+    (units_read 71 1073741824 word))
+
+-- the length at which a trace is put away, if one is given, of a trace that is to be written
+abbrev pub size_in : Option Text → Option Text → Option (Option ℕ)
+size_in None trace = Some None
+size_in (Some word) None = None
+size_in (Some word) (Some trace) = option_map Some (size_read word)
+
+abbrev pub size_given : List Row → Option (Option ℕ)
+size_given rows = size_in (first_of (codes "--trace-size") rows) (first_of (codes "--trace") rows)
+
 -- The paths of the inittab, of the folder of its further files, if it is given, of the channel of requests and of the
 -- text of init's state; whether the requests that the channel has already are left out; the path of the trace, if
--- it is given, and whether it is brief; whether each happening is judged; the level to go to, if it is given; the
+-- it is given, whether it is brief, and the length at which it is put away, if it is; whether each happening is judged; the level to go to, if it is given; the
 -- greatest number of turns; whether the run ends where it is drained; the seconds of a pause; the entry whose last
 -- status is the run's, if one is given; whether each start and end is told; the folder of the children's output, if it
 -- is given; whether an inittab with a faulty line is not taken; whether lines have the time in front; and whether the
@@ -106,6 +132,7 @@ pub record RunSaid : Type 0 where
   pub state : Text
   pub trace : Option Text
   pub brief : Bool
+  pub trace_size : Option ℕ
   pub judge : Bool
   pub level : Option Level
   pub turns : ℕ
@@ -127,6 +154,7 @@ run_of said = record {
   state = string_bytes said.state;
   trace = option_map (λ (path : _). string_bytes path) said.trace;
   brief = said.brief;
+  trace_size = said.trace_size;
   judge = said.judge;
   level = said.level;
   turns = said.turns;
@@ -141,8 +169,8 @@ run_of said = record {
 }
 
 -- what the words say, with these values of the options that may be refused
-abbrev pub service_with : List Row → Option Level → ℕ → Text → Option (List ℕ) → Bool → RunSaid
-service_with rows level turns pause result brief = record {
+abbrev pub service_with : List Row → Option Level → ℕ → Text → Option (List ℕ) → Bool → Option ℕ → RunSaid
+service_with rows level turns pause result brief size = record {
   inittab = value_said (codes "--inittab") rows;
   inittab_dir = first_of (codes "--inittab-dir") rows;
   initctl = value_said (codes "--initctl") rows;
@@ -150,6 +178,7 @@ service_with rows level turns pause result brief = record {
   state = value_said (codes "--state") rows;
   trace = first_of (codes "--trace") rows;
   brief = brief;
+  trace_size = size;
   judge = is_set (codes "--judge") rows;
   level = level;
   turns = turns;
@@ -163,15 +192,17 @@ service_with rows level turns pause result brief = record {
   bell = is_set (codes "--bell") rows;
 }
 
--- what the words after `run` say; nothing where the level, the turns, the pause or the entry are none, or a brief trace
--- is none
+-- what the words after `run` say; nothing where the level, the turns, the pause, the entry or the length are none, or a
+-- trace that is brief or put away is
 abbrev pub run_said : List Row → Option RunSaid
 run_said rows =
     option_and_then
     (λ level. option_and_then
     (λ turns. option_and_then
     (λ pause. option_and_then
-    (λ result. option_map (λ brief. service_with rows level turns pause result brief) (brief_said rows))
+    (λ result. option_and_then
+    (λ brief. option_map (λ size. service_with rows level turns pause result brief size) (size_given rows))
+    (brief_said rows))
     (result_said rows))
     (pause_said rows))
     (turns_said rows))

@@ -29,6 +29,8 @@ pub struct SimulateWords {
 pub struct CheckWords {
     /// The trace is still written: it is judged up to its last whole happening.
     pub growing: bool,
+    /// The pieces that were put away before it are judged with it.
+    pub pieces: bool,
     /// The path of the trace.
     pub trace: String,
 }
@@ -75,8 +77,12 @@ fn read_line(alloc: Global, words: &[String]) -> Result<Words, WordFault>
 /// The option and the words of `initd simulate`.
 const SIMULATE: &[Row] = &[("--level", "L", ""), ("TABLE", "", ""), ("SCRIPT", "", "")];
 
-/// The option and the word of `initd check`.
-const CHECK: &[Row] = &[("--growing", "", ""), ("TRACE", "", "")];
+/// The options and the word of `initd check`.
+const CHECK: &[Row] = &[
+    ("--growing", "", ""),
+    ("--pieces", "", ""),
+    ("TRACE", "", ""),
+];
 
 /// The command with one more subcommand, that of a table. It holds one of the two at a time: a command has some forty
 /// fields, and what may fail while it is held lets go of each.
@@ -160,6 +166,7 @@ fn read_trace(alloc: Global, matches: &ArgMatches) -> Result<CheckWords, AllocEr
 {
     Ok(CheckWords {
         growing: is_set(matches, "--growing"),
+        pieces: is_set(matches, "--pieces"),
         trace: String::from_str(alloc, value_of(matches, "TRACE"))?,
     })
 }

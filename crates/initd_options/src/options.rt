@@ -1,16 +1,16 @@
 //! The options of `initd run`, and what their words may be.
 
-ghost use Rattle.std.specs.Prelude.{◌≡◌, ◌<◌, string_bytes, IfErr, IfOk, IfSome, IsSome, None, Some};
+ghost use Rattle.std.specs.Prelude.{◌≡◌, ◌<◌, ◌≤◌, string_bytes, IfErr, IfOk, IfSome, IsSome, None, Some};
 ghost use Rattle.clap.specs.Words.{found_of, rows_of};
 ghost use Rattle.command_words.specs.Faults.{reason_of};
-ghost use Rattle.initd_options.specs.Options.{begins_with_point, brief_said, digit_read, hundredths_read, is_pause, part_read, pause_said, result_said, run_of, run_said, turns_read, turns_said, with_whole, without_zeros};
+ghost use Rattle.initd_options.specs.Options.{begins_with_point, brief_said, digit_read, hundredths_read, is_pause, part_read, pause_said, result_said, run_of, run_said, size_given, size_read, turns_read, turns_said, units_read, with_whole, without_zeros};
 
 use crate::levels::read_level_option;
 use clap::ArgMatches;
 use command_words::{Row, WordFault, is_set, read_path, refused, value_of, word_of};
 use init_words::{Id, Level};
 use std::alloc::{AllocError, Global};
-use text_lines::{cut, read_below};
+use text_lines::{cut, read_below, read_number};
 
 /// What a command line of `initd run` says.
 #[derive(Drop)]
@@ -29,6 +29,8 @@ pub struct RunWords {
     pub trace: Option<String>,
     /// The trace is brief: rounds in which nothing happened are left out of it.
     pub brief: bool,
+    /// The length in bytes at which the file of the trace is put away, where it is.
+    pub trace_size: Option<u64>,
     /// Each happening is judged by the laws of traces while the run goes on.
     pub judge: bool,
     /// The runlevel to go to, where one is given.
@@ -62,6 +64,14 @@ const TURNS_DEFAULT: u64 = 1_000_000;
 /// The greatest number of turns of a run without a limit.
 const FOREVER: u64 = u64::MAX;
 
+/// The least length at which a trace may be put away, in bytes, and the greatest.
+const SIZE_LEAST: u64 = 4_096;
+
+const SIZE_MOST: u64 = 1_099_511_627_776;
+
+/// One more than the greatest number of units of such a length.
+const UNITS_LIMIT: u64 = 1_073_741_825;
+
 /// The longest pause, in seconds.
 const PAUSE_SECONDS: u64 = 60;
 
@@ -76,6 +86,7 @@ pub(crate) const OPTIONS: &[Row] = &[
     ("--fresh", "", ""),
     ("--state", "P", "initd.state"),
     ("--trace", "P", ""),
+    ("--trace-size", "SIZE", ""),
     ("--brief", "", ""),
     ("--judge", "", ""),
     ("--level", "L", ""),
@@ -103,6 +114,7 @@ pub(crate) fn read_run(alloc: Global, matches: &ArgMatches) -> Result<RunWords, 
     let pause = read_pause(alloc, matches)?;
     let result = read_result(alloc, matches)?;
     let brief = read_brief(alloc, matches)?;
+    let trace_size = read_trace_size(alloc, matches)?;
     Ok(RunWords {
         inittab: String::from_str(alloc, value_of(matches, "--inittab"))?,
         inittab_dir: read_path(alloc, matches, "--inittab-dir")?,
@@ -111,6 +123,7 @@ pub(crate) fn read_run(alloc: Global, matches: &ArgMatches) -> Result<RunWords, 
         state: String::from_str(alloc, value_of(matches, "--state"))?,
         trace: read_path(alloc, matches, "--trace")?,
         brief,
+        trace_size,
         judge: is_set(matches, "--judge"),
         level,
         turns,
@@ -255,6 +268,54 @@ fn read_brief(alloc: Global, matches: &ArgMatches) -> Result<bool, WordFault>
         return Err(WordFault::Usage(reason));
     }
     Ok(brief)
+}
+
+/// The length at which a trace is put away, where one is given, of a trace that is to be written.
+fn read_trace_size(alloc: Global, matches: &ArgMatches) -> Result<Option<u64>, WordFault>
+    ensures ok { IfOk result (λ size.
+        size_given (rows_of (found_of matches.now)) ≡ Some size) }
+    ensures usage { IfErr result (λ fault. IsSome (reason_of fault)
+        → size_given (rows_of (found_of matches.now)) ≡ None) }
+{
+    let Some(word) = word_of(matches, "--trace-size") else {
+        return Ok(None);
+    };
+    if word_of(matches, "--trace").is_none() {
+        return Err(refused(alloc, "--trace-size", word, "not without --trace"));
+    }
+    match read_size(word.as_bytes()) {
+        Some(size) => Ok(Some(size)),
+        None => Err(refused(alloc, "--trace-size", word, "not 4K to 1024G")),
+    }
+}
+
+/// A number of bytes, or of kibibytes, mebibytes or gibibytes where K, M or G stands behind it.
+fn read_size(word: &[u8]) -> Option<u64>
+    ensures { result ≡ size_read word.now }
+{
+    let size = read_number(word)
+        .or(read_units(word, b'K', 1_024))
+        .or(read_units(word, b'M', 1_048_576))
+        .or(read_units(word, b'G', 1_073_741_824))?;
+    if SIZE_LEAST <= size && size <= SIZE_MOST {
+        Some(size)
+    } else {
+        None
+    }
+}
+
+/// The bytes of so many units, of which the word has the number and behind it the letter.
+fn read_units(word: &[u8], letter: u8, unit: u64) -> Option<u64>
+    requires { unit ≤ 1073741824 }
+    ensures { result ≡ units_read letter unit word.now }
+{
+    let (digits, rest) = cut(letter, word)?;
+    let number = read_below(digits, UNITS_LIMIT)?;
+    if rest.is_empty() {
+        Some(number * unit)
+    } else {
+        None
+    }
 }
 
 /// The entry whose last status is the run's, where one is given.

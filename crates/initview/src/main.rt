@@ -10,9 +10,10 @@ fn main(rt: HostRuntime) -> ExitCode {
     let alloc = rt.alloc();
     let status = match words(&rt, alloc) {
         Ok(words) => {
+            let files = GrowingFiles::new(&rt, alloc);
             run_words(
-                &rt,
-                &GrowingFiles::new(&rt),
+                &files,
+                &files,
                 alloc,
                 words.as_slice(),
                 &mut rt.stdout(),

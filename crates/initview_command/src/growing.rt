@@ -5,10 +5,10 @@ ghost use Rattle.init_words.specs.Parts.{NamedText};
 ghost use Rattle.program_io.specs.Known.{KnownTexts};
 ghost use Rattle.initview_command.specs.Writers.{IsWriterAt, KnownWriters};
 
-use host_files::{FolderFault, PassedNames, with_folder};
+use host_files::{FolderFault, PassedNames, TraceReader, tell_pieces, with_folder};
 use init_words::Part;
-use program_io::open_plain;
-use std::alloc::{AllocError, Global};
+use program_io::{PieceTaker, Texts, hand_over, open_plain};
+use std::alloc::{AllocError, Allocator, Global};
 use std::fs::{File, Metadata, TryLockError};
 use std::io::{Error, ErrorKind, Read};
 use std::os::unix::fs::MetadataExt;
@@ -63,17 +63,66 @@ pub trait GrowingTexts {
     fn has_program(&self, alloc: Global, folders: &str, program: &str) -> Result<bool, AllocError>;
 }
 
-/// The files of the operating system, which may be written to while they are followed. Nothing is known of their texts,
-/// nor of who writes them.
+/// The files of the operating system, which may be written to while they are followed. A trace is read with the pieces
+/// before it. Nothing is known of their texts, nor of who writes them.
 #[derive(Drop)]
 pub struct GrowingFiles<'a, R> {
     rt: &'a R,
+    alloc: Global,
 }
 
 impl<'a, R> GrowingFiles<'a, R> {
     /// The files that this system has.
-    pub fn new(rt: &'a R) -> GrowingFiles<'a, R> {
-        GrowingFiles { rt }
+    pub fn new(rt: &'a R, alloc: Global) -> GrowingFiles<'a, R> {
+        GrowingFiles { rt, alloc }
+    }
+}
+
+/// What the system or a shell gives, and no plain file: it has no pieces, and ends.
+fn is_given(path: &str) -> bool {
+    path == "-" || path.starts_with("/dev/")
+}
+
+/// The trace at a path, with the pieces before it. Which these are is told on standard error, and that one of them is
+/// missing: then the file is read alone.
+fn open_trace<'a, R: Files<File = File> + Eprint>(
+    rt: &'a R,
+    alloc: Global,
+    path: &str,
+) -> io::Result<TraceReader<'a, R>> {
+    match TraceReader::open(rt, alloc, path) {
+        Ok(trace) => {
+            tell_pieces(rt, "initview", path, trace.pieces());
+            Ok(trace)
+        }
+        Err(error) if error.kind() == ErrorKind::NotFound => {
+            let file = open_plain(rt, path)?;
+            let _ = eprintln!(rt; "initview: {error}");
+            TraceReader::alone(rt, alloc, path, file)
+        }
+        Err(error) => Err(error),
+    }
+}
+
+impl<R: Files<File = File> + Eprint> Texts for GrowingFiles<'_, R> {
+    ghost use Rattle.std.specs.Prelude.{None};
+
+    ghost text_at = { λ _ _. None };
+
+    fn read<A: Allocator>(&self, alloc: A, path: &str) -> io::Result<Vec<u8, A>> {
+        self.rt.read(alloc, path)
+    }
+
+    fn read_file<A: Allocator>(&self, alloc: A, path: &str) -> io::Result<Vec<u8, A>> {
+        self.rt.read_file(alloc, path)
+    }
+
+    /// The text of a trace.
+    fn read_pieces<P: PieceTaker>(&self, path: &str, taker: &mut P) -> io::Result<()> {
+        if is_given(path) {
+            return self.rt.read_pieces(path, taker);
+        }
+        hand_over(&mut open_trace(self.rt, self.alloc, path)?, taker)
     }
 }
 
@@ -87,26 +136,19 @@ impl<'a, R: Files<File = File> + Clock + Eprint> GrowingTexts for GrowingFiles<'
     type Growing = GrowingFile<'a, R>;
 
     /// Standard input for `-`, which ends, as what the system or a shell gives by a path below `/dev/`. Any other is
-    /// opened only where it is a plain file, and may grow.
+    /// opened only where it is a plain file, with the pieces before it, and may grow.
     fn open(&self, alloc: Global, path: &str) -> io::Result<GrowingFile<'a, R>> {
-        let (file, grows) = match path {
-            "-" => (File::open(self.rt, "/dev/stdin")?, false),
-            _ if path.starts_with("/dev/") => (File::open(self.rt, path)?, false),
-            _ => (open_plain(self.rt, path)?, true),
-        };
-        Ok(GrowingFile {
-            rt: self.rt,
-            path: String::from_str(alloc, path)?,
-            file,
-            grows,
-            place: 0,
-            next: None,
-        })
+        if is_given(path) {
+            let path = if path == "-" { "/dev/stdin" } else { path };
+            return Ok(GrowingFile::Ends(File::open(self.rt, path)?));
+        }
+        let trace = open_trace(self.rt, alloc, path)?;
+        Ok(GrowingFile::Grows(GrowingTrace { rt: self.rt, trace }))
     }
 
     /// The lock is asked for in the shared form, which keeps no other that asks from its answer, and let go at once.
     fn writer(&self, path: &str) -> Writer {
-        if path == "-" || path.starts_with("/dev/") {
+        if is_given(path) {
             return Writer::Unknown;
         }
         match open_plain(self.rt, path) {
@@ -178,76 +220,38 @@ const PAUSE: u64 = 100;
 /// How often at most, which takes some thirteen years.
 const PAUSES_LIMIT: u64 = 4_294_967_296;
 
-/// A file that is followed, and behind it each that comes to stand at its path: the pieces of a trace that was renamed
-/// away are one text. A file that is shorter than what was read of it was begun anew, and is an error, `InvalidData`.
+/// A trace that is followed: one that ends, or one that goes on.
 #[derive(Drop)]
-pub struct GrowingFile<'a, R> {
+pub enum GrowingFile<'a, R> {
+    Ends(File),
+    Grows(GrowingTrace<'a, R>),
+}
+
+/// A trace that goes on, in the files that come to stand at its path.
+#[derive(Drop)]
+pub struct GrowingTrace<'a, R> {
     rt: &'a R,
-    path: String,
-    file: File,
-    /// More may come behind its end.
-    grows: bool,
-    /// How many bytes of it were read.
-    place: u64,
-    /// Another file that stands at the path: nothing is written to this one any more.
-    next: Option<File>,
-}
-
-/// One file is the other.
-fn are_same(one: &Metadata, other: &Metadata) -> bool {
-    one.dev() == other.dev() && one.ino() == other.ino()
-}
-
-impl<'a, R: Files<File = File> + Clock> GrowingFile<'a, R> {
-    /// What stands at the path; None where nothing does, while a file that was renamed away is still written to.
-    fn found(&self) -> io::Result<Option<Metadata>> {
-        match fs::metadata(self.rt, self.path.as_str()) {
-            Ok(found) => Ok(Some(found)),
-            Err(error) if error.kind() == ErrorKind::NotFound => Ok(None),
-            Err(error) => Err(error),
-        }
-    }
-
-    /// Another file that stands at the path by now.
-    fn successor(&self) -> io::Result<Option<File>> {
-        let Some(found) = self.found()? else {
-            return Ok(None);
-        };
-        if !are_same(&found, &self.file.metadata()?) {
-            return Ok(Some(open_plain(self.rt, self.path.as_str())?));
-        }
-        if found.len() < self.place {
-            let message = "another run began it anew: follow it again";
-            return Err(Error::new(ErrorKind::InvalidData, message));
-        }
-        Ok(None)
-    }
-
-    /// At the end of the file: goes on in the next one, or looks for it, and waits where there is none.
-    fn go_on(&mut self) -> io::Result<()> {
-        if let Some(file) = self.next.take() {
-            self.file = file;
-            self.place = 0;
-            return Ok(());
-        }
-        self.next = self.successor()?;
-        if self.next.is_none() {
-            thread::sleep(self.rt, Duration::from_millis(PAUSE));
-        }
-        Ok(())
-    }
+    trace: TraceReader<'a, R>,
 }
 
 impl<R: Files<File = File> + Clock> Read for GrowingFile<'_, R> {
+    fn read(&mut self, buf: &mut [u8]) -> io::Result<usize> {
+        match self {
+            GrowingFile::Ends(file) => file.read(buf),
+            GrowingFile::Grows(trace) => trace.read(buf),
+        }
+    }
+}
+
+impl<R: Files<File = File> + Clock> Read for GrowingTrace<'_, R> {
     /// Waits until there is a byte. A file that has had none more for 4,294,967,296 looks is an error, `TimedOut`.
     fn read(&mut self, buf: &mut [u8]) -> io::Result<usize> {
         for _ in 0..PAUSES_LIMIT {
-            let count = self.file.read(buf)?;
-            if count > 0 || !self.grows || buf.is_empty() {
-                self.place = self.place.saturating_add(count as u64);
+            let count = self.trace.read(buf)?;
+            if count > 0 || buf.is_empty() {
                 return Ok(count);
             }
-            self.go_on()?;
+            thread::sleep(self.rt, Duration::from_millis(PAUSE));
         }
         Err(Error::from(ErrorKind::TimedOut))
     }

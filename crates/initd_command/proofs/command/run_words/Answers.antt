@@ -31,11 +31,11 @@ returns-in-Ok-Simulate g c =
 
 pub returns-in-Ok-Check : goal.returns-in-Ok-Check
 returns-in-Ok-Check g c =
-    let (ending, status, ends, reported) = c.check_file.ensures in
+    let (ending, status, ends, reported) = c.check_files.ensures in
     let is : initd_read_of (map string_bytes c.args.words.items) ≡ Some (judges (check_of c.in-Ok-Check.said)) = search rules in
     let so = by_words (g.T.Texts.text_at c.args.texts.now) (map string_bytes c.args.words.items) (Some (judges (check_of c.in-Ok-Check.said))) g.S.Hosts.own ending
     (told (g.S.Hosts.opened c.args.hosts.now) (g.S.Hosts.told c.args.hosts.now) (g.W.Write.contents c.args.out.now))
-    (told (g.S.Hosts.opened c.args.hosts.now) (g.S.Hosts.told c.args.hosts.now) (g.W.Write.contents c.check_file.new.out)) is ends refl in
+    (told (g.S.Hosts.opened c.args.hosts.now) (g.S.Hosts.told c.args.hosts.now) (g.W.Write.contents c.check_files.new.out)) is ends refl in
     (ending, status, so.0, reported, so.1)
 
 pub returns-in-Ok-Run : goal.returns-in-Ok-Run

@@ -1,0 +1,6 @@
+-- The pieces of a trace.
+use Rattle.std.specs.Prelude.{ℕ, List, ◌++◌, codes, decimal}
+
+-- the path of a piece
+abbrev pub piece_path : List ℕ → ℕ → List ℕ
+piece_path trace number = trace ++ (codes "." ++ decimal number)

@@ -1,0 +1,266 @@
+//! A trace in pieces: `TRACE.1`, `TRACE.2`, .., which were put away, the oldest first, and `TRACE`, which is written still.
+
+ghost use Rattle.std.specs.Prelude.{◌≡◌, string_bytes, IfOk};
+ghost use Rattle.host_files.specs.Pieces.{piece_path};
+
+use crate::folders::{listed, next_name};
+use program_io::{PIECES_LIMIT, PieceTaker, Texts, hand_over, open_plain};
+use std::alloc::{AllocError, Allocator, Global};
+use std::fs::{File, Metadata};
+use std::io::{Error, ErrorKind, Read, Seek, SeekFrom};
+use std::os::unix::fs::MetadataExt;
+use std::rt::Files;
+use std::{fs, io};
+use text_lines::read_number;
+
+/// The path of a piece.
+pub fn piece_path<A: Allocator>(alloc: A, trace: &str, number: u64) -> Result<String<A>, AllocError>
+    ensures { IfOk result (λ path. string_bytes path ≡ piece_path trace.now number) }
+{
+    format!(in alloc; "{trace}.{number}")
+}
+
+/// The folder of a path, and the name in it.
+fn folder_and_name(path: &str) -> (&str, &str) {
+    match path.rsplit_once('/') {
+        Some(("", name)) => ("/", name),
+        Some(parts) => parts,
+        None => (".", path),
+    }
+}
+
+/// The number of the piece that has a name, by the name of its trace.
+fn number_of(name: &[u8], trace: &[u8]) -> Option<u64> {
+    match name.strip_prefix(trace)? {
+        [b'.', digits @ ..] => read_number(digits),
+        _ => None,
+    }
+}
+
+/// The greatest number of a trace's pieces; 0 where there is none.
+pub fn newest_piece<R: Files>(rt: &R, alloc: Global, trace: &str) -> io::Result<u64> {
+    let (folder, name) = folder_and_name(trace);
+    let list = listed(rt, alloc, folder)?;
+    let mut newest = 0;
+    let mut rest: &[u8] = &list;
+    while let Some((found, more)) = next_name(rest) {
+        if let Some(number) = number_of(found, name.as_bytes()) {
+            newest = newest.max(number);
+        }
+        rest = more;
+    }
+    Ok(newest)
+}
+
+/// One file is the other.
+pub fn are_same(one: &Metadata, other: &Metadata) -> bool {
+    one.dev() == other.dev() && one.ino() == other.ino()
+}
+
+/// A trace, from where its run begins. A file that is put away or comes to another path while it is read is read to its
+/// end, and then what came to stand behind it, to the end of what stands at the trace's path. A file that is shorter than
+/// what was read of it was begun anew, and is an error, `InvalidData`.
+#[derive(Drop)]
+pub struct TraceReader<'a, R> {
+    rt: &'a R,
+    alloc: Global,
+    path: String,
+    file: File,
+    /// How many bytes of it were read.
+    place: u64,
+    /// The file behind it: nothing is written to this one any more.
+    next: Option<File>,
+    /// The numbers of the first piece that is read and of the newest one, where any is.
+    pieces: Option<(u64, u64)>,
+}
+
+impl<'a, R: Files<File = File>> TraceReader<'a, R> {
+    /// The file at a path, and none before it.
+    pub fn alone(
+        rt: &'a R,
+        alloc: Global,
+        path: &str,
+        file: File,
+    ) -> io::Result<TraceReader<'a, R>> {
+        Ok(TraceReader {
+            rt,
+            alloc,
+            path: String::from_str(alloc, path)?,
+            file,
+            place: 0,
+            next: None,
+            pieces: None,
+        })
+    }
+
+    /// The trace at a path. Where its file begins within a run, the pieces from the one on in which that begins are read
+    /// before it; one that is missing there is an error, `NotFound`.
+    pub fn open(rt: &'a R, alloc: Global, path: &str) -> io::Result<TraceReader<'a, R>> {
+        let mut reader = TraceReader::alone(rt, alloc, path, open_plain(rt, path)?)?;
+        if !begins_run(&mut reader.file)? {
+            reader.go_back()?;
+        }
+        Ok(reader)
+    }
+
+    /// The numbers of the first piece that is read before the trace's own file, and of the last; None where none is.
+    pub fn pieces(&self) -> Option<(u64, u64)> {
+        self.pieces
+    }
+
+    /// Goes back to the piece in which the run begins; where none is such a piece, the file at the path is read alone.
+    fn go_back(&mut self) -> io::Result<()> {
+        let newest = newest_piece(self.rt, self.alloc, self.path.as_str())?;
+        for number in (1..=newest).rev() {
+            let mut file = self.piece(number)?;
+            if begins_run(&mut file)? {
+                self.file = file;
+                self.pieces = Some((number, newest));
+                return Ok(());
+            }
+        }
+        Ok(())
+    }
+
+    /// Opens a piece.
+    fn piece(&self, number: u64) -> io::Result<File> {
+        let path = piece_path(self.alloc, self.path.as_str(), number)?;
+        match open_plain(self.rt, path.as_str()) {
+            Err(error) if error.kind() == ErrorKind::NotFound => {
+                let message = format!(in self.alloc; "{path} is missing")?;
+                Err(Error::new(ErrorKind::NotFound, message.as_str()))
+            }
+            opened => opened,
+        }
+    }
+
+    /// The number of the piece that the file was put away as, and of the newest one; None where it is no piece.
+    fn own_number(&self, own: &Metadata) -> io::Result<Option<(u64, u64)>> {
+        let newest = newest_piece(self.rt, self.alloc, self.path.as_str())?;
+        for number in (1..=newest).rev() {
+            let path = piece_path(self.alloc, self.path.as_str(), number)?;
+            if fs::metadata(self.rt, path.as_str()).is_ok_and(|found| are_same(&found, own)) {
+                return Ok(Some((number, newest)));
+            }
+        }
+        Ok(None)
+    }
+
+    /// What stands at the path; None where nothing does, while a file that was renamed away is still written to.
+    fn found(&self) -> io::Result<Option<Metadata>> {
+        match fs::metadata(self.rt, self.path.as_str()) {
+            Ok(found) => Ok(Some(found)),
+            Err(error) if error.kind() == ErrorKind::NotFound => Ok(None),
+            Err(error) => Err(error),
+        }
+    }
+
+    /// The file that came to stand behind this one; None where that stands at the path itself, or none does yet.
+    fn successor(&self) -> io::Result<Option<File>> {
+        let Some(found) = self.found()? else {
+            return Ok(None);
+        };
+        let own = self.file.metadata()?;
+        if are_same(&found, &own) {
+            if found.len() < self.place {
+                let message = "another run began it anew: follow it again";
+                return Err(Error::new(ErrorKind::InvalidData, message));
+            }
+            return Ok(None);
+        }
+        match self.own_number(&own)? {
+            Some((number, newest)) if number < newest => Ok(Some(self.piece(number + 1)?)),
+            _ => Ok(Some(open_plain(self.rt, self.path.as_str())?)),
+        }
+    }
+
+    /// At the end of the file: goes on in the one behind it. It is read to its end once more before. False where there is
+    /// none.
+    fn go_on(&mut self) -> io::Result<bool> {
+        if let Some(file) = self.next.take() {
+            self.file = file;
+            self.place = 0;
+            return Ok(true);
+        }
+        self.next = self.successor()?;
+        Ok(self.next.is_some())
+    }
+}
+
+/// The file begins a run: its first happening reads an inittab. It is read from its first byte on still.
+fn begins_run(file: &mut File) -> io::Result<bool> {
+    let mut first = [0; 1];
+    let count = file.read(&mut first)?;
+    file.seek(SeekFrom::Start(0))?;
+    Ok(count > 0 && first == *b"u")
+}
+
+impl<R: Files<File = File>> Read for TraceReader<'_, R> {
+    /// No byte where nothing more stands in the trace. A trace of more than 4,294,967,296 files is an error,
+    /// `FileTooLarge`.
+    fn read(&mut self, buf: &mut [u8]) -> io::Result<usize> {
+        for _ in 0..PIECES_LIMIT {
+            let count = self.file.read(buf)?;
+            if count > 0 || buf.is_empty() {
+                self.place = self.place.saturating_add(count as u64);
+                return Ok(count);
+            }
+            if !self.go_on()? {
+                return Ok(0);
+            }
+        }
+        Err(Error::from(ErrorKind::FileTooLarge))
+    }
+}
+
+/// The files of the operating system, of which a trace is read with the pieces before it, and that is told on standard
+/// error in the name of a program. Nothing is known of their texts.
+#[derive(Drop)]
+pub struct PiecedFiles<'a, R> {
+    rt: &'a R,
+    alloc: Global,
+    program: &'a str,
+}
+
+impl<'a, R> PiecedFiles<'a, R> {
+    /// The files that this system has, for the program of this name.
+    pub fn new(rt: &'a R, alloc: Global, program: &'a str) -> PiecedFiles<'a, R> {
+        PiecedFiles { rt, alloc, program }
+    }
+}
+
+/// Tells which pieces are read before the trace's own file.
+pub fn tell_pieces<R: Eprint>(rt: &R, program: &str, path: &str, pieces: Option<(u64, u64)>) {
+    let _ = match pieces {
+        None => Ok(()),
+        Some((first, newest)) if first == newest => {
+            eprintln!(rt; "{program}: {path}.{first} is read before {path}")
+        }
+        Some((first, newest)) => {
+            eprintln!(rt; "{program}: {path}.{first} to {path}.{newest} are read before {path}")
+        }
+    };
+}
+
+impl<R: Files<File = File> + Eprint> Texts for PiecedFiles<'_, R> {
+    ghost use Rattle.std.specs.Prelude.{None};
+
+    ghost text_at = { λ _ _. None };
+
+    fn read<A: Allocator>(&self, alloc: A, path: &str) -> io::Result<Vec<u8, A>> {
+        self.rt.read(alloc, path)
+    }
+
+    fn read_file<A: Allocator>(&self, alloc: A, path: &str) -> io::Result<Vec<u8, A>> {
+        self.rt.read_file(alloc, path)
+    }
+
+    fn read_pieces<P: PieceTaker>(&self, path: &str, taker: &mut P) -> io::Result<()> {
+        if path == "-" || path.starts_with("/dev/") {
+            return self.rt.read_pieces(path, taker);
+        }
+        let mut reader = TraceReader::open(self.rt, self.alloc, path)?;
+        tell_pieces(self.rt, self.program, path, reader.pieces());
+        hand_over(&mut reader, taker)
+    }
+}
