@@ -66,6 +66,40 @@ const ROWS: &[Row] = &[
                 clock 0 / nudge / ask b look / death 2 / reaped b 2 killed / told b / ask c start / birth c 3 / told c / settle 3 / \
                 clock 0 / nudge / ask c look / death 3 / reaped c 3 exit 7 / told c",
     },
+    // Two children live at once, each until the other does; a request stands in the channel at the opening.
+    Row {
+        inittab: "id:3:initdefault:|a:3:once:sh a.sh|b:3:once:sh b.sh",
+        replies: "bytes q / table id:3:initdefault:|a:3:once:sh a.sh|b:3:once:sh b.sh / start birth 11 / start birth 12 / \
+                look still / look still / look exit 3 / look exit 3",
+        limit: (60, true),
+        ended: (3, true),
+        faults: 0,
+        trace: "clock 0 / got reload / nudge / enter sysinit 5 / \
+                use 3 / id:3:initdefault: / a:3:once:sh a.sh / b:3:once:sh b.sh / enter boot 5 / enter 3 5 / \
+                ask a start / birth a 11 / told a / ask b start / birth b 12 / told b / settle 3 / \
+                clock 0 / nudge / ask a look / still a / told a / ask b look / still b / told b / \
+                clock 0 / nudge / ask a look / death 11 / reaped a 11 exit 3 / told a / \
+                ask b look / death 12 / reaped b 12 exit 3 / told b",
+    },
+    // Of two children that are sent TERM one ends by itself, the other is killed.
+    Row {
+        inittab: "id:3:initdefault:|t:3:once:sh t.sh|k:3:once:sh k.sh",
+        replies: "start birth 10 / start birth 11 / clock 100 / clock 101 / clock 102 / clock 106 / clock 107 / \
+                bytes / bytes 1 / table id:3:initdefault:|t:3:once:sh t.sh|k:3:once:sh k.sh / \
+                signal hit / signal hit / signal hit / \
+                look still / look still / look exit 7 / look still / look still / look killed",
+        limit: (9, true),
+        ended: (5, true),
+        faults: 0,
+        trace: "clock 100 / nudge / enter sysinit 5 / enter boot 5 / enter 3 5 / ask t start / birth t 10 / told t / \
+                ask k start / birth k 11 / told k / settle 3 / \
+                clock 101 / got level 1 5 / nudge / use 3 / id:3:initdefault: / t:3:once:sh t.sh / k:3:once:sh k.sh / \
+                enter 1 5 / ask t term / hit t / told t / ask k term / hit k / told k / \
+                ask t look / still t / told t / ask k look / still k / told k / \
+                clock 102 / nudge / ask t look / death 10 / reaped t 10 exit 7 / told t / ask k look / still k / told k / \
+                clock 106 / nudge / ask k kill / hit k / told k / ask k look / still k / told k / \
+                clock 107 / nudge / ask k look / death 11 / reaped k 11 killed / told k / settle 1",
+    },
     // All requests that came, before the round; one of them is no block.
     Row {
         inittab: "id:3:initdefault:|d:B:ondemand:x",
