@@ -5,10 +5,10 @@
 #     ./install.sh [PREFIX]               under PREFIX; /opt/initd where it is left out
 #     ./install.sh --uninstall [PREFIX]   removes what was installed there
 #
-# A program that the gate (.ci/run, by tools/pages) or this script has built from these sources is taken as it is, by the checksum that
-# was left beside it; any other is proved and built by `rt run`, which takes 40 minutes and more of processor time at the
-# first time. Files of an earlier installation that this one doesn't have are removed. With DESTDIR set all is put under
-# DESTDIR and stays meant for PREFIX, as for a package.
+# A program that the gate (.ci/run, by tools/pages) or this script has built from these sources is taken as it is, by the
+# checksum that was left beside it; any other is proved and built by `rt run`, which takes long at the first time
+# (docs/COST.md). Files of an earlier installation that this one doesn't have are removed. With DESTDIR set all is put
+# under DESTDIR and stays meant for PREFIX, as for a package.
 set -eu
 
 programs='initd telinit rclinks rc initview'
@@ -114,7 +114,7 @@ done
 for facility in contrib/facilities/*; do
     put 644 "$facility" "share/initd/facilities/${facility##*/}"
 done
-for page in docs/SYSVINIT.md docs/DECISIONS.md examples/timeline/timeline.svg; do
+for page in SECURITY.md docs/SYSVINIT.md docs/DECISIONS.md examples/timeline/timeline.svg; do
     put 644 "$page" "share/doc/initd/${page##*/}"
 done
 # These show the picture that lies beside them.

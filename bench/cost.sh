@@ -62,10 +62,14 @@ awk 'BEGIN {
 }' > long
 echo "a trace of $(wc -l < long) lines, $(wc -c < long) bytes, is judged"
 measured() {
-    /usr/bin/time -f '%U seconds of user time, %S of system time, %M KiB at most' "$@"
+    /usr/bin/time -q -f '%U seconds of user time, %S of system time, %M KiB at most' "$@"
+}
+# Of a trace that no init writes `status` ends with 4.
+viewed() {
+    measured "$initview" "$@" || [ $? = 4 ]
 }
 measured "$initd" check long
 echo "it is viewed: status, status of an id, follow"
-measured "$initview" status long
-measured "$initview" status long c4
+viewed status long
+viewed status long c4
 measured "$initview" follow - < long

@@ -45,7 +45,7 @@ deaths=0
 early=
 while now=$(($(date +%s) - begin)) && [ "$now" -lt "$seconds" ]; do
     if [ -z "$early" ] && [ "$now" -ge "$first" ]; then early=$(memory); fi
-    if kill -s KILL $(pgrep -P "$pid" sleep | shuf -n 1) 2> /dev/null; then deaths=$((deaths + 1)); fi
+    if kill -s KILL "$(pgrep -P "$pid" sleep | shuf -n 1)" 2> /dev/null; then deaths=$((deaths + 1)); fi
     until [ "$sent" -ge $((requests * (now + 1) / seconds)) ]; do request; done
     sleep 1
 done
