@@ -86,7 +86,7 @@ impl<R: Processes, A: Allocator + Copy> Children<R, A> {
         if let Err(error) = check_sending(rt, self.alloc) {
             let program = self.program;
             let _ = eprintln!(rt;
-                "{program}: no child can be sent TERM: {error}: start {program} with a PATH that has sh and kill"
+                "{program}: no child can be sent TERM: {error}: start it with a PATH that has sh and kill"
             );
         }
     }
