@@ -15,4 +15,4 @@ pub use channels::Channel;
 pub use folders::{FolderFault, PassedNames, is_hidden, with_folder};
 pub use inittab_files::InittabFiles;
 pub use state_files::StateFile;
-pub use trace_pieces::{PiecedFiles, TraceReader, are_same, newest_piece, piece_path, tell_pieces};
+pub use trace_pieces::{PiecedFiles, TraceReader, are_same, is_given, newest_piece, piece_path};

@@ -76,12 +76,7 @@ pub struct TraceReader<'a, R> {
 
 impl<'a, R: Files<File = File>> TraceReader<'a, R> {
     /// The file at a path, and none before it.
-    pub fn alone(
-        rt: &'a R,
-        alloc: Global,
-        path: &str,
-        file: File,
-    ) -> io::Result<TraceReader<'a, R>> {
+    fn alone(rt: &'a R, alloc: Global, path: &str, file: File) -> io::Result<TraceReader<'a, R>> {
         Ok(TraceReader {
             rt,
             alloc,
@@ -95,17 +90,12 @@ impl<'a, R: Files<File = File>> TraceReader<'a, R> {
 
     /// The trace at a path. Where its file begins within a run, the pieces from the one on in which that begins are read
     /// before it; one that is missing there is an error, `NotFound`.
-    pub fn open(rt: &'a R, alloc: Global, path: &str) -> io::Result<TraceReader<'a, R>> {
+    fn open(rt: &'a R, alloc: Global, path: &str) -> io::Result<TraceReader<'a, R>> {
         let mut reader = TraceReader::alone(rt, alloc, path, open_plain(rt, path)?)?;
         if !begins_run(&mut reader.file)? {
             reader.go_back()?;
         }
         Ok(reader)
-    }
-
-    /// The numbers of the first piece that is read before the trace's own file, and of the last; None where none is.
-    pub fn pieces(&self) -> Option<(u64, u64)> {
-        self.pieces
     }
 
     /// Goes back to the piece in which the run begins; where none is such a piece, the file at the path is read alone.
@@ -213,6 +203,11 @@ impl<R: Files<File = File>> Read for TraceReader<'_, R> {
     }
 }
 
+/// What the system or a shell gives by a path, and no plain file: it has no pieces, and ends.
+pub fn is_given(path: &str) -> bool {
+    path == "-" || path.starts_with("/dev/")
+}
+
 /// The files of the operating system, of which a trace is read with the pieces before it, and that is told on standard
 /// error in the name of a program. Nothing is known of their texts.
 #[derive(Drop)]
@@ -220,17 +215,41 @@ pub struct PiecedFiles<'a, R> {
     rt: &'a R,
     alloc: Global,
     program: &'a str,
+    is_shown: bool,
 }
 
-impl<'a, R> PiecedFiles<'a, R> {
-    /// The files that this system has, for the program of this name.
-    pub fn new(rt: &'a R, alloc: Global, program: &'a str) -> PiecedFiles<'a, R> {
-        PiecedFiles { rt, alloc, program }
+impl<'a, R: Files<File = File> + Eprint> PiecedFiles<'a, R> {
+    /// The files that this system has, for the program of this name. A trace that is shown is read alone where a piece of
+    /// it is missing, and that is told; else that is an error, `NotFound`.
+    pub fn new(rt: &'a R, alloc: Global, program: &'a str, is_shown: bool) -> PiecedFiles<'a, R> {
+        PiecedFiles {
+            rt,
+            alloc,
+            program,
+            is_shown,
+        }
+    }
+
+    /// The trace at a path.
+    pub fn open(&self, path: &str) -> io::Result<TraceReader<'a, R>> {
+        match TraceReader::open(self.rt, self.alloc, path) {
+            Ok(trace) => {
+                tell_pieces(self.rt, self.program, path, trace.pieces);
+                Ok(trace)
+            }
+            Err(error) if self.is_shown && error.kind() == ErrorKind::NotFound => {
+                let file = open_plain(self.rt, path)?;
+                let program = self.program;
+                let _ = eprintln!(self.rt; "{program}: {error}");
+                TraceReader::alone(self.rt, self.alloc, path, file)
+            }
+            Err(error) => Err(error),
+        }
     }
 }
 
 /// Tells which pieces are read before the trace's own file.
-pub fn tell_pieces<R: Eprint>(rt: &R, program: &str, path: &str, pieces: Option<(u64, u64)>) {
+fn tell_pieces<R: Eprint>(rt: &R, program: &str, path: &str, pieces: Option<(u64, u64)>) {
     let _ = match pieces {
         None => Ok(()),
         Some((first, newest)) if first == newest => {
@@ -255,12 +274,11 @@ impl<R: Files<File = File> + Eprint> Texts for PiecedFiles<'_, R> {
         self.rt.read_file(alloc, path)
     }
 
+    /// The text of a trace.
     fn read_pieces<P: PieceTaker>(&self, path: &str, taker: &mut P) -> io::Result<()> {
-        if path == "-" || path.starts_with("/dev/") {
+        if is_given(path) {
             return self.rt.read_pieces(path, taker);
         }
-        let mut reader = TraceReader::open(self.rt, self.alloc, path)?;
-        tell_pieces(self.rt, self.program, path, reader.pieces());
-        hand_over(&mut reader, taker)
+        hand_over(&mut self.open(path)?, taker)
     }
 }

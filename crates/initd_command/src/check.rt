@@ -97,7 +97,7 @@ pub(crate) fn check_files<R: Files<File = File> + Eprint, T: Texts, W: Write, E:
         × Reports ending (E.contents err.old) (E.contents err.new) }
 {
     if said.pieces {
-        let pieces = PiecedFiles::new(rt, alloc, "initd");
+        let pieces = PiecedFiles::new(rt, alloc, "initd", false);
         return check_file(&pieces, alloc, said, out, err);
     }
     check_file(texts, alloc, said, out, err)

@@ -1,6 +1,7 @@
 //! `initview`: why an entry of init is not started, how all stand and which children are left, by a trace.
 #![tactic(auto)]
 
+use host_files::PiecedFiles;
 use initview_command::{GrowingFiles, USAGE, run_words};
 use program_io::{StandardFiles, report_unread_words, words};
 use std::process::ExitCode;
@@ -10,10 +11,9 @@ fn main(rt: HostRuntime) -> ExitCode {
     let alloc = rt.alloc();
     let status = match words(&rt, alloc) {
         Ok(words) => {
-            let files = GrowingFiles::new(&rt, alloc);
             run_words(
-                &files,
-                &files,
+                &PiecedFiles::new(&rt, alloc, "initview", true),
+                &GrowingFiles::new(&rt),
                 alloc,
                 words.as_slice(),
                 &mut rt.stdout(),

@@ -5,10 +5,10 @@ ghost use Rattle.init_words.specs.Parts.{NamedText};
 ghost use Rattle.program_io.specs.Known.{KnownTexts};
 ghost use Rattle.initview_command.specs.Writers.{IsWriterAt, KnownWriters};
 
-use host_files::{FolderFault, PassedNames, TraceReader, tell_pieces, with_folder};
+use host_files::{FolderFault, PassedNames, PiecedFiles, TraceReader, is_given, with_folder};
 use init_words::Part;
-use program_io::{PieceTaker, Texts, hand_over, open_plain};
-use std::alloc::{AllocError, Allocator, Global};
+use program_io::open_plain;
+use std::alloc::{AllocError, Global};
 use std::fs::{File, Metadata, TryLockError};
 use std::io::{Error, ErrorKind, Read};
 use std::os::unix::fs::MetadataExt;
@@ -68,61 +68,12 @@ pub trait GrowingTexts {
 #[derive(Drop)]
 pub struct GrowingFiles<'a, R> {
     rt: &'a R,
-    alloc: Global,
 }
 
 impl<'a, R> GrowingFiles<'a, R> {
     /// The files that this system has.
-    pub fn new(rt: &'a R, alloc: Global) -> GrowingFiles<'a, R> {
-        GrowingFiles { rt, alloc }
-    }
-}
-
-/// What the system or a shell gives, and no plain file: it has no pieces, and ends.
-fn is_given(path: &str) -> bool {
-    path == "-" || path.starts_with("/dev/")
-}
-
-/// The trace at a path, with the pieces before it. Which these are is told on standard error, and that one of them is
-/// missing: then the file is read alone.
-fn open_trace<'a, R: Files<File = File> + Eprint>(
-    rt: &'a R,
-    alloc: Global,
-    path: &str,
-) -> io::Result<TraceReader<'a, R>> {
-    match TraceReader::open(rt, alloc, path) {
-        Ok(trace) => {
-            tell_pieces(rt, "initview", path, trace.pieces());
-            Ok(trace)
-        }
-        Err(error) if error.kind() == ErrorKind::NotFound => {
-            let file = open_plain(rt, path)?;
-            let _ = eprintln!(rt; "initview: {error}");
-            TraceReader::alone(rt, alloc, path, file)
-        }
-        Err(error) => Err(error),
-    }
-}
-
-impl<R: Files<File = File> + Eprint> Texts for GrowingFiles<'_, R> {
-    ghost use Rattle.std.specs.Prelude.{None};
-
-    ghost text_at = { λ _ _. None };
-
-    fn read<A: Allocator>(&self, alloc: A, path: &str) -> io::Result<Vec<u8, A>> {
-        self.rt.read(alloc, path)
-    }
-
-    fn read_file<A: Allocator>(&self, alloc: A, path: &str) -> io::Result<Vec<u8, A>> {
-        self.rt.read_file(alloc, path)
-    }
-
-    /// The text of a trace.
-    fn read_pieces<P: PieceTaker>(&self, path: &str, taker: &mut P) -> io::Result<()> {
-        if is_given(path) {
-            return self.rt.read_pieces(path, taker);
-        }
-        hand_over(&mut open_trace(self.rt, self.alloc, path)?, taker)
+    pub fn new(rt: &'a R) -> GrowingFiles<'a, R> {
+        GrowingFiles { rt }
     }
 }
 
@@ -142,7 +93,7 @@ impl<'a, R: Files<File = File> + Clock + Eprint> GrowingTexts for GrowingFiles<'
             let path = if path == "-" { "/dev/stdin" } else { path };
             return Ok(GrowingFile::Ends(File::open(self.rt, path)?));
         }
-        let trace = open_trace(self.rt, alloc, path)?;
+        let trace = PiecedFiles::new(self.rt, alloc, "initview", true).open(path)?;
         Ok(GrowingFile::Grows(GrowingTrace { rt: self.rt, trace }))
     }
 
