@@ -1,5 +1,4 @@
 pub mod Asked
-pub mod Explained
 pub mod Files
 pub mod Followed
 pub mod Reloads

@@ -1,11 +1,10 @@
 //! Why an entry isn't started next, asked for.
 
-ghost use Rattle.std.specs.Prelude.{◌≡◌, List, IfOk, IfErr};
+ghost use Rattle.std.specs.Prelude.{◌≡◌, ◌++◌, List, IfOk, IfErr};
 ghost use Rattle.trace_events.specs.Event.{Event};
 ghost use Rattle.trace_view.specs.Viewing.{Viewed};
-ghost use Rattle.trace_view.specs.LastLines.{Lined, line_at_fault};
-ghost use Rattle.trace_view.specs.Why.{why};
-ghost use Rattle.initview_command.specs.Explaining.{explanation, files_text, line_by};
+ghost use Rattle.initview_lines.specs.Reasons.{why_text};
+ghost use Rattle.initview_command.specs.Explaining.{files_text};
 ghost use Rattle.initview_command.specs.Tables.{AreNone, FailsBy};
 
 use crate::presence::show_present;
@@ -14,10 +13,10 @@ use crate::with_files::NeedsFiles;
 use init_words::{Id, Memory, Part};
 use inittab_lint::id_lines;
 use inittab_text::TableFault;
-use initview_lines::why_lines;
+use initview_lines::{Chain, chain_of, why_lines};
 use std::alloc::{AllocError, Global};
 use std::io::Write;
-use trace_view::{LastLines, SeenText, TraceView, Why};
+use trace_view::{LastLines, SeenText, TraceView};
 
 /// Why the id isn't started is asked, with what the files have of it.
 #[derive(Drop)]
@@ -32,38 +31,18 @@ pub(crate) struct Reason {
     told: Vec<u8>,
 }
 
-/// The line at fault.
-fn fault_line(id: &Id, view: &TraceView, lines: &LastLines) -> Option<u64>
-    ensures { (past : List Event) → Viewed view.now past → Lined lines.now past
-        → result ≡ line_at_fault id.now (why id.now past) past }
-{
-    lines.line_at_fault(id, view.why(id))
-}
-
-/// The line, where a reason is left.
-fn line_by(reason: Why, line: Option<u64>) -> Option<u64>
-    ensures { result ≡ line_by reason line }
-{
-    match reason {
-        Why::Nothing => None,
-        _ => line,
-    }
-}
-
-/// The reason by now with the line that was at fault, and what is told behind it.
+/// The reason by now with the lines that were at fault, and what is told behind it.
 fn explanation(
     alloc: Global,
     path: &str,
     asked: &Reason,
     view: &TraceView,
-    line: Option<u64>,
+    chain: &Chain,
 ) -> Result<Vec<u8>, AllocError>
     ensures { IfOk result (λ text. (now : List Event) → Viewed view.now now
-        → text.items ≡ explanation path.now asked.now.id asked.now.told.items line now) }
+        → text.items ≡ why_text path.now chain.now now ++ asked.now.told.items) }
 {
-    let id = &asked.id;
-    let line = line_by(view.why(id), line);
-    let mut text = why_lines(alloc, view, id, path.as_bytes(), line)?;
+    let mut text = why_lines(alloc, view, path.as_bytes(), chain)?;
     text.extend_from_slice(asked.told.as_slice())?;
     Ok(text)
 }
@@ -86,9 +65,9 @@ impl Asks for Reason {
         text: &mut SeenText<LastLines>,
         shown: &Shown,
     ) -> Result<Answer, Memory> {
-        let line = fault_line(&self.id, text.view(), text.seen());
+        let chain = chain_of(text.view(), text.seen(), self.id);
         show_present(text, shown.writer, shown.stop)?;
-        let said = explanation(alloc, shown.path, self, text.view(), line)?;
+        let said = explanation(alloc, shown.path, self, text.view(), &chain)?;
         Ok((said, stop_status(shown.stop)))
     }
 }

@@ -30,7 +30,10 @@ enum FollowFault {
 
 impl From<io::Error> for FollowFault {
     fn from(error: io::Error) -> FollowFault {
-        FollowFault::Unread(error)
+        match error.kind() {
+            ErrorKind::BrokenPipe => FollowFault::Unwritten,
+            _ => FollowFault::Unread(error),
+        }
     }
 }
 

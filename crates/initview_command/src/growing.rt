@@ -7,14 +7,15 @@ ghost use Rattle.initview_command.specs.Writers.{IsWriterAt, KnownWriters};
 
 use host_files::{FolderFault, PassedNames, PiecedFiles, TraceReader, is_given, with_folder};
 use init_words::Part;
+use libc::net::poll;
+use libc::types::pollfd;
 use program_io::open_plain;
 use std::alloc::{AllocError, Global};
 use std::fs::{File, Metadata, TryLockError};
 use std::io::{Error, ErrorKind, Read};
 use std::os::unix::fs::MetadataExt;
 use std::rt::{Clock, Files};
-use std::time::Duration;
-use std::{fs, io, thread};
+use std::{fs, io};
 
 /// Who writes a trace, as its lock answers: init holds it while it writes.
 #[derive(Clone, Copy)]
@@ -93,8 +94,8 @@ impl<'a, R: Files<File = File> + Clock + Eprint> GrowingTexts for GrowingFiles<'
             let path = if path == "-" { "/dev/stdin" } else { path };
             return Ok(GrowingFile::Ends(File::open(self.rt, path)?));
         }
-        let trace = PiecedFiles::new(self.rt, alloc, "initview", true).open(path)?;
-        Ok(GrowingFile::Grows(GrowingTrace { rt: self.rt, trace }))
+        let files = PiecedFiles::new(self.rt, alloc, "initview", true);
+        Ok(GrowingFile::Grows(files.open(path)?))
     }
 
     /// The lock is asked for in the shared form, which keeps no other that asks from its answer, and let go at once.
@@ -166,44 +167,51 @@ fn seconds_since(rt: &impl Clock, found: &Metadata) -> u64 {
 }
 
 /// How long it is waited until a file is looked at again, in milliseconds.
-const PAUSE: u64 = 100;
+const PAUSE: i32 = 100;
 
 /// How often at most, which takes some thirteen years.
 const PAUSES_LIMIT: u64 = 4_294_967_296;
 
-/// A trace that is followed: one that ends, or one that goes on.
+/// A trace that is followed: one that ends, or one that goes on, in the files that come to stand at its path.
 #[derive(Drop)]
 pub enum GrowingFile<'a, R> {
     Ends(File),
-    Grows(GrowingTrace<'a, R>),
+    Grows(TraceReader<'a, R>),
 }
 
-/// A trace that goes on, in the files that come to stand at its path.
-#[derive(Drop)]
-pub struct GrowingTrace<'a, R> {
-    rt: &'a R,
-    trace: TraceReader<'a, R>,
+/// Waits, and no longer where nothing reads standard output any more, which it tells.
+fn no_reader_within_pause() -> bool {
+    let mut asked = [pollfd {
+        fd: 1,
+        events: 0,
+        revents: 0,
+    }];
+    poll(&mut asked, PAUSE) > 0
 }
 
-impl<R: Files<File = File> + Clock> Read for GrowingFile<'_, R> {
+/// Waits until there is a byte. A trace that has had none more for 4,294,967,296 looks is an error, `TimedOut`, and that
+/// nothing reads standard output any more is one, `BrokenPipe`.
+fn wait_for_bytes<R: Files<File = File>>(
+    trace: &mut TraceReader<'_, R>,
+    buf: &mut [u8],
+) -> io::Result<usize> {
+    for _ in 0..PAUSES_LIMIT {
+        let count = trace.read(buf)?;
+        if count > 0 || buf.is_empty() {
+            return Ok(count);
+        }
+        if no_reader_within_pause() {
+            return Err(Error::from(ErrorKind::BrokenPipe));
+        }
+    }
+    Err(Error::from(ErrorKind::TimedOut))
+}
+
+impl<R: Files<File = File>> Read for GrowingFile<'_, R> {
     fn read(&mut self, buf: &mut [u8]) -> io::Result<usize> {
         match self {
             GrowingFile::Ends(file) => file.read(buf),
-            GrowingFile::Grows(trace) => trace.read(buf),
+            GrowingFile::Grows(trace) => wait_for_bytes(trace, buf),
         }
-    }
-}
-
-impl<R: Files<File = File> + Clock> Read for GrowingTrace<'_, R> {
-    /// Waits until there is a byte. A file that has had none more for 4,294,967,296 looks is an error, `TimedOut`.
-    fn read(&mut self, buf: &mut [u8]) -> io::Result<usize> {
-        for _ in 0..PAUSES_LIMIT {
-            let count = self.trace.read(buf)?;
-            if count > 0 || buf.is_empty() {
-                return Ok(count);
-            }
-            thread::sleep(self.rt, Duration::from_millis(PAUSE));
-        }
-        Err(Error::from(ErrorKind::TimedOut))
     }
 }

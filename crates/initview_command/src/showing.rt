@@ -6,7 +6,7 @@ ghost use Rattle.trace_view.specs.SeenTexts.{HasSeenText};
 ghost use Rattle.trace_view.specs.Viewing.{Viewed};
 ghost use Rattle.trace_view.specs.declared.text_views.ViewEnd.{ViewEnd};
 ghost use Rattle.initview_command.specs.declared.growing.Writer.{Writer};
-ghost use Rattle.initview_command.specs.Showing.{Shows, ShowsOf, Writes, is_within, lsb_status, row_status, running_status, said, status_by, stop_status};
+ghost use Rattle.initview_command.specs.Showing.{Shows, ShowsOf, Writes, is_refused, lsb_status, row_status, running_status, said, status_by, stop_status};
 
 use crate::asking::Question;
 use crate::growing::{GrowingTexts, Writer};
@@ -66,6 +66,19 @@ pub(crate) trait Asks {
 #[derive(Drop)]
 struct FileText<S: Sees<Global> + Drop> {
     text: SeenText<S>,
+    begun: bool,
+    /// The program that unpacks it, where it is compressed.
+    unpacker: Option<&'static str>,
+}
+
+/// The program that unpacks a text that begins so, where that is compressed.
+fn unpacker(piece: &[u8]) -> Option<&'static str> {
+    match piece {
+        [0x1f, 0x8b, ..] => Some("zcat"),
+        [0x28, 0xb5, 0x2f, 0xfd, ..] => Some("zstdcat"),
+        [0xfd, b'7', b'z', b'X', b'Z', 0, ..] => Some("xzcat"),
+        _ => None,
+    }
 }
 
 impl<S: Sees<Global> + Drop> FileText<S> {
@@ -75,6 +88,8 @@ impl<S: Sees<Global> + Drop> FileText<S> {
     {
         FileText {
             text: SeenText::new(alloc),
+            begun: false,
+            unpacker: None,
         }
     }
 }
@@ -92,6 +107,10 @@ impl<S: Sees<Global> + Drop> PieceTaker for FileText<S> {
     ghost has_taken = { λ file text. HasSeenText S.has_seen file.text text };
 
     fn take_piece(&mut self, piece: &[u8]) -> Result<(), AllocError> {
+        if !self.begun {
+            self.begun = true;
+            self.unpacker = unpacker(piece);
+        }
         match self.text.take(piece) {
             Ok(()) => Ok(()),
             Err(Memory) => Err(AllocError),
@@ -257,32 +276,47 @@ fn show_text<T: Texts, G: GrowingTexts, Q: Asks, W: Write, E: Write>(
                 writer: growing.writer(path),
                 stop,
             };
-            tell_end(asked, &shown, left, err);
+            tell_end(asked, &shown, left, file.unpacker, err);
             show_seen(alloc, asked, &mut file.text, &shown, out, err)
         }
         Err(error) => report_unread(path, &error, err),
     }
 }
 
-/// Tells how a trace ends.
-fn tell_end<Q: Asks, E: Write>(asked: &Q, shown: &Shown, left: Option<u64>, err: &mut E) {
-    tell_stop(shown.path, shown.stop, left, err);
+/// Tells how a trace ends, or that it is compressed.
+fn tell_end<Q: Asks, E: Write>(
+    asked: &Q,
+    shown: &Shown,
+    left: Option<u64>,
+    unpacker: Option<&'static str>,
+    err: &mut E,
+) {
+    let path = shown.path;
+    if let Some(unpacker) = unpacker {
+        let _ = writeln!(
+            err,
+            "initview: {path} is compressed: {unpacker} {path} | initview status -"
+        );
+        return;
+    }
+    tell_stop(path, shown.stop, left, err);
     if asked.asks_writer() {
-        tell_writer(shown.path, shown.writer, shown.stop, err);
+        tell_writer(path, shown.writer, shown.stop, err);
     }
 }
 
-/// The text begins within a run.
-fn is_within(stop: Option<ViewEnd>) -> bool
-    ensures { result ≡ is_within stop }
+/// Nothing is shown: the text begins within a run, or its first line is none of a trace.
+fn is_refused(stop: Option<ViewEnd>) -> bool
+    ensures { result ≡ is_refused stop }
 {
     match stop {
         Some(ViewEnd::Within) => true,
+        Some(ViewEnd::Torn(line)) => line == 1,
         _ => false,
     }
 }
 
-/// Writes what is asked of a text, unless that begins within a run, and gives the exit status.
+/// Writes what is asked of a text, unless that is refused, and gives the exit status.
 fn show_seen<Q: Asks, W: Write, E: Write>(
     alloc: Global,
     asked: &Q,
@@ -297,7 +331,7 @@ fn show_seen<Q: Asks, W: Write, E: Write>(
         (Q.gives asked.now shown.now.path.now shown.now.writer shown.now.stop past) result
         (W.contents out.old) (W.contents out.new) }
 {
-    if is_within(shown.stop) {
+    if is_refused(shown.stop) {
         return REFUSED;
     }
     asked.tell_unsaid(text.view(), shown.path, err);

@@ -11,7 +11,9 @@ use Rattle.trace_view.specs.Rows.{row_of, is_settled_now}
 use Rattle.trace_view.specs.Wishes.{asked_level, first_wish}
 use Rattle.initview_lines.specs.declared.rows.RowFormat.{RowFormat}
 use Rattle.initview_lines.specs.Rows.{head_of, row_in, row_of_in}
-use Rattle.initview_lines.specs.Reasons.{reason_text, why_text}
+use Rattle.initview_lines.specs.declared.reasons.Link.{Link}
+use Rattle.initview_lines.specs.declared.rows.Head.{Head}
+use Rattle.initview_lines.specs.Reasons.{link_by, link_text, stopped_of}
 
 pub whole : (head entries ids one two three : List ℕ) → one ≡ head → two ≡ one ++ entries → three ≡ two ++ ids → three ≡ head ++ (entries ++ ids)
 whole head entries ids one two three a b c = c ∙ ap (λ t. t ++ ids) b ∙ append_assoc one entries ids ∙ ap (λ t. t ++ (entries ++ ids)) a
@@ -22,5 +24,5 @@ row_is shape grace now row id past e1 e2 e3 = rw (e1, e2, e3) refl
 pub head_is : (stage : Option Stage) (settled : Bool) (now grace : ℕ) (goal : Option Level) (wish : Option Wish) (past : List Event) → stage ≡ stage_of past → settled ≡ is_settled_now past → now ≡ time_of past → grace ≡ grace_of past → goal ≡ asked_level past → wish ≡ first_wish past → record { stage = stage; settled = settled; time = now; grace = grace; goal = goal; wish = wish } ≡ head_of past
 head_is stage settled now grace goal wish past e1 e2 e3 e4 e5 e6 = rw (e1, e2, e3, e4, e5, e6) refl
 
-pub why_is : (stage : Option Stage) (now : ℕ) (row : Row) (id name : List ℕ) (line : Option ℕ) (past : List Event) → stage ≡ stage_of past → now ≡ time_of past → row ≡ row_of id past → reason_text stage now id row name line ≡ why_text id name line past
-why_is stage now row id name line past e1 e2 e3 = rw (e1, e2, e3) refl
+pub link_is : (head : Head) (name : List ℕ) (link : Link) (row stopped : Row) (id : List ℕ) (past : List Event) → head ≡ head_of past → row ≡ row_of link.id past → stopped ≡ row_of id past → id ≡ stopped_of link.id row.why → link_by head name link row stopped ≡ link_text name link past
+link_is head name link row stopped id past e1 e2 e3 e4 = rw (e1, e3, e4, e2) refl

@@ -59,6 +59,7 @@ moment seconds =
     if nat_lt seconds 31_536_000 then hours_text seconds
     else date_text (date_of seconds) ++ (codes " " ++ hours_text seconds)
 
--- a reading between two texts: the seconds, and the time of day
+-- a reading between two texts: the time of day, or the seconds alone in 1970, where no clock of init's has been
 abbrev pub clocked : List ℕ → ℕ → List ℕ → List ℕ
-clocked before time after = numbered before time (codes " ") ++ (time_of_day time ++ after)
+clocked before time after =
+    if nat_lt time 31_536_000 then numbered before time after else before ++ (time_of_day time ++ after)

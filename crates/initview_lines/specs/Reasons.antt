@@ -6,9 +6,10 @@ use Rattle.init_words.specs.declared.orders.OrderKind.{OrderKind}
 use Rattle.init_words.specs.declared.orders.OrderKind.TheVariants as ask
 use Rattle.init_words.specs.declared.stages.Stage.{Stage}
 use Rattle.init_words.specs.declared.stages.Stage.TheVariants.{Run}
-use Rattle.init_words.specs.Actions.{ignores_levels, wanted_by}
+use Rattle.init_words.specs.Actions.{ignores_levels, waited_by, wanted_by}
+use Rattle.init_words.specs.Ids.{same_id}
 use Rattle.trace_events.specs.Event.{Event}
-use Rattle.trace_events.specs.Past.{stage_of, time_of}
+use Rattle.trace_events.specs.Past.{stage_of}
 use Rattle.trace_view.specs.declared.rows.Births.{Births}
 use Rattle.trace_view.specs.declared.rows.Ending.{Ending}
 use Rattle.trace_view.specs.declared.rows.Row.{Row}
@@ -16,9 +17,15 @@ use Rattle.trace_view.specs.declared.standings.Excluded.{Excluded}
 use Rattle.trace_view.specs.declared.whys.Why.{Why}
 use Rattle.trace_view.specs.declared.whys.Why.TheVariants as why
 use Rattle.trace_view.specs.declared.wishes.Wish.{Wish}
+use Rattle.trace_view.specs.LastLines.{line_at_fault}
 use Rattle.trace_view.specs.Rows.{row_of}
+use Rattle.trace_view.specs.Why.{why as why_of}
+use Rattle.initview_lines.specs.declared.reasons.Chain.{Chain}
+use Rattle.initview_lines.specs.declared.reasons.Link.{Link}
+use Rattle.initview_lines.specs.declared.rows.Head.{Head}
+use Rattle.initview_lines.specs.Rows.{head_of}
 use Rattle.initview_lines.specs.Words.{act_words, held_left, last_words, numbered, stage_words, wish_words}
-use Rattle.initview_lines.specs.Status.{births_words}
+use Rattle.initview_lines.specs.Status.{births_words, stop_words}
 
 abbrev pub act_reason : Option Act → List ℕ
 act_reason action = codes "its action, " ++ (act_words action ++ codes ", starts nothing")
@@ -105,36 +112,77 @@ abbrev pub again_advice : Bool → List ℕ
 again_advice called =
     if called then call_advice else codes "go to another level and back to have it started again"
 
+-- of a child that runs: init may wait for its end
+abbrev pub kept_advice : Bool → List ℕ
+kept_advice waited =
+    if waited then codes "wait for its end, or end it"
+    else codes "end the child to have it started anew, where its action says so"
+
+-- where a child has to end
+abbrev pub stop_advice : List ℕ
+stop_advice = codes "wait: init sends TERM, and KILL when the grace is over"
+
 abbrev pub advice_of : Option Stage → Option Act → Why → List ℕ
 advice_of stage action why.NoEntry = codes "add its line to the inittab, or mend it, and run telinit q"
 advice_of stage action why.NeverStarts = codes "give its line another action, and run telinit q"
 advice_of stage action why.NoStage = codes "wait for stage sysinit"
 advice_of stage action why.RanBefore = codes "run it by hand, or boot again"
 advice_of stage action why.StageOver = codes "run it by hand, or boot again"
-advice_of stage action (why.StageOwed awaited) = codes "ask why that one isn't done"
+advice_of stage action (why.StageOwed awaited) = stop_advice
 advice_of stage action why.OtherStage = other_advice stage action
-advice_of stage action (why.ChildKept number) = codes "end the child to have it started anew, where its action says so"
+advice_of stage action (why.ChildKept number) = kept_advice (option_map_or waited_by action false)
 advice_of stage action (why.OrderOpen asked) = codes "wait for the answer"
 advice_of stage action why.NotCalled = call_advice
 advice_of stage action why.WasStarted = again_advice (waits_for_call action)
-advice_of stage action (why.EarlierOwed earlier) = codes "ask why that one isn't done"
-advice_of stage action (why.ExcludedKept child) = codes "wait: init sends TERM, and KILL when the grace is over"
+advice_of stage action (why.EarlierOwed earlier) = stop_advice
+advice_of stage action (why.ExcludedKept child) = stop_advice
 advice_of stage action (why.WishStands wish) = codes "wait for init's next turn"
 advice_of stage action (why.Held since) = codes "see why its children end so soon; telinit q ends the hold"
 advice_of stage action why.WindowFull = codes "see why its children end so soon"
 advice_of stage action why.Nothing = codes "wait for init's next turn"
 
--- the line at fault of a trace, where there is one
-abbrev pub fault_words : List ℕ → Option ℕ → List ℕ
-fault_words name None = []
-fault_words name (Some line) = codes " (" ++ (name ++ numbered (codes ":") line (codes ")"))
+-- the line at fault of the trace of a name, where there is one; as time goes on no reason may be left
+abbrev pub fault_words : List ℕ → Why → Option ℕ → List ℕ
+fault_words name why.Nothing line = []
+fault_words name _ None = []
+fault_words name _ (Some line) = codes " (" ++ (name ++ numbered (codes ":") line (codes ")"))
 
--- two lines: the id, the reason and the line of the trace at fault; and what to do
-abbrev pub reason_text : Option Stage → ℕ → List ℕ → Row → List ℕ → Option ℕ → List ℕ
-reason_text stage now id row name line =
-    id ++ (codes ": " ++ (reason_words stage now row row.why ++ (fault_words name line
-    ++ (codes "\n  " ++ (advice_of stage row.act row.why ++ codes "\n")))))
+-- the id that keeps an id back: the one that init waits for, which waits for none before it; else itself
+abbrev pub root_of : List ℕ → Why → List ℕ
+root_of id (why.StageOwed awaited) = awaited
+root_of id (why.EarlierOwed earlier) = earlier
+root_of id _ = id
 
--- of the id in the trace of a name
-abbrev pub why_text : List ℕ → List ℕ → Option ℕ → List Event → List ℕ
-why_text id name line past = reason_text (stage_of past) (time_of past) id (row_of id past) name line
+-- the id whose child is stopped before an id is started: the one that has to end first; else itself
+abbrev pub stopped_of : List ℕ → Why → List ℕ
+stopped_of id (why.ExcludedKept child) = child.id
+stopped_of id _ = id
+
+-- an id with its line at fault; and what keeps it back
+abbrev pub link_of : List ℕ → List Event → Link
+link_of id past = record { id = id; line = line_at_fault id (why_of id past) past }
+
+abbrev pub chain_of : List ℕ → List Event → Chain
+chain_of id past = record { asked = link_of id past; root = link_of (root_of id (why_of id past)) past }
+
+-- a line: the id, the reason, how far the stopping of that child has come, and the line of the trace at fault
+abbrev pub link_by : Head → List ℕ → Link → Row → Row → List ℕ
+link_by head name link row stopped =
+    link.id ++ (codes ": " ++ (reason_words head.stage head.time row row.why
+    ++ (stop_words head.grace head.time stopped.excluded stopped.term
+    ++ (fault_words name row.why link.line ++ codes "\n"))))
+
+abbrev pub link_text : List ℕ → Link → List Event → List ℕ
+link_text name link past =
+    link_by (head_of past) name link (row_of link.id past) (row_of (stopped_of link.id (why_of link.id past)) past)
+
+abbrev pub advice_text : List ℕ → List Event → List ℕ
+advice_text id past = codes "  " ++ (advice_of (stage_of past) (row_of id past).act (why_of id past) ++ codes "\n")
+
+-- the line of the id, where another one keeps it back; the line of what keeps it back; and what to do about that
+abbrev pub asked_text : List ℕ → Chain → List Event → List ℕ
+asked_text name chain past = if same_id chain.asked.id chain.root.id then [] else link_text name chain.asked past
+
+abbrev pub why_text : List ℕ → Chain → List Event → List ℕ
+why_text name chain past =
+    asked_text name chain past ++ (link_text name chain.root past ++ advice_text chain.root.id past)

@@ -104,7 +104,8 @@ pub(crate) fn add_time_of_day(text: &mut Vec<u8>, seconds: u64) -> Result<(), Al
     Ok(())
 }
 
-/// Adds a reading of the clock between two texts: its seconds, and the time of day.
+/// Adds a reading of the clock between two texts: the time of day, or the seconds alone in 1970, where no clock of init's
+/// has been.
 pub fn add_clock(
     text: &mut Vec<u8>,
     before: &[u8],
@@ -114,7 +115,10 @@ pub fn add_clock(
     ensures { OnOk result (text.new.items
         ≡ text.old.items ++ clocked before.now seconds after.now) }
 {
-    add_number(text, before, seconds, b" ")?;
+    if seconds < 31_536_000 {
+        return add_number(text, before, seconds, after);
+    }
+    put(text, before)?;
     add_time_of_day(text, seconds)?;
     put(text, after)
 }

@@ -22,7 +22,7 @@ pub use happenings::add_happening;
 pub use left::{is_starting, left_lines};
 pub use pieces::take_lines;
 pub use plans::{is_on_path, plan_lines};
-pub use reasons::why_lines;
+pub use reasons::{Chain, chain_of, why_lines};
 pub use reloads::{law_of_reloads, reload_lines};
 pub use rows::{Head, RowFormat, row_line, status_lines};
 pub use words::{add_level, add_number, add_padded, add_stage, add_status, put, seconds_since};

@@ -2,69 +2,174 @@
 
 ghost use Rattle.std.specs.Prelude.{◌≡◌, ◌++◌, false, List, IfOk, OnOk};
 ghost use Rattle.std.specs.Option.{option_map_or};
-ghost use Rattle.init_words.specs.Actions.{ignores_levels};
+ghost use Rattle.init_words.specs.Actions.{ignores_levels, waited_by};
 ghost use Rattle.trace_events.specs.Event.{Event};
+ghost use Rattle.trace_view.specs.LastLines.{Lined};
 ghost use Rattle.trace_view.specs.Viewing.{Viewed};
-ghost use Rattle.initview_lines.specs.Reasons.{act_reason, advice_of, again_advice, awaited_reason, call_advice, done_reason, earlier_reason, excluded_reason, fault_words, held_reason, kept_reason, level_advice, order_reason, other_advice, ran_reason, reason_text, reason_words, runs_reason, stage_reason, waits_for_call, why_text, wish_reason};
+ghost use Rattle.trace_view.specs.Why.{why};
+ghost use Rattle.initview_lines.specs.Reasons.{act_reason, advice_of, advice_text, again_advice, asked_text, awaited_reason, call_advice, chain_of, done_reason, earlier_reason, excluded_reason, fault_words, held_reason, kept_advice, kept_reason, level_advice, link_by, link_of, link_text, order_reason, other_advice, ran_reason, reason_words, root_of, runs_reason, stage_reason, stopped_of, waits_for_call, why_text, wish_reason};
 ghost use Rattle.initview_lines.specs.Status.{births_words};
 
-use crate::status::add_births;
+use crate::rows::{Head, read_head};
+use crate::status::{add_births, add_stop};
 use crate::words::{act_words, add_last, add_number, add_stage, add_wish, held_left, put};
 use init_words::{Act, ChildNumber, Id, OrderKind, Stage};
 use std::alloc::{AllocError, Allocator, Global};
-use trace_view::{Births, Ending, Excluded, Row, TraceView, Why, Wish};
+use trace_view::{Births, Ending, Excluded, LastLines, Row, TraceView, Why, Wish};
 
-/// Why an id isn't started next, in a line, with the line at fault of the trace of this name, where there is one; and in
-/// another what to do.
+/// An id that isn't started next, with the line of the trace at fault, where there is one.
+#[derive(Clone, Copy)]
+struct Link {
+    id: Id,
+    line: Option<u64>,
+}
+
+/// An id that isn't started next, and the one that keeps it back at the last.
+#[derive(Clone, Copy)]
+pub struct Chain {
+    asked: Link,
+    root: Link,
+}
+
+/// The id that keeps an id back: the one that init waits for, which waits for none before it; else itself.
+fn root_of(id: Id, why: Why) -> Id
+    ensures { result ≡ root_of id why }
+{
+    match why {
+        Why::StageOwed(awaited) => awaited,
+        Why::EarlierOwed(earlier) => earlier,
+        _ => id,
+    }
+}
+
+/// The id whose child is stopped before an id is started: the one that has to end first; else itself.
+fn stopped_of(id: Id, why: Why) -> Id
+    ensures { result ≡ stopped_of id why }
+{
+    match why {
+        Why::ExcludedKept(child) => child.id,
+        _ => id,
+    }
+}
+
+fn link_of<A: Allocator>(view: &TraceView<A>, lines: &LastLines, id: Id) -> Link
+    ensures { (past : List Event) → Viewed view.now past → Lined lines.now past
+        → result ≡ link_of id past }
+{
+    Link {
+        id,
+        line: lines.line_at_fault(&id, view.why(&id)),
+    }
+}
+
+/// The id, and what keeps it back, with their lines.
+pub fn chain_of<A: Allocator>(view: &TraceView<A>, lines: &LastLines, id: Id) -> Chain
+    ensures { (past : List Event) → Viewed view.now past → Lined lines.now past
+        → result ≡ chain_of id past }
+{
+    Chain {
+        asked: link_of(view, lines, id),
+        root: link_of(view, lines, root_of(id, view.why(&id))),
+    }
+}
+
+/// Why an id isn't started next, in a line; the same of the one that keeps it back; and in another what to do. Lines are
+/// those of the trace of this name.
 pub fn why_lines<A: Allocator>(
     alloc: Global,
     view: &TraceView<A>,
-    id: &Id,
     name: &[u8],
-    line: Option<u64>,
+    chain: &Chain,
 ) -> Result<Vec<u8>, AllocError>
     ensures { IfOk result (λ text. (past : List Event) → Viewed view.now past
-        → text.items ≡ why_text id.now name.now line past) }
+        → text.items ≡ why_text name.now chain.now past) }
 {
     let mut text = Vec::new(alloc);
-    let stage = view.stage();
-    let now = view.time();
-    let row = view.row(id);
-    add_why(&mut text, stage, now, id, &row, name, line)?;
+    add_asked(&mut text, view, name, chain)?;
+    add_link(&mut text, view, name, &chain.root)?;
+    add_advice(&mut text, view, &chain.root.id)?;
     Ok(text)
+}
+
+/// Adds the line of the id that is asked for, where another one keeps it back.
+fn add_asked<A: Allocator>(
+    text: &mut Vec<u8>,
+    view: &TraceView<A>,
+    name: &[u8],
+    chain: &Chain,
+) -> Result<(), AllocError>
+    ensures { OnOk result ((past : List Event) → Viewed view.now past
+        → text.new.items ≡ text.old.items ++ asked_text name.now chain.now past) }
+{
+    if chain.asked.id == chain.root.id {
+        return Ok(());
+    }
+    add_link(text, view, name, &chain.asked)
+}
+
+fn add_link<A: Allocator>(
+    text: &mut Vec<u8>,
+    view: &TraceView<A>,
+    name: &[u8],
+    link: &Link,
+) -> Result<(), AllocError>
+    ensures { OnOk result ((past : List Event) → Viewed view.now past
+        → text.new.items ≡ text.old.items ++ link_text name.now link.now past) }
+{
+    let head = read_head(view);
+    let row = view.row(&link.id);
+    let stopped = view.row(&stopped_of(link.id, row.why));
+    add_why(text, &head, name, link, &row, &stopped)?;
+    Ok(())
 }
 
 fn add_why(
     text: &mut Vec<u8>,
-    stage: Option<Stage>,
-    now: u64,
-    id: &Id,
-    row: &Row,
+    head: &Head,
     name: &[u8],
-    line: Option<u64>,
+    link: &Link,
+    row: &Row,
+    stopped: &Row,
 ) -> Result<(), AllocError>
     ensures { OnOk result (text.new.items
-        ≡ text.old.items ++ reason_text stage now id.now row.now name.now line) }
+        ≡ text.old.items ++ link_by head.now name.now link.now row.now stopped.now) }
 {
-    text.extend_from_slice(id.as_bytes())?;
+    text.extend_from_slice(link.id.as_bytes())?;
     text.extend_from_slice(b": ")?;
-    add_reason(text, stage, now, row)?;
-    add_fault(text, name, line)?;
-    text.extend_from_slice(b"\n  ")?;
-    text.extend_from_slice(advice_of(stage, row.act, row.why))?;
-    put(text, b"\n")?;
-    Ok(())
+    add_reason(text, head.stage, head.time, row)?;
+    add_stop(text, head.grace, head.time, stopped.excluded, stopped.term)?;
+    add_fault(text, name, row.why, link.line)?;
+    put(text, b"\n")
 }
 
-/// Adds the line at fault of a trace, where there is one.
-fn add_fault(text: &mut Vec<u8>, name: &[u8], line: Option<u64>) -> Result<(), AllocError>
-    ensures { OnOk result (text.new.items ≡ text.old.items ++ fault_words name.now line) }
+/// Adds the line at fault of a trace, where there is one and a reason is left.
+fn add_fault(text: &mut Vec<u8>, name: &[u8], why: Why, line: Option<u64>) -> Result<(), AllocError>
+    ensures { OnOk result (text.new.items ≡ text.old.items ++ fault_words name.now why line) }
 {
-    let Some(line) = line else { return Ok(()) };
-    text.extend_from_slice(b" (")?;
-    text.extend_from_slice(name)?;
-    add_number(text, b":", line, b")")?;
-    Ok(())
+    match (why, line) {
+        (Why::Nothing, _) | (_, None) => Ok(()),
+        (_, Some(line)) => {
+            text.extend_from_slice(b" (")?;
+            text.extend_from_slice(name)?;
+            add_number(text, b":", line, b")")
+        }
+    }
+}
+
+/// Adds what to do about an id.
+fn add_advice<A: Allocator>(
+    text: &mut Vec<u8>,
+    view: &TraceView<A>,
+    id: &Id,
+) -> Result<(), AllocError>
+    ensures { OnOk result ((past : List Event) → Viewed view.now past
+        → text.new.items ≡ text.old.items ++ advice_text id.now past) }
+{
+    let stage = view.stage();
+    let row = view.row(id);
+    put(text, b"  ")?;
+    put(text, advice_of(stage, row.act, row.why))?;
+    put(text, b"\n")
 }
 
 fn add_reason(
@@ -110,6 +215,27 @@ fn ignores_levels(act: Option<Act>) -> bool
     match act {
         Some(act) => act.ignores_levels(),
         None => false,
+    }
+}
+
+/// Init waits for the end of an entry of the action.
+fn is_waited(act: Option<Act>) -> bool
+    ensures { result ≡ option_map_or waited_by act false }
+{
+    match act {
+        Some(act) => act.is_waited(),
+        None => false,
+    }
+}
+
+/// What to do about a child that runs.
+fn kept_advice(waited: bool) -> &'static [u8]
+    ensures { result.now ≡ kept_advice waited }
+{
+    if waited {
+        b"wait for its end, or end it"
+    } else {
+        b"end the child to have it started anew, where its action says so"
     }
 }
 
@@ -170,14 +296,14 @@ fn advice_of(stage: Option<Stage>, act: Option<Act>, why: Why) -> &'static [u8]
         Why::NoStage => b"wait for stage sysinit",
         Why::RanBefore => b"run it by hand, or boot again",
         Why::StageOver => b"run it by hand, or boot again",
-        Why::StageOwed(_) => b"ask why that one isn't done",
         Why::OtherStage => other_advice(stage, act),
-        Why::ChildKept(_) => b"end the child to have it started anew, where its action says so",
+        Why::ChildKept(_) => kept_advice(is_waited(act)),
         Why::OrderOpen(_) => b"wait for the answer",
         Why::NotCalled => call_advice(),
         Why::WasStarted => again_advice(waits_for_call(act)),
-        Why::EarlierOwed(_) => b"ask why that one isn't done",
-        Why::ExcludedKept(_) => b"wait: init sends TERM, and KILL when the grace is over",
+        Why::StageOwed(_) | Why::EarlierOwed(_) | Why::ExcludedKept(_) => {
+            b"wait: init sends TERM, and KILL when the grace is over"
+        }
         Why::WishStands(_) => b"wait for init's next turn",
         Why::Held(_) => b"see why its children end so soon; telinit q ends the hold",
         Why::WindowFull => b"see why its children end so soon",

@@ -70,7 +70,7 @@ pub fn row_line<A: Allocator>(
     Ok(text)
 }
 
-fn read_head<A: Allocator>(view: &TraceView<A>) -> Head
+pub(crate) fn read_head<A: Allocator>(view: &TraceView<A>) -> Head
     ensures { (past : List Event) → Viewed view.now past → result ≡ head_of past }
 {
     Head {

@@ -88,7 +88,7 @@ pub(crate) fn add_births(
 }
 
 /// Adds how far the stopping of a child has come.
-fn add_stop(
+pub(crate) fn add_stop(
     text: &mut Vec<u8>,
     grace: u64,
     now: u64,
