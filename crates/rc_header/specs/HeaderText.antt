@@ -1,5 +1,5 @@
 -- What a header says, as lists.
-use Rattle.std.specs.Prelude.{ℕ, List}
+use Rattle.std.specs.Prelude.{ℕ, List, []}
 use Rattle.init_words.specs.declared.levels.Level.{Level}
 
 -- the nine fields
@@ -13,3 +13,18 @@ pub record HeaderText : Type 0 where
   pub default_stop : List Level
   pub short_description : List ℕ
   pub description : List ℕ
+
+-- the header of a facility: it provides these names, is in no runlevel, and is there behind some names to start and in
+-- front of others to stop, where they are there
+abbrev pub facility_header : (provides should_start should_stop : List (List ℕ)) → HeaderText
+facility_header provides should_start should_stop = record {
+  provides = provides;
+  required_start = [];
+  required_stop = [];
+  should_start = should_start;
+  should_stop = should_stop;
+  default_start = [];
+  default_stop = [];
+  short_description = [];
+  description = [];
+}

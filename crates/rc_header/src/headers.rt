@@ -5,6 +5,7 @@ ghost use Rattle.std.specs.List.{AllByRecursion};
 ghost use Rattle.std.specs.Str.{IsUtf8};
 ghost use Rattle.text_lines.specs.Lines.{words_of};
 ghost use Rattle.rc_header.specs.Blocks.{block_in};
+ghost use Rattle.rc_header.specs.HeaderText.{facility_header};
 ghost use Rattle.rc_header.specs.Headers.{frame_fault, header_of, header_read, text_at};
 
 use crate::blocks::{begun, has_end};
@@ -111,6 +112,32 @@ impl<A: Allocator> Header<A> {
         ensures { result.now ≡ self.now.description }
     {
         self.description.as_str()
+    }
+}
+
+impl<A: Allocator + Copy> Header<A> {
+    /// The header of a facility: it provides these names, is in no runlevel, and is there behind some names to start and
+    /// in front of others to stop, where they are there.
+    pub fn facility(
+        alloc: A,
+        provides: Vec<String<A>, A>,
+        should_start: Vec<String<A>, A>,
+        should_stop: Vec<String<A>, A>,
+    ) -> Header<A>
+        ensures { result ≡ facility_header (map string_bytes provides.items)
+            (map string_bytes should_start.items) (map string_bytes should_stop.items) }
+    {
+        Header {
+            provides,
+            required_start: Vec::new(alloc),
+            required_stop: Vec::new(alloc),
+            should_start,
+            should_stop,
+            default_start: Vec::new(alloc),
+            default_stop: Vec::new(alloc),
+            short_description: String::new(alloc),
+            description: String::new(alloc),
+        }
     }
 }
 

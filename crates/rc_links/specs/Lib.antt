@@ -1,3 +1,4 @@
+pub mod AllLast
 pub mod ChangeText
 pub mod Changes
 pub mod Entries

@@ -2,6 +2,7 @@
 //! cycle of names that rules numbers out (LSB Core 5.0), and the links of the runlevels' folders.
 #![tactic(auto)]
 
+mod all_last;
 mod changing;
 mod faults;
 mod folder_entries;
@@ -15,6 +16,7 @@ mod printing;
 mod scripts;
 mod tables;
 
+pub use all_last::add_all;
 pub use changing::{changes, is_taken};
 pub use faults::PlanFault;
 pub use folder_entries::{FolderEntry, is_same};

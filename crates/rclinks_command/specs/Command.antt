@@ -5,6 +5,7 @@ use Rattle.std.specs.Io.KnownBytes.{Appends}
 use Rattle.std.specs.declared.alloc.Global.{Global}
 use Rattle.program_io.specs.Writing.{AppendsPrefix}
 use Rattle.program_io.specs.Known.{KnownTexts}
+use Rattle.rc_links.specs.AllLast.{with_all}
 use Rattle.rc_links.specs.Links.{plan_text}
 use Rattle.rc_links.specs.PlannedText.{PlannedText}
 use Rattle.rc_links.specs.Plans.{IsPlan, IsRefused}
@@ -41,13 +42,14 @@ HasRefused text_at paths = (before later : List (List ℕ)) × (path : List ℕ)
     × ((scripts : List ScriptText) × AreScripts text_at before scripts)
     × (found : FileFault) × IsNoScriptAt text_at path found × (file_status found ≡ 1)
 
--- what words ask for: that all faults are told, that scripts which can't be read or planned are left out, that changes
--- of folders are printed and not made, that no facility file is read that is not among the files, that the runlevels of
--- links that are there are kept, that links are taken away whose script is gone, the directory of the folders that are
--- written, and the paths of the files
+-- what words ask for: that all faults are told, that scripts which can't be read or planned are left out, that those which
+-- name `$all` come last, that changes of folders are printed and not made, that no facility file is read that is not among
+-- the files, that the runlevels of links that are there are kept, that links are taken away whose script is gone, the
+-- directory of the folders that are written, and the paths of the files
 pub record Line : Type 0 where
   pub all : Bool
   pub skips : Bool
+  pub last : Bool
   pub dry : Bool
   pub bare : Bool
   pub keeps : Bool
@@ -67,6 +69,7 @@ abbrev pub asked_by : List Row → Line
 asked_by rows = record {
   all = is_set (codes "--all") rows;
   skips = is_set (codes "--skip") rows;
+  last = is_set (codes "--all-last") rows;
   dry = is_set (codes "-n") rows;
   bare = is_set (codes "--no-facilities") rows;
   keeps = is_set (codes "--keep") rows;
@@ -89,16 +92,17 @@ line_with facilities line =
     record line { files = files_with facilities (is_some line.dir && not line.bare) line.files }
 
 -- scripts that have this are those of all of the files; or those of the files that give one, without some of them, each
--- left out since there was no plan with it
-abbrev pub ScriptsOf : KnownTexts → Bool → List (List ℕ) → (List ScriptText → Type 0) → Type 0
-ScriptsOf text_at false paths P = (scripts : List ScriptText) × AreScripts text_at paths scripts × P scripts
-ScriptsOf text_at true paths P = (read rest : List ScriptText) × (faults : List FileFault)
-    × Reads text_at paths read faults × LeavesSome read rest × P rest
+-- left out since there was no plan with it; both with the facility `$all` where what names it comes last
+abbrev pub ScriptsOf : KnownTexts → (skips last : Bool) → List (List ℕ) → (List ScriptText → Type 0) → Type 0
+ScriptsOf text_at false last paths P =
+    (scripts : List ScriptText) × AreScripts text_at paths scripts × P (with_all last scripts)
+ScriptsOf text_at true last paths P = (read rest : List ScriptText) × (faults : List FileFault)
+    × Reads text_at paths read faults × LeavesSome (with_all last read) rest × P rest
 
 -- a plan of such scripts has this
 abbrev pub PlanOf : KnownTexts → Line → (List PlannedText → Type 0) → Type 0
 PlanOf text_at line P =
-    ScriptsOf text_at line.skips line.files (λ scripts. (plan : List PlannedText) × IsPlan scripts plan × P plan)
+    ScriptsOf text_at line.skips line.last line.files (λ scripts. (plan : List PlannedText) × IsPlan scripts plan × P plan)
 
 -- the folders of a directory are written
 abbrev pub writes : Line → Bool
@@ -154,15 +158,15 @@ TakenBy (Some dir) line scripts before plan =
     InFolders line.keeps before dir plan (IsTaken before scripts line.prunes dir)
 
 -- why a run over these files is refused: a file is, or the scripts have no plan
-abbrev pub IsRefusedFor : KnownTexts → Bool → List (List ℕ) → Type 0
-IsRefusedFor text_at skips paths = HasRefused text_at paths ⊎ ScriptsOf text_at skips paths HasNoPlan
+abbrev pub IsRefusedFor : KnownTexts → (skips last : Bool) → List (List ℕ) → Type 0
+IsRefusedFor text_at skips last paths = HasRefused text_at paths ⊎ ScriptsOf text_at skips last paths HasNoPlan
 
 -- why a run on these files is refused: it is refused for them, or a name is taken
 abbrev pub IsRefusedBy : KnownTexts → Line → KnownScripts → KnownFolders → Type 0
 IsRefusedBy text_at line scripts before =
-    IsRefusedFor text_at line.skips line.files ⊎ PlanOf text_at line (TakenBy line.dir line scripts before)
+    IsRefusedFor text_at line.skips line.last line.files ⊎ PlanOf text_at line (TakenBy line.dir line scripts before)
 
 -- the report of a run that is refused for a file or the plan; or a name is taken
 abbrev pub TellsRefused : KnownTexts → Line → KnownScripts → KnownFolders → Option (List ℕ) → Option (List ℕ) → Type 0
 TellsRefused text_at line scripts before old new =
-    ReportsRefused text_at line.files old new ⊎ PlanOf text_at line (TakenBy line.dir line scripts before)
+    ReportsRefused text_at line.last line.files old new ⊎ PlanOf text_at line (TakenBy line.dir line scripts before)

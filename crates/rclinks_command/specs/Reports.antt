@@ -1,9 +1,10 @@
 -- What a refused run reports: warnings, and then why, in a line that others say more of.
-use Rattle.std.specs.Prelude.{◌≡◌, ◌⊎◌, ℕ, List, [], ◌∷◌, ◌++◌, Option, codes}
+use Rattle.std.specs.Prelude.{◌≡◌, ◌⊎◌, ℕ, Bool, List, [], ◌∷◌, ◌++◌, Option, codes}
 use Rattle.std.specs.Io.KnownBytes.{Appends}
 use Rattle.std.specs.declared.alloc.Global.{Global}
 use Rattle.program_io.specs.Known.{KnownTexts}
 use Rattle.program_io.specs.Writing.{AppendsPrefix}
+use Rattle.rc_links.specs.AllLast.{with_all}
 use Rattle.rc_links.specs.FaultTexts.{fault_text}
 use Rattle.rc_links.specs.Plans.{IsRefused}
 use Rattle.rc_links.specs.ScriptText.{ScriptText}
@@ -63,6 +64,6 @@ abbrev pub ReportsPlan : List ScriptText → Option (List ℕ) → Option (List 
 ReportsPlan scripts old new = (mid : Option (List ℕ)) × Warns old mid × TellsPlan scripts mid new
 
 -- the same of the scripts of files
-abbrev pub ReportsRefused : KnownTexts → List (List ℕ) → Option (List ℕ) → Option (List ℕ) → Type 0
-ReportsRefused text_at paths old new = ReportsFile text_at paths old new
-    ⊎ (scripts : List ScriptText) × AreScripts text_at paths scripts × ReportsPlan scripts old new
+abbrev pub ReportsRefused : KnownTexts → Bool → List (List ℕ) → Option (List ℕ) → Option (List ℕ) → Type 0
+ReportsRefused text_at last paths old new = ReportsFile text_at paths old new
+    ⊎ (scripts : List ScriptText) × AreScripts text_at paths scripts × ReportsPlan (with_all last scripts) old new

@@ -8,6 +8,7 @@ abbrev pub line_said : Line → command.Line
 line_said line = record {
   all = line.all;
   skips = line.skips;
+  last = line.last;
   dry = line.dry;
   bare = line.bare;
   keeps = line.keeps;

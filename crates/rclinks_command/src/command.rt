@@ -1,12 +1,13 @@
 //! The command line of rclinks, and what it prints.
 
-ghost use Rattle.std.specs.Prelude.{◌≡◌, ◌⊎◌, true, false, codes, map, string_bytes, IfOk, IfErr, IsSome, Some, None};
+ghost use Rattle.std.specs.Prelude.{◌≡◌, ◌⊎◌, true, false, codes, map, string_bytes, IfOk, IfErr, OnOk, IsSome, Some, None};
 ghost use Rattle.std.specs.Io.KnownBytes.{Appends};
 ghost use Rattle.clap.specs.Words.{found_of, rows_of};
 ghost use Rattle.program_io.specs.Writing.{AppendsPrefix};
 ghost use Rattle.command_words.specs.CommandLines.{asks_version, given_by};
 ghost use Rattle.command_words.specs.Faults.{ReportsUsage, reason_of};
 ghost use Rattle.command_words.specs.VersionLine.{PrintsVersion};
+ghost use Rattle.rc_links.specs.AllLast.{with_all};
 ghost use Rattle.rc_links.specs.Links.{plan_text};
 ghost use Rattle.rc_links.specs.Plans.{IsPlan};
 ghost use Rattle.rclinks_command.specs.Said.{line_said};
@@ -29,17 +30,19 @@ use command_words::{
     Row, WordFault, is_set, is_version, print_version, read_line, report_word_fault, word_of,
     words_of,
 };
+use init_words::Memory;
 use program_io::{DEVICE_FAULT, DONE, REFUSED, Texts, report_no_memory, write_text};
-use rc_links::{Plan, PlanFault, Script, plan};
+use rc_links::{Plan, PlanFault, Script, add_all, plan};
 use std::alloc::{AllocError, Global};
 use std::io::Write;
 
 /// What is told where help is asked for.
 pub const USAGE: &str =
-    "usage: rclinks [--all] [--skip] [--write DIR [-n] [--keep] [--prune] [--no-facilities]] FILE..
+    "usage: rclinks [--all] [--skip] [--all-last] [--write DIR [-n] [--keep] [--prune] [--no-facilities]] FILE..
        rclinks --version
   --all        tell all faults, and not the first alone
   --skip       leave out the scripts that can't be read or planned, and plan the others
+  --all-last   put what needs $all behind all others, and stop what names it before them
   --write DIR  make the links in DIR, in rc0.d to rc9.d and rcS.d, and take away the scripts' other numbered links;
                the facility files that are installed are read in front of the scripts
   -n           print what --write would do, and change nothing
@@ -51,7 +54,7 @@ pub const USAGE: &str =
 
 /// What is told of words that are no command line, behind a line that says why.
 pub const SHORT_USAGE: &str =
-    "usage: rclinks [--all] [--skip] [--write DIR [-n] [--keep] [--prune] [--no-facilities]] FILE.. | --help\n";
+    "usage: rclinks [--all] [--skip] [--all-last] [--write DIR [-n] [--keep] [--prune] [--no-facilities]] FILE.. | --help\n";
 
 /// What words ask for.
 #[derive(Clone, Copy)]
@@ -60,6 +63,8 @@ struct Line<'w> {
     all: bool,
     /// A script that can't be read or planned is left out.
     skips: bool,
+    /// A script that names `$all` comes last.
+    last: bool,
     /// Changes of folders are printed, and not made.
     dry: bool,
     /// No facility file is read that is not among the files.
@@ -87,6 +92,7 @@ impl<'w> Line<'w> {
 const OPTIONS: &[Row] = &[
     ("--all", "", ""),
     ("--skip", "", ""),
+    ("--all-last", "", ""),
     ("--write", "DIR", ""),
     ("-n", "", ""),
     ("--keep", "", ""),
@@ -114,6 +120,7 @@ fn line_of<'w>(matches: &'w ArgMatches, files: &'w [String]) -> Line<'w>
     Line {
         all: is_set(matches, "--all"),
         skips: is_set(matches, "--skip"),
+        last: is_set(matches, "--all-last"),
         dry: is_set(matches, "-n"),
         bare: is_set(matches, "--no-facilities"),
         keeps: is_set(matches, "--keep"),
@@ -247,6 +254,22 @@ fn refuse_file<'w, E: Write>(
     fault.status()
 }
 
+/// Puts the facility `$all` in front of the scripts where those that name it come last.
+fn add_last<'w>(
+    alloc: Global,
+    last: bool,
+    scripts: &mut Vec<Script>,
+    paths: &mut Vec<&'w str>,
+) -> Result<(), Memory>
+    ensures { OnOk result (scripts.new.items ≡ with_all last scripts.old.items) }
+{
+    if last {
+        add_all(alloc, scripts)?;
+        paths.insert(0, "--all-last")?;
+    }
+    Ok(())
+}
+
 /// The plan of the files' scripts; the exit status where a file or the plan is refused, a file can't be read or memory
 /// runs out, which is told.
 fn plan_of<T: Texts, E: Write>(
@@ -256,12 +279,12 @@ fn plan_of<T: Texts, E: Write>(
     err: &mut E,
 ) -> Result<Plan, u8>
     ensures planned { IfOk result (λ plan. ScriptsOf (T.text_at texts.now) line.now.skips
-        (map string_bytes line.now.files.now) (λ scripts. IsPlan scripts plan)) }
+        line.now.last (map string_bytes line.now.files.now) (λ scripts. IsPlan scripts plan)) }
     ensures refused { IfErr result (λ status. (status ≡ DEVICE_FAULT)
-        ⊎ (status ≡ REFUSED) × IsRefusedFor (T.text_at texts.now) line.now.skips
+        ⊎ (status ≡ REFUSED) × IsRefusedFor (T.text_at texts.now) line.now.skips line.now.last
         (map string_bytes line.now.files.now)) }
     ensures told { goes_on (line_said line.now) ≡ false → IfErr result (λ status. status ≡ REFUSED
-        → ReportsRefused (T.text_at texts.now) (map string_bytes line.now.files.now)
+        → ReportsRefused (T.text_at texts.now) line.now.last (map string_bytes line.now.files.now)
         (E.contents err.old) (E.contents err.new)) }
 {
     let mut scripts = Vec::new(alloc);
@@ -279,6 +302,9 @@ fn plan_of<T: Texts, E: Write>(
     let Ok(faults) = read else {
         return Err(report_no_memory("rclinks", err));
     };
+    if add_last(alloc, line.last, &mut scripts, &mut paths).is_err() {
+        return Err(report_no_memory("rclinks", err));
+    }
     if line.skips {
         return plan_left(alloc, &mut scripts, &mut paths, err);
     }
@@ -479,17 +505,18 @@ fn run_matches<T: Texts, F: LinkFolders, W: Write, E: Write>(
     }
 }
 
-/// Runs rclinks on its words, options and the paths of init scripts, and gives its exit status: 0 where their links were
-/// printed on `out`, or the version, where the one word is `--version`; 1 where the words are no command line, where a
-/// script's name or header or the plan is refused, or where a name of a link is taken; 4 where a file can't be read, a
-/// folder can't be listed or changed, the output fails or memory runs out. The first fault ends the run, and is told on
-/// `err`; with `--all` all faults are told there, and the status is that of the first. With `--skip` a script that can't
-/// be read or planned is left out. With `--write DIR` the links are not printed but made in the folders of a directory,
-/// and numbered links of the scripts that the plan doesn't have are taken away; with `-n` besides what would be changed
-/// is printed, and nothing is changed. With `--keep` besides a script that has numbered links there stays in their
-/// runlevels, and with `--prune` those are taken away whose script `init.d` of the directory hasn't. With `--write`, and
-/// without `--no-facilities`, the facility files are read in front of the scripts, but for those whose name a script
-/// has. What is odd in a header is told on `err` too, whatever the status.
+/// Runs rclinks on its words, options and the paths of init scripts, and gives its exit status: 0 where their links
+/// were printed on `out`, or the version, where the one word is `--version`; 1 where the words are no command line,
+/// where a script's name or header or the plan is refused, or where a name of a link is taken; 4 where a file can't be
+/// read, a folder can't be listed or changed, the output fails or memory runs out. The first fault ends the run, and is
+/// told on `err`; with `--all` all faults are told there, and the status is that of the first. With `--skip` a script
+/// that can't be read or planned is left out. With `--all-last` a script that names `$all` comes last. With `--write
+/// DIR` the links are not printed but made in the folders of a directory, and numbered links of the scripts that the
+/// plan doesn't have are taken away; with `-n` besides what would be changed is printed, and nothing is changed. With
+/// `--keep` besides a script that has numbered links there stays in their runlevels, and with `--prune` those are taken
+/// away whose script `init.d` of the directory hasn't. With `--write`, and without `--no-facilities`, the facility
+/// files are read in front of the scripts, but for those whose name a script has. What is odd in a header is told on
+/// `err` too, whatever the status.
 pub fn run_words<T: Texts, F: LinkFolders, W: Write, E: Write>(
     texts: &T,
     folders: &mut F,

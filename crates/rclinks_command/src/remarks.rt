@@ -92,7 +92,7 @@ fn odd_level(word: &[u8]) -> Option<&'static str> {
     }
 }
 
-/// Warns of what is odd in a header that was read: a runlevel in both lists, and `$all`.
+/// Warns of the runlevels that stand in both lists of a header that was read.
 pub(crate) fn warn_of_header<E: Write>(alloc: Global, path: &str, header: &Header, err: &mut E)
     ensures { Warns (E.contents err.old) (E.contents err.new) }
 {
@@ -109,19 +109,6 @@ fn tell_odd_header<E: Write>(path: &str, header: &Header, odd: &mut E) {
                 odd,
                 "{path}: runlevel {code} stands in Default-Start and Default-Stop"
             );
-        }
-    }
-    tell_all_name(path, "Required-Start", header.required_start(), odd);
-    tell_all_name(path, "Should-Start", header.should_start(), odd);
-    tell_all_name(path, "Required-Stop", header.required_stop(), odd);
-    tell_all_name(path, "Should-Stop", header.should_stop(), odd);
-}
-
-/// Tells `$all` among the names of a keyword.
-fn tell_all_name<E: Write>(path: &str, keyword: &str, names: &[String], odd: &mut E) {
-    for name in names {
-        if name.as_str() == "$all" {
-            let _ = writeln!(odd, "{path}: {keyword} names $all, which orders nothing");
         }
     }
 }

@@ -4,6 +4,7 @@ ghost use Rattle.rclinks_command.specs.Reports.{Warns};
 
 use crate::faulty::{has_name, is_provided};
 use crate::lines::tell_lines;
+use rc_header::Header;
 use rc_links::{PlanFault, Script};
 use std::alloc::Global;
 use std::io::Write;
@@ -272,6 +273,26 @@ fn tell_system_names<E: Write>(scripts: &[Script], paths: &[&str], odd: &mut E) 
         let path = path_at(paths, place);
         tell_system(header.required_start(), path, scripts, place, odd);
         tell_system(header.should_start(), path, scripts, place, odd);
+        if !is_provided(scripts, "$all") {
+            tell_all(header, path, odd);
+        }
+    }
+}
+
+/// Tells the keywords of a script that name `$all`.
+fn tell_all<E: Write>(header: &Header, path: &str, odd: &mut E) {
+    tell_all_name(header.required_start(), path, "Required-Start", odd);
+    tell_all_name(header.should_start(), path, "Should-Start", odd);
+    tell_all_name(header.required_stop(), path, "Required-Stop", odd);
+    tell_all_name(header.should_stop(), path, "Should-Stop", odd);
+}
+
+fn tell_all_name<E: Write>(names: &[String], path: &str, keyword: &str, odd: &mut E) {
+    if has_name("$all", names) {
+        let _ = writeln!(
+            odd,
+            "{path}: {keyword} names $all, which orders nothing without --all-last"
+        );
     }
 }
 

@@ -8,7 +8,7 @@ use core_records::{Record, Records};
 use init_words::{Act, Id, Level, Refusal};
 use linked_list_allocator::LocalHeap;
 use std::alloc::Global;
-use test_support::fill;
+use test_support::{Outcome, fill, refusals};
 
 /// A run up to an adoption, what is so where that is refused, and what comes of it where it is made.
 struct Scarce<'a> {
@@ -163,21 +163,13 @@ fn has_room(own: Global, heap: &LocalHeap, what: &str) -> Option<bool> {
     }
 }
 
-/// How many heaps, each with less more room than the least growth takes, have none for this until one has.
-fn refusals(own: Global, what: &str) -> Option<usize> {
-    for step in 0..1600usize {
-        let heap = LocalHeap::new(own, 16 * step).ok()?;
-        if has_room(own, &heap, what)? {
-            return Some(step);
-        }
-    }
-    None
-}
-
 #[test]
 fn what_has_no_room_is_not_made(rt: HostRuntime) {
     for what in ["core", "records", "rebuilt"] {
-        let refused = refusals(rt.alloc(), what);
+        let refused = refusals(
+            rt.alloc(),
+            |own, heap| has_room(own, heap, what).map(Outcome::of),
+        );
         assert!(rt; refused > Some(3), "{what}: {refused:?}");
     }
 }

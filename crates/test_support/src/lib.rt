@@ -4,12 +4,14 @@
 
 mod again;
 mod boxes;
+mod growths;
 mod heaps;
 mod words;
 mod writers;
 
 pub use again::{Again, NOWHERE, SYSTEM, is_again, is_line, is_said};
 pub use boxes::boxed;
+pub use growths::{Outcome, refusals};
 pub use heaps::fill;
 pub use words::{line_words, words_of};
 pub use writers::Slow;

@@ -8,7 +8,7 @@ use initview_timeline::Marks;
 use linked_list_allocator::LocalHeap;
 use simulator::{SimFault, Untold, simulate};
 use std::alloc::{AllocError, Global};
-use test_support::{Slow, boxed};
+use test_support::{Outcome, Slow, boxed, refusals};
 use trace_check::Law;
 use trace_events::happening_copy;
 use trace_log::{ListLog, StreamLog};
@@ -160,27 +160,19 @@ fn lists(own: Global, heap: &LocalHeap) -> Option<bool> {
     (BRIEF.starts_with(&text) && all == (text.len() == BRIEF.len())).then_some(all)
 }
 
-/// How many heaps, each with less more room than the least growth takes, have none for this until one has; None where
-/// something else is answered on one.
-fn refusals(own: Global, what: &str) -> Option<usize> {
-    for refused in 0..8192usize {
-        let heap = LocalHeap::new(own, 16 * refused).ok()?;
-        let has_room = match what {
-            "run" => is_run(own, &heap),
-            "print" => prints(own, &heap),
-            "copy" => copies(own, &heap),
-            "read" => reads(own, &heap),
-            "check" => checks(own, &heap),
-            "judge" => judges(own, &heap),
-            "lines" => are_lines_seen(own, &heap),
-            "marks" => are_marks_seen(own, &heap),
-            _ => lists(own, &heap),
-        };
-        if has_room? {
-            return Some(refused);
-        }
+/// Whether this has room on a heap; None where something else is answered.
+fn has_room(own: Global, heap: &LocalHeap, what: &str) -> Option<bool> {
+    match what {
+        "run" => is_run(own, heap),
+        "print" => prints(own, heap),
+        "copy" => copies(own, heap),
+        "read" => reads(own, heap),
+        "check" => checks(own, heap),
+        "judge" => judges(own, heap),
+        "lines" => are_lines_seen(own, heap),
+        "marks" => are_marks_seen(own, heap),
+        _ => lists(own, heap),
     }
-    None
 }
 
 /// What needs room, and how many heaps at least have none for it.
@@ -199,7 +191,10 @@ const REFUSED: &[(&str, usize)] = &[
 #[test]
 fn what_has_no_room_is_refused(rt: HostRuntime) {
     for (what, least) in REFUSED {
-        let refused = refusals(rt.alloc(), what);
+        let refused = refusals(
+            rt.alloc(),
+            |own, heap| has_room(own, heap, what).map(Outcome::of),
+        );
         assert!(rt; refused > Some(*least), "{what}: {refused:?}");
     }
 }

@@ -1,9 +1,11 @@
-//! Tests of a scripted host, and of init's turns over it: worked runs, requests in pieces, late answers, and each call that
-//! fails.
+//! Tests of init's turns over a scripted host: worked runs, requests in pieces, late answers, and each call that fails; and
+//! of the hosts themselves, also over the operating system, of which the rest is tools/pages.d.
 #![tactic(auto)]
 
 #[cfg(test)]
 mod log_tests;
+#[cfg(test)]
+mod os_hosts;
 #[cfg(test)]
 mod replies;
 #[cfg(test)]
@@ -16,3 +18,5 @@ mod run_tests;
 mod runs;
 #[cfg(test)]
 mod scripted_tests;
+#[cfg(test)]
+mod test_hosts;

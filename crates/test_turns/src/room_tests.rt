@@ -11,7 +11,7 @@ use init_words::Memory;
 use inittab_text::Table;
 use linked_list_allocator::LocalHeap;
 use std::alloc::Global;
-use test_support::{boxed, fill};
+use test_support::{Outcome, boxed, fill, refusals};
 use trace_log::ListLog;
 
 /// The run is as it says where the host has no room left to tell a call.
@@ -89,16 +89,6 @@ fn is_made(own: Global, bench: &Scene, text: &[u8], want: (&str, usize)) -> Opti
             && bench.core.table().len() == want.1
             && bench.core.slots().len() == want.1,
     )
-}
-
-/// What became of what was asked where there is little room.
-#[derive(Clone, Copy, PartialEq, Eq)]
-enum Outcome {
-    /// There was no room to make the call.
-    Unmade,
-    /// It was made, and there was no room for what it gave.
-    Refused,
-    Done,
 }
 
 fn outcome_of(own: Global, bench: &Scene, text: &[u8], scarce: &Scarce) -> Option<Outcome> {
@@ -209,21 +199,12 @@ fn opens(own: Global, heap: &LocalHeap) -> Option<bool> {
     Some(opening_of(own, heap, table).is_ok())
 }
 
-/// How many heaps, each with less more room than the least growth takes, have none for this until one has; None where
-/// something else is said on one.
-fn refusals(own: Global, what: &str) -> Option<usize> {
-    for step in 0..4096usize {
-        let heap = LocalHeap::new(own, 16 * step).ok()?;
-        let is_whole = match what {
-            "opening" => opens(own, &heap)?,
-            "table lacks" | "carry lacks" => has_room(own, &heap, what)?,
-            _ => is_whole(own, &heap, what)?,
-        };
-        if is_whole {
-            return Some(step);
-        }
+fn has_room_for(own: Global, heap: &LocalHeap, what: &str) -> Option<bool> {
+    match what {
+        "opening" => opens(own, heap),
+        "table lacks" | "carry lacks" => has_room(own, heap, what),
+        _ => is_whole(own, heap, what),
     }
-    None
 }
 
 /// What needs room, and how many heaps at least have none for it. Notes that can't grow say so, and keep nothing from the
@@ -240,7 +221,9 @@ const REFUSED: &[(&str, usize)] = &[
 #[test]
 fn what_has_no_room_is_refused(rt: HostRuntime) {
     for (what, least) in REFUSED {
-        let refused = refusals(rt.alloc(), what);
+        let refused = refusals(rt.alloc(), |own, heap| {
+            has_room_for(own, heap, what).map(Outcome::of)
+        });
         assert!(rt; refused > Some(*least), "{what}: {refused:?}");
     }
     assert!(rt; is_untold(rt.alloc()) == Some(true), "calls");

@@ -1,26 +1,20 @@
-//! Growths are refused in turn, on heaps of more and more room: what is answered is lack of memory. With room each call
-//! gives what it has to.
+//! Growths are refused in turn, on heaps of more and more room: what is answered is lack of memory, and what was written
+//! is a front of the lines. With room each call gives what it has to.
 
+use crate::hosts::given_host;
+use crate::order_tests::rc_over;
+use crate::run_tests::PLAIN;
 use crate::texts::{END, NET, NINE, SHOWN_NINE, header_of, joined, scripts_of, shown};
 use init_words::{Level, Memory};
 use linked_list_allocator::LocalHeap;
 use program_io::{KeptTexts, Texts};
+use rc_driver::{Arg, Passage, RcStep, RunEnd, RunWay, run_links};
 use rc_header::HeaderFault;
 use rc_links::{Folder, FolderEntry, LinkChange, Plan, PlanFault, Script};
 use std::alloc::{Allocator, Global};
 use std::io::ErrorKind;
-use test_support::boxed;
-
-/// What comes of a call on a heap.
-#[derive(Clone, Copy, PartialEq, Eq)]
-enum Outcome {
-    /// There was no room for what it is called with.
-    Unmade,
-    Refused,
-    Done,
-}
-
-use Outcome::{Done, Refused, Unmade};
+use test_support::Outcome::{self, Done, Refused, Unmade};
+use test_support::{boxed, line_words, refusals};
 
 fn read_header(own: Global, heap: &LocalHeap) -> Option<Outcome> {
     let text = joined(own, &[NINE, END]).ok()?;
@@ -66,6 +60,18 @@ fn plan(own: Global, heap: &LocalHeap, is_printed: bool) -> Option<Outcome> {
         Err(PlanFault::Memory) if is_printed => Some(Unmade),
         Err(why) => matches!(why, PlanFault::Memory).then_some(Refused),
     }
+}
+
+/// The facility `$all` is put in front of the scripts. Where there is no room for it, they stay.
+fn add_all(heap: &LocalHeap) -> Option<Outcome> {
+    let Some(mut scripts) = scripts_of(heap) else {
+        return Some(Unmade);
+    };
+    let is_added = rc_links::add_all(heap, &mut scripts).is_ok();
+    let first = if is_added { "$all" } else { "web" };
+    let count = if is_added { 3 } else { 2 };
+    let is_right = scripts.len() == count && scripts.first()?.name() == first;
+    is_right.then_some(Outcome::of(is_added))
 }
 
 /// One entry; None where there is no room for it.
@@ -125,30 +131,62 @@ fn read_kept(own: Global, heap: &LocalHeap) -> Option<Outcome> {
     }
 }
 
+const WAY: RunWay = RunWay {
+    levels: Some(Passage {
+        before: Some(Level::L2),
+        new: Level::L3,
+    }),
+    ..PLAIN
+};
+
+const LINES: &[u8] = b"K05c stop exit 0\nS10a start exit 0\nS20b start exit 0\n";
+
+/// Whether scripts that all end with 0 have room to run on a heap; where they have none, what was written is a front of
+/// the lines. None where anything else is so.
+fn is_run(own: Global, heap: &LocalHeap) -> Option<bool> {
+    let new = line_words(own, "S10a S20b K05c").ok()?;
+    let mut rc = rc_over(own, own, "", &[], &new).ok()?;
+    let mut host = given_host(own, "bbb/eee//")?;
+    let (mut out, mut err) = (Vec::<u8>::new(own), Vec::<u8>::new(own));
+    let end = run_links(
+        heap,
+        &mut rc,
+        &mut *host,
+        WAY,
+        "etc/rc3.d",
+        9,
+        &mut out,
+        &mut err,
+    );
+    if end == RunEnd::Done {
+        return (out.as_slice() == LINES && rc.next() == RcStep::Done).then_some(true);
+    }
+    (end == RunEnd::Memory && LINES.starts_with(&out)).then_some(false)
+}
+
+/// Whether the scripts of a change of level have room on a heap to be listed.
+fn is_listed(own: Global, heap: &LocalHeap, change: &str, previous: &str) -> Option<bool> {
+    let previous = line_words(own, previous).ok()?;
+    let new = line_words(own, "S10a S20b K05c K70d").ok()?;
+    match rc_over(own, heap, change, &previous, &new) {
+        Ok(mut rc) => (rc.next() == RcStep::Run("K05c", Arg::Stop)).then_some(true),
+        Err(_) => Some(false),
+    }
+}
+
 fn outcome_on(own: Global, heap: &LocalHeap, what: &str) -> Option<Outcome> {
     match what {
         "header" => read_header(own, heap),
         "plan" => plan(own, heap, false),
         "print" => plan(own, heap, true),
+        "all" => add_all(heap),
         "changes" => change(heap),
         "keep" => keep(own, heap),
-        _ => read_kept(own, heap),
+        "read" => read_kept(own, heap),
+        "run" => is_run(own, heap).map(Outcome::of),
+        "sysv" => is_listed(own, heap, "23", "S10a K30d").map(Outcome::of),
+        _ => is_listed(own, heap, "", "S10a S30d").map(Outcome::of),
     }
-}
-
-/// On how many heaps it is refused, each with less more room than the least growth takes, before the first on which it
-/// is done; None where anything else comes of it.
-fn refusals(own: Global, what: &str) -> Option<usize> {
-    let mut refused = 0usize;
-    for step in 4..8192usize {
-        let heap = LocalHeap::new(own, 16 * step).ok()?;
-        match outcome_on(own, &heap, what)? {
-            Unmade => {}
-            Refused => refused = refused.wrapping_add(1),
-            Done => return Some(refused),
-        }
-    }
-    None
 }
 
 /// What needs room, and on how many heaps at least it has none.
@@ -156,15 +194,19 @@ const REFUSED: &[(&str, usize)] = &[
     ("header", 4),
     ("plan", 4),
     ("print", 1),
+    ("all", 3),
     ("changes", 3),
     ("keep", 3),
     ("read", 1),
+    ("run", 2),
+    ("list", 2),
+    ("sysv", 2),
 ];
 
 #[test]
 fn what_has_no_room_is_refused(rt: HostRuntime) {
     for (what, least) in REFUSED {
-        let refused = refusals(rt.alloc(), what);
+        let refused = refusals(rt.alloc(), |own, heap| outcome_on(own, heap, what));
         assert!(rt; refused > Some(*least), "{what}: {refused:?}");
     }
 }

@@ -1,7 +1,7 @@
 //! What is written of a core, and the values that a text is read as.
 
-use crate::cores::{is_text, opened, parts_of};
-use crate::run_tests::{STARTED_TABLE, STARTS, does};
+use crate::handed::{is_text, opened, parts_of};
+use crate::handover_tests::{STARTED_TABLE, STARTS, does};
 use crate::texts::{STARTED_OLD, text_of};
 use core_model::{CoreFields, News, Parts, PlainRecord};
 use core_records::Stop;

@@ -1,7 +1,7 @@
 //! Lines of texts are replaced by others, and the texts are taken over or refused; so are whole texts, and tables of
 //! many entries.
 
-use crate::cores::is_answered;
+use crate::handed::is_answered;
 use crate::texts::{ENDED, OPENING, SETTLED, STARTED, STARTED_OLD, text_of};
 use core_text::StateFault::{self, Cut, Generation, Line, Unfit, Version};
 use core_text::generation_of;

@@ -1,6 +1,7 @@
 //! Runs of rclinks over texts and folders that are kept in memory, and over writers that fail. Other command lines, and
 //! those over folders of the system: tools/pages.d/rclinks-lines and rclinks.
 
+use crate::hosts::fields_of;
 use crate::texts::NET;
 use command_words::{KIT, VERSION};
 use init_words::Level;
@@ -211,14 +212,6 @@ fn hold(own: Global, links: &Links, words: &str) -> bool {
         }
     }
     true
-}
-
-fn fields_of<'r>(own: Global, row: &'r str) -> Result<Vec<&'r str>, AllocError> {
-    let mut fields = Vec::new(own);
-    for field in row.split('|') {
-        fields.push(field)?;
-    }
-    Ok(fields)
 }
 
 /// The run of a row is as it says, with the line of the version where that is written.

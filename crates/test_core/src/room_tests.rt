@@ -1,6 +1,6 @@
 //! Growths are refused in turn, on heaps of more and more room. A refused call leaves the core as it was.
 
-use crate::cores::{handed, is_text, parts_of, taken};
+use crate::handed::{handed, is_text, parts_of, taken};
 use crate::texts::{SETTLED, text_of};
 use core_handover::{StateFault, hand_over};
 use core_model::Parts;
@@ -8,7 +8,9 @@ use core_steps::{Core, Rebuild};
 use init_words::Refusal;
 use linked_list_allocator::LocalHeap;
 use std::alloc::Global;
-use test_support::boxed;
+use std::test::Fail;
+use test_support::Outcome::{self, Done, Refused, Unmade};
+use test_support::{boxed, refusals};
 
 /// A child, an order about it that is open, a signal that is due, a wish for another level, times, and ends of
 /// children.
@@ -26,17 +28,6 @@ const QUIET: &str = "clock 700\nstage 3 5\ngoal 3 5\nflags 11\nwish 10 4:8 101 0
 
 /// An inittab that is adopted by it.
 const NEXT: &[u8] = b"r:3:respawn:b\nn:3:once:c\nm:3:off:\nl:3:wait:d\n";
-
-/// What comes of a call on a heap.
-#[derive(Clone, Copy, PartialEq, Eq)]
-enum Outcome {
-    /// There was no room for what it is called with.
-    Unmade,
-    Refused,
-    Done,
-}
-
-use Outcome::{Done, Refused, Unmade};
 
 /// The core hands its state over. Where there is no room for it, it hands the same over with room.
 fn hand_over_on(own: Global, heap: &LocalHeap, text: &[u8]) -> Option<Outcome> {
@@ -101,25 +92,6 @@ fn outcome_on(own: Global, heap: &LocalHeap, what: &str, text: &[u8]) -> Option<
     }
 }
 
-/// On how many heaps it is refused, of which each has less more room than the least growth takes, until it was done on
-/// nine, and on how many it is done; none where anything else comes of it.
-fn counts(own: Global, what: &str, lines: &str) -> Option<(usize, usize)> {
-    let text = text_of(own, 2, 1, lines).ok()?;
-    let (mut refused, mut done) = (0usize, 0usize);
-    for step in 0..4096usize {
-        if done > 8 {
-            break;
-        }
-        let heap = LocalHeap::new(own, 16 * step).ok()?;
-        match outcome_on(own, &heap, what, text.as_bytes())? {
-            Unmade => {}
-            Refused => refused = refused.wrapping_add(1),
-            Done => done = done.wrapping_add(1),
-        }
-    }
-    Some((refused, done))
-}
-
 /// What needs room, for which state, and how many heaps at least have none for it.
 const REFUSED: &[(&str, &str, usize)] = &[
     ("hand over", BUSY, 8),
@@ -129,13 +101,13 @@ const REFUSED: &[(&str, &str, usize)] = &[
 ];
 
 #[test]
-fn what_has_no_room_is_refused(rt: HostRuntime) {
+fn what_has_no_room_is_refused(rt: HostRuntime) -> Result<(), Fail> {
     for (what, lines, least) in REFUSED {
-        let counts = counts(rt.alloc(), what, lines);
-        let is_so = match counts {
-            Some((refused, done)) => refused > *least && done > 8,
-            None => false,
-        };
-        assert!(rt; is_so, "{what}: {counts:?}");
+        let text = text_of(rt.alloc(), 2, 1, lines)?;
+        let refused = refusals(rt.alloc(), |own, heap| {
+            outcome_on(own, heap, what, text.as_bytes())
+        });
+        assert!(rt; refused > Some(*least), "{what}: {refused:?}");
     }
+    Ok(())
 }

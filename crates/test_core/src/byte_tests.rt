@@ -1,7 +1,7 @@
 //! Each byte of three texts, of both versions, is changed to each other: what is left is taken over, and handed over
 //! again as it stands, or refused by the first check that fails. Each proper front of them is cut.
 
-use crate::cores::{handed, is_answered, taken};
+use crate::handed::{handed, is_answered, taken};
 use crate::texts::{OPENING, STARTED, STARTED_OLD, text_of};
 use core_handover::StateFault::{self, Cut, Generation, Line, Unfit, Version};
 use core_steps::Core;

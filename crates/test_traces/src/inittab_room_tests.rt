@@ -8,6 +8,7 @@ use inittab_text::{Table, TableFault, read_parts};
 use linked_list_allocator::LocalHeap;
 use std::alloc::{Allocator, Global};
 use std::test::Fail;
+use test_support::{Outcome, refusals};
 
 /// A text with two entries and two faults, and the two entries as they are written.
 const TEXT: &[u8] = b"id:3:initdefault:\nnothing\na:3:respawn:/bin/x 1\na:3:once:twice\n";
@@ -135,18 +136,12 @@ fn is_answered(
     }
 }
 
-/// How many heaps refuse the call before one has room for it, each with less more room than the least growth takes, so
-/// that each growth is refused on some heap; none where an answer is wrong.
-fn refusals(own: Global, given: Given, call: &str) -> Option<usize> {
-    for refused in 0..4096usize {
-        let heap = LocalHeap::new(own, 16 * refused).ok()?;
-        match is_answered(own, &heap, given, call) {
-            Ok(true) => return Some(refused),
-            Err(TableFault::Memory) => {}
-            _ => return None,
-        }
+fn outcome_on(own: Global, heap: &LocalHeap, given: Given, call: &str) -> Option<Outcome> {
+    match is_answered(own, heap, given, call) {
+        Ok(true) => Some(Outcome::Done),
+        Err(TableFault::Memory) => Some(Outcome::Refused),
+        _ => None,
     }
-    None
 }
 
 #[test]
@@ -166,7 +161,7 @@ fn each_growth_is_refused_once(rt: HostRuntime) -> Result<(), Fail> {
         files: &files,
     };
     for call in CALLS {
-        let refused = refusals(rt.alloc(), given, call);
+        let refused = refusals(rt.alloc(), |own, heap| outcome_on(own, heap, given, call));
         assert!(rt; refused > Some(1), "{call}: {refused:?}");
     }
     Ok(())

@@ -1,6 +1,6 @@
 //! Cores that are led to a state, that hand it over, and that go on; and cores that took it over and go on as well.
 
-use crate::cores::{handed, opened, taken};
+use crate::handed::{handed, opened, taken};
 use crate::texts::{ENDED, SETTLED, STARTED, STARTED_OLD, text_of};
 use core_handover::{StateFault, generation_of, hand_over};
 use core_steps::{Core, Step};

@@ -1,0 +1,35 @@
+-- `$all` as a facility: what names it comes behind all that don't, to start, and in front of them to stop.
+use Rattle.std.specs.Prelude.{ℕ, Bool, ◌||◌, if◌then◌else◌, List, [], ◌∷◌, codes}
+use Rattle.std.specs.List.{flat_map, list_any}
+use Rattle.rc_header.specs.HeaderText.{facility_header}
+use Rattle.rc_links.specs.declared.needs.Phase.{Phase}
+use Rattle.rc_links.specs.declared.needs.Phase.TheVariants as phase
+use Rattle.rc_links.specs.ScriptText.{ScriptText}
+use Rattle.rc_links.specs.Scripts.{has_name}
+
+abbrev pub has_all : List (List ℕ) → Bool
+has_all names = has_name (codes "$all") names
+
+-- the script names `$all`, to start or to stop
+abbrev pub names_all : Phase → ScriptText → Bool
+names_all phase.Start s = has_all s.header.required_start || has_all s.header.should_start
+names_all phase.Stop s = has_all s.header.required_stop || has_all s.header.should_stop
+
+-- what a script provides that doesn't name it
+abbrev pub other_names : Phase → ScriptText → List (List ℕ)
+other_names turn s = if names_all turn s then [] else s.header.provides
+
+-- the same of all scripts, where one names it
+abbrev pub others : Phase → List ScriptText → List (List ℕ)
+others turn scripts = if list_any (names_all turn) scripts then flat_map (other_names turn) scripts else []
+
+-- the facility that provides `$all`
+abbrev pub all_facility : List ScriptText → ScriptText
+all_facility scripts = record {
+  name = codes "$all";
+  header = facility_header (codes "$all" ∷ []) (others phase.Start scripts) (others phase.Stop scripts);
+}
+
+-- the scripts as they are planned, with the facility in front where what names `$all` comes last
+abbrev pub with_all : Bool → List ScriptText → List ScriptText
+with_all last scripts = if last then all_facility scripts ∷ scripts else scripts

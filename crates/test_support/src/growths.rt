@@ -1,0 +1,41 @@
+//! Growths that are refused one after another, on heaps of more and more room.
+
+use linked_list_allocator::LocalHeap;
+use std::alloc::Global;
+
+/// What comes of a call on a heap.
+#[derive(Clone, Copy, PartialEq, Eq)]
+pub enum Outcome {
+    /// There was no room for what it is called with.
+    Unmade,
+    Refused,
+    Done,
+}
+
+impl Outcome {
+    /// Of a call that was done, or refused.
+    pub fn of(is_done: bool) -> Outcome {
+        if is_done {
+            Outcome::Done
+        } else {
+            Outcome::Refused
+        }
+    }
+}
+
+/// On how many heaps a call is refused, each with less more room than the least growth takes, before the first on which
+/// it is done; None where anything else comes of it.
+pub fn refusals<F: Fn(Global, &LocalHeap) -> Option<Outcome>>(own: Global, call: F) -> Option<usize>
+    requires { F.IsAlwaysCallable call }
+{
+    let mut refused = 0usize;
+    for step in 0..8192usize {
+        let heap = LocalHeap::new(own, 16 * step).ok()?;
+        match call(own, &heap)? {
+            Outcome::Unmade => {}
+            Outcome::Refused => refused = refused.wrapping_add(1),
+            Outcome::Done => return Some(refused),
+        }
+    }
+    None
+}
