@@ -94,11 +94,7 @@ fn path_in<A: Allocator>(alloc: A, folder: &str, name: &str) -> Result<String<A>
 }
 
 /// The names in a folder, each with a NUL behind it. A folder without a path can't be listed.
-pub(crate) fn listed<R: Files, A: Allocator + Copy>(
-    rt: &R,
-    alloc: A,
-    folder: &str,
-) -> io::Result<Vec<u8, A>> {
+fn listed<R: Files, A: Allocator + Copy>(rt: &R, alloc: A, folder: &str) -> io::Result<Vec<u8, A>> {
     if folder.is_empty() {
         return Err(io::Error::from(io::ErrorKind::NotFound));
     }
@@ -156,7 +152,7 @@ impl<A: Allocator + Copy> PassedNames<A> {
 }
 
 /// The first of a list of names, each with a NUL behind it, and the list after it; None where there is none.
-pub(crate) fn next_name(list: &[u8]) -> Option<(&[u8], &[u8])>
+fn next_name(list: &[u8]) -> Option<(&[u8], &[u8])>
     ensures shorter { IfSome result (λ parts. length parts.1.now < length list.now) }
 {
     cut(0, list)

@@ -1,5 +1,5 @@
 //! The files that init reads and writes while it runs: the channel of requests with its bell, the inittab with its
-//! folder, the text of init's state, a trace in pieces. No process is started here; whom a host asks besides is in `host_system`.
+//! folder, the text of init's state. No process is started here; whom a host asks besides is in `host_system`.
 #![tactic(auto)]
 
 mod bells;
@@ -8,11 +8,9 @@ mod channels;
 mod folders;
 mod inittab_files;
 mod state_files;
-mod trace_pieces;
 
 pub use boxes::boxed;
 pub use channels::Channel;
 pub use folders::{FolderFault, PassedNames, is_hidden, with_folder};
 pub use inittab_files::InittabFiles;
 pub use state_files::StateFile;
-pub use trace_pieces::{PiecedFiles, TraceReader, are_same, is_given, newest_piece, piece_path};

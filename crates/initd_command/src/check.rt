@@ -11,7 +11,6 @@ use crate::lines::front_line;
 use crate::reports::{
     numbered, report, report_bytes, report_cannot, report_lines, report_made, report_memory, tell,
 };
-use host_files::PiecedFiles;
 use init_words::Memory;
 use initd_options::CheckWords;
 use itoa::Buffer;
@@ -21,6 +20,7 @@ use std::fs::File;
 use std::io;
 use std::io::Write;
 use std::rt::Files;
+use trace_pieces::PiecedFiles;
 use trace_verdict::{Breach, Finding, TextJudge};
 
 /// The judge of a trace whose text is read in pieces, and the text's first byte.

@@ -2,7 +2,6 @@
 
 ghost use Rattle.std.specs.Prelude.{◌≡◌, false};
 
-use host_files::{are_same, newest_piece, piece_path};
 use program_io::write_text;
 use std::alloc::{Allocator, Global};
 use std::fs::{File, OpenOptions, TryLockError, hard_link, metadata, remove_file, rename};
@@ -11,6 +10,7 @@ use std::io::{ErrorKind, Write};
 use std::rt::Files;
 use trace_events::{Handed, Happening, HappeningIn};
 use trace_log::{EndedLog, Log, LogFault};
+use trace_pieces::{are_same, newest_piece, piece_path};
 use trace_text::print_one;
 
 /// A log that takes all and keeps nothing.

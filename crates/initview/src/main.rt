@@ -1,10 +1,10 @@
 //! `initview`: why an entry of init is not started, how all stand and which children are left, by a trace.
 #![tactic(auto)]
 
-use host_files::PiecedFiles;
 use initview_command::{GrowingFiles, USAGE, run_words};
 use program_io::{StandardFiles, report_unread_words, words};
 use std::process::ExitCode;
+use trace_pieces::PiecedFiles;
 
 fn main(rt: HostRuntime) -> ExitCode {
     let _standard = StandardFiles::hold(&rt);

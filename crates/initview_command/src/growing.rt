@@ -5,7 +5,7 @@ ghost use Rattle.init_words.specs.Parts.{NamedText};
 ghost use Rattle.program_io.specs.Known.{KnownTexts};
 ghost use Rattle.initview_command.specs.Writers.{IsWriterAt, KnownWriters};
 
-use host_files::{FolderFault, PassedNames, PiecedFiles, TraceReader, is_given, with_folder};
+use host_files::{FolderFault, PassedNames, with_folder};
 use init_words::Part;
 use libc::net::poll;
 use libc::types::pollfd;
@@ -16,6 +16,7 @@ use std::io::{Error, ErrorKind, Read};
 use std::os::unix::fs::MetadataExt;
 use std::rt::{Clock, Files};
 use std::{fs, io};
+use trace_pieces::{PiecedFiles, TraceReader, is_given};
 
 /// Who writes a trace, as its lock answers: init holds it while it writes.
 #[derive(Clone, Copy)]

@@ -1,55 +1,17 @@
-//! A trace in pieces: `TRACE.1`, `TRACE.2`, .., which were put away, the oldest first, and `TRACE`, which is written still.
+//! A trace that is read with the pieces before it.
 
-ghost use Rattle.std.specs.Prelude.{◌≡◌, string_bytes, IfOk};
-ghost use Rattle.host_files.specs.Pieces.{piece_path};
-
-use crate::folders::{listed, next_name};
+use crate::names::{newest_piece, piece_path};
 use program_io::{PIECES_LIMIT, PieceTaker, Texts, hand_over, open_plain};
-use std::alloc::{AllocError, Allocator, Global};
+use std::alloc::{Allocator, Global};
 use std::fs::{File, Metadata};
 use std::io::{Error, ErrorKind, Read, Seek, SeekFrom};
 use std::os::unix::fs::MetadataExt;
 use std::rt::Files;
 use std::{fs, io};
-use text_lines::read_number;
 
-/// The path of a piece.
-pub fn piece_path<A: Allocator>(alloc: A, trace: &str, number: u64) -> Result<String<A>, AllocError>
-    ensures { IfOk result (λ path. string_bytes path ≡ piece_path trace.now number) }
-{
-    format!(in alloc; "{trace}.{number}")
-}
-
-/// The folder of a path, and the name in it.
-fn folder_and_name(path: &str) -> (&str, &str) {
-    match path.rsplit_once('/') {
-        Some(("", name)) => ("/", name),
-        Some(parts) => parts,
-        None => (".", path),
-    }
-}
-
-/// The number of the piece that has a name, by the name of its trace.
-fn number_of(name: &[u8], trace: &[u8]) -> Option<u64> {
-    match name.strip_prefix(trace)? {
-        [b'.', digits @ ..] => read_number(digits),
-        _ => None,
-    }
-}
-
-/// The greatest number of a trace's pieces; 0 where there is none.
-pub fn newest_piece<R: Files>(rt: &R, alloc: Global, trace: &str) -> io::Result<u64> {
-    let (folder, name) = folder_and_name(trace);
-    let list = listed(rt, alloc, folder)?;
-    let mut newest = 0;
-    let mut rest: &[u8] = &list;
-    while let Some((found, more)) = next_name(rest) {
-        if let Some(number) = number_of(found, name.as_bytes()) {
-            newest = newest.max(number);
-        }
-        rest = more;
-    }
-    Ok(newest)
+/// When a file was written to last, in seconds and nanoseconds.
+fn written(found: &Metadata) -> (i64, i64) {
+    (found.mtime(), found.mtime_nsec())
 }
 
 /// One file is the other.
@@ -89,7 +51,8 @@ impl<'a, R: Files<File = File>> TraceReader<'a, R> {
     }
 
     /// The trace at a path. Where its file begins within a run, the pieces from the one on in which that begins are read
-    /// before it; one that is missing there is an error, `NotFound`.
+    /// before it; one that is missing there is an error, `NotFound`, and one that is newer than what is behind it
+    /// `InvalidData`.
     fn open(rt: &'a R, alloc: Global, path: &str) -> io::Result<TraceReader<'a, R>> {
         let mut reader = TraceReader::alone(rt, alloc, path, open_plain(rt, path)?)?;
         if !begins_run(&mut reader.file)? {
@@ -101,8 +64,14 @@ impl<'a, R: Files<File = File>> TraceReader<'a, R> {
     /// Goes back to the piece in which the run begins; where none is such a piece, the file at the path is read alone.
     fn go_back(&mut self) -> io::Result<()> {
         let newest = newest_piece(self.rt, self.alloc, self.path.as_str())?;
+        let mut behind = written(&self.file.metadata()?);
         for number in (1..=newest).rev() {
             let mut file = self.piece(number)?;
+            let time = written(&file.metadata()?);
+            if time > behind {
+                return Err(self.is_disordered(number));
+            }
+            behind = time;
             if begins_run(&mut file)? {
                 self.file = file;
                 self.pieces = Some((number, newest));
@@ -121,6 +90,14 @@ impl<'a, R: Files<File = File>> TraceReader<'a, R> {
                 Err(Error::new(ErrorKind::NotFound, message.as_str()))
             }
             opened => opened,
+        }
+    }
+
+    /// A piece that was written to behind the one that is to come after it.
+    fn is_disordered(&self, number: u64) -> Error {
+        match format!(in self.alloc; "{}.{number} is newer than what is behind it", self.path) {
+            Ok(message) => Error::new(ErrorKind::InvalidData, message.as_str()),
+            Err(error) => Error::from(error),
         }
     }
 
@@ -159,9 +136,19 @@ impl<'a, R: Files<File = File>> TraceReader<'a, R> {
             return Ok(None);
         }
         match self.own_number(&own)? {
-            Some((number, newest)) if number < newest => Ok(Some(self.piece(number + 1)?)),
+            Some((number, newest)) if number < newest => self.piece_behind(number, &own),
             _ => Ok(Some(open_plain(self.rt, self.path.as_str())?)),
         }
+    }
+
+    /// The piece behind the one of this number, which is the file; where that is an older one, another run's, what stands
+    /// at the path.
+    fn piece_behind(&self, number: u64, own: &Metadata) -> io::Result<Option<File>> {
+        let file = self.piece(number.saturating_add(1))?;
+        if written(&file.metadata()?) < written(own) {
+            return Ok(Some(open_plain(self.rt, self.path.as_str())?));
+        }
+        Ok(Some(file))
     }
 
     /// At the end of the file: goes on in the one behind it. It is read to its end once more before. False where there is
@@ -220,7 +207,7 @@ pub struct PiecedFiles<'a, R> {
 
 impl<'a, R: Files<File = File> + Eprint> PiecedFiles<'a, R> {
     /// The files that this system has, for the program of this name. A trace that is shown is read alone where a piece of
-    /// it is missing, and that is told; else that is an error, `NotFound`.
+    /// it is missing or newer than what is behind it, and that is told; else that is an error, `NotFound` or `InvalidData`.
     pub fn new(rt: &'a R, alloc: Global, program: &'a str, is_shown: bool) -> PiecedFiles<'a, R> {
         PiecedFiles {
             rt,
@@ -237,7 +224,7 @@ impl<'a, R: Files<File = File> + Eprint> PiecedFiles<'a, R> {
                 tell_pieces(self.rt, self.program, path, trace.pieces);
                 Ok(trace)
             }
-            Err(error) if self.is_shown && error.kind() == ErrorKind::NotFound => {
+            Err(error) if self.is_shown && is_of_pieces(&error) => {
                 let file = open_plain(self.rt, path)?;
                 let program = self.program;
                 let _ = eprintln!(self.rt; "{program}: {error}");
@@ -246,6 +233,11 @@ impl<'a, R: Files<File = File> + Eprint> PiecedFiles<'a, R> {
             Err(error) => Err(error),
         }
     }
+}
+
+/// A piece is missing, or they are in no order.
+fn is_of_pieces(error: &Error) -> bool {
+    matches!(error.kind(), ErrorKind::NotFound | ErrorKind::InvalidData)
 }
 
 /// Tells which pieces are read before the trace's own file.
