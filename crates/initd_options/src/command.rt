@@ -1,15 +1,18 @@
 //! The command lines of initd's subcommands.
 
-ghost use Rattle.std.specs.Prelude.{◌≡◌, map, string_bytes, IfErr, IfOk, IsSome, None, Some};
-ghost use Rattle.clap.specs.Words.{FailsBy, app_of, fault_of, found_of, rows_of, subcommand_of, subcommand_rows_of, with_subcommand};
+ghost use Rattle.std.specs.Prelude.{◌≡◌, ◌≢◌, map, string_bytes, IfErr, IfOk, IsSome, None, Some};
+ghost use Rattle.clap.specs.Words.{FailsBy, app_of, fault_of, found_of, kind_of, rows_of, subcommand_of, subcommand_rows_of, with_subcommand};
 ghost use Rattle.command_words.specs.CommandLines.{line_of, texts_of};
 ghost use Rattle.command_words.specs.Faults.{reason_of};
 ghost use Rattle.initd_options.specs.CommandLine.{command_line, judged_by, line_said, initd_read_of, run_said_by, initd_said_by, said_of, simulation_of, simulation_said, check_of, check_said};
 
 use crate::levels::read_level_option;
 use crate::options::{OPTIONS, RunWords, read_run};
+use clap::error::ErrorKind;
 use clap::{ArgMatches, Command, Error};
-use command_words::{Row, WordFault, is_set, is_version, table_line, value_of, word_fault};
+use command_words::{
+    Row, WordFault, is_set, is_version, meant_of, table_line, value_of, word_fault,
+};
 use init_words::Level;
 use std::alloc::{AllocError, Global};
 
@@ -70,9 +73,36 @@ fn read_line(alloc: Global, words: &[String]) -> Result<Words, WordFault>
 {
     match parse(alloc, words) {
         Ok(matches) => read_matches(alloc, &matches),
-        Err(error) => Err(word_fault(alloc, &error)),
+        Err(error) => Err(line_fault(alloc, words, &error)),
     }
 }
+
+/// The fault of a command line that clap refused. Of a command that is missing or unknown it says that, and which one was
+/// probably meant.
+fn line_fault(alloc: Global, words: &[String], error: &Error) -> WordFault
+    ensures usage { IsSome (reason_of result) → kind_of error.now ≢ ErrorKind.OutOfMemory }
+{
+    let reason = match (error.kind(), words.first()) {
+        (ErrorKind::MissingSubcommand, _) => String::from_str(alloc, "a word is missing"),
+        (ErrorKind::InvalidSubcommand, Some(word)) => unknown_command(alloc, word.as_str()),
+        _ => return word_fault(alloc, error),
+    };
+    match reason {
+        Ok(reason) => WordFault::Usage(reason),
+        Err(AllocError) => WordFault::Memory,
+    }
+}
+
+/// Why a word that is no command is refused.
+fn unknown_command(alloc: Global, word: &str) -> Result<String, AllocError> {
+    match meant_of(COMMANDS, word) {
+        Some(meant) => format!(in alloc; "no such command: {word}: {meant}?"),
+        None => format!(in alloc; "no such command: {word}"),
+    }
+}
+
+/// The commands.
+const COMMANDS: &[&str] = &["run", "simulate", "check"];
 
 /// The option and the words of `initd simulate`.
 const SIMULATE: &[Row] = &[("--level", "L", ""), ("TABLE", "", ""), ("SCRIPT", "", "")];
@@ -157,7 +187,7 @@ fn read_serving(alloc: Global, matches: &ArgMatches) -> Result<Words, WordFault>
 {
     match matches.subcommand_matches("run") {
         Some(run) => Ok(Words::Run(read_run(alloc, run)?)),
-        None => Err(WordFault::Usage(String::from_str(alloc, "a subcommand is missing")?)),
+        None => Err(WordFault::Usage(String::from_str(alloc, "a word is missing")?)),
     }
 }
 

@@ -33,8 +33,8 @@ pub const PAUSES_LIMIT: u32 = 100_000;
 pub const SCRIPT_FAILED: u8 = 2;
 
 /// What is reported where help is asked for.
-pub const USAGE: &str =
-    "usage: rc [-n] [-v] [--strict] [--direct] [--as-sysv] [--timeout SEC] DIR PREV NEW
+pub const USAGE: &str = "usage: rc [-n] [-v] [--strict] [--direct] [--as-sysv] [--timeout SEC]
+          DIR PREV NEW
        rc [OPTION..] --level-file F DIR NEW
        rc --version
   -n              print what would be run, and run nothing
@@ -42,9 +42,12 @@ pub const USAGE: &str =
   --strict        status 2 where a script fails
   --direct        execute each script by its own first line, not by sh
   --as-sysv       run what sysv-rc runs, and as it does; --direct is meant too
-  --timeout SEC   send TERM to a script that runs longer than SEC seconds, 1 to 86400, and KILL 5 seconds later
-  --level-file F  PREV is what the file F has, N where there is none; F has NEW behind the run
-  DIR   the folder that holds those of the runlevels, as rc3.d; of bytes of A-Z a-z 0-9 . _ - / alone
+  --timeout SEC   send TERM to a script that runs longer than SEC seconds, 1 to
+                  86400, and KILL 5 seconds later
+  --level-file F  PREV is what the file F has, N where there is none; F has NEW
+                  behind the run
+  DIR   the folder that holds those of the runlevels, as rc3.d; of bytes of
+        A-Z a-z 0-9 . _ - / alone
   PREV  the runlevel before, 0 to 9 or S, or N where there was none
   NEW   the runlevel that is entered, 0 to 9 or S
 ";

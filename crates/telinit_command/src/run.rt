@@ -22,10 +22,13 @@ use std::io::Write;
 pub const USAGE: &str = "usage: telinit [-t SEC] [-d DIR] [--initctl P] CHAR
        telinit [-d DIR] [--initctl P] --power fail|failnow|ok
        telinit --version
-  -t SEC       seconds between the two signals that stop a child, 0 to 3600; 5 where it is left out
-  -d DIR       the folder of the channel; that of INITD_DIR where it is left out, else this one
-  --initctl P  the file that the request is appended to; initctl in the folder where it is left out
-  --power KIND the power fails, the battery is almost empty, or the power is back
+  -t SEC       seconds between the two signals that stop a child, 0 to 3600;
+               5 where it is left out
+  -d DIR       the folder of the channel; that of INITD_DIR where it is left
+               out, else this one
+  --initctl P  the file that the request is appended to; initctl in the folder
+               where it is left out
+  --power KIND the power fails, the battery is almost empty, or power is back
   CHAR         0 to 9, S or s: go to that runlevel
                A, B, C, a, b or c: start the ondemand entries of that letter
                Q or q: read inittab again
@@ -33,8 +36,7 @@ pub const USAGE: &str = "usage: telinit [-t SEC] [-d DIR] [--initctl P] CHAR
 ";
 
 /// What it gets where the words are no command line, behind a line that says why.
-pub const SHORT_USAGE: &str =
-    "usage: telinit [-t SEC] [-d DIR] [--initctl P] CHAR | --power fail|failnow|ok | --help\n";
+pub const SHORT_USAGE: &str = "usage: telinit [OPTION].. CHAR | --power fail|failnow|ok | --help\n";
 
 /// Runs telinit on a command line without the program's name, in an environment that names the folder `home`, or none
 /// where that is empty, and gives its exit status: 0 where one request block was
