@@ -10,7 +10,7 @@ use Rattle.trace_events.specs.Event.{Event}
 use Rattle.trace_view.specs.SeenTexts.{IsSeen}
 use Rattle.trace_view.specs.Viewing.{ViewState, Viewed}
 use Rattle.trace_view.specs.declared.text_views.ViewEnd.{ViewEnd}
-use Rattle.initview_command.specs.Showing.{Shows, ShowsBy, ShowsOf, Writes, is_refused}
+use Rattle.initview_command.specs.Showing.{Shows, ShowsBy, ShowsOf, Writes, is_within}
 use Rattle.initview_command.specs.Tables.{FailsBy, fault_status}
 use Rattle.initview_command.specs.Writers.{IsWriterAt, KnownWriters}
 use Rattle.initview_command.specs.declared.growing.Writer.{Writer}
@@ -20,20 +20,20 @@ pub writes_as : (text said : List ℕ) (given ends status : ℕ) (old new : Opti
 writes_as text said given ends status old new same is written =
     subst (λ e. Writes said e status old new) is (subst (λ t. Writes t given status old new) same written)
 
--- a text is refused, or answered
-refused_by : (refuses : Bool) (answer : List ℕ × ℕ) (status : ℕ) (now : Option (List ℕ)) → refuses ≡ true → status ≡ REFUSED → ShowsBy refuses answer status now now
+-- a text that begins within a run is refused, and any other answered
+refused_by : (within : Bool) (answer : List ℕ × ℕ) (status : ℕ) (now : Option (List ℕ)) → within ≡ true → status ≡ REFUSED → ShowsBy within answer status now now
 refused_by true answer status now is ends = (ends, Keeps-refl now)
 refused_by false answer status now is ends = absurd (cc)
 
-pub refused : (stop : Option ViewEnd) (answer : List ℕ × ℕ) (status : ℕ) (now : Option (List ℕ)) → is_refused stop ≡ true → status ≡ REFUSED → ShowsOf stop answer status now now
-refused stop answer status now is ends = refused_by (is_refused stop) answer status now is ends
+pub refused : (stop : Option ViewEnd) (answer : List ℕ × ℕ) (status : ℕ) (now : Option (List ℕ)) → is_within stop ≡ true → status ≡ REFUSED → ShowsOf stop answer status now now
+refused stop answer status now is ends = refused_by (is_within stop) answer status now is ends
 
-answered_by : (refuses : Bool) (answer : List ℕ × ℕ) (status : ℕ) (old new : Option (List ℕ)) → refuses ≡ false → Writes answer.0 answer.1 status old new → ShowsBy refuses answer status old new
+answered_by : (within : Bool) (answer : List ℕ × ℕ) (status : ℕ) (old new : Option (List ℕ)) → within ≡ false → Writes answer.0 answer.1 status old new → ShowsBy within answer status old new
 answered_by true answer status old new is written = absurd (cc)
 answered_by false answer status old new is written = written
 
-pub answered : (stop : Option ViewEnd) (answer : List ℕ × ℕ) (status : ℕ) (old new : Option (List ℕ)) → is_refused stop ≡ false → Writes answer.0 answer.1 status old new → ShowsOf stop answer status old new
-answered stop answer status old new is written = answered_by (is_refused stop) answer status old new is written
+pub answered : (stop : Option ViewEnd) (answer : List ℕ × ℕ) (status : ℕ) (old new : Option (List ℕ)) → is_within stop ≡ false → Writes answer.0 answer.1 status old new → ShowsOf stop answer status old new
+answered stop answer status old new is written = answered_by (is_within stop) answer status old new is written
 
 -- what is shown of a text that was taken
 pub shows : {S : Type 0} (has : S → List Event → Type 0) (text_at : KnownTexts) (writers : KnownWriters) (path text : List ℕ) (gives : Writer → Option ViewEnd → List Event → List ℕ × ℕ) (view : ViewState) (seen : S) (writer : Writer) (stop : Option ViewEnd) (left : Option ℕ) (status : ℕ) (old new : Option (List ℕ)) → IsTextAt text_at path text → IsWriterAt writers path writer → IsSeen has text stop left view seen → ((past : List Event) → Viewed view past → has seen past → ShowsOf stop (gives writer stop past) status old new) → Shows text_at writers path gives status old new

@@ -1,5 +1,5 @@
 -- What is written of a trace, and the exit status.
-use Rattle.std.specs.Prelude.{◌≡◌, ◌==◌, ◌⊎◌, ℕ, Bool, true, false, if◌then◌else◌, List, reverse, Option, Some, None, is_some}
+use Rattle.std.specs.Prelude.{◌≡◌, ◌⊎◌, ℕ, Bool, true, false, if◌then◌else◌, List, reverse, Option, Some, None, is_some}
 use Rattle.std.specs.Io.KnownBytes.{Appends, Keeps}
 use Rattle.program_io.specs.Writing.{AppendsPrefix}
 use Rattle.program_io.specs.declared.statuses.TheConstants.{DONE, REFUSED, UNLAWFUL, DEVICE_FAULT}
@@ -59,19 +59,17 @@ abbrev pub Writes : List ℕ → ℕ → ℕ → Option (List ℕ) → Option (L
 Writes text ends status old new =
     ((status ≡ ends) × Appends old new text) ⊎ ((status ≡ DEVICE_FAULT) × AppendsPrefix old new text)
 
--- so of an answer and its exit status; a text that begins within a run, or whose first line is none of a trace, is
--- refused, and nothing was written
-abbrev pub is_refused : Option ViewEnd → Bool
-is_refused (Some Within) = true
-is_refused (Some (Torn line)) = line == 1
-is_refused _ = false
+-- so of an answer and its exit status; a text that begins within a run is refused, and nothing was written
+abbrev pub is_within : Option ViewEnd → Bool
+is_within (Some Within) = true
+is_within _ = false
 
 abbrev pub ShowsBy : Bool → List ℕ × ℕ → ℕ → Option (List ℕ) → Option (List ℕ) → Type 0
 ShowsBy true answer status old new = (status ≡ REFUSED) × Keeps old new
 ShowsBy false answer status old new = Writes answer.0 answer.1 status old new
 
 abbrev pub ShowsOf : Option ViewEnd → List ℕ × ℕ → ℕ → Option (List ℕ) → Option (List ℕ) → Type 0
-ShowsOf stop answer status old new = ShowsBy (is_refused stop) answer status old new
+ShowsOf stop answer status old new = ShowsBy (is_within stop) answer status old new
 
 -- so of what a view shows of the text at the path, which breaks no law, and is written by whom its lock names; or it
 -- was not read, and nothing was written

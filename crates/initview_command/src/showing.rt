@@ -6,12 +6,12 @@ ghost use Rattle.trace_view.specs.SeenTexts.{HasSeenText};
 ghost use Rattle.trace_view.specs.Viewing.{Viewed};
 ghost use Rattle.trace_view.specs.declared.text_views.ViewEnd.{ViewEnd};
 ghost use Rattle.initview_command.specs.declared.growing.Writer.{Writer};
-ghost use Rattle.initview_command.specs.Showing.{Shows, ShowsOf, Writes, is_refused, lsb_status, row_status, running_status, said, status_by, stop_status};
+ghost use Rattle.initview_command.specs.Showing.{Shows, ShowsOf, Writes, is_within, lsb_status, row_status, running_status, said, status_by, stop_status};
 
 use crate::asking::Question;
 use crate::growing::{GrowingTexts, Writer};
 use crate::presence::{show_present, tell_writer};
-use crate::telling::{report_memory, report_unread, report_unwritten, tell};
+use crate::telling::{report_memory, report_packed, report_unread, report_unwritten, tell};
 use init_words::{Id, Memory};
 use initview_lines::{is_starting, left_lines, row_line, status_lines};
 use program_io::{DEVICE_FAULT, DONE, PieceTaker, REFUSED, Texts, UNLAWFUL};
@@ -270,53 +270,41 @@ fn show_text<T: Texts, G: GrowingTexts, Q: Asks, W: Write, E: Write>(
 {
     match texts.read_pieces(path, file) {
         Ok(()) => {
+            if let Some(unpacker) = file.unpacker {
+                return report_packed(path, unpacker, err);
+            }
             let (stop, left) = file.text.end();
             let shown = Shown {
                 path,
                 writer: growing.writer(path),
                 stop,
             };
-            tell_end(asked, &shown, left, file.unpacker, err);
+            tell_end(asked, &shown, left, err);
             show_seen(alloc, asked, &mut file.text, &shown, out, err)
         }
         Err(error) => report_unread(path, &error, err),
     }
 }
 
-/// Tells how a trace ends, or that it is compressed.
-fn tell_end<Q: Asks, E: Write>(
-    asked: &Q,
-    shown: &Shown,
-    left: Option<u64>,
-    unpacker: Option<&'static str>,
-    err: &mut E,
-) {
-    let path = shown.path;
-    if let Some(unpacker) = unpacker {
-        let _ = writeln!(
-            err,
-            "initview: {path} is compressed: {unpacker} {path} | initview status -"
-        );
-        return;
-    }
-    tell_stop(path, shown.stop, left, err);
+/// Tells how a trace ends.
+fn tell_end<Q: Asks, E: Write>(asked: &Q, shown: &Shown, left: Option<u64>, err: &mut E) {
+    tell_stop(shown.path, shown.stop, left, err);
     if asked.asks_writer() {
-        tell_writer(path, shown.writer, shown.stop, err);
+        tell_writer(shown.path, shown.writer, shown.stop, err);
     }
 }
 
-/// Nothing is shown: the text begins within a run, or its first line is none of a trace.
-fn is_refused(stop: Option<ViewEnd>) -> bool
-    ensures { result ≡ is_refused stop }
+/// The text begins within a run.
+fn is_within(stop: Option<ViewEnd>) -> bool
+    ensures { result ≡ is_within stop }
 {
     match stop {
         Some(ViewEnd::Within) => true,
-        Some(ViewEnd::Torn(line)) => line == 1,
         _ => false,
     }
 }
 
-/// Writes what is asked of a text, unless that is refused, and gives the exit status.
+/// Writes what is asked of a text, unless that begins within a run, and gives the exit status.
 fn show_seen<Q: Asks, W: Write, E: Write>(
     alloc: Global,
     asked: &Q,
@@ -331,7 +319,7 @@ fn show_seen<Q: Asks, W: Write, E: Write>(
         (Q.gives asked.now shown.now.path.now shown.now.writer shown.now.stop past) result
         (W.contents out.old) (W.contents out.new) }
 {
-    if is_refused(shown.stop) {
+    if is_within(shown.stop) {
         return REFUSED;
     }
     asked.tell_unsaid(text.view(), shown.path, err);

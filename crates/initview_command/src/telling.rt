@@ -38,3 +38,13 @@ pub(crate) fn report_unread<E: Write>(path: &str, error: &io::Error, err: &mut E
     let _ = writeln!(err, "initview: cannot read {path}: {error}");
     DEVICE_FAULT
 }
+
+pub(crate) fn report_packed<E: Write>(path: &str, unpacker: &str, err: &mut E) -> u8
+    ensures { result ≡ DEVICE_FAULT }
+{
+    let _ = writeln!(
+        err,
+        "initview: {path} is compressed: {unpacker} {path} | initview status -"
+    );
+    DEVICE_FAULT
+}

@@ -6,7 +6,6 @@ ghost use Rattle.init_words.specs.Actions.{ignores_levels, waited_by};
 ghost use Rattle.trace_events.specs.Event.{Event};
 ghost use Rattle.trace_view.specs.LastLines.{Lined};
 ghost use Rattle.trace_view.specs.Viewing.{Viewed};
-ghost use Rattle.trace_view.specs.Why.{why};
 ghost use Rattle.initview_lines.specs.Reasons.{act_reason, advice_of, advice_text, again_advice, asked_text, awaited_reason, call_advice, chain_of, done_reason, earlier_reason, excluded_reason, fault_words, held_reason, kept_advice, kept_reason, level_advice, link_by, link_of, link_text, order_reason, other_advice, ran_reason, reason_words, root_of, runs_reason, stage_reason, stopped_of, waits_for_call, why_text, wish_reason};
 ghost use Rattle.initview_lines.specs.Status.{births_words};
 
