@@ -42,10 +42,10 @@ HasRefused text_at paths = (before later : List (List ℕ)) × (path : List ℕ)
     × ((scripts : List ScriptText) × AreScripts text_at before scripts)
     × (found : FileFault) × IsNoScriptAt text_at path found × (file_status found ≡ 1)
 
--- what words ask for: that all faults are told, that scripts which can't be read or planned are left out, that those which
--- name `$all` come last, that changes of folders are printed and not made, that no facility file is read that is not among
--- the files, that the runlevels of links that are there are kept, that links are taken away whose script is gone, the
--- directory of the folders that are written, and the paths of the files
+-- what words ask for: that all faults are told, that scripts which can't be read or planned are left out, that those
+-- which name `$all` come last, that changes of folders are printed and not made, that no facility file is read that is
+-- not among the files, that the runlevels of links that are there are kept, that links are taken away whose script is
+-- gone, the directory of the folders that are written, and the paths of the files
 pub record Line : Type 0 where
   pub all : Bool
   pub skips : Bool

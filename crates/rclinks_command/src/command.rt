@@ -302,9 +302,9 @@ fn plan_of<T: Texts, E: Write>(
     let Ok(faults) = read else {
         return Err(report_no_memory("rclinks", err));
     };
-    if add_last(alloc, line.last, &mut scripts, &mut paths).is_err() {
+    let Ok(()) = add_last(alloc, line.last, &mut scripts, &mut paths) else {
         return Err(report_no_memory("rclinks", err));
-    }
+    };
     if line.skips {
         return plan_left(alloc, &mut scripts, &mut paths, err);
     }

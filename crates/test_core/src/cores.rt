@@ -1,11 +1,11 @@
 //! A core as what a run is about. Its steps are init's own lines, `reread` and `reexec`, and `then` leaves the next one
 //! for later; `handed` is the end of the wish to be re-executed. `awaits` has the children whose end is awaited, parted
-//! by `, `, or `none`.
+//! by `, `, or `none`; `last` how the last child of an id ended, with which exit code.
 
 use crate::runs::{Subject, answer_of, goes_on, happening_of, table_of};
 use core_steps::{Core, Goal, Step};
 use core_waiting::{Awaited, AwaitedChildren, WhyAwaited};
-use init_words::{Level, Memory, Refusal};
+use init_words::{Id, Level, Memory, Refusal, Status};
 use inittab_text::Table;
 use std::alloc::{Allocator, Global};
 use test_support::boxed;
@@ -65,7 +65,7 @@ fn awaits<A: Allocator>(core: &Core<A>, text: &str) -> bool {
 }
 
 /// Whether a reader gives what its line says; none where the line is no reader's.
-fn gives<A: Allocator>(core: &Core<A>, line: &str) -> Option<bool> {
+pub(crate) fn gives<A: Allocator>(core: &Core<A>, line: &str) -> Option<bool> {
     let (reader, said) = line.split_once(' ').unwrap_or((line, ""));
     match reader {
         "busy" => Some(!core.drained()),
@@ -77,6 +77,11 @@ fn gives<A: Allocator>(core: &Core<A>, line: &str) -> Option<bool> {
             let level = read_level(level.as_bytes())?;
             let grace = secs.parse::<u16>().ok()?;
             Some(core.goal() == Goal { level, grace })
+        }
+        "last" => {
+            let (id, code) = said.split_once(' ')?;
+            let end = code.parse::<u8>().ok().map(Status::Exit);
+            Some(core.last(&Id::read(id.as_bytes())?) == end)
         }
         "time" => Some(said.parse::<u64>().ok() == Some(core.time())),
         "entries" => Some(said.parse::<usize>().ok() == Some(core.table().len())),
@@ -98,10 +103,11 @@ fn made_by(happening: &HappeningIn<Global>) -> Option<Step> {
     })
 }
 
-fn step_of(own: Global, line: &str) -> Option<Step> {
+pub(crate) fn step_of(own: Global, line: &str) -> Option<Step> {
     match line {
         "reread" => Some(Step::Reread),
         "reexec" => Some(Step::Reexec),
+        "idle" => Some(Step::Idle),
         _ => made_by(&happening_of(own, line)?),
     }
 }
@@ -126,7 +132,7 @@ fn told<A: Allocator>(
 }
 
 /// How the core answers the call of a line; none where it is no call.
-fn answered<A: Allocator + Copy>(
+pub(crate) fn answered<A: Allocator + Copy>(
     own: Global,
     alloc: A,
     core: &mut Core<A>,

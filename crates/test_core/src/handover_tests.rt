@@ -1,17 +1,16 @@
 //! Cores that are led to a state, that hand it over, and that go on; and cores that took it over and go on as well.
 
+use crate::cores::{answered, gives, step_of};
 use crate::handed::{handed, opened, taken};
 use crate::texts::{ENDED, SETTLED, STARTED, STARTED_OLD, text_of};
 use core_handover::{StateFault, generation_of, hand_over};
-use core_steps::{Core, Step};
-use init_words::{Answer, ChildNumber, Id, Letter, Level, OrderKind, Stage, Status};
-use initctl_frame::HeardRequest;
+use core_steps::Core;
+use init_words::Level;
 use std::alloc::Global;
 
 /// An init that begins with an inittab, or with the lines of a state of generation 1 in a version; what it does then,
 /// the lines that it hands over, what stands behind each record there, and what is done behind that by it, and by the
-/// init that takes it over. What is done is parted by ` / `: a step that is due, what comes from outside, or an id and
-/// what is answered about it, or how its last child ended.
+/// init that takes it over. What is done are lines of a run of a core.
 struct Run {
     version: Option<u64>,
     from: &'static str,
@@ -80,16 +79,16 @@ const RUNS: &[Run] = &[
     Run {
         version: None,
         from: STARTED_TABLE,
-        before: "enter sysinit 5 / enter boot 5 / enter 3 5 / ask a start / ask b start / a: birth 700 / round / \
-                 ask a look / b: birth 700 / a: exit 0 / ask a start",
+        before: "enter sysinit 5 / enter boot 5 / enter 3 5 / ask a start / ask b start / birth a 700 / nudge / \
+                 ask a look / birth b 700 / reaped a 700 exit 0 / ask a start",
         lines: ENDED,
-        after: "a: ended 0 / b: no end / none: no end",
+        after: "last a 0 / last b none / last none none",
         ..NOTHING
     },
     Run {
         from: ENDED,
         lines: ENDED,
-        after: "a: ended 0 / b: no end",
+        after: "last a 0 / last b none",
         ..NOTHING
     },
     Run {
@@ -97,7 +96,7 @@ const RUNS: &[Run] = &[
         from: ENDED_OLD,
         lines: ENDED_OLD,
         behind: " -",
-        after: "a: no end",
+        after: "last a none",
         ..NOTHING
     },
     // Init is re-executed, once and again.
@@ -105,8 +104,8 @@ const RUNS: &[Run] = &[
         version: None,
         from: "w:3:wait:a\nr:3:respawn:b\n",
         level: Some(Level::L3),
-        before: "clock 7 / enter sysinit 5 / enter boot 5 / enter 3 5 / ask w start / w: birth 700 / idle / round / \
-                 ask w look / w: exit 0 / ask r start / r: birth 700 / settle 3 / got reexec / reexec",
+        before: "clock 7 / enter sysinit 5 / enter boot 5 / enter 3 5 / ask w start / birth w 700 / idle / nudge / \
+                 ask w look / reaped w 700 exit 0 / ask r start / birth r 700 / settle 3 / got reexec / reexec",
         lines: SETTLED,
         ..NOTHING
     },
@@ -124,7 +123,7 @@ const RUNS: &[Run] = &[
         before: "idle",
         lines: SIGNALLED,
         behind: " -",
-        after: "idle / s: hit / enter sysinit 5",
+        after: "idle / hit s / enter sysinit 5",
         ..NOTHING
     },
     // A child that lived on is called again.
@@ -133,7 +132,7 @@ const RUNS: &[Run] = &[
         from: LIVED,
         lines: LIVED,
         behind: " -",
-        after: "round / ask d look / d: exit 0 / idle",
+        after: "nudge / ask d look / reaped d 700 exit 0 / idle",
         ..NOTHING
     },
     Run {
@@ -142,67 +141,27 @@ const RUNS: &[Run] = &[
         before: "got call A / call A",
         lines: CALLED,
         behind: " -",
-        after: "round / ask d look / d: exit 0 / ask d start",
+        after: "nudge / ask d look / reaped d 700 exit 0 / ask d start",
         ..NOTHING
     },
 ];
 
-fn step_of(text: &str) -> Option<Step> {
-    match text {
-        "enter sysinit 5" => Some(Step::Enter(Stage::Sysinit, 5)),
-        "enter boot 5" => Some(Step::Enter(Stage::Boot, 5)),
-        "enter 3 5" => Some(Step::Enter(Stage::Run(Level::L3), 5)),
-        "settle 3" => Some(Step::Settle(Level::L3)),
-        "call A" => Some(Step::Call(Letter::A)),
-        "reexec" => Some(Step::Reexec),
-        "idle" => Some(Step::Idle),
-        _ => {
-            let (id, kind) = text.strip_prefix("ask ")?.split_once(' ')?;
-            let kind = match kind {
-                "start" => OrderKind::Start,
-                _ => OrderKind::Look,
-            };
-            Some(Step::Order(Id::read(id.as_bytes())?, kind))
-        }
+/// A line of the run goes as it says.
+fn goes(own: Global, core: &mut Core, line: &str) -> bool {
+    if let Some(is_so) = gives(core, line) {
+        return is_so;
+    }
+    match step_of(own, line) {
+        Some(step) => core.next() == step,
+        None => answered(own, own, core, line) == Some(Ok(())),
     }
 }
 
-/// What is said of an id is answered, or is so.
-fn is_told(core: &mut Core, id: Id, text: &str) -> bool {
-    let answer = match text {
-        "ended 0" => return core.last(&id) == Some(Status::Exit(0)),
-        "no end" => return core.last(&id).is_none(),
-        "birth 700" => Answer::Born(ChildNumber(700)),
-        "exit 0" => Answer::Ended(Status::Exit(0)),
-        _ => Answer::Hit,
-    };
-    core.answer(id, answer).is_ok()
-}
-
-/// One thing is done.
-fn is_done(core: &mut Core, text: &str) -> Option<bool> {
-    match text {
-        "clock 7" => core.clock(7),
-        "round" => core.begin_round(),
-        "got call A" => core.got(HeardRequest::Call(Letter::A)),
-        "got reexec" => core.got(HeardRequest::Reexec),
-        _ => {
-            return match text.split_once(": ") {
-                Some((id, text)) => Some(is_told(core, Id::read(id.as_bytes())?, text)),
-                None => Some(core.next() == step_of(text)?),
-            };
-        }
-    }
-    Some(true)
-}
-
-/// All of it is done.
-pub(crate) fn does(core: &mut Core, text: &str) -> bool {
-    if !text.is_empty() {
-        for item in text.split(" / ") {
-            if is_done(core, item) != Some(true) {
-                return false;
-            }
+/// All lines of the run do.
+pub(crate) fn does(own: Global, core: &mut Core, run: &str) -> bool {
+    for line in run.split(" / ") {
+        if !line.is_empty() && !goes(own, core, line) {
+            return false;
         }
     }
     true
@@ -218,15 +177,15 @@ fn is_made(own: Global, run: &Run) -> Option<bool> {
             taken(own, own, text.as_bytes(), 1).ok()?
         }
     };
-    if !does(&mut core, run.before) {
+    if !does(own, &mut core, run.before) {
         return None;
     }
     let text = handed(own, &mut core, generation, run.lines, run.behind)?;
     let mut next = taken(own, own, &text, generation).ok()?;
     Some(
         generation_of(&text) == Some(generation)
-            && does(&mut core, run.after)
-            && does(&mut next, run.after),
+            && does(own, &mut core, run.after)
+            && does(own, &mut next, run.after),
     )
 }
 

@@ -228,7 +228,7 @@ const WRITTEN: &[Written] = &[
 fn is_written(own: Global, written: &Written) -> Option<bool> {
     let (inittab, steps, is_there, heads, lines, behind) = written;
     let mut core = opened(own, inittab, None)?;
-    let is_done = does(&mut core, steps);
+    let is_done = does(own, &mut core, steps);
     let is_at = (core.time(), core.stage(), core.goal()) == (heads.time, heads.stage, heads.goal);
     let text = write_state(own, heads, core.table(), core.slots().as_slice()).ok()?;
     Some(is_done && is_at == *is_there && is_text(own, &text, heads.generation, lines, behind)?)

@@ -1,8 +1,10 @@
 use Rattle.std.proofs.Common.{◌∙◌, inl, inr, map, string_bytes, subst, sym}
 use Rattle.std.proofs.lemmas.Result.{IfOk-weaker, IfErr-weaker}
 use Rattle.std.proofs.lemmas.Bool.{or_parts}
+use Rattle.rc_links.specs.Plans.{IsPlan}
+use Rattle.rclinks_command.specs.Command.{HasNoPlan}
 use Rattle.rclinks_command.specs.Reading.{Reads, ReadsTo}
-use Rattle.rclinks_command.specs.Reports.{ReportsRefused}
+use Rattle.rclinks_command.specs.Reports.{ReportsPlan, ReportsRefused}
 use Rattle.rclinks_command.proofs.ReadingLemmas.{all_read, all_scripts, none_first, refused_first, some_first}
 use Rattle.rclinks_command.proofs.ReportLemmas.{plan_told, refused_told, warned_told}
 use Rattle.rclinks_command.proofs.RunLemmas.{two_statuses}
@@ -16,7 +18,7 @@ returns-in-None-clause-planned g c =
     let none = none_first c.in-Ok.faults.items (rw c.deref.ensures.value at c.in-None.ensures.value) in
     let read = all_read c.goes_on.result text_at paths scripts c.in-Ok.faults.items c.in-Ok.ensures.read (inr none) in
     let all = all_scripts text_at paths scripts (subst (λ faults. Reads text_at paths scripts faults) none read) in
-    rw c.if-line.false (IfOk-weaker c.plan_all.result _ _ (λ plan is. (scripts, all, is)) c.plan_all.ensures.planned)
+    rw c.if-line.false (IfOk-weaker c.plan_all.result _ _ (λ plan is. (scripts, all, subst (λ ss. IsPlan ss plan) c.in-Ok-add_last.ensures is)) c.plan_all.ensures.planned)
 
 pub returns-in-None-clause-refused : goal.returns-in-None-clause-refused
 returns-in-None-clause-refused g c =
@@ -26,7 +28,7 @@ returns-in-None-clause-refused g c =
     let none = none_first c.in-Ok.faults.items (rw c.deref.ensures.value at c.in-None.ensures.value) in
     let read = all_read c.goes_on.result text_at paths scripts c.in-Ok.faults.items c.in-Ok.ensures.read (inr none) in
     let all = all_scripts text_at paths scripts (subst (λ faults. Reads text_at paths scripts faults) none read) in
-    rw c.if-line.false (IfErr-weaker c.plan_all.result _ _ (λ status is. elim is [ inl device ↦ inl device | inr refused ↦ inr (refused.0, inr (scripts, all, refused.1)) ]) c.plan_all.ensures.refused)
+    rw c.if-line.false (IfErr-weaker c.plan_all.result _ _ (λ status is. elim is [ inl device ↦ inl device | inr refused ↦ inr (refused.0, inr (scripts, all, subst HasNoPlan c.in-Ok-add_last.ensures refused.1)) ]) c.plan_all.ensures.refused)
 
 pub returns-clause-refused : goal.returns-clause-refused
 returns-clause-refused g c =
@@ -49,7 +51,7 @@ returns-in-None-clause-told g c = λ plain.
     let read = all_read c.goes_on.result text_at paths scripts c.in-Ok.faults.items c.in-Ok.ensures.read (inr none) in
     let all = all_scripts text_at paths scripts (subst (λ faults. Reads text_at paths scripts faults) none read) in
     let warned = warned_told text_at paths c.in-Ok.faults.items _ _ (c.in-Ok.ensures.told (c.goes_on.ensures ∙ plain)) none in
-    IfErr-weaker c.plan_all.result _ _ (λ status told is. inr (scripts, all, plan_told scripts _ _ _ warned (told is))) (c.plan_all.ensures.told (or_parts c.args.line.now.skips c.args.line.now.all plain).1)
+    IfErr-weaker c.plan_all.result _ _ (λ status told is. inr (scripts, all, subst (λ ss. ReportsPlan ss (g.E.Write.contents c.args.err.now) (g.E.Write.contents c.plan_all.new.err)) c.in-Ok-add_last.ensures (plan_told c.add_last.new.scripts.items _ _ _ warned (told is)))) (c.plan_all.ensures.told (or_parts c.args.line.now.skips c.args.line.now.all plain).1)
 
 pub returns-clause-told : goal.returns-clause-told
 returns-clause-told g c = λ plain is.
@@ -59,4 +61,4 @@ returns-clause-told g c = λ plain is.
     let tells = c.in-Ok.ensures.told (c.goes_on.ensures ∙ plain) in
     let same = c.refuse_file.ensures.told (or_parts c.args.line.now.skips c.args.line.now.all plain).1 in
     let told = refused_told text_at paths c.in-Ok.faults.items first.0 c.in-Some.fault.now _ _ tells first.1 (sym c.refuse_file.ensures.status ∙ is) in
-    subst (λ err. ReportsRefused text_at paths (g.E.Write.contents c.args.err.now) (g.E.Write.contents err)) (sym same) (inl told)
+    subst (λ err. ReportsRefused text_at c.args.line.now.last paths (g.E.Write.contents c.args.err.now) (g.E.Write.contents err)) (sym same) (inl told)
