@@ -300,8 +300,9 @@ fn add_words<A: Allocator, B: Allocator>(
     }
 }
 
-/// Adds the line of the happening that the view has seen last: the time of the trace's clock and the words. Of what an operator need not see there is none: an order, a death, a look that found its child alive, an
-/// answer that reached init, a reading of the clock, a round.
+/// Adds the line of the happening that the view has seen last: the time of the trace's clock, and the words. Of what an
+/// operator need not see there is none: an order, a death, a look that found its child alive, an answer that reached init,
+/// a reading of the clock, a round.
 pub fn add_happening<A: Allocator, B: Allocator>(
     text: &mut Vec<u8>,
     view: &TraceView<A>,
