@@ -152,8 +152,8 @@ function take(line,    name, result, parts, comment) {
     }
     if (line ~ /\) += /) take(line)
 }
-# The shell that sends the signals of a turn is no child of an entry, but init's own.
-function is_helper(child) { return argv[child] ~ /^\[sh\] \[-c\] \[while read -r number; do kill -TERM / }
+# The shells that look for kill(1) and send the signals of a turn are no children of entries, but init's own.
+function is_helper(child) { return argv[child] ~ /^\[sh\] \[-c\] \[(command -v kill >|while read -r number; do kill -TERM )/ }
 function is_born(child) { return child in is_child && !is_helper(child) }
 # A signal that a service sends is none of init's.
 function is_of_init(event) { return kind[event] !~ /^(sent|missed)$/ || by[event] == init || is_helper(by[event]) }
