@@ -26,40 +26,53 @@ pub const USAGE: &str = "usage: initd run [OPTION]..
        initd --version
   --inittab P      the inittab(5); inittab where it is left out
   --inittab-dir DIR
-                   the folder whose files NAME.tab are read after the inittab; none where it is
-                   left out
-  --initctl P      the file to which telinit appends requests; initctl where it is left out
+                   the folder whose files NAME.tab are read after the inittab;
+                   none where it is left out
+  --initctl P      the file to which telinit appends requests; initctl where it
+                   is left out
   --fresh          pass over the requests that the file has already
-  --state P        the file that carries init's state where init re-executes itself; initd.state
-                   where it is left out
-  --trace P        the file that the trace of the run is written to; none where it is left out
+  --state P        the file that carries init's state where init re-executes
+                   itself; initd.state where it is left out
+  --trace P        the file that the trace of the run is written to; none where
+                   it is left out
   --trace-size SIZE
-                   put the trace's file away as P.1, P.2, .. where it has grown so long, 4K to 1024G,
-                   and go on in a new one; K, M and G are 1024 bytes, 1024 K and 1024 M
-  --brief          leave looks that found nothing and idle rounds out of the trace, of which there
-                   has to be one
-  --judge          judge each happening while the run goes on, as check judges a trace, and tell a
-                   breach at once; the run ends with 2 then, in place of 0 or 3
-  --level L        the runlevel to go to, 0 to 9, S or s, of a simulated run too; the inittab's
-                   initdefault where it is left out
-  --turns N        the greatest number of turns, 1 to 1000000000; 1000000 where it is left out
+                   put the trace's file away as P.1, P.2, .. where it has grown
+                   so long, 4K to 1024G, and go on in a new one; K, M and G are
+                   1024 bytes, 1024 K and 1024 M
+  --brief          leave looks that found nothing and idle rounds out of the
+                   trace, of which there has to be one
+  --judge          judge each happening while the run goes on, as check judges a
+                   trace, and tell a breach at once; the run ends with 2 then,
+                   in place of 0 or 3
+  --level L        the runlevel to go to, 0 to 9, S or s, of a simulated run
+                   too; the inittab's initdefault where it is left out
+  --turns N        the greatest number of turns, 1 to 1000000000; 1000000 where
+                   it is left out
   --forever        no limit of turns; it is refused beside a limit
   --drain          end where nothing is left to do and nothing runs
-  --pause SEC      the longest pause between two turns, 0.01 to 60 seconds, with at most two digits
-                   after the point; 1 where it is left out; where something happened, and where looks
-                   at the children cost little and the trace has none, it is shorter
-  --result ID      end with the last exit status of the entry of that id, in place of 0; 137 where
-                   it was killed, 4 where it never ended; an id that the inittab has not is refused
-  --verbose        tell each start, end and signal of a child, each file of the inittab's folder
-                   that is passed over, and each minute for what an unsettled stage waits
-  --logs DIR       the folder that the output of each entry is written to, a file an entry
-  --strict         take no inittab that has a faulty line: the run is refused at its opening, and
-                   later the inittab before stays in force
-  --stamp          put the time in front of each line that the run prints while it goes on
-  --bell           make the FIFO that telinit rings, P.bell beside the file of requests, where
-                   there is none: a request is heard at once then
-  --growing        judge a trace that is still written up to its last whole happening
-  --pieces         judge with the trace the pieces TRACE.1, TRACE.2, .. that were put away before it
+  --pause SEC      the longest pause between two turns, 0.01 to 60 seconds, with
+                   at most two digits after the point; 1 where it is left out;
+                   where something happened, and where looks at the children
+                   cost little and the trace has none, it is shorter
+  --result ID      end with the last exit status of the entry of that id, in
+                   place of 0; 137 where it was killed, 4 where it never ended;
+                   an id that the inittab has not is refused
+  --verbose        tell each start, end and signal of a child, each file of the
+                   inittab's folder that is passed over, and each minute for
+                   what an unsettled stage waits
+  --logs DIR       the folder that the output of each entry is written to, a
+                   file an entry
+  --strict         take no inittab that has a faulty line: the run is refused at
+                   its opening, and later the inittab before stays in force
+  --stamp          put the time in front of each line that the run prints while
+                   it goes on
+  --bell           make the FIFO that telinit rings, P.bell beside the file of
+                   requests, where there is none: a request is heard at once
+                   then
+  --growing        judge a trace that is still written up to its last whole
+                   happening
+  --pieces         judge with the trace the pieces TRACE.1, TRACE.2, .. that
+                   were put away before it
   TABLE            an inittab(5)
   SCRIPT           what the system did, one happening a line
   TRACE            a trace of init, which is judged
@@ -67,7 +80,7 @@ pub const USAGE: &str = "usage: initd run [OPTION]..
 
 /// What standard error gets of words that are no command line, behind a line that says why.
 pub const SHORT_USAGE: &str =
-    "usage: initd run [OPTION].. | simulate [--level L] TABLE SCRIPT | check [--growing] [--pieces] TRACE | --help\n";
+    "usage: initd run [OPTION].. | simulate TABLE SCRIPT | check TRACE | --help\n";
 
 /// What is reported where the version could not be written.
 const UNVERSIONED: &str = "initd: the version could not be written\n";

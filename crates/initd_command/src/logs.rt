@@ -121,7 +121,7 @@ impl Write for AnewFile {
 /// that it doesn't take.
 #[derive(Drop)]
 struct TraceFile {
-    file: AnewFile,
+    piece: AnewFile,
     kept: Vec<u8>,
     /// Why it could not be written last.
     fault: Option<io::Error>,
@@ -155,10 +155,10 @@ impl TraceFile {
 
     /// Writes what is kept, as far as the file takes it.
     fn catch_up(&mut self) {
-        let count = self.file.count;
-        match write_rest(&mut self.file, &self.kept, count) {
+        let count = self.piece.count;
+        match write_rest(&mut self.piece, &self.kept, count) {
             Ok(()) => {
-                self.file.count = 0;
+                self.piece.count = 0;
                 self.kept.clear();
                 self.fault = None;
             }
@@ -168,7 +168,7 @@ impl TraceFile {
 
     /// Goes on in another file, first with what this one didn't take.
     fn go_on_in(&mut self, file: File) {
-        self.file = AnewFile::new(file, self.file.count);
+        self.piece = AnewFile::new(file, self.piece.count);
     }
 }
 
@@ -189,7 +189,7 @@ pub(crate) struct FileLog<'a, R> {
     rt: &'a R,
     alloc: Global,
     path: &'a str,
-    file: TraceFile,
+    trace: TraceFile,
     /// At which length in bytes it is put away, and by how much more where that can't be done.
     put_away_at: u64,
     step: u64,
@@ -214,8 +214,8 @@ impl<'a, R: Files<File = File> + Eprint> FileLog<'a, R> {
             rt,
             alloc,
             path,
-            file: TraceFile {
-                file: AnewFile::new(file, 0),
+            trace: TraceFile {
+                piece: AnewFile::new(file, 0),
                 kept: Vec::new(alloc),
                 fault: None,
             },
@@ -243,13 +243,13 @@ impl<'a, R: Files<File = File> + Eprint> FileLog<'a, R> {
     }
 
     fn add<B: Allocator>(&mut self, happening: &HappeningIn<B>) -> Result<(), LogFault> {
-        self.file.add(&print_one(self.alloc, happening)?)
+        self.trace.add(&print_one(self.alloc, happening)?)
     }
 
     /// Tells that bytes are kept since the file can't be written, and that it was.
     fn tell_waiting(&mut self) {
         let path = self.path;
-        match &self.file.fault {
+        match &self.trace.fault {
             Some(error) if !self.is_waiting => {
                 self.is_waiting = true;
                 tell_waiting(self.rt, path, error);
@@ -267,7 +267,7 @@ impl<'a, R: Files<File = File> + Eprint> FileLog<'a, R> {
     /// Says why a happening could not be written.
     fn tell_failed(&self, fault: LogFault) {
         let path = self.path;
-        let _ = match &self.file.fault {
+        let _ = match &self.trace.fault {
             Some(error) => eprintln!(self.rt;
                 "initd: cannot write the trace {path}: {error}: init goes on without it"
             ),
@@ -282,7 +282,7 @@ impl<'a, R: Files<File = File> + Eprint> FileLog<'a, R> {
         let path = self.path;
         let _ = match created(self.rt, path) {
             Ok(file) => {
-                self.file.go_on_in(file);
+                self.trace.go_on_in(file);
                 self.put_away_at = self.step;
                 Ok(())
             }
@@ -299,21 +299,21 @@ impl<'a, R: Files<File = File> + Eprint> FileLog<'a, R> {
     /// Puts the file away as the next piece, and goes on in a new one, where it has grown so far and has taken all. Where
     /// that can't be done it goes on in the same one.
     fn put_away(&mut self) {
-        if self.file.file.length < self.put_away_at {
+        if self.trace.piece.length < self.put_away_at {
             return;
         }
-        self.file.catch_up();
-        if self.file.fault.is_some() {
+        self.trace.catch_up();
+        if self.trace.fault.is_some() {
             return;
         }
         let path = self.path;
         match self.next_file() {
             Ok(file) => {
-                self.file.go_on_in(file);
+                self.trace.go_on_in(file);
                 self.put_away_at = self.step;
             }
             Err(error) => {
-                self.put_away_at = self.file.file.length.saturating_add(self.step);
+                self.put_away_at = self.trace.piece.length.saturating_add(self.step);
                 let _ = eprintln!(self.rt;
                     "initd: cannot put the trace {path} away: {error}: it goes on in the same file"
                 );
@@ -339,7 +339,7 @@ impl<'a, R: Files<File = File> + Eprint> FileLog<'a, R> {
     fn exchange(&self, new: &str) -> io::Result<()> {
         match metadata(self.rt, self.path) {
             Ok(found) if !found.is_file() => return Err(io::Error::other("it is no plain file")),
-            Ok(found) if are_same(&found, &self.file.file.file.metadata()?) => {
+            Ok(found) if are_same(&found, &self.trace.piece.file.metadata()?) => {
                 let newest = newest_piece(self.rt, self.alloc, self.path)?;
                 let piece = piece_path(self.alloc, self.path, newest.saturating_add(1))?;
                 give_name(self.rt, self.path, piece.as_str())?;
@@ -408,16 +408,16 @@ impl<R: Files<File = File> + Eprint> EndedLog for FileLog<'_, R> {
         let FileLog {
             rt,
             path,
-            mut file,
+            mut trace,
             is_waiting,
             is_failed,
             ..
         } = self;
-        file.catch_up();
-        match &file.fault {
+        trace.catch_up();
+        match &trace.fault {
             Some(error) if !is_waiting => tell_waiting(rt, path, error),
             _ => {}
         }
-        ((), !is_failed && file.fault.is_none())
+        ((), !is_failed && trace.fault.is_none())
     }
 }

@@ -32,33 +32,43 @@ pub const USAGE: &str = "usage: initview why [--inittab-dir DIR] ID TRACE [TABLE
        initview follow TRACE
        initview lint [--programs FOLDERS] [--inittab-dir DIR] TABLE [FILE..]
        initview diff [--trace TRACE] [--level LEVEL] [--inittab-dir DIR] OLD NEW
-       initview plan [--trace TRACE] [--level LEVEL] [--inittab-dir DIR] TABLE [FILE..]
+       initview plan [--trace TRACE] [--level LEVEL] [--inittab-dir DIR]
+                     TABLE [FILE..]
        initview --version
-  why     say why the entry ID isn't started next, the line of TRACE at fault, and what to do; with
-          TABLE also where the inittab has a line of ID, and why it is left out
-  status  say how init and its entries stand, or the entry ID alone; with ID the exit status is 0
-          where it runs, 3 where it doesn't, 4 where it is unknown; with --json a line of JSON each
-  left    list the children that were born and not reaped, and their numbers; and with a ? in place
-          of the number each start of which the trace doesn't say what came
+  why     say why the entry ID isn't started next, the line of TRACE at fault,
+          and what to do; with TABLE also where the inittab has a line of ID,
+          and why it is left out
+  status  say how init and its entries stand, or the entry ID alone; with ID the
+          exit status is 0 where it runs, 3 where it doesn't, 4 where it is
+          unknown; with --json a line of JSON each
+  left    list the children that were born and not reaped, and their numbers;
+          and with a ? in place of the number each start of which the trace
+          doesn't say what came
   timeline
-          draw the lives of each entry's children, signals, holds and stages over the time, in lines
-          of N columns, 80 without it; or with --svg as a picture that a browser shows
-  follow  print a line for each happening that an operator is told of, also while the trace is
-          written, until it is interrupted
-  lint    list the faults of an inittab's lines, with what was probably meant, and warnings; the
-          exit status is 1 with faults, 2 with warnings alone; with --programs also warnings of
-          programs that aren't in FOLDERS, as \"$PATH\" of init has them
-  diff    list what becomes of each entry in a level where the inittab NEW is read in OLD's place;
-          with --trace of what runs now, and the exit status is as for status TRACE
-  plan    list what init starts on the way to a level, in its order, what it waits for, and the
-          critical path: the entries whose ends the way goes through; with --trace also how long
-          each of these took there, and the exit status is as for status TRACE
+          draw the lives of each entry's children, signals, holds and stages
+          over the time, in lines of N columns, 80 without it; or with --svg as
+          a picture that a browser shows
+  follow  print a line for each happening that an operator is told of, also
+          while the trace is written, until it is interrupted
+  lint    list the faults of an inittab's lines, with what was probably meant,
+          and warnings; the exit status is 1 with faults, 2 with warnings alone;
+          with --programs also warnings of programs that aren't in FOLDERS, as
+          \"$PATH\" of init has them
+  diff    list what becomes of each entry in a level where the inittab NEW is
+          read in OLD's place; with --trace of what runs now, and the exit
+          status is as for status TRACE
+  plan    list what init starts on the way to a level, in its order, what it
+          waits for, and the critical path: the entries whose ends the way goes
+          through; with --trace also how long each of these took there, and the
+          exit status is as for status TRACE
   Options stand anywhere.
   ID      an id of the inittab, 1 to 8 characters
-  TRACE   a trace of init, also one that is still being written; - is standard input
-  TABLE   an inittab; FILEs go on where it ends, and those of the folder DIR that init takes
-  LEVEL   0 to 9 or S; without it the default level of the inittab that is new, with --trace the
-          stage in force at its end
+  TRACE   a trace of init, also one that is still being written; - is standard
+          input
+  TABLE   an inittab; FILEs go on where it ends, and those of the folder DIR
+          that init takes
+  LEVEL   0 to 9 or S; without it the default level of the inittab that is new,
+          with --trace the stage in force at its end
 ";
 
 /// Runs initview on its words, and gives the exit status: 0 where the trace was read to its end and the answer written

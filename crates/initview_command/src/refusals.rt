@@ -58,7 +58,7 @@ fn usage_of(name: &str) -> &'static str {
             }
         }
     }
-    "initview why | status | left | timeline | follow | lint | diff | plan ..; initview --help says more"
+    "initview why|status|left|timeline|follow|lint|diff|plan ..; --help says more"
 }
 
 fn usage_line(alloc: Global, usage: &str) -> Result<String, AllocError>

@@ -37,24 +37,28 @@ use std::alloc::{AllocError, Global};
 use std::io::Write;
 
 /// What is told where help is asked for.
-pub const USAGE: &str =
-    "usage: rclinks [--all] [--skip] [--all-last] [--write DIR [-n] [--keep] [--prune] [--no-facilities]] FILE..
+pub const USAGE: &str = "usage: rclinks [--all] [--skip] [--all-last] [--write DIR [-n] [--keep]
+               [--prune] [--no-facilities]] FILE..
        rclinks --version
   --all        tell all faults, and not the first alone
-  --skip       leave out the scripts that can't be read or planned, and plan the others
-  --all-last   put what needs $all behind all others, and stop what names it before them
-  --write DIR  make the links in DIR, in rc0.d to rc9.d and rcS.d, and take away the scripts' other numbered links;
-               the facility files that are installed are read in front of the scripts
+  --skip       leave out the scripts that can't be read or planned, and plan the
+               others
+  --all-last   put what needs $all behind all others, and stop what names it
+               before them
+  --write DIR  make the links in DIR, in rc0.d to rc9.d and rcS.d, and take away
+               the scripts' other numbered links; the facility files that are
+               installed are read in front of the scripts
   -n           print what --write would do, and change nothing
-  --keep       leave a script that has links in DIR in their runlevels, and only number it
-  --prune      take away numbered links to ../init.d/NAME where DIR/init.d has no NAME
+  --keep       leave a script that has links in DIR in their runlevels, and only
+               number it
+  --prune      take away numbered links to ../init.d/NAME where DIR/init.d has
+               no NAME
   --no-facilities
                read no facility file that is not among the files
 ";
 
 /// What is told of words that are no command line, behind a line that says why.
-pub const SHORT_USAGE: &str =
-    "usage: rclinks [--all] [--skip] [--all-last] [--write DIR [-n] [--keep] [--prune] [--no-facilities]] FILE.. | --help\n";
+pub const SHORT_USAGE: &str = "usage: rclinks [OPTION].. FILE.. | --help\n";
 
 /// What words ask for.
 #[derive(Clone, Copy)]
