@@ -1,6 +1,6 @@
 //! Texts that may still grow while they are read, and who writes them.
 
-ghost use Rattle.std.specs.Prelude.{◌≡◌, ◌++◌, List, IfOk, OnOk};
+ghost use Rattle.std.specs.Prelude.{◌≡◌, ◌≤◌, ◌++◌, List, length, IfOk, OnOk};
 ghost use Rattle.init_words.specs.Parts.{NamedText};
 ghost use Rattle.program_io.specs.Known.{KnownTexts};
 ghost use Rattle.initview_command.specs.Writers.{IsWriterAt, KnownWriters};
@@ -195,7 +195,9 @@ fn no_reader_within_pause() -> bool {
 fn wait_for_bytes<R: Files<File = File>>(
     trace: &mut TraceReader<'_, R>,
     buf: &mut [u8],
-) -> io::Result<usize> {
+) -> io::Result<usize>
+    ensures { IfOk result (λ count. count ≤ length buf.old) }
+{
     for _ in 0..PAUSES_LIMIT {
         let count = trace.read(buf)?;
         if count > 0 || buf.is_empty() {

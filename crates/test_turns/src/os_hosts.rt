@@ -32,25 +32,33 @@ pub(crate) fn host_of<A: Allocator + Copy>(
     kind: &str,
 ) -> Result<Box<SystemHost<A>>, Memory> {
     let (inittab, channel, state, folder) = paths;
-    let mut options = HostOptions {
+    let pace = match kind {
+        "" | "fresh" | "verbose" | "logs" => Pace::Second,
+        length => Pace::UpTo {
+            length,
+            by_cost: true,
+        },
+    };
+    let logs = if kind == "logs" {
+        Some("a folder of a long enough name")
+    } else {
+        None
+    };
+    let options = HostOptions {
+        program: "initd",
         inittab,
         folder,
         channel,
         state,
-        ..HostOptions::of("initd")
+        spared: None,
+        logs,
+        pace,
+        bell: false,
+        fresh: kind == "fresh",
+        verbose: kind == "verbose",
+        strict: false,
+        sends_term: false,
     };
-    match kind {
-        "" => {}
-        "fresh" => options.fresh = true,
-        "verbose" => options.verbose = true,
-        "logs" => options.logs = Some("a folder of a long enough name"),
-        length => {
-            options.pace = Pace::UpTo {
-                length,
-                by_cost: true,
-            }
-        }
-    }
     Ok(boxed(rt.alloc(), OsHost::new(*rt, alloc, &options)?)?)
 }
 
