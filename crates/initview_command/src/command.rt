@@ -32,8 +32,7 @@ pub const USAGE: &str = "usage: initview why [--inittab-dir DIR] ID TRACE [TABLE
        initview follow TRACE
        initview lint [--programs FOLDERS] [--inittab-dir DIR] TABLE [FILE..]
        initview diff [--trace TRACE] [--level LEVEL] [--inittab-dir DIR] OLD NEW
-       initview plan [--trace TRACE] [--level LEVEL] [--inittab-dir DIR]
-                     TABLE [FILE..]
+       initview plan [--trace TRACE] [--level LEVEL] [--inittab-dir DIR] TABLE [FILE..]
        initview --version
   why     say why the entry ID isn't started next, the line of TRACE at fault,
           and what to do; with TABLE also where the inittab has a line of ID,
