@@ -12,7 +12,7 @@ use Rattle.core_model.specs.declared.parts.CoreFields.{CoreFields}
 use Rattle.core_model.specs.State.{CoreState}
 use Rattle.core_model.specs.Steps.{after_got, after_step, heard_in}
 
-pub step_same : (s : Step) (c : CoreState) → (after_step s c).heads.generation ≡ c.heads.generation
+pub step_same : (s : Step) (c : CoreState) → (after_step s c).fields.generation ≡ c.fields.generation
 step_same (Enter now grace) c = refl
 step_same (Call letter) c = refl
 step_same (Power kind) c = refl
@@ -23,19 +23,19 @@ step_same Reread c = refl
 step_same Reexec c = refl
 step_same Idle c = refl
 
-heard_same : (now : Option Stage) (wish : Goal) (heads : CoreFields) → (heard_in now wish heads).generation ≡ heads.generation
-heard_same (Some (stage.Run level)) wish heads = by (same_level wish.level level)
+heard_same : (now : Option Stage) (wish : Goal) (fields : CoreFields) → (heard_in now wish fields).generation ≡ fields.generation
+heard_same (Some (stage.Run level)) wish fields = by (same_level wish.level level)
   where
-    by : (b : Bool) → (cond b (record heads { level_wish = None }) (record heads { level_wish = Some wish; reread = true })).generation ≡ heads.generation
+    by : (b : Bool) → (cond b (record fields { level_wish = None }) (record fields { level_wish = Some wish; reread = true })).generation ≡ fields.generation
     by true = refl
     by false = refl
-heard_same (Some stage.Boot) wish heads = refl
-heard_same (Some stage.Sysinit) wish heads = refl
-heard_same None wish heads = refl
+heard_same (Some stage.Boot) wish fields = refl
+heard_same (Some stage.Sysinit) wish fields = refl
+heard_same None wish fields = refl
 
 pub request_same : (request : HeardRequest) (c : CoreState)
-    → (after_got request c).heads.generation ≡ c.heads.generation
-request_same (got.Level level grace) c = heard_same c.heads.stage (record { level = level; grace = grace }) c.heads
+    → (after_got request c).fields.generation ≡ c.fields.generation
+request_same (got.Level level grace) c = heard_same c.fields.stage (record { level = level; grace = grace }) c.fields
 request_same (got.Call letter) c = refl
 request_same got.Reload c = refl
 request_same got.Reexec c = refl

@@ -14,11 +14,11 @@ use Rattle.core_text.specs.Range.{has_ranged_words, has_short_seconds}
 use Rattle.core_text.specs.Refused.{IsTextIn}
 use Rattle.core_text.proofs.Ranged.{state_ranged}
 
-pub handed_says : (old new : CoreState) (next : CoreFields) (text : List ℕ) → new ≡ after_handed_on old → next ≡ record old.heads { generation = old.heads.generation + 1; reexec = false } → old.heads.generation + 1 < 2 ^ 64 → is_table old.table ≡ true → list_all has_ranged_words old.slots ≡ true → text ≡ state_text (record { heads = next; table = old.table; records = map record_of old.slots }) → IsFit old → has_short_seconds old ≡ true → IsTextIn V2 text (state_of new) × IsFit new
-handed_says old new next text is heads small table ids said keeps short = subst (λ c. IsTextIn V2 text (state_of c) × IsFit c) (sym is)
+pub handed_says : (old new : CoreState) (next : CoreFields) (text : List ℕ) → new ≡ after_handed_on old → next ≡ record old.fields { generation = old.fields.generation + 1; reexec = false } → old.fields.generation + 1 < 2 ^ 64 → is_table old.table ≡ true → list_all has_ranged_words old.slots ≡ true → text ≡ state_text (record { fields = next; table = old.table; records = map record_of old.slots }) → IsFit old → has_short_seconds old ≡ true → IsTextIn V2 text (state_of new) × IsFit new
+handed_says old new next text is fields small table ids said keeps short = subst (λ c. IsTextIn V2 text (state_of c) × IsFit c) (sym is)
     (let kept : IsFit (after_handed_on old) = handed_on_keeps old keeps in
-    let written : text ≡ state_text (state_of (after_handed_on old)) = said ∙ ap (λ h. state_text (record { heads = h; table = old.table; records = map record_of old.slots })) heads in
+    let written : text ≡ state_text (state_of (after_handed_on old)) = said ∙ ap (λ h. state_text (record { fields = h; table = old.table; records = map record_of old.slots })) fields in
     ((state_ranged (after_handed_on old) kept (omega arith) small refl short table ids, sym written), kept))
 
-pub handed_text : (old new : CoreState) (next : CoreFields) (text : List ℕ) → new ≡ after_handed_on old → next ≡ record old.heads { generation = old.heads.generation + 1; reexec = false } → text ≡ state_text (record { heads = next; table = old.table; records = map record_of old.slots }) → text ≡ state_text (state_of new)
-handed_text old new next text is heads said = said ∙ ap (λ h. state_text (record { heads = h; table = old.table; records = map record_of old.slots })) heads ∙ ap (λ c. state_text (state_of c)) (sym is)
+pub handed_text : (old new : CoreState) (next : CoreFields) (text : List ℕ) → new ≡ after_handed_on old → next ≡ record old.fields { generation = old.fields.generation + 1; reexec = false } → text ≡ state_text (record { fields = next; table = old.table; records = map record_of old.slots }) → text ≡ state_text (state_of new)
+handed_text old new next text is fields said = said ∙ ap (λ h. state_text (record { fields = h; table = old.table; records = map record_of old.slots })) fields ∙ ap (λ c. state_text (state_of c)) (sym is)

@@ -11,7 +11,7 @@ use Rattle.core_text.specs.Refused.{IsTextOf, Refused}
 pub record IsUnfit (text : List ℕ) (generation : ℕ) : Type 0 where
   pub state : SavedState
   pub says : IsTextOf text state
-  pub own : state.heads.generation ≡ generation
+  pub own : state.fields.generation ≡ generation
   pub unfit : (core : CoreState) → IsFit core → state_of core ≢ state
 
 -- the first check that fails: that of a text, and that its state keeps the rules

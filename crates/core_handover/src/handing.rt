@@ -23,18 +23,18 @@ use core_text::{StateFault, write_state};
 use init_words::{Memory, Status};
 use std::alloc::Allocator;
 
-/// The heads that the next init begins with: it is a generation more, and its wish to be re-executed is over.
-fn next_heads(heads: CoreFields) -> Result<CoreFields, StateFault>
+/// The fields that the next init begins with: it is a generation more, and its wish to be re-executed is over.
+fn next_fields(fields: CoreFields) -> Result<CoreFields, StateFault>
     ensures next { IfOk result (λ next.
-        next ≡ record heads { generation = heads.generation + 1; reexec = false }) }
-    ensures worn { heads.generation + 1 ≡ 2 ^ 64 → result ≡ Err fault.Worn }
-    ensures refused { IfErr result (λ why. (why ≡ fault.Worn) × (heads.generation + 1 ≡ 2 ^ 64)) }
+        next ≡ record fields { generation = fields.generation + 1; reexec = false }) }
+    ensures worn { fields.generation + 1 ≡ 2 ^ 64 → result ≡ Err fault.Worn }
+    ensures refused { IfErr result (λ why. (why ≡ fault.Worn) × (fields.generation + 1 ≡ 2 ^ 64)) }
 {
-    let generation = heads.generation.checked_add(1).ok_or(StateFault::Worn)?;
+    let generation = fields.generation.checked_add(1).ok_or(StateFault::Worn)?;
     Ok(CoreFields {
         generation,
         reexec: false,
-        ..heads
+        ..fields
     })
 }
 
@@ -82,19 +82,19 @@ fn law_of_records(slots: &[Record])
     }
 }
 
-/// The text of what the core keeps, with these heads.
+/// The text of what the core keeps, with these fields.
 fn text_of<A: Allocator + Copy, B: Allocator>(
     alloc: A,
-    heads: &CoreFields,
+    fields: &CoreFields,
     core: &Core<B>,
 ) -> Result<Vec<u8, A>, Memory>
     ensures { IfOk result (λ text. text.items ≡ state_text (record {
-      heads = heads.now;
+      fields = fields.now;
       table = core.now.table;
       records = map record_of core.now.slots;
     })) }
 {
-    write_state(alloc, heads, core.table(), core.slots().as_slice())
+    write_state(alloc, fields, core.table(), core.slots().as_slice())
 }
 
 /// Hands init's state on: the text, of version 2, is that of the state that the next init begins with, which is a
@@ -106,9 +106,9 @@ pub fn hand_over<A: Allocator + Copy, B: Allocator>(
 ) -> Result<Vec<u8, A>, StateFault>
     ensures text { IfOk result (λ text. text.items ≡ state_text (state_of core.new)) }
     ensures state { OnOk result (core.new ≡ after_handed_on core.old) }
-    ensures worn { core.old.heads.generation + 1 ≡ 2 ^ 64 → result ≡ Err fault.Worn }
+    ensures worn { core.old.fields.generation + 1 ≡ 2 ^ 64 → result ≡ Err fault.Worn }
     ensures refused { IfErr result (λ why.
-        why ≡ (if core.old.heads.generation + 1 == 2 ^ 64 then fault.Worn else fault.Memory)) }
+        why ≡ (if core.old.fields.generation + 1 == 2 ^ 64 then fault.Worn else fault.Memory)) }
     ensures unchanged { OnErr result (core.new ≡ core.old) }
     ensures fits { OnOk result (OnEachTrace core.old (λ goal past. (how : Handed)
         → StillFits core.old core.new goal past (happening.Handed how ∷ past))) }
@@ -117,10 +117,10 @@ pub fn hand_over<A: Allocator + Copy, B: Allocator>(
         → IsTextIn V2 text.items (state_of core.new) × IsFit core.new) }
 {
     core.law_of_rules();
-    let heads = next_heads(core.heads())?;
+    let fields = next_fields(core.fields())?;
     let _ = core.table().len();
     law_of_records(core.slots().as_slice());
-    let text = text_of(alloc, &heads, core)?;
+    let text = text_of(alloc, &fields, core)?;
     core.handed_on();
     Ok(text)
 }

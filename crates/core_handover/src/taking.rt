@@ -23,10 +23,10 @@ pub fn take_over<A: Allocator + Copy>(
 ) -> Result<Core<A>, StateFault>
     ensures taken { IfOk result (λ core. IsTextOf text.now (state_of core)) }
     ensures kept { IfOk result (λ core. IsFit core) }
-    ensures generation { IfOk result (λ core. core.heads.generation ≡ generation) }
+    ensures generation { IfOk result (λ core. core.fields.generation ≡ generation) }
     // Where the text is that of a core that keeps the rules, that core is taken over.
     ensures only { (core : CoreState) → IsFit core → IsTextOf text.now (state_of core)
-        → core.heads.generation ≡ generation
+        → core.fields.generation ≡ generation
         → MatchResult result (λ taken. taken ≡ core) (λ why. why ≡ fault.Memory) }
     // A text that is cut, as every proper prefix of one that was handed over is, is told for that alone, with memory or
     // without; so is one of another version.

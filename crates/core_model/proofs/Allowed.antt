@@ -24,12 +24,12 @@ module _ (c : CoreState) where
   -- an order has a record of which it may be asked, and a hold one that may be held; a stage that is entered is a later
   -- one, a level is announced once, and news is carried out that is kept
   abbrev pub is_backed : List RecordState → Option Step → Bool
-  is_backed slots (Some (Order id ask)) = has_with id (is_askable ask c.heads.time) slots
-  is_backed slots (Some (Hold id)) = has_with id (is_holdable c.heads.time) slots
+  is_backed slots (Some (Order id ask)) = has_with id (is_askable ask c.fields.time) slots
+  is_backed slots (Some (Hold id)) = has_with id (is_holdable c.fields.time) slots
   is_backed slots (Some (Enter next grace)) = nat_lt (stages_left (Some next)) (enters_left c)
-  is_backed slots (Some (Settle level)) = not c.heads.announced
-  is_backed slots (Some (Power kind)) = keeps_kind kind c.heads.news
-  is_backed slots (Some (Call letter)) = keeps_call letter c.heads.news
+  is_backed slots (Some (Settle level)) = not c.fields.announced
+  is_backed slots (Some (Power kind)) = keeps_kind kind c.fields.pending
+  is_backed slots (Some (Call letter)) = keeps_call letter c.fields.pending
   is_backed slots _ = true
 
   backed_or : (slots : List RecordState) (a b : Option Step) → is_backed slots a ≡ true → is_backed slots b ≡ true → is_backed slots (or_else a b) ≡ true
@@ -48,35 +48,35 @@ module _ (c : CoreState) where
   backed_unless slots false o h = h
 
   -- the wishes: a stage for the wish of a level, and news that is kept
-  news_backed : (slots : List RecordState) → is_backed slots (first_news c.heads.news) ≡ true
+  news_backed : (slots : List RecordState) → is_backed slots (first_news c.fields.pending) ≡ true
   news_backed slots = grind arith
 
   wished_backed : (slots : List RecordState) (now : Stage) → is_backed slots (wished_step now c) ≡ true
   wished_backed slots now = grind (arith, nat_tests, backed_or, backed_if, news_backed)
 
   -- the stage that comes next, and the announcement
-  stage_backed : (slots : List RecordState) (now : Stage) → c.heads.stage ≡ Some now → is_backed slots (stage_step now c.heads.goal c.table c.slots) ≡ true
+  stage_backed : (slots : List RecordState) (now : Stage) → c.fields.stage ≡ Some now → is_backed slots (stage_step now c.fields.goal c.table c.slots) ≡ true
   stage_backed slots now is = grind arith
 
-  settle_backed : (slots : List RecordState) (now : Stage) → is_backed slots (settle_step now c.heads.announced c.heads.time c.table c.slots) ≡ true
+  settle_backed : (slots : List RecordState) (now : Stage) → is_backed slots (settle_step now c.fields.announced c.fields.time c.table c.slots) ≡ true
   settle_backed slots now = grind arith
 
   -- a signal is to a child of which nothing else is asked
-  stop_backed : (slot : RecordState) (slots : List RecordState) → is_backed (slot ∷ slots) (stop_step c.heads.grace c.heads.time slot) ≡ true
+  stop_backed : (slot : RecordState) (slots : List RecordState) → is_backed (slot ∷ slots) (stop_step c.fields.grace c.fields.time slot) ≡ true
   stop_backed slot slots = grind (arith, same_id-self, backed_if)
 
-  stops_backed : (slots : List RecordState) → is_backed slots (stop_among c.heads.grace c.heads.time slots) ≡ true
+  stops_backed : (slots : List RecordState) → is_backed slots (stop_among c.fields.grace c.fields.time slots) ≡ true
   stops_backed [] = refl
-  stops_backed (slot ∷ slots) = backed_or (slot ∷ slots) (stop_step c.heads.grace c.heads.time slot) (stop_among c.heads.grace c.heads.time slots) (stop_backed slot slots) (backed_behind slot slots (stop_among c.heads.grace c.heads.time slots) (stops_backed slots))
+  stops_backed (slot ∷ slots) = backed_or (slot ∷ slots) (stop_step c.fields.grace c.fields.time slot) (stop_among c.fields.grace c.fields.time slots) (stop_backed slot slots) (backed_behind slot slots (stop_among c.fields.grace c.fields.time slots) (stops_backed slots))
 
   -- a start or a hold is of an entry whose record has no child and no order, and isn't held
-  start_backed : (now : Stage) (e : Entry) (slot : RecordState) (slots : List RecordState) → slot.id ≡ e.id → slot.table_act ≡ Some e.act → is_backed (slot ∷ slots) (start_step now c.heads.time e slot) ≡ true
+  start_backed : (now : Stage) (e : Entry) (slot : RecordState) (slots : List RecordState) → slot.id ≡ e.id → slot.table_act ≡ Some e.act → is_backed (slot ∷ slots) (start_step now c.fields.time e slot) ≡ true
   start_backed now e slot slots own act = grind (arith, same_id-from)
 
-  starts_backed : (now : Stage) (table : List Entry) (slots : List RecordState) → IsInOrder table slots → is_backed slots (start_along now c.heads.time (zip table slots)) ≡ true
-  starts_backed now (e ∷ table) (slot ∷ slots) h = backed_or (slot ∷ slots) (start_step now c.heads.time e slot) (cond (is_owed_record now e slot) None (start_along now c.heads.time (zip table slots)))
+  starts_backed : (now : Stage) (table : List Entry) (slots : List RecordState) → IsInOrder table slots → is_backed slots (start_along now c.fields.time (zip table slots)) ≡ true
+  starts_backed now (e ∷ table) (slot ∷ slots) h = backed_or (slot ∷ slots) (start_step now c.fields.time e slot) (cond (is_owed_record now e slot) None (start_along now c.fields.time (zip table slots)))
       (start_backed now e slot slots h.0 h.1)
-      (backed_unless (slot ∷ slots) (is_owed_record now e slot) (start_along now c.heads.time (zip table slots)) (backed_behind slot slots (start_along now c.heads.time (zip table slots)) (starts_backed now table slots h.2)))
+      (backed_unless (slot ∷ slots) (is_owed_record now e slot) (start_along now c.fields.time (zip table slots)) (backed_behind slot slots (start_along now c.fields.time (zip table slots)) (starts_backed now table slots h.2)))
   starts_backed now table slots h = grind arith
 
   -- a look is at a child of which nothing else is asked
@@ -86,21 +86,21 @@ module _ (c : CoreState) where
 
   -- so the state backs what it decides
   module _ (order : IsInOrder c.table c.slots) where
-    calm_backed : (now : Stage) → c.heads.stage ≡ Some now → is_backed c.slots (calm_step now c) ≡ true
+    calm_backed : (now : Stage) → c.fields.stage ≡ Some now → is_backed c.slots (calm_step now c) ≡ true
     calm_backed now is = grind (arith, backed_or, starts_backed, stage_backed, settle_backed)
 
-    work_backed : (now : Stage) → c.heads.stage ≡ Some now → is_backed c.slots (work_step now c) ≡ true
+    work_backed : (now : Stage) → c.fields.stage ≡ Some now → is_backed c.slots (work_step now c) ≡ true
     work_backed now is = grind (arith, backed_unless, backed_or, stops_backed, calm_backed)
 
     idle_backed : (o : Option Step) → is_backed c.slots o ≡ true → is_backed c.slots (Some (or_idle o)) ≡ true
     idle_backed o h = grind arith
 
-    decided_in : (o : Option Stage) → c.heads.stage ≡ o → is_backed c.slots (Some (decide_in o c)) ≡ true
+    decided_in : (o : Option Stage) → c.fields.stage ≡ o → is_backed c.slots (Some (decide_in o c)) ≡ true
     decided_in o is =
         grind (arith, idle_backed, backed_if, nat_tests, backed_or, wished_backed, work_backed, looks_backed)
 
     pub decided : (s : Step) → decide c ≡ s → is_backed c.slots (Some s) ≡ true
-    decided s is = sym (ap (λ s. is_backed c.slots (Some s)) is) ∙ decided_in c.heads.stage refl
+    decided s is = sym (ap (λ s. is_backed c.slots (Some s)) is) ∙ decided_in c.fields.stage refl
 
 -- the record of an id, where there is one, and the only one
 found_has : (id : List ℕ) (p : RecordState → Bool) (slots : List RecordState) → has_with id p slots ≡ true → has_record_of id slots ≡ true
@@ -130,8 +130,8 @@ pub has_unheld : (id : List ℕ) (now : ℕ) (slots : List RecordState) → has_
 has_unheld id now slots h = grind (arith, any_less)
 
 -- an order that is decided may be asked, and a hold that is decided has its record
-pub decide_allowed : (c : CoreState) → IsInOrder c.table c.slots → are_distinct c.slots ≡ true → (id : List ℕ) (ask : OrderKind) → decide c ≡ Order id ask → can_ask id ask c.heads.time c.slots ≡ true
-decide_allowed c order distinct id ask is = found_asked id ask c.heads.time c.slots distinct (has_asked id ask c.heads.time c.slots (decided c order (Order id ask) is))
+pub decide_allowed : (c : CoreState) → IsInOrder c.table c.slots → are_distinct c.slots ≡ true → (id : List ℕ) (ask : OrderKind) → decide c ≡ Order id ask → can_ask id ask c.fields.time c.slots ≡ true
+decide_allowed c order distinct id ask is = found_asked id ask c.fields.time c.slots distinct (has_asked id ask c.fields.time c.slots (decided c order (Order id ask) is))
 
 pub decide_holds : (c : CoreState) → IsInOrder c.table c.slots → (id : List ℕ) → decide c ≡ Hold id → has_record_of id c.slots ≡ true
-decide_holds c order id is = found_has id (is_holdable c.heads.time) c.slots (decided c order (Hold id) is)
+decide_holds c order id is = found_has id (is_holdable c.fields.time) c.slots (decided c order (Hold id) is)

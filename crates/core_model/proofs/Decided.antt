@@ -1,5 +1,5 @@
 -- What is so of each step that is decided, where it is so of each kind of step.
-use Rattle.core_model.proofs.Words.{arith, ◌≡◌, refl, sym, ap, ◌∙◌, ℕ, Bool, true, false, not, ◌+◌, ◌&&◌, cond, List, [], ◌∷◌, zip, Option, Some, None, is_none, is_some, nat_le, false≢true, Entry, Letter, Level, Stage, OrderKind, Start, Look, Term, Kill, PowerKind, is_limited, may_of, Goal, Step, Reread, Order, Reexec, Idle, in_run, Stop, Due, Termed, Killed, RecordState, allows, News, first_news, CoreState, or_else, or_idle, level_step, news_step, wished_step, stop_step, stop_among, signal_step, limited_step, start_step, start_along, start_among, stage_step, settle_step, calm_step, work_step, look_among, can_look_record, can_start_record, is_owed_record, is_over_among, all_served, has_excluded, stands, decide_in, decide}
+use Rattle.core_model.proofs.Words.{arith, ◌≡◌, refl, sym, ap, ◌∙◌, ℕ, Bool, true, false, not, ◌+◌, ◌&&◌, cond, List, [], ◌∷◌, zip, Option, Some, None, is_none, is_some, nat_le, false≢true, Entry, Letter, Level, Stage, OrderKind, Start, Look, Term, Kill, PowerKind, is_limited, may_of, Goal, Step, Reread, Order, Reexec, Idle, in_run, Stop, Due, Termed, Killed, RecordState, allows, PendingCalls, first_news, CoreState, or_else, or_idle, level_step, news_step, wished_step, stop_step, stop_among, signal_step, limited_step, start_step, start_along, start_among, stage_step, settle_step, calm_step, work_step, look_among, can_look_record, can_start_record, is_owed_record, is_over_among, all_served, has_excluded, stands, decide_in, decide}
 use Rattle.init_words.specs.declared.stages.Stage.TheVariants as stage
 use Rattle.init_words.specs.declared.levels.Letter.TheVariants as letter
 use Rattle.init_words.specs.declared.orders.PowerKind.TheVariants as power
@@ -17,9 +17,9 @@ pub record EachPasses (test : Step → Bool) (c : CoreState) : Type 0 where
   pub powers : (kind : PowerKind) → test (Power kind) ≡ true
   pub reread : test Reread ≡ true
   pub idle : test Idle ≡ true
-  pub reexec : c.heads.reexec ≡ true → test Reexec ≡ true
-  pub goal : (now : Stage) → test (Enter now c.heads.goal.grace) ≡ true
-  pub wish : (wish : Goal) → c.heads.level_wish ≡ Some wish → (now : Stage) → test (Enter now wish.grace) ≡ true
+  pub reexec : c.fields.reexec ≡ true → test Reexec ≡ true
+  pub goal : (now : Stage) → test (Enter now c.fields.goal.grace) ≡ true
+  pub wish : (wish : Goal) → c.fields.level_wish ≡ Some wish → (now : Stage) → test (Enter now wish.grace) ≡ true
 
 module _ (test : Step → Bool) (c : CoreState) (each : EachPasses test c) where
   abbrev Pass : Option Step → Type 0
@@ -63,15 +63,15 @@ module _ (test : Step → Bool) (c : CoreState) (each : EachPasses test c) where
       (by_cond (can_start_record now p.0 p.1) (limited_step time p.0 p.1) None (λ _. limited time p.0 p.1) tt)
       (by_cond (is_owed_record now p.0 p.1) None (start_along now time ps) (λ _. tt) (starts now time ps))
 
-  stages : (now : Stage) → Pass (stage_step now c.heads.goal c.table c.slots)
-  stages stage.Sysinit = by_cond (is_over_among stage.Sysinit c.table c.slots) (Some (Enter _ c.heads.goal.grace)) None (λ _. each.goal _) tt
-  stages stage.Boot = by_cond (is_over_among stage.Boot c.table c.slots) (Some (Enter _ c.heads.goal.grace)) None (λ _. each.goal _) tt
+  stages : (now : Stage) → Pass (stage_step now c.fields.goal c.table c.slots)
+  stages stage.Sysinit = by_cond (is_over_among stage.Sysinit c.table c.slots) (Some (Enter _ c.fields.goal.grace)) None (λ _. each.goal _) tt
+  stages stage.Boot = by_cond (is_over_among stage.Boot c.table c.slots) (Some (Enter _ c.fields.goal.grace)) None (λ _. each.goal _) tt
   stages (stage.Run level) = by_cond (is_over_among (stage.Run level) c.table c.slots) None None (λ _. tt) tt
 
-  settled : (now : Stage) → Pass (settle_step now c.heads.announced c.heads.time c.table c.slots)
+  settled : (now : Stage) → Pass (settle_step now c.fields.announced c.fields.time c.table c.slots)
   settled stage.Sysinit = tt
   settled stage.Boot = tt
-  settled (stage.Run level) = by_cond (not c.heads.announced && is_idle c.slots && all_served level c.heads.time c.table c.slots) (Some (Settle level)) None (λ _. each.settles level) tt
+  settled (stage.Run level) = by_cond (not c.fields.announced && is_idle c.slots && all_served level c.fields.time c.table c.slots) (Some (Settle level)) None (λ _. each.settles level) tt
 
   looks : (slots : List RecordState) → Pass (look_among slots)
   looks [] = tt
@@ -81,7 +81,7 @@ module _ (test : Step → Bool) (c : CoreState) (each : EachPasses test c) where
   levels booted None short = tt
   levels booted (Some wish) short = short wish refl _
 
-  news : (kept : News) → Pass (first_news kept)
+  news : (kept : PendingCalls) → Pass (first_news kept)
   news kept = by kept.fail kept.fail_now kept.ok kept.a kept.b kept.c
     where
       by : (fail fail_now ok a b c : Bool) → Pass (first_news (record { fail = fail; fail_now = fail_now; ok = ok; a = a; b = b; c = c }))
@@ -94,35 +94,35 @@ module _ (test : Step → Bool) (c : CoreState) (each : EachPasses test c) where
       by false false false false false false = tt
 
   wishes : (now : Stage) → Pass (wished_step now c)
-  wishes now = by_cond c.heads.reexec (Some Reexec) (cond c.heads.reread (Some Reread) (or_else (level_step c.heads.booted c.heads.level_wish) (news_step now c))) each.reexec
-      (by_cond c.heads.reread (Some Reread) (or_else (level_step c.heads.booted c.heads.level_wish) (news_step now c)) (λ _. each.reread)
-      (by_else (level_step c.heads.booted c.heads.level_wish) (news_step now c) (levels c.heads.booted c.heads.level_wish each.wish)
-      (by_cond (in_run (Some now)) (first_news c.heads.news) None (λ _. news c.heads.news) tt)))
+  wishes now = by_cond c.fields.reexec (Some Reexec) (cond c.fields.reread (Some Reread) (or_else (level_step c.fields.booted c.fields.level_wish) (news_step now c))) each.reexec
+      (by_cond c.fields.reread (Some Reread) (or_else (level_step c.fields.booted c.fields.level_wish) (news_step now c)) (λ _. each.reread)
+      (by_else (level_step c.fields.booted c.fields.level_wish) (news_step now c) (levels c.fields.booted c.fields.level_wish each.wish)
+      (by_cond (in_run (Some now)) (first_news c.fields.pending) None (λ _. news c.fields.pending) tt)))
 
   calm : (now : Stage) → Pass (calm_step now c)
-  calm now = by_else (start_among now c.heads.time c.table c.slots) (or_else (stage_step now c.heads.goal c.table c.slots) (settle_step now c.heads.announced c.heads.time c.table c.slots)) (starts now c.heads.time (zip c.table c.slots))
-      (by_else (stage_step now c.heads.goal c.table c.slots) (settle_step now c.heads.announced c.heads.time c.table c.slots) (stages now) (settled now))
+  calm now = by_else (start_among now c.fields.time c.table c.slots) (or_else (stage_step now c.fields.goal c.table c.slots) (settle_step now c.fields.announced c.fields.time c.table c.slots)) (starts now c.fields.time (zip c.table c.slots))
+      (by_else (stage_step now c.fields.goal c.table c.slots) (settle_step now c.fields.announced c.fields.time c.table c.slots) (stages now) (settled now))
 
   work : (now : Stage) → Pass (work_step now c)
-  work now = by_cond (stands now c) None (or_else (stop_among c.heads.grace c.heads.time c.slots) (cond (has_excluded c.slots) None (calm_step now c))) (λ _. tt)
-      (by_else (stop_among c.heads.grace c.heads.time c.slots) (cond (has_excluded c.slots) None (calm_step now c)) (stops c.heads.grace c.heads.time c.slots)
+  work now = by_cond (stands now c) None (or_else (stop_among c.fields.grace c.fields.time c.slots) (cond (has_excluded c.slots) None (calm_step now c))) (λ _. tt)
+      (by_else (stop_among c.fields.grace c.fields.time c.slots) (cond (has_excluded c.slots) None (calm_step now c)) (stops c.fields.grace c.fields.time c.slots)
       (by_cond (has_excluded c.slots) None (calm_step now c) (λ _. tt) (calm now)))
 
   decided_in : (now : Option Stage) → test (decide_in now c) ≡ true
   decided_in now = grind (arith, by_idle, by_cond, by_else, wishes, work, looks)
 
   pub decided : test (decide c) ≡ true
-  decided = decided_in c.heads.stage
+  decided = decided_in c.fields.stage
 
 -- init is to be executed anew only where that is wished
 abbrev is_other : Step → Bool
 is_other Reexec = false
 is_other _ = true
 
-pub reexec_wished : (c : CoreState) → decide c ≡ Reexec → c.heads.reexec ≡ true
-reexec_wished c is = by c.heads.reexec refl
+pub reexec_wished : (c : CoreState) → decide c ≡ Reexec → c.fields.reexec ≡ true
+reexec_wished c is = by c.fields.reexec refl
   where
-    others : c.heads.reexec ≡ false → EachPasses is_other c
+    others : c.fields.reexec ≡ false → EachPasses is_other c
     others none = record {
       orders = λ id ask. refl;
       holds = λ id. refl;
@@ -136,6 +136,6 @@ reexec_wished c is = by c.heads.reexec refl
       wish = λ wish has now. refl;
     }
 
-    by : (b : Bool) → c.heads.reexec ≡ b → c.heads.reexec ≡ true
+    by : (b : Bool) → c.fields.reexec ≡ b → c.fields.reexec ≡ true
     by true wished = wished
     by false none = absurd (false≢true (sym (ap is_other is) ∙ decided is_other c (others none)))

@@ -1,5 +1,5 @@
 -- Under a fit the step that is decided is the first that is due.
-use Rattle.core_model.proofs.Words.{arith, ◌≡◌, refl, sym, ◌∙◌, ap, cond, ℕ, Bool, true, false, not, ◌&&◌, ◌||◌, List, [], ◌++◌, Option, Some, None, is_some, list_all, Stage, waited_of, same_level-self, Step, Reread, Reexec, Goal, Event, table_of, stage_of, grace_of, time_of, has_child, kept_children, is_wanted, in_run, goal_of, wants_reexec, wants_reread, level_wish, powers, letters, keeps_news, wish_stands, was_booted, due, first, steps_if, due_first, due_reexec, due_reread, due_level, due_news, due_stops, due_starts, due_stage, due_settle, due_looks, enter_level, power_steps, letter_steps, stops_among, starts_among, is_announced, record_ids, is_sound, News, has_news, first_news, CoreState, or_else, or_idle, level_step, wish_step, stands, has_excluded, all_done, work_step, decide_in, decide, LastStatuses, Fits, core_read, news_of, records_of}
+use Rattle.core_model.proofs.Words.{arith, ◌≡◌, refl, sym, ◌∙◌, ap, cond, ℕ, Bool, true, false, not, ◌&&◌, ◌||◌, List, [], ◌++◌, Option, Some, None, is_some, list_all, Stage, waited_of, same_level-self, Step, Reread, Reexec, Goal, Event, table_of, stage_of, grace_of, time_of, has_child, kept_children, is_wanted, in_run, goal_of, wants_reexec, wants_reread, level_wish, powers, letters, keeps_news, wish_stands, was_booted, due, first, steps_if, due_first, due_reexec, due_reread, due_level, due_news, due_stops, due_starts, due_stage, due_settle, due_looks, enter_level, power_steps, letter_steps, stops_among, starts_among, is_announced, record_ids, is_sound, PendingCalls, has_news, first_news, CoreState, or_else, or_idle, level_step, wish_step, stands, has_excluded, all_done, work_step, decide_in, decide, LastStatuses, Fits, core_read, news_of, records_of}
 use Rattle.init_words.specs.declared.stages.Stage.TheVariants as stage
 use Rattle.trace_events.specs.declared.steps.Step.TheVariants.{Enter}
 use Rattle.trace_events.specs.Past.{is_quiet, is_idle}
@@ -24,19 +24,19 @@ steps_if_nil false = refl
 -- 2 to 5: what is wished
 wish_by : (q x r run : Bool) (level news : Option Step) → or_else (cond (q && x) (Some Reexec) None) (or_else (cond (q && r) (Some Reread) None) (or_else (cond q level None) (cond (q && run) news None)))
     ≡ cond q (cond x (Some Reexec) (cond r (Some Reread) (or_else level (cond run news None)))) None
-wish_by false x r run level news = refl
-wish_by true true r run level news = refl
-wish_by true false true run level news = refl
-wish_by true false false run level news = refl
+wish_by false x r run level pending = refl
+wish_by true true r run level pending = refl
+wish_by true false true run level pending = refl
+wish_by true false false run level pending = refl
 
-news_heads : (past : List Event) → head (power_steps powers past ++ letter_steps letters past) ≡ first_news (news_of past)
-news_heads past = grind arith
+news_fields : (past : List Event) → head (power_steps powers past ++ letter_steps letters past) ≡ first_news (news_of past)
+news_fields past = grind arith
 
 level_head : (past : List Event) (wish : Option Goal) → head (enter_level wish past) ≡ level_step (was_booted past) wish
 level_head past wish = grind arith
 
 any_news : (past : List Event) → keeps_news past ≡ has_news (news_of past)
-any_news past = by_first (λ (n : News). ((n.fail || (n.fail_now || (n.ok || false))) || (n.a || (n.b || (n.c || false)))) ≡ has_news n) (λ n o a b c. refl) (λ o a b c. refl) (λ a b c. refl) (λ b c. refl) (λ c. refl) refl refl (news_of past)
+any_news past = by_first (λ (n : PendingCalls). ((n.fail || (n.fail_now || (n.ok || false))) || (n.a || (n.b || (n.c || false)))) ≡ has_news n) (λ n o a b c. refl) (λ o a b c. refl) (λ a b c. refl) (λ b c. refl) (λ c. refl) refl refl (news_of past)
 
 -- 6 to 9: what is to be done, where no wish stands
 work_by : (w x q l i a : Bool) (stops starts next settled : List Step) (s m n t : Option Step) → head stops ≡ s → head starts ≡ m → head (steps_if (q && l) next) ≡ n → (x ≡ true → settled ≡ []) → (x ≡ false → head (steps_if (i && not a) settled) ≡ t)
@@ -59,7 +59,7 @@ module _ (lasts : LastStatuses) (goal : Goal) (past : List Event) (sound : is_so
     (g : Goal) (n : ℕ) (same_goal : in_run (stage_of past) ≡ false → g ≡ goal_of goal past) where
   module _ (now : Stage) (in_stage : stage_of past ≡ Some now) where
     wish_same : or_else (head (due_reexec past)) (or_else (head (due_reread past)) (or_else (head (due_level past)) (head (due_news past)))) ≡ wish_step now (core_read lasts past g n)
-    wish_same = grind (arith, head_step_if, head_steps_if, wish_by, head, quiet_same, level_head, news_heads)
+    wish_same = grind (arith, head_step_if, head_steps_if, wish_by, head, quiet_same, level_head, news_fields)
 
     stands_same : wish_stands past ≡ stands now (core_read lasts past g n)
     stands_same = λ i. wants_reexec past || wants_reread past || is_some (level_wish past) || in_run (in_stage i) && any_news past i
@@ -109,4 +109,4 @@ module _ (lasts : LastStatuses) (goal : Goal) (past : List Event) (sound : is_so
 
 -- under a fit, the step that is decided is the first that is due
 pub decide_due : (goal : Goal) (past : List Event) → is_sound goal past ≡ true → (c : CoreState) → Fits c goal past → decide c ≡ first (due goal past)
-decide_due goal past sound c fits = ap decide fits.kept ∙ read_due fits.lasts goal past sound c.heads.goal c.heads.generation fits.goal
+decide_due goal past sound c fits = ap decide fits.kept ∙ read_due fits.lasts goal past sound c.fields.goal c.fields.generation fits.goal

@@ -1,13 +1,10 @@
 -- The first of a list of steps, part by part.
-use Rattle.core_model.proofs.Words.{arith, Bool, true, false, ◌≡◌, List, [], ◌∷◌, ◌++◌, Option, Some, None, refl, cond, Step, first, step_if, steps_if, or_else, or_idle}
+use Rattle.core_model.proofs.Words.{arith, Bool, true, false, ◌≡◌, List, [], ◌∷◌, ◌++◌, Option, Some, None, refl, cond, Step, first, step_if, steps_if, or_else}
 
 -- the first step, where there is one
 abbrev pub head : List Step → Option Step
 head [] = None
 head (step ∷ steps) = Some step
-
-pub first_by_head : (steps : List Step) → first steps ≡ or_idle (head steps)
-first_by_head steps = grind arith
 
 pub head_append : (xs ys : List Step) → head (xs ++ ys) ≡ or_else (head xs) (head ys)
 head_append xs ys = grind arith

@@ -10,8 +10,8 @@ module _ (c : CoreState) (goal : Goal) (past : List Event) (fits : Fits c goal p
   pub fit_table : c.table ≡ table_of past
   fit_table = ap (λ (x : CoreState). x.table) fits.kept
 
-  pub fit_stage : c.heads.stage ≡ stage_of past
-  fit_stage = ap (λ (x : CoreState). x.heads.stage) fits.kept
+  pub fit_stage : c.fields.stage ≡ stage_of past
+  fit_stage = ap (λ (x : CoreState). x.fields.stage) fits.kept
 
 -- the last statuses of the records that are read off the past with them
 module _ (past : List Event) (lasts : LastStatuses) where
@@ -32,19 +32,19 @@ module _ (past : List Event) (lasts : LastStatuses) where
 
 -- a core with the last statuses of the past is read off the past with them
 pub own_read : (c : CoreState) (goal : Goal) (past : List Event) → Fits c goal past → HasLasts c past
-    → c ≡ core_read (lasts_of past) past c.heads.goal c.heads.generation
+    → c ≡ core_read (lasts_of past) past c.fields.goal c.fields.generation
 own_read c goal past fits has =
-    fits.kept ∙ ap (λ slots. record (core_read fits.lasts past c.heads.goal c.heads.generation) { slots = slots })
+    fits.kept ∙ ap (λ slots. record (core_read fits.lasts past c.fields.goal c.fields.generation) { slots = slots })
     (read_same past fits.lasts (lasts_of past) (record_ids past) (sym (ap (map (λ (slot : RecordState). slot.last)) (fit_records c goal past fits) ∙ lasts_read past fits.lasts (record_ids past)) ∙ has))
 
-pub read_has : (c : CoreState) (past : List Event) → c ≡ core_read (lasts_of past) past c.heads.goal c.heads.generation → HasLasts c past
+pub read_has : (c : CoreState) (past : List Event) → c ≡ core_read (lasts_of past) past c.fields.goal c.fields.generation → HasLasts c past
 read_has c past is = ap (λ (x : CoreState). map (λ (slot : RecordState). slot.last) x.slots) is ∙ lasts_read past (lasts_of past) (record_ids past)
 
 -- what makes of a core that is read off the past one that is read off the past with one happening more keeps the fit
 pub goes_on : (old new : CoreState) (goal : Goal) (happening : Event) (past : List Event) → Fits old goal past
-    → ((lasts : LastStatuses) → old ≡ core_read lasts past old.heads.goal old.heads.generation
-    → new ≡ core_read (lasts_after happening past lasts) (happening ∷ past) new.heads.goal new.heads.generation)
-    → (in_run (stage_of (happening ∷ past)) ≡ false → new.heads.goal ≡ goal_of goal (happening ∷ past))
+    → ((lasts : LastStatuses) → old ≡ core_read lasts past old.fields.goal old.fields.generation
+    → new ≡ core_read (lasts_after happening past lasts) (happening ∷ past) new.fields.goal new.fields.generation)
+    → (in_run (stage_of (happening ∷ past)) ≡ false → new.fields.goal ≡ goal_of goal (happening ∷ past))
     → StillFits old new goal past (happening ∷ past)
 goes_on old new goal happening past fits reads law = (
   record { lasts = lasts_after happening past fits.lasts; kept = reads fits.lasts fits.kept; goal = law },
@@ -60,7 +60,7 @@ module _ (lasts : LastStatuses) (past : List Event) where
   pub others_fit : (c : CoreState) (goal : Goal) → Fits c goal past → Fits (with_lasts lasts c) goal past
   others_fit c goal fits = record {
     lasts = lasts;
-    kept = ap (with_lasts lasts) fits.kept ∙ ap (λ slots. record (core_read lasts past c.heads.goal c.heads.generation) { slots = slots }) (read_with fits.lasts (record_ids past));
+    kept = ap (with_lasts lasts) fits.kept ∙ ap (λ slots. record (core_read lasts past c.fields.goal c.fields.generation) { slots = slots }) (read_with fits.lasts (record_ids past));
     goal = fits.goal;
   }
 

@@ -1,5 +1,5 @@
 -- The core fits the trace with all that the system does and with all that it is told.
-use Rattle.core_model.proofs.Words.{arith, ◌≡◌, refl, sym, ◌∙◌, ap, ℕ, true, false, List, [], ◌∷◌, map, Some, Ok, append-nil, Entry, Level, Answer, HeardRequest, ids_of, entry_of, is_distinct, Goal, Event, stage_of, in_run, goal_of, answered_of, record_ids, is_sound, RecordState, new_record, CoreState, opening_heads, opening_state, after_round, after_clock, after_got, after_adopt, after_not_read, after_handed, after_handed_on, LastStatuses, Fits, HasLasts, StillFits, lasts_after, lasts_of, records_of, core_read, child_known}
+use Rattle.core_model.proofs.Words.{arith, ◌≡◌, refl, sym, ◌∙◌, ap, ℕ, true, false, List, [], ◌∷◌, map, Some, Ok, append-nil, Entry, Level, Answer, HeardRequest, ids_of, entry_of, is_distinct, Goal, Event, stage_of, in_run, goal_of, answered_of, record_ids, is_sound, RecordState, new_record, CoreState, opening_fields, opening_state, after_round, after_clock, after_got, after_adopt, after_not_read, after_handed, after_handed_on, LastStatuses, Fits, HasLasts, StillFits, lasts_after, lasts_of, records_of, core_read, child_known}
 use Rattle.trace_events.specs.declared.happenings.Happening.TheVariants as event
 use Rattle.trace_events.specs.declared.happenings.Handed.{Handed}
 use Rattle.core_records.specs.Lists as lists
@@ -7,7 +7,7 @@ use Rattle.core_model.specs.Steps.{after_told}
 use Rattle.core_model.specs.Fit.{record_of, is_act}
 use Rattle.core_model.proofs.Fitted.{fit_records, goes_on, read_has}
 use Rattle.core_model.proofs.Ordering.{stop_still, missed_known, nudged}
-use Rattle.core_model.proofs.Moments.{heads_got, goal_heard}
+use Rattle.core_model.proofs.Moments.{fields_got, goal_heard}
 use Rattle.core_model.proofs.Acts.{act_records}
 use Rattle.core_model.proofs.Tables.{table_records}
 use Rattle.core_model.proofs.Telling.{told_records, told_taken}
@@ -40,16 +40,16 @@ unmoved lasts past g n slots is = ap (λ slots. record (core_read lasts past g n
 
 module _ (goal : Goal) (past : List Event) (c : CoreState) (sound : is_sound goal past ≡ true) (fits : Fits c goal past) where
   abbrev g : Goal
-  g = c.heads.goal
+  g = c.fields.goal
 
   abbrev n : ℕ
-  n = c.heads.generation
+  n = c.fields.generation
 
   abbrev Kept : CoreState → Event → Type 0
   Kept new happening = StillFits c new goal past (happening ∷ past)
 
   -- where a change leaves the records: what they are after the happening
-  goes : (new : CoreState) (happening : Event) (change : CoreState → CoreState) → new ≡ change c → new.heads.goal ≡ g → new.heads.generation ≡ n → ((lasts : LastStatuses) → change (core_read lasts past g n) ≡ core_read (lasts_after happening past lasts) (happening ∷ past) g n) → (in_run (stage_of (happening ∷ past)) ≡ false → g ≡ goal_of goal (happening ∷ past)) → Kept new happening
+  goes : (new : CoreState) (happening : Event) (change : CoreState → CoreState) → new ≡ change c → new.fields.goal ≡ g → new.fields.generation ≡ n → ((lasts : LastStatuses) → change (core_read lasts past g n) ≡ core_read (lasts_after happening past lasts) (happening ∷ past) g n) → (in_run (stage_of (happening ∷ past)) ≡ false → g ≡ goal_of goal (happening ∷ past)) → Kept new happening
   goes new happening change is same_goal same_age reads law = goes_on c new goal happening past fits (λ lasts kept. is ∙ ap change kept ∙ reads lasts ∙ (λ i. core_read (lasts_after happening past lasts) (happening ∷ past) (sym same_goal i) (sym same_age i))) (λ h. same_goal ∙ law h)
 
   -- what is told
@@ -84,7 +84,7 @@ module _ (goal : Goal) (past : List Event) (c : CoreState) (sound : is_sound goa
   fits_handed_on how = grind (arith, goes_on, handed_records)
 
   pub fits_got : (request : HeardRequest) → Kept (after_got request c) (event.Got request)
-  fits_got request = grind (arith, goes_on, got_records, heads_got, goal_heard)
+  fits_got request = grind (arith, goes_on, got_records, fields_got, goal_heard)
 
 -- the records of an opening
 opening_record : (table : List Entry) (e : Entry) → entry_of e.id table ≡ Some e → new_record e ≡ record_of (lasts_of (event.NewTable table ∷ [])) (event.NewTable table ∷ []) e.id
@@ -105,5 +105,5 @@ fits_opening table goal distinct = (record { lasts = lasts_of past; kept = kept;
     kept = λ i. record {
       table = table;
       slots = (opening_along table table (each_own table distinct) ∙ ap (map (record_of (lasts_of past) past)) (sym (append-nil (ids_of table)))) i;
-      heads = opening_heads goal;
+      fields = opening_fields goal;
     }

@@ -1,5 +1,5 @@
 -- The rules that a fit core keeps, one by one.
-use Rattle.core_model.proofs.Words.{arith, ◌≡◌, ◌≤◌, ℕ, Bool, true, not, ◌&&◌, ◌||◌, List, [], ◌∷◌, nat_le, Option, list_all, and_parts, leb-true, le-leb, Entry, Stage, CLOCK_LIMIT, in_run, RecordState, are_distinct, IsInOrder, is_timely, are_timely, IsFit, has_cause, is_birth_known, is_order_allowed, is_stop_judged, are_marks_due, is_limiter_kept, are_starts_in, are_starts_free, is_other_level, is_goal_reached, are_heads_kept, is_record_kept, are_records_kept, CoreState}
+use Rattle.core_model.proofs.Words.{arith, ◌≡◌, ◌≤◌, ℕ, Bool, true, not, ◌&&◌, ◌||◌, List, [], ◌∷◌, nat_le, Option, list_all, and_parts, leb-true, le-leb, Entry, Stage, CLOCK_LIMIT, in_run, RecordState, are_distinct, IsInOrder, is_timely, are_timely, IsFit, has_cause, is_birth_known, is_order_allowed, is_stop_judged, are_marks_due, is_limiter_kept, are_starts_in, are_starts_free, is_other_level, is_goal_reached, are_fields_kept, is_record_kept, are_records_kept, CoreState}
 
 -- tests of all records, one by one and together
 all_parts : (p q : RecordState → Bool) (slots : List RecordState) → list_all (λ (s : RecordState). p s && q s) slots ≡ true → (list_all p slots ≡ true) × (list_all q slots ≡ true)
@@ -56,27 +56,27 @@ pub record Rules (c : CoreState) : Type 0 where
   pub caused : list_all has_cause c.slots ≡ true
   pub births : list_all (λ (slot : RecordState). is_birth_known slot.child) c.slots ≡ true
   pub orders : list_all is_order_allowed c.slots ≡ true
-  pub starts : are_starts_in c.heads.stage c.table c.slots ≡ true
+  pub starts : are_starts_in c.fields.stage c.table c.slots ≡ true
   pub free : are_starts_free c.slots ≡ true
-  pub stops : list_all (is_stop_judged c.heads.stage c.table) c.slots ≡ true
+  pub stops : list_all (is_stop_judged c.fields.stage c.table) c.slots ≡ true
   pub marks : list_all are_marks_due c.slots ≡ true
-  pub limiters : list_all (is_limiter_kept c.heads.time) c.slots ≡ true
-  pub timely : are_timely c.heads.time c.slots ≡ true
-  pub clock : c.heads.time ≤ CLOCK_LIMIT
-  pub wish : is_other_level c.heads.stage c.heads.level_wish ≡ true
-  pub announced : (not c.heads.announced || in_run c.heads.stage) ≡ true
-  pub reached : is_goal_reached c.heads.stage c.heads.goal c.heads.booted ≡ true
+  pub limiters : list_all (is_limiter_kept c.fields.time) c.slots ≡ true
+  pub timely : are_timely c.fields.time c.slots ≡ true
+  pub clock : c.fields.time ≤ CLOCK_LIMIT
+  pub wish : is_other_level c.fields.stage c.fields.level_wish ≡ true
+  pub announced : (not c.fields.announced || in_run c.fields.stage) ≡ true
+  pub reached : is_goal_reached c.fields.stage c.fields.goal c.fields.booted ≡ true
 
 pub rules_of : (c : CoreState) → IsFit c → Rules c
 rules_of c fit =
-    let both = and_parts (are_heads_kept c.heads) (are_records_kept c.heads.stage c.table c.heads.time c.slots) fit.kept in
-    let third = and_parts (nat_le c.heads.time CLOCK_LIMIT && is_other_level c.heads.stage c.heads.level_wish && (not c.heads.announced || in_run c.heads.stage)) (is_goal_reached c.heads.stage c.heads.goal c.heads.booted) both.0 in
-    let second = and_parts (nat_le c.heads.time CLOCK_LIMIT && is_other_level c.heads.stage c.heads.level_wish) (not c.heads.announced || in_run c.heads.stage) third.0 in
-    let first = and_parts (nat_le c.heads.time CLOCK_LIMIT) (is_other_level c.heads.stage c.heads.level_wish) second.0 in
-    let all = and_parts (are_distinct c.slots && are_starts_in c.heads.stage c.table c.slots && are_starts_free c.slots) (list_all (is_record_kept c.heads.stage c.table c.heads.time) c.slots) both.1 in
-    let some = and_parts (are_distinct c.slots && are_starts_in c.heads.stage c.table c.slots) (are_starts_free c.slots) all.0 in
-    let few = and_parts (are_distinct c.slots) (are_starts_in c.heads.stage c.table c.slots) some.0 in
-    let each = each_kept c.heads.stage c.table c.heads.time c.slots all.1 in
+    let both = and_parts (are_fields_kept c.fields) (are_records_kept c.fields.stage c.table c.fields.time c.slots) fit.kept in
+    let third = and_parts (nat_le c.fields.time CLOCK_LIMIT && is_other_level c.fields.stage c.fields.level_wish && (not c.fields.announced || in_run c.fields.stage)) (is_goal_reached c.fields.stage c.fields.goal c.fields.booted) both.0 in
+    let second = and_parts (nat_le c.fields.time CLOCK_LIMIT && is_other_level c.fields.stage c.fields.level_wish) (not c.fields.announced || in_run c.fields.stage) third.0 in
+    let first = and_parts (nat_le c.fields.time CLOCK_LIMIT) (is_other_level c.fields.stage c.fields.level_wish) second.0 in
+    let all = and_parts (are_distinct c.slots && are_starts_in c.fields.stage c.table c.slots && are_starts_free c.slots) (list_all (is_record_kept c.fields.stage c.table c.fields.time) c.slots) both.1 in
+    let some = and_parts (are_distinct c.slots && are_starts_in c.fields.stage c.table c.slots) (are_starts_free c.slots) all.0 in
+    let few = and_parts (are_distinct c.slots) (are_starts_in c.fields.stage c.table c.slots) some.0 in
+    let each = each_kept c.fields.stage c.table c.fields.time c.slots all.1 in
     record {
       distinct = few.0;
       caused = each.caused;
@@ -88,7 +88,7 @@ rules_of c fit =
       marks = each.marks;
       limiters = each.limiters;
       timely = each.timely;
-      clock = leb-true c.heads.time CLOCK_LIMIT first.0;
+      clock = leb-true c.fields.time CLOCK_LIMIT first.0;
       wish = first.1;
       announced = second.1;
       reached = third.1;

@@ -1,5 +1,5 @@
 -- Each happening leaves the single values of init what the past says.
-use Rattle.core_model.proofs.Words.{◌≡◌, refl, sym, ◌∙◌, ap, subst, ℕ, Bool, true, false, ◌||◌, cond, List, [], ◌∷◌, Option, Some, None, false≢true, Level, Letter, PowerKind, Stage, same_level, HeardRequest, Goal, Event, stage_of, in_run, goal_of, heard_level, other_than, level_wish, was_booted, wants_reread, with_kind, with_call, is_boot, wished, heard_in, heads_heard, news_of, heads_of}
+use Rattle.core_model.proofs.Words.{◌≡◌, refl, sym, ◌∙◌, ap, subst, ℕ, Bool, true, false, ◌||◌, cond, List, [], ◌∷◌, Option, Some, None, false≢true, Level, Letter, PowerKind, Stage, same_level, HeardRequest, Goal, Event, stage_of, in_run, goal_of, heard_level, other_than, level_wish, was_booted, wants_reread, with_kind, with_call, is_boot, wished, heard_in, fields_heard, news_of, fields_of}
 use Rattle.init_words.specs.declared.levels.Letter.TheVariants as letter
 use Rattle.init_words.specs.declared.orders.PowerKind.TheVariants as power
 use Rattle.init_words.specs.declared.stages.Stage.TheVariants as stage
@@ -39,11 +39,11 @@ booted_by stage.Boot grace past booted h = refl
 booted_by (stage.Run level) grace past booted h = h
 
 -- single values that are those of the past
-module _ (h : CoreFields) (past : List Event) (kept : h ≡ heads_of past h.goal h.generation) where
+module _ (h : CoreFields) (past : List Event) (kept : h ≡ fields_of past h.goal h.generation) where
   -- a stage was entered
-  pub heads_entered : (next : Stage) (grace : ℕ) → record h { stage = Some next; grace = grace; goal = wished h.level_wish h.goal; level_wish = None; booted = is_boot next || h.booted; announced = false }
-      ≡ heads_of (event.Enter next grace ∷ past) (wished h.level_wish h.goal) h.generation
-  heads_entered next grace = λ i. record (kept i) {
+  pub fields_entered : (next : Stage) (grace : ℕ) → record h { stage = Some next; grace = grace; goal = wished h.level_wish h.goal; level_wish = None; booted = is_boot next || h.booted; announced = false }
+      ≡ fields_of (event.Enter next grace ∷ past) (wished h.level_wish h.goal) h.generation
+  fields_entered next grace = λ i. record (kept i) {
     stage = Some next;
     grace = grace;
     goal = wished h.level_wish h.goal;
@@ -53,16 +53,16 @@ module _ (h : CoreFields) (past : List Event) (kept : h ≡ heads_of past h.goal
   }
 
   -- news of the power, or a letter, was carried out
-  pub heads_powered : (kind : PowerKind) → record h { news = with_kind kind false h.news } ≡ heads_of (event.Power kind ∷ past) h.goal h.generation
-  heads_powered kind = λ i. record (kept i) { news = (ap (λ (x : CoreFields). with_kind kind false x.news) kept ∙ by kind) i }
+  pub fields_powered : (kind : PowerKind) → record h { pending = with_kind kind false h.pending } ≡ fields_of (event.Power kind ∷ past) h.goal h.generation
+  fields_powered kind = λ i. record (kept i) { pending = (ap (λ (x : CoreFields). with_kind kind false x.pending) kept ∙ by kind) i }
     where
       by : (kind : PowerKind) → with_kind kind false (news_of past) ≡ news_of (event.Power kind ∷ past)
       by power.Fail = refl
       by power.FailNow = refl
       by power.Ok = refl
 
-  pub heads_called : (l : Letter) → record h { news = with_call l false h.news } ≡ heads_of (event.Call l ∷ past) h.goal h.generation
-  heads_called l = λ i. record (kept i) { news = (ap (λ (x : CoreFields). with_call l false x.news) kept ∙ by l) i }
+  pub fields_called : (l : Letter) → record h { pending = with_call l false h.pending } ≡ fields_of (event.Call l ∷ past) h.goal h.generation
+  fields_called l = λ i. record (kept i) { pending = (ap (λ (x : CoreFields). with_call l false x.pending) kept ∙ by l) i }
     where
       by : (l : Letter) → with_call l false (news_of past) ≡ news_of (event.Call l ∷ past)
       by letter.A = refl
@@ -78,17 +78,17 @@ module _ (h : CoreFields) (past : List Event) (kept : h ≡ heads_of past h.goal
     then = event.Got (got.Level l s) ∷ past
 
     -- before the run levels
-    on_the_way_up : true ≡ wants_reread then → h.level_wish ≡ level_wish then → record h { goal = asked; reread = true } ≡ heads_of then asked h.generation
+    on_the_way_up : true ≡ wants_reread then → h.level_wish ≡ level_wish then → record h { goal = asked; reread = true } ≡ fields_of then asked h.generation
     on_the_way_up again wish = λ i. record (kept i) { goal = asked; reread = again i; level_wish = wish i }
 
-    level_heard : (o : Option Stage) → stage_of past ≡ o → heard_in o asked h ≡ heads_of then (heard_in o asked h).goal (heard_in o asked h).generation
+    level_heard : (o : Option Stage) → stage_of past ≡ o → heard_in o asked h ≡ fields_of then (heard_in o asked h).goal (heard_in o asked h).generation
     level_heard (Some (stage.Run run)) is = at (same_level l run) refl
       where
         reread : h.reread ≡ wants_reread past
         reread = ap (λ (x : CoreFields). x.reread) kept
 
         at : (b : Bool) → same_level l run ≡ b → cond b (record h { level_wish = None }) (record h { level_wish = Some asked; reread = true })
-            ≡ heads_of then (cond b (record h { level_wish = None }) (record h { level_wish = Some asked; reread = true })).goal (cond b (record h { level_wish = None }) (record h { level_wish = Some asked; reread = true })).generation
+            ≡ fields_of then (cond b (record h { level_wish = None }) (record h { level_wish = Some asked; reread = true })).goal (cond b (record h { level_wish = None }) (record h { level_wish = Some asked; reread = true })).generation
         at true same =
             let wish : None ≡ level_wish then = rw (is, same) refl in
             let again : h.reread ≡ wants_reread then = rw (is, same) reread in
@@ -102,28 +102,28 @@ module _ (h : CoreFields) (past : List Event) (kept : h ≡ heads_of past h.goal
     level_heard None is = on_the_way_up (rw is refl) (ap (λ (x : CoreFields). x.level_wish) kept ∙ rw is refl)
 
   -- a request was heard
-  pub heads_got : (request : HeardRequest) → heads_heard request h ≡ heads_of (event.Got request ∷ past) (heads_heard request h).goal (heads_heard request h).generation
-  heads_got (got.Level l s) = subst (λ o. heard_in o (record { level = l; grace = s }) h ≡ heads_of (event.Got (got.Level l s) ∷ past) (heard_in o (record { level = l; grace = s }) h).goal (heard_in o (record { level = l; grace = s }) h).generation)
+  pub fields_got : (request : HeardRequest) → fields_heard request h ≡ fields_of (event.Got request ∷ past) (fields_heard request h).goal (fields_heard request h).generation
+  fields_got (got.Level l s) = subst (λ o. heard_in o (record { level = l; grace = s }) h ≡ fields_of (event.Got (got.Level l s) ∷ past) (heard_in o (record { level = l; grace = s }) h).goal (heard_in o (record { level = l; grace = s }) h).generation)
       (sym (ap (λ (x : CoreFields). x.stage) kept)) (level_heard l s (stage_of past) refl)
-  heads_got got.Reload = λ i. record (kept i) { reread = true }
-  heads_got got.Reexec = λ i. record (kept i) { reexec = true }
-  heads_got (got.Call l) = λ i. record (kept i) { news = (ap (λ (x : CoreFields). with_call l true x.news) kept ∙ by l) i }
+  fields_got got.Reload = λ i. record (kept i) { reread = true }
+  fields_got got.Reexec = λ i. record (kept i) { reexec = true }
+  fields_got (got.Call l) = λ i. record (kept i) { pending = (ap (λ (x : CoreFields). with_call l true x.pending) kept ∙ by l) i }
     where
       by : (l : Letter) → with_call l true (news_of past) ≡ news_of (event.Got (got.Call l) ∷ past)
       by letter.A = refl
       by letter.B = refl
       by letter.C = refl
-  heads_got (got.Power k) = λ i. record (kept i) { news = (ap (λ (x : CoreFields). with_kind k true x.news) kept ∙ by k) i }
+  fields_got (got.Power k) = λ i. record (kept i) { pending = (ap (λ (x : CoreFields). with_kind k true x.pending) kept ∙ by k) i }
     where
       by : (k : PowerKind) → with_kind k true (news_of past) ≡ news_of (event.Got (got.Power k) ∷ past)
       by power.Fail = refl
       by power.FailNow = refl
       by power.Ok = refl
-  heads_got (got.Nothing cause) = kept
+  fields_got (got.Nothing cause) = kept
 
   -- the goal of what is kept, where it is that of the past before the run levels
   module _ (opening : Goal) (law : in_run (stage_of past) ≡ false → h.goal ≡ goal_of opening past) where
-    pub goal_heard : (request : HeardRequest) → in_run (stage_of past) ≡ false → (heads_heard request h).goal ≡ goal_of opening (event.Got request ∷ past)
+    pub goal_heard : (request : HeardRequest) → in_run (stage_of past) ≡ false → (fields_heard request h).goal ≡ goal_of opening (event.Got request ∷ past)
     goal_heard (got.Level l s) early = subst (λ o. in_run o ≡ false → (heard_in o (record { level = l; grace = s }) h).goal ≡ record { level = l; grace = s }) (sym (ap (λ (x : CoreFields). x.stage) kept)) (by (stage_of past)) (ap (λ (x : CoreFields). in_run x.stage) kept ∙ early)
       where
         by : (o : Option Stage) → in_run o ≡ false → (heard_in o (record { level = l; grace = s }) h).goal ≡ record { level = l; grace = s }

@@ -1,7 +1,7 @@
 -- A fact of news, by the first that there is.
-use Rattle.core_model.proofs.Words.{Bool, true, false, News}
+use Rattle.core_model.proofs.Words.{Bool, true, false, PendingCalls}
 
-module _ (P : News → Type 0)
+module _ (P : PendingCalls → Type 0)
     (fail : (n o a b c : Bool) → P (record { fail = true; fail_now = n; ok = o; a = a; b = b; c = c }))
     (fail_now : (o a b c : Bool) → P (record { fail = false; fail_now = true; ok = o; a = a; b = b; c = c }))
     (ok : (a b c : Bool) → P (record { fail = false; fail_now = false; ok = true; a = a; b = b; c = c }))
@@ -9,8 +9,8 @@ module _ (P : News → Type 0)
     (by_b : (c : Bool) → P (record { fail = false; fail_now = false; ok = false; a = false; b = true; c = c }))
     (by_c : P (record { fail = false; fail_now = false; ok = false; a = false; b = false; c = true }))
     (none : P (record { fail = false; fail_now = false; ok = false; a = false; b = false; c = false })) where
-  pub by_first : (news : News) → P news
-  by_first news = at news.fail news.fail_now news.ok news.a news.b news.c
+  pub by_first : (pending : PendingCalls) → P news
+  by_first pending = at news.fail news.fail_now news.ok news.a news.b news.c
     where
       at : (f n o a b c : Bool) → P (record { fail = f; fail_now = n; ok = o; a = a; b = b; c = c })
       at true n o a b c = fail n o a b c

@@ -84,7 +84,7 @@ kept_whole now (e ∷ table) (slot ∷ slots) order known kept =
 kept_whole now table slots order known kept = grind (arith, rest_whole)
 
 -- what is made of whole records that pass the tests keeps the rules, and is what was kept
-pub made_kept : (s : SavedState) → are_whole s.table s.records ≡ true → is_kept s.heads s.table (records_along s.table s.records) ≡ true → IsFit (core_of s)
+pub made_kept : (s : SavedState) → are_whole s.table s.records ≡ true → is_kept s.fields s.table (records_along s.table s.records) ≡ true → IsFit (core_of s)
 made_kept s whole kept = record { in_order = made_order s.table s.records whole; kept = kept }
 
 pub made_state : (s : SavedState) → are_whole s.table s.records ≡ true → state_of (core_of s) ≡ s
@@ -92,7 +92,7 @@ made_state s whole = λ i. record s { records = records_are s.table s.records wh
 
 -- of what is kept by the rules, all records are whole
 rules_whole : (core : CoreState) → IsFit core → are_whole core.table (map record_of core.slots) ≡ true
-rules_whole core fit = let rules = rules_of core fit in kept_whole core.heads.time core.table core.slots fit.in_order rules.births rules.limiters
+rules_whole core fit = let rules = rules_of core fit in kept_whole core.fields.time core.table core.slots fit.in_order rules.births rules.limiters
 
 -- a core that keeps the rules is the one made of what it keeps
 pub core_is : (core : CoreState) → IsFit core → core_of (state_of core) ≡ core
@@ -102,5 +102,5 @@ core_is core rules = λ i. record core { slots = slots_are core.table core.slots
 pub unfit_whole : (s : SavedState) → are_whole s.table s.records ≡ false → (core : CoreState) → IsFit core → state_of core ≢ s
 unfit_whole s fault core rules is = false≢true (sym fault ∙ ap (λ (x : SavedState). are_whole x.table x.records) (sym is) ∙ rules_whole core rules)
 
-pub unfit_kept : (s : SavedState) → is_kept s.heads s.table (records_along s.table s.records) ≡ false → (core : CoreState) → IsFit core → state_of core ≢ s
+pub unfit_kept : (s : SavedState) → is_kept s.fields s.table (records_along s.table s.records) ≡ false → (core : CoreState) → IsFit core → state_of core ≢ s
 unfit_kept s fault core rules = grind (arith, slots_are)

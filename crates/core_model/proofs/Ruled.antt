@@ -106,12 +106,12 @@ placed_each : (now : Option Stage) (table : List Entry) (time : ℕ) (slots : Li
 placed_each now table time [] rules owns starts times = tt
 placed_each now table time (slot ∷ slots) rules owns starts times = (record { rules = rules.0; own = owns.0; start = starts.0; timely = times.0 }, placed_each now table time slots rules.1 owns.1 starts.1 times.1)
 
-pub each_placed : (c : CoreState) → IsFit c → Each (IsPlaced c.heads.stage c.table c.heads.time) c.slots
-each_placed c keeps = placed_each c.heads.stage c.table c.heads.time c.slots
-    (ruled_each c.heads.stage c.table c.heads.time c.slots (rules_of c keeps).caused (rules_of c keeps).births (rules_of c keeps).orders (rules_of c keeps).stops (rules_of c keeps).marks (rules_of c keeps).limiters)
+pub each_placed : (c : CoreState) → IsFit c → Each (IsPlaced c.fields.stage c.table c.fields.time) c.slots
+each_placed c keeps = placed_each c.fields.stage c.table c.fields.time c.slots
+    (ruled_each c.fields.stage c.table c.fields.time c.slots (rules_of c keeps).caused (rules_of c keeps).births (rules_of c keeps).orders (rules_of c keeps).stops (rules_of c keeps).marks (rules_of c keeps).limiters)
     (own_each c.table c.slots keeps.in_order (rules_of c keeps).distinct)
-    (start_in c.heads.stage c.table c.slots keeps.in_order (rules_of c keeps).distinct (rules_of c keeps).orders (rules_of c keeps).starts)
-    (each_from (is_timely c.heads.time) c.slots (rules_of c keeps).timely)
+    (start_in c.fields.stage c.table c.slots keeps.in_order (rules_of c keeps).distinct (rules_of c keeps).orders (rules_of c keeps).starts)
+    (each_from (is_timely c.fields.time) c.slots (rules_of c keeps).timely)
 
 -- and what the rules say of all together
 pub record AreRuled (now : Option Stage) (table : List Entry) (time : ℕ) (slots : List RecordState) : Type 0 where
@@ -128,12 +128,12 @@ pub record IsHeaded (now : Option Stage) (time : ℕ) (other : Option Goal) (set
   pub announced : (not settled || in_run now) ≡ true
   pub reached : is_goal_reached now goal booted ≡ true
 
-pub heads_kept : (c : CoreState) → IsFit c → IsHeaded c.heads.stage c.heads.time c.heads.level_wish c.heads.announced c.heads.goal c.heads.booted
-heads_kept c keeps = record { clock = (rules_of c keeps).clock; wish = (rules_of c keeps).wish; announced = (rules_of c keeps).announced; reached = (rules_of c keeps).reached }
+pub fields_kept : (c : CoreState) → IsFit c → IsHeaded c.fields.stage c.fields.time c.fields.level_wish c.fields.announced c.fields.goal c.fields.booted
+fields_kept c keeps = record { clock = (rules_of c keeps).clock; wish = (rules_of c keeps).wish; announced = (rules_of c keeps).announced; reached = (rules_of c keeps).reached }
 
-pub all_kept : (c : CoreState) → IsFit c → AreRuled c.heads.stage c.table c.heads.time c.slots
+pub all_kept : (c : CoreState) → IsFit c → AreRuled c.fields.stage c.table c.fields.time c.slots
 all_kept c keeps = record {
-  each = ruled_each c.heads.stage c.table c.heads.time c.slots (rules_of c keeps).caused (rules_of c keeps).births (rules_of c keeps).orders (rules_of c keeps).stops (rules_of c keeps).marks (rules_of c keeps).limiters;
+  each = ruled_each c.fields.stage c.table c.fields.time c.slots (rules_of c keeps).caused (rules_of c keeps).births (rules_of c keeps).orders (rules_of c keeps).stops (rules_of c keeps).marks (rules_of c keeps).limiters;
   in_order = keeps.in_order;
   distinct = (rules_of c keeps).distinct;
   starts = (rules_of c keeps).starts;
@@ -141,20 +141,20 @@ all_kept c keeps = record {
   timely = (rules_of c keeps).timely;
 }
 
-pub kept_by : (c : CoreState) → AreRuled c.heads.stage c.table c.heads.time c.slots → IsHeaded c.heads.stage c.heads.time c.heads.level_wish c.heads.announced c.heads.goal c.heads.booted → IsFit c
-kept_by c ruled heads = fit_of c ruled.in_order (record {
+pub kept_by : (c : CoreState) → AreRuled c.fields.stage c.table c.fields.time c.slots → IsHeaded c.fields.stage c.fields.time c.fields.level_wish c.fields.announced c.fields.goal c.fields.booted → IsFit c
+kept_by c ruled fields = fit_of c ruled.in_order (record {
   distinct = ruled.distinct;
-  caused = each_all (IsRuled c.heads.stage c.table c.heads.time) has_cause (λ s own. own.cause) c.slots ruled.each;
-  births = each_all (IsRuled c.heads.stage c.table c.heads.time) (λ (s : RecordState). is_birth_known s.child) (λ s own. own.birth) c.slots ruled.each;
-  orders = each_all (IsRuled c.heads.stage c.table c.heads.time) is_order_allowed (λ s own. own.order) c.slots ruled.each;
+  caused = each_all (IsRuled c.fields.stage c.table c.fields.time) has_cause (λ s own. own.cause) c.slots ruled.each;
+  births = each_all (IsRuled c.fields.stage c.table c.fields.time) (λ (s : RecordState). is_birth_known s.child) (λ s own. own.birth) c.slots ruled.each;
+  orders = each_all (IsRuled c.fields.stage c.table c.fields.time) is_order_allowed (λ s own. own.order) c.slots ruled.each;
   starts = ruled.starts;
   free = ruled.free;
-  stops = each_all (IsRuled c.heads.stage c.table c.heads.time) (is_stop_judged c.heads.stage c.table) (λ s own. own.stop) c.slots ruled.each;
-  marks = each_all (IsRuled c.heads.stage c.table c.heads.time) are_marks_due (λ s own. own.marks) c.slots ruled.each;
-  limiters = each_all (IsRuled c.heads.stage c.table c.heads.time) (is_limiter_kept c.heads.time) (λ s own. own.limiter) c.slots ruled.each;
+  stops = each_all (IsRuled c.fields.stage c.table c.fields.time) (is_stop_judged c.fields.stage c.table) (λ s own. own.stop) c.slots ruled.each;
+  marks = each_all (IsRuled c.fields.stage c.table c.fields.time) are_marks_due (λ s own. own.marks) c.slots ruled.each;
+  limiters = each_all (IsRuled c.fields.stage c.table c.fields.time) (is_limiter_kept c.fields.time) (λ s own. own.limiter) c.slots ruled.each;
   timely = ruled.timely;
-  clock = heads.clock;
-  wish = heads.wish;
-  announced = heads.announced;
-  reached = heads.reached;
+  clock = fields.clock;
+  wish = fields.wish;
+  announced = fields.announced;
+  reached = fields.reached;
 })

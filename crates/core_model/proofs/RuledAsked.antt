@@ -103,28 +103,28 @@ module _ (stage : Option Stage) (table : List Entry) (now : ℕ) (slot : RecordS
 module _ (c : CoreState) (keeps : IsFit c) (id : List ℕ) where
   module _ (ask : OrderKind) (is : decide c ≡ Order id ask) where
     abbrev order : RecordState → RecordState
-    order slot = changed id (after_order ask c.heads.time) slot
+    order slot = changed id (after_order ask c.fields.time) slot
 
     abbrev IsAsked : RecordState → Type 0
-    IsAsked slot = IsPlaced c.heads.stage c.table c.heads.time slot × (is_record_of id slot ≡ true → is_askable ask c.heads.time slot ≡ true)
+    IsAsked slot = IsPlaced c.fields.stage c.table c.fields.time slot × (is_record_of id slot ≡ true → is_askable ask c.fields.time slot ≡ true)
 
     each_asked : Each IsAsked c.slots
-    each_asked = each_both (IsPlaced c.heads.stage c.table c.heads.time) (λ s. is_record_of id s ≡ true → is_askable ask c.heads.time s ≡ true) c.slots (each_placed c keeps) (each_own id (is_askable ask c.heads.time) c.slots (rules_of c keeps).distinct (decided c keeps.in_order (Order id ask) is))
+    each_asked = each_both (IsPlaced c.fields.stage c.table c.fields.time) (λ s. is_record_of id s ≡ true → is_askable ask c.fields.time s ≡ true) c.slots (each_placed c keeps) (each_own id (is_askable ask c.fields.time) c.slots (rules_of c keeps).distinct (decided c keeps.in_order (Order id ask) is))
 
-    pub order_ruled : are_starts_in c.heads.stage c.table (with_changed id (after_order ask c.heads.time) c.slots) ≡ true → are_starts_free (with_changed id (after_order ask c.heads.time) c.slots) ≡ true → AreRuled c.heads.stage c.table c.heads.time (with_changed id (after_order ask c.heads.time) c.slots)
+    pub order_ruled : are_starts_in c.fields.stage c.table (with_changed id (after_order ask c.fields.time) c.slots) ≡ true → are_starts_free (with_changed id (after_order ask c.fields.time) c.slots) ≡ true → AreRuled c.fields.stage c.table c.fields.time (with_changed id (after_order ask c.fields.time) c.slots)
     order_ruled starts free = record {
-      each = each_changed IsAsked (IsRuled c.heads.stage c.table c.heads.time) id (after_order ask c.heads.time) (λ s own. own.0.rules) (λ s here own. asked_ruled c.heads.stage c.table c.heads.time s own.0 ask (own.1 here)) c.slots each_asked;
-      in_order = order_changed id (after_order ask c.heads.time) (id-after_order ask c.heads.time) (act-after_order ask c.heads.time) c.table c.slots keeps.in_order;
-      distinct = distinct_map order (kept_by_one (λ s. s.id) id (after_order ask c.heads.time) (id-after_order ask c.heads.time)) c.slots (rules_of c keeps).distinct;
+      each = each_changed IsAsked (IsRuled c.fields.stage c.table c.fields.time) id (after_order ask c.fields.time) (λ s own. own.0.rules) (λ s here own. asked_ruled c.fields.stage c.table c.fields.time s own.0 ask (own.1 here)) c.slots each_asked;
+      in_order = order_changed id (after_order ask c.fields.time) (id-after_order ask c.fields.time) (act-after_order ask c.fields.time) c.table c.slots keeps.in_order;
+      distinct = distinct_map order (kept_by_one (λ s. s.id) id (after_order ask c.fields.time) (id-after_order ask c.fields.time)) c.slots (rules_of c keeps).distinct;
       starts = starts;
       free = free;
-      timely = timely_changed c.heads.time id (after_order ask c.heads.time) (λ s h. timely_order ask c.heads.time c.heads.time (omega arith) s h) c.slots (rules_of c keeps).timely;
+      timely = timely_changed c.fields.time id (after_order ask c.fields.time) (λ s h. timely_order ask c.fields.time c.fields.time (omega arith) s h) c.slots (rules_of c keeps).timely;
     }
 
-    order_stops : (slot : RecordState) → (after_order ask c.heads.time slot).stop ≡ slot.stop
+    order_stops : (slot : RecordState) → (after_order ask c.fields.time slot).stop ≡ slot.stop
     order_stops slot = grind arith
 
-    stop_of : (slot : RecordState) (b : Bool) → is_some (cond b (after_order ask c.heads.time slot) slot).stop ≡ is_some slot.stop
+    stop_of : (slot : RecordState) (b : Bool) → is_some (cond b (after_order ask c.fields.time slot) slot).stop ≡ is_some slot.stop
     stop_of slot true = ap is_some (order_stops slot)
     stop_of slot false = refl
 
@@ -133,24 +133,24 @@ module _ (c : CoreState) (keeps : IsFit c) (id : List ℕ) where
     stops_same (slot ∷ slots) = λ i. stop_of slot (is_record_of id slot) i || stops_same slots i
 
     -- an order about a child
-    module _ (there : (slot : RecordState) → is_askable ask c.heads.time slot ≡ true → is_some slot.child ≡ true) (plain : (slot : RecordState) → is_started (after_order ask c.heads.time slot) ≡ false) where
-      order_less : (slot : RecordState) → IsAsked slot → (now : Stage) (e : Entry) (b : Bool) → is_record_of id slot ≡ b → IsLess now e slot (cond b (after_order ask c.heads.time slot) slot)
-      order_less slot own now e true here = less_busy now e slot (after_order ask c.heads.time slot) (or_left (is_some slot.child) (is_started slot) (there slot (own.1 here))) (plain slot)
+    module _ (there : (slot : RecordState) → is_askable ask c.fields.time slot ≡ true → is_some slot.child ≡ true) (plain : (slot : RecordState) → is_started (after_order ask c.fields.time slot) ≡ false) where
+      order_less : (slot : RecordState) → IsAsked slot → (now : Stage) (e : Entry) (b : Bool) → is_record_of id slot ≡ b → IsLess now e slot (cond b (after_order ask c.fields.time slot) slot)
+      order_less slot own now e true here = less_busy now e slot (after_order ask c.fields.time slot) (or_left (is_some slot.child) (is_started slot) (there slot (own.1 here))) (plain slot)
       order_less slot own now e false here = less_same now e slot
 
-      started_less : (slot : RecordState) (b : Bool) → is_started (cond b (after_order ask c.heads.time slot) slot) ≡ true → is_started slot ≡ true
-      started_less slot true h = both_ways (is_started (after_order ask c.heads.time slot)) h (plain slot)
+      started_less : (slot : RecordState) (b : Bool) → is_started (cond b (after_order ask c.fields.time slot) slot) ≡ true → is_started slot ≡ true
+      started_less slot true h = both_ways (is_started (after_order ask c.fields.time slot)) h (plain slot)
       started_less slot false h = h
 
-      pub child_ruled : (now : Stage) → c.heads.stage ≡ Some now → AreRuled c.heads.stage c.table c.heads.time (with_changed id (after_order ask c.heads.time) c.slots)
+      pub child_ruled : (now : Stage) → c.fields.stage ≡ Some now → AreRuled c.fields.stage c.table c.fields.time (with_changed id (after_order ask c.fields.time) c.slots)
       child_ruled now in_stage = order_ruled
-          (ap (λ s. are_starts_in s c.table (with_changed id (after_order ask c.heads.time) c.slots)) in_stage ∙ along_less now order c.table c.slots (each_less IsAsked (λ s. (e : Entry) → IsLess now e s (order s)) (λ s own e. order_less s own now e (is_record_of id s) refl) c.slots each_asked) (sym (ap (λ s. are_starts_in s c.table c.slots) in_stage) ∙ (rules_of c keeps).starts))
+          (ap (λ s. are_starts_in s c.table (with_changed id (after_order ask c.fields.time) c.slots)) in_stage ∙ along_less now order c.table c.slots (each_less IsAsked (λ s. (e : Entry) → IsLess now e s (order s)) (λ s own e. order_less s own now e (is_record_of id s) refl) c.slots each_asked) (sym (ap (λ s. are_starts_in s c.table c.slots) in_stage) ∙ (rules_of c keeps).starts))
           (free_less order c.slots (each_less IsAsked (λ s. is_started (order s) ≡ true → is_started s ≡ true) (λ s own. started_less s (is_record_of id s)) c.slots each_asked) (each_less IsAsked (λ s. is_some (order s).stop ≡ true → is_some s.stop ≡ true) (λ s own h. sym (stop_of s (is_record_of id s)) ∙ h) c.slots each_asked) (rules_of c keeps).free)
 
   -- a start, where no child is excluded
-  pub start_all_ruled : decide c ≡ Order id Start → (now : Stage) → c.heads.stage ≡ Some now → has_excluded c.slots ≡ false → are_starts_along now (zip c.table (with_changed id (after_order Start c.heads.time) c.slots)) ≡ true → AreRuled c.heads.stage c.table c.heads.time (with_changed id (after_order Start c.heads.time) c.slots)
-  start_all_ruled is now in_stage spared along = order_ruled Start is (ap (λ s. are_starts_in s c.table (with_changed id (after_order Start c.heads.time) c.slots)) in_stage ∙ along)
-      (free (list_any is_started (with_changed id (after_order Start c.heads.time) c.slots)) (has_excluded (with_changed id (after_order Start c.heads.time) c.slots)) (stops_same Start is c.slots ∙ spared))
+  pub start_all_ruled : decide c ≡ Order id Start → (now : Stage) → c.fields.stage ≡ Some now → has_excluded c.slots ≡ false → are_starts_along now (zip c.table (with_changed id (after_order Start c.fields.time) c.slots)) ≡ true → AreRuled c.fields.stage c.table c.fields.time (with_changed id (after_order Start c.fields.time) c.slots)
+  start_all_ruled is now in_stage spared along = order_ruled Start is (ap (λ s. are_starts_in s c.table (with_changed id (after_order Start c.fields.time) c.slots)) in_stage ∙ along)
+      (free (list_any is_started (with_changed id (after_order Start c.fields.time) c.slots)) (has_excluded (with_changed id (after_order Start c.fields.time) c.slots)) (stops_same Start is c.slots ∙ spared))
     where
       free : (s x : Bool) → x ≡ false → (not s || not x) ≡ true
       free true false h = refl
@@ -160,32 +160,32 @@ module _ (c : CoreState) (keeps : IsFit c) (id : List ℕ) where
   -- a hold
   module _ (is : decide c ≡ Hold id) where
     abbrev hold : RecordState → RecordState
-    hold slot = changed id (after_hold c.heads.time) slot
+    hold slot = changed id (after_hold c.fields.time) slot
 
     abbrev IsHeld : RecordState → Type 0
-    IsHeld slot = IsPlaced c.heads.stage c.table c.heads.time slot × (is_record_of id slot ≡ true → is_holdable c.heads.time slot ≡ true)
+    IsHeld slot = IsPlaced c.fields.stage c.table c.fields.time slot × (is_record_of id slot ≡ true → is_holdable c.fields.time slot ≡ true)
 
     each_held : Each IsHeld c.slots
-    each_held = each_both (IsPlaced c.heads.stage c.table c.heads.time) (λ s. is_record_of id s ≡ true → is_holdable c.heads.time s ≡ true) c.slots (each_placed c keeps) (each_own id (is_holdable c.heads.time) c.slots (rules_of c keeps).distinct (decided c keeps.in_order (Hold id) is))
+    each_held = each_both (IsPlaced c.fields.stage c.table c.fields.time) (λ s. is_record_of id s ≡ true → is_holdable c.fields.time s ≡ true) c.slots (each_placed c keeps) (each_own id (is_holdable c.fields.time) c.slots (rules_of c keeps).distinct (decided c keeps.in_order (Hold id) is))
 
-    hold_less : (slot : RecordState) (now : Stage) (e : Entry) (b : Bool) → IsLess now e slot (cond b (after_hold c.heads.time slot) slot)
+    hold_less : (slot : RecordState) (now : Stage) (e : Entry) (b : Bool) → IsLess now e slot (cond b (after_hold c.fields.time slot) slot)
     hold_less slot now e true = record { allowed = λ h. h; started = λ h. h; owed = λ h. h }
     hold_less slot now e false = less_same now e slot
 
-    hold_started : (slot : RecordState) (b : Bool) → is_started (cond b (after_hold c.heads.time slot) slot) ≡ true → is_started slot ≡ true
+    hold_started : (slot : RecordState) (b : Bool) → is_started (cond b (after_hold c.fields.time slot) slot) ≡ true → is_started slot ≡ true
     hold_started slot true h = h
     hold_started slot false h = h
 
-    hold_stops : (slot : RecordState) (b : Bool) → is_some (cond b (after_hold c.heads.time slot) slot).stop ≡ true → is_some slot.stop ≡ true
+    hold_stops : (slot : RecordState) (b : Bool) → is_some (cond b (after_hold c.fields.time slot) slot).stop ≡ true → is_some slot.stop ≡ true
     hold_stops slot true h = h
     hold_stops slot false h = h
 
-    pub hold_ruled : (now : Stage) → c.heads.stage ≡ Some now → AreRuled c.heads.stage c.table c.heads.time (with_changed id (after_hold c.heads.time) c.slots)
+    pub hold_ruled : (now : Stage) → c.fields.stage ≡ Some now → AreRuled c.fields.stage c.table c.fields.time (with_changed id (after_hold c.fields.time) c.slots)
     hold_ruled now in_stage = record {
-      each = each_changed IsHeld (IsRuled c.heads.stage c.table c.heads.time) id (after_hold c.heads.time) (λ s own. own.0.rules) (λ s here own. held_ruled c.heads.stage c.table c.heads.time s own.0 (own.1 here)) c.slots each_held;
-      in_order = order_changed id (after_hold c.heads.time) (λ s. refl) (λ s. refl) c.table c.slots keeps.in_order;
-      distinct = distinct_map hold (kept_by_one (λ s. s.id) id (after_hold c.heads.time) (λ s. refl)) c.slots (rules_of c keeps).distinct;
-      starts = ap (λ s. are_starts_in s c.table (with_changed id (after_hold c.heads.time) c.slots)) in_stage ∙ along_less now hold c.table c.slots (each_less IsHeld (λ s. (e : Entry) → IsLess now e s (hold s)) (λ s own e. hold_less s now e (is_record_of id s)) c.slots each_held) (sym (ap (λ s. are_starts_in s c.table c.slots) in_stage) ∙ (rules_of c keeps).starts);
+      each = each_changed IsHeld (IsRuled c.fields.stage c.table c.fields.time) id (after_hold c.fields.time) (λ s own. own.0.rules) (λ s here own. held_ruled c.fields.stage c.table c.fields.time s own.0 (own.1 here)) c.slots each_held;
+      in_order = order_changed id (after_hold c.fields.time) (λ s. refl) (λ s. refl) c.table c.slots keeps.in_order;
+      distinct = distinct_map hold (kept_by_one (λ s. s.id) id (after_hold c.fields.time) (λ s. refl)) c.slots (rules_of c keeps).distinct;
+      starts = ap (λ s. are_starts_in s c.table (with_changed id (after_hold c.fields.time) c.slots)) in_stage ∙ along_less now hold c.table c.slots (each_less IsHeld (λ s. (e : Entry) → IsLess now e s (hold s)) (λ s own e. hold_less s now e (is_record_of id s)) c.slots each_held) (sym (ap (λ s. are_starts_in s c.table c.slots) in_stage) ∙ (rules_of c keeps).starts);
       free = free_less hold c.slots (each_less IsHeld (λ s. is_started (hold s) ≡ true → is_started s ≡ true) (λ s own. hold_started s (is_record_of id s)) c.slots each_held) (each_less IsHeld (λ s. is_some (hold s).stop ≡ true → is_some s.stop ≡ true) (λ s own. hold_stops s (is_record_of id s)) c.slots each_held) (rules_of c keeps).free;
-      timely = timely_changed c.heads.time id (after_hold c.heads.time) (λ s h. h) c.slots (rules_of c keeps).timely;
+      timely = timely_changed c.fields.time id (after_hold c.fields.time) (λ s h. h) c.slots (rules_of c keeps).timely;
     }

@@ -73,43 +73,43 @@ called_act false slot = refl
 
 -- a quiet point of a core that keeps the rules
 module _ (c : CoreState) (keeps : IsFit c) (quiet : is_quiet c.slots ≡ true) where
-  calm_each : Each (IsCalm c.heads.stage c.table c.heads.time) c.slots
-  calm_each = each_both (IsRuled c.heads.stage c.table c.heads.time) (λ s. is_busy s.order ≡ false) c.slots (each_less (IsPlaced c.heads.stage c.table c.heads.time) (IsRuled c.heads.stage c.table c.heads.time) (λ s own. own.rules) c.slots (each_placed c keeps)) (each_fails (λ s. is_busy s.order) c.slots (none_busy c.slots quiet))
+  calm_each : Each (IsCalm c.fields.stage c.table c.fields.time) c.slots
+  calm_each = each_both (IsRuled c.fields.stage c.table c.fields.time) (λ s. is_busy s.order ≡ false) c.slots (each_less (IsPlaced c.fields.stage c.table c.fields.time) (IsRuled c.fields.stage c.table c.fields.time) (λ s own. own.rules) c.slots (each_placed c keeps)) (each_fails (λ s. is_busy s.order) c.slots (none_busy c.slots quiet))
 
-  pub entered_ruled : (stage : Stage) → AreRuled (Some stage) c.table c.heads.time (map (after_judge c.table stage) (map after_enter c.slots))
-  entered_ruled stage = quiet_ruled (Some stage) c.table c.heads.time (map (after_judge c.table stage) (map after_enter c.slots))
-      (each_map (IsReady c.heads.time) (IsCalm (Some stage) c.table c.heads.time) (after_judge c.table stage) (λ s ready. judged_ruled stage c.table c.heads.time s ready) (map after_enter c.slots) (each_map (IsCalm c.heads.stage c.table c.heads.time) (IsReady c.heads.time) after_enter (λ s calm. ready_enter c.heads.stage c.table c.heads.time s calm) c.slots calm_each))
+  pub entered_ruled : (stage : Stage) → AreRuled (Some stage) c.table c.fields.time (map (after_judge c.table stage) (map after_enter c.slots))
+  entered_ruled stage = quiet_ruled (Some stage) c.table c.fields.time (map (after_judge c.table stage) (map after_enter c.slots))
+      (each_map (IsReady c.fields.time) (IsCalm (Some stage) c.table c.fields.time) (after_judge c.table stage) (λ s ready. judged_ruled stage c.table c.fields.time s ready) (map after_enter c.slots) (each_map (IsCalm c.fields.stage c.table c.fields.time) (IsReady c.fields.time) after_enter (λ s calm. ready_enter c.fields.stage c.table c.fields.time s calm) c.slots calm_each))
       (order_map (after_judge c.table stage) (id-after_judge c.table stage) (act-after_judge c.table stage) c.table (map after_enter c.slots) (order_map after_enter (λ s. refl) (λ s. refl) c.table c.slots keeps.in_order))
       (distinct_map (after_judge c.table stage) (id-after_judge c.table stage) (map after_enter c.slots) (distinct_map after_enter (λ s. refl) c.slots (rules_of c keeps).distinct))
-      (timely_map c.heads.time (after_judge c.table stage) (λ s h. timely_judge c.heads.time c.table stage s h) (map after_enter c.slots) (timely_map c.heads.time after_enter (λ s h. timely_enter c.heads.time s h) c.slots (rules_of c keeps).timely))
+      (timely_map c.fields.time (after_judge c.table stage) (λ s h. timely_judge c.fields.time c.table stage s h) (map after_enter c.slots) (timely_map c.fields.time after_enter (λ s h. timely_enter c.fields.time s h) c.slots (rules_of c keeps).timely))
 
   module _ (table : List Entry) (apart : is_distinct table ≡ true) where
-    ready_each : Each (IsReady c.heads.time) (adopting.after_adopt table c.slots)
-    ready_each = adopted_each (IsCalm c.heads.stage c.table c.heads.time) (IsReady c.heads.time) table c.slots (ready_new c.heads.time) (λ e s calm. ready_adopted c.heads.stage c.table c.heads.time e s calm) (λ s left calm. ready_left c.heads.stage c.table table c.heads.time s left calm) calm_each
+    ready_each : Each (IsReady c.fields.time) (adopting.after_adopt table c.slots)
+    ready_each = adopted_each (IsCalm c.fields.stage c.table c.fields.time) (IsReady c.fields.time) table c.slots (ready_new c.fields.time) (λ e s calm. ready_adopted c.fields.stage c.table c.fields.time e s calm) (λ s left calm. ready_left c.fields.stage c.table table c.fields.time s left calm) calm_each
 
     adopted_distinct : are_distinct (adopting.after_adopt table c.slots) ≡ true
     adopted_distinct = adopt_distinct table c.slots apart (rules_of c keeps).distinct
 
-    adopted_timely : are_timely c.heads.time (adopting.after_adopt table c.slots) ≡ true
-    adopted_timely = timely_adopt c.heads.time table c.slots (rules_of c keeps).timely
+    adopted_timely : are_timely c.fields.time (adopting.after_adopt table c.slots) ≡ true
+    adopted_timely = timely_adopt c.fields.time table c.slots (rules_of c keeps).timely
 
-    adopted_dawn : c.heads.stage ≡ None → Each (IsCalm None table c.heads.time) (adopting.after_adopt table c.slots)
-    adopted_dawn is = adopted_each (IsCalm None c.table c.heads.time) (IsCalm None table c.heads.time) table c.slots
-        (λ e. dawn_ruled table c.heads.time (new_record e) (ready_new c.heads.time e) refl)
-        (λ e s calm. dawn_ruled table c.heads.time (adopted e (Some s)) (ready_adopted None c.table c.heads.time e s calm) (dawn_stop s.child c.table table s (adopted e (Some s)) s.stop calm.0.stop))
-        (λ s left calm. dawn_ruled table c.heads.time (left_over s) (ready_left None c.table table c.heads.time s left calm) (dawn_stop s.child c.table table s (left_over s) s.stop calm.0.stop))
-        (subst (λ stage. Each (IsCalm stage c.table c.heads.time) c.slots) is calm_each)
+    adopted_dawn : c.fields.stage ≡ None → Each (IsCalm None table c.fields.time) (adopting.after_adopt table c.slots)
+    adopted_dawn is = adopted_each (IsCalm None c.table c.fields.time) (IsCalm None table c.fields.time) table c.slots
+        (λ e. dawn_ruled table c.fields.time (new_record e) (ready_new c.fields.time e) refl)
+        (λ e s calm. dawn_ruled table c.fields.time (adopted e (Some s)) (ready_adopted None c.table c.fields.time e s calm) (dawn_stop s.child c.table table s (adopted e (Some s)) s.stop calm.0.stop))
+        (λ s left calm. dawn_ruled table c.fields.time (left_over s) (ready_left None c.table table c.fields.time s left calm) (dawn_stop s.child c.table table s (left_over s) s.stop calm.0.stop))
+        (subst (λ stage. Each (IsCalm stage c.table c.fields.time) c.slots) is calm_each)
 
-    adopted_in : (stage : Option Stage) → c.heads.stage ≡ stage → AreRuled stage table c.heads.time (judged_in stage table (adopting.after_adopt table c.slots))
-    adopted_in None is = quiet_ruled None table c.heads.time (adopting.after_adopt table c.slots) (adopted_dawn is) (order_adopt table c.slots) adopted_distinct adopted_timely
-    adopted_in (Some stage) is = quiet_ruled (Some stage) table c.heads.time (map (after_judge table stage) (adopting.after_adopt table c.slots))
-        (each_map (IsReady c.heads.time) (IsCalm (Some stage) table c.heads.time) (after_judge table stage) (λ s ready. judged_ruled stage table c.heads.time s ready) (adopting.after_adopt table c.slots) ready_each)
+    adopted_in : (stage : Option Stage) → c.fields.stage ≡ stage → AreRuled stage table c.fields.time (judged_in stage table (adopting.after_adopt table c.slots))
+    adopted_in None is = quiet_ruled None table c.fields.time (adopting.after_adopt table c.slots) (adopted_dawn is) (order_adopt table c.slots) adopted_distinct adopted_timely
+    adopted_in (Some stage) is = quiet_ruled (Some stage) table c.fields.time (map (after_judge table stage) (adopting.after_adopt table c.slots))
+        (each_map (IsReady c.fields.time) (IsCalm (Some stage) table c.fields.time) (after_judge table stage) (λ s ready. judged_ruled stage table c.fields.time s ready) (adopting.after_adopt table c.slots) ready_each)
         (order_map (after_judge table stage) (id-after_judge table stage) (act-after_judge table stage) table (adopting.after_adopt table c.slots) (order_adopt table c.slots))
         (distinct_map (after_judge table stage) (id-after_judge table stage) (adopting.after_adopt table c.slots) adopted_distinct)
-        (timely_map c.heads.time (after_judge table stage) (λ s h. timely_judge c.heads.time table stage s h) (adopting.after_adopt table c.slots) adopted_timely)
+        (timely_map c.fields.time (after_judge table stage) (λ s h. timely_judge c.fields.time table stage s h) (adopting.after_adopt table c.slots) adopted_timely)
 
-    pub adopted_ruled : AreRuled c.heads.stage table c.heads.time (judged_in c.heads.stage table (adopting.after_adopt table c.slots))
-    adopted_ruled = adopted_in c.heads.stage refl
+    pub adopted_ruled : AreRuled c.fields.stage table c.fields.time (judged_in c.fields.stage table (adopting.after_adopt table c.slots))
+    adopted_ruled = adopted_in c.fields.stage refl
 
   -- entries that may be called are called
   module _ (named : Entry → Bool) (callable : (e : Entry) → named e ≡ true → is_callable (Some e.act) ≡ true) where
@@ -123,14 +123,14 @@ module _ (c : CoreState) (keeps : IsFit c) (quiet : is_quiet c.slots ≡ true) w
         at None h = absurd (false≢true h)
         at (Some e) h = callable e h
 
-    call_ruled : (b : Bool) (slot : RecordState) → (b ≡ true → is_callable slot.table_act ≡ true) → IsCalm c.heads.stage c.table c.heads.time slot → IsCalm c.heads.stage c.table c.heads.time (called_if b slot)
+    call_ruled : (b : Bool) (slot : RecordState) → (b ≡ true → is_callable slot.table_act ≡ true) → IsCalm c.fields.stage c.table c.fields.time slot → IsCalm c.fields.stage c.table c.fields.time (called_if b slot)
     call_ruled true slot may calm =
         let marked = marks_parts slot calm.0.marks in (
           record {
             cause = calm.0.cause;
             birth = calm.0.birth;
             order = calm_order slot.order slot (after_call slot) calm.1 refl calm.0.order;
-            stop = stop_same slot.child c.heads.stage c.table slot (after_call slot) slot.stop refl calm.0.stop;
+            stop = stop_same slot.child c.fields.stage c.table slot (after_call slot) slot.stop refl calm.0.stop;
             marks = marks_from (after_call slot) (record { look = marked.look; missed = marked.missed; called = may refl });
             limiter = calm.0.limiter;
           },
@@ -138,16 +138,16 @@ module _ (c : CoreState) (keeps : IsFit c) (quiet : is_quiet c.slots ≡ true) w
         )
     call_ruled false slot may calm = calm
 
-    called_timely : (b : Bool) (slot : RecordState) → is_timely c.heads.time slot ≡ true → is_timely c.heads.time (called_if b slot) ≡ true
+    called_timely : (b : Bool) (slot : RecordState) → is_timely c.fields.time slot ≡ true → is_timely c.fields.time (called_if b slot) ≡ true
     called_timely true slot h = h
     called_timely false slot h = h
 
-    own_calm : Each (λ s. IsCalm c.heads.stage c.table c.heads.time s × (s.table_act ≡ act_of s.id c.table)) c.slots
-    own_calm = each_both (IsCalm c.heads.stage c.table c.heads.time) (λ s. s.table_act ≡ act_of s.id c.table) c.slots calm_each (each_less (IsPlaced c.heads.stage c.table c.heads.time) (λ s. s.table_act ≡ act_of s.id c.table) (λ s own. own.own) c.slots (each_placed c keeps))
+    own_calm : Each (λ s. IsCalm c.fields.stage c.table c.fields.time s × (s.table_act ≡ act_of s.id c.table)) c.slots
+    own_calm = each_both (IsCalm c.fields.stage c.table c.fields.time) (λ s. s.table_act ≡ act_of s.id c.table) c.slots calm_each (each_less (IsPlaced c.fields.stage c.table c.fields.time) (λ s. s.table_act ≡ act_of s.id c.table) (λ s own. own.own) c.slots (each_placed c keeps))
 
-    pub called_ruled : AreRuled c.heads.stage c.table c.heads.time (with_called named c.table c.slots)
-    called_ruled = quiet_ruled c.heads.stage c.table c.heads.time (map call c.slots)
-        (each_map (λ s. IsCalm c.heads.stage c.table c.heads.time s × (s.table_act ≡ act_of s.id c.table)) (IsCalm c.heads.stage c.table c.heads.time) call (λ s both. call_ruled (list_any (λ e. has_id s.id e && named e) c.table) s (named_callable s both.1) both.0) c.slots own_calm)
+    pub called_ruled : AreRuled c.fields.stage c.table c.fields.time (with_called named c.table c.slots)
+    called_ruled = quiet_ruled c.fields.stage c.table c.fields.time (map call c.slots)
+        (each_map (λ s. IsCalm c.fields.stage c.table c.fields.time s × (s.table_act ≡ act_of s.id c.table)) (IsCalm c.fields.stage c.table c.fields.time) call (λ s both. call_ruled (list_any (λ e. has_id s.id e && named e) c.table) s (named_callable s both.1) both.0) c.slots own_calm)
         (order_map call (λ s. called_id (list_any (λ e. has_id s.id e && named e) c.table) s) (λ s. called_act (list_any (λ e. has_id s.id e && named e) c.table) s) c.table c.slots keeps.in_order)
         (distinct_map call (λ s. called_id (list_any (λ e. has_id s.id e && named e) c.table) s) c.slots (rules_of c keeps).distinct)
-        (timely_map c.heads.time call (λ s h. called_timely (list_any (λ e. has_id s.id e && named e) c.table) s h) c.slots (rules_of c keeps).timely)
+        (timely_map c.fields.time call (λ s h. called_timely (list_any (λ e. has_id s.id e && named e) c.table) s h) c.slots (rules_of c keeps).timely)

@@ -33,64 +33,64 @@ verdict b = cond b (Ok tt) (Err WrongAnswer)
 
 module _ (c : CoreState) (keeps : IsFit c) (id : List ℕ) (answer : Answer) where
   abbrev next : RecordState → RecordState
-  next slot = changed id (after_answer answer c.heads.time) slot
+  next slot = changed id (after_answer answer c.fields.time) slot
 
   abbrev IsAnswered : RecordState → Type 0
-  IsAnswered slot = IsPlaced c.heads.stage c.table c.heads.time slot × (is_record_of id slot ≡ true → is_answered answer slot.order ≡ true)
+  IsAnswered slot = IsPlaced c.fields.stage c.table c.fields.time slot × (is_record_of id slot ≡ true → is_answered answer slot.order ≡ true)
 
   module _ (found : RecordState) (there : record_by_id id c.slots ≡ Some found) (answered : is_answered answer found.order ≡ true) where
     each_answered : Each IsAnswered c.slots
-    each_answered = each_both (IsPlaced c.heads.stage c.table c.heads.time) (λ s. is_record_of id s ≡ true → is_answered answer s.order ≡ true) c.slots (each_placed c keeps) (each_own id (λ s. is_answered answer s.order) c.slots (rules_of c keeps).distinct (found_with id (λ s. is_answered answer s.order) c.slots found there answered))
+    each_answered = each_both (IsPlaced c.fields.stage c.table c.fields.time) (λ s. is_record_of id s ≡ true → is_answered answer s.order ≡ true) c.slots (each_placed c keeps) (each_own id (λ s. is_answered answer s.order) c.slots (rules_of c keeps).distinct (found_with id (λ s. is_answered answer s.order) c.slots found there answered))
 
     -- the record stays, without its order
-    started_less : (slot : RecordState) (b : Bool) → is_started (cond b (after_answer answer c.heads.time slot) slot) ≡ true → is_started slot ≡ true
-    started_less slot true h = absurd (false≢true (sym (ap (is_order Start) (order_over answer c.heads.time slot)) ∙ h))
+    started_less : (slot : RecordState) (b : Bool) → is_started (cond b (after_answer answer c.fields.time slot) slot) ≡ true → is_started slot ≡ true
+    started_less slot true h = absurd (false≢true (sym (ap (is_order Start) (order_over answer c.fields.time slot)) ∙ h))
     started_less slot false h = h
 
-    stop_less : (slot : RecordState) → IsAnswered slot → (b : Bool) → is_some (cond b (after_answer answer c.heads.time slot) slot).stop ≡ true → is_some slot.stop ≡ true
-    stop_less slot own true h = begins_none c.heads.stage c.table c.heads.time slot own.0 answer h
+    stop_less : (slot : RecordState) → IsAnswered slot → (b : Bool) → is_some (cond b (after_answer answer c.fields.time slot) slot).stop ≡ true → is_some slot.stop ≡ true
+    stop_less slot own true h = begins_none c.fields.stage c.table c.fields.time slot own.0 answer h
     stop_less slot own false h = h
 
-    next_less : (slot : RecordState) → IsAnswered slot → (now : Stage) (e : Entry) (b : Bool) → is_record_of id slot ≡ b → IsLess now e slot (cond b (after_answer answer c.heads.time slot) slot)
-    next_less slot own now e true is = less_busy now e slot (after_answer answer c.heads.time slot) (was_busy c.heads.stage c.table c.heads.time slot own.0 answer slot.order refl (own.1 is)) (ap (is_order Start) (order_over answer c.heads.time slot))
+    next_less : (slot : RecordState) → IsAnswered slot → (now : Stage) (e : Entry) (b : Bool) → is_record_of id slot ≡ b → IsLess now e slot (cond b (after_answer answer c.fields.time slot) slot)
+    next_less slot own now e true is = less_busy now e slot (after_answer answer c.fields.time slot) (was_busy c.fields.stage c.table c.fields.time slot own.0 answer slot.order refl (own.1 is)) (ap (is_order Start) (order_over answer c.fields.time slot))
     next_less slot own now e false is = less_same now e slot
 
-    stays_ruled : is_over answer found ≡ false → AreRuled c.heads.stage c.table c.heads.time (with_changed id (after_answer answer c.heads.time) c.slots)
+    stays_ruled : is_over answer found ≡ false → AreRuled c.fields.stage c.table c.fields.time (with_changed id (after_answer answer c.fields.time) c.slots)
     stays_ruled stays = record {
-      each = each_changed (λ s. IsAnswered s × (is_record_of id s ≡ true → not (is_over answer s) ≡ true)) (IsRuled c.heads.stage c.table c.heads.time) id (after_answer answer c.heads.time)
+      each = each_changed (λ s. IsAnswered s × (is_record_of id s ≡ true → not (is_over answer s) ≡ true)) (IsRuled c.fields.stage c.table c.fields.time) id (after_answer answer c.fields.time)
           (λ s own. own.0.0.rules)
-          (λ s is own. told_ruled c.heads.stage c.table c.heads.time s own.0.0 answer (own.0.1 is) (not-true (is_over answer s) (own.1 is))) c.slots
+          (λ s is own. told_ruled c.fields.stage c.table c.fields.time s own.0.0 answer (own.0.1 is) (not-true (is_over answer s) (own.1 is))) c.slots
           (each_both IsAnswered (λ s. is_record_of id s ≡ true → not (is_over answer s) ≡ true) c.slots each_answered (each_own id (λ s. not (is_over answer s)) c.slots (rules_of c keeps).distinct (found_with id (λ s. not (is_over answer s)) c.slots found there (ap not stays))));
-      in_order = subst (IsInOrder c.table) here (order_told id answer c.heads.time c.table c.slots keeps.in_order);
-      distinct = distinct_map next (kept_by_one (λ s. s.id) id (after_answer answer c.heads.time) (λ s. id-after_answer answer c.heads.time s)) c.slots (rules_of c keeps).distinct;
-      starts = starts_less c.heads.stage next c.table c.slots (each_less IsAnswered (λ s. is_started (next s) ≡ true → is_started s ≡ true) (λ s own. started_less s (is_record_of id s)) c.slots each_answered) (λ now. each_less IsAnswered (λ s. (e : Entry) → IsLess now e s (next s)) (λ s own e. next_less s own now e (is_record_of id s) refl) c.slots each_answered) (rules_of c keeps).starts;
+      in_order = subst (IsInOrder c.table) here (order_told id answer c.fields.time c.table c.slots keeps.in_order);
+      distinct = distinct_map next (kept_by_one (λ s. s.id) id (after_answer answer c.fields.time) (λ s. id-after_answer answer c.fields.time s)) c.slots (rules_of c keeps).distinct;
+      starts = starts_less c.fields.stage next c.table c.slots (each_less IsAnswered (λ s. is_started (next s) ≡ true → is_started s ≡ true) (λ s own. started_less s (is_record_of id s)) c.slots each_answered) (λ now. each_less IsAnswered (λ s. (e : Entry) → IsLess now e s (next s)) (λ s own e. next_less s own now e (is_record_of id s) refl) c.slots each_answered) (rules_of c keeps).starts;
       free = free_less next c.slots (each_less IsAnswered (λ s. is_started (next s) ≡ true → is_started s ≡ true) (λ s own. started_less s (is_record_of id s)) c.slots each_answered) (each_less IsAnswered (λ s. is_some (next s).stop ≡ true → is_some s.stop ≡ true) (λ s own. stop_less s own (is_record_of id s)) c.slots each_answered) (rules_of c keeps).free;
-      timely = subst (λ slots. are_timely c.heads.time slots ≡ true) here (timely_told id answer c.heads.time c.heads.time (omega arith) c.slots (rules_of c keeps).timely);
+      timely = subst (λ slots. are_timely c.fields.time slots ≡ true) here (timely_told id answer c.fields.time c.fields.time (omega arith) c.slots (rules_of c keeps).timely);
     } where
-      here : after_told id answer c.heads.time c.slots ≡ with_changed id (after_answer answer c.heads.time) c.slots
-      here = ap (λ b. cond b (without id c.slots) (with_changed id (after_answer answer c.heads.time) c.slots)) (ap (is_over_of answer) there ∙ stays)
+      here : after_told id answer c.fields.time c.slots ≡ with_changed id (after_answer answer c.fields.time) c.slots
+      here = ap (λ b. cond b (without id c.slots) (with_changed id (after_answer answer c.fields.time) c.slots)) (ap (is_over_of answer) there ∙ stays)
 
     -- the record of a child that ended goes
     starts_without : is_over answer found ≡ true → (stage : Option Stage) → are_starts_in stage c.table c.slots ≡ true → are_starts_in stage c.table (without id c.slots) ≡ true
     starts_without over None none = not_from_false (list_any is_started (without id c.slots)) (falsely (list_any is_started (without id c.slots)) (list_any is_started c.slots) (any_filtered is_started (λ s. not (is_record_of id s)) c.slots) (not-true (list_any is_started c.slots) none))
     starts_without over (Some now) along = ap (are_starts_along now) (zip_without id c.table c.slots keeps.in_order (each_own id (λ s. is_none s.table_act) c.slots (rules_of c keeps).distinct (found_with id (λ s. is_none s.table_act) c.slots found there (over_none answer found over)))) ∙ along
 
-    goes_ruled : is_over answer found ≡ true → AreRuled c.heads.stage c.table c.heads.time (without id c.slots)
+    goes_ruled : is_over answer found ≡ true → AreRuled c.fields.stage c.table c.fields.time (without id c.slots)
     goes_ruled over = record {
-      each = each_filter (IsPlaced c.heads.stage c.table c.heads.time) (IsRuled c.heads.stage c.table c.heads.time) (λ s. not (is_record_of id s)) (λ s other own. own.rules) c.slots (each_placed c keeps);
-      in_order = subst (IsInOrder c.table) here (order_told id answer c.heads.time c.table c.slots keeps.in_order);
+      each = each_filter (IsPlaced c.fields.stage c.table c.fields.time) (IsRuled c.fields.stage c.table c.fields.time) (λ s. not (is_record_of id s)) (λ s other own. own.rules) c.slots (each_placed c keeps);
+      in_order = subst (IsInOrder c.table) here (order_told id answer c.fields.time c.table c.slots keeps.in_order);
       distinct = distinct_filter (λ s. not (is_record_of id s)) c.slots (rules_of c keeps).distinct;
-      starts = starts_without over c.heads.stage (rules_of c keeps).starts;
+      starts = starts_without over c.fields.stage (rules_of c keeps).starts;
       free = free_filter (λ s. not (is_record_of id s)) c.slots (rules_of c keeps).free;
-      timely = subst (λ slots. are_timely c.heads.time slots ≡ true) here (timely_told id answer c.heads.time c.heads.time (omega arith) c.slots (rules_of c keeps).timely);
+      timely = subst (λ slots. are_timely c.fields.time slots ≡ true) here (timely_told id answer c.fields.time c.fields.time (omega arith) c.slots (rules_of c keeps).timely);
     } where
-      here : after_told id answer c.heads.time c.slots ≡ without id c.slots
-      here = ap (λ b. cond b (without id c.slots) (with_changed id (after_answer answer c.heads.time) c.slots)) (ap (is_over_of answer) there ∙ over)
+      here : after_told id answer c.fields.time c.slots ≡ without id c.slots
+      here = ap (λ b. cond b (without id c.slots) (with_changed id (after_answer answer c.fields.time) c.slots)) (ap (is_over_of answer) there ∙ over)
 
-    found_ruled : AreRuled c.heads.stage c.table c.heads.time (after_told id answer c.heads.time c.slots)
-    found_ruled = subst (λ b. AreRuled c.heads.stage c.table c.heads.time (cond b (without id c.slots) (with_changed id (after_answer answer c.heads.time) c.slots))) (sym (ap (is_over_of answer) there)) (at (is_over answer found) refl)
+    found_ruled : AreRuled c.fields.stage c.table c.fields.time (after_told id answer c.fields.time c.slots)
+    found_ruled = subst (λ b. AreRuled c.fields.stage c.table c.fields.time (cond b (without id c.slots) (with_changed id (after_answer answer c.fields.time) c.slots))) (sym (ap (is_over_of answer) there)) (at (is_over answer found) refl)
       where
-        at : (b : Bool) → is_over answer found ≡ b → AreRuled c.heads.stage c.table c.heads.time (cond b (without id c.slots) (with_changed id (after_answer answer c.heads.time) c.slots))
+        at : (b : Bool) → is_over answer found ≡ b → AreRuled c.fields.stage c.table c.fields.time (cond b (without id c.slots) (with_changed id (after_answer answer c.fields.time) c.slots))
         at true over = goes_ruled over
         at false stays = stays_ruled stays
 
@@ -98,9 +98,9 @@ module _ (c : CoreState) (keeps : IsFit c) (id : List ℕ) (answer : Answer) whe
   taken : (o : Option OrderKind) → refusal_of o answer ≡ Ok tt → is_answered answer o ≡ true
   taken o is = grind arith
 
-  pub answer_ruled : refusal_of (order_in id c.slots) answer ≡ Ok tt → AreRuled c.heads.stage c.table c.heads.time (after_told id answer c.heads.time c.slots)
+  pub answer_ruled : refusal_of (order_in id c.slots) answer ≡ Ok tt → AreRuled c.fields.stage c.table c.fields.time (after_told id answer c.fields.time c.slots)
   answer_ruled given = at (record_by_id id c.slots) refl
     where
-      at : (o : Option RecordState) → record_by_id id c.slots ≡ o → AreRuled c.heads.stage c.table c.heads.time (after_told id answer c.heads.time c.slots)
+      at : (o : Option RecordState) → record_by_id id c.slots ≡ o → AreRuled c.fields.stage c.table c.fields.time (after_told id answer c.fields.time c.slots)
       at None is = absurd (false≢true (taken None (sym (ap (λ o. refusal_of (order_of o) answer) is) ∙ given)))
       at (Some found) is = found_ruled found is (taken found.order (sym (ap (λ o. refusal_of (order_of o) answer) is) ∙ given))

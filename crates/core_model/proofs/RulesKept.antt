@@ -6,7 +6,7 @@ use Rattle.trace_events.specs.declared.steps.Step.TheVariants.{Enter, Call, Powe
 use Rattle.core_records.specs.Lists.{is_quiet}
 use Rattle.core_model.specs.Steps.{after_told}
 use Rattle.core_model.proofs.Kept.{rules_of}
-use Rattle.core_model.proofs.Ruled.{all_kept, heads_kept, kept_by}
+use Rattle.core_model.proofs.Ruled.{all_kept, fields_kept, kept_by}
 use Rattle.core_model.proofs.RuledAsked.{start_all_ruled, child_ruled, hold_ruled}
 use Rattle.core_model.proofs.RuledMade.{opening_ruled, entered_ruled, adopted_ruled, called_ruled}
 use Rattle.core_model.proofs.RuledTold.{answer_ruled}
@@ -18,10 +18,10 @@ opening_keeps table goal distinct = kept_by (opening_state table goal) (opening_
 
 -- what a step that is decided in a stage brings with it: a stage, news and an announcement come where they may, and a
 -- start is behind no owed entry and beside no excluded child
-module _ (c : CoreState) (keeps : IsFit c) (now : Stage) (in_stage : c.heads.stage ≡ Some now) where
+module _ (c : CoreState) (keeps : IsFit c) (now : Stage) (in_stage : c.fields.stage ≡ Some now) where
   abbrev is_lawful : Option Step → Bool
-  is_lawful (Some (Order id Start)) = not (has_excluded c.slots) && are_starts_along now (zip c.table (with_changed id (after_order Start c.heads.time) c.slots))
-  is_lawful (Some (Enter next grace)) = is_quiet c.slots && is_goal_reached (Some next) (wished c.heads.level_wish c.heads.goal) (is_boot next || c.heads.booted)
+  is_lawful (Some (Order id Start)) = not (has_excluded c.slots) && are_starts_along now (zip c.table (with_changed id (after_order Start c.fields.time) c.slots))
+  is_lawful (Some (Enter next grace)) = is_quiet c.slots && is_goal_reached (Some next) (wished c.fields.level_wish c.fields.goal) (is_boot next || c.fields.booted)
   is_lawful (Some (Call letter)) = is_quiet c.slots
   is_lawful (Some (Power kind)) = is_quiet c.slots
   is_lawful (Some (Settle level)) = in_run (Some now)
@@ -40,31 +40,31 @@ module _ (c : CoreState) (keeps : IsFit c) (now : Stage) (in_stage : c.heads.sta
 
   -- the wishes, at a quiet point
   wished_lawful : is_quiet c.slots ≡ true → is_lawful (wished_step now c) ≡ true
-  wished_lawful quiet = at c.heads.reexec c.heads.reread
+  wished_lawful quiet = at c.fields.reexec c.fields.reread
     where
-      reached : (wish : Goal) → c.heads.level_wish ≡ Some wish → (b : Bool) → is_goal_reached (Some (cond b stage.Boot (stage.Run wish.level))) (wished c.heads.level_wish c.heads.goal) (is_boot (cond b stage.Boot (stage.Run wish.level)) || c.heads.booted) ≡ true
+      reached : (wish : Goal) → c.fields.level_wish ≡ Some wish → (b : Bool) → is_goal_reached (Some (cond b stage.Boot (stage.Run wish.level))) (wished c.fields.level_wish c.fields.goal) (is_boot (cond b stage.Boot (stage.Run wish.level)) || c.fields.booted) ≡ true
       reached wish is true = refl
-      reached wish is false = ap (λ o. same_level (wished o c.heads.goal).level wish.level) is ∙ same_level-self wish.level
+      reached wish is false = ap (λ o. same_level (wished o c.fields.goal).level wish.level) is ∙ same_level-self wish.level
 
-      level : (wish : Option Goal) → c.heads.level_wish ≡ wish → is_lawful (level_step c.heads.booted wish) ≡ true
+      level : (wish : Option Goal) → c.fields.level_wish ≡ wish → is_lawful (level_step c.fields.booted wish) ≡ true
       level wish is = grind arith
 
-      news : is_lawful (first_news c.heads.news) ≡ true
-      news = grind arith
+      news : is_lawful (first_news c.fields.pending) ≡ true
+      pending = grind arith
 
-      at : (x r : Bool) → is_lawful (cond x (Some Reexec) (cond r (Some Reread) (or_else (level_step c.heads.booted c.heads.level_wish) (news_step now c)))) ≡ true
+      at : (x r : Bool) → is_lawful (cond x (Some Reexec) (cond r (Some Reread) (or_else (level_step c.fields.booted c.fields.level_wish) (news_step now c)))) ≡ true
       at true r = refl
       at false true = refl
-      at false false = lawful_or (level_step c.heads.booted c.heads.level_wish) (news_step now c) (level c.heads.level_wish refl) (lawful_if (in_run (Some now)) (first_news c.heads.news) (λ run. news))
+      at false false = lawful_or (level_step c.fields.booted c.fields.level_wish) (news_step now c) (level c.fields.level_wish refl) (lawful_if (in_run (Some now)) (first_news c.fields.pending) (λ run. news))
 
-  stage_lawful : is_lawful (stage_step now c.heads.goal c.table c.slots) ≡ true
+  stage_lawful : is_lawful (stage_step now c.fields.goal c.table c.slots) ≡ true
   stage_lawful = grind arith
 
-  settle_lawful : is_lawful (settle_step now c.heads.announced c.heads.time c.table c.slots) ≡ true
+  settle_lawful : is_lawful (settle_step now c.fields.announced c.fields.time c.table c.slots) ≡ true
   settle_lawful = grind arith
 
   -- signals and looks
-  stops_lawful : (slots : List RecordState) → is_lawful (stop_among c.heads.grace c.heads.time slots) ≡ true
+  stops_lawful : (slots : List RecordState) → is_lawful (stop_among c.fields.grace c.fields.time slots) ≡ true
   stops_lawful [] = grind arith
   stops_lawful (slot ∷ slots) = grind (arith, stops_lawful slots)
 
@@ -82,9 +82,9 @@ module _ (c : CoreState) (keeps : IsFit c) (now : Stage) (in_stage : c.heads.sta
   walked_or : (a b : Option Step) → is_walked a ≡ true → is_walked b ≡ true → is_walked (or_else a b) ≡ true
   walked_or a b ha hb = grind arith
 
-  walked : (ps : List (Entry × RecordState)) → is_walked (start_along now c.heads.time ps) ≡ true
+  walked : (ps : List (Entry × RecordState)) → is_walked (start_along now c.fields.time ps) ≡ true
   walked [] = refl
-  walked (p ∷ ps) = walked_or (start_step now c.heads.time p.0 p.1) (cond (is_owed_record now p.0 p.1) None (start_along now c.heads.time ps)) (step (can_start_record now p.0 p.1) (is_limited p.0.act) (is_held p.1.limiter.held c.heads.time) (allows (may_of p.1.limiter c.heads.time))) (rest (is_owed_record now p.0 p.1) (walked ps))
+  walked (p ∷ ps) = walked_or (start_step now c.fields.time p.0 p.1) (cond (is_owed_record now p.0 p.1) None (start_along now c.fields.time ps)) (step (can_start_record now p.0 p.1) (is_limited p.0.act) (is_held p.1.limiter.held c.fields.time) (allows (may_of p.1.limiter c.fields.time))) (rest (is_owed_record now p.0 p.1) (walked ps))
     where
       step : (b l h a : Bool) → is_walked (cond b (cond l (cond h None (Some (cond a (Order p.0.id Start) (Hold p.0.id)))) (Some (Order p.0.id Start))) None) ≡ true
       step true true true a = refl
@@ -93,16 +93,16 @@ module _ (c : CoreState) (keeps : IsFit c) (now : Stage) (in_stage : c.heads.sta
       step true false h a = refl
       step false l h a = refl
 
-      rest : (b : Bool) → is_walked (start_along now c.heads.time ps) ≡ true → is_walked (cond b None (start_along now c.heads.time ps)) ≡ true
+      rest : (b : Bool) → is_walked (start_along now c.fields.time ps) ≡ true → is_walked (cond b None (start_along now c.fields.time ps)) ≡ true
       rest true h = refl
       rest false h = h
 
-  starts_lawful : has_excluded c.slots ≡ false → is_lawful (start_along now c.heads.time (zip c.table c.slots)) ≡ true
-  starts_lawful spared = at (start_along now c.heads.time (zip c.table c.slots)) refl (walked (zip c.table c.slots))
+  starts_lawful : has_excluded c.slots ≡ false → is_lawful (start_along now c.fields.time (zip c.table c.slots)) ≡ true
+  starts_lawful spared = at (start_along now c.fields.time (zip c.table c.slots)) refl (walked (zip c.table c.slots))
     where
-      at : (o : Option Step) → start_along now c.heads.time (zip c.table c.slots) ≡ o → is_walked o ≡ true → is_lawful o ≡ true
+      at : (o : Option Step) → start_along now c.fields.time (zip c.table c.slots) ≡ o → is_walked o ≡ true → is_lawful o ≡ true
       at None is h = refl
-      at (Some (Order id Start)) is h = and_from (not (has_excluded c.slots)) (are_starts_along now (zip c.table (with_changed id (after_order Start c.heads.time) c.slots))) (ap not spared) (walk_kept now c.heads.time id c.table c.slots keeps.in_order (rules_of c keeps).distinct is (sym (ap (λ s. are_starts_in s c.table c.slots) in_stage) ∙ (rules_of c keeps).starts))
+      at (Some (Order id Start)) is h = and_from (not (has_excluded c.slots)) (are_starts_along now (zip c.table (with_changed id (after_order Start c.fields.time) c.slots))) (ap not spared) (walk_kept now c.fields.time id c.table c.slots keeps.in_order (rules_of c keeps).distinct is (sym (ap (λ s. are_starts_in s c.table c.slots) in_stage) ∙ (rules_of c keeps).starts))
       at (Some (Hold id)) is h = refl
       at (Some (Order id Look)) is h = absurd (false≢true h)
       at (Some (Order id Term)) is h = absurd (false≢true h)
@@ -125,7 +125,7 @@ module _ (c : CoreState) (keeps : IsFit c) (now : Stage) (in_stage : c.heads.sta
   decided_lawful s is = grind (arith, idle_lawful, lawful_or, lawful_if, wished_lawful, work_lawful, looks_lawful)
 
 -- a stage that is entered at a quiet point
-entered_keeps : (c : CoreState) → IsFit c → (next : Stage) (grace : ℕ) → is_quiet c.slots ≡ true → is_goal_reached (Some next) (wished c.heads.level_wish c.heads.goal) (is_boot next || c.heads.booted) ≡ true → IsFit (after_step (Enter next grace) c)
+entered_keeps : (c : CoreState) → IsFit c → (next : Stage) (grace : ℕ) → is_quiet c.slots ≡ true → is_goal_reached (Some next) (wished c.fields.level_wish c.fields.goal) (is_boot next || c.fields.booted) ≡ true → IsFit (after_step (Enter next grace) c)
 entered_keeps c keeps next grace quiet reached = kept_by (after_step (Enter next grace) c) (entered_ruled c keeps quiet next) (record { clock = (rules_of c keeps).clock; wish = refl; announced = refl; reached = reached })
 
 -- an entry that a step names may be called
@@ -133,36 +133,36 @@ named_callable : (s : Step) (now : Option Stage) (e : Entry) → is_named s now 
 named_callable s now e h = grind arith
 
 -- a step that was decided
-step_in : (c : CoreState) → IsFit c → (now : Stage) → c.heads.stage ≡ Some now → (s : Step) → decide c ≡ s → IsFit (after_step s c)
+step_in : (c : CoreState) → IsFit c → (now : Stage) → c.fields.stage ≡ Some now → (s : Step) → decide c ≡ s → IsFit (after_step s c)
 step_in c keeps now in_stage (Enter next grace) is =
-    let parts = and_parts (is_quiet c.slots) (is_goal_reached (Some next) (wished c.heads.level_wish c.heads.goal) (is_boot next || c.heads.booted)) (decided_lawful c keeps now in_stage (Enter next grace) is) in
+    let parts = and_parts (is_quiet c.slots) (is_goal_reached (Some next) (wished c.fields.level_wish c.fields.goal) (is_boot next || c.fields.booted)) (decided_lawful c keeps now in_stage (Enter next grace) is) in
     entered_keeps c keeps next grace parts.0 parts.1
-step_in c keeps now in_stage (Call letter) is = kept_by (after_step (Call letter) c) (called_ruled c keeps (decided_lawful c keeps now in_stage (Call letter) is) (is_named (Call letter) c.heads.stage) (named_callable (Call letter) c.heads.stage)) (heads_kept c keeps)
-step_in c keeps now in_stage (Power kind) is = kept_by (after_step (Power kind) c) (called_ruled c keeps (decided_lawful c keeps now in_stage (Power kind) is) (is_named (Power kind) c.heads.stage) (named_callable (Power kind) c.heads.stage)) (heads_kept c keeps)
+step_in c keeps now in_stage (Call letter) is = kept_by (after_step (Call letter) c) (called_ruled c keeps (decided_lawful c keeps now in_stage (Call letter) is) (is_named (Call letter) c.fields.stage) (named_callable (Call letter) c.fields.stage)) (fields_kept c keeps)
+step_in c keeps now in_stage (Power kind) is = kept_by (after_step (Power kind) c) (called_ruled c keeps (decided_lawful c keeps now in_stage (Power kind) is) (is_named (Power kind) c.fields.stage) (named_callable (Power kind) c.fields.stage)) (fields_kept c keeps)
 step_in c keeps now in_stage (Order id Start) is =
-    let parts = and_parts (not (has_excluded c.slots)) (are_starts_along now (zip c.table (with_changed id (after_order Start c.heads.time) c.slots))) (decided_lawful c keeps now in_stage (Order id Start) is) in
-    kept_by (after_step (Order id Start) c) (start_all_ruled c keeps id is now in_stage (not-true (has_excluded c.slots) parts.0) parts.1) (heads_kept c keeps)
-step_in c keeps now in_stage (Order id Look) is = kept_by (after_step (Order id Look) c) (child_ruled c keeps id Look is (λ s h. (and_parts (is_none s.order) (is_some s.child) (and_parts (can_be_asked Look c.heads.time s) true h).0).1) (λ s. refl) now in_stage) (heads_kept c keeps)
-step_in c keeps now in_stage (Order id Term) is = kept_by (after_step (Order id Term) c) (child_ruled c keeps id Term is (λ s h. (and_parts (is_none s.order) (is_some s.child) (and_parts (can_be_asked Term c.heads.time s) (may_follow Term s.stop) h).0).1) (λ s. refl) now in_stage) (heads_kept c keeps)
-step_in c keeps now in_stage (Order id Kill) is = kept_by (after_step (Order id Kill) c) (child_ruled c keeps id Kill is (λ s h. (and_parts (is_none s.order) (is_some s.child) (and_parts (can_be_asked Kill c.heads.time s) (may_follow Kill s.stop) h).0).1) (λ s. refl) now in_stage) (heads_kept c keeps)
-step_in c keeps now in_stage (Hold id) is = kept_by (after_step (Hold id) c) (hold_ruled c keeps id is now in_stage) (heads_kept c keeps)
+    let parts = and_parts (not (has_excluded c.slots)) (are_starts_along now (zip c.table (with_changed id (after_order Start c.fields.time) c.slots))) (decided_lawful c keeps now in_stage (Order id Start) is) in
+    kept_by (after_step (Order id Start) c) (start_all_ruled c keeps id is now in_stage (not-true (has_excluded c.slots) parts.0) parts.1) (fields_kept c keeps)
+step_in c keeps now in_stage (Order id Look) is = kept_by (after_step (Order id Look) c) (child_ruled c keeps id Look is (λ s h. (and_parts (is_none s.order) (is_some s.child) (and_parts (can_be_asked Look c.fields.time s) true h).0).1) (λ s. refl) now in_stage) (fields_kept c keeps)
+step_in c keeps now in_stage (Order id Term) is = kept_by (after_step (Order id Term) c) (child_ruled c keeps id Term is (λ s h. (and_parts (is_none s.order) (is_some s.child) (and_parts (can_be_asked Term c.fields.time s) (may_follow Term s.stop) h).0).1) (λ s. refl) now in_stage) (fields_kept c keeps)
+step_in c keeps now in_stage (Order id Kill) is = kept_by (after_step (Order id Kill) c) (child_ruled c keeps id Kill is (λ s h. (and_parts (is_none s.order) (is_some s.child) (and_parts (can_be_asked Kill c.fields.time s) (may_follow Kill s.stop) h).0).1) (λ s. refl) now in_stage) (fields_kept c keeps)
+step_in c keeps now in_stage (Hold id) is = kept_by (after_step (Hold id) c) (hold_ruled c keeps id is now in_stage) (fields_kept c keeps)
 step_in c keeps now in_stage (Settle level) is = kept_by (after_step (Settle level) c) (all_kept c keeps) (record { clock = (rules_of c keeps).clock; wish = (rules_of c keeps).wish; announced = ap in_run in_stage ∙ decided_lawful c keeps now in_stage (Settle level) is; reached = (rules_of c keeps).reached })
 step_in c keeps now in_stage _ is = keeps
 
 pub step_keeps : (c : CoreState) → IsFit c → (s : Step) → decide c ≡ s → IsFit (after_step s c)
-step_keeps c keeps s is = at c.heads.stage refl
+step_keeps c keeps s is = at c.fields.stage refl
   where
-    first : c.heads.stage ≡ None → (b : Bool) → is_quiet c.slots ≡ b → IsFit (after_step (or_idle (cond b (Some (Enter stage.Sysinit c.heads.goal.grace)) None)) c)
-    first before true quiet = entered_keeps c keeps stage.Sysinit c.heads.goal.grace quiet (sym (ap (λ o. is_goal_reached o c.heads.goal c.heads.booted) before) ∙ (rules_of c keeps).reached)
+    first : c.fields.stage ≡ None → (b : Bool) → is_quiet c.slots ≡ b → IsFit (after_step (or_idle (cond b (Some (Enter stage.Sysinit c.fields.goal.grace)) None)) c)
+    first before true quiet = entered_keeps c keeps stage.Sysinit c.fields.goal.grace quiet (sym (ap (λ o. is_goal_reached o c.fields.goal c.fields.booted) before) ∙ (rules_of c keeps).reached)
     first before false busy = keeps
 
-    at : (o : Option Stage) → c.heads.stage ≡ o → IsFit (after_step s c)
+    at : (o : Option Stage) → c.fields.stage ≡ o → IsFit (after_step s c)
     at None before = subst (λ x. IsFit (after_step x c)) (sym (ap (λ o. decide_in o c) before) ∙ is) (first before (is_quiet c.slots) refl)
     at (Some now) in_stage = step_in c keeps now in_stage s is
 
 -- an answer that is taken
 pub told_keeps : (c : CoreState) → IsFit c → (id : List ℕ) (answer : Answer) → refusal_of (order_in id c.slots) answer ≡ Ok tt → IsFit (after_told id answer c)
-told_keeps c keeps id answer taken = kept_by (after_told id answer c) (answer_ruled c keeps id answer taken) (heads_kept c keeps)
+told_keeps c keeps id answer taken = kept_by (after_told id answer c) (answer_ruled c keeps id answer taken) (fields_kept c keeps)
 
 -- another table, at a quiet point
 pub adopt_keeps : (c : CoreState) → IsFit c → is_quiet c.slots ≡ true → (table : List Entry) → is_distinct table ≡ true → IsFit (after_adopt table c)

@@ -1,5 +1,5 @@
 -- The core fits the trace with each step that it takes.
-use Rattle.core_model.proofs.Words.{arith, ◌≡◌, refl, sym, ◌∙◌, ap, ℕ, Bool, true, false, cond, List, [], ◌∷◌, map, Option, Some, None, list_any, false≢true, Entry, Level, Stage, Start, Look, Term, Kill, is_limited, same_id-self, entry_of, is_distinct, Step, Reread, Order, Reexec, Idle, Goal, Event, table_of, stage_of, time_of, in_run, goal_of, due, first, same_step, is_sound, MayRun, due_facts, sound_holds, RecordState, after_enter, after_judge, News, first_news, CoreState, decide, or_else, or_idle, after_step, LastStatuses, Fits, StillFits, lasts_after, heads_of, core_read, with_step}
+use Rattle.core_model.proofs.Words.{arith, ◌≡◌, refl, sym, ◌∙◌, ap, ℕ, Bool, true, false, cond, List, [], ◌∷◌, map, Option, Some, None, list_any, false≢true, Entry, Level, Stage, Start, Look, Term, Kill, is_limited, same_id-self, entry_of, is_distinct, Step, Reread, Order, Reexec, Idle, Goal, Event, table_of, stage_of, time_of, in_run, goal_of, due, first, same_step, is_sound, MayRun, due_facts, sound_holds, RecordState, after_enter, after_judge, PendingCalls, first_news, CoreState, decide, or_else, or_idle, after_step, LastStatuses, Fits, StillFits, lasts_after, fields_of, core_read, with_step}
 use Rattle.init_words.specs.declared.stages.Stage.TheVariants as stage
 use Rattle.respawn_limit.specs.Window.{is_held}
 use Rattle.trace_events.specs.declared.happenings.Happening.TheVariants as event
@@ -8,7 +8,7 @@ use Rattle.core_model.specs.Decide as core
 use Rattle.core_model.proofs.Fitted.{fit_stage, goes_on, still}
 use Rattle.core_model.proofs.Ordering.{look_ordered, term_ordered, kill_ordered, start_ordered, hold_made, power_called, letter_called}
 use Rattle.core_model.proofs.Newest.{by_first}
-use Rattle.core_model.proofs.Moments.{heads_entered, heads_powered, heads_called, goal_entered}
+use Rattle.core_model.proofs.Moments.{fields_entered, fields_powered, fields_called, goal_entered}
 use Rattle.core_model.proofs.Tables.{enter_records}
 use Rattle.core_model.proofs.Hearing.{settle_records}
 use Rattle.core_model.proofs.Deciding.{decide_due}
@@ -48,14 +48,14 @@ look_enters : (slots : List RecordState) → enters (core.look_among slots) ≡ 
 look_enters [] = grind arith
 look_enters (slot ∷ slots) = grind (arith, look_enters slots)
 
-news_enters : (news : News) → enters (first_news news) ≡ false
-news_enters = by_first (λ (n : News). enters (first_news n) ≡ false) (λ n o a b c. refl) (λ o a b c. refl) (λ a b c. refl) (λ b c. refl) (λ c. refl) refl refl
+news_enters : (pending : PendingCalls) → enters (first_news news) ≡ false
+news_enters = by_first (λ (n : PendingCalls). enters (first_news n) ≡ false) (λ n o a b c. refl) (λ o a b c. refl) (λ a b c. refl) (λ b c. refl) (λ c. refl) refl refl
 
 -- in a run level in which no other is wished for the core enters no stage
-run_enters : (c : CoreState) (level : Level) → c.heads.level_wish ≡ None → enters (or_else (core.wish_step (stage.Run level) c) (or_else (core.work_step (stage.Run level) c) (core.look_among c.slots))) ≡ false
+run_enters : (c : CoreState) (level : Level) → c.fields.level_wish ≡ None → enters (or_else (core.wish_step (stage.Run level) c) (or_else (core.work_step (stage.Run level) c) (core.look_among c.slots))) ≡ false
 run_enters c level none = grind (arith, neither, not_if, not_else, look_enters, news_enters, stop_enters, start_enters)
 
-entered_before : (c : CoreState) (o : Option Stage) → c.heads.level_wish ≡ None → (next : Stage) (grace : ℕ) → core.decide_in o c ≡ Enter next grace → in_run o ≡ false
+entered_before : (c : CoreState) (o : Option Stage) → c.fields.level_wish ≡ None → (next : Stage) (grace : ℕ) → core.decide_in o c ≡ Enter next grace → in_run o ≡ false
 entered_before c (Some (stage.Run level)) none next grace is = absurd (false≢true (sym (run_enters c level none) ∙ ap enters (of_idle _ is)))
   where
     of_idle : (o : Option Step) → or_idle o ≡ Enter next grace → o ≡ Some (Enter next grace)
@@ -81,13 +81,13 @@ module _ (goal : Goal) (past : List Event) (c : CoreState) (sound : is_sound goa
   own_entry id may = may.found distinct
 
   abbrev g : Goal
-  g = c.heads.goal
+  g = c.fields.goal
 
   abbrev n : ℕ
-  n = c.heads.generation
+  n = c.fields.generation
 
   -- a step that leaves the goal, by what it makes of the core that is read off the past
-  goes : (s : Step) (happening : Event) → (after_step s c).heads.goal ≡ g → (after_step s c).heads.generation ≡ n → ((lasts : LastStatuses) → after_step s (core_read lasts past g n) ≡ core_read (lasts_after happening past lasts) (happening ∷ past) g n) → (in_run (stage_of (happening ∷ past)) ≡ false → g ≡ goal_of goal (happening ∷ past)) → StillFits c (after_step s c) goal past (happening ∷ past)
+  goes : (s : Step) (happening : Event) → (after_step s c).fields.goal ≡ g → (after_step s c).fields.generation ≡ n → ((lasts : LastStatuses) → after_step s (core_read lasts past g n) ≡ core_read (lasts_after happening past lasts) (happening ∷ past) g n) → (in_run (stage_of (happening ∷ past)) ≡ false → g ≡ goal_of goal (happening ∷ past)) → StillFits c (after_step s c) goal past (happening ∷ past)
   goes s happening same_goal same_age reads law = goes_on c (after_step s c) goal happening past fits (λ lasts kept. ap (after_step s) kept ∙ reads lasts ∙ (λ i. core_read (lasts_after happening past lasts) (happening ∷ past) (sym same_goal i) (sym same_age i))) (λ h. same_goal ∙ law h)
 
   -- records alone
@@ -99,14 +99,14 @@ module _ (goal : Goal) (past : List Event) (c : CoreState) (sound : is_sound goa
     where
       at : (s : Step) → decide c ≡ s → StillFits c (after_step s c) goal past (with_step s past)
       at (Enter next grace) is =
-          let way : c.heads.level_wish ≡ None → in_run (Some next) ≡ false → in_run (stage_of past) ≡ false = λ none h. sym (ap in_run (fit_stage c goal past fits)) ∙ entered_before c c.heads.stage none next grace is in
+          let way : c.fields.level_wish ≡ None → in_run (Some next) ≡ false → in_run (stage_of past) ≡ false = λ none h. sym (ap in_run (fit_stage c goal past fits)) ∙ entered_before c c.fields.stage none next grace is in
           goes_on c (after_step (Enter next grace) c) goal (event.Enter next grace) past fits
           (λ lasts kept i. record {
             table = (kept i).table;
             slots = (ap (λ (x : CoreState). map (after_judge x.table next) (map after_enter x.slots)) kept ∙ enter_records lasts goal next grace past sound) i;
-            heads = heads_entered c.heads past (ap (λ (x : CoreState). x.heads) kept) next grace i;
+            fields = fields_entered c.fields past (ap (λ (x : CoreState). x.fields) kept) next grace i;
           })
-          (λ early. goal_entered c.heads past (ap (λ (x : CoreState). x.heads) fits.kept) goal fits.goal next way early)
+          (λ early. goal_entered c.fields past (ap (λ (x : CoreState). x.fields) fits.kept) goal fits.goal next way early)
       at (Order id Start) is =
           let may = entry_start id is in
           goes (Order id Start) (event.Asked id Start) refl refl (λ lasts. ap (with_records lasts (event.Asked id Start)) (start_ordered lasts id past may.entry (own_entry id may))) fits.goal
@@ -121,13 +121,13 @@ module _ (goal : Goal) (past : List Event) (c : CoreState) (sound : is_sound goa
           (λ lasts i. record {
             table = table_of past;
             slots = power_called lasts past distinct kind i;
-            heads = heads_powered (heads_of past g n) past refl kind i;
+            fields = fields_powered (fields_of past g n) past refl kind i;
           }) fits.goal
       at (Call letter) is = goes (Call letter) (event.Call letter) refl refl
           (λ lasts i. record {
             table = table_of past;
             slots = letter_called lasts past distinct letter i;
-            heads = heads_called (heads_of past g n) past refl letter i;
+            fields = fields_called (fields_of past g n) past refl letter i;
           }) fits.goal
       at Reread is = still c goal past fits
       at Reexec is = still c goal past fits

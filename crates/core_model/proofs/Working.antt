@@ -1,5 +1,5 @@
 -- Each step that is decided leaves less to do, by the state alone.
-use Rattle.core_model.proofs.Words.{Bool, true, false, not, ◌≡◌, ◌&&◌, ◌<◌, ◌≤◌, ℕ, suc, List, [], ◌∷◌, map, filter, length, Some, refl, sym, ap, arith, false≢true, and_parts, and_from, ltb-true, not-true, nat_tests, Entry, Level, Letter, Stage, OrderKind, PowerKind, any_less, Step, Reread, Order, Reexec, Idle, RecordState, IsInOrder, can_be_asked, after_order, is_record_of, changed, with_changed, News, news_count, keeps_kind, keeps_call, with_kind, with_call, CoreState, called_if, with_called, is_named, after_step, decide, stages_left, enters_left, unasked, unheld, work_left}
+use Rattle.core_model.proofs.Words.{Bool, true, false, not, ◌≡◌, ◌&&◌, ◌<◌, ◌≤◌, ℕ, suc, List, [], ◌∷◌, map, filter, length, Some, refl, sym, ap, arith, false≢true, and_parts, and_from, ltb-true, not-true, nat_tests, Entry, Level, Letter, Stage, OrderKind, PowerKind, any_less, Step, Reread, Order, Reexec, Idle, RecordState, IsInOrder, can_be_asked, after_order, is_record_of, changed, with_changed, PendingCalls, news_count, keeps_kind, keeps_call, with_kind, with_call, CoreState, called_if, with_called, is_named, after_step, decide, stages_left, enters_left, unasked, unheld, work_left}
 use Rattle.trace_events.specs.declared.steps.Step.TheVariants.{Enter, Call, Power, Hold, Settle}
 use Rattle.trace_events.specs.Run.{is_rest}
 use Rattle.core_model.proofs.Allowed.{has_with, has_asked, has_unheld, is_backed, decided}
@@ -41,19 +41,19 @@ one_same : (id : List ℕ) (change : RecordState → RecordState) (p : RecordSta
 one_same id change p same slot = grind arith
 
 -- an order to a record with none leaves less to do
-order_falls : (id : List ℕ) (ask : OrderKind) (c : CoreState) → has_with id (can_be_asked ask c.heads.time) c.slots ≡ true → work_left (after_step (Order id ask) c) < work_left c
+order_falls : (id : List ℕ) (ask : OrderKind) (c : CoreState) → has_with id (can_be_asked ask c.fields.time) c.slots ≡ true → work_left (after_step (Order id ask) c) < work_left c
 order_falls id ask c there =
-    let free : has_with id unasked c.slots ≡ true = any_less (λ (s : RecordState). is_record_of id s && can_be_asked ask c.heads.time s) (λ (s : RecordState). is_record_of id s && unasked s) (λ s both. let parts = and_parts (is_record_of id s) (can_be_asked ask c.heads.time s) both in and_from (is_record_of id s) (unasked s) parts.0 (asked_free ask c.heads.time s parts.1)) c.slots there in
-    let less : length (filter unasked (with_changed id (after_order ask c.heads.time) c.slots)) < length (filter unasked c.slots) = one_fewer unasked id (after_order ask c.heads.time) (order_asked ask c.heads.time) c.slots free in
-    let same : length (filter (unheld c.heads.time) (with_changed id (after_order ask c.heads.time) c.slots)) ≡ length (filter (unheld c.heads.time) c.slots) = as_many (unheld c.heads.time) (changed id (after_order ask c.heads.time)) (one_same id (after_order ask c.heads.time) (unheld c.heads.time) (order_unheld ask c.heads.time c.heads.time)) c.slots in
-    let long : length (with_changed id (after_order ask c.heads.time) c.slots) ≡ length c.slots = length-map (changed id (after_order ask c.heads.time)) c.slots in
+    let free : has_with id unasked c.slots ≡ true = any_less (λ (s : RecordState). is_record_of id s && can_be_asked ask c.fields.time s) (λ (s : RecordState). is_record_of id s && unasked s) (λ s both. let parts = and_parts (is_record_of id s) (can_be_asked ask c.fields.time s) both in and_from (is_record_of id s) (unasked s) parts.0 (asked_free ask c.fields.time s parts.1)) c.slots there in
+    let less : length (filter unasked (with_changed id (after_order ask c.fields.time) c.slots)) < length (filter unasked c.slots) = one_fewer unasked id (after_order ask c.fields.time) (order_asked ask c.fields.time) c.slots free in
+    let same : length (filter (unheld c.fields.time) (with_changed id (after_order ask c.fields.time) c.slots)) ≡ length (filter (unheld c.fields.time) c.slots) = as_many (unheld c.fields.time) (changed id (after_order ask c.fields.time)) (one_same id (after_order ask c.fields.time) (unheld c.fields.time) (order_unheld ask c.fields.time c.fields.time)) c.slots in
+    let long : length (with_changed id (after_order ask c.fields.time) c.slots) ≡ length c.slots = length-map (changed id (after_order ask c.fields.time)) c.slots in
     rw (same, long) (omega arith)
 
 -- a hold of a record that was not held leaves less to do
-hold_falls : (id : List ℕ) (c : CoreState) → has_with id (unheld c.heads.time) c.slots ≡ true → work_left (after_step (Hold id) c) < work_left c
+hold_falls : (id : List ℕ) (c : CoreState) → has_with id (unheld c.fields.time) c.slots ≡ true → work_left (after_step (Hold id) c) < work_left c
 hold_falls id c there = grind (arith, nat_tests, one_fewer, as_many, one_same, length-map)
 
-settle_falls : (level : Level) (c : CoreState) → c.heads.announced ≡ false → work_left (after_step (Settle level) c) < work_left c
+settle_falls : (level : Level) (c : CoreState) → c.fields.announced ≡ false → work_left (after_step (Settle level) c) < work_left c
 settle_falls level c is = rw is (omega arith)
 
 -- a stage that is entered leaves one less to come, whatever its records make of it
@@ -65,13 +65,13 @@ called_same : {X : Type 0} (p : RecordState → X) → ((slot : RecordState) →
 called_same p same true slot = same slot
 called_same p same false slot = refl
 
-called_falls : (named : Entry → Bool) (news : News) (c : CoreState) → news_count news < news_count c.heads.news → work_left (record c { slots = with_called named c.table c.slots; heads = record c.heads { news = news } }) < work_left c
+called_falls : (named : Entry → Bool) (pending : PendingCalls) (c : CoreState) → news_count news < news_count c.fields.pending → work_left (record c { slots = with_called named c.table c.slots; fields = record c.fields { pending = news } }) < work_left c
 called_falls named news c fewer_news = grind (arith, as_many, called_same, length-map)
 
-kind_falls : (kind : PowerKind) (news : News) → keeps_kind kind news ≡ true → news_count (with_kind kind false news) < news_count news
+kind_falls : (kind : PowerKind) (pending : PendingCalls) → keeps_kind kind news ≡ true → news_count (with_kind kind false news) < news_count news
 kind_falls kind news is = grind arith
 
-call_falls : (l : Letter) (news : News) → keeps_call l news ≡ true → news_count (with_call l false news) < news_count news
+call_falls : (l : Letter) (pending : PendingCalls) → keeps_call l news ≡ true → news_count (with_call l false news) < news_count news
 call_falls l news is = grind arith
 
 -- each step that is decided leaves less to do
@@ -79,12 +79,12 @@ pub decide_falls : (c : CoreState) → IsInOrder c.table c.slots → is_rest (de
 decide_falls c order busy = at (decide c) (decided c order (decide c) refl) busy
   where
     at : (s : Step) → is_backed c c.slots (Some s) ≡ true → is_rest s ≡ false → work_left (after_step s c) < work_left c
-    at (Order id ask) backed b = order_falls id ask c (has_asked id ask c.heads.time c.slots backed)
-    at (Hold id) backed b = hold_falls id c (has_unheld id c.heads.time c.slots backed)
+    at (Order id ask) backed b = order_falls id ask c (has_asked id ask c.fields.time c.slots backed)
+    at (Hold id) backed b = hold_falls id c (has_unheld id c.fields.time c.slots backed)
     at (Enter next grace) backed b = enter_falls next grace c (ltb-true (stages_left (Some next)) (enters_left c) backed)
-    at (Settle level) backed b = settle_falls level c (not-true c.heads.announced backed)
-    at (Power kind) backed b = called_falls (is_named (Power kind) c.heads.stage) (with_kind kind false c.heads.news) c (kind_falls kind c.heads.news backed)
-    at (Call l) backed b = called_falls (is_named (Call l) c.heads.stage) (with_call l false c.heads.news) c (call_falls l c.heads.news backed)
+    at (Settle level) backed b = settle_falls level c (not-true c.fields.announced backed)
+    at (Power kind) backed b = called_falls (is_named (Power kind) c.fields.stage) (with_kind kind false c.fields.pending) c (kind_falls kind c.fields.pending backed)
+    at (Call l) backed b = called_falls (is_named (Call l) c.fields.stage) (with_call l false c.fields.pending) c (call_falls l c.fields.pending backed)
     at Reread backed b = absurd (false≢true (sym b))
     at Reexec backed b = absurd (false≢true (sym b))
     at Idle backed b = absurd (false≢true (sym b))

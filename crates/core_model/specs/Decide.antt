@@ -22,7 +22,7 @@ use Rattle.core_records.specs.declared.children.Stop.TheVariants.{Due, Termed}
 use Rattle.core_records.specs.State.{RecordState}
 use Rattle.core_records.specs.Changes.{allows}
 use Rattle.core_records.specs.Lists.{is_quiet}
-use Rattle.core_model.specs.News.{has_news, first_news}
+use Rattle.core_model.specs.PendingCalls.{has_news, first_news}
 use Rattle.core_model.specs.State.{CoreState}
 
 abbrev pub or_else : Option Step → Option Step → Option Step
@@ -42,23 +42,23 @@ level_step booted (Some wish) =
 
 -- the news counts in a run level alone
 abbrev pub news_step : Stage → CoreState → Option Step
-news_step stage c = if in_run (Some stage) then first_news c.heads.news else None
+news_step stage c = if in_run (Some stage) then first_news c.fields.pending else None
 
 -- what is wished, at a point where no start and no signal is open
 abbrev pub wished_step : Stage → CoreState → Option Step
 wished_step stage c =
-    if c.heads.reexec then Some Reexec else if c.heads.reread then Some Reread
-    else or_else (level_step c.heads.booted c.heads.level_wish) (news_step stage c)
+    if c.fields.reexec then Some Reexec else if c.fields.reread then Some Reread
+    else or_else (level_step c.fields.booted c.fields.level_wish) (news_step stage c)
 
 abbrev pub wish_step : Stage → CoreState → Option Step
 wish_step stage c = if is_quiet c.slots then wished_step stage c else None
 
 -- a wish stands
 abbrev pub counts_news : Stage → CoreState → Bool
-counts_news stage c = in_run (Some stage) && has_news c.heads.news
+counts_news stage c = in_run (Some stage) && has_news c.fields.pending
 
 abbrev pub stands : Stage → CoreState → Bool
-stands stage c = c.heads.reexec || c.heads.reread || is_some c.heads.level_wish || counts_news stage c
+stands stage c = c.fields.reexec || c.fields.reread || is_some c.fields.level_wish || counts_news stage c
 
 -- the signal that is due to an excluded child, by how far its stop has come: TERM, then KILL after the grace
 abbrev pub signal_step : ℕ → ℕ → List ℕ → Option Stop → Option Step
@@ -170,27 +170,27 @@ look_among (slot ∷ slots) = if can_look_record slot then Some (Order slot.id L
 -- where no child is excluded: a start or a hold, the next stage, or that the level is settled
 abbrev pub calm_step : Stage → CoreState → Option Step
 calm_step stage c =
-    or_else (start_among stage c.heads.time c.table c.slots)
-    (or_else (stage_step stage c.heads.goal c.table c.slots)
-    (settle_step stage c.heads.announced c.heads.time c.table c.slots))
+    or_else (start_among stage c.fields.time c.table c.slots)
+    (or_else (stage_step stage c.fields.goal c.table c.slots)
+    (settle_step stage c.fields.announced c.fields.time c.table c.slots))
 
 -- where no wish stands: a signal, or one of those
 abbrev pub work_step : Stage → CoreState → Option Step
 work_step stage c =
     if stands stage c then None
-    else or_else (stop_among c.heads.grace c.heads.time c.slots) (if has_excluded c.slots then None else calm_step stage c)
+    else or_else (stop_among c.fields.grace c.fields.time c.slots) (if has_excluded c.slots then None else calm_step stage c)
 
 -- the step: before the first stage Sysinit, where no start and no signal is open; then what is wished, what is to be
 -- done, a look, or nothing
 abbrev pub first_step : CoreState → Option Step
-first_step c = if is_quiet c.slots then Some (Enter stage.Sysinit c.heads.goal.grace) else None
+first_step c = if is_quiet c.slots then Some (Enter stage.Sysinit c.fields.goal.grace) else None
 
 abbrev pub decide_in : Option Stage → CoreState → Step
 decide_in None c = or_idle (first_step c)
 decide_in (Some stage) c = or_idle (or_else (wish_step stage c) (or_else (work_step stage c) (look_among c.slots)))
 
 abbrev pub decide : CoreState → Step
-decide c = decide_in c.heads.stage c
+decide c = decide_in c.fields.stage c
 
 -- a run level is announced, no record has a child or an order, no wish stands, and no entry is held
 abbrev pub is_busy_record : ℕ → RecordState → Bool
@@ -198,8 +198,8 @@ is_busy_record now slot = is_some slot.child || is_some slot.order || is_held sl
 
 abbrev pub is_drained_in : Option Stage → CoreState → Bool
 is_drained_in (Some (stage.Run level)) c =
-    c.heads.announced && not (stands (stage.Run level) c) && not (list_any (is_busy_record c.heads.time) c.slots)
+    c.fields.announced && not (stands (stage.Run level) c) && not (list_any (is_busy_record c.fields.time) c.slots)
 is_drained_in _ c = false
 
 abbrev pub is_drained : CoreState → Bool
-is_drained c = is_drained_in c.heads.stage c
+is_drained c = is_drained_in c.fields.stage c

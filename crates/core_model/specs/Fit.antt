@@ -32,7 +32,7 @@ use Rattle.core_records.specs.declared.children.KnownChild.{KnownChild}
 use Rattle.core_records.specs.declared.children.Stop.{Stop}
 use Rattle.core_records.specs.declared.children.Stop.TheVariants.{Due, Termed, Killed}
 use Rattle.core_records.specs.State.{RecordState}
-use Rattle.core_model.specs.declared.news.News.{News}
+use Rattle.core_model.specs.declared.pending_calls.PendingCalls.{PendingCalls}
 use Rattle.core_model.specs.declared.parts.CoreFields.{CoreFields}
 use Rattle.core_model.specs.State.{CoreState}
 
@@ -135,7 +135,7 @@ abbrev pub records_of : LastStatuses → List Event → List RecordState
 records_of lasts past = map (record_of lasts past) (record_ids past)
 
 -- what is kept of the power and of letters
-abbrev pub news_of : List Event → News
+abbrev pub news_of : List Event → PendingCalls
 news_of past = record {
   fail = keeps_power power.Fail past;
   fail_now = keeps_power power.FailNow past;
@@ -146,8 +146,8 @@ news_of past = record {
 }
 
 -- the single values of init as the past has them, with this goal and of this generation
-abbrev pub heads_of : List Event → Goal → ℕ → CoreFields
-heads_of past goal generation = record {
+abbrev pub fields_of : List Event → Goal → ℕ → CoreFields
+fields_of past goal generation = record {
   generation = generation;
   time = time_of past;
   stage = stage_of past;
@@ -158,7 +158,7 @@ heads_of past goal generation = record {
   reread = wants_reread past;
   reexec = wants_reexec past;
   level_wish = level_wish past;
-  news = news_of past;
+  pending = news_of past;
 }
 
 -- what init keeps as the past has it, with these last statuses, this goal and of this generation
@@ -166,15 +166,15 @@ abbrev pub core_read : LastStatuses → List Event → Goal → ℕ → CoreStat
 core_read lasts past goal generation = record {
   table = table_of past;
   slots = records_of lasts past;
-  heads = heads_of past goal generation;
+  fields = fields_of past goal generation;
 }
 
 -- the core fits the opening goal and the trace: with some last statuses, it is what is read off the past, and its goal
 -- is that of the past where it is looked at, before the run levels
 pub record Fits (core : CoreState) (opening : Goal) (past : List Event) : Type 0 where
   pub lasts : LastStatuses
-  pub kept : core ≡ core_read lasts past core.heads.goal core.heads.generation
-  pub goal : in_run (stage_of past) ≡ false → core.heads.goal ≡ goal_of opening past
+  pub kept : core ≡ core_read lasts past core.fields.goal core.fields.generation
+  pub goal : in_run (stage_of past) ≡ false → core.fields.goal ≡ goal_of opening past
 
 -- the core with these last statuses
 abbrev pub with_lasts : LastStatuses → CoreState → CoreState

@@ -2,7 +2,7 @@ pub mod Decide
 pub mod Fit
 pub mod Happened
 pub mod Headline
-pub mod News
+pub mod PendingCalls
 pub mod Parts
 pub mod Rebuilding
 pub mod Rules

@@ -6,9 +6,9 @@ use Rattle.core_model.specs.declared.parts.CoreFields.{CoreFields}
 use Rattle.core_model.specs.declared.parts.PlainRecord.{PlainRecord}
 use Rattle.core_model.specs.State.{CoreState}
 
--- the heads, the table, and a record for each id in record order
+-- the fields, the table, and a record for each id in record order
 pub record SavedState : Type 0 where
-  pub heads : CoreFields
+  pub fields : CoreFields
   pub table : List Entry
   pub records : List PlainRecord
 
@@ -31,4 +31,4 @@ record_of slot = record {
 
 -- what a core keeps, as plain values
 abbrev pub state_of : CoreState → SavedState
-state_of core = record { heads = core.heads; table = core.table; records = map record_of core.slots }
+state_of core = record { fields = core.fields; table = core.table; records = map record_of core.slots }

@@ -65,4 +65,4 @@ record_read found r =
     if is_for found r && is_whole r then Some (record_from (option_map (λ (e : Entry). e.act) found) r) else None
 
 abbrev pub core_of : SavedState → CoreState
-core_of state = record { table = state.table; slots = records_along state.table state.records; heads = state.heads }
+core_of state = record { table = state.table; slots = records_along state.table state.records; fields = state.fields }

@@ -148,9 +148,9 @@ is_goal_reached (Some stage.Boot) goal booted = booted
 is_goal_reached _ goal booted = not booted
 
 -- the rules of the single values: no time later than the clock's limit, the wish for a level, the announcement, the goal
-abbrev pub are_heads_kept : CoreFields → Bool
-are_heads_kept heads = nat_le heads.time CLOCK_LIMIT && is_other_level heads.stage heads.level_wish
-    && (not heads.announced || in_run heads.stage) && is_goal_reached heads.stage heads.goal heads.booted
+abbrev pub are_fields_kept : CoreFields → Bool
+are_fields_kept fields = nat_le fields.time CLOCK_LIMIT && is_other_level fields.stage fields.level_wish
+    && (not fields.announced || in_run fields.stage) && is_goal_reached fields.stage fields.goal fields.booted
 
 -- of each record: init knows how its child was born, its open order is allowed, its stop, marks and limiter are as they
 -- should be, and no time is later than now
@@ -164,9 +164,9 @@ are_records_kept stage table now slots = are_distinct slots && are_starts_in sta
     && are_starts_free slots && list_all (is_record_kept stage table now) slots
 
 abbrev pub is_kept : CoreFields → List Entry → List RecordState → Bool
-is_kept heads table slots = are_heads_kept heads && are_records_kept heads.stage table heads.time slots
+is_kept fields table slots = are_fields_kept fields && are_records_kept fields.stage table fields.time slots
 
 -- what init keeps is fit: the records stand in record order, and the rules are kept
 pub record IsFit (c : CoreState) : Type 0 where
   pub in_order : IsInOrder c.table c.slots
-  pub kept : is_kept c.heads c.table c.slots ≡ true
+  pub kept : is_kept c.fields c.table c.slots ≡ true

@@ -8,17 +8,17 @@ use Rattle.inittab_text.specs.Tables.{default_level_of}
 use Rattle.trace_events.specs.declared.steps.Goal.{Goal}
 use Rattle.core_records.specs.State.{RecordState, new_record}
 use Rattle.core_model.specs.declared.parts.CoreFields.{CoreFields}
-use Rattle.core_model.specs.News.{no_news}
+use Rattle.core_model.specs.PendingCalls.{no_news}
 
 -- the table, the records in record order, and the single values of init: its stage, goal, time and wishes
 pub record CoreState : Type 0 where
   pub table : List Entry
   pub slots : List RecordState
-  pub heads : CoreFields
+  pub fields : CoreFields
 
 -- the opening: no stage yet, a record for each entry, and no wish
-abbrev pub opening_heads : Goal → CoreFields
-opening_heads goal = record {
+abbrev pub opening_fields : Goal → CoreFields
+opening_fields goal = record {
   generation = 0;
   time = 0;
   stage = None;
@@ -29,11 +29,11 @@ opening_heads goal = record {
   reread = false;
   reexec = false;
   level_wish = None;
-  news = no_news;
+  pending = no_news;
 }
 
 abbrev pub opening_state : List Entry → Goal → CoreState
-opening_state table goal = record { table = table; slots = map new_record table; heads = opening_heads goal }
+opening_state table goal = record { table = table; slots = map new_record table; fields = opening_fields goal }
 
 -- the goal of an opening: the level given, else the table's default, else S, with five seconds between the signals
 abbrev pub opening_level : Option Level → Option Level → Level

@@ -22,7 +22,7 @@ use Rattle.core_records.specs.Judging.{after_judge}
 use Rattle.core_records.specs.Lists as lists
 use Rattle.core_records.specs.Adopting as adopting
 use Rattle.core_model.specs.declared.parts.CoreFields.{CoreFields}
-use Rattle.core_model.specs.News.{with_kind, with_call}
+use Rattle.core_model.specs.PendingCalls.{with_kind, with_call}
 use Rattle.core_model.specs.State.{CoreState}
 
 abbrev pub is_boot : Stage → Bool
@@ -53,58 +53,58 @@ with_called named table slots =
 abbrev pub after_step : Step → CoreState → CoreState
 after_step (Enter stage grace) c = record c {
   slots = map (after_judge c.table stage) (map after_enter c.slots);
-  heads = record c.heads {
+  fields = record c.fields {
     stage = Some stage;
     grace = grace;
-    goal = wished c.heads.level_wish c.heads.goal;
+    goal = wished c.fields.level_wish c.fields.goal;
     level_wish = None;
-    booted = is_boot stage || c.heads.booted;
+    booted = is_boot stage || c.fields.booted;
     announced = false;
   };
 }
 after_step (Power kind) c = record c {
-  slots = with_called (is_named (Power kind) c.heads.stage) c.table c.slots;
-  heads = record c.heads { news = with_kind kind false c.heads.news };
+  slots = with_called (is_named (Power kind) c.fields.stage) c.table c.slots;
+  fields = record c.fields { pending = with_kind kind false c.fields.pending };
 }
 after_step (Call letter) c = record c {
-  slots = with_called (is_named (Call letter) c.heads.stage) c.table c.slots;
-  heads = record c.heads { news = with_call letter false c.heads.news };
+  slots = with_called (is_named (Call letter) c.fields.stage) c.table c.slots;
+  fields = record c.fields { pending = with_call letter false c.fields.pending };
 }
-after_step (Order id ask) c = record c { slots = lists.with_changed id (after_order ask c.heads.time) c.slots }
-after_step (Hold id) c = record c { slots = lists.with_changed id (after_hold c.heads.time) c.slots }
-after_step (Settle level) c = record c { heads = record c.heads { announced = true } }
+after_step (Order id ask) c = record c { slots = lists.with_changed id (after_order ask c.fields.time) c.slots }
+after_step (Hold id) c = record c { slots = lists.with_changed id (after_hold c.fields.time) c.slots }
+after_step (Settle level) c = record c { fields = record c.fields { announced = true } }
 after_step _ c = c
 
 -- after a reading of the clock, cut to the limit; one set back changes nothing
 abbrev pub after_clock : ℕ → CoreState → CoreState
-after_clock reading c = record c { heads = record c.heads { time = max (min reading CLOCK_LIMIT) c.heads.time } }
+after_clock reading c = record c { fields = record c.fields { time = max (min reading CLOCK_LIMIT) c.fields.time } }
 
 -- after a round began, and after an answer was told
 abbrev pub after_round : CoreState → CoreState
 after_round c = record c { slots = map after_begin_round c.slots }
 
 abbrev pub after_told : List ℕ → Answer → CoreState → CoreState
-after_told id answer c = record c { slots = lists.after_told id answer c.heads.time c.slots }
+after_told id answer c = record c { slots = lists.after_told id answer c.fields.time c.slots }
 
 -- after a level was asked for: in that level a wish for another is forgotten, in another level it is wished for, and
 -- before the run levels it is the goal
 abbrev pub heard_in : Option Stage → Goal → CoreFields → CoreFields
-heard_in (Some (stage.Run now)) wish heads =
-    if same_level wish.level now then record heads { level_wish = None }
-    else record heads { level_wish = Some wish; reread = true }
-heard_in _ wish heads = record heads { goal = wish; reread = true }
+heard_in (Some (stage.Run now)) wish fields =
+    if same_level wish.level now then record fields { level_wish = None }
+    else record fields { level_wish = Some wish; reread = true }
+heard_in _ wish fields = record fields { goal = wish; reread = true }
 
 -- after a request
-abbrev pub heads_heard : HeardRequest → CoreFields → CoreFields
-heads_heard (got.Level level grace) heads = heard_in heads.stage (record { level = level; grace = grace }) heads
-heads_heard (got.Call letter) heads = record heads { news = with_call letter true heads.news }
-heads_heard got.Reload heads = record heads { reread = true }
-heads_heard got.Reexec heads = record heads { reexec = true }
-heads_heard (got.Power kind) heads = record heads { news = with_kind kind true heads.news }
-heads_heard (got.Nothing cause) heads = heads
+abbrev pub fields_heard : HeardRequest → CoreFields → CoreFields
+fields_heard (got.Level level grace) fields = heard_in fields.stage (record { level = level; grace = grace }) fields
+fields_heard (got.Call letter) fields = record fields { pending = with_call letter true fields.pending }
+fields_heard got.Reload fields = record fields { reread = true }
+fields_heard got.Reexec fields = record fields { reexec = true }
+fields_heard (got.Power kind) fields = record fields { pending = with_kind kind true fields.pending }
+fields_heard (got.Nothing cause) fields = fields
 
 abbrev pub after_got : HeardRequest → CoreState → CoreState
-after_got request c = record c { heads = heads_heard request c.heads }
+after_got request c = record c { fields = fields_heard request c.fields }
 
 -- after another table was adopted: its children are judged by the stage, where there is one
 abbrev pub judged_in : Option Stage → List Entry → List RecordState → List RecordState
@@ -114,17 +114,17 @@ judged_in (Some stage) table slots = map (after_judge table stage) slots
 abbrev pub after_adopt : List Entry → CoreState → CoreState
 after_adopt table c = record c {
   table = table;
-  slots = judged_in c.heads.stage table (adopting.after_adopt table c.slots);
-  heads = record c.heads { announced = false; reread = false };
+  slots = judged_in c.fields.stage table (adopting.after_adopt table c.slots);
+  fields = record c.fields { announced = false; reread = false };
 }
 
 -- after inittab could not be read, and after a hand-over
 abbrev pub after_not_read : CoreState → CoreState
-after_not_read c = record c { heads = record c.heads { reread = false } }
+after_not_read c = record c { fields = record c.fields { reread = false } }
 
 abbrev pub after_handed : CoreState → CoreState
-after_handed c = record c { heads = record c.heads { reexec = false } }
+after_handed c = record c { fields = record c.fields { reexec = false } }
 
 -- after init's state was handed on to the next init
 abbrev pub after_handed_on : CoreState → CoreState
-after_handed_on c = record c { heads = record c.heads { reexec = false; generation = c.heads.generation + 1 } }
+after_handed_on c = record c { fields = record c.fields { reexec = false; generation = c.fields.generation + 1 } }

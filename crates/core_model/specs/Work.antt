@@ -4,7 +4,7 @@ use Rattle.init_words.specs.declared.stages.Stage.{Stage}
 use Rattle.init_words.specs.declared.stages.Stage.TheVariants.{Sysinit, Boot, Run}
 use Rattle.respawn_limit.specs.Window.{is_held}
 use Rattle.core_records.specs.State.{RecordState}
-use Rattle.core_model.specs.News.{news_count}
+use Rattle.core_model.specs.PendingCalls.{news_count}
 use Rattle.core_model.specs.State.{CoreState}
 
 -- the stages that are still to come; a wish for another level brings two at most
@@ -15,7 +15,7 @@ stages_left (Some Boot) = 1
 stages_left (Some (Run level)) = 0
 
 abbrev pub enters_left : CoreState → ℕ
-enters_left c = stages_left c.heads.stage + (if is_some c.heads.level_wish then 2 else 0)
+enters_left c = stages_left c.fields.stage + (if is_some c.fields.level_wish then 2 else 0)
 
 -- the records of which something may be asked, and those that may be held
 abbrev pub unasked : RecordState → Bool
@@ -27,8 +27,8 @@ unheld now slot = not (is_held slot.limiter.held now)
 -- what may be done in the stage: an order or a hold for each record, the announcement, and the news
 abbrev pub work_here : CoreState → ℕ
 work_here c =
-    length (filter unasked c.slots) + length (filter (unheld c.heads.time) c.slots)
-    + (if c.heads.announced then 0 else 1) + news_count c.heads.news
+    length (filter unasked c.slots) + length (filter (unheld c.fields.time) c.slots)
+    + (if c.fields.announced then 0 else 1) + news_count c.fields.pending
 
 -- and in all the stages to come
 abbrev pub work_left : CoreState → ℕ

@@ -7,10 +7,10 @@
 
 mod headline;
 mod laws;
-mod news;
 mod parts;
+mod pending_calls;
 
 pub use headline::law_agreement;
 pub use laws::{law_of_acts, law_of_lasts};
-pub use news::News;
 pub use parts::{CoreFields, Parts, PlainRecord};
+pub use pending_calls::PendingCalls;

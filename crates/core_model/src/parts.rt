@@ -2,9 +2,9 @@
 
 ghost use Rattle.std.specs.Prelude.{◌≡◌};
 ghost use Rattle.core_model.specs.Parts.{record_of};
-ghost use Rattle.core_model.specs.State.{opening_heads};
+ghost use Rattle.core_model.specs.State.{opening_fields};
 
-use crate::news::News;
+use crate::pending_calls::PendingCalls;
 use arrayvec::ArrayVec;
 use core_records::{Record, Stop};
 use init_words::{Act, ChildNumber, Id, OrderKind, Stage, Status};
@@ -36,13 +36,13 @@ pub struct CoreFields {
     pub reexec: bool,
     /// The level that was asked for.
     pub level_wish: Option<Goal>,
-    pub news: News,
+    pub pending: PendingCalls,
 }
 
 impl CoreFields {
     /// Those of an opening with the goal: no stage yet, and no wish.
     pub fn opening(goal: Goal) -> CoreFields
-        ensures { result ≡ opening_heads goal }
+        ensures { result ≡ opening_fields goal }
     {
         CoreFields {
             generation: 0,
@@ -55,7 +55,7 @@ impl CoreFields {
             reread: false,
             reexec: false,
             level_wish: None,
-            news: News::new(),
+            pending: PendingCalls::new(),
         }
     }
 }
@@ -113,7 +113,7 @@ impl PlainRecord {
 /// What init keeps, as plain values: what its state text says, and what it is rebuilt from.
 #[derive(Drop)]
 pub struct Parts<A: Allocator = Global> {
-    pub heads: CoreFields,
+    pub fields: CoreFields,
     pub table: Table<A>,
     /// In record order.
     pub records: Vec<PlainRecord, A>,
@@ -125,7 +125,7 @@ impl<A: Allocator> Model for Parts<A> {
     ghost Value = { SavedState };
 
     ghost view = { λ parts. record {
-      heads = parts.heads;
+      fields = parts.fields;
       table = parts.table;
       records = parts.records.items;
     } };

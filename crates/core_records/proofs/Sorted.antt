@@ -64,12 +64,6 @@ sorted_drop cs zero sorted = sorted
 sorted_drop [] (suc i) sorted = refl
 sorted_drop (c ∷ cs) (suc i) sorted = sorted_drop cs i (and_parts (not (list_any (is_below c.key) cs)) (are_sorted cs) sorted).1
 
-drop_none : (cs : List Keyed) (i : ℕ) → slice_get cs i ≡ None → drop i cs ≡ []
-drop_none [] zero none = refl
-drop_none [] (suc i) none = refl
-drop_none (c ∷ cs) zero none = absurd (cc)
-drop_none (c ∷ cs) (suc i) none = drop_none cs i none
-
 drop_some : (cs : List Keyed) (i : ℕ) (c : Keyed) → slice_get cs i ≡ Some c → drop i cs ≡ c ∷ drop (suc i) cs
 drop_some [] i c is = absurd (cc)
 drop_some (e ∷ cs) zero c is = let same : e ≡ c = cc in rw same refl

@@ -25,4 +25,4 @@ module _ (grace now : ℕ) where
 
 -- so where no child is excluded, there is none
 pub calm_work : (stage : Stage) (c : CoreState) → stands stage c ≡ false → has_excluded c.slots ≡ false → calm_step stage c ≡ work_step stage c
-calm_work stage c still none = sym (rw (still, none_among c.heads.grace c.heads.time is_some is_some (no_stop c.heads.grace c.heads.time) c.slots none none, none) refl)
+calm_work stage c still none = sym (rw (still, none_among c.fields.grace c.fields.time is_some is_some (no_stop c.fields.grace c.fields.time) c.slots none none, none) refl)

@@ -2,7 +2,7 @@
 
 ghost use Rattle.std.specs.Prelude.{◌≡◌, IfOk, OnOk, OnErr};
 
-use crate::bare::BareCore;
+use crate::state::BareCore;
 use core_model::CoreFields;
 use core_records::Records;
 use init_words::{Answer, Id, Level, Memory, Refusal, Stage, Status};
@@ -99,22 +99,22 @@ impl<A: Allocator> Core<A> {
     }
 
     /// What it keeps, but for its table and its records.
-    pub fn heads(&self) -> CoreFields
-        ensures { result ≡ self.now.heads }
+    pub fn fields(&self) -> CoreFields
+        ensures { result ≡ self.now.fields }
     {
-        self.bare.heads()
+        self.bare.fields()
     }
 
     /// The stage in force.
     pub fn stage(&self) -> Option<Stage>
-        ensures { result ≡ self.now.heads.stage }
+        ensures { result ≡ self.now.fields.stage }
     {
         self.bare.stage()
     }
 
     /// The time, in seconds: the greatest reading so far.
     pub fn time(&self) -> u64
-        ensures { result ≡ self.now.heads.time }
+        ensures { result ≡ self.now.fields.time }
     {
         self.bare.time()
     }
@@ -144,14 +144,14 @@ impl<A: Allocator> Core<A> {
 
     /// The goal: the level to go to, and the seconds between the two signals.
     pub fn goal(&self) -> Goal
-        ensures { result ≡ self.now.heads.goal }
+        ensures { result ≡ self.now.fields.goal }
     {
         self.bare.goal()
     }
 
     /// How often init was re-executed since its opening.
     pub fn generation(&self) -> u64
-        ensures { result ≡ self.now.heads.generation }
+        ensures { result ≡ self.now.fields.generation }
     {
         self.bare.generation()
     }
@@ -198,12 +198,12 @@ impl<A: Allocator> Core<A> {
     }
 
     /// A request was heard (telinit(8), initreq.h). Its seconds are at most 3,600.
-    pub fn got(&mut self, request: HeardRequest)
+    pub fn receive(&mut self, request: HeardRequest)
         ensures state { self.new ≡ after_got request self.old }
         ensures fits { OnEachTrace self.old (λ goal past.
             StillFits self.old self.new goal past (happening.Got request ∷ past)) }
     {
-        self.bare.got_by_state(request);
+        self.bare.receive_by_state(request);
     }
 
     /// Inittab could not be read: the table in force stays.
@@ -227,7 +227,7 @@ impl<A: Allocator> Core<A> {
     /// Its state was handed on to the next init, which is a generation more: the wish for it is over, whatever comes of
     /// the hand-over.
     pub fn handed_on(&mut self)
-        requires { self.old.heads.generation + 1 < 2 ^ 64 }
+        requires { self.old.fields.generation + 1 < 2 ^ 64 }
         ensures state { self.new ≡ after_handed_on self.old }
         ensures fits { OnEachTrace self.old (λ goal past. (how : Handed)
             → StillFits self.old self.new goal past (happening.Handed how ∷ past)) }

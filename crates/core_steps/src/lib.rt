@@ -4,16 +4,16 @@
 //! `answer`, `got`, `adopt`, `clock` and `begin_round` tell the core what came of it, and what came from outside.
 #![tactic(auto)]
 
-mod bare;
 mod calling;
 mod cores;
 mod deciding;
 mod rebuilding;
 mod rules;
+mod state;
 mod walk_places;
 mod walking;
 
-pub use core_model::{News, law_agreement, law_of_acts};
+pub use core_model::{PendingCalls, law_agreement, law_of_acts};
 pub use core_records::{KnownChild, Record, Stop};
 pub use cores::Core;
 pub use rebuilding::Rebuild;

@@ -7,9 +7,9 @@ ghost use Rattle.core_model.specs.Rules.{IsFit};
 ghost use Rattle.core_model.specs.State.{CoreState};
 ghost use Rattle.core_steps.specs.declared.rebuilding.Rebuild.TheVariants as rebuild;
 
-use crate::bare::BareCore;
 use crate::cores::Core;
 use crate::rules::{is_kept, never_fall};
+use crate::state::BareCore;
 use core_model::{CoreFields, Parts, PlainRecord};
 use core_records::{KnownChild, Record, Records};
 use init_words::{Act, ChildNumber, Entry, Memory};
@@ -140,11 +140,11 @@ impl<A: Allocator + Copy> Core<A> {
             → state_of core ≢ parts }
     {
         let Parts {
-            heads,
+            fields,
             table,
             records,
         } = parts;
-        let bare = BareCore::made(alloc, heads, table, &records)?;
+        let bare = BareCore::made(alloc, fields, table, &records)?;
         Ok(Core::of(bare))
     }
 }
@@ -153,21 +153,21 @@ impl<A: Allocator + Copy> BareCore<A> {
     /// The core that keeps these, if they keep the rules.
     fn made(
         alloc: A,
-        heads: CoreFields,
+        fields: CoreFields,
         table: Table<A>,
         records: &[PlainRecord],
     ) -> Result<BareCore<A>, Rebuild>
         ensures made { IfOk result (λ core.
-            (state_of core ≡ record { heads = heads; table = table; records = records.now })
+            (state_of core ≡ record { fields = fields; table = table; records = records.now })
             × IsFit core) }
         ensures unfit { result ≡ Err rebuild.Unfit → (core : CoreState) → IsFit core
-            → state_of core ≢ record { heads = heads; table = table; records = records.now } }
+            → state_of core ≢ record { fields = fields; table = table; records = records.now } }
     {
         let slots = records_along(alloc, &table, records)?;
-        if !is_kept(&heads, &table, &slots) {
+        if !is_kept(&fields, &table, &slots) {
             return Err(Rebuild::Unfit);
         }
         let slots = Records::rebuilt(alloc, slots)?;
-        Ok(BareCore::of(heads, table, slots))
+        Ok(BareCore::of(fields, table, slots))
     }
 }

@@ -8,7 +8,7 @@ ghost use Rattle.core_records.specs.Lists.{are_distinct, is_record_of};
 ghost use Rattle.core_records.specs.Times.{is_stop_timely, is_timely};
 ghost use Rattle.core_model.specs.Decide.{has_excluded};
 ghost use Rattle.core_model.specs.Rules as rules;
-ghost use Rattle.core_model.specs.Rules.{has_cause, may_follow, is_order_allowed, is_started, is_start_allowed, are_starts_in, is_child_excluded, is_stop_judged, is_callable, may_be_signalled, are_marks_due, is_hold_of, is_limiter_kept, is_other_level, is_goal_reached, is_birth_known, are_heads_kept, is_record_kept, are_records_kept, is_kept};
+ghost use Rattle.core_model.specs.Rules.{has_cause, may_follow, is_order_allowed, is_started, is_start_allowed, are_starts_in, is_child_excluded, is_stop_judged, is_callable, may_be_signalled, are_marks_due, is_hold_of, is_limiter_kept, is_other_level, is_goal_reached, is_birth_known, are_fields_kept, is_record_kept, are_records_kept, is_kept};
 
 use crate::deciding::{is_owed, is_starting};
 use core_model::CoreFields;
@@ -319,18 +319,18 @@ fn is_goal_reached(stage: Option<Stage>, goal: Goal, booted: bool) -> bool
     }
 }
 
-fn are_heads_kept(heads: &CoreFields) -> bool
-    ensures { result ≡ are_heads_kept heads.now }
+fn are_fields_kept(fields: &CoreFields) -> bool
+    ensures { result ≡ are_fields_kept fields.now }
 {
-    heads.time <= CLOCK_LIMIT
-        && is_other_level(heads.stage, heads.level_wish)
-        && (!heads.announced || in_run(heads.stage))
-        && is_goal_reached(heads.stage, heads.goal, heads.booted)
+    fields.time <= CLOCK_LIMIT
+        && is_other_level(fields.stage, fields.level_wish)
+        && (!fields.announced || in_run(fields.stage))
+        && is_goal_reached(fields.stage, fields.goal, fields.booted)
 }
 
 /// What is kept keeps the rules, but for the order of the records.
-pub(crate) fn is_kept<A: Allocator>(heads: &CoreFields, table: &Table<A>, slots: &[Record]) -> bool
-    ensures { result ≡ is_kept heads.now table.now slots.now }
+pub(crate) fn is_kept<A: Allocator>(fields: &CoreFields, table: &Table<A>, slots: &[Record]) -> bool
+    ensures { result ≡ is_kept fields.now table.now slots.now }
 {
-    are_heads_kept(heads) && are_records_kept(heads.stage, table, heads.time, slots)
+    are_fields_kept(fields) && are_records_kept(fields.stage, table, fields.time, slots)
 }

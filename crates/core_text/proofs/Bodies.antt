@@ -1,9 +1,9 @@
 -- The lines before the last: what is read of them, and that nothing else is; and a text split at its last line.
-use Rattle.core_text.proofs.CommonWords.{◌≡◌, ◌≢◌, ℕ, zero, suc, ◌-◌, Bool, true, false, cond, not, ◌&&◌, ◌==◌, List, [], ◌∷◌, ◌++◌, length, take, map, append-nil, codes, Option, Some, None, Result, Ok, Err, refl, sym, ap, ◌∙◌, subst, arith, list_all, starts_with, and_parts, and_from, lt-ltb, not-true, append_assoc, list_all-append, option_and_then_some, same_Some, some_pair_parts, after_lines, cut, has_byte, newlines, cut-append, cut-parts, newlines-append, newlines-line, take-front, Entry, table_parts, option_map_some, one_line, parts, fields_written, is_empty, is_table, is_written, CoreFields, StateFault, PlainRecord, SavedState, Version, holds_table, body_lines, head_lines, slot_line, table_line, text_of_lines, version_line, are_heads, is_record, is_state, OnLine, end_split, heads_read, last_line, table_read, version_read, AreRecords, IsBody, IsBodyIn, NoBody, NoRecords, RefusedBody, is_line}
+use Rattle.core_text.proofs.CommonWords.{◌≡◌, ◌≢◌, ℕ, zero, suc, ◌-◌, Bool, true, false, cond, not, ◌&&◌, ◌==◌, List, [], ◌∷◌, ◌++◌, length, take, map, append-nil, codes, Option, Some, None, Result, Ok, Err, refl, sym, ap, ◌∙◌, subst, arith, list_all, starts_with, and_parts, and_from, lt-ltb, not-true, append_assoc, list_all-append, option_and_then_some, same_Some, some_pair_parts, after_lines, cut, has_byte, newlines, cut-append, cut-parts, newlines-append, newlines-line, take-front, Entry, table_parts, option_map_some, one_line, parts, fields_written, is_empty, is_table, is_written, CoreFields, StateFault, PlainRecord, SavedState, Version, holds_table, body_lines, head_lines, slot_line, table_line, text_of_lines, version_line, are_fields, is_record, is_state, OnLine, end_split, fields_read, last_line, table_read, version_read, AreRecords, IsBody, IsBodyIn, NoBody, NoRecords, RefusedBody, is_line}
 use Rattle.std.specs.Option.{option_map}
 use Rattle.std.specs.Result.{IfErr, IsErrAnd, MatchResult}
 use Rattle.core_text.specs.declared.state_fault.StateFault.TheVariants as fault
-use Rattle.core_text.proofs.LineForms.{head_lines_are, heads_front, more_lines_are, slot_line_lacks, version_front}
+use Rattle.core_text.proofs.LineForms.{head_lines_are, fields_front, more_lines_are, slot_line_lacks, version_front}
 use Rattle.core_text.proofs.Whole.{records_text, table_back, table_own, table_text}
 use Rattle.core_text.proofs.WordForms.{time_lacks, version_lacks}
 use Rattle.core_text.proofs.Written.{text_of_lines-append}
@@ -40,18 +40,18 @@ on_body text f fault.Worn p = p
 unfoldable pub body_text : Version → SavedState → List ℕ
 body_text v state = text_of_lines (body_lines v state)
 
-unfoldable pub heads_text : CoreFields → List ℕ
-heads_text heads = text_of_lines (head_lines heads)
+unfoldable pub fields_text : CoreFields → List ℕ
+fields_text fields = text_of_lines (head_lines fields)
 
 -- the first line with its newline, and more
 abbrev begun : Version → List ℕ → List ℕ
 begun v rest = (version_line v ++ 10 ∷ []) ++ rest
 
-body_parts : (v : Version) (state : SavedState) → body_text v state ≡ begun v (heads_text state.heads ++ (table_text state.table ++ records_text v state.records))
-unfolding body_text heads_text table_text records_text
+body_parts : (v : Version) (state : SavedState) → body_text v state ≡ begun v (fields_text state.fields ++ (table_text state.table ++ records_text v state.records))
+unfolding body_text fields_text table_text records_text
 body_parts v state =
-    ap (begun v) (text_of_lines-append (head_lines state.heads) (table_line (length state.table) ∷ (map fields_written state.table ++ map (slot_line v) state.records))
-    ∙ ap (λ t. text_of_lines (head_lines state.heads) ++ t) (text_of_lines-append (table_line (length state.table) ∷ map fields_written state.table) (map (slot_line v) state.records)))
+    ap (begun v) (text_of_lines-append (head_lines state.fields) (table_line (length state.table) ∷ (map fields_written state.table ++ map (slot_line v) state.records))
+    ∙ ap (λ t. text_of_lines (head_lines state.fields) ++ t) (text_of_lines-append (table_line (length state.table) ∷ map fields_written state.table) (map (slot_line v) state.records)))
 
 begun_as : (v : Version) (rest : List ℕ) → begun v rest ≡ version_line v ++ 10 ∷ rest
 begun_as v rest = append_assoc (version_line v) (10 ∷ []) rest
@@ -62,9 +62,9 @@ version_own v text rest is = sym (begun_as v rest) ∙ (version_front.own text v
 pub version_back : (v : Version) (rest : List ℕ) → version_read (version_line v ++ 10 ∷ rest) ≡ Some (v, rest)
 version_back v rest = ap version_read (sym (begun_as v rest)) ∙ version_front.back v rest refl
 
--- the heads, the table and the records of a state
+-- the fields, the table and the records of a state
 pub record Kept (v : Version) (state : SavedState) : Type 0 where
-  pub heads : are_heads state.heads ≡ true
+  pub fields : are_fields state.fields ≡ true
   pub table : is_table state.table ≡ true
   pub holds : holds_table v state.table ≡ true
   pub records : list_all (is_record v) state.records ≡ true
@@ -74,21 +74,21 @@ state_parts v state is = grind arith
 
 -- what is read of the text of a state, and of more behind it
 pub record Steps (v : Version) (state : SavedState) (text more : List ℕ) : Type 0 where
-  pub begins : version_read text ≡ Some (v, heads_text state.heads ++ (table_text state.table ++ (records_text v state.records ++ more)))
-  pub heads : heads_read (heads_text state.heads ++ (table_text state.table ++ (records_text v state.records ++ more))) ≡ Some (state.heads, table_text state.table ++ (records_text v state.records ++ more))
+  pub begins : version_read text ≡ Some (v, fields_text state.fields ++ (table_text state.table ++ (records_text v state.records ++ more)))
+  pub fields : fields_read (fields_text state.fields ++ (table_text state.table ++ (records_text v state.records ++ more))) ≡ Some (state.fields, table_text state.table ++ (records_text v state.records ++ more))
   pub table : table_read v (table_text state.table ++ (records_text v state.records ++ more)) ≡ Some (state.table, records_text v state.records ++ more)
 
 pub steps : (v : Version) (state : SavedState) (text more : List ℕ) → is_state v state ≡ true → body_text v state ++ more ≡ text → Steps v state text more
-unfolding heads_text
+unfolding fields_text
 steps v state text more is same =
     let kept = state_parts v state is in
-    let behind = heads_text state.heads ++ (table_text state.table ++ (records_text v state.records ++ more)) in
+    let behind = fields_text state.fields ++ (table_text state.table ++ (records_text v state.records ++ more)) in
     let whole : text ≡ begun v behind =
-    sym same ∙ ap (λ t. t ++ more) (body_parts v state) ∙ append_assoc (version_line v ++ 10 ∷ []) (heads_text state.heads ++ (table_text state.table ++ records_text v state.records)) more
-    ∙ ap (begun v) (append_assoc (heads_text state.heads) (table_text state.table ++ records_text v state.records) more ∙ ap (λ t. heads_text state.heads ++ t) (append_assoc (table_text state.table) (records_text v state.records) more)) in
+    sym same ∙ ap (λ t. t ++ more) (body_parts v state) ∙ append_assoc (version_line v ++ 10 ∷ []) (fields_text state.fields ++ (table_text state.table ++ records_text v state.records)) more
+    ∙ ap (begun v) (append_assoc (fields_text state.fields) (table_text state.table ++ records_text v state.records) more ∙ ap (λ t. fields_text state.fields ++ t) (append_assoc (table_text state.table) (records_text v state.records) more)) in
     record {
       begins = ap version_read whole ∙ version_front.back v behind refl;
-      heads = heads_front.back state.heads (table_text state.table ++ (records_text v state.records ++ more)) kept.heads;
+      fields = fields_front.back state.fields (table_text state.table ++ (records_text v state.records ++ more)) kept.fields;
       table = table_back v state.table (records_text v state.records ++ more) kept.table kept.holds;
     }
 
@@ -108,57 +108,57 @@ of_version v state text first at is = subst (λ w. IsBodyIn w text state) same i
 
 -- and so is what is behind that line
 pub behind_version : (v : Version) (state : SavedState) (text first : List ℕ) → version_read text ≡ Some (v, first) → Steps v state text []
-    → first ≡ heads_text state.heads ++ (table_text state.table ++ (records_text v state.records ++ []))
+    → first ≡ fields_text state.fields ++ (table_text state.table ++ (records_text v state.records ++ []))
 behind_version v state text first at read = (some_pair_parts _ _ _ _ (sym at ∙ read.begins)).1
 
 known_version : (v : Version) (text first : List ℕ) → version_read text ≡ Some (v, first) → version_read text ≢ None
 known_version v text first at none = lost (v, first) (sym none ∙ at)
 
-pub no_heads : (v : Version) (text first : List ℕ) → version_read text ≡ Some (v, first) → heads_read first ≡ None → (version_read text ≢ None) × NoBody text
-no_heads v text first at none = (
+pub no_fields : (v : Version) (text first : List ℕ) → version_read text ≡ Some (v, first) → fields_read first ≡ None → (version_read text ≢ None) × NoBody text
+no_fields v text first at none = (
   known_version v text first at,
   λ state is.
       let read = steps_of v state text (of_version v state text first at is) in
-      lost _ (sym none ∙ ap heads_read (behind_version v state text first at read) ∙ read.heads),
+      lost _ (sym none ∙ ap fields_read (behind_version v state text first at read) ∙ read.fields),
 )
 
--- behind the heads
-pub to_heads : (v : Version) (state : SavedState) (text first second : List ℕ) (heads : CoreFields) → version_read text ≡ Some (v, first) → heads_read first ≡ Some (heads, second) → Steps v state text []
-    → (heads ≡ state.heads) × (second ≡ table_text state.table ++ (records_text v state.records ++ []))
-to_heads v state text first second heads at found read = grind arith
+-- behind the fields
+pub to_fields : (v : Version) (state : SavedState) (text first second : List ℕ) (fields : CoreFields) → version_read text ≡ Some (v, first) → fields_read first ≡ Some (fields, second) → Steps v state text []
+    → (fields ≡ state.fields) × (second ≡ table_text state.table ++ (records_text v state.records ++ []))
+to_fields v state text first second fields at found read = grind arith
 
-pub no_table : (v : Version) (text first second : List ℕ) (heads : CoreFields) → version_read text ≡ Some (v, first) → heads_read first ≡ Some (heads, second) → table_read v second ≡ None → (version_read text ≢ None) × NoBody text
-no_table v text first second heads at found none = (
+pub no_table : (v : Version) (text first second : List ℕ) (fields : CoreFields) → version_read text ≡ Some (v, first) → fields_read first ≡ Some (fields, second) → table_read v second ≡ None → (version_read text ≢ None) × NoBody text
+no_table v text first second fields at found none = (
   known_version v text first at,
   λ state is.
       let read = steps_of v state text (of_version v state text first at is) in
-      let here = to_heads v state text first second heads at found read in
+      let here = to_fields v state text first second fields at found read in
       lost _ (sym none ∙ ap (table_read v) here.1 ∙ read.table),
 )
 
-pub no_body : (v : Version) (text first second third : List ℕ) (heads : CoreFields) (table : List Entry) → version_read text ≡ Some (v, first) → heads_read first ≡ Some (heads, second) → table_read v second ≡ Some (table, third) → NoRecords v third → (version_read text ≢ None) × NoBody text
+pub no_body : (v : Version) (text first second third : List ℕ) (fields : CoreFields) (table : List Entry) → version_read text ≡ Some (v, first) → fields_read first ≡ Some (fields, second) → table_read v second ≡ Some (table, third) → NoRecords v third → (version_read text ≢ None) × NoBody text
 unfolding records_text
-no_body v text first second third heads table at found then never = (
+no_body v text first second third fields table at found then never = (
   known_version v text first at,
   λ state is.
       let own = of_version v state text first at is in
       let read = steps_of v state text own in
-      let here = to_heads v state text first second heads at found read in
+      let here = to_fields v state text first second fields at found read in
       let there = some_pair_parts table state.table third (records_text v state.records ++ []) (sym then ∙ ap (table_read v) here.1 ∙ read.table) in
       never state.records (state_parts v state own.0).records (sym (append-nil (records_text v state.records)) ∙ sym there.1),
 )
 
-pub is_body : (v : Version) (text first second third : List ℕ) (heads : CoreFields) (table : List Entry) (records : List PlainRecord) → version_read text ≡ Some (v, first) → heads_read first ≡ Some (heads, second) → table_read v second ≡ Some (table, third) → AreRecords v third records
-    → IsBody text (record { heads = heads; table = table; records = records })
-unfolding body_text heads_text records_text
-is_body v text first second third heads table records at found then are =
-    let state : SavedState = record { heads = heads; table = table; records = records } in
-    let one = heads_front.own first heads second found in
+pub is_body : (v : Version) (text first second third : List ℕ) (fields : CoreFields) (table : List Entry) (records : List PlainRecord) → version_read text ≡ Some (v, first) → fields_read first ≡ Some (fields, second) → table_read v second ≡ Some (table, third) → AreRecords v third records
+    → IsBody text (record { fields = fields; table = table; records = records })
+unfolding body_text fields_text records_text
+is_body v text first second third fields table records at found then are =
+    let state : SavedState = record { fields = fields; table = table; records = records } in
+    let one = fields_front.own first fields second found in
     let two = table_own v second third table then in (
       v,
       (
-        and_from (are_heads heads && (is_table table && holds_table v table)) (list_all (is_record v) records) (and_from (are_heads heads) (is_table table && holds_table v table) one.1 (and_from (is_table table) (holds_table v table) two.1 two.2)) are.0,
-        body_parts v state ∙ ap (λ t. begun v (heads_text heads ++ (table_text table ++ t))) are.1 ∙ ap (λ t. begun v (heads_text heads ++ t)) two.0 ∙ ap (begun v) one.0 ∙ begun_as v first ∙ version_own v text first at,
+        and_from (are_fields fields && (is_table table && holds_table v table)) (list_all (is_record v) records) (and_from (are_fields fields) (is_table table && holds_table v table) one.1 (and_from (is_table table) (holds_table v table) two.1 two.2)) are.0,
+        body_parts v state ∙ ap (λ t. begun v (fields_text fields ++ (table_text table ++ t))) are.1 ∙ ap (λ t. begun v (fields_text fields ++ t)) two.0 ∙ ap (begun v) one.0 ∙ begun_as v first ∙ version_own v text first at,
       ),
     )
 

@@ -120,9 +120,6 @@ bit_by byte flag true b is other found = let this : false ≡ flag = same_Some f
 bit_by byte flag false true not_it is found = let this : true ≡ flag = same_Some true flag found in ap bit (sym this) ∙ sym (eqb-true byte 49 is)
 bit_by byte flag false false not_it other found = absurd (cc)
 
-pub bit_own : (byte : ℕ) (flag : Bool) → bit_read byte ≡ Some flag → bit flag ≡ byte
-bit_own byte flag is = bit_by byte flag (byte == 48) (byte == 49) refl refl is
-
 pub bit_lacks : (byte : ℕ) (flag : Bool) → byte ≡ 10 ⊎ byte ≡ 32 → (bit flag == byte) ≡ false
 bit_lacks byte true is = elim is [ inl e ↦ rw e refl | inr e ↦ rw e refl ]
 bit_lacks byte false is = elim is [ inl e ↦ rw e refl | inr e ↦ rw e refl ]

@@ -1,5 +1,5 @@
--- Each line of a state text is read exactly, and so are the heads, a record, and a table.
-use Rattle.core_text.proofs.CommonWords.{◌≡◌, ◌⊎◌, inl, inr, ℕ, ◌<◌, Bool, true, false, not, ◌&&◌, ◌==◌, List, [], ◌∷◌, ◌++◌, nat_le, append-nil, codes, decimal, Option, Some, None, is_none, subst, refl, ap, ◌∙◌, arith, lit<, and_parts, and_from, append_assoc, has_byte, Act, Status, OrderKind, Stage, act_read, word_of, is_id, option_map_some, level_word, order_word, stage_word, is_status, child_of_word, order_of_word, stage_of_word, CoreFields, PlainRecord, Version, V1, V2, holds_id, bit, clock_line, flags_line, generation_line, goal_line, goal_word, head_lines, or_dash, or_word, slot_line, stage_line, starts_word, status_word, stop_word, text_of_lines, version_line, wish_line, are_heads, are_starts, is_child, is_generation, is_goal, is_last_status, is_record, is_seconds, is_stage, is_stop, is_time, passes, EndWords, FlagWords, LimitWords, MarkWords, PlaceWords, SlotWords, TimeWords, WishWords, clock_line_read, dash_read, ends_read, without_status, status_read, starts_read, flags_line_read, flags_read, four_bits, generation_line_read, generation_read, goal_line_read, goal_made, goal_read, heads_made, heads_read, limits_read, marks_read, named_read, one_bit, places_read, reread_read, slot_line_read, slot_made, slot_words_read, stage_line_read, stage_pair_read, line_read, then_read, stop_read, table_line_read, end_line_read, three_bits, time_read, times_read, two_bits, version_of_line, version_read, wish_line_read, wishes_read, list_all, is_line}
+-- Each line of a state text is read exactly, and so are the fields, a record, and a table.
+use Rattle.core_text.proofs.CommonWords.{◌≡◌, ◌⊎◌, inl, inr, ℕ, ◌<◌, Bool, true, false, not, ◌&&◌, ◌==◌, List, [], ◌∷◌, ◌++◌, nat_le, append-nil, codes, decimal, Option, Some, None, is_none, subst, refl, ap, ◌∙◌, arith, lit<, and_parts, and_from, append_assoc, has_byte, Act, Status, OrderKind, Stage, act_read, word_of, is_id, option_map_some, level_word, order_word, stage_word, is_status, child_of_word, order_of_word, stage_of_word, CoreFields, PlainRecord, Version, V1, V2, holds_id, bit, clock_line, flags_line, generation_line, goal_line, goal_word, head_lines, or_dash, or_word, slot_line, stage_line, starts_word, status_word, stop_word, text_of_lines, version_line, wish_line, are_fields, are_starts, is_child, is_generation, is_goal, is_last_status, is_record, is_seconds, is_stage, is_stop, is_time, passes, EndWords, FlagWords, LimitWords, MarkWords, PlaceWords, SlotWords, TimeWords, WishWords, clock_line_read, dash_read, ends_read, without_status, status_read, starts_read, flags_line_read, flags_read, four_bits, generation_line_read, generation_read, goal_line_read, goal_made, goal_read, fields_made, fields_read, limits_read, marks_read, named_read, one_bit, places_read, reread_read, slot_line_read, slot_made, slot_words_read, stage_line_read, stage_pair_read, line_read, then_read, stop_read, table_line_read, end_line_read, three_bits, time_read, times_read, two_bits, version_of_line, version_read, wish_line_read, wishes_read, list_all, is_line}
 use Rattle.std.proofs.Common.{option_map}
 use Rattle.trace_events.specs.declared.steps.Goal.{Goal}
 use Rattle.core_text.proofs.Forms.{Form, Front, Lacks, checked_form, first_bit_form, first_bit_lacks, line_front, made_form, made_front, named_form, or_form, or_lacks, pair_form, pair_lacks, retested, then_front}
@@ -143,7 +143,7 @@ wishes_lacks =
 pub wish_line_form : Form is_wish (λ w. codes "wish" ++ 32 ∷ wish_words w) wish_line_read
 wish_line_form = named_form (codes "wish") 32 is_wish wish_words wishes_read refl wishes_form
 
--- the heads
+-- the fields
 times_front : Front (λ (p : TimeWords). is_generation p.0 && is_time p.1) (λ p. (generation_line p.0 ++ 10 ∷ []) ++ (clock_line p.1 ++ 10 ∷ [])) times_read
 times_front = then_front _ _ _ _ _ _ (line_front _ _ _ generation_line_form generation_lacks) (line_front _ _ _ clock_line_form (time_lacks 10 (lit< tt)))
 
@@ -158,7 +158,7 @@ head_parts h = (
   (h.generation, h.time),
   (
     ((h.stage, h.grace), h.goal),
-    ((h.booted, h.announced), ((h.reread, h.reexec), (h.level_wish, ((h.news.fail, (h.news.fail_now, h.news.ok)), (h.news.a, (h.news.b, h.news.c)))))),
+    ((h.booted, h.announced), ((h.reread, h.reexec), (h.level_wish, ((h.pending.fail, (h.pending.fail_now, h.pending.ok)), (h.pending.a, (h.pending.b, h.pending.c)))))),
   ),
 )
 
@@ -174,11 +174,11 @@ six_tests true true true true true true = refl
 six_lines : (a b c d e f : List ℕ) → (a ++ b) ++ ((c ++ d) ++ (e ++ f)) ≡ a ++ (b ++ (c ++ (d ++ (e ++ (f ++ [])))))
 six_lines a b c d e f = grind (arith, append_assoc, append-nil)
 
-pub heads_front : Front are_heads (λ h. text_of_lines (head_lines h)) heads_read
-heads_front =
-    made_front heads_made head_parts _ are_heads _ (λ h. text_of_lines (head_lines h)) (then_read times_read (then_read places_read flags_read)) (λ p. refl) (λ h. refl)
+pub fields_front : Front are_fields (λ h. text_of_lines (head_lines h)) fields_read
+fields_front =
+    made_front fields_made head_parts _ are_fields _ (λ h. text_of_lines (head_lines h)) (then_read times_read (then_read places_read flags_read)) (λ p. refl) (λ h. refl)
     (λ h. six_tests (is_generation h.generation) (is_time h.time) (is_stage h.stage h.grace) (is_goal h.goal) (not h.reexec) (passes is_goal h.level_wish))
-    (λ h. six_lines (generation_line h.generation ++ 10 ∷ []) (clock_line h.time ++ 10 ∷ []) (stage_line h.stage h.grace ++ 10 ∷ []) (goal_line h.goal ++ 10 ∷ []) (flags_line h.booted h.announced ++ 10 ∷ []) (wish_line h.reread h.reexec h.level_wish h.news ++ 10 ∷ []))
+    (λ h. six_lines (generation_line h.generation ++ 10 ∷ []) (clock_line h.time ++ 10 ∷ []) (stage_line h.stage h.grace ++ 10 ∷ []) (goal_line h.goal ++ 10 ∷ []) (flags_line h.booted h.announced ++ 10 ∷ []) (wish_line h.reread h.reexec h.level_wish h.pending ++ 10 ∷ []))
     (then_front _ _ _ _ _ _ times_front (then_front _ _ _ _ _ _ places_front flags_front))
 
 -- a record
@@ -330,7 +330,7 @@ version_front = line_front always version_line version_of_line version_form vers
 pub more_lines_are : (line : List ℕ) (lines : List (List ℕ)) → has_byte 10 line ≡ false → list_all is_line lines ≡ true → list_all is_line (line ∷ lines) ≡ true
 more_lines_are line lines lacks are = and_from (is_line line) (list_all is_line lines) (ap not lacks) are
 
-pub head_lines_are : (h : CoreFields) → are_heads h ≡ true → list_all is_line (head_lines h) ≡ true
+pub head_lines_are : (h : CoreFields) → are_fields h ≡ true → list_all is_line (head_lines h) ≡ true
 head_lines_are h is =
     let p = head_parts h in
     let parts = and_parts (is_generation h.generation && is_time h.time) ((is_stage h.stage h.grace && is_goal h.goal) && is_wish p.1.1.1)
@@ -338,7 +338,7 @@ head_lines_are h is =
     let times = and_parts (is_generation h.generation) (is_time h.time) parts.0 in
     let others = and_parts (is_stage h.stage h.grace && is_goal h.goal) (is_wish p.1.1.1) parts.1 in
     let places = and_parts (is_stage h.stage h.grace) (is_goal h.goal) others.0 in
-    let wish = wish_line h.reread h.reexec h.level_wish h.news ∷ [] in
+    let wish = wish_line h.reread h.reexec h.level_wish h.pending ∷ [] in
     let flags = flags_line h.booted h.announced ∷ wish in
     let goal = goal_line h.goal ∷ flags in
     let stage = stage_line h.stage h.grace ∷ goal in
@@ -348,4 +348,4 @@ head_lines_are h is =
     (more_lines_are (stage_line h.stage h.grace) goal (stage_pair_lacks (h.stage, h.grace) places.0)
     (more_lines_are (goal_line h.goal) flags (goal_lacks 10 32 (lit< tt) refl h.goal places.1)
     (more_lines_are (flags_line h.booted h.announced) wish (two_lacks 10 newline (h.booted, h.announced) refl)
-    (more_lines_are (wish_line h.reread h.reexec h.level_wish h.news) [] (wishes_lacks p.1.1.1 others.1) refl)))))
+    (more_lines_are (wish_line h.reread h.reexec h.level_wish h.pending) [] (wishes_lacks p.1.1.1 others.1) refl)))))

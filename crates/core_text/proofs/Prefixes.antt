@@ -1,5 +1,5 @@
 -- A text of a state says one state, and the generation that its second line names.
-use Rattle.core_text.proofs.CommonWords.{◌≡◌, ℕ, true, false, subst, List, [], ◌∷◌, ◌++◌, length, drop, Some, refl, sym, ap, ◌∙◌, arith, list_all, and_parts, append_assoc, some_pair_parts, has_byte, cut-append, CoreFields, PlainRecord, SavedState, Version, V1, V2, body_lines, end_line, generation_line, slot_line, state_lines, text_of_lines, version_line, are_heads, is_generation, is_record, generation_line_read, generation_of, heads_read, line_read, slot_line_read, table_read, IsTextIn, IsTextOf}
+use Rattle.core_text.proofs.CommonWords.{◌≡◌, ℕ, true, false, subst, List, [], ◌∷◌, ◌++◌, length, drop, Some, refl, sym, ap, ◌∙◌, arith, list_all, and_parts, append_assoc, some_pair_parts, has_byte, cut-append, CoreFields, PlainRecord, SavedState, Version, V1, V2, body_lines, end_line, generation_line, slot_line, state_lines, text_of_lines, version_line, are_fields, is_generation, is_record, generation_line_read, generation_of, fields_read, line_read, slot_line_read, table_read, IsTextIn, IsTextOf}
 use Rattle.core_text.proofs.Bodies.{Steps, body_text, state_parts, steps}
 use Rattle.core_text.proofs.LineForms.{generation_lacks, generation_line_form, slot_front}
 use Rattle.core_text.proofs.Taken.{whole_text}
@@ -18,16 +18,16 @@ first_slot V2 r records rest = refl
 
 -- what is read of a text that is that of two states
 record Alike (v : Version) (one two : SavedState) (more rest : List ℕ) : Type 0 where
-  pub heads : one.heads ≡ two.heads
+  pub fields : one.fields ≡ two.fields
   pub table : one.table ≡ two.table
   pub ends : records_text v one.records ++ more ≡ records_text v two.records ++ rest
 
 alike : (v : Version) (one two : SavedState) (text more rest : List ℕ) → Steps v one text more → Steps v two text rest → Alike v one two more rest
 alike v one two text more rest left right =
     let begun = (some_pair_parts _ _ _ _ (sym left.begins ∙ right.begins)).1 in
-    let heads = some_pair_parts one.heads two.heads (table_text one.table ++ (records_text v one.records ++ more)) (table_text two.table ++ (records_text v two.records ++ rest)) (sym left.heads ∙ ap heads_read begun ∙ right.heads) in
-    let table = some_pair_parts one.table two.table (records_text v one.records ++ more) (records_text v two.records ++ rest) (sym left.table ∙ ap (table_read v) heads.1 ∙ right.table) in
-    record { heads = heads.0; table = table.0; ends = table.1 }
+    let fields = some_pair_parts one.fields two.fields (table_text one.table ++ (records_text v one.records ++ more)) (table_text two.table ++ (records_text v two.records ++ rest)) (sym left.fields ∙ ap fields_read begun ∙ right.fields) in
+    let table = some_pair_parts one.table two.table (records_text v one.records ++ more) (records_text v two.records ++ rest) (sym left.table ∙ ap (table_read v) fields.1 ∙ right.table) in
+    record { fields = fields.0; table = table.0; ends = table.1 }
 
 -- the records of two such texts
 same_ends : (v : Version) (one two : List PlainRecord) (m n : ℕ) → list_all (is_record v) one ≡ true → list_all (is_record v) two ≡ true
@@ -55,7 +55,7 @@ same_in v one two text left right =
     let m = length (body_lines v two) in
     let both = alike v one two text (end_line n ++ 10 ∷ []) (end_line m ++ 10 ∷ []) (steps_in v one text left) (steps_in v two text right) in
     let records = same_ends v one.records two.records n m (state_parts v one left.0).records (state_parts v two right.0).records both.ends in
-    rw (both.heads, both.table, records) refl
+    rw (both.fields, both.table, records) refl
 
 pub one_state : (text : List ℕ) (one two : SavedState) → IsTextOf text one → IsTextOf text two → one ≡ two
 one_state text one two first second = same_in second.0 one two text (subst (λ v. IsTextIn v text one) same first.1) second.1
@@ -67,11 +67,11 @@ one_state text one two first second = same_in second.0 one two text (subst (λ v
 said_by : (v : Version) (line more text : List ℕ) (generation : ℕ) → has_byte 10 line ≡ false → generation_line_read line ≡ Some generation → (version_line v ++ 10 ∷ []) ++ ((line ++ 10 ∷ []) ++ more) ≡ text → generation_of text ≡ Some generation
 said_by v line more text generation lacks read whole = grind (arith, append_assoc, cut-append, version_lacks)
 
-pub generation_said : (text : List ℕ) (state : SavedState) → IsTextOf text state → generation_of text ≡ Some state.heads.generation
+pub generation_said : (text : List ℕ) (state : SavedState) → IsTextOf text state → generation_of text ≡ Some state.fields.generation
 generation_said text state says =
     let v = says.0 in
-    let known = head_known state.heads (state_parts v state says.1.0).heads in
-    said_by v (generation_line state.heads.generation) (text_of_lines (drop 2 (state_lines v state))) text state.heads.generation (generation_lacks state.heads.generation known) (generation_line_form.back state.heads.generation known) says.1.1
+    let known = head_known state.fields (state_parts v state says.1.0).fields in
+    said_by v (generation_line state.fields.generation) (text_of_lines (drop 2 (state_lines v state))) text state.fields.generation (generation_lacks state.fields.generation known) (generation_line_form.back state.fields.generation known) says.1.1
   where
-    head_known : (h : CoreFields) → are_heads h ≡ true → is_generation h.generation ≡ true
+    head_known : (h : CoreFields) → are_fields h ≡ true → is_generation h.generation ≡ true
     head_known h are = grind arith

@@ -78,6 +78,6 @@ records_ranged now clock (slot ∷ slots) limiters timely ids =
     let own = and_parts (has_ranged_words slot) (list_all has_ranged_words slots) ids in
     and_from (is_record V2 (record_of slot)) (list_all (is_record V2) (map record_of slots)) (record_ranged now clock slot kept.0 past.0 own.0) (records_ranged now clock slots kept.1 past.1 own.1)
 
-pub state_ranged : (c : CoreState) → IsFit c → 1 ≤ c.heads.generation → c.heads.generation < 2 ^ 64 → c.heads.reexec ≡ false → has_short_seconds c ≡ true → is_table c.table ≡ true → list_all has_ranged_words c.slots ≡ true → is_state V2 (state_of c) ≡ true
+pub state_ranged : (c : CoreState) → IsFit c → 1 ≤ c.fields.generation → c.fields.generation < 2 ^ 64 → c.fields.reexec ≡ false → has_short_seconds c ≡ true → is_table c.table ≡ true → list_all has_ranged_words c.slots ≡ true → is_state V2 (state_of c) ≡ true
 state_ranged c fit some small reexec seconds table ids =
     grind (arith, rules_of, lt-ltb, le-leb, time_fits, table_held, records_ranged)

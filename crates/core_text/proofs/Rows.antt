@@ -5,7 +5,7 @@ use Rattle.init_words.specs.declared.actions.Act.TheVariants as act
 use Rattle.init_words.specs.declared.levels.Level.TheVariants as level
 use Rattle.init_words.specs.declared.orders.OrderKind.TheVariants.{Term}
 use Rattle.init_words.specs.declared.stages.Stage.TheVariants as stage
-use Rattle.core_model.specs.News.{no_news}
+use Rattle.core_model.specs.PendingCalls.{no_news}
 
 abbrev left : PlainRecord
 left = record {
@@ -23,8 +23,8 @@ left = record {
   last = Some (Exit 1);
 }
 
-abbrev heads : CoreFields
-heads = record {
+abbrev fields : CoreFields
+fields = record {
   generation = 1;
   time = 0;
   stage = Some (stage.Run level.L3);
@@ -35,11 +35,11 @@ heads = record {
   reread = true;
   reexec = false;
   level_wish = Some (record { level = level.S; grace = 5 });
-  news = no_news;
+  pending = no_news;
 }
 
 abbrev example : SavedState
-example = record { heads = heads; table = []; records = left ∷ [] }
+example = record { fields = fields; table = []; records = left ∷ [] }
 
 example_text : state_text example ≡ codes "initd-state 2\ngeneration 1\nclock 0\nstage 3 5\ngoal 3 5\nflags 10\nwish 10 S:5 000 000\ntable 0\nslot a 7 once term due 0010 - - exit:1\nend 9\n"
 example_text = rw (decimal_digit 1 (lit< tt), decimal_digit 0 (lit< tt), decimal_digit 5 (lit< tt), decimal_digit 7 (lit< tt), decimal_digit 9 (lit< tt)) refl

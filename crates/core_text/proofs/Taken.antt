@@ -2,7 +2,7 @@
 use Rattle.core_text.proofs.CommonWords.{◌≡◌, ◌≢◌, ℕ, ◌<◌, ◌^◌, true, false, not, ◌==◌, List, [], ◌∷◌, ◌++◌, length, append-nil, codes, Option, Some, None, refl, sym, ap, ◌∙◌, arith, lit<, length-append, list_all, starts_with, and_parts, lt-ltb, not-true, append_assoc, some_pair_parts, cut, has_byte, newlines, cut-append, StateFault, Version, PlainRecord, SavedState, body_lines, end_line, slot_line, text_in, text_of_lines, version_line, is_record, is_time, end_line_read, end_split, line_read, slot_line_read, table_read, version_read, BeginsAs, BeginsAsKnown, IsBody, IsBodyIn, IsCut, IsOtherVersion, Refused, RefusedBody, IsTextIn, IsTextOf, SaysNone, Whole, is_line}
 use Rattle.trace_text.proofs.ReadTexts.{newlines-few}
 use Rattle.core_text.specs.declared.state_fault.StateFault.TheVariants as fault
-use Rattle.core_text.proofs.Bodies.{body_lines_are, heads_text, lost, newlines_are, of_version, split_back, split_own, state_parts, steps_of, to_heads, version_back, version_own}
+use Rattle.core_text.proofs.Bodies.{body_lines_are, fields_text, lost, newlines_are, of_version, split_back, split_own, state_parts, steps_of, to_fields, version_back, version_own}
 use Rattle.core_text.proofs.LineForms.{end_line_form, slot_front}
 use Rattle.core_text.proofs.Whole.{records_text, table_text}
 use Rattle.core_text.proofs.WordForms.{time_lacks, version_lacks}
@@ -29,11 +29,11 @@ same_in : (v : Version) (one two : SavedState) (text : List ℕ) → IsBodyIn v 
 same_in v one two text first second =
     let left = steps_of v one text first in
     let right = steps_of v two text second in
-    let heads = to_heads v two text (heads_text one.heads ++ (table_text one.table ++ (records_text v one.records ++ []))) (table_text one.table ++ (records_text v one.records ++ [])) one.heads left.begins left.heads right in
-    let table = some_pair_parts one.table two.table (records_text v one.records ++ []) (records_text v two.records ++ []) (sym left.table ∙ ap (table_read v) heads.1 ∙ right.table) in
+    let fields = to_fields v two text (fields_text one.fields ++ (table_text one.table ++ (records_text v one.records ++ []))) (table_text one.table ++ (records_text v one.records ++ [])) one.fields left.begins left.fields right in
+    let table = some_pair_parts one.table two.table (records_text v one.records ++ []) (records_text v two.records ++ []) (sym left.table ∙ ap (table_read v) fields.1 ∙ right.table) in
     let texts = sym (append-nil (records_text v one.records)) ∙ table.1 ∙ append-nil (records_text v two.records) in
     let records = same_records v one.records two.records (state_parts v one first.0).records (state_parts v two second.0).records texts in
-    rw (heads.0, table.0, records) refl
+    rw (fields.0, table.0, records) refl
 
 pub same_body : (one two : SavedState) (text : List ℕ) → IsBody text one → IsBody text two → one ≡ two
 same_body one two text first second =

@@ -10,7 +10,7 @@ use Rattle.trace_events.specs.declared.steps.Goal.{Goal}
 use Rattle.trace_text.specs.Lines.{level_word, stage_word, order_word}
 use Rattle.core_records.specs.declared.children.Stop.{Stop}
 use Rattle.core_records.specs.declared.children.Stop.TheVariants.{Due, Termed, Killed}
-use Rattle.core_model.specs.declared.news.News.{News}
+use Rattle.core_model.specs.declared.pending_calls.PendingCalls.{PendingCalls}
 use Rattle.core_model.specs.declared.parts.CoreFields.{CoreFields}
 use Rattle.core_model.specs.declared.parts.PlainRecord.{PlainRecord}
 use Rattle.core_model.specs.Parts.{SavedState}
@@ -78,25 +78,25 @@ goal_line goal = spaced (codes "goal" ∷ level_word goal.level ∷ decimal goal
 abbrev pub flags_line : Bool → Bool → List ℕ
 flags_line booted announced = spaced (codes "flags" ∷ bits (booted ∷ announced ∷ []) ∷ [])
 
-abbrev pub power_bits : News → List Bool
-power_bits news = news.fail ∷ news.fail_now ∷ news.ok ∷ []
+abbrev pub power_bits : PendingCalls → List Bool
+power_bits pending = news.fail ∷ news.fail_now ∷ news.ok ∷ []
 
-abbrev pub letter_bits : News → List Bool
-letter_bits news = news.a ∷ news.b ∷ news.c ∷ []
+abbrev pub letter_bits : PendingCalls → List Bool
+letter_bits pending = news.a ∷ news.b ∷ news.c ∷ []
 
-abbrev pub wish_line : Bool → Bool → Option Goal → News → List ℕ
+abbrev pub wish_line : Bool → Bool → Option Goal → PendingCalls → List ℕ
 wish_line reread reexec level news =
     spaced (codes "wish" ∷ bits (reread ∷ reexec ∷ []) ∷ or_dash goal_word level ∷ bits (power_bits news)
     ∷ bits (letter_bits news) ∷ [])
 
 abbrev pub head_lines : CoreFields → List (List ℕ)
-head_lines heads =
-    generation_line heads.generation
-    ∷ clock_line heads.time
-    ∷ stage_line heads.stage heads.grace
-    ∷ goal_line heads.goal
-    ∷ flags_line heads.booted heads.announced
-    ∷ wish_line heads.reread heads.reexec heads.level_wish heads.news
+head_lines fields =
+    generation_line fields.generation
+    ∷ clock_line fields.time
+    ∷ stage_line fields.stage fields.grace
+    ∷ goal_line fields.goal
+    ∷ flags_line fields.booted fields.announced
+    ∷ wish_line fields.reread fields.reexec fields.level_wish fields.pending
     ∷ []
 
 abbrev pub table_line : ℕ → List ℕ
@@ -119,11 +119,11 @@ slot_line V2 kept = spaced (record_words kept ++ or_dash status_word kept.last �
 abbrev pub end_line : ℕ → List ℕ
 end_line count = spaced (codes "end" ∷ decimal count ∷ [])
 
--- the lines of a state before its last: the version, the heads, how many entries the table has and a line of
+-- the lines of a state before its last: the version, the fields, how many entries the table has and a line of
 -- inittab(5) for each, and a line for each record
 abbrev pub body_lines : Version → SavedState → List (List ℕ)
 body_lines version state =
-    version_line version ∷ (head_lines state.heads ++ (table_line (length state.table)
+    version_line version ∷ (head_lines state.fields ++ (table_line (length state.table)
     ∷ (map fields_written state.table ++ map (slot_line version) state.records)))
 
 -- the lines of a state: the last one counts those before it

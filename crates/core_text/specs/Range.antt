@@ -53,10 +53,10 @@ is_stop (Killed time) = is_time time
 abbrev pub are_starts : List ℕ → Bool
 are_starts times = nat_le (length times) STARTS && list_all is_time times
 
-abbrev pub are_heads : CoreFields → Bool
-are_heads heads =
-    is_generation heads.generation && is_time heads.time && is_stage heads.stage heads.grace && is_goal heads.goal
-    && not heads.reexec && passes is_goal heads.level_wish
+abbrev pub are_fields : CoreFields → Bool
+are_fields fields =
+    is_generation fields.generation && is_time fields.time && is_stage fields.stage fields.grace && is_goal fields.goal
+    && not fields.reexec && passes is_goal fields.level_wish
 
 -- how a child ended is said from version 2 on
 abbrev pub is_last_status : Version → Option Status → Bool
@@ -70,12 +70,12 @@ is_record version kept =
 
 abbrev pub is_state : Version → SavedState → Bool
 is_state version state =
-    are_heads state.heads && (is_table state.table && holds_table version state.table)
+    are_fields state.fields && (is_table state.table && holds_table version state.table)
     && list_all (is_record version) state.records
 
 -- the seconds that a core keeps are at most an hour, and none before the first stage
 abbrev pub has_short_seconds : CoreState → Bool
-has_short_seconds c = is_stage c.heads.stage c.heads.grace && is_goal c.heads.goal && passes is_goal c.heads.level_wish
+has_short_seconds c = is_stage c.fields.stage c.fields.grace && is_goal c.fields.goal && passes is_goal c.fields.level_wish
 
 -- the id of a record is an id, and the number of its child and its last status fit their words
 abbrev pub has_ranged_words : RecordState → Bool

@@ -20,7 +20,7 @@ use Rattle.trace_text.specs.Reading.{both, level_of_word, stage_of_word, order_o
 use Rattle.respawn_limit.specs.declared.TheConstants.{STARTS}
 use Rattle.core_records.specs.declared.children.Stop.{Stop}
 use Rattle.core_records.specs.declared.children.Stop.TheVariants.{Due, Termed, Killed}
-use Rattle.core_model.specs.declared.news.News.{News}
+use Rattle.core_model.specs.declared.pending_calls.PendingCalls.{PendingCalls}
 use Rattle.core_model.specs.declared.parts.CoreFields.{CoreFields}
 use Rattle.core_text.specs.declared.state_fault.StateFault.{StateFault}
 use Rattle.core_text.specs.declared.state_fault.StateFault.TheVariants.{Line, Memory}
@@ -250,7 +250,7 @@ places_read text = then_read (line_read stage_line_read) (line_read goal_line_re
 abbrev pub flags_read : List ℕ → Option (FlagWords × List ℕ)
 flags_read text = then_read (line_read flags_line_read) (line_read wish_line_read) text
 
-abbrev pub news_made : Bool × (Bool × Bool) → Bool × (Bool × Bool) → News
+abbrev pub news_made : Bool × (Bool × Bool) → Bool × (Bool × Bool) → PendingCalls
 news_made powers letters = record {
   fail = powers.0;
   fail_now = powers.1.0;
@@ -260,8 +260,8 @@ news_made powers letters = record {
   c = letters.1.1;
 }
 
-abbrev pub heads_made : TimeWords × (PlaceWords × FlagWords) → CoreFields
-heads_made words =
+abbrev pub fields_made : TimeWords × (PlaceWords × FlagWords) → CoreFields
+fields_made words =
     let times = words.0 in
     let places = words.1.0 in
     let flags = words.1.1 in
@@ -276,15 +276,15 @@ heads_made words =
       reread = flags.1.0.0;
       reexec = flags.1.0.1;
       level_wish = flags.1.1.0;
-      news = news_made flags.1.1.1.0 flags.1.1.1.1;
+      pending = news_made flags.1.1.1.0 flags.1.1.1.1;
     }
 
 -- what is made of what was read
 abbrev pub made_read : {X Y : Type 0} → (X → Y) → Option (X × List ℕ) → Option (Y × List ℕ)
 made_read make found = option_map (λ p. (make p.0, p.1)) found
 
-abbrev pub heads_read : List ℕ → Option (CoreFields × List ℕ)
-heads_read text = made_read heads_made (then_read times_read (then_read places_read flags_read) text)
+abbrev pub fields_read : List ℕ → Option (CoreFields × List ℕ)
+fields_read text = made_read fields_made (then_read times_read (then_read places_read flags_read) text)
 
 -- the table of the next given number of lines, as large as the version has them, and the text after it
 abbrev pub table_in : Version → ℕ → List ℕ → Option (List Entry × List ℕ)

@@ -56,7 +56,7 @@ IsOtherVersion text = Whole text × ((version : Version) (rest : List ℕ) → B
 pub record IsOther (text : List ℕ) (generation : ℕ) : Type 0 where
   pub state : SavedState
   pub says : IsTextOf text state
-  pub other : state.heads.generation ≢ generation
+  pub other : state.fields.generation ≢ generation
 
 -- the first check that a text fails: it is cut; another version; a line; another generation
 abbrev pub Refused : List ℕ → ℕ → StateFault → Type 0

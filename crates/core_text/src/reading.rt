@@ -8,7 +8,7 @@ ghost use Rattle.text_lines.specs.Lines.{cut};
 ghost use Rattle.init_words.specs.declared.entries.Entry.{Entry};
 ghost use Rattle.core_model.specs.Parts.{SavedState};
 ghost use Rattle.core_text.specs.Versions.{holds_id, holds_table};
-ghost use Rattle.core_text.specs.Reading.{end_split, UnreadState, times_read, places_read, flags_read, heads_made, heads_read, table_read, table_in, version_read, generation_of, line_read, slot_line_read, end_line_read, checked_by, OnLine};
+ghost use Rattle.core_text.specs.Reading.{end_split, UnreadState, times_read, places_read, flags_read, fields_made, fields_read, table_read, table_in, version_read, generation_of, line_read, slot_line_read, end_line_read, checked_by, OnLine};
 ghost use Rattle.core_text.specs.Refused.{AreRecords, NoRecords, IsBody, IsCut, IsOtherVersion, RefusedBody, IsTextOf, Refused};
 
 use crate::fields::{
@@ -18,7 +18,7 @@ use crate::fields::{
 use crate::state_fault::StateFault;
 use crate::versions::Version;
 use crate::words::read_version;
-use core_model::{CoreFields, News, Parts, PlainRecord};
+use core_model::{CoreFields, Parts, PendingCalls, PlainRecord};
 use init_words::{Entry, Memory, Stage};
 use inittab_text::{Table, table_begun};
 use std::alloc::{AllocError, Allocator};
@@ -82,12 +82,12 @@ fn take_wishes(text: &[u8]) -> Result<(((bool, bool), WishFields), &[u8]), State
     Ok(((flags, wishes), rest))
 }
 
-fn heads_of(
+fn fields_of(
     times: (u64, u64),
     places: ((Option<Stage>, u16), Goal),
     wishes: ((bool, bool), WishFields),
 ) -> CoreFields
-    ensures { result ≡ heads_made (times, (places, wishes)) }
+    ensures { result ≡ fields_made (times, (places, wishes)) }
 {
     let ((stage, grace), goal) = places;
     let ((booted, announced), ((reread, reexec), (level_wish, (powers, letters)))) = wishes;
@@ -102,7 +102,7 @@ fn heads_of(
         reread,
         reexec,
         level_wish,
-        news: News {
+        pending: PendingCalls {
             fail: powers.0,
             fail_now: powers.1.0,
             ok: powers.1.1,
@@ -113,15 +113,15 @@ fn heads_of(
     }
 }
 
-/// The heads that a text begins with, and the text after them.
-fn take_heads(text: &[u8]) -> Result<(CoreFields, &[u8]), StateFault>
-    ensures ok { IfOk result (λ found. heads_read text.now ≡ Some (found.0, found.1.now)) }
-    ensures err { IfErr result (λ why. UnreadState (heads_read text.now) why) }
+/// The fields that a text begins with, and the text after them.
+fn take_fields(text: &[u8]) -> Result<(CoreFields, &[u8]), StateFault>
+    ensures ok { IfOk result (λ found. fields_read text.now ≡ Some (found.0, found.1.now)) }
+    ensures err { IfErr result (λ why. UnreadState (fields_read text.now) why) }
 {
     let (times, rest) = take_times(text)?;
     let (places, rest) = take_places(rest)?;
     let (wishes, rest) = take_wishes(rest)?;
-    Ok((heads_of(times, places, wishes), rest))
+    Ok((fields_of(times, places, wishes), rest))
 }
 
 /// The version has room for the entry's id.
@@ -267,12 +267,12 @@ fn read_body<A: Allocator + Copy>(alloc: A, text: &[u8]) -> Result<Parts<A>, Sta
     ensures err { IfErr result (λ why. RefusedBody text.now why) }
 {
     let (version, rest) = take_version(text).ok_or(StateFault::Version)?;
-    let (heads, rest) = take_heads(rest)?;
+    let (fields, rest) = take_fields(rest)?;
     let (table, rest) = take_table(alloc, version, rest)?;
     let first = 9 + table.len() as u64;
     let records = take_records(alloc, version, rest, first)?;
     Ok(Parts {
-        heads,
+        fields,
         table,
         records,
     })
@@ -298,10 +298,10 @@ pub fn read_state<A: Allocator + Copy>(
     generation: u64,
 ) -> Result<Parts<A>, StateFault>
     ensures read { IfOk result (λ parts. IsTextOf text.now parts) }
-    ensures generation { IfOk result (λ parts. parts.heads.generation ≡ generation) }
+    ensures generation { IfOk result (λ parts. parts.fields.generation ≡ generation) }
     // No other state has the text, and one that has it is read.
     ensures only { (state : SavedState) → IsTextOf text.now state
-        → state.heads.generation ≡ generation
+        → state.fields.generation ≡ generation
         → MatchResult result (λ parts. parts ≡ state) (λ why. why ≡ StateFault.Memory) }
     // The first two checks want no memory.
     ensures cut { IsCut text.now → result ≡ Err StateFault.Cut }
@@ -314,7 +314,7 @@ pub fn read_state<A: Allocator + Copy>(
     if !counts(last, lines) {
         return Err(StateFault::Line(lines.saturating_add(1)));
     }
-    if parts.heads.generation != generation {
+    if parts.fields.generation != generation {
         return Err(StateFault::Generation);
     }
     Ok(parts)
@@ -333,7 +333,7 @@ fn second_line(text: &[u8]) -> Option<u64>
 pub fn generation_of(text: &[u8]) -> Option<u64>
     ensures value { result ≡ generation_of text.now }
     ensures said { (state : SavedState) → IsTextOf text.now state
-        → result ≡ Some state.heads.generation }
+        → result ≡ Some state.fields.generation }
 {
     second_line(text)
 }

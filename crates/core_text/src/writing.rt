@@ -9,7 +9,7 @@ ghost use Rattle.core_model.specs.Parts.{record_of};
 ghost use Rattle.core_text.specs.declared.versions.Version.TheVariants.{V2};
 ghost use Rattle.core_text.specs.Lines.{bits, spaced, or_dash, goal_word, stop_word, stage_or_none, starts_word, status_word, stage_line, goal_line, flags_line, wish_line, head_lines, table_line, slot_line, slot_flags, power_bits, letter_bits, text_of_lines, state_text};
 
-use core_model::{CoreFields, News, PlainRecord};
+use core_model::{CoreFields, PendingCalls, PlainRecord};
 use core_records::{Record, Stop};
 use init_words::{Act, ChildNumber, Memory, OrderKind, Stage, Status};
 use inittab_text::Table;
@@ -197,31 +197,31 @@ fn put_last<A: Allocator>(text: &mut Vec<u8, A>, last: Option<Status>) -> Result
     }
 }
 
-fn put_places<A: Allocator>(text: &mut Vec<u8, A>, heads: &CoreFields) -> Result<(), AllocError>
+fn put_places<A: Allocator>(text: &mut Vec<u8, A>, fields: &CoreFields) -> Result<(), AllocError>
     ensures { OnOk result (text.new.items ≡ text.old.items
-        ++ text_of_lines (stage_line heads.now.stage heads.now.grace
-        ∷ goal_line heads.now.goal ∷ [])) }
+        ++ text_of_lines (stage_line fields.now.stage fields.now.grace
+        ∷ goal_line fields.now.goal ∷ [])) }
 {
     put(text, b"stage")?;
-    put_stage(text, heads.stage)?;
-    put_behind(text, b' ', u64::from(heads.grace))?;
+    put_stage(text, fields.stage)?;
+    put_behind(text, b' ', u64::from(fields.grace))?;
     put(text, b"\ngoal")?;
-    put_level_and_seconds(text, heads.goal, b' ')?;
+    put_level_and_seconds(text, fields.goal, b' ')?;
     text.push(b'\n')?;
     Ok(())
 }
 
-fn put_flags<A: Allocator>(text: &mut Vec<u8, A>, heads: &CoreFields) -> Result<(), AllocError>
+fn put_flags<A: Allocator>(text: &mut Vec<u8, A>, fields: &CoreFields) -> Result<(), AllocError>
     ensures { OnOk result (text.new.items ≡ text.old.items
-        ++ text_of_lines (flags_line heads.now.booted heads.now.announced ∷ [])) }
+        ++ text_of_lines (flags_line fields.now.booted fields.now.announced ∷ [])) }
 {
     put(text, b"flags")?;
-    put_bits(text, &[heads.booted, heads.announced])?;
+    put_bits(text, &[fields.booted, fields.announced])?;
     text.push(b'\n')?;
     Ok(())
 }
 
-fn put_news<A: Allocator>(text: &mut Vec<u8, A>, news: News) -> Result<(), AllocError>
+fn put_news<A: Allocator>(text: &mut Vec<u8, A>, pending: PendingCalls) -> Result<(), AllocError>
     ensures { OnOk result (text.new.items ≡ text.old.items
         ++ 32 ∷ bits (power_bits news) ++ 32 ∷ bits (letter_bits news)) }
 {
@@ -229,27 +229,27 @@ fn put_news<A: Allocator>(text: &mut Vec<u8, A>, news: News) -> Result<(), Alloc
     put_bits(text, &[news.a, news.b, news.c])
 }
 
-fn put_wishes<A: Allocator>(text: &mut Vec<u8, A>, heads: &CoreFields) -> Result<(), AllocError>
+fn put_wishes<A: Allocator>(text: &mut Vec<u8, A>, fields: &CoreFields) -> Result<(), AllocError>
     ensures { OnOk result (text.new.items ≡ text.old.items ++ text_of_lines (wish_line
-        heads.now.reread heads.now.reexec heads.now.level_wish heads.now.news ∷ [])) }
+        fields.now.reread fields.now.reexec fields.now.level_wish fields.now.pending ∷ [])) }
 {
     put(text, b"wish")?;
-    put_bits(text, &[heads.reread, heads.reexec])?;
-    put_level_wish(text, heads.level_wish)?;
-    put_news(text, heads.news)?;
+    put_bits(text, &[fields.reread, fields.reexec])?;
+    put_level_wish(text, fields.level_wish)?;
+    put_news(text, fields.pending)?;
     text.push(b'\n')?;
     Ok(())
 }
 
-fn put_heads<A: Allocator>(text: &mut Vec<u8, A>, heads: &CoreFields) -> Result<(), AllocError>
+fn put_fields<A: Allocator>(text: &mut Vec<u8, A>, fields: &CoreFields) -> Result<(), AllocError>
     ensures { OnOk result (text.new.items ≡ text.old.items
-        ++ text_of_lines (head_lines heads.now)) }
+        ++ text_of_lines (head_lines fields.now)) }
 {
-    put_number_line(text, b"generation", heads.generation)?;
-    put_number_line(text, b"clock", heads.time)?;
-    put_places(text, heads)?;
-    put_flags(text, heads)?;
-    put_wishes(text, heads)?;
+    put_number_line(text, b"generation", fields.generation)?;
+    put_number_line(text, b"clock", fields.time)?;
+    put_places(text, fields)?;
+    put_flags(text, fields)?;
+    put_wishes(text, fields)?;
     Ok(())
 }
 
@@ -316,22 +316,22 @@ fn put_slots<A: Allocator>(text: &mut Vec<u8, A>, slots: &[Record]) -> Result<()
     Ok(())
 }
 
-/// The text of init's state: these heads, this table, and these records in record order.
+/// The text of init's state: these fields, this table, and these records in record order.
 pub fn write_state<A: Allocator + Copy, B: Allocator>(
     alloc: A,
-    heads: &CoreFields,
+    fields: &CoreFields,
     table: &Table<B>,
     slots: &[Record],
 ) -> Result<Vec<u8, A>, Memory>
     ensures { IfOk result (λ text. text.items ≡ state_text (record {
-      heads = heads.now;
+      fields = fields.now;
       table = table.now;
       records = map record_of slots.now;
     })) }
 {
     let mut text = Vec::new(alloc);
     put(&mut text, b"initd-state 2\n")?;
-    put_heads(&mut text, heads)?;
+    put_fields(&mut text, fields)?;
     put_table(&mut text, table)?;
     put_slots(&mut text, slots)?;
     let count = 8 + table.len() + slots.len();

@@ -157,26 +157,26 @@ enter_by goal past s grace h = why_due goal past it (EnterBy goal past s grace) 
   wished (Some wish) is = ((λ own. inl (inr (ap is_some is))), tt)
 
 -- entries are called in a run level where news is kept
-abbrev News : List Event → Type 0
-News past = (in_run (stage_of past) ≡ true) × (keeps_news past ≡ true)
+abbrev PendingCalls : List Event → Type 0
+PendingCalls past = (in_run (stage_of past) ≡ true) × (keeps_news past ≡ true)
 
-news_of : (goal : Goal) (past : List Event) (it : Step) → Moves it → ((s : Stage) (grace : ℕ) → same_step it (step.Enter s grace) ≡ false) → is_due goal it past ≡ true → News past
-news_of goal past it moves other h = why_due goal past it (News past) moves (first (stage_of past)) (each_steps_if (Unless it (News past)) (is_quiet past) (enter_level (level_wish past) past) (λ _. wished (level_wish past))) (each_steps_if (Unless it (News past)) (is_quiet past && in_run (stage_of past)) (power_steps powers past ++ letter_steps letters past) (λ both. news (and_parts (is_quiet past) (in_run (stage_of past)) both).1)) (each_steps_if (Unless it (News past)) (is_over past) (next_stage (goal_of goal past) (stage_of past)) (λ _. climbs (stage_of past))) h where
-  enters : (s : Stage) (grace : ℕ) → Each (Unless it (News past)) (step.Enter s grace ∷ [])
+news_of : (goal : Goal) (past : List Event) (it : Step) → Moves it → ((s : Stage) (grace : ℕ) → same_step it (step.Enter s grace) ≡ false) → is_due goal it past ≡ true → PendingCalls past
+news_of goal past it moves other h = why_due goal past it (PendingCalls past) moves (first (stage_of past)) (each_steps_if (Unless it (PendingCalls past)) (is_quiet past) (enter_level (level_wish past) past) (λ _. wished (level_wish past))) (each_steps_if (Unless it (PendingCalls past)) (is_quiet past && in_run (stage_of past)) (power_steps powers past ++ letter_steps letters past) (λ both. news (and_parts (is_quiet past) (in_run (stage_of past)) both).1)) (each_steps_if (Unless it (PendingCalls past)) (is_over past) (next_stage (goal_of goal past) (stage_of past)) (λ _. climbs (stage_of past))) h where
+  enters : (s : Stage) (grace : ℕ) → Each (Unless it (PendingCalls past)) (step.Enter s grace ∷ [])
   enters s grace = (never (same_step it (step.Enter s grace)) (other s grace), tt)
 
-  news : in_run (stage_of past) ≡ true → Each (Unless it (News past)) (power_steps powers past ++ letter_steps letters past)
-  news running = each_append (Unless it (News past)) (power_steps powers past) (letter_steps letters past) (powers_each it (News past) powers past (λ some kind own. (running, or_left (list_any (λ k. keeps_power k past) powers) (list_any (λ l. keeps_letter l past) letters) some))) (calls_each it (News past) letters past (λ some letter own. (running, or_right (list_any (λ k. keeps_power k past) powers) (list_any (λ l. keeps_letter l past) letters) some)))
+  news : in_run (stage_of past) ≡ true → Each (Unless it (PendingCalls past)) (power_steps powers past ++ letter_steps letters past)
+  news running = each_append (Unless it (PendingCalls past)) (power_steps powers past) (letter_steps letters past) (powers_each it (PendingCalls past) powers past (λ some kind own. (running, or_left (list_any (λ k. keeps_power k past) powers) (list_any (λ l. keeps_letter l past) letters) some))) (calls_each it (PendingCalls past) letters past (λ some letter own. (running, or_right (list_any (λ k. keeps_power k past) powers) (list_any (λ l. keeps_letter l past) letters) some)))
 
-  first : (o : Option Stage) → Each (Unless it (News past)) (due_first goal o past)
+  first : (o : Option Stage) → Each (Unless it (PendingCalls past)) (due_first goal o past)
   first None = enters stage.Sysinit (goal_of goal past).grace
   first (Some now) = tt
 
-  wished : (o : Option Goal) → Each (Unless it (News past)) (enter_level o past)
+  wished : (o : Option Goal) → Each (Unless it (PendingCalls past)) (enter_level o past)
   wished None = tt
   wished (Some wish) = (never (same_step it _) (other _ _), tt)
 
-  climbs : (o : Option Stage) → Each (Unless it (News past)) (next_stage (goal_of goal past) o)
+  climbs : (o : Option Stage) → Each (Unless it (PendingCalls past)) (next_stage (goal_of goal past) o)
   climbs None = tt
   climbs (Some stage.Sysinit) = (never (same_step it _) (other _ _), tt)
   climbs (Some stage.Boot) = (never (same_step it _) (other _ _), tt)
@@ -420,7 +420,7 @@ entering goal s grace between past may it = by (enter_by goal (between ++ past) 
   climbed over c = record {
     staged = refl;
     unwished = none_wished (Some s);
-    news = it.news;
+    pending = it.pending;
     table = it.table;
     aim = it.aim;
     bound_for = c.bound_for ∙ it.bound_for;
@@ -460,13 +460,13 @@ entering goal s grace between past may it = by (enter_by goal (between ++ past) 
   by (inr h) = climbed h.0 (subst (λ aim. Climb aim.level (stage_of now) s) it.aim (climb (goal_of goal now) (stage_of now) s grace h.1))
 
 -- entries are called
-calling : (goal : Goal) (happening : Event) (between past : List Event) → is_sound goal (between ++ past) ≡ true → (in_run (stage_of past) ≡ true → keeps_news past ≡ false) → News (between ++ past) → is_quiet (between ++ past) ≡ true → is_quiet (happening ∷ (between ++ past)) ≡ is_quiet (between ++ past) → stage_of (happening ∷ (between ++ past)) ≡ stage_of (between ++ past) → table_of (happening ∷ (between ++ past)) ≡ table_of (between ++ past) → kept_children (happening ∷ (between ++ past)) ≡ kept_children (between ++ past) → Course goal between past → Entered goal past (happening ∷ (between ++ past))
+calling : (goal : Goal) (happening : Event) (between past : List Event) → is_sound goal (between ++ past) ≡ true → (in_run (stage_of past) ≡ true → keeps_news past ≡ false) → PendingCalls (between ++ past) → is_quiet (between ++ past) ≡ true → is_quiet (happening ∷ (between ++ past)) ≡ is_quiet (between ++ past) → stage_of (happening ∷ (between ++ past)) ≡ stage_of (between ++ past) → table_of (happening ∷ (between ++ past)) ≡ table_of (between ++ past) → kept_children (happening ∷ (between ++ past)) ≡ kept_children (between ++ past) → Course goal between past → Entered goal past (happening ∷ (between ++ past))
 calling goal happening between past sound heard news quiet quiets stays tables kepts it = by it.path where
   now : List Event
   now = between ++ past
 
   kept_news : keeps_news past ≡ true
-  kept_news = it.news news.1
+  kept_news = it.pending news.1
 
   by : ((is_calm between ≡ true) × (stage_of (between ++ past) ≡ stage_of past)) ⊎ Entered goal past (between ++ past) → Entered goal past (happening ∷ (between ++ past))
   by (inl path) = both_ways (keeps_news past) kept_news (heard (ap in_run (sym path.1) ∙ news.0))
@@ -488,7 +488,7 @@ calling goal happening between past sound heard news quiet quiets stays tables k
   }
 
 pub course : (goal : Goal) (between past : List Event) → is_sound goal (between ++ past) ≡ true → is_unasked between ≡ true → is_some (stage_of past) ≡ true → is_some (level_wish past) ≡ false → (in_run (stage_of past) ≡ true → keeps_news past ≡ false) → Course goal between past
-course goal [] past sound unasked staged unwished heard = record { staged = staged; unwished = unwished; news = λ news. news; table = refl; aim = refl; bound_for = refl; ahead = omega arith; path = inl (refl, refl) }
+course goal [] past sound unasked staged unwished heard = record { staged = staged; unwished = unwished; pending = λ news. news; table = refl; aim = refl; bound_for = refl; ahead = omega arith; path = inl (refl, refl) }
 course goal (NewTable table ∷ between) past sound unasked staged unwished heard = absurd (false≢true unasked)
 course goal (Got (got.Level level grace) ∷ between) past sound unasked staged unwished heard = absurd (false≢true unasked)
 course goal (Got (got.Call letter) ∷ between) past sound unasked staged unwished heard = absurd (false≢true unasked)
@@ -501,21 +501,21 @@ course goal (Enter s grace ∷ between) past sound unasked staged unwished heard
 course goal (Power kind ∷ between) past sound unasked staged unwished heard =
     let two = sound_step goal (Power kind) (between ++ past) refl sound in
     let it = course goal between past two.1 unasked staged unwished heard in
-    let news = news_of goal (between ++ past) (step.Power kind) (record { orders = λ id ask. refl; holds = λ id. refl; settles = λ level. refl; reexecs = refl; rereads = refl }) (λ s grace. refl) two.0 in
-    record { staged = it.staged; unwished = it.unwished; news = λ _. it.news news.1; table = it.table; aim = it.aim; bound_for = it.bound_for; ahead = it.ahead; path = inr (calling goal (Power kind) between past two.1 heard news (due_facts goal (between ++ past) (step.Power kind) two.0) refl refl refl refl it) }
+    let pending = news_of goal (between ++ past) (step.Power kind) (record { orders = λ id ask. refl; holds = λ id. refl; settles = λ level. refl; reexecs = refl; rereads = refl }) (λ s grace. refl) two.0 in
+    record { staged = it.staged; unwished = it.unwished; pending = λ _. it.pending news.1; table = it.table; aim = it.aim; bound_for = it.bound_for; ahead = it.ahead; path = inr (calling goal (Power kind) between past two.1 heard news (due_facts goal (between ++ past) (step.Power kind) two.0) refl refl refl refl it) }
 course goal (Call letter ∷ between) past sound unasked staged unwished heard =
     let two = sound_step goal (Call letter) (between ++ past) refl sound in
     let it = course goal between past two.1 unasked staged unwished heard in
-    let news = news_of goal (between ++ past) (step.Call letter) (record { orders = λ id ask. refl; holds = λ id. refl; settles = λ level. refl; reexecs = refl; rereads = refl }) (λ s grace. refl) two.0 in
-    record { staged = it.staged; unwished = it.unwished; news = λ _. it.news news.1; table = it.table; aim = it.aim; bound_for = it.bound_for; ahead = it.ahead; path = inr (calling goal (Call letter) between past two.1 heard news (due_facts goal (between ++ past) (step.Call letter) two.0) refl refl refl refl it) }
+    let pending = news_of goal (between ++ past) (step.Call letter) (record { orders = λ id ask. refl; holds = λ id. refl; settles = λ level. refl; reexecs = refl; rereads = refl }) (λ s grace. refl) two.0 in
+    record { staged = it.staged; unwished = it.unwished; pending = λ _. it.pending news.1; table = it.table; aim = it.aim; bound_for = it.bound_for; ahead = it.ahead; path = inr (calling goal (Call letter) between past two.1 heard news (due_facts goal (between ++ past) (step.Call letter) two.0) refl refl refl refl it) }
 course goal (Asked i Start ∷ between) past sound unasked staged unwished heard =
     let two = sound_step goal (Asked i Start) (between ++ past) refl sound in
     let it = course goal between past two.1 unasked staged unwished heard in
-    record { staged = it.staged; unwished = it.unwished; news = it.news; table = it.table; aim = it.aim; bound_for = it.bound_for; ahead = it.ahead; path = longer goal (Asked i Start) between past (λ calm. calm) (λ after calm. calm) refl (λ s after here running news before. both_ways (wish_stands (between ++ past)) (or_right (wants_reexec (between ++ past) || wants_reread (between ++ past) || is_some (level_wish (between ++ past))) (in_run (stage_of (between ++ past)) && keeps_news (between ++ past)) (and_from (in_run (stage_of (between ++ past))) (keeps_news (between ++ past)) (ap in_run here ∙ running) news)) (start_unwished goal (between ++ past) i two.0)) it.path }
+    record { staged = it.staged; unwished = it.unwished; pending = it.pending; table = it.table; aim = it.aim; bound_for = it.bound_for; ahead = it.ahead; path = longer goal (Asked i Start) between past (λ calm. calm) (λ after calm. calm) refl (λ s after here running news before. both_ways (wish_stands (between ++ past)) (or_right (wants_reexec (between ++ past) || wants_reread (between ++ past) || is_some (level_wish (between ++ past))) (in_run (stage_of (between ++ past)) && keeps_news (between ++ past)) (and_from (in_run (stage_of (between ++ past))) (keeps_news (between ++ past)) (ap in_run here ∙ running) news)) (start_unwished goal (between ++ past) i two.0)) it.path }
 course goal (happening ∷ between) past sound unasked staged unwished heard =
     let two = sound_step goal happening (between ++ past) refl sound in
     let it = course goal between past two.1 unasked staged unwished heard in
-    record { staged = it.staged; unwished = it.unwished; news = it.news; table = it.table; aim = it.aim; bound_for = it.bound_for; ahead = it.ahead; path = longer goal happening between past (λ calm. calm) (λ after calm. calm) refl (λ s after here running news before. before news) it.path }
+    record { staged = it.staged; unwished = it.unwished; pending = it.pending; table = it.table; aim = it.aim; bound_for = it.bound_for; ahead = it.ahead; path = longer goal happening between past (λ calm. calm) (λ after calm. calm) refl (λ s after here running news before. before news) it.path }
 
 -- where it was entered, no child is awaited
 pub none_awaited : (goal : Goal) (past now : List Event) (it : Entered goal past now) → list_any (is_awaited it.start) (kept_children it.start) ≡ false

@@ -152,7 +152,7 @@ reap goal round past it child others is wants = by (is_dead id n now) refl where
       kind = kind;
       nudged = nudged;
       staged = ap is_some at.stages ∙ it.staged;
-      news = at.kept ∙ it.news;
+      pending = at.kept ∙ it.pending;
       unwished = at.wishes ∙ it.unwished;
     };
     wants = ap (list_all (λ (x : Child). wants_look x.id (Told child.id ∷ Reaped child.id child.number (Exit 0) ∷ (pre ++ past)))) left ∙ all_kept (λ (x : Child). wants_look x.id now) (λ x. not (is_of child.id x)) (λ (x : Child). wants_look x.id (pre ++ past)) (λ x other want. at.looks x.id ∙ and_from (not (same_id x.id child.id)) (wants_look x.id now) (ap not (same_id-sym x.id child.id) ∙ other) want) others (and_parts (wants_look child.id now) (list_all (λ (x : Child). wants_look x.id now) others) (sym (ap (list_all (λ (x : Child). wants_look x.id now)) is) ∙ wants)).1;
@@ -197,14 +197,14 @@ reap_all goal past (suc k) round it wants few = at (λ (one : List Event) (state
 
 -- the round begins
 begun : (goal : Goal) (past : List Event) → is_sound goal past ≡ true → is_idle past ≡ true → wish_stands past ≡ false → is_some (stage_of past) ≡ true → keeps_news past ≡ false → Kind goal (Nudge ∷ []) past × (all_want (Nudge ∷ past) ≡ true)
-begun goal past sound idle unwished staged news = (
+begun goal past sound idle unwished staged pending = (
   record {
     sound = sound;
     idle = idle;
     kind = refl;
     nudged = refl;
     staged = staged;
-    news = news;
+    pending = news;
     unwished = unwished;
   },
   all_from (λ (child : Child). has_child child.id (known_children past)) (known_children past) (false_from_ne_true (list_any (λ (child : Child). not (has_child child.id (known_children past))) (known_children past)) (λ some. wrong (passing (λ (child : Child). not (has_child child.id (known_children past))) (known_children past) some))),
@@ -280,7 +280,7 @@ starting goal round past it i asks = record {
       kind = it.kind.kind;
       nudged = it.kind.nudged;
       staged = it.kind.staged;
-      news = it.kind.news;
+      pending = it.kind.pending;
       unwished = it.kind.unwished;
     };
     bare = false_from_ne_true (list_any (λ (child : Child). wants_look child.id (Told i ∷ Birth i n ∷ Asked i Start ∷ now)) (known_children (Told i ∷ Birth i n ∷ Asked i Start ∷ now))) (λ some. wanting (told_any (λ (child : Child). wants_look child.id (Told i ∷ Birth i n ∷ Asked i Start ∷ now)) i (unreaped_children (Birth i n ∷ Asked i Start ∷ now)) (known_children now) some));
@@ -370,7 +370,7 @@ holding goal round past it i asks = record {
       kind = it.kind.kind;
       nudged = it.kind.nudged;
       staged = it.kind.staged;
-      news = it.kind.news;
+      pending = it.kind.pending;
       unwished = it.kind.unwished;
     };
     bare = it.bare;
@@ -434,7 +434,7 @@ settling goal round past it level asks untold = record {
       kind = it.kind.kind;
       nudged = it.kind.nudged;
       staged = it.kind.staged;
-      news = it.kind.news;
+      pending = it.kind.pending;
       unwished = it.kind.unwished;
     };
     bare = it.bare;
@@ -500,9 +500,6 @@ steps_none : (b : Bool) (xs : List Step) → xs ≡ [] → steps_if b xs ≡ []
 steps_none true xs h = h
 steps_none false xs h = refl
 
-no_steps : (xs : List Step) → steps_if false xs ≡ []
-no_steps xs = refl
-
 -- of the wishes
 record Wishless (past : List Event) : Type 0 where
   reexec : wants_reexec past ≡ false
@@ -515,7 +512,7 @@ wishless past h =
     let p2 = or_parts (wants_reexec past || wants_reread past || is_some (level_wish past)) (in_run (stage_of past) && keeps_news past) h in
     let p1 = or_parts (wants_reexec past || wants_reread past) (is_some (level_wish past)) p2.0 in
     let p0 = or_parts (wants_reexec past) (wants_reread past) p1.0 in
-    record { reexec = p0.0; reread = p0.1; level = p1.1; news = p2.1 }
+    record { reexec = p0.0; reread = p0.1; level = p1.1; pending = p2.1 }
 
 no_level : (past : List Event) (o : Option Goal) → is_some o ≡ false → enter_level o past ≡ []
 no_level past o h = grind arith
@@ -541,9 +538,9 @@ climbing goal round past it s n over next climbs lower = record {
       idle = it.kind.idle;
       kind = it.kind.kind;
       nudged = it.kind.nudged;
-      unwished = or_from (wants_reexec now || wants_reread now || is_some (other_than (Some s) None)) (in_run (Some s) && keeps_news now) (or_from (wants_reexec now || wants_reread now) (is_some (other_than (Some s) None)) (or_from (wants_reexec now) (wants_reread now) w.reexec w.reread) (no_other s)) (and_right (in_run (Some s)) (keeps_news now) it.kind.news);
+      unwished = or_from (wants_reexec now || wants_reread now || is_some (other_than (Some s) None)) (in_run (Some s) && keeps_news now) (or_from (wants_reexec now || wants_reread now) (is_some (other_than (Some s) None)) (or_from (wants_reexec now) (wants_reread now) w.reexec w.reread) (no_other s)) (and_right (in_run (Some s)) (keeps_news now) it.kind.pending);
       staged = refl;
-      news = it.kind.news;
+      pending = it.kind.pending;
     };
     bare = it.bare;
     spared = falsely (list_any (is_excluded (Enter s (goal_of goal now).grace ∷ now)) (kept_children now)) (list_any (λ child. not (stands_by (table_of now) s child)) (kept_children now)) (any_less (is_excluded (Enter s (goal_of goal now).grace ∷ now)) (λ child. not (stands_by (table_of now) s child)) (λ child own. not_from (stands_by (table_of now) s child) (false_from_ne_true (stands_by (table_of now) s child) (λ by. stands child own by (entry_of child.id (table_of now)) refl))) (kept_children now)) (bystanders_at now s over climbs);
@@ -740,7 +737,7 @@ record Behind (goal : Goal) (past : List Event) : Type 0 where
   unasked : is_unasked round ≡ true
 
 one_behind : (goal : Goal) (past : List Event) → is_sound goal past ≡ true → AtRest goal past → is_idle past ≡ true → keeps_news past ≡ false → Behind goal past
-one_behind goal past sound rest idle news = record { round = it.round; sound = it.state.kind.sound; quiet = undisturbed goal it.round past sound idle it.state; rest = it.rest; idle = it.state.kind.idle; news = it.state.kind.news; unasked = asks_nothing it.round it.state.kind.kind } where
+one_behind goal past sound rest idle pending = record { round = it.round; sound = it.state.kind.sound; quiet = undisturbed goal it.round past sound idle it.state; rest = it.rest; idle = it.state.kind.idle; pending = it.state.kind.pending; unasked = asks_nothing it.round it.state.kind.kind } where
   first : Kind goal (Nudge ∷ []) past × (all_want (Nudge ∷ past) ≡ true)
   first = begun goal past sound idle (rest_heard goal past rest idle) (at_stage goal past rest) news
 
@@ -762,10 +759,10 @@ record Chain (goal : Goal) (k : ℕ) (past : List Event) : Type 0 where
   news : keeps_news (after_rounds rounds past) ≡ false
 
 chain : (goal : Goal) (past : List Event) → is_sound goal past ≡ true → AtRest goal past → is_idle past ≡ true → keeps_news past ≡ false → (k : ℕ) → Chain goal k past
-chain goal past sound rest idle news zero = record { rounds = []; many = refl; sound = sound; quiet = (rest, idle); all = refl; rest = rest; idle = idle; news = news }
+chain goal past sound rest idle news zero = record { rounds = []; many = refl; sound = sound; quiet = (rest, idle); all = refl; rest = rest; idle = idle; pending = news }
 chain goal past sound rest idle news (suc k) = longer_by (chain goal past sound rest idle news k) where
   longer_by : Chain goal k past → Chain goal (suc k) past
-  longer_by it = on (one_behind goal (after_rounds it.rounds past) it.sound it.rest it.idle it.news) where
+  longer_by it = on (one_behind goal (after_rounds it.rounds past) it.sound it.rest it.idle it.pending) where
     on : Behind goal (after_rounds it.rounds past) → Chain goal (suc k) past
     on one = record {
       rounds = one.round ∷ it.rounds;
@@ -775,13 +772,13 @@ chain goal past sound rest idle news (suc k) = longer_by (chain goal past sound 
       all = one_more (is_undisturbed one.round (after_rounds it.rounds past)) (undisturbed_among it.rounds past) one.quiet it.all;
       rest = one.rest;
       idle = one.idle;
-      news = one.news;
+      pending = one.pending;
     } where
       one_more : (b : Bool) (n : ℕ) → b ≡ true → n ≡ k → cond b 1 0 + n ≡ suc k
       one_more true n own is = omega (arith, is)
       one_more false n own is = absurd (false≢true own)
 
 pub rounds_exist : (goal : Goal) (later past : List Event) (k : ℕ) → is_sound goal (later ++ past) ≡ true → AtRest goal past → is_idle past ≡ true → keeps_news past ≡ false → (rounds : List (List Event)) × (length rounds ≡ k) × (is_sound goal (after_rounds rounds past) ≡ true) × AreUnasked goal rounds past × (undisturbed_among rounds past ≡ k)
-rounds_exist goal later past k sound rest idle news = read (chain goal past (sound_rest goal later past sound rest) rest idle news k) where
+rounds_exist goal later past k sound rest idle pending = read (chain goal past (sound_rest goal later past sound rest) rest idle news k) where
   read : Chain goal k past → (rounds : List (List Event)) × (length rounds ≡ k) × (is_sound goal (after_rounds rounds past) ≡ true) × AreUnasked goal rounds past × (undisturbed_among rounds past ≡ k)
   read it = (it.rounds, it.many, it.sound, it.quiet, it.all)

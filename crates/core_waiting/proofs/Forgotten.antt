@@ -65,7 +65,7 @@ abbrev failed : List Event
 failed = Got (got.Power power.Fail) ∷ settled
 
 news : Breaks 5 (opening level.L3) failed (not (wish_stands failed))
-news = record { sound = refl; rests = refl; idle = refl; broken = refl }
+pending = record { sound = refl; rests = refl; idle = refl; broken = refl }
 
 abbrev unsignalled : List Event
 unsignalled = goes_to level.L2 ++ settled

@@ -55,4 +55,4 @@ awaited_of_record stage table slot =
 
 -- the children whose end init awaits, by what it keeps
 abbrev pub awaited_by : CoreState → List Awaited
-awaited_by c = filter_map (awaited_of_record c.heads.stage c.table) c.slots
+awaited_by c = filter_map (awaited_of_record c.fields.stage c.table) c.slots

@@ -59,7 +59,7 @@ ended_words what number = what ++ (codes " (" ++ (decimal number ++ codes ")"))
 
 -- why the end of the child is awaited
 abbrev pub why_of : CoreState → List ℕ → ℕ → WhyAwaited → List ℕ
-why_of core id number Excluded = stop_words core.heads.grace core.heads.time (stop_in id core.slots)
+why_of core id number Excluded = stop_words core.fields.grace core.fields.time (stop_in id core.slots)
 why_of core id number WaitedFor = ended_words (codes "init waits for its end") number
 why_of core id number InTheWay = ended_words (codes "its earlier child has to end first") number
 
@@ -69,7 +69,7 @@ why_words core awaited = why_of core awaited.id awaited.number awaited.why
 -- the line of a child whose end is awaited
 abbrev pub end_line : CoreState → Awaited → List ℕ
 end_line core awaited =
-    line_start core.heads.stage ++ (awaited.id ++ (codes ": " ++ (why_words core awaited ++ codes "\n")))
+    line_start core.fields.stage ++ (awaited.id ++ (codes ": " ++ (why_words core awaited ++ codes "\n")))
 
 abbrev pub ends_text : CoreState → List Awaited → List ℕ
 ends_text core [] = []
@@ -78,4 +78,4 @@ ends_text core (awaited ∷ others) = end_line core awaited ++ ends_text core ot
 -- the answers that are waited for, and then the ends; nothing where a runlevel is announced settled
 abbrev pub waiting_text : CoreState → List ℕ
 waiting_text core =
-    if core.heads.announced then [] else answers_text core.heads.stage core.slots ++ ends_text core (awaited_by core)
+    if core.fields.announced then [] else answers_text core.fields.stage core.slots ++ ends_text core (awaited_by core)

@@ -19,7 +19,7 @@ pub fn waiting_lines<A: Allocator>(alloc: Global, core: &Core<A>) -> Result<Vec<
     ensures { IfOk result (λ text. text.items ≡ waiting_text core.now) }
 {
     let mut text = Vec::new(alloc);
-    if !core.heads().announced {
+    if !core.fields().announced {
         add_answers(&mut text, core.stage(), core.slots().as_slice())?;
         add_ends(&mut text, core)?;
     }
@@ -87,7 +87,7 @@ fn add_why<A: Allocator>(
     match awaited.why {
         WhyAwaited::Excluded => {
             let stop = stop_of(core, &awaited.id);
-            add_stop(text, core.heads().grace, core.time(), stop)
+            add_stop(text, core.fields().grace, core.time(), stop)
         }
         WhyAwaited::WaitedFor => add_ended(text, b"init waits for its end", awaited.number),
         WhyAwaited::InTheWay => add_ended(

@@ -1,5 +1,5 @@
 pub mod Announced
 pub mod Costs
 pub mod LineFaults
-pub mod News
+pub mod ChildMessages
 pub mod OldRequests

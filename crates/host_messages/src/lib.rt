@@ -8,12 +8,12 @@
 
 mod announcements;
 mod channel_lines;
-mod child_news;
+mod child_messages;
 mod costs;
 mod file_lines;
 mod line_faults;
+mod message;
 mod names;
-mod news;
 mod old_requests;
 mod outputs;
 mod passed_over;
@@ -25,7 +25,7 @@ mod troubles;
 
 pub use announcements::announcement_text;
 pub use channel_lines::{tell_made_anew, tell_old, tell_other_owner, tell_torn, tell_written_over};
-pub use child_news::ChildNews;
+pub use child_messages::ChildMessages;
 pub use costs::ChildLine;
 pub use file_lines::{tell_log, tell_no_bell, tell_no_log, tell_passed};
 pub use line_faults::{faults_text, tell_refused, tell_too_long, tell_too_many};

@@ -10,7 +10,7 @@ use crate::held::HeldChild;
 use crate::logs::Logs;
 use crate::terms::{TermSender, check_sending};
 use host_files::boxed;
-use host_messages::{ChildLine, ChildNews, Escaped, escape};
+use host_messages::{ChildLine, ChildMessages, Escaped, escape};
 use indexmap::IndexMap;
 use init_words::{Answer, ChildNumber, Id, Memory, SignalKind, Stage, Status};
 use inittab_text::Table;
@@ -35,7 +35,7 @@ pub(crate) struct Children<R: Processes, A: Allocator> {
     stage: Option<Stage>,
     read_in: Option<Stage>,
     /// What is told of them.
-    news: ChildNews<A>,
+    messages: ChildMessages<A>,
     /// Where their output goes, where it goes to logs.
     logs: Option<Logs<A>>,
 }
@@ -66,16 +66,16 @@ impl<R: Processes, A: Allocator + Copy> Children<R, A> {
             terms: TermSender::new(),
             stage: None,
             read_in: None,
-            news: ChildNews::new(alloc, program),
+            messages: ChildMessages::new(alloc, program),
             logs: None,
         }
     }
 
     /// From now on it is told on standard error what children do. It takes no memory.
-    pub(crate) fn tell_all(&mut self)
+    pub(crate) fn set_verbose(&mut self)
         ensures { self.new ≡ self.old }
     {
-        self.news.tell_all();
+        self.messages.set_verbose();
     }
 
     /// Says on standard error where none can be sent TERM.
@@ -118,7 +118,7 @@ impl<R: Processes, A: Allocator + Copy> Children<R, A> {
         }
         let mut command = self.command(rt, alloc, &id, text)?;
         let number = self.spawn(rt, id, &mut command)?;
-        self.news.tell_start(rt, &id, number);
+        self.messages.tell_start(rt, &id, number);
         Ok(number)
     }
 
@@ -184,7 +184,7 @@ impl<R: Processes, A: Allocator + Copy> Children<R, A> {
     where
         R: Eprint,
     {
-        self.news.tell_not_born(rt, id, program_of(text), error);
+        self.messages.tell_not_born(rt, id, program_of(text), error);
     }
 
     /// Reaps the id's child if it has ended.
@@ -197,7 +197,7 @@ impl<R: Processes, A: Allocator + Copy> Children<R, A> {
         match self.try_wait(id) {
             Ok(Some(status)) => {
                 self.release(id);
-                self.news.note_end(rt, id, &status);
+                self.messages.note_end(rt, id, &status);
                 Answer::Ended(status_of(&status))
             }
             Ok(None) => Answer::Alive,
@@ -228,7 +228,7 @@ impl<R: Processes, A: Allocator + Copy> Children<R, A> {
     where
         R: Eprint,
     {
-        self.news.tell_last_end(rt, id);
+        self.messages.tell_last_end(rt, id);
     }
 
     /// The stage was entered.
@@ -279,7 +279,7 @@ impl<R: Processes, A: Allocator + Copy> Children<R, A> {
             return Answer::Miss;
         }
         self.tell_cost(rt, id);
-        self.news.tell_sent(rt, id, signal);
+        self.messages.tell_sent(rt, id, signal);
         Answer::Hit
     }
 
@@ -294,7 +294,7 @@ impl<R: Processes, A: Allocator + Copy> Children<R, A> {
         let Some(held) = self.handles.get_mut(id) else {
             return;
         };
-        held.tell_cost(rt, &self.news, id, is_same_stage);
+        held.tell_cost(rt, &self.messages, id, is_same_stage);
     }
 
     fn term(&mut self, rt: &R, id: &Id) -> bool

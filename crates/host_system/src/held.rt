@@ -2,7 +2,7 @@
 
 ghost use Rattle.std.specs.Prelude.{◌≡◌};
 
-use host_messages::{ChildLine, ChildNews, Trouble, shown};
+use host_messages::{ChildLine, ChildMessages, Trouble, shown};
 use init_words::{ChildNumber, Id};
 use std::alloc::Allocator;
 use std::io;
@@ -78,14 +78,19 @@ impl<P: OpenProcess + Drop> HeldChild<P> {
     pub(crate) fn tell_cost<A: Allocator + Copy>(
         &mut self,
         rt: &impl Eprint,
-        news: &ChildNews<A>,
+        messages: &ChildMessages<A>,
         id: &Id,
         is_same_stage: bool,
     )
         ensures { self.new ≡ self.old }
     {
         match self.line.take() {
-            Some(line) if line.is_cost(is_same_stage) => news.tell_cost(rt, id, self.number, line),
+            Some(line) if line.is_cost(is_same_stage) => messages.tell_cost(
+                rt,
+                id,
+                self.number,
+                line,
+            ),
             _ => {}
         }
     }

@@ -201,8 +201,8 @@ impl<
             self.channel.pass_over_old();
         }
         if options.verbose {
-            self.children.tell_all();
-            self.inittab.tell_all(&self.rt);
+            self.children.set_verbose();
+            self.inittab.set_verbose(&self.rt);
         }
         if let Some(folder) = options.logs {
             self.children.log_to(folder)?;

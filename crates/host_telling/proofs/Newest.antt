@@ -3,7 +3,7 @@ use Rattle.std.proofs.Common.{◌≡◌, sym, ◌∙◌, ap, subst, List, ◌∷
 use Rattle.std.proofs.lemmas.Option.{none-some, same_Some}
 use Rattle.host_calls.specs.Calls.{HostCall, AddsCall}
 use Rattle.host_calls.specs.Held.{AreOwn, HeldChildren, HoldsBy}
-use Rattle.host_telling.specs.Telling.{AreNewest, AreOwnIfHeld}
+use Rattle.host_telling.specs.RecordingHost.{AreNewest, AreOwnIfHeld}
 
 pub newest_more : (old new : Option (List HostCall)) (calls : List HostCall) (call : HostCall) → AddsCall old new call → AreNewest old calls → AreNewest new (call ∷ calls)
 newest_more old None calls call adds newest = tt

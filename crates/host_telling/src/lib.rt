@@ -9,4 +9,4 @@ mod telling;
 
 pub use adding::{CallList, no_calls};
 pub use noted::{Noted, Reads};
-pub use telling::Telling;
+pub use telling::RecordingHost;

@@ -16,13 +16,13 @@ use trace_events::HappeningIn;
 /// A host that hands each call on to another one, and tells the calls with what was answered, whether that one tells
 /// its calls or not. Where it does, what is told here are the newest of them.
 #[derive(Drop)]
-pub struct Telling<H: Host> {
+pub struct RecordingHost<H: Host> {
     host: H,
     calls: Noted<CallList>,
 }
 
-impl<H: Host> Model for Telling<H> {
-    ghost use Rattle.host_telling.specs.Telling.{Told, AreNewest, AreOwnIfHeld};
+impl<H: Host> Model for RecordingHost<H> {
+    ghost use Rattle.host_telling.specs.RecordingHost.{Told, AreNewest, AreOwnIfHeld};
 
     ghost Value = { Told H };
 
@@ -32,16 +32,16 @@ impl<H: Host> Model for Telling<H> {
         × AreOwnIfHeld telling.calls.value (H.held telling.host) };
 }
 
-impl<H: Host> Telling<H> {
-    ghost use Rattle.host_telling.specs.Telling.{AreNewest, AreOwnIfHeld};
+impl<H: Host> RecordingHost<H> {
+    ghost use Rattle.host_telling.specs.RecordingHost.{AreNewest, AreOwnIfHeld};
 
     /// The host, of which these calls are told already.
-    pub fn after(calls: &Noted<CallList>, host: H) -> Telling<H>
+    pub fn after(calls: &Noted<CallList>, host: H) -> RecordingHost<H>
         requires newest { AreNewest (H.told host) calls.now.value }
         requires own { AreOwnIfHeld calls.now.value (H.held host) }
         ensures { result ≡ record { host = host; calls = calls.now.value } }
     {
-        Telling {
+        RecordingHost {
             host,
             calls: calls.again(),
         }
@@ -58,7 +58,7 @@ impl<H: Host> Telling<H> {
     pub fn into_host(self) -> H
         ensures { result ≡ self.host }
     {
-        let Telling {
+        let RecordingHost {
             host,
             calls: _calls,
         } = self;
@@ -75,7 +75,7 @@ impl<H: Host> Telling<H> {
     }
 }
 
-impl<H: Host> Host for Telling<H> {
+impl<H: Host> Host for RecordingHost<H> {
     ghost use Rattle.std.specs.Prelude.{Some};
 
     ghost told = { λ telling. Some telling.calls };

@@ -105,7 +105,7 @@ Leads-not_read c new l₀ l₁ parts fits lasts took goal p sound gave allowed =
 
 -- where it is to be, no hand-over stands newest
 none_handed : (goal : Goal) (so_far : List Event) (c : CoreState) → is_sound goal so_far ≡ true → first (due goal so_far) ≡ step.Reexec → Fits c goal so_far → before_handing so_far ≡ so_far
-none_handed goal so_far c sound is fits = by so_far (sym (ap (λ (x : CoreState). x.heads.reexec) fits.kept) ∙ reexec_wished c (decide_due goal so_far sound c fits ∙ is))
+none_handed goal so_far c sound is fits = by so_far (sym (ap (λ (x : CoreState). x.fields.reexec) fits.kept) ∙ reexec_wished c (decide_due goal so_far sound c fits ∙ is))
   where
     by : (trace : List Event) → wants_reexec trace ≡ true → before_handing trace ≡ trace
     by trace h = grind arith
@@ -145,15 +145,15 @@ came_back how text back p carried = grind arith
 -- init's state was handed on, and its text is that of the next
 pub record HandedOn (c next : CoreState) (text : List ℕ) : Type 0 where
   pub fits : OnEachTrace c (λ goal so_far. (h : HandOver) → StillFits c next goal so_far (past.Handed h ∷ so_far))
-  pub own : next.heads.generation ≡ c.heads.generation + 1
+  pub own : next.fields.generation ≡ c.fields.generation + 1
   pub short : range.has_short_seconds next ≡ range.has_short_seconds c
   pub says : range.has_short_seconds c ≡ true → IsTextIn V2 text (state_of next) × IsFit next
 
 -- a text was made and carried, and taken over or refused: init goes on as the next
-pub Leads-carried : (c next new : CoreState) (l₀ l₁ : LogState) (how : HandOver) (text : List ℕ) (back : TextRead) → HandedOn c next text → (IsFit next → IsTextOf text (state_of next) → comes_back next.heads.generation text back ≡ true → (new ≡ next) × (is_outcome how text back ≡ true)) → ((so_far : List Event) → Logs l₀ l₁ so_far (past.Handed how ∷ so_far)) → Leads (Gave (Tracks c) step.Reexec) (Tracks new) l₀ l₁ (carrying how text back)
+pub Leads-carried : (c next new : CoreState) (l₀ l₁ : LogState) (how : HandOver) (text : List ℕ) (back : TextRead) → HandedOn c next text → (IsFit next → IsTextOf text (state_of next) → comes_back next.fields.generation text back ≡ true → (new ≡ next) × (is_outcome how text back ≡ true)) → ((so_far : List Event) → Logs l₀ l₁ so_far (past.Handed how ∷ so_far)) → Leads (Gave (Tracks c) step.Reexec) (Tracks new) l₀ l₁ (carrying how text back)
 Leads-carried c next new l₀ l₁ how text back handed comes took goal p sound gave allowed =
     let said = handed.says gave.1.short in
-    let own : next.heads.generation ≡ p.generation + 1 = handed.own ∙ ap (λ n. n + 1) gave.1.own in
+    let own : next.fields.generation ≡ p.generation + 1 = handed.own ∙ ap (λ n. n + 1) gave.1.own in
     let fits : (h : HandOver) → FitsAll next goal (past.Handed h ∷ p.past) = λ h. all_on c next goal p.past (past.Handed h ∷ p.past) (handed.fits goal p.past sound gave.1.fits.0 h) gave.1.fits in (
       carrying_text how text back goal p (record { core = next; fits = fits; fit = said.1; own = own; says = said.0 }),
       λ carried.

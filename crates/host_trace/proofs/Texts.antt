@@ -21,7 +21,7 @@ record Names (generation : ℕ) (text : List ℕ) : Type 0 where
   within : named ≤ generation
 
 names_of : (goal : Goal) (so_far : _) (generation : ℕ) (text : List ℕ) → IsStateText goal so_far generation text → Names generation text
-names_of goal so_far generation text says = record { named = says.core.heads.generation; is = generation_said text (state_of says.core) (V2, says.says); within = omega (arith, says.own) }
+names_of goal so_far generation text says = record { named = says.core.fields.generation; is = generation_said text (state_of says.core) (V2, says.says); within = omega (arith, says.own) }
 
 as_before : (goal : Goal) (call : HostCall) (calls : List HostCall) (p : Point) (bytes : List ℕ) → is_other call ≡ true → Names (point_after calls p).generation bytes → Names (point_after (call ∷ calls) p).generation bytes
 as_before goal call calls p bytes other names = subst (λ n. Names n bytes) (sym (call_generation call (point_after calls p) other)) names

@@ -56,7 +56,7 @@ pub record IsStateText (goal : Goal) (past : List Event) (generation : ℕ) (tex
   pub core : CoreState
   pub fits : (how : HandOver) → FitsAll core goal (Handed how ∷ past)
   pub fit : IsFit core
-  pub own : core.heads.generation ≡ generation
+  pub own : core.fields.generation ≡ generation
   pub says : IsTextIn V2 text (state_of core)
 
 -- each text that was carried is that of init's state there, a generation more, where those before it came back as they
@@ -114,12 +114,12 @@ pub record IsOver (blocks : Begun) (over : List ℕ) : Type 0 where
 pub record Tracks (core : CoreState) (goal : Goal) (p : Point) : Type 0 where
   pub fits : FitsAll core goal p.past
   pub short : range.has_short_seconds core ≡ true
-  pub own : core.heads.generation ≡ p.generation
+  pub own : core.fields.generation ≡ p.generation
 
 -- a change that keeps seconds of an hour at most, and the generation
 pub record Lasts (c new : CoreState) : Type 0 where
   pub short : range.has_short_seconds c ≡ true → range.has_short_seconds new ≡ true
-  pub same : new.heads.generation ≡ c.heads.generation
+  pub same : new.fields.generation ≡ c.fields.generation
 
 -- the core tracks the record, and the reader of requests stands where it does
 abbrev pub At : CoreState → Begun → Goal → Point → Type 0

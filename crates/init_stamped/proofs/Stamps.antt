@@ -7,14 +7,14 @@ use Rattle.std.proofs.lemmas.Bool.{false≢true}
 use Rattle.std.proofs.lemmas.Option.{none-some, same_Some}
 use Rattle.trace_events.specs.declared.steps.Goal.{Goal}
 use Rattle.trace_log.specs.Logs.{LogState}
-use Rattle.host_calls.specs.Calls.{AddsCall, HostCall}
+use Rattle.host_calls.specs.Calls.{HostCall}
 use Rattle.host_calls.specs.Record.{AreTold, Since}
-use Rattle.host_trace.specs.Edges.{AddsMade, Kept, KeptAt, Made, calls_of, trace_at}
+use Rattle.host_trace.specs.Edges.{Kept, KeptAt, Made, calls_of, trace_at}
 use Rattle.host_trace.specs.Leads.{Took, are_seconds_short}
 use Rattle.host_trace.specs.Point.{Point, point_after}
 use Rattle.host_trace.proofs.Keeping.{calls_of-append}
 use Rattle.host_trace.proofs.Leading.{UpTo-map}
-use Rattle.init_stamped.specs.Stamps.{AreItsCalls, AreTimed, HadEach, HadTaken, Stamp, all_stamped, first_stamps, newest_stamped, stamped_calls, StampedState, timed, timed_by}
+use Rattle.init_stamped.specs.Stamps.{AreItsCalls, AreTimed, HadEach, HadTaken, Stamp, all_stamped, first_stamps, stamped_calls, StampedState, timed, timed_by}
 
 -- ---- an edge
 
@@ -25,17 +25,6 @@ firsts_are {L} (Some calls) log = by calls
     by : (calls : List HostCall) → calls ≡ stamped_calls (all_stamped calls log)
     by [] = refl
     by (call ∷ calls) = ap (λ cs. call ∷ cs) (by calls)
-
-pub its_more : {L : Type 0} (old new : Option (List HostCall)) (stamps : List (Stamp L)) (call : HostCall) (log : L) → AddsCall old new call → AreItsCalls old stamps → AreItsCalls new (newest_stamped new log stamps)
-its_more old None stamps call log adds are = tt
-its_more None (Some all) stamps call log adds are = absurd (none-some adds.0 adds.1)
-its_more {L} (Some before) (Some all) stamps call log adds are = subst (λ (cs : List HostCall). cs ≡ stamped_calls (newest_stamped (Some cs) log stamps)) (sym adds.2) (ap (λ cs. call ∷ cs) (sym (same_Some before adds.0 adds.1) ∙ are))
-
-pub adds_timed : {L : Type 0} (old new : Option (List HostCall)) (stamps : List (Stamp L)) (call : HostCall) (log : L) → AddsCall old new call → AddsMade (timed_by old stamps) (timed_by new (newest_stamped new log stamps)) call log
-adds_timed old None stamps call log adds = tt
-adds_timed None (Some all) stamps call log adds = absurd (none-some adds.0 adds.1)
-adds_timed {L} (Some before) (Some all) stamps call log adds =
-    subst (λ (cs : List HostCall). AddsMade (timed_by (Some before) stamps) (timed_by (Some cs) (newest_stamped (Some cs) log stamps)) call log) (sym adds.2) (timed stamps, Some log, refl, refl, refl)
 
 -- ---- what was told since
 

@@ -23,8 +23,8 @@ Leads-said c l₀ l₁ made happening says took = Leads-heard (Gave (Tracks c) m
 -- ---- answers
 
 -- a change to such a core
-pub lasts_as : (c new after : CoreState) → new ≡ after → (range.has_short_seconds c ≡ true → range.has_short_seconds after ≡ true) → after.heads.generation ≡ c.heads.generation → Lasts c new
-lasts_as c new after is short same = record { short = λ h. ap range.has_short_seconds is ∙ short h; same = ap (λ (s : CoreState). s.heads.generation) is ∙ same }
+pub lasts_as : (c new after : CoreState) → new ≡ after → (range.has_short_seconds c ≡ true → range.has_short_seconds after ≡ true) → after.fields.generation ≡ c.fields.generation → Lasts c new
+lasts_as c new after is short same = record { short = λ h. ap range.has_short_seconds is ∙ short h; same = ap (λ (s : CoreState). s.fields.generation) is ∙ same }
 
 -- the core takes the answer, and it is written
 pub Hears-taken : (c new : CoreState) (l₀ l₁ : LogState) (id : List ℕ) (given : Answer) (result : Result (Unit {0}) Refusal) → is_ok result ≡ true → result ≡ refusal_of (order_in id c.slots) given → OnOk result (new ≡ after_told id given c) → ((goal : Goal) (so_far : List Event) → is_sound goal so_far ≡ true → FitsAll c goal so_far → is_allowed goal (acted id given so_far) ≡ true → Logs l₀ l₁ so_far (past.Told id ∷ acted id given so_far)) → Hears (Tracks c) (Tracks new) l₀ l₁ (answered id given)

@@ -1,5 +1,5 @@
 -- What the parts of a turn make of a log that only takes more, whatever was answered.
-use Rattle.init_turns.proofs.Words.{arith, ◌≡◌, ◌<◌, ℕ, true, ◌&&◌, List, [], ◌++◌, Option, list_all, option_to_list, HeardRequest, Begun, Stands, gots_of, Step, is_request, decide, state_of, CoreState, after_step, are_heads, has_short_seconds, is_goal, is_stage, passes, IsTextOf, LogState, GrowsBy, GrowsReading, HasRead, GrowsBy-then, Point, bytes_after, piece_fed, is_short_step}
+use Rattle.init_turns.proofs.Words.{arith, ◌≡◌, ◌<◌, ℕ, true, ◌&&◌, List, [], ◌++◌, Option, list_all, option_to_list, HeardRequest, Begun, Stands, gots_of, Step, is_request, decide, state_of, CoreState, after_step, are_fields, has_short_seconds, is_goal, is_stage, passes, IsTextOf, LogState, GrowsBy, GrowsReading, HasRead, GrowsBy-then, Point, bytes_after, piece_fed, is_short_step}
 use Rattle.core_model.specs.declared.parts.CoreFields.{CoreFields}
 use Rattle.core_handover.proofs.Lasting.{step_lasts}
 use Rattle.core_text.proofs.Bodies.{state_parts}
@@ -26,12 +26,12 @@ decide_short c short = short_made (decide c) c (step_lasts c short)
 
 -- ---- re-executions
 
-heads_short : (h : CoreFields) → are_heads h ≡ true → (is_stage h.stage h.grace && is_goal h.goal && passes is_goal h.level_wish) ≡ true
-heads_short h are = grind arith
+fields_short : (h : CoreFields) → are_fields h ≡ true → (is_stage h.stage h.grace && is_goal h.goal && passes is_goal h.level_wish) ≡ true
+fields_short h are = grind arith
 
 -- a core that a text says
 pub text_short : (c : CoreState) (text : List ℕ) → IsTextOf text (state_of c) → has_short_seconds c ≡ true
-text_short c text says = heads_short c.heads (state_parts says.0 (state_of c) says.1.0).heads
+text_short c text says = fields_short c.fields (state_parts says.0 (state_of c) says.1.0).fields
 
 -- ---- turns
 

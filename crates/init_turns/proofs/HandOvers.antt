@@ -14,15 +14,15 @@ use Rattle.init_turns.proofs.Parts.{Makes-one, Makes-two}
 -- ---- what came back was taken over
 
 -- a text that says a state names its generation
-names_own : (back : List ℕ) (other : SavedState) (generation : ℕ) → IsTextOf back other → other.heads.generation ≡ generation → is_of_generation generation back ≡ true
+names_own : (back : List ℕ) (other : SavedState) (generation : ℕ) → IsTextOf back other → other.fields.generation ≡ generation → is_of_generation generation back ≡ true
 names_own back other generation said own =
-    ap (λ o. option_map_or (λ g. g == generation) o false) (generation_said back other said) ∙ eq-eqb other.heads.generation generation own
+    ap (λ o. option_map_or (λ g. g == generation) o false) (generation_said back other said) ∙ eq-eqb other.fields.generation generation own
 
 begins : (text back : List ℕ) → starts_with ◌==◌ text back ≡ true → text ≡ back ++ drop (length back) text
 begins text back h = (starts_is Decides-eqb text back _ refl).0 h
 
 -- it came back as it was, and so init keeps what it kept
-pub taken_back : (old next : CoreState) (text back : List ℕ) → IsTextOf text (state_of old) → IsFit old → comes_back old.heads.generation text (Ok back) ≡ true → IsTextOf back (state_of next) → next.heads.generation ≡ old.heads.generation → ((core : CoreState) → IsFit core → IsTextOf back (state_of core) → core.heads.generation ≡ old.heads.generation → next ≡ core) → (next ≡ old) × (same_text text back ≡ true)
+pub taken_back : (old next : CoreState) (text back : List ℕ) → IsTextOf text (state_of old) → IsFit old → comes_back old.fields.generation text (Ok back) ≡ true → IsTextOf back (state_of next) → next.fields.generation ≡ old.fields.generation → ((core : CoreState) → IsFit core → IsTextOf back (state_of core) → core.fields.generation ≡ old.fields.generation → next ≡ core) → (next ≡ old) × (same_text text back ≡ true)
 taken_back old next text back says fit comes said own only = by (starts_with ◌==◌ text back) refl comes
   where
     whole : starts_with ◌==◌ text back ≡ true → (next ≡ old) × (same_text text back ≡ true)
@@ -32,9 +32,9 @@ taken_back old next text back says fit comes said own only = by (starts_with ◌
         let same : text ≡ back = parts ∙ ap (λ l. back ++ l) none ∙ append-nil back in
         (only old fit (subst (λ t. IsTextOf t (state_of old)) same says) refl, subst (λ t. same_text text t ≡ true) same (same_id-self text))
 
-    by : (b : Bool) → starts_with ◌==◌ text back ≡ b → (b || not (is_of_generation old.heads.generation back)) ≡ true → (next ≡ old) × (same_text text back ≡ true)
+    by : (b : Bool) → starts_with ◌==◌ text back ≡ b → (b || not (is_of_generation old.fields.generation back)) ≡ true → (next ≡ old) × (same_text text back ≡ true)
     by true starts h = whole starts
-    by false starts h = absurd (false≢true (ap not (sym (names_own back (state_of next) old.heads.generation said own)) ∙ h))
+    by false starts h = absurd (false≢true (ap not (sym (names_own back (state_of next) old.fields.generation said own)) ∙ h))
 
 -- ---- or refused
 
@@ -55,8 +55,8 @@ older_said text back own g says names other = and_from (is_of_generation g back)
     (ap (λ o. option_map_or (λ n. n == g) o false) names ∙ eq-eqb g g refl)
     (ap not (ap (λ o. option_map_or (λ n. n == g) o false) says) ∙ apart (own == g) refl)
   where
-    is : other.state.heads.generation ≡ g
-    is = same_Some other.state.heads.generation g (sym (generation_said back other.state other.says) ∙ names)
+    is : other.state.fields.generation ≡ g
+    is = same_Some other.state.fields.generation g (sym (generation_said back other.state other.says) ∙ names)
 
     apart : (b : Bool) → (own == g) ≡ b → not b ≡ true
     apart true same = absurd (other.other (is ∙ sym (eqb-true own g same)))
@@ -76,7 +76,7 @@ Makes-carried {L = L} state old mid new l₀ l₁ c next behind how text back ad
     before = Gave (Tracks c) step.Reexec
 
     handed_on : HandedOn c next text
-    handed_on = record { fits = fits; own = ap (λ (s : CoreState). s.heads.generation) is; short = ap range.has_short_seconds is; says = said }
+    handed_on = record { fits = fits; own = ap (λ (s : CoreState). s.fields.generation) is; short = ap range.has_short_seconds is; says = said }
 
     leads : Leads before (Tracks behind) (state l₀) (state l₁) (carrying how text back)
     leads = Leads-carried c next behind (state l₀) (state l₁) how text back handed_on comes took

@@ -5,8 +5,8 @@ use Rattle.init_words.specs.declared.stages.Stage.{Stage}
 use Rattle.init_words.specs.declared.stages.Stage.TheVariants as stage
 use Rattle.trace_events.specs.declared.steps.Step.TheVariants as step
 use Rattle.trace_events.specs.Wishes.{in_run}
-use Rattle.core_model.specs.declared.news.News.{News}
-use Rattle.core_model.specs.News.{first_news}
+use Rattle.core_model.specs.declared.pending_calls.PendingCalls.{PendingCalls}
+use Rattle.core_model.specs.PendingCalls.{first_news}
 
 module _ (table : List Entry) where
   -- a step that may be there
@@ -30,8 +30,8 @@ module _ (table : List Entry) where
   level_listed : (booted : Bool) (wish : Option Goal) → Listed (level_step booted wish)
   level_listed booted wish = grind arith
 
-  first_listed : (news : News) → Listed (first_news news)
-  first_listed news = grind arith
+  first_listed : (pending : PendingCalls) → Listed (first_news news)
+  first_listed pending = grind arith
 
   stop_listed : (grace now : ℕ) (slots : List RecordState) → Listed (stop_among grace now slots)
   stop_listed grace now [] = grind arith
@@ -62,33 +62,33 @@ start_listed stage now before (e ∷ table) (slot ∷ slots) =
     (if_listed (before ++ e ∷ table) (is_owed_record stage e slot) None (start_along stage now (zip table slots)) refl
     (subst (λ all. Listed all (start_along stage now (zip table slots))) (append_assoc before (e ∷ []) table) (start_listed stage now (before ++ e ∷ []) table slots)))
 
-settle_listed : (c : CoreState) (stage : Stage) → Listed c.table (settle_step stage c.heads.announced c.heads.time c.table c.slots)
+settle_listed : (c : CoreState) (stage : Stage) → Listed c.table (settle_step stage c.fields.announced c.fields.time c.table c.slots)
 settle_listed c stage = grind arith
 
 decide_in_listed : (c : CoreState) (stage : Option Stage) → is_listed c.table (decide_in stage c) ≡ true
-decide_in_listed c None = idle_listed c.table (first_step c) (if_listed c.table (is_quiet c.slots) (Some (step.Enter stage.Sysinit c.heads.goal.grace)) None refl refl)
+decide_in_listed c None = idle_listed c.table (first_step c) (if_listed c.table (is_quiet c.slots) (Some (step.Enter stage.Sysinit c.fields.goal.grace)) None refl refl)
 decide_in_listed c (Some stage) = idle_listed c.table (or_else (wish_step stage c) (or_else (work_step stage c) (look_among c.slots))) (else_listed c.table (wish_step stage c) (or_else (work_step stage c) (look_among c.slots)) wish (else_listed c.table (work_step stage c) (look_among c.slots) work (look_listed c.table c.slots)))
   where
     wished : Listed c.table (wished_step stage c)
-    wished = if_listed c.table c.heads.reexec (Some step.Reexec) (cond c.heads.reread (Some step.Reread) (or_else (level_step c.heads.booted c.heads.level_wish) (news_step stage c))) refl (if_listed c.table c.heads.reread (Some step.Reread) (or_else (level_step c.heads.booted c.heads.level_wish) (news_step stage c)) refl
-        (else_listed c.table (level_step c.heads.booted c.heads.level_wish) (news_step stage c) (level_listed c.table c.heads.booted c.heads.level_wish)
-        (if_listed c.table (in_run (Some stage)) (first_news c.heads.news) None (first_listed c.table c.heads.news) refl)))
+    wished = if_listed c.table c.fields.reexec (Some step.Reexec) (cond c.fields.reread (Some step.Reread) (or_else (level_step c.fields.booted c.fields.level_wish) (news_step stage c))) refl (if_listed c.table c.fields.reread (Some step.Reread) (or_else (level_step c.fields.booted c.fields.level_wish) (news_step stage c)) refl
+        (else_listed c.table (level_step c.fields.booted c.fields.level_wish) (news_step stage c) (level_listed c.table c.fields.booted c.fields.level_wish)
+        (if_listed c.table (in_run (Some stage)) (first_news c.fields.pending) None (first_listed c.table c.fields.pending) refl)))
 
     wish : Listed c.table (wish_step stage c)
     wish = if_listed c.table (is_quiet c.slots) (wished_step stage c) None wished refl
 
     calm : Listed c.table (calm_step stage c)
-    calm = else_listed c.table (start_along stage c.heads.time (zip c.table c.slots)) (or_else (stage_step stage c.heads.goal c.table c.slots) (settle_step stage c.heads.announced c.heads.time c.table c.slots)) (start_listed stage c.heads.time [] c.table c.slots) (else_listed c.table (stage_step stage c.heads.goal c.table c.slots) (settle_step stage c.heads.announced c.heads.time c.table c.slots)
-        (if_listed c.table (is_over_among stage c.table c.slots) (enter_step (next_stage stage c.heads.goal.level) c.heads.goal.grace) None (enter_listed c.table (next_stage stage c.heads.goal.level) c.heads.goal.grace) refl)
+    calm = else_listed c.table (start_along stage c.fields.time (zip c.table c.slots)) (or_else (stage_step stage c.fields.goal c.table c.slots) (settle_step stage c.fields.announced c.fields.time c.table c.slots)) (start_listed stage c.fields.time [] c.table c.slots) (else_listed c.table (stage_step stage c.fields.goal c.table c.slots) (settle_step stage c.fields.announced c.fields.time c.table c.slots)
+        (if_listed c.table (is_over_among stage c.table c.slots) (enter_step (next_stage stage c.fields.goal.level) c.fields.goal.grace) None (enter_listed c.table (next_stage stage c.fields.goal.level) c.fields.goal.grace) refl)
         (settle_listed c stage))
 
     work : Listed c.table (work_step stage c)
-    work = if_listed c.table (stands stage c) None (or_else (stop_among c.heads.grace c.heads.time c.slots) (cond (has_excluded c.slots) None (calm_step stage c))) refl (else_listed c.table (stop_among c.heads.grace c.heads.time c.slots) (cond (has_excluded c.slots) None (calm_step stage c)) (stop_listed c.table c.heads.grace c.heads.time c.slots)
+    work = if_listed c.table (stands stage c) None (or_else (stop_among c.fields.grace c.fields.time c.slots) (cond (has_excluded c.slots) None (calm_step stage c))) refl (else_listed c.table (stop_among c.fields.grace c.fields.time c.slots) (cond (has_excluded c.slots) None (calm_step stage c)) (stop_listed c.table c.fields.grace c.fields.time c.slots)
         (if_listed c.table (has_excluded c.slots) None (calm_step stage c) refl calm))
 
 -- the step that a core decides on
 pub decide_listed : (c : CoreState) → is_listed c.table (decide c) ≡ true
-decide_listed c = decide_in_listed c c.heads.stage
+decide_listed c = decide_in_listed c c.fields.stage
 
 -- a step leaves the table
 pub table_kept : (made : Step) (c : CoreState) → (after_step made c).table ≡ c.table

@@ -39,7 +39,7 @@ pub use Rattle.initctl_frame.specs.declared.requests.HeardRequest.{HeardRequest}
 pub use Rattle.trace_events.specs.Range.{is_request}
 pub use Rattle.core_model.specs.Decide.{decide, or_else, or_idle, level_step, news_step, wished_step, wish_step, stands, stop_among, has_excluded, limited_step, can_start_record, start_step, is_owed_record, start_along, is_over_among, next_stage, enter_step, stage_step, settle_step, can_look_record, look_among, calm_step, work_step, first_step, decide_in, is_drained}
 pub use Rattle.core_model.specs.Parts.{state_of, SavedState}
-pub use Rattle.core_text.specs.Range.{are_heads, has_short_seconds, is_goal, is_stage, passes}
+pub use Rattle.core_text.specs.Range.{are_fields, has_short_seconds, is_goal, is_stage, passes}
 pub use Rattle.core_text.specs.Refused.{IsTextOf, IsCut, IsOther, IsTextIn}
 pub use Rattle.host_trace.specs.Grows.{GrowsBy, GrowsReading, HasRead, Grows}
 pub use Rattle.host_trace.proofs.Growing.{GrowsBy-then, Grows-none, GrowsBy-one, GrowsBy-none, Grows-handed, Grows-then, GrowsReading-none, GrowsReading-then, GrowsBy-call}

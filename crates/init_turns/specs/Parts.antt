@@ -90,7 +90,7 @@ pub record AreAllSteps (strict done : Bool) (calls : List HostCall) : Type 0 whe
 -- text is that of its state, which keeps the rules, and came back as a text that is carried may.
 abbrev pub ComesTo : HandOver → List ℕ → TextRead → CoreState → CoreState → Type 0
 ComesTo how text back old new = IsFit old → IsTextOf text (state_of old)
-    → IsTrue (comes_back old.heads.generation text back) → (new ≡ old) × IsTrue (is_outcome how text back)
+    → IsTrue (comes_back old.fields.generation text back) → (new ≡ old) × IsTrue (is_outcome how text back)
 
 -- a refusal is announced, with this log
 abbrev pub Saying : {L : Type 0} → HandOver → Option (List (Made L)) → Option (List (Made L)) → L → Type 0

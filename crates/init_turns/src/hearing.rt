@@ -41,7 +41,7 @@ fn hear_request<A: Allocator, E: Edge>(core: &mut Core<A>, edge: &mut E, request
     ensures grows { IsTrue (is_request request)
         → GrowsBy core.old core.new (E.state (E.log edge.old)) (E.state (E.log edge.new)) }
 {
-    core.got(request);
+    core.receive(request);
     note(edge, Happening::Got(request));
 }
 

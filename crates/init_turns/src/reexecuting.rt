@@ -51,7 +51,7 @@ fn older_back(back: &[u8]) -> Handed
 /// Why what came back of the text was not taken over, as it is said. A text that came back cut is refused for that.
 fn refused(text: &[u8], back: &[u8], why: StateFault) -> Handed
     ensures { (state : SavedState) → IsTextOf text.now state
-        → NotTaken back.now state.heads.generation why → (IsCut back.now → why ≡ fault.Cut)
+        → NotTaken back.now state.fields.generation why → (IsCut back.now → why ≡ fault.Cut)
         → IsTrue (is_outcome result text.now (Ok back.now)) }
 {
     match why {

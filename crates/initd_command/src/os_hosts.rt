@@ -8,7 +8,7 @@ use crate::hosts::Hosts;
 use crate::run::{folder_of, trace_of};
 use host_messages::StampedRuntime;
 use host_system::{HostOptions, OsHost, Pace};
-use host_telling::{CallList, Noted, Telling, no_calls};
+use host_telling::{CallList, Noted, RecordingHost, no_calls};
 use init_words::Memory;
 use initd_options::RunWords;
 use program_io::ChannelLock;
@@ -54,7 +54,7 @@ impl<R: Processes + Files<File = File> + Clock + Print + Eprint + Clone + Drop> 
 }
 
 impl<R: Processes + Files<File = File> + Clock + Print + Eprint + Clone + Drop> Hosts<
-    Telling<OsHost<StampedRuntime<R>>>,
+    RecordingHost<OsHost<StampedRuntime<R>>>,
 > for OsHosts<R> {
     ghost use Rattle.std.specs.Prelude.{◌≡◌, Some, None, IfOk};
     ghost use Rattle.host_calls.specs.Held.{AreOwn, HeldChildren};
@@ -72,7 +72,7 @@ impl<R: Processes + Files<File = File> + Clock + Print + Eprint + Clone + Drop> 
         alloc: Global,
         said: &RunWords,
         lock: ChannelLock,
-    ) -> Result<Telling<OsHost<StampedRuntime<R>>>, Memory>
+    ) -> Result<RecordingHost<OsHost<StampedRuntime<R>>>, Memory>
         ensures told { IfOk result (λ host. Some host.calls ≡ Some self.old) }
         ensures err { self.new ≡ self.old }
         ensures words { IfOk result (λ host. host.host ≡ host_said (run_of said.now)) }
@@ -82,10 +82,10 @@ impl<R: Processes + Files<File = File> + Clock + Print + Eprint + Clone + Drop> 
         };
         let stamped = StampedRuntime::new(rt, alloc, said.stamp);
         let host = host_of(&stamped, alloc, said)?.holding(lock);
-        Ok(Telling::after(&self.calls, host))
+        Ok(RecordingHost::after(&self.calls, host))
     }
 
-    fn close(&mut self, host: Telling<OsHost<StampedRuntime<R>>>) -> bool {
+    fn close(&mut self, host: RecordingHost<OsHost<StampedRuntime<R>>>) -> bool {
         host.law_of_telling();
         self.rt = None;
         self.calls = host.calls();

@@ -35,13 +35,13 @@ impl<'a, R> Patience<'a, R> {
 
     /// The stage has gone on unsettled for a minute more.
     fn is_over(&mut self, core: &Core) -> bool {
-        let heads = core.heads();
-        let is_same = heads.stage == self.stage && !heads.announced;
-        if is_same && heads.time.saturating_sub(self.since) < PATIENCE {
+        let fields = core.fields();
+        let is_same = fields.stage == self.stage && !fields.announced;
+        if is_same && fields.time.saturating_sub(self.since) < PATIENCE {
             return false;
         }
-        self.stage = heads.stage;
-        self.since = heads.time;
+        self.stage = fields.stage;
+        self.since = fields.time;
         is_same
     }
 }

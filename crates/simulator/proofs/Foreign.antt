@@ -22,7 +22,7 @@ cut_foreign text bytes generation own says less other cut same =
 pub older_foreign : (text : List ℕ) (older generation : ℕ) → IsOfGeneration text older → older < generation → IsForeign text generation
 older_foreign text older generation (own, says, its) less other said same =
     let one : other ≡ own = one_state text other own said says in
-    let equal : generation ≡ older = sym same ∙ ap (λ (s : SavedState). s.heads.generation) one ∙ its in
+    let equal : generation ≡ older = sym same ∙ ap (λ (s : SavedState). s.fields.generation) one ∙ its in
     omega (arith, equal, less)
 
 -- the objection of a test that holds where a generation is left
@@ -43,7 +43,7 @@ may_older made size generation how is none =
     no_objection (has_next made) (is_made generation made) _ _ now
 
 -- a core is taken over from its own text, and none from the text of no state of its generation
-pub own_taken : (back : List ℕ) (generation : ℕ) (core : CoreState) (taken : Option CoreState) → IsFit core → IsTextOf back (state_of core) → core.heads.generation ≡ generation
+pub own_taken : (back : List ℕ) (generation : ℕ) (core : CoreState) (taken : Option CoreState) → IsFit core → IsTextOf back (state_of core) → core.fields.generation ≡ generation
     → IsTakenOver back generation taken → taken ≡ Some core
 own_taken back generation core None fit says own none = absurd (none core fit says own)
 own_taken back generation core (Some other) fit says own (said, kept, its) =

@@ -72,24 +72,24 @@ none_said goal past side sound follows rests = at
 
 -- what is objected by what the core keeps is what is objected by the trace
 same_objection : (goal : Goal) (past : List Event) (happening : Event) (rereads : Bool) (core : CoreState) (side : SystemState) → AtRest goal past rereads core side
-    → objection_in rereads core.heads.generation (length (text_made core)) side happening ≡ objection_now goal past side happening
-same_objection goal past happening rereads core side at = ap (λ b. objection_in b core.heads.generation (length (text_made core)) side happening) at.read
-    ∙ ap (λ (c : CoreState). objection_in (is_reread (first (due goal past))) c.heads.generation (length (text_made c)) side happening) (kept_is core goal past at.moment.fits at.moment.lasts)
+    → objection_in rereads core.fields.generation (length (text_made core)) side happening ≡ objection_now goal past side happening
+same_objection goal past happening rereads core side at = ap (λ b. objection_in b core.fields.generation (length (text_made core)) side happening) at.read
+    ∙ ap (λ (c : CoreState). objection_in (is_reread (first (due goal past))) c.fields.generation (length (text_made c)) side happening) (kept_is core goal past at.moment.fits at.moment.lasts)
 
 pub may_say : (goal : Goal) (past : List Event) (happening : Event) (rereads : Bool) (core : CoreState) (side : SystemState) → AtRest goal past rereads core side → is_in_range happening ≡ true
-    → None ≡ objection_in rereads core.heads.generation (length (text_made core)) side happening → may_be_scripted goal happening past ≡ true
+    → None ≡ objection_in rereads core.fields.generation (length (text_made core)) side happening → may_be_scripted goal happening past ≡ true
 may_say goal past happening rereads core side at ranged none = sym (none_said goal past side (run_sound goal past at.moment.runs) at.moment.follows at.rests happening ranged)
     ∙ ap is_none (sym (none ∙ same_objection goal past happening rereads core side at))
 
 pub objected : (goal : Goal) (past : List Event) (happening : Event) (rereads : Bool) (core : CoreState) (side : SystemState) (why : Objection) → AtRest goal past rereads core side → is_in_range happening ≡ true
-    → Some why ≡ objection_in rereads core.heads.generation (length (text_made core)) side happening → (may_be_scripted goal happening past ≡ false) × IsObjected goal happening past why
+    → Some why ≡ objection_in rereads core.fields.generation (length (text_made core)) side happening → (may_be_scripted goal happening past ≡ false) × IsObjected goal happening past why
 objected goal past happening rereads core side why at ranged some =
     let given : objection_now goal past side happening ≡ Some why = sym (some ∙ same_objection goal past happening rereads core side at) in
     (sym (none_said goal past side (run_sound goal past at.moment.runs) at.moment.follows at.rests happening ranged) ∙ ap is_none given, (side, at.moment.follows, given))
 
 -- where nothing is objected, the core is ready for what may be said
 pub ready : (goal : Goal) (past : List Event) (happening : Event) (rereads : Bool) (core : CoreState) (side : SystemState) → Moment goal past core side → may_be_scripted goal happening past ≡ true
-    → None ≡ objection_in rereads core.heads.generation (length (text_made core)) side happening → IsReadyFor happening core
+    → None ≡ objection_in rereads core.fields.generation (length (text_made core)) side happening → IsReadyFor happening core
 ready goal past (event.NewTable table) rereads core side moment may none =
     let reads = (and_parts (is_reread (first (due goal past))) (is_quiet past && is_distinct table) may).0 in
     ap lists.is_quiet (fit_records core goal past moment.fits.0) ∙ sym (quiet_same moment.fits.0.lasts goal past (run_sound goal past moment.runs)) ∙ reread_quiet goal past reads

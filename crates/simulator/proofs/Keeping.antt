@@ -17,16 +17,16 @@ use Rattle.core_handover.proofs.Lasting.{step_lasts, request_lasts}
 pub kept_is : (core : CoreState) (goal : Goal) (past : List Event) → FitsAll core goal past → LastsTo core goal past → core ≡ kept_at goal past
 kept_is core goal past fits lasts = own_read core goal past fits.0 fits.1 ∙ (λ i. core_read (lasts_of past) past (lasts.goal i) (lasts.made i))
 
-lasts_as : (core same : CoreState) (goal : Goal) (past : List Event) → core ≡ same → has_short_seconds same ≡ true → same.heads.generation ≡ made_in past → same.heads.goal ≡ kept_goal goal past → LastsTo core goal past
+lasts_as : (core same : CoreState) (goal : Goal) (past : List Event) → core ≡ same → has_short_seconds same ≡ true → same.fields.generation ≡ made_in past → same.fields.goal ≡ kept_goal goal past → LastsTo core goal past
 lasts_as core same goal past is short made kept = record {
   short = ap has_short_seconds is ∙ short;
-  made = ap (λ (c : CoreState). c.heads.generation) is ∙ made;
-  goal = ap (λ (c : CoreState). c.heads.goal) is ∙ kept;
+  made = ap (λ (c : CoreState). c.fields.generation) is ∙ made;
+  goal = ap (λ (c : CoreState). c.fields.goal) is ∙ kept;
 }
 
 -- ---- behind a step of init
 
-step_made : (s : Step) (core : CoreState) (past : List Event) → core.heads.generation ≡ made_in past → (after_step s core).heads.generation ≡ made_in (with_step s past)
+step_made : (s : Step) (core : CoreState) (past : List Event) → core.fields.generation ≡ made_in past → (after_step s core).fields.generation ≡ made_in (with_step s past)
 step_made (Enter now grace) core past made = made
 step_made (Call letter) core past made = made
 step_made (Power kind) core past made = made
@@ -37,8 +37,8 @@ step_made Reread core past made = made
 step_made Reexec core past made = made
 step_made Idle core past made = made
 
-step_goal : (s : Step) (core : CoreState) (goal : Goal) (past : List Event) → core.heads.level_wish ≡ level_wish past → core.heads.goal ≡ kept_goal goal past → (after_step s core).heads.goal ≡ kept_goal goal (with_step s past)
-step_goal (Enter now grace) core goal past wish kept = ap (λ w. wished w core.heads.goal) wish ∙ ap (wished (level_wish past)) kept
+step_goal : (s : Step) (core : CoreState) (goal : Goal) (past : List Event) → core.fields.level_wish ≡ level_wish past → core.fields.goal ≡ kept_goal goal past → (after_step s core).fields.goal ≡ kept_goal goal (with_step s past)
+step_goal (Enter now grace) core goal past wish kept = ap (λ w. wished w core.fields.goal) wish ∙ ap (wished (level_wish past)) kept
 step_goal (Call letter) core goal past wish kept = kept
 step_goal (Power kind) core goal past wish kept = kept
 step_goal (Order id ask) core goal past wish kept = kept
@@ -52,23 +52,23 @@ pub lasts_step : (core new : CoreState) (s : Step) → s ≡ decide core → new
 lasts_step core new s decides is goal past fits lasts = lasts_as new (after_step s core) goal (with_step s past) is
     (subst (λ t. has_short_seconds (after_step t core) ≡ true) (sym decides) (step_lasts core lasts.short))
     (step_made s core past lasts.made)
-    (step_goal s core goal past (ap (λ (x : CoreState). x.heads.level_wish) fits.0.kept) lasts.goal)
+    (step_goal s core goal past (ap (λ (x : CoreState). x.fields.level_wish) fits.0.kept) lasts.goal)
 
 -- ---- behind what is heard
 
-heard_goal : (now : Option Stage) (wish : Goal) (heads : CoreFields) → (heard_in now wish heads).goal ≡ cond (in_run now) heads.goal wish
-heard_goal None wish heads = refl
-heard_goal (Some stage.Sysinit) wish heads = refl
-heard_goal (Some stage.Boot) wish heads = refl
-heard_goal (Some (stage.Run level)) wish heads = at (same_level wish.level level)
+heard_goal : (now : Option Stage) (wish : Goal) (fields : CoreFields) → (heard_in now wish fields).goal ≡ cond (in_run now) fields.goal wish
+heard_goal None wish fields = refl
+heard_goal (Some stage.Sysinit) wish fields = refl
+heard_goal (Some stage.Boot) wish fields = refl
+heard_goal (Some (stage.Run level)) wish fields = at (same_level wish.level level)
   where
-    at : (b : Bool) → (cond b (record heads { level_wish = None }) (record heads { level_wish = Some wish; reread = true })).goal ≡ heads.goal
+    at : (b : Bool) → (cond b (record fields { level_wish = None }) (record fields { level_wish = Some wish; reread = true })).goal ≡ fields.goal
     at true = refl
     at false = refl
 
-got_goal : (request : Request) (core : CoreState) (goal : Goal) (past : List Event) → core.heads.stage ≡ stage_of past → core.heads.goal ≡ kept_goal goal past → (after_got request core).heads.goal ≡ kept_goal goal (event.Got request ∷ past)
-got_goal (got.Level level grace) core goal past now kept = heard_goal core.heads.stage (record { level = level; grace = grace }) core.heads
-    ∙ ap (λ o. cond (in_run o) core.heads.goal (record { level = level; grace = grace })) now ∙ ap (λ g. cond (in_run (stage_of past)) g (record { level = level; grace = grace })) kept
+got_goal : (request : Request) (core : CoreState) (goal : Goal) (past : List Event) → core.fields.stage ≡ stage_of past → core.fields.goal ≡ kept_goal goal past → (after_got request core).fields.goal ≡ kept_goal goal (event.Got request ∷ past)
+got_goal (got.Level level grace) core goal past now kept = heard_goal core.fields.stage (record { level = level; grace = grace }) core.fields
+    ∙ ap (λ o. cond (in_run o) core.fields.goal (record { level = level; grace = grace })) now ∙ ap (λ g. cond (in_run (stage_of past)) g (record { level = level; grace = grace })) kept
 got_goal (got.Call letter) core goal past now kept = kept
 got_goal got.Reload core goal past now kept = kept
 got_goal got.Reexec core goal past now kept = kept
@@ -97,7 +97,7 @@ module _ (core new : CoreState) (goal : Goal) (past : List Event) (lasts : Lasts
   lasts_got request fits asks is = lasts_as new (after_got request core) goal (event.Got request ∷ past) is
       (request_lasts request core asks lasts.short)
       (request_same request core ∙ lasts.made)
-      (got_goal request core goal past (ap (λ (x : CoreState). x.heads.stage) fits.0.kept) lasts.goal)
+      (got_goal request core goal past (ap (λ (x : CoreState). x.fields.stage) fits.0.kept) lasts.goal)
 
   pub lasts_hand : (how : HandOver) → new ≡ after_hand how core → LastsTo new goal (event.Handed how ∷ past)
   lasts_hand handed.Failed is = lasts_as new (after_hand handed.Failed core) goal (event.Handed handed.Failed ∷ past) is lasts.short lasts.made lasts.goal

@@ -28,8 +28,8 @@ use Rattle.simulator.specs.Simulation.{IsTooLong, RunOver, Scenario, goal_in, he
 -- of the run so far
 pub record LastsTo (core : CoreState) (opening : Goal) (past : List Event) : Type 0 where
   pub short : has_short_seconds core ≡ true
-  pub made : core.heads.generation ≡ made_in past
-  pub goal : core.heads.goal ≡ kept_goal opening past
+  pub made : core.fields.generation ≡ made_in past
+  pub goal : core.fields.goal ≡ kept_goal opening past
 
 -- the core fits the run so far and can be handed over, and the system's side follows the run
 pub record Moment (goal : Goal) (past : List Event) (core : CoreState) (side : SystemState) : Type 0 where

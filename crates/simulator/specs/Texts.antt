@@ -10,7 +10,7 @@ use Rattle.simulator.specs.Handing.{text_made, objection_handed}
 
 -- the text is that of a state of the generation
 abbrev pub IsOfGeneration : List ℕ → ℕ → Type 0
-IsOfGeneration text generation = (state : SavedState) × IsTextOf text state × (state.heads.generation ≡ generation)
+IsOfGeneration text generation = (state : SavedState) × IsTextOf text state × (state.fields.generation ≡ generation)
 
 -- the first text is that of a state of generation 1, and each other that of a generation more than the one before
 abbrev pub AreMade : List (List ℕ) → Type 0
@@ -23,16 +23,16 @@ pub record HasTexts (texts : List (List ℕ)) (generation : ℕ) : Type 0 where
 
 -- the text is that of no state of the generation
 abbrev pub IsForeign : List ℕ → ℕ → Type 0
-IsForeign text generation = (state : SavedState) → IsTextOf text state → state.heads.generation ≢ generation
+IsForeign text generation = (state : SavedState) → IsTextOf text state → state.fields.generation ≢ generation
 
 -- nothing is objected to the hand-over, and what the core keeps can be handed over
 pub record CanHand (how : HandOver) (core : CoreState) : Type 0 where
   pub short : has_short_seconds core ≡ true
-  pub may : objection_handed core.heads.generation (length (text_made core)) how ≡ None
+  pub may : objection_handed core.fields.generation (length (text_made core)) how ≡ None
 
 -- the core that is taken over from a text, of an init of this generation; none where no core that keeps the rules has it
 abbrev pub IsTakenOver : List ℕ → ℕ → Option CoreState → Type 0
 IsTakenOver back generation (Some core) =
-    IsTextOf back (state_of core) × IsFit core × (core.heads.generation ≡ generation)
+    IsTextOf back (state_of core) × IsFit core × (core.fields.generation ≡ generation)
 IsTakenOver back generation None = (core : CoreState) → IsFit core → IsTextOf back (state_of core)
-    → core.heads.generation ≡ generation → ⊥
+    → core.fields.generation ≡ generation → ⊥

@@ -38,15 +38,15 @@ fn is_made(generation: u64, made: u64) -> bool
 
 /// How long the text is that a hand-over makes.
 fn size_made<A: Allocator + Copy>(alloc: A, core: &Core<A>) -> Result<u64, Memory>
-    requires { has_next core.now.heads.generation ≡ true }
+    requires { has_next core.now.fields.generation ≡ true }
     ensures { IfOk result (λ size. size ≡ length (text_made core.now)) }
 {
-    let heads = CoreFields {
+    let fields = CoreFields {
         generation: core.generation() + 1,
         reexec: false,
-        ..core.heads()
+        ..core.fields()
     };
-    let text = write_state(alloc, &heads, core.table(), core.slots().as_slice())?;
+    let text = write_state(alloc, &fields, core.table(), core.slots().as_slice())?;
     Ok(text.len() as u64)
 }
 
@@ -57,7 +57,7 @@ pub(crate) fn objection_handed<A: Allocator + Copy>(
     how: Handed,
 ) -> Result<Option<Objection>, Memory>
     ensures { IfOk result (λ objection. objection
-        ≡ objection_handed core.now.heads.generation (length (text_made core.now)) how) }
+        ≡ objection_handed core.now.fields.generation (length (text_made core.now)) how) }
 {
     if how == Handed::Failed {
         return Ok(None);
@@ -79,7 +79,7 @@ pub(crate) fn objection_handed<A: Allocator + Copy>(
 /// Writes what the core keeps, for the next init.
 fn make_text<A: Allocator + Copy>(alloc: A, core: &mut Core<A>) -> Result<Vec<u8, A>, Memory>
     requires short { has_short_seconds core.old ≡ true }
-    requires next { has_next core.old.heads.generation ≡ true }
+    requires next { has_next core.old.fields.generation ≡ true }
     ensures text { IfOk result (λ text. text.items ≡ text_made core.old) }
     ensures state { OnOk result (core.new ≡ after_handed_on core.old) }
     ensures fits { OnOk result (OnEachTrace core.old (λ goal past. (how : Handed)
@@ -122,11 +122,11 @@ fn carry<A: Allocator + Copy>(
     requires says { IsTextOf text.now (state_of core.now) }
     requires fit { IsFit core.now }
     requires made { AreMade (map (λ text. text.items) made.now) }
-    requires next { core.now.heads.generation ≡ length made.now + 1 }
+    requires next { core.now.fields.generation ≡ length made.now + 1 }
     requires may { objection_handed (length made.now) (length text.now) how ≡ None }
     ensures back { IfOk result (λ taken. IfSome (comes_back how text.now
         (map (λ text. text.items) made.now))
-        (λ back. IsTakenOver back core.now.heads.generation taken)) }
+        (λ back. IsTakenOver back core.now.fields.generation taken)) }
     ensures taken { IfOk result (λ taken. taken ≡ taken_of how core.now) }
 {
     let generation = core.generation();
@@ -156,12 +156,12 @@ pub(crate) fn hand<A: Allocator + Copy>(
     how: Handed,
 ) -> Result<(), Memory>
     requires can { CanHand how core.old }
-    requires made { HasTexts (map (λ text. text.items) made.old.items) core.old.heads.generation }
+    requires made { HasTexts (map (λ text. text.items) made.old.items) core.old.fields.generation }
     ensures state { OnOk result (core.new ≡ after_hand how core.old) }
     ensures fits { OnOk result (OnEachTrace core.old (λ goal past.
         StillFits core.old core.new goal past (happening.Handed how ∷ past))) }
     ensures made { OnOk result
-        (HasTexts (map (λ text. text.items) made.new.items) core.new.heads.generation) }
+        (HasTexts (map (λ text. text.items) made.new.items) core.new.fields.generation) }
     ensures kept { OnOk result (map (λ text. text.items) made.new.items
         ≡ kept_texts how core.old (map (λ text. text.items) made.old.items)) }
 {

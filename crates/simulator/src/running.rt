@@ -154,7 +154,7 @@ fn run_until_rest<A: Allocator + Copy, W: Write, F: WritesOn<W>>(
     ensures ok { IfOk result (λ rereads. FromMoment core.old side.old (λ goal past.
         ComesToRest goal past rereads core.new side.new (W.contents out.old)
         (W.contents out.new))) }
-    ensures generation { OnOk result (core.new.heads.generation ≡ core.old.heads.generation) }
+    ensures generation { OnOk result (core.new.fields.generation ≡ core.old.fields.generation) }
     ensures err { IfErr result (λ fault. FromMoment core.old side.old (λ goal past.
         Breaks goal past fault (W.contents out.old) (W.contents out.new))) }
     ensures failed { result ≡ Err SimFault.Write → F.has_failed out.new ≡ true }
@@ -181,7 +181,7 @@ fn objection_to<A: Allocator + Copy>(
     happening: &HappeningIn<A>,
     rereads: bool,
 ) -> Result<Option<Objection>, Memory>
-    ensures { IfOk result (λ objection. objection ≡ objection_in rereads core.now.heads.generation
+    ensures { IfOk result (λ objection. objection ≡ objection_in rereads core.now.fields.generation
         (length (text_made core.now)) side.now happening.now) }
 {
     match happening {
@@ -221,7 +221,7 @@ fn pass_on<A: Allocator + Copy>(
     happening: &HappeningIn<A>,
 ) -> Result<(), Memory>
     requires ready { IsReadyFor happening.now core.old }
-    requires made { HasTexts (map (λ text. text.items) made.old.items) core.old.heads.generation }
+    requires made { HasTexts (map (λ text. text.items) made.old.items) core.old.fields.generation }
     requires ranged { is_in_range happening.now ≡ true }
     ensures fits { OnOk result (FromMoment core.old side.now (λ goal past.
         may_be_scripted goal happening.now past ≡ true
@@ -230,7 +230,7 @@ fn pass_on<A: Allocator + Copy>(
         may_be_scripted goal happening.now past ≡ true
         → LastsTo core.new goal (happening.now ∷ past))) }
     ensures made { OnOk result
-        (HasTexts (map (λ text. text.items) made.new.items) core.new.heads.generation) }
+        (HasTexts (map (λ text. text.items) made.new.items) core.new.fields.generation) }
 {
     match happening {
         Happening::NewTable(table) => adopt(alloc, core, table)?,
@@ -242,7 +242,7 @@ fn pass_on<A: Allocator + Copy>(
         }
         Happening::Clock(reading) => core.clock(*reading),
         Happening::Nudge => core.begin_round(),
-        Happening::Got(request) => core.got(*request),
+        Happening::Got(request) => core.receive(*request),
         Happening::Handed(how) => hand(alloc, core, made, *how)?,
         _ => {}
     }
@@ -259,7 +259,7 @@ fn hear<A: Allocator + Copy, W: Write, F: WritesOn<W>>(
     happening: &HappeningIn<A>,
 ) -> Result<(), SimFault>
     requires ready { IsReadyFor happening.now core.old }
-    requires made { HasTexts (map (λ text. text.items) made.old.items) core.old.heads.generation }
+    requires made { HasTexts (map (λ text. text.items) made.old.items) core.old.fields.generation }
     requires ranged { is_in_range happening.now ≡ true }
     ensures text { OnOk result
         (Appends (W.contents out.old) (W.contents out.new) (event_text happening.now)) }
@@ -267,7 +267,7 @@ fn hear<A: Allocator + Copy, W: Write, F: WritesOn<W>>(
         may_be_scripted goal happening.now past ≡ true
         → Moment goal (happening.now ∷ past) core.new side.new)) }
     ensures made { OnOk result
-        (HasTexts (map (λ text. text.items) made.new.items) core.new.heads.generation) }
+        (HasTexts (map (λ text. text.items) made.new.items) core.new.fields.generation) }
     ensures err { IfErr result (λ fault.
         Leaves fault (W.contents out.old) (W.contents out.new) (event_text happening.now)) }
     ensures failed { result ≡ Err SimFault.Write → F.has_failed out.new ≡ true }
@@ -291,10 +291,10 @@ fn hear_next<A: Allocator + Copy, W: Write, F: WritesOn<W>>(
     number: u64,
 ) -> Result<bool, SimFault>
     requires rests { SomeRest rereads core.old side.old }
-    requires made { HasTexts (map (λ text. text.items) made.old.items) core.old.heads.generation }
+    requires made { HasTexts (map (λ text. text.items) made.old.items) core.old.fields.generation }
     requires ranged { is_in_range happening.now ≡ true }
     ensures made { OnOk result
-        (HasTexts (map (λ text. text.items) made.new.items) core.new.heads.generation) }
+        (HasTexts (map (λ text. text.items) made.new.items) core.new.fields.generation) }
     ensures ok { IfOk result (λ next. FromRest rereads core.old side.old (λ goal past.
         HeardOne goal past happening.now next core.new side.new (W.contents out.old)
         (W.contents out.new))) }
@@ -372,7 +372,7 @@ fn hear_all<A: Allocator + Copy, W: Write, F: WritesOn<W>>(
     rereads: bool,
 ) -> Result<(), SimFault>
     requires rests { SomeRest rereads core.old side.old }
-    requires none { core.old.heads.generation ≡ 0 }
+    requires none { core.old.fields.generation ≡ 0 }
     ensures done { OnOk result (
         FromScript text.now rereads core.old side.old (W.contents out.old)
         (λ s before. Done s before (W.contents out.new))) }
@@ -410,7 +410,7 @@ fn run_script<A: Allocator + Copy, W: Write, F: WritesOn<W>>(
     script: &[u8],
 ) -> Result<(), SimFault>
     requires moment { SomeMoment core.old side.old }
-    requires none { core.old.heads.generation ≡ 0 }
+    requires none { core.old.fields.generation ≡ 0 }
     ensures done { OnOk result (
         FromOpening script.now core.old side.old (W.contents out.old)
         (λ s before. Done s before (W.contents out.new))) }

@@ -44,7 +44,7 @@ const DIGITS: &[u8] = b"0123456789";
 /// Runlevels and letters other than 3 that are written as they stand, and the mark for none of them.
 const OTHER_MARKS: &[u8] = b"012456789SABC-";
 
-/// The heads of all texts, where no row of a text's own has the byte.
+/// The fields of all texts, where no row of a text's own has the byte.
 const OF_HEADS: &[Row] = &[
     (1, 0, ALL, Others, Some(Version)),
     (2, 11, 11, These(b"23456789"), Some(Generation)),
@@ -295,7 +295,7 @@ fn are_right<R: Abort>(rt: &R, own: Global, first: usize, last: usize) -> Result
 }
 
 #[test]
-fn each_byte_of_heads_is_changed(rt: HostRuntime) -> Result<(), Fail> {
+fn each_byte_of_fields_is_changed(rt: HostRuntime) -> Result<(), Fail> {
     are_right(&rt, rt.alloc(), 1, 7)
 }
 

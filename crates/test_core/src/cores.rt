@@ -121,7 +121,7 @@ fn told<A: Allocator>(
         Happening::NotRead => core.not_read(),
         Happening::Clock(reading) => core.clock(reading),
         Happening::Nudge => core.begin_round(),
-        Happening::Got(request) => core.got(request),
+        Happening::Got(request) => core.receive(request),
         Happening::Handed(_) => core.not_handed(),
         _ => {
             let (id, answer) = answer_of(call)?;

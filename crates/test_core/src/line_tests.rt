@@ -279,8 +279,8 @@ const ASKED: &[(u64, &str, u64, Option<StateFault>)] = &[
 /// A text of a version, of so many entries, and none of their records.
 fn large(own: Global, version: u64, entries: u64) -> Result<String, Fail> {
     let mut text = text_of(own, version, 1, "")?;
-    let (heads, _) = OPENING.split_once("table").ok_or("no table")?;
-    writeln!(text, "{heads}table {entries}")?;
+    let (fields, _) = OPENING.split_once("table").ok_or("no table")?;
+    writeln!(text, "{fields}table {entries}")?;
     for number in 0..entries {
         writeln!(text, "{number}:3:once:x")?;
     }

@@ -3,7 +3,7 @@
 use crate::handed::{is_text, opened, parts_of};
 use crate::handover_tests::{STARTED_TABLE, STARTS, does};
 use crate::texts::{STARTED_OLD, text_of};
-use core_model::{CoreFields, News, Parts, PlainRecord};
+use core_model::{CoreFields, PendingCalls, Parts, PlainRecord};
 use core_records::Stop;
 use core_text::{StateFault, write_state};
 use init_words::{Act, ChildNumber, Level, OrderKind, Stage, Status};
@@ -66,7 +66,7 @@ const STARTED_HEADS: CoreFields = CoreFields {
     reread: false,
     reexec: false,
     level_wish: None,
-    news: News {
+    pending: PendingCalls {
         fail: false,
         fail_now: false,
         ok: false,
@@ -84,7 +84,7 @@ const BUSY: &str = "clock 700\nstage S 3600\ngoal 0 0\nflags 01\nwish 10 9:8 101
 
 const BUSY_TABLE: &str = "p:S012:powerokwait:+run it: now\n";
 
-/// The heads of that text with no entry.
+/// The fields of that text with no entry.
 const BUSY_ALONE: &str =
     "clock 700\nstage S 3600\ngoal 0 0\nflags 01\nwish 10 9:8 101 010\ntable 0\nend 8\n";
 
@@ -140,7 +140,7 @@ const BUSY_HEADS: CoreFields = CoreFields {
         level: Level::L9,
         grace: 8,
     }),
-    news: News {
+    pending: PendingCalls {
         fail: true,
         fail_now: false,
         ok: true,
@@ -150,12 +150,12 @@ const BUSY_HEADS: CoreFields = CoreFields {
     },
 };
 
-fn are_heads(heads: &CoreFields, want: &CoreFields) -> bool {
-    let flags = [heads.booted, heads.announced, heads.reread, heads.reexec];
-    (heads.generation, heads.time, heads.grace) == (want.generation, want.time, want.grace)
-        && (heads.stage, heads.goal, heads.level_wish) == (want.stage, want.goal, want.level_wish)
+fn are_fields(fields: &CoreFields, want: &CoreFields) -> bool {
+    let flags = [fields.booted, fields.announced, fields.reread, fields.reexec];
+    (fields.generation, fields.time, fields.grace) == (want.generation, want.time, want.grace)
+        && (fields.stage, fields.goal, fields.level_wish) == (want.stage, want.goal, want.level_wish)
         && flags == [want.booted, want.announced, want.reread, want.reexec]
-        && heads.news == want.news
+        && fields.pending == want.pending
 }
 
 fn is_kept(record: &PlainRecord, kept: &Kept) -> bool {
@@ -171,16 +171,16 @@ fn is_kept(record: &PlainRecord, kept: &Kept) -> bool {
         && record.starts.as_slice() == kept.starts
 }
 
-fn are_parts(parts: &Parts, heads: &CoreFields, kept: &[Kept]) -> bool {
+fn are_parts(parts: &Parts, fields: &CoreFields, kept: &[Kept]) -> bool {
     for (record, kept) in parts.records.iter().zip(kept) {
         if !is_kept(record, kept) {
             return false;
         }
     }
-    are_heads(&parts.heads, heads) && parts.records.len() == kept.len()
+    are_fields(&parts.fields, fields) && parts.records.len() == kept.len()
 }
 
-/// The lines of a version, what they say: the heads, the table and the records.
+/// The lines of a version, what they say: the fields, the table and the records.
 type Said = (u64, &'static str, CoreFields, &'static str, &'static [Kept]);
 
 const SAID: &[Said] = &[
@@ -195,14 +195,14 @@ const SAID: &[Said] = &[
 ];
 
 fn is_said(own: Global, said: &Said) -> Result<bool, StateFault> {
-    let (version, lines, heads, table, kept) = said;
-    let text = text_of(own, *version, heads.generation, lines)?;
-    let parts = parts_of(own, own, text.as_bytes(), heads.generation)?;
+    let (version, lines, fields, table, kept) = said;
+    let text = text_of(own, *version, fields.generation, lines)?;
+    let parts = parts_of(own, own, text.as_bytes(), fields.generation)?;
     let written = inittab_text::write(own, &parts.table)?;
-    Ok(are_parts(&parts, heads, kept) && written.as_slice() == table.as_bytes())
+    Ok(are_parts(&parts, fields, kept) && written.as_slice() == table.as_bytes())
 }
 
-/// An inittab, what a core over it does, whether it is at these heads then, and the lines that are written of it with them,
+/// An inittab, what a core over it does, whether it is at these fields then, and the lines that are written of it with them,
 /// with this behind each record.
 type Written = (
     &'static str,
@@ -226,12 +226,12 @@ const WRITTEN: &[Written] = &[
 ];
 
 fn is_written(own: Global, written: &Written) -> Option<bool> {
-    let (inittab, steps, is_there, heads, lines, behind) = written;
+    let (inittab, steps, is_there, fields, lines, behind) = written;
     let mut core = opened(own, inittab, None)?;
     let is_done = does(own, &mut core, steps);
-    let is_at = (core.time(), core.stage(), core.goal()) == (heads.time, heads.stage, heads.goal);
-    let text = write_state(own, heads, core.table(), core.slots().as_slice()).ok()?;
-    Some(is_done && is_at == *is_there && is_text(own, &text, heads.generation, lines, behind)?)
+    let is_at = (core.time(), core.stage(), core.goal()) == (fields.time, fields.stage, fields.goal);
+    let text = write_state(own, fields, core.table(), core.slots().as_slice()).ok()?;
+    Some(is_done && is_at == *is_there && is_text(own, &text, fields.generation, lines, behind)?)
 }
 
 #[test]

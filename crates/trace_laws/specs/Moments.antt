@@ -32,12 +32,6 @@ AtEachOrder ask Law =
     (goal : Goal) (later past : List Event) (id : List ℕ)
     → IsTrue (is_sound goal (later ++ Asked id ask ∷ past)) → Law id past
 
--- before each hold of an id
-abbrev pub AtEachHold : (List ℕ → List Event → Type 0) → Type 0
-AtEachHold Law =
-    (goal : Goal) (later past : List Event) (id : List ℕ)
-    → IsTrue (is_sound goal (later ++ Hold id ∷ past)) → Law id past
-
 -- before each signal that is sent for an id
 abbrev pub AtEachHit : (List ℕ → List Event → Type 0) → Type 0
 AtEachHit Law =

@@ -1,5 +1,5 @@
 -- What a happening's text, or a part of it, makes of what a log over a writer took.
-use Rattle.std.proofs.Common.{◌≡◌, ℕ, Bool, true, false, List, [], ◌∷◌, ◌++◌, append-nil, Option, Some, None, Result, Ok, Err, is_err, refl, sym, ap, ◌∙◌}
+use Rattle.std.proofs.Common.{◌≡◌, ℕ, true, false, List, [], ◌∷◌, ◌++◌, append-nil, Option, Some, None, Result, Ok, Err, is_err, refl, sym, ap, ◌∙◌}
 use Rattle.std.proofs.lemmas.Bool.{false≢true}
 use Rattle.std.specs.Result.{OnOk, OnErr, IfErr}
 use Rattle.std.specs.Io.KnownBytes.{Appends, Keeps}
@@ -12,10 +12,6 @@ use Rattle.trace_log.specs.declared.faults.LogFault.TheVariants.{Device, Memory}
 use Rattle.trace_log.specs.Faults.{Leaves}
 use Rattle.trace_log.specs.Logs.{Gains, Stays}
 use Rattle.trace_log.specs.Streams.{Stream, HasText, IsCut, KnowsText, stream_state}
-
-pub knows_none : (known : Option (List ℕ)) (bytes : List ℕ) → known ≡ Some bytes → bytes ≡ [] → KnowsText false [] known
-knows_none (Some bytes) _ is none = record { ranged = refl; part = []; whole = sym none ∙ cc; nothing = λ _. refl; cut = λ no. absurd (false≢true no) }
-knows_none None bytes is none = absurd (cc)
 
 -- the text of a log that has not failed is all of its bytes
 all_text : (trace : List Event) (bytes : List ℕ) → HasText false trace bytes → trace_text trace ≡ bytes

@@ -54,11 +54,6 @@ module _ {T E : Type 0} (r : Result T E) (Ranged : Type 0) (happening : Event) (
             parts.gained,
           )
 
--- a log that took nothing yet
-pub took_none : (failed : Bool) (log : LogState) (held : HeldBack) → Holds held [] [] → log.taken [] → TookBy failed log held []
-took_none false log held holds none = record { written = []; is = none; holds = holds }
-took_none true log held holds none = ([], record { more = []; most = omega arith; rest = reverse (brief_of []); front = refl }, none)
-
 -- ---- at its end
 
 -- one that has failed hands on nothing more

@@ -180,9 +180,6 @@ still_stopped None state trace text piece why is taken = absurd (cc)
 pub seen_at : (stop : Option ViewEnd) (state : TextState) (trace : List Event) (text : List ℕ) → AtBy stop state trace text → Viewed state.viewing (reverse trace)
 seen_at stop state trace text at = grind arith
 
-pub viewed_at : (stop : Option ViewEnd) (state : TextState) (trace : List Event) (text : List ℕ) → TakenBy stop state trace text → Viewed state.viewing (reverse trace)
-viewed_at stop state trace text taken = grind arith
-
 -- what is shown of the text
 left_is : (reading : Reading) (viewing : ViewState) (trace : List Event) (text over : List ℕ) → length text < 2 ^ 64 → HasSeen reading viewing trace text → reading.over ≡ over → option_map capped (line_left reading.lines over) ≡ line_left (newlines (trace_text trace)) over
 left_is reading viewing trace text [] small seen is = refl

@@ -75,14 +75,14 @@ pub returns-then-parts-generation-clause-only : goal.returns-then-parts-generati
 returns-then-parts-generation-clause-only g c =
     let fits : length c.args.text.now < 2 ^ 64 = grind (arith, common_steps) in
     let at : end_split c.args.text.now ≡ Some (c.in_ok-body.body.now, c.in_ok-body.last.now) = search rules in
-    let other : c.in_ok-parts.parts.heads.generation ≢ c.args.generation = search rules in
-    λ state says same. absurd (other (ap (λ (s : SavedState). s.heads.generation) (only_one c.args.text.now c.in_ok-body.body.now c.in_ok-body.last.now c.in_ok-parts.parts state fits at c.in_ok-parts.ensures.ok says) ∙ same))
+    let other : c.in_ok-parts.parts.fields.generation ≢ c.args.generation = search rules in
+    λ state says same. absurd (other (ap (λ (s : SavedState). s.fields.generation) (only_one c.args.text.now c.in_ok-body.body.now c.in_ok-body.last.now c.in_ok-parts.parts state fits at c.in_ok-parts.ensures.ok says) ∙ same))
 
 pub returns-then-parts-generation-clause-refused : goal.returns-then-parts-generation-clause-refused
 returns-then-parts-generation-clause-refused g c =
     let at : end_split c.args.text.now ≡ Some (c.in_ok-body.body.now, c.in_ok-body.last.now) = search rules in
     let end : end_line_read c.in_ok-body.last.now ≡ Some (newlines c.in_ok-body.body.now) = search rules in
-    let other : c.in_ok-parts.parts.heads.generation ≢ c.args.generation = search rules in
+    let other : c.in_ok-parts.parts.fields.generation ≢ c.args.generation = search rules in
     record {
       state = c.in_ok-parts.parts;
       says = says_of c.in_ok-parts.parts c.args.text.now c.in_ok-body.body.now c.in_ok-body.last.now at c.in_ok-parts.ensures.ok end;

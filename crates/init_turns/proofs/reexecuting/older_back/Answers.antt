@@ -7,5 +7,5 @@ returns-in-Some c text generation says other = older_said text c.args.back.now g
 
 pub returns-in-None : goal.returns-in-None
 returns-in-None c text generation says other =
-    let said : None ≡ Some other.state.heads.generation = c.in-None.ensures.said other.state other.says in
+    let said : None ≡ Some other.state.fields.generation = c.in-None.ensures.said other.state other.says in
     absurd (cc)

@@ -6,8 +6,8 @@ use Rattle.init_turns.proofs.reexecuting.refused.Goals as goal
 pub returns-in-Generation : goal.returns-in-Generation
 returns-in-Generation c state says other cuts =
     let is : c.args.why ≡ fault.Generation = search rules in
-    c.older_back.ensures c.args.text.now state.heads.generation (generation_said c.args.text.now state says)
-    (subst (NotTaken c.args.back.now state.heads.generation) is other)
+    c.older_back.ensures c.args.text.now state.fields.generation (generation_said c.args.text.now state says)
+    (subst (NotTaken c.args.back.now state.fields.generation) is other)
 
 pub returns-in_default : goal.returns-in_default
 returns-in_default c state says other cuts =

@@ -28,15 +28,15 @@ returns-in-Older-clause-back g c =
     (may_older (length c.args.made.now) (length c.args.text.now) c.in-Older.older c.args.how c.in-Older.is c.requires.may)
     c.index-made-older.is c.as_slice.ensures.value in
     ok_gives c.taken-in-Older.result (IsTakenOver back c.generation-generation.result) _ c.taken-in-Older.ensures
-    (λ taken over. subst (λ how. IfSome (comes_back how c.args.text.now made) (λ t. IsTakenOver t core.heads.generation taken)) (sym c.in-Older.is)
-    (subst (λ t. IsTakenOver t core.heads.generation taken) (sym is) (subst (λ n. IsTakenOver back n taken) c.generation-generation.ensures over)))
+    (λ taken over. subst (λ how. IfSome (comes_back how c.args.text.now made) (λ t. IsTakenOver t core.fields.generation taken)) (sym c.in-Older.is)
+    (subst (λ t. IsTakenOver t core.fields.generation taken) (sym is) (subst (λ n. IsTakenOver back n taken) c.generation-generation.ensures over)))
 
 pub returns-in-Older-clause-taken : goal.returns-in-Older-clause-taken
 returns-in-Older-clause-taken g c =
     let core = c.args.core.now in
     let back = c.as_slice.result.now in
-    let foreign = made_foreign (λ (text : Vec ℕ g.row.A.Denot). text.items) c.args.made.now c.in-Older.older core.heads.generation c.index-made-older.result back c.requires.made
+    let foreign = made_foreign (λ (text : Vec ℕ g.row.A.Denot). text.items) c.args.made.now c.in-Older.older core.fields.generation c.index-made-older.result back c.requires.made
     (may_older (length c.args.made.now) (length c.args.text.now) c.in-Older.older c.args.how c.in-Older.is c.requires.may)
     c.index-made-older.is c.as_slice.ensures.value c.requires.next in
     ok_gives c.taken-in-Older.result (IsTakenOver back c.generation-generation.result) (λ taken. taken ≡ taken_of c.args.how core) c.taken-in-Older.ensures
-    (λ taken over. none_taken back core.heads.generation taken foreign (subst (λ n. IsTakenOver back n taken) c.generation-generation.ensures over) ∙ sym (ap (λ how. taken_of how core) c.in-Older.is))
+    (λ taken over. none_taken back core.fields.generation taken foreign (subst (λ n. IsTakenOver back n taken) c.generation-generation.ensures over) ∙ sym (ap (λ how. taken_of how core) c.in-Older.is))

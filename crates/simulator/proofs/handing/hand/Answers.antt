@@ -22,9 +22,9 @@ returns-clause-fits g c goal past sound fits =
 pub returns-clause-made : goal.returns-clause-made
 returns-clause-made g c =
     let same = same_core c.args.how c.make_text.new.core c.go_on_as.new.core c.in_ok-taken.taken c.in_ok-taken.ensures.taken c.go_on_as.ensures in
-    let next = ap (λ (core : CoreState). core.heads.generation) c.in_ok-text.ensures.state in
-    more_texts (λ (text : Vec ℕ g.row.A.Denot). text.items) c.args.made.now.items c.push.new.self.items c.in_ok-text.text c.args.core.now.heads.generation c.go_on_as.new.core.heads.generation
-    c.in_ok-push.ensures.items c.requires.made (state_of c.make_text.new.core, c.in_ok-text.ensures.says, next) (ap (λ (core : CoreState). core.heads.generation) same ∙ next)
+    let next = ap (λ (core : CoreState). core.fields.generation) c.in_ok-text.ensures.state in
+    more_texts (λ (text : Vec ℕ g.row.A.Denot). text.items) c.args.made.now.items c.push.new.self.items c.in_ok-text.text c.args.core.now.fields.generation c.go_on_as.new.core.fields.generation
+    c.in_ok-push.ensures.items c.requires.made (state_of c.make_text.new.core, c.in_ok-text.ensures.says, next) (ap (λ (core : CoreState). core.fields.generation) same ∙ next)
 
 pub returns-clause-kept : goal.returns-clause-kept
 returns-clause-kept g c =

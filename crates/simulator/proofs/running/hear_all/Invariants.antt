@@ -4,7 +4,7 @@ use Rattle.simulator.proofs.running.hear_all.Given as goal
 -- what stands before the rest was heard, and init rests
 abbrev pub invariant-loop-rest : goal.invariant-loop-rest
 invariant-loop-rest g l = record {
-  texts : HasTexts (map (λ (text : Vec ℕ g.row.A.Denot). text.items) l.made.items) l.core.heads.generation;
+  texts : HasTexts (map (λ (text : Vec ℕ g.row.A.Denot). text.items) l.made.items) l.core.fields.generation;
   bounded : l.number + length l.rest ≤ length l.text + 1;
   some : SomeRest l.reads l.core l.side;
   so_far : FromScript l.text l.rereads l.fn.core l.fn.side (g.W.Write.contents l.fn.out) (λ s before.

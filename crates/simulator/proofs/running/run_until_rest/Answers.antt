@@ -60,7 +60,7 @@ steps-preserved g c =
     let moved = moment_step c.steps.core c.next-step.new.self c.steps.side c.take-taken.new.self c.next-step.result c.in-Some.happening c.next-step.ensures.due c.next-step.ensures.fits c.in-Some.ensures.some.1 c.in_ok-taken.ensures.ok
     (lasts_step c.steps.core c.next-step.new.self c.next-step.result c.next-step.ensures.step c.next-step.ensures.state) in
     record {
-      generation = ap (λ (core : CoreState). core.heads.generation) c.next-step.ensures.state ∙ step_same c.next-step.result c.steps.core ∙ c.steps.invariant.generation;
+      generation = ap (λ (core : CoreState). core.fields.generation) c.next-step.ensures.state ∙ step_same c.next-step.result c.steps.core ∙ c.steps.invariant.generation;
       some = let (goal, past, moment) = c.steps.invariant.some in (goal, c.in-Some.happening ∷ past, moved goal past moment);
       all = λ goal past before. went_step c.steps.core c.next-step.new.self c.steps.side c.take-taken.new.self c.next-step.result c.in-Some.happening c.next-step.ensures.due c.next-step.ensures.fits c.in-Some.ensures.some.1 c.in_ok-taken.ensures.ok
           (lasts_step c.steps.core c.next-step.new.self c.next-step.result c.next-step.ensures.step c.next-step.ensures.state)

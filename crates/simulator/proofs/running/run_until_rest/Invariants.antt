@@ -7,7 +7,7 @@ use Rattle.simulator.proofs.running.run_until_rest.Given as goal
 abbrev pub invariant-steps : goal.invariant-steps
 invariant-steps g l = record {
   some : SomeMoment l.core l.side;
-  generation : l.core.heads.generation ≡ l.fn.core.heads.generation;
+  generation : l.core.fields.generation ≡ l.fn.core.fields.generation;
   all : FromMoment l.fn.core l.fn.side (λ goal past. WentOn goal past l.core l.side (g.W.Write.contents l.fn.out) (g.W.Write.contents l.out));
 }
 

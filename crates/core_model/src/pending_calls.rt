@@ -1,0 +1,94 @@
+//! What was asked of init and hasn't been acted on: a level, a power command, letters, a reading, a re-execution.
+
+ghost use Rattle.std.specs.Prelude.{◌≡◌, true, false};
+ghost use Rattle.core_model.specs.PendingCalls.{keeps_kind, keeps_call, with_kind, with_call, has_news, first_news, no_news};
+
+use init_words::{Letter, PowerKind};
+use trace_events::Step;
+
+/// What init heard of the power and which letters it was asked to call, and did not carry out yet (telinit(8)).
+#[derive(Clone, Copy, PartialEq, Eq)]
+pub struct PendingCalls {
+    /// The power failed.
+    pub fail: bool,
+    /// The power failed, and the battery is almost empty.
+    pub fail_now: bool,
+    /// The power is back.
+    pub ok: bool,
+    /// The letter A is to be called.
+    pub a: bool,
+    /// The letter B is to be called.
+    pub b: bool,
+    /// The letter C is to be called.
+    pub c: bool,
+}
+
+impl PendingCalls {
+    /// Nothing was heard.
+    pub fn new() -> PendingCalls
+        ensures { result ≡ no_news }
+    {
+        PendingCalls {
+            fail: false,
+            fail_now: false,
+            ok: false,
+            a: false,
+            b: false,
+            c: false,
+        }
+    }
+
+    /// Something is kept.
+    pub fn is_some(&self) -> bool
+        ensures { result ≡ has_news self.now }
+    {
+        self.fail || self.fail_now || self.ok || self.a || self.b || self.c
+    }
+
+    /// The step that carries out what comes first: a failure, a low battery, power that is back, then the letters.
+    pub fn first_step(&self) -> Option<Step>
+        ensures { result ≡ first_news self.now }
+    {
+        if self.fail {
+            return Some(Step::Power(PowerKind::Fail));
+        }
+        if self.fail_now {
+            return Some(Step::Power(PowerKind::FailNow));
+        }
+        if self.ok {
+            return Some(Step::Power(PowerKind::Ok));
+        }
+        if self.a {
+            return Some(Step::Call(Letter::A));
+        }
+        if self.b {
+            return Some(Step::Call(Letter::B));
+        }
+        if self.c {
+            return Some(Step::Call(Letter::C));
+        }
+        None
+    }
+
+    /// News of that kind is kept from here on, or no more.
+    pub fn set_power(&mut self, kind: PowerKind, kept: bool)
+        ensures { self.new ≡ with_kind kind kept self.old }
+    {
+        match kind {
+            PowerKind::Fail => self.fail = kept,
+            PowerKind::FailNow => self.fail_now = kept,
+            PowerKind::Ok => self.ok = kept,
+        }
+    }
+
+    /// The letter is to be called from here on, or no more.
+    pub fn set_letter(&mut self, letter: Letter, kept: bool)
+        ensures { self.new ≡ with_call letter kept self.old }
+    {
+        match letter {
+            Letter::A => self.a = kept,
+            Letter::B => self.b = kept,
+            Letter::C => self.c = kept,
+        }
+    }
+}

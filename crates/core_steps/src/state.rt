@@ -1,0 +1,509 @@
+//! What a core keeps, and what each call makes of that.
+
+ghost use Rattle.std.specs.Prelude.{◌≡◌, IfOk, OnOk, OnErr};
+
+use crate::calling::{call_named, judge_in};
+use crate::deciding::{is_past, level_step, next_stage};
+use crate::walk_places::Places;
+use crate::walking::{
+    all_done, all_served, any_busy, look_among, moved, seen_to, start_among, stop_among,
+};
+use core_model::CoreFields;
+use core_records::Records;
+use init_words::{Answer, GRACE, Id, Level, Memory, OrderKind, Refusal, Stage};
+use initctl_frame::HeardRequest;
+use inittab_text::Table;
+use respawn_limit::CLOCK_LIMIT;
+use std::alloc::Allocator;
+use std::marker::Model;
+use trace_events::{Goal, Step};
+
+/// What a core keeps, and what each of its calls makes of that. Each value may stand here; that the rules of init are
+/// kept is said of a `Core` alone.
+#[derive(Drop)]
+pub(crate) struct BareCore<A: Allocator> {
+    table: Table<A>,
+    slots: Records<A>,
+    fields: CoreFields,
+    // `next` walks from here on. No record before this one has a child that is to be looked at.
+    looks_from: usize,
+    starts: Places,
+}
+
+impl<A: Allocator> Model for BareCore<A> {
+    ghost use Rattle.std.specs.Prelude.{◌≡◌, ◌≤◌, true};
+    ghost use Rattle.respawn_limit.specs.declared.TheConstants.{CLOCK_LIMIT};
+    ghost use Rattle.core_records.specs.Times.{are_timely};
+    ghost use Rattle.core_records.specs.Order.{IsInOrder};
+    ghost use Rattle.core_model.specs.State.{CoreState};
+    ghost use Rattle.core_steps.specs.Places.{are_seen, ArePassed};
+
+    ghost Value = { CoreState };
+
+    ghost view = { λ c. record { table = c.table; slots = c.slots; fields = c.fields } };
+
+    ghost invariant = { λ c. (c.fields.time ≤ CLOCK_LIMIT) × (are_timely c.fields.time c.slots ≡ true)
+        × IsInOrder c.table c.slots × (are_seen c.looks_from c.slots ≡ true)
+        × ArePassed c.fields.stage c.starts c.table c.slots };
+}
+
+impl<A: Allocator + Copy> BareCore<A> {
+    ghost use Rattle.std.specs.Prelude.{[], ◌∷◌, IfErr, Err, true, false, if◌then◌else◌};
+    ghost use Rattle.init_words.specs.declared.refusals.Refusal.TheVariants as refusal;
+    ghost use Rattle.trace_events.specs.declared.happenings.Happening.TheVariants.{NewTable};
+    ghost use Rattle.inittab_text.specs.Tables.{is_distinct};
+    ghost use Rattle.core_records.specs.Lists.{is_quiet};
+    ghost use Rattle.core_model.specs.State.{opening_goal, opening_state};
+    ghost use Rattle.core_model.specs.Steps.{after_adopt};
+    ghost use Rattle.core_model.specs.Fit.{Fits, OnEachTrace};
+
+    pub(crate) fn new_by_state(
+        alloc: A,
+        table: Table<A>,
+        level: Option<Level>,
+    ) -> Result<BareCore<A>, Memory>
+        ensures state { IfOk result (λ core.
+            core ≡ opening_state table (opening_goal level table)) }
+        ensures distinct { is_distinct table ≡ true }
+    {
+        let level = level.or(table.default_level()).unwrap_or(Level::S);
+        let slots = Records::new(alloc, &table)?;
+        Ok(BareCore {
+            table,
+            slots,
+            fields: CoreFields::opening(Goal {
+                level,
+                grace: GRACE,
+            }),
+            looks_from: 0,
+            starts: Places::all(),
+        })
+    }
+
+    pub(crate) fn adopt_by_state(&mut self, table: Table<A>) -> Result<(), Refusal>
+        ensures distinct { OnOk result (is_distinct table ≡ true) }
+        ensures adopted { OnOk result (self.new ≡ after_adopt table self.old) }
+        ensures busy { is_quiet self.old.slots ≡ false → result ≡ Err refusal.NotQuiet }
+        ensures refused { IfErr result (λ why.
+            why ≡ (if is_quiet self.old.slots then refusal.Memory else refusal.NotQuiet)) }
+        ensures unchanged { OnErr result (self.new ≡ self.old) }
+    {
+        if !self.slots.quiet() {
+            return Err(Refusal::NotQuiet);
+        }
+        self.slots.adopt(&table)?;
+        judge_in(&mut self.slots, &table, self.fields.stage);
+        self.table = table;
+        self.fields.announced = false;
+        self.fields.reread = false;
+        self.looks_from = 0;
+        self.starts = Places::all();
+        Ok(())
+    }
+}
+
+impl<A: Allocator> BareCore<A> {
+    ghost use Rattle.std.specs.Prelude.{◌≤◌, ◌^◌, ◌+◌, IsTrue, IsOk, List, ◌∷◌, ◌<◌, Some, true, false, ℕ};
+    ghost use Rattle.init_words.specs.declared.stages.Stage.{Stage};
+    ghost use Rattle.trace_events.specs.declared.happenings.Happening.TheVariants as happening;
+    ghost use Rattle.trace_events.specs.Answered.{answered_of};
+    ghost use Rattle.trace_events.specs.Due.{due, first};
+    ghost use Rattle.trace_events.specs.Run.{is_rest};
+    ghost use Rattle.core_records.specs.Order.{IsInOrder};
+    ghost use Rattle.core_records.specs.Lists.{are_distinct, can_ask, order_in, refusal_of};
+    ghost use Rattle.core_model.specs.Decide.{decide, first_step, or_idle, wish_step, stands, stop_among, calm_step, work_step, is_drained};
+    ghost use Rattle.core_model.specs.Decide as core;
+    ghost use Rattle.core_model.specs.Steps as steps;
+    ghost use Rattle.trace_events.specs.declared.happenings.Handed.{Handed};
+    ghost use Rattle.core_model.specs.Steps.{after_step, after_told, after_round, after_clock, after_got, after_not_read, after_handed, after_handed_on};
+    ghost use Rattle.core_model.specs.Fit.{Fits, OnEachTrace, with_step};
+    ghost use Rattle.core_model.specs.Work.{work_left};
+    ghost use Rattle.core_records.specs.Times.{are_timely};
+    ghost use Rattle.respawn_limit.specs.declared.TheConstants.{CLOCK_LIMIT};
+
+    /// The core that keeps these, which stand in record order, and no time later than now.
+    pub(crate) fn of(fields: CoreFields, table: Table<A>, slots: Records<A>) -> BareCore<A>
+        requires clock { fields.time ≤ CLOCK_LIMIT }
+        requires timely { are_timely fields.time slots ≡ true }
+        requires order { IsInOrder table slots }
+        ensures { result ≡ record { table = table; slots = slots; fields = fields } }
+    {
+        BareCore {
+            table,
+            slots,
+            fields,
+            looks_from: 0,
+            starts: Places::all(),
+        }
+    }
+
+    /// What it keeps, but for its table and its records.
+    pub(crate) fn fields(&self) -> CoreFields
+        ensures { result ≡ self.now.fields }
+    {
+        self.fields
+    }
+
+    /// The stage in force.
+    pub(crate) fn stage(&self) -> Option<Stage>
+        ensures { result ≡ self.now.fields.stage }
+    {
+        self.fields.stage
+    }
+
+    /// The time, in seconds: the greatest reading so far.
+    pub(crate) fn time(&self) -> u64
+        ensures { result ≡ self.now.fields.time }
+    {
+        self.fields.time
+    }
+
+    /// The table in force.
+    pub(crate) fn table(&self) -> &Table<A>
+        ensures { result.now ≡ self.now.table }
+    {
+        &self.table
+    }
+
+    /// The records, in record order.
+    pub(crate) fn slots(&self) -> &Records<A>
+        ensures { result.now ≡ self.now.slots }
+    {
+        &self.slots
+    }
+
+    /// The goal: the level to go to, and the seconds between the two signals.
+    pub(crate) fn goal(&self) -> Goal
+        ensures { result ≡ self.now.fields.goal }
+    {
+        self.fields.goal
+    }
+
+    /// How often init was re-executed since its opening.
+    pub(crate) fn generation(&self) -> u64
+        ensures { result ≡ self.now.fields.generation }
+    {
+        self.fields.generation
+    }
+
+    /// Nothing is left to do and nothing runs: a run level is announced as settled, no record has a child or an order,
+    /// no wish stands, and no entry is held.
+    pub(crate) fn drained(&self) -> bool
+        ensures { result ≡ is_drained self.now }
+    {
+        match self.fields.stage {
+            Some(Stage::Run(level)) => {
+                self.fields.announced
+                    && !self.stands(Stage::Run(level))
+                    && !any_busy(self.fields.time, self.slots.as_slice())
+            }
+            _ => false,
+        }
+    }
+
+    fn news_step(&self, stage: Stage) -> Option<Step>
+        ensures { result ≡ core.news_step stage self.now }
+    {
+        match stage {
+            Stage::Run(_) => self.fields.pending.first_step(),
+            Stage::Sysinit | Stage::Boot => None,
+        }
+    }
+
+    /// What is wished, where no start and no signal is open.
+    fn wish_step(&self, stage: Stage) -> Option<Step>
+        ensures { result ≡ wish_step stage self.now }
+    {
+        let is_quiet = self.slots.quiet();
+        if !is_quiet {
+            return None;
+        }
+        if self.fields.reexec {
+            return Some(Step::Reexec);
+        }
+        if self.fields.reread {
+            return Some(Step::Reread);
+        }
+        if let Some(step) = level_step(self.fields.booted, self.fields.level_wish) {
+            return Some(step);
+        }
+        self.news_step(stage)
+    }
+
+    /// A wish stands.
+    fn stands(&self, stage: Stage) -> bool
+        ensures { result ≡ stands stage self.now }
+    {
+        self.fields.reexec
+            || self.fields.reread
+            || self.fields.level_wish.is_some()
+            || self.has_news(stage)
+    }
+
+    /// There is news, and it counts in the stage.
+    fn has_news(&self, stage: Stage) -> bool
+        ensures { result ≡ core.counts_news stage self.now }
+    {
+        match stage {
+            Stage::Run(_) => self.fields.pending.is_some(),
+            Stage::Sysinit | Stage::Boot => false,
+        }
+    }
+
+    /// After Sysinit and Boot, the stage that comes next.
+    fn stage_step(&self, stage: Stage) -> Option<Step>
+        ensures { result ≡ core.stage_step stage self.now.fields.goal self.now.table self.now.slots }
+    {
+        let next = next_stage(stage, self.fields.goal.level)?;
+        if self.slots.quiet() && all_done(stage, &self.table, self.slots.as_slice()) {
+            Some(Step::Enter(next, self.fields.goal.grace))
+        } else {
+            None
+        }
+    }
+
+    /// In a run level, that it is settled, once.
+    fn settle_step(&self, stage: Stage) -> Option<Step>
+        ensures { result ≡ core.settle_step stage self.now.fields.announced
+            self.now.fields.time self.now.table self.now.slots }
+    {
+        let Stage::Run(level) = stage else {
+            return None;
+        };
+        let slots = &self.slots;
+        let idle = !self.fields.announced && slots.is_idle();
+        if idle && all_served(level, self.fields.time, &self.table, slots.as_slice()) {
+            Some(Step::Settle(level))
+        } else {
+            None
+        }
+    }
+
+    /// Where no child is excluded: a start or a hold, the next stage, or that the level is settled.
+    fn calm_step(&self, stage: Stage) -> Option<Step>
+        requires { self.now.fields.stage ≡ Some stage }
+        ensures { result ≡ calm_step stage self.now }
+    {
+        let slots = self.slots.as_slice();
+        if let Some(step) = start_among(stage, self.fields.time, &self.table, slots, self.starts) {
+            return Some(step);
+        }
+        if let Some(step) = self.stage_step(stage) {
+            return Some(step);
+        }
+        self.settle_step(stage)
+    }
+
+    /// Where no wish stands: a signal, or one of those.
+    fn work_step(&self, stage: Stage) -> Option<Step>
+        requires { self.now.fields.stage ≡ Some stage }
+        ensures { result ≡ work_step stage self.now }
+    {
+        if self.stands(stage) {
+            return None;
+        }
+        if !self.slots.has_excluded() {
+            return self.calm_step(stage);
+        }
+        self.stop_step()
+    }
+
+    /// The first signal that is due. The records are walked only where a stop is due, or the grace of the first
+    /// SIGTERM is over.
+    fn stop_step(&self) -> Option<Step>
+        ensures { result ≡ stop_among self.now.fields.grace self.now.fields.time self.now.slots }
+    {
+        let slots = &self.slots;
+        if slots.has_due() || is_past(slots.first_termed(), self.fields.grace, self.fields.time) {
+            return stop_among(self.fields.grace, self.fields.time, slots.as_slice());
+        }
+        None
+    }
+
+    /// Before the first stage: Sysinit, where no start and no signal is open.
+    fn first_step(&self) -> Step
+        ensures { result ≡ or_idle (first_step self.now) }
+    {
+        if !self.slots.quiet() {
+            return Step::Idle;
+        }
+        Step::Enter(Stage::Sysinit, self.fields.goal.grace)
+    }
+
+    fn due_step(&self) -> Step
+        ensures step { result ≡ decide self.now }
+        ensures distinct { are_distinct self.now.slots ≡ true }
+        ensures order { IsInOrder self.now.table self.now.slots }
+    {
+        let slots = self.slots.as_slice();
+        let Some(stage) = self.fields.stage else {
+            return self.first_step();
+        };
+        if let Some(step) = self.wish_step(stage) {
+            return step;
+        }
+        if let Some(step) = self.work_step(stage) {
+            return step;
+        }
+        look_among(slots, self.looks_from).unwrap_or(Step::Idle)
+    }
+
+    /// The places go on after all records that are seen, and all entries that are passed.
+    fn pass(&mut self)
+        ensures { self.new ≡ self.old }
+    {
+        let slots = self.slots.as_slice();
+        self.looks_from = seen_to(slots, self.looks_from);
+        if let Some(stage) = self.fields.stage {
+            self.starts = moved(self.starts, stage, &self.table, slots);
+        }
+    }
+
+    fn enter(&mut self, stage: Stage, grace: u16)
+        ensures { self.new ≡ after_step (Step.Enter stage grace) self.old }
+    {
+        self.slots.entered();
+        self.slots.judge(&self.table, stage);
+        self.fields.stage = Some(stage);
+        self.fields.grace = grace;
+        self.fields.goal = self.fields.level_wish.unwrap_or(self.fields.goal);
+        self.fields.level_wish = None;
+        self.fields.booted = stage == Stage::Boot || self.fields.booted;
+        self.fields.announced = false;
+        self.looks_from = 0;
+        self.starts = Places::all();
+    }
+
+    /// An order is given about an id.
+    fn order(&mut self, id: Id, ask: OrderKind)
+        requires allowed { can_ask id ask self.old.fields.time self.old.slots ≡ true }
+        requires distinct { are_distinct self.old.slots ≡ true }
+        ensures { self.new ≡ after_step (Step.Order id ask) self.old }
+    {
+        let Some(place) = self.slots.place_of(&id) else {
+            unreachable!()
+        };
+        self.slots.ask(id, ask, self.fields.time);
+        self.starts = self.starts.with(place);
+    }
+
+    /// The step is taken, as it was decided on.
+    fn apply(&mut self, step: &Step)
+        requires decided { decide self.old ≡ step.now }
+        requires distinct { are_distinct self.old.slots ≡ true }
+        requires order { IsInOrder self.old.table self.old.slots }
+        ensures { self.new ≡ after_step step.now self.old }
+    {
+        match *step {
+            Step::Enter(stage, grace) => self.enter(stage, grace),
+            Step::Power(kind) => {
+                call_named(&mut self.slots, &self.table, step, self.fields.stage);
+                self.fields.pending.set_power(kind, false);
+                self.starts = Places::all();
+            }
+            Step::Call(letter) => {
+                call_named(&mut self.slots, &self.table, step, self.fields.stage);
+                self.fields.pending.set_letter(letter, false);
+                self.starts = Places::all();
+            }
+            Step::Order(id, ask) => self.order(id, ask),
+            Step::Hold(id) => self.slots.hold(id, self.fields.time),
+            Step::Settle(_) => self.fields.announced = true,
+            Step::Reread | Step::Reexec | Step::Idle => {}
+        }
+    }
+
+    pub(crate) fn next_by_state(&mut self) -> Step
+        ensures step { result ≡ decide self.old }
+        ensures state { self.new ≡ after_step result self.old }
+        ensures falls { is_rest result ≡ false → work_left self.new < work_left self.old }
+    {
+        self.pass();
+        let step = self.due_step();
+        self.apply(&step);
+        step
+    }
+
+    pub(crate) fn answer_by_state(&mut self, id: Id, answer: Answer) -> Result<(), Refusal>
+        ensures told { OnOk result (self.new ≡ after_told id answer self.old) }
+        ensures refused { result ≡ refusal_of (order_in id self.old.slots) answer }
+        ensures unchanged { OnErr result (self.new ≡ self.old) }
+    {
+        let Some(place) = self.slots.place_of(&id) else {
+            return Err(Refusal::NotAsked);
+        };
+        // `len` says that no id has two records, as `told` doesn't.
+        let _ = self.slots.len();
+        self.slots.told(id, answer, self.fields.time)?;
+        // An end may take a record out.
+        self.looks_from = self.looks_from.saturating_sub(1);
+        self.starts = self.starts.with(place);
+        Ok(())
+    }
+
+    pub(crate) fn receive_by_state(&mut self, request: HeardRequest)
+        ensures { self.new ≡ after_got request self.old }
+    {
+        match request {
+            HeardRequest::Level(level, grace) => self.hear_level(Goal { level, grace }),
+            HeardRequest::Call(letter) => self.fields.pending.set_letter(letter, true),
+            HeardRequest::Reload => self.fields.reread = true,
+            HeardRequest::Reexec => self.fields.reexec = true,
+            HeardRequest::Power(kind) => self.fields.pending.set_power(kind, true),
+            HeardRequest::Nothing(_) => {}
+        }
+    }
+
+    /// In the level that is asked for a wish for another is forgotten; in another level it is wished for; before the
+    /// run levels it is the goal.
+    fn hear_level(&mut self, wish: Goal)
+        ensures { self.new ≡ record self.old {
+          fields = steps.heard_in self.old.fields.stage wish self.old.fields;
+        } }
+    {
+        let Some(Stage::Run(now)) = self.fields.stage else {
+            self.fields.goal = wish;
+            self.fields.reread = true;
+            return;
+        };
+        if wish.level == now {
+            self.fields.level_wish = None;
+        } else {
+            self.fields.level_wish = Some(wish);
+            self.fields.reread = true;
+        }
+    }
+
+    pub(crate) fn not_read_by_state(&mut self)
+        ensures { self.new ≡ after_not_read self.old }
+    {
+        self.fields.reread = false;
+    }
+
+    pub(crate) fn not_handed_by_state(&mut self)
+        ensures { self.new ≡ after_handed self.old }
+    {
+        self.fields.reexec = false;
+    }
+
+    pub(crate) fn handed_on_by_state(&mut self)
+        requires { self.old.fields.generation + 1 < 2 ^ 64 }
+        ensures { self.new ≡ after_handed_on self.old }
+    {
+        self.fields.reexec = false;
+        self.fields.generation += 1;
+    }
+
+    pub(crate) fn begin_round_by_state(&mut self)
+        ensures { self.new ≡ after_round self.old }
+    {
+        self.slots.begin_round();
+        self.looks_from = 0;
+    }
+
+    pub(crate) fn clock_by_state(&mut self, reading: u64)
+        ensures { self.new ≡ after_clock reading self.old }
+    {
+        self.fields.time = reading.min(CLOCK_LIMIT).max(self.fields.time);
+    }
+}
