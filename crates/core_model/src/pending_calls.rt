@@ -1,4 +1,4 @@
-//! What was asked of init and hasn't been acted on: a level, a power command, letters, a reading, a re-execution.
+//! What init heard of the power, and which letters it is asked to call.
 
 ghost use Rattle.std.specs.Prelude.{◌≡◌, true, false};
 ghost use Rattle.core_model.specs.PendingCalls.{keeps_kind, keeps_call, with_kind, with_call, has_news, first_news, no_news};

@@ -223,10 +223,10 @@ fn put_flags<A: Allocator>(text: &mut Vec<u8, A>, fields: &CoreFields) -> Result
 
 fn put_news<A: Allocator>(text: &mut Vec<u8, A>, pending: PendingCalls) -> Result<(), AllocError>
     ensures { OnOk result (text.new.items ≡ text.old.items
-        ++ 32 ∷ bits (power_bits news) ++ 32 ∷ bits (letter_bits news)) }
+        ++ 32 ∷ bits (power_bits pending) ++ 32 ∷ bits (letter_bits pending)) }
 {
-    put_bits(text, &[news.fail, news.fail_now, news.ok])?;
-    put_bits(text, &[news.a, news.b, news.c])
+    put_bits(text, &[pending.fail, pending.fail_now, pending.ok])?;
+    put_bits(text, &[pending.a, pending.b, pending.c])
 }
 
 fn put_wishes<A: Allocator>(text: &mut Vec<u8, A>, fields: &CoreFields) -> Result<(), AllocError>

@@ -6,6 +6,7 @@ use crate::names::{Escaped, shown};
 use crate::starts::StartCounts;
 use indexmap::IndexMap;
 use init_words::{ChildNumber, Id, SignalKind};
+use program_io::Reason;
 use std::alloc::Allocator;
 use std::hash::{BuildHasherDefault, FoldHasher};
 use std::io::{Error, ErrorKind};
@@ -78,7 +79,7 @@ impl<A: Allocator + Copy> ChildMessages<A> {
         let program = self.program;
         let _ = match error.kind() {
             ErrorKind::NotFound => eprintln!(rt; "{program}: {id}: {executed}: not found"),
-            _ => eprintln!(rt; "{program}: {id}: {executed}: {error}"),
+            _ => eprintln!(rt; "{program}: {id}: {executed}: {}", Reason(error)),
         };
     }
 

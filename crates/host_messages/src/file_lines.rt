@@ -2,17 +2,21 @@
 
 use crate::names::{escape, shown};
 use init_words::Id;
+use program_io::Reason;
 use std::io::Error;
 
 /// Says why there is no bell.
 pub fn tell_no_bell(rt: &impl Eprint, path: &str, error: &Error) {
-    let _ = eprintln!(rt; "initd: cannot make {path}: {error}");
+    let _ = eprintln!(rt; "initd: cannot make {path}: {}", Reason(error));
 }
 
 /// Says why an id's child is started without its log.
 pub fn tell_no_log(rt: &impl Eprint, id: &Id, log: &str, error: &Error) {
     let id = shown(id.as_bytes());
-    let _ = eprintln!(rt; "initd: {id}: cannot open {log}: {error}: started without");
+    let _ = eprintln!(rt;
+        "initd: {id}: cannot open {log}: {}: started without",
+        Reason(error)
+    );
 }
 
 /// Says which file the log of an id is that is no name of a file.

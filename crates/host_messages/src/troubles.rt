@@ -1,5 +1,6 @@
 //! Faults that are said once until they are over, or others.
 
+use program_io::Reason;
 use std::hash::{FoldHasher, Hasher};
 use std::io;
 use std::io::{Error, ErrorKind};
@@ -59,7 +60,12 @@ impl Trouble {
     pub fn tell_begun(&mut self, rt: &impl Eprint, what: &str, error: &Error) {
         let fault = Fault::of(what, error);
         if self.told != Some(fault) {
-            let _ = eprintln!(rt; "{}: cannot {} {what}: {error}", self.program, self.doing);
+            let _ = eprintln!(rt;
+                "{}: cannot {} {what}: {}",
+                self.program,
+                self.doing,
+                Reason(error)
+            );
         }
         self.told = Some(fault);
     }

@@ -14,6 +14,7 @@ use host_messages::{ChildLine, ChildMessages, Escaped, escape};
 use indexmap::IndexMap;
 use init_words::{Answer, ChildNumber, Id, Memory, SignalKind, Stage, Status};
 use inittab_text::Table;
+use program_io::Reason;
 use std::alloc::{AllocError, Allocator};
 use std::hash::{BuildHasherDefault, FoldHasher};
 use std::io::ErrorKind;
@@ -86,7 +87,8 @@ impl<R: Processes, A: Allocator + Copy> Children<R, A> {
         if let Err(error) = check_sending(rt, self.alloc) {
             let program = self.program;
             let _ = eprintln!(rt;
-                "{program}: no child can be sent TERM: {error}: start it with a PATH that has sh and kill"
+                "{program}: no child can be sent TERM: {}: start it with a PATH that has sh and kill",
+                Reason(&error)
             );
         }
     }

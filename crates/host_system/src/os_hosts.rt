@@ -202,7 +202,7 @@ impl<
         }
         if options.verbose {
             self.children.set_verbose();
-            self.inittab.set_verbose(&self.rt);
+            self.inittab.tell_all(&self.rt);
         }
         if let Some(folder) = options.logs {
             self.children.log_to(folder)?;

@@ -2,7 +2,7 @@
 
 ghost use Rattle.std.specs.Prelude.{◌≡◌, false};
 
-use program_io::write_text;
+use program_io::{Reason, write_text};
 use std::alloc::{Allocator, Global};
 use std::fs::{File, OpenOptions, TryLockError, hard_link, metadata, remove_file, rename};
 use std::io;
@@ -269,7 +269,8 @@ impl<'a, R: Files<File = File> + Eprint> FileLog<'a, R> {
         let path = self.path;
         let _ = match &self.trace.fault {
             Some(error) => eprintln!(self.rt;
-                "initd: cannot write the trace {path}: {error}: init goes on without it"
+                "initd: cannot write the trace {path}: {}: init goes on without it",
+                Reason(error)
             ),
             None => eprintln!(self.rt;
                 "initd: cannot write the trace {path}: {fault}: init goes on without it"
@@ -287,7 +288,8 @@ impl<'a, R: Files<File = File> + Eprint> FileLog<'a, R> {
                 Ok(())
             }
             Err(error) if error.kind() != ErrorKind::AlreadyExists => eprintln!(self.rt;
-                "initd: trace {path}: {error}: it goes on in the file that was there before"
+                "initd: trace {path}: {}: it goes on in the file that was there before",
+                Reason(&error)
             ),
             Err(_) if self.is_waiting => eprintln!(self.rt;
                 "initd: the trace {path} is not written still: rename the file, and give telinit u, to go on in a new one"
@@ -315,7 +317,8 @@ impl<'a, R: Files<File = File> + Eprint> FileLog<'a, R> {
             Err(error) => {
                 self.put_away_at = self.trace.piece.length.saturating_add(self.step);
                 let _ = eprintln!(self.rt;
-                    "initd: cannot put the trace {path} away: {error}: it goes on in the same file"
+                    "initd: cannot put the trace {path} away: {}: it goes on in the same file",
+                    Reason(&error)
                 );
             }
         }
@@ -374,7 +377,8 @@ fn created<R: Files<File = File>>(rt: &R, path: &str) -> io::Result<File> {
 /// Says that bytes are kept since the file can't be written.
 fn tell_waiting(rt: &impl Eprint, path: &str, error: &io::Error) {
     let _ = eprintln!(rt;
-        "initd: cannot write the trace {path}: {error}: up to 1,048,576 bytes of it are kept until there is room"
+        "initd: cannot write the trace {path}: {}: up to 1,048,576 bytes of it are kept until there is room",
+        Reason(error)
     );
 }
 

@@ -9,7 +9,7 @@ ghost use Rattle.initd_command.specs.Turned.{ReportsText};
 use crate::lines::{line_at, line_told};
 use init_words::Id;
 use itoa::Buffer;
-use program_io::{DEVICE_FAULT, REFUSED, write_text};
+use program_io::{DEVICE_FAULT, REFUSED, Reason, write_text};
 use simulator::{Objection, SimFault};
 use std::alloc::{AllocError, Global};
 use std::io;
@@ -99,7 +99,7 @@ fn cannot_message(
     ensures { IfOk result (λ text.
         (why : List ℕ) × (string_bytes text ≡ cannot_message verb.now path.now why)) }
 {
-    let why = format!(in alloc; "{error}")?;
+    let why = format!(in alloc; "{}", Reason(error))?;
     cannot_message_with(alloc, verb, path, why.as_str())
 }
 

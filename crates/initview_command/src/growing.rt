@@ -192,7 +192,7 @@ fn no_reader_within_pause() -> bool {
 
 /// Waits until there is a byte. A trace that has had none more for 4,294,967,296 looks is an error, `TimedOut`, and that
 /// nothing reads standard output any more is one, `BrokenPipe`.
-fn wait_for_bytes<R: Files<File = File>>(
+fn wait_for_bytes<R: Files<File = File> + Eprint>(
     trace: &mut TraceReader<'_, R>,
     buf: &mut [u8],
 ) -> io::Result<usize>
@@ -210,7 +210,7 @@ fn wait_for_bytes<R: Files<File = File>>(
     Err(Error::from(ErrorKind::TimedOut))
 }
 
-impl<R: Files<File = File>> Read for GrowingFile<'_, R> {
+impl<R: Files<File = File> + Eprint> Read for GrowingFile<'_, R> {
     fn read(&mut self, buf: &mut [u8]) -> io::Result<usize> {
         match self {
             GrowingFile::Ends(file) => file.read(buf),

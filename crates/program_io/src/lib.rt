@@ -6,6 +6,7 @@ mod channel_files;
 mod files;
 mod holders;
 mod kept_texts;
+mod reasons;
 mod standard;
 mod statuses;
 mod takers;
@@ -19,6 +20,7 @@ pub use channel_files::{ChannelLock, OpenChannel, REQUEST, is_read, lock_channel
 pub use files::{READS_LIMIT, are_one_file, open_plain, read_all, read_file, refuse_special};
 pub use holders::lock_holder;
 pub use kept_texts::KeptTexts;
+pub use reasons::Reason;
 pub use standard::StandardFiles;
 pub use statuses::{DEVICE_FAULT, DONE, LIMIT_REACHED, REFUSED, UNLAWFUL};
 pub use takers::{PIECE_LIMIT, PIECES_LIMIT, PieceTaker, hand_over};

@@ -2,6 +2,7 @@
 
 use libc::net::{POLLOUT, poll};
 use libc::types::pollfd;
+use program_io::Reason;
 use std::alloc::Global;
 use std::fs::{File, OpenOptions};
 use std::io::{Error, ErrorKind, Write};
@@ -19,7 +20,8 @@ pub(crate) fn ring<R: Files<File = File> + Eprint>(rt: &R, alloc: Global, channe
     };
     if let Err(error) = rung {
         let _ = eprintln!(rt;
-            "telinit: cannot ring {channel}.bell: {error}; init hears the request in its next turn"
+            "telinit: cannot ring {channel}.bell: {}; init hears the request in its next turn",
+            Reason(&error)
         );
     }
 }

@@ -7,7 +7,7 @@ ghost use Rattle.telinit_command.specs.Notes.{IsTold, Reading, made_note, readin
 
 use crate::channels::Channels;
 use initctl_frame::BLOCK;
-use program_io::{REQUEST, write_text};
+use program_io::{REQUEST, Reason, write_text};
 use std::alloc::{AllocError, Global};
 use std::io;
 use std::io::Write;
@@ -106,7 +106,10 @@ fn reading_note(alloc: Global, path: &str, is_read: io::Result<bool>) -> Result<
         Ok(false) => format!(in alloc;
             "telinit: no init reads {path}: the request stands there until one does\n"
         ),
-        Err(error) => unknown_note(alloc, path, format!(in alloc; "{error}")?.as_str()),
+        Err(error) => {
+            let reason = format!(in alloc; "{}", Reason(&error))?;
+            unknown_note(alloc, path, reason.as_str())
+        }
     }
 }
 

@@ -66,7 +66,7 @@ pub(crate) fn is_text(
     behind: &str,
 ) -> Option<bool> {
     let front = text_of(own, 2, generation, "").ok()?;
-    let mut pending = str::from_utf8(text)
+    let mut news = str::from_utf8(text)
         .ok()?
         .strip_prefix(front.as_str())?
         .split('\n');

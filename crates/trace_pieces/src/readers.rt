@@ -26,6 +26,8 @@ pub fn are_same(one: &Metadata, other: &Metadata) -> bool {
 pub struct TraceReader<'a, R> {
     rt: &'a R,
     alloc: Global,
+    /// The name of the program that tells what is left out.
+    program: &'a str,
     path: String,
     file: File,
     /// How many bytes of it were read.
@@ -36,12 +38,14 @@ pub struct TraceReader<'a, R> {
     pieces: Option<(u64, u64)>,
 }
 
-impl<'a, R: Files<File = File>> TraceReader<'a, R> {
+impl<'a, R: Files<File = File> + Eprint> TraceReader<'a, R> {
     /// The file at a path, and none before it.
-    fn alone(rt: &'a R, alloc: Global, path: &str, file: File) -> io::Result<TraceReader<'a, R>> {
+    fn alone(files: &PiecedFiles<'a, R>, path: &str, file: File) -> io::Result<TraceReader<'a, R>> {
+        let alloc = files.alloc;
         Ok(TraceReader {
-            rt,
+            rt: files.rt,
             alloc,
+            program: files.program,
             path: String::from_str(alloc, path)?,
             file,
             place: 0,
@@ -53,8 +57,8 @@ impl<'a, R: Files<File = File>> TraceReader<'a, R> {
     /// The trace at a path. Where its file begins within a run, the pieces from the one on in which that begins are read
     /// before it; one that is missing there is an error, `NotFound`, and one that is newer than what is behind it
     /// `InvalidData`.
-    fn open(rt: &'a R, alloc: Global, path: &str) -> io::Result<TraceReader<'a, R>> {
-        let mut reader = TraceReader::alone(rt, alloc, path, open_plain(rt, path)?)?;
+    fn open(files: &PiecedFiles<'a, R>, path: &str) -> io::Result<TraceReader<'a, R>> {
+        let mut reader = TraceReader::alone(files, path, open_plain(files.rt, path)?)?;
         if !begins_run(&mut reader.file)? {
             reader.go_back()?;
         }
@@ -142,11 +146,16 @@ impl<'a, R: Files<File = File>> TraceReader<'a, R> {
     }
 
     /// The piece behind the one of this number, which is the file; where that is an older one, another run's, what stands
-    /// at the path.
+    /// at the path, and that is told.
     fn piece_behind(&self, number: u64, own: &Metadata) -> io::Result<Option<File>> {
-        let file = self.piece(number.saturating_add(1))?;
+        let behind = number.saturating_add(1);
+        let file = self.piece(behind)?;
         if written(&file.metadata()?) < written(own) {
-            return Ok(Some(open_plain(self.rt, self.path.as_str())?));
+            let TraceReader { program, path, .. } = self;
+            let _ = eprintln!(self.rt;
+                "{program}: {path}.{behind} is older than {path}.{number}: after that {path} is read, and no piece between"
+            );
+            return Ok(Some(open_plain(self.rt, path.as_str())?));
         }
         Ok(Some(file))
     }
@@ -172,7 +181,7 @@ fn begins_run(file: &mut File) -> io::Result<bool> {
     Ok(count > 0 && first == *b"u")
 }
 
-impl<R: Files<File = File>> Read for TraceReader<'_, R> {
+impl<R: Files<File = File> + Eprint> Read for TraceReader<'_, R> {
     /// No byte where nothing more stands in the trace. A trace of more than 4,294,967,296 files is an error,
     /// `FileTooLarge`.
     fn read(&mut self, buf: &mut [u8]) -> io::Result<usize> {
@@ -219,7 +228,7 @@ impl<'a, R: Files<File = File> + Eprint> PiecedFiles<'a, R> {
 
     /// The trace at a path.
     pub fn open(&self, path: &str) -> io::Result<TraceReader<'a, R>> {
-        match TraceReader::open(self.rt, self.alloc, path) {
+        match TraceReader::open(self, path) {
             Ok(trace) => {
                 tell_pieces(self.rt, self.program, path, trace.pieces);
                 Ok(trace)
@@ -228,7 +237,7 @@ impl<'a, R: Files<File = File> + Eprint> PiecedFiles<'a, R> {
                 let file = open_plain(self.rt, path)?;
                 let program = self.program;
                 let _ = eprintln!(self.rt; "{program}: {error}");
-                TraceReader::alone(self.rt, self.alloc, path, file)
+                TraceReader::alone(self, path, file)
             }
             Err(error) => Err(error),
         }
