@@ -88,7 +88,7 @@ initd: k.ctl: request 1 has no magic number: passed over
 initd: k.ctl: request 2 has no magic number: passed over
 initd: k.ctl has 20 bytes that are no whole request: every later request is out of step; truncate -s /384 k.ctl, or remove it
 true
-initd: cannot write standard output: No space left on device (os error 28)
+initd: cannot write standard output: No space left on device
 true
 ";
 
