@@ -81,8 +81,8 @@ module _ (test : Step → Bool) (c : CoreState) (each : EachPasses test c) where
   levels booted None short = tt
   levels booted (Some wish) short = short wish refl _
 
-  news : (kept : PendingCalls) → Pass (first_news kept)
-  news kept = by kept.fail kept.fail_now kept.ok kept.a kept.b kept.c
+  pending : (kept : PendingCalls) → Pass (first_news kept)
+  pending kept = by kept.fail kept.fail_now kept.ok kept.a kept.b kept.c
     where
       by : (fail fail_now ok a b c : Bool) → Pass (first_news (record { fail = fail; fail_now = fail_now; ok = ok; a = a; b = b; c = c }))
       by true fail_now ok a b c = each.powers power.Fail
@@ -97,7 +97,7 @@ module _ (test : Step → Bool) (c : CoreState) (each : EachPasses test c) where
   wishes now = by_cond c.fields.reexec (Some Reexec) (cond c.fields.reread (Some Reread) (or_else (level_step c.fields.booted c.fields.level_wish) (news_step now c))) each.reexec
       (by_cond c.fields.reread (Some Reread) (or_else (level_step c.fields.booted c.fields.level_wish) (news_step now c)) (λ _. each.reread)
       (by_else (level_step c.fields.booted c.fields.level_wish) (news_step now c) (levels c.fields.booted c.fields.level_wish each.wish)
-      (by_cond (in_run (Some now)) (first_news c.fields.pending) None (λ _. news c.fields.pending) tt)))
+      (by_cond (in_run (Some now)) (first_news c.fields.pending) None (λ _. pending c.fields.pending) tt)))
 
   calm : (now : Stage) → Pass (calm_step now c)
   calm now = by_else (start_among now c.fields.time c.table c.slots) (or_else (stage_step now c.fields.goal c.table c.slots) (settle_step now c.fields.announced c.fields.time c.table c.slots)) (starts now c.fields.time (zip c.table c.slots))

@@ -22,8 +22,8 @@ steps_if_nil true = refl
 steps_if_nil false = refl
 
 -- 2 to 5: what is wished
-wish_by : (q x r run : Bool) (level news : Option Step) → or_else (cond (q && x) (Some Reexec) None) (or_else (cond (q && r) (Some Reread) None) (or_else (cond q level None) (cond (q && run) news None)))
-    ≡ cond q (cond x (Some Reexec) (cond r (Some Reread) (or_else level (cond run news None)))) None
+wish_by : (q x r run : Bool) (level pending : Option Step) → or_else (cond (q && x) (Some Reexec) None) (or_else (cond (q && r) (Some Reread) None) (or_else (cond q level None) (cond (q && run) pending None)))
+    ≡ cond q (cond x (Some Reexec) (cond r (Some Reread) (or_else level (cond run pending None)))) None
 wish_by false x r run level pending = refl
 wish_by true true r run level pending = refl
 wish_by true false true run level pending = refl

@@ -9,8 +9,8 @@ module _ (P : PendingCalls → Type 0)
     (by_b : (c : Bool) → P (record { fail = false; fail_now = false; ok = false; a = false; b = true; c = c }))
     (by_c : P (record { fail = false; fail_now = false; ok = false; a = false; b = false; c = true }))
     (none : P (record { fail = false; fail_now = false; ok = false; a = false; b = false; c = false })) where
-  pub by_first : (pending : PendingCalls) → P news
-  by_first pending = at news.fail news.fail_now news.ok news.a news.b news.c
+  pub by_first : (pending : PendingCalls) → P pending
+  by_first pending = at pending.fail pending.fail_now pending.ok pending.a pending.b pending.c
     where
       at : (f n o a b c : Bool) → P (record { fail = f; fail_now = n; ok = o; a = a; b = b; c = c })
       at true n o a b c = fail n o a b c

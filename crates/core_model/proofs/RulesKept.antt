@@ -49,13 +49,13 @@ module _ (c : CoreState) (keeps : IsFit c) (now : Stage) (in_stage : c.fields.st
       level : (wish : Option Goal) → c.fields.level_wish ≡ wish → is_lawful (level_step c.fields.booted wish) ≡ true
       level wish is = grind arith
 
-      news : is_lawful (first_news c.fields.pending) ≡ true
+      pending : is_lawful (first_news c.fields.pending) ≡ true
       pending = grind arith
 
       at : (x r : Bool) → is_lawful (cond x (Some Reexec) (cond r (Some Reread) (or_else (level_step c.fields.booted c.fields.level_wish) (news_step now c)))) ≡ true
       at true r = refl
       at false true = refl
-      at false false = lawful_or (level_step c.fields.booted c.fields.level_wish) (news_step now c) (level c.fields.level_wish refl) (lawful_if (in_run (Some now)) (first_news c.fields.pending) (λ run. news))
+      at false false = lawful_or (level_step c.fields.booted c.fields.level_wish) (news_step now c) (level c.fields.level_wish refl) (lawful_if (in_run (Some now)) (first_news c.fields.pending) (λ run. pending))
 
   stage_lawful : is_lawful (stage_step now c.fields.goal c.table c.slots) ≡ true
   stage_lawful = grind arith

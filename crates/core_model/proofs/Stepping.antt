@@ -48,7 +48,7 @@ look_enters : (slots : List RecordState) → enters (core.look_among slots) ≡ 
 look_enters [] = grind arith
 look_enters (slot ∷ slots) = grind (arith, look_enters slots)
 
-news_enters : (pending : PendingCalls) → enters (first_news news) ≡ false
+news_enters : (pending : PendingCalls) → enters (first_news pending) ≡ false
 news_enters = by_first (λ (n : PendingCalls). enters (first_news n) ≡ false) (λ n o a b c. refl) (λ o a b c. refl) (λ a b c. refl) (λ b c. refl) (λ c. refl) refl refl
 
 -- in a run level in which no other is wished for the core enters no stage

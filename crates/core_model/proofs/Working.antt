@@ -65,14 +65,14 @@ called_same : {X : Type 0} (p : RecordState → X) → ((slot : RecordState) →
 called_same p same true slot = same slot
 called_same p same false slot = refl
 
-called_falls : (named : Entry → Bool) (pending : PendingCalls) (c : CoreState) → news_count news < news_count c.fields.pending → work_left (record c { slots = with_called named c.table c.slots; fields = record c.fields { pending = news } }) < work_left c
-called_falls named news c fewer_news = grind (arith, as_many, called_same, length-map)
+called_falls : (named : Entry → Bool) (pending : PendingCalls) (c : CoreState) → news_count pending < news_count c.fields.pending → work_left (record c { slots = with_called named c.table c.slots; fields = record c.fields { pending = pending } }) < work_left c
+called_falls named pending c fewer_news = grind (arith, as_many, called_same, length-map)
 
-kind_falls : (kind : PowerKind) (pending : PendingCalls) → keeps_kind kind news ≡ true → news_count (with_kind kind false news) < news_count news
-kind_falls kind news is = grind arith
+kind_falls : (kind : PowerKind) (pending : PendingCalls) → keeps_kind kind pending ≡ true → news_count (with_kind kind false pending) < news_count pending
+kind_falls kind pending is = grind arith
 
-call_falls : (l : Letter) (pending : PendingCalls) → keeps_call l news ≡ true → news_count (with_call l false news) < news_count news
-call_falls l news is = grind arith
+call_falls : (l : Letter) (pending : PendingCalls) → keeps_call l pending ≡ true → news_count (with_call l false pending) < news_count pending
+call_falls l pending is = grind arith
 
 -- each step that is decided leaves less to do
 pub decide_falls : (c : CoreState) → IsInOrder c.table c.slots → is_rest (decide c) ≡ false → work_left (after_step (decide c) c) < work_left c

@@ -13,39 +13,39 @@ no_news = record { fail = false; fail_now = false; ok = false; a = false; b = fa
 
 -- news of that kind is kept; the letter is to be called
 abbrev pub keeps_kind : PowerKind → PendingCalls → Bool
-keeps_kind power.Fail pending = news.fail
-keeps_kind power.FailNow pending = news.fail_now
-keeps_kind power.Ok pending = news.ok
+keeps_kind power.Fail pending = pending.fail
+keeps_kind power.FailNow pending = pending.fail_now
+keeps_kind power.Ok pending = pending.ok
 
 abbrev pub keeps_call : Letter → PendingCalls → Bool
-keeps_call letter.A pending = news.a
-keeps_call letter.B pending = news.b
-keeps_call letter.C pending = news.c
+keeps_call letter.A pending = pending.a
+keeps_call letter.B pending = pending.b
+keeps_call letter.C pending = pending.c
 
 -- the news where one kind, or one letter, is kept or no more
 abbrev pub with_kind : PowerKind → Bool → PendingCalls → PendingCalls
-with_kind power.Fail kept pending = record news { fail = kept }
-with_kind power.FailNow kept pending = record news { fail_now = kept }
-with_kind power.Ok kept pending = record news { ok = kept }
+with_kind power.Fail kept pending = record pending { fail = kept }
+with_kind power.FailNow kept pending = record pending { fail_now = kept }
+with_kind power.Ok kept pending = record pending { ok = kept }
 
 abbrev pub with_call : Letter → Bool → PendingCalls → PendingCalls
-with_call letter.A kept pending = record news { a = kept }
-with_call letter.B kept pending = record news { b = kept }
-with_call letter.C kept pending = record news { c = kept }
+with_call letter.A kept pending = record pending { a = kept }
+with_call letter.B kept pending = record pending { b = kept }
+with_call letter.C kept pending = record pending { c = kept }
 
 -- something is kept
 abbrev pub has_news : PendingCalls → Bool
-has_news pending = news.fail || news.fail_now || news.ok || news.a || news.b || news.c
+has_news pending = pending.fail || pending.fail_now || pending.ok || pending.a || pending.b || pending.c
 
 -- the step that carries out what comes first: the power, then the letters
 abbrev pub first_news : PendingCalls → Option Step
-first_news news =
-    if news.fail then Some (Power power.Fail)
-    else if news.fail_now then Some (Power power.FailNow)
-    else if news.ok then Some (Power power.Ok)
-    else if news.a then Some (Call letter.A)
-    else if news.b then Some (Call letter.B)
-    else if news.c then Some (Call letter.C)
+first_news pending =
+    if pending.fail then Some (Power power.Fail)
+    else if pending.fail_now then Some (Power power.FailNow)
+    else if pending.ok then Some (Power power.Ok)
+    else if pending.a then Some (Call letter.A)
+    else if pending.b then Some (Call letter.B)
+    else if pending.c then Some (Call letter.C)
     else None
 
 -- how much is kept
@@ -53,5 +53,5 @@ abbrev pub one_if : Bool → ℕ
 one_if b = if b then 1 else 0
 
 abbrev pub news_count : PendingCalls → ℕ
-news_count news =
-    one_if news.fail + one_if news.fail_now + one_if news.ok + one_if news.a + one_if news.b + one_if news.c
+news_count pending =
+    one_if pending.fail + one_if pending.fail_now + one_if pending.ok + one_if pending.a + one_if pending.b + one_if pending.c

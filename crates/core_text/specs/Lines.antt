@@ -79,15 +79,15 @@ abbrev pub flags_line : Bool → Bool → List ℕ
 flags_line booted announced = spaced (codes "flags" ∷ bits (booted ∷ announced ∷ []) ∷ [])
 
 abbrev pub power_bits : PendingCalls → List Bool
-power_bits pending = news.fail ∷ news.fail_now ∷ news.ok ∷ []
+power_bits pending = pending.fail ∷ pending.fail_now ∷ pending.ok ∷ []
 
 abbrev pub letter_bits : PendingCalls → List Bool
-letter_bits pending = news.a ∷ news.b ∷ news.c ∷ []
+letter_bits pending = pending.a ∷ pending.b ∷ pending.c ∷ []
 
 abbrev pub wish_line : Bool → Bool → Option Goal → PendingCalls → List ℕ
-wish_line reread reexec level news =
-    spaced (codes "wish" ∷ bits (reread ∷ reexec ∷ []) ∷ or_dash goal_word level ∷ bits (power_bits news)
-    ∷ bits (letter_bits news) ∷ [])
+wish_line reread reexec level pending =
+    spaced (codes "wish" ∷ bits (reread ∷ reexec ∷ []) ∷ or_dash goal_word level ∷ bits (power_bits pending)
+    ∷ bits (letter_bits pending) ∷ [])
 
 abbrev pub head_lines : CoreFields → List (List ℕ)
 head_lines fields =

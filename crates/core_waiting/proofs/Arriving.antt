@@ -150,7 +150,7 @@ unwished goal past rest idle = falsely (is_some (level_wish past)) (wish_stands 
 course_of : (goal : Goal) (round past : List Event) → is_sound goal (round ++ past) ≡ true → AtRest goal past → is_idle past ≡ true → is_unasked round ≡ true → Course goal round past
 course_of goal round past sound rest idle unasked = course goal round past sound unasked (staged goal past rest) (unwished goal past rest idle) heard where
   heard : in_run (stage_of past) ≡ true → keeps_news past ≡ false
-  heard running = falsely (keeps_news past) (wish_stands past) (λ news. or_right (wants_reexec past || wants_reread past || is_some (level_wish past)) (in_run (stage_of past) && keeps_news past) (and_from (in_run (stage_of past)) (keeps_news past) running news)) (rest_heard goal past rest idle)
+  heard running = falsely (keeps_news past) (wish_stands past) (λ pending. or_right (wants_reexec past || wants_reread past || is_some (level_wish past)) (in_run (stage_of past) && keeps_news past) (and_from (in_run (stage_of past)) (keeps_news past) running pending)) (rest_heard goal past rest idle)
 
 -- an announced level stays announced
 still_announced : (goal : Goal) (round past : List Event) → Course goal round past → is_level_announced past ≡ true → is_level_announced (round ++ past) ≡ true
@@ -378,14 +378,14 @@ num_one true = omega arith
 num_one false = omega arith
 
 -- of one entry, by its action
-at_boot : (a : Act) (marks : List Mark) (level : Level) (news x : Bool) → num (waited_by a && (starts_by a marks (stage.Run level) && wanted_by a true true news)) + num (waited_by a && (starts_by a marks stage.Boot && x)) ≤ num (waited_by a)
-at_boot a marks level news x = grind arith
+at_boot : (a : Act) (marks : List Mark) (level : Level) (pending x : Bool) → num (waited_by a && (starts_by a marks (stage.Run level) && wanted_by a true true pending)) + num (waited_by a && (starts_by a marks stage.Boot && x)) ≤ num (waited_by a)
+at_boot a marks level pending x = grind arith
 
-at_s : (a : Act) (marks : List Mark) (news x : Bool) → num (waited_by a && (starts_by a marks (stage.Run S) && wanted_by a true true news)) + num (waited_by a && (starts_by a marks stage.Sysinit && x)) ≤ num (waited_by a)
-at_s a marks news x = grind arith
+at_s : (a : Act) (marks : List Mark) (pending x : Bool) → num (waited_by a && (starts_by a marks (stage.Run S) && wanted_by a true true pending)) + num (waited_by a && (starts_by a marks stage.Sysinit && x)) ≤ num (waited_by a)
+at_s a marks pending x = grind arith
 
-at_sysinit : (a : Act) (marks : List Mark) (level : Level) (news x : Bool) → num (waited_by a && (starts_by a marks stage.Boot && wanted_by a true true news)) + num (waited_by a && (starts_by a marks (stage.Run level) && wanted_by a true true news)) + num (waited_by a && (starts_by a marks stage.Sysinit && x)) ≤ num (waited_by a)
-at_sysinit a marks level news x = grind arith
+at_sysinit : (a : Act) (marks : List Mark) (level : Level) (pending x : Bool) → num (waited_by a && (starts_by a marks stage.Boot && wanted_by a true true pending)) + num (waited_by a && (starts_by a marks (stage.Run level) && wanted_by a true true pending)) + num (waited_by a && (starts_by a marks stage.Sysinit && x)) ≤ num (waited_by a)
+at_sysinit a marks level pending x = grind arith
 
 abbrev waited_in : List Event → ℕ
 waited_in past = length (filter waited_of (table_of past))

@@ -35,7 +35,7 @@ record Kind (goal : Goal) (round past : List Event) : Type 0 where
   kind : list_all is_kind round ≡ true
   nudged : list_any is_nudge round ≡ true
   staged : is_some (stage_of (round ++ past)) ≡ true
-  news : keeps_news (round ++ past) ≡ false
+  pending : keeps_news (round ++ past) ≡ false
   unwished : wish_stands (round ++ past) ≡ false
 
 -- an order is answered and told: none is open again
@@ -204,7 +204,7 @@ begun goal past sound idle unwished staged pending = (
     kind = refl;
     nudged = refl;
     staged = staged;
-    pending = news;
+    pending = pending;
     unwished = unwished;
   },
   all_from (λ (child : Child). has_child child.id (known_children past)) (known_children past) (false_from_ne_true (list_any (λ (child : Child). not (has_child child.id (known_children past))) (known_children past)) (λ some. wrong (passing (λ (child : Child). not (has_child child.id (known_children past))) (known_children past) some))),
@@ -505,7 +505,7 @@ record Wishless (past : List Event) : Type 0 where
   reexec : wants_reexec past ≡ false
   reread : wants_reread past ≡ false
   level : is_some (level_wish past) ≡ false
-  news : (in_run (stage_of past) && keeps_news past) ≡ false
+  pending : (in_run (stage_of past) && keeps_news past) ≡ false
 
 wishless : (past : List Event) → wish_stands past ≡ false → Wishless past
 wishless past h =
@@ -733,13 +733,13 @@ record Behind (goal : Goal) (past : List Event) : Type 0 where
   quiet : is_undisturbed round past ≡ true
   rest : AtRest goal (round ++ past)
   idle : is_idle (round ++ past) ≡ true
-  news : keeps_news (round ++ past) ≡ false
+  pending : keeps_news (round ++ past) ≡ false
   unasked : is_unasked round ≡ true
 
 one_behind : (goal : Goal) (past : List Event) → is_sound goal past ≡ true → AtRest goal past → is_idle past ≡ true → keeps_news past ≡ false → Behind goal past
 one_behind goal past sound rest idle pending = record { round = it.round; sound = it.state.kind.sound; quiet = undisturbed goal it.round past sound idle it.state; rest = it.rest; idle = it.state.kind.idle; pending = it.state.kind.pending; unasked = asks_nothing it.round it.state.kind.kind } where
   first : Kind goal (Nudge ∷ []) past × (all_want (Nudge ∷ past) ≡ true)
-  first = begun goal past sound idle (rest_heard goal past rest idle) (at_stage goal past rest) news
+  first = begun goal past sound idle (rest_heard goal past rest idle) (at_stage goal past rest) pending
 
   bare : Bare goal past
   bare = reap_all goal past (length (known_children past)) (Nudge ∷ []) first.0 first.1 (same_most (length (known_children past)))
@@ -756,11 +756,11 @@ record Chain (goal : Goal) (k : ℕ) (past : List Event) : Type 0 where
   all : undisturbed_among rounds past ≡ k
   rest : AtRest goal (after_rounds rounds past)
   idle : is_idle (after_rounds rounds past) ≡ true
-  news : keeps_news (after_rounds rounds past) ≡ false
+  pending : keeps_news (after_rounds rounds past) ≡ false
 
 chain : (goal : Goal) (past : List Event) → is_sound goal past ≡ true → AtRest goal past → is_idle past ≡ true → keeps_news past ≡ false → (k : ℕ) → Chain goal k past
-chain goal past sound rest idle news zero = record { rounds = []; many = refl; sound = sound; quiet = (rest, idle); all = refl; rest = rest; idle = idle; pending = news }
-chain goal past sound rest idle news (suc k) = longer_by (chain goal past sound rest idle news k) where
+chain goal past sound rest idle pending zero = record { rounds = []; many = refl; sound = sound; quiet = (rest, idle); all = refl; rest = rest; idle = idle; pending = pending }
+chain goal past sound rest idle pending (suc k) = longer_by (chain goal past sound rest idle pending k) where
   longer_by : Chain goal k past → Chain goal (suc k) past
   longer_by it = on (one_behind goal (after_rounds it.rounds past) it.sound it.rest it.idle it.pending) where
     on : Behind goal (after_rounds it.rounds past) → Chain goal (suc k) past
@@ -779,6 +779,6 @@ chain goal past sound rest idle news (suc k) = longer_by (chain goal past sound 
       one_more false n own is = absurd (false≢true own)
 
 pub rounds_exist : (goal : Goal) (later past : List Event) (k : ℕ) → is_sound goal (later ++ past) ≡ true → AtRest goal past → is_idle past ≡ true → keeps_news past ≡ false → (rounds : List (List Event)) × (length rounds ≡ k) × (is_sound goal (after_rounds rounds past) ≡ true) × AreUnasked goal rounds past × (undisturbed_among rounds past ≡ k)
-rounds_exist goal later past k sound rest idle pending = read (chain goal past (sound_rest goal later past sound rest) rest idle news k) where
+rounds_exist goal later past k sound rest idle pending = read (chain goal past (sound_rest goal later past sound rest) rest idle pending k) where
   read : Chain goal k past → (rounds : List (List Event)) × (length rounds ≡ k) × (is_sound goal (after_rounds rounds past) ≡ true) × AreUnasked goal rounds past × (undisturbed_among rounds past ≡ k)
   read it = (it.rounds, it.many, it.sound, it.quiet, it.all)

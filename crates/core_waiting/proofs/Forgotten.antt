@@ -64,7 +64,7 @@ level_wish = record { sound = refl; rests = refl; idle = refl; broken = refl }
 abbrev failed : List Event
 failed = Got (got.Power power.Fail) ∷ settled
 
-news : Breaks 5 (opening level.L3) failed (not (wish_stands failed))
+pending : Breaks 5 (opening level.L3) failed (not (wish_stands failed))
 pending = record { sound = refl; rests = refl; idle = refl; broken = refl }
 
 abbrev unsignalled : List Event

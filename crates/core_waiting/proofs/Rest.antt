@@ -25,7 +25,7 @@ pub record Rest (goal : Goal) (past : List Event) : Type 0 where
   pub reexec : due_reexec past ≡ []
   pub reread : due_reread past ≡ []
   pub level : due_level past ≡ []
-  pub news : due_news past ≡ []
+  pub pending : due_news past ≡ []
   pub stops : due_stops past ≡ []
   pub starts : due_starts past ≡ []
   pub stage : due_stage goal past ≡ []

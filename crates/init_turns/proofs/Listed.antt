@@ -30,7 +30,7 @@ module _ (table : List Entry) where
   level_listed : (booted : Bool) (wish : Option Goal) → Listed (level_step booted wish)
   level_listed booted wish = grind arith
 
-  first_listed : (pending : PendingCalls) → Listed (first_news news)
+  first_listed : (pending : PendingCalls) → Listed (first_news pending)
   first_listed pending = grind arith
 
   stop_listed : (grace now : ℕ) (slots : List RecordState) → Listed (stop_among grace now slots)
