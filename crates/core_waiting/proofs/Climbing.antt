@@ -157,26 +157,26 @@ enter_by goal past s grace h = why_due goal past it (EnterBy goal past s grace) 
   wished (Some wish) is = ((λ own. inl (inr (ap is_some is))), tt)
 
 -- entries are called in a run level where news is kept
-abbrev PendingCalls : List Event → Type 0
-PendingCalls past = (in_run (stage_of past) ≡ true) × (keeps_news past ≡ true)
+abbrev News : List Event → Type 0
+News past = (in_run (stage_of past) ≡ true) × (keeps_news past ≡ true)
 
-news_of : (goal : Goal) (past : List Event) (it : Step) → Moves it → ((s : Stage) (grace : ℕ) → same_step it (step.Enter s grace) ≡ false) → is_due goal it past ≡ true → PendingCalls past
-news_of goal past it moves other h = why_due goal past it (PendingCalls past) moves (first (stage_of past)) (each_steps_if (Unless it (PendingCalls past)) (is_quiet past) (enter_level (level_wish past) past) (λ _. wished (level_wish past))) (each_steps_if (Unless it (PendingCalls past)) (is_quiet past && in_run (stage_of past)) (power_steps powers past ++ letter_steps letters past) (λ both. pending (and_parts (is_quiet past) (in_run (stage_of past)) both).1)) (each_steps_if (Unless it (PendingCalls past)) (is_over past) (next_stage (goal_of goal past) (stage_of past)) (λ _. climbs (stage_of past))) h where
-  enters : (s : Stage) (grace : ℕ) → Each (Unless it (PendingCalls past)) (step.Enter s grace ∷ [])
+news_of : (goal : Goal) (past : List Event) (it : Step) → Moves it → ((s : Stage) (grace : ℕ) → same_step it (step.Enter s grace) ≡ false) → is_due goal it past ≡ true → News past
+news_of goal past it moves other h = why_due goal past it (News past) moves (first (stage_of past)) (each_steps_if (Unless it (News past)) (is_quiet past) (enter_level (level_wish past) past) (λ _. wished (level_wish past))) (each_steps_if (Unless it (News past)) (is_quiet past && in_run (stage_of past)) (power_steps powers past ++ letter_steps letters past) (λ both. pending (and_parts (is_quiet past) (in_run (stage_of past)) both).1)) (each_steps_if (Unless it (News past)) (is_over past) (next_stage (goal_of goal past) (stage_of past)) (λ _. climbs (stage_of past))) h where
+  enters : (s : Stage) (grace : ℕ) → Each (Unless it (News past)) (step.Enter s grace ∷ [])
   enters s grace = (never (same_step it (step.Enter s grace)) (other s grace), tt)
 
-  pending : in_run (stage_of past) ≡ true → Each (Unless it (PendingCalls past)) (power_steps powers past ++ letter_steps letters past)
-  pending running = each_append (Unless it (PendingCalls past)) (power_steps powers past) (letter_steps letters past) (powers_each it (PendingCalls past) powers past (λ some kind own. (running, or_left (list_any (λ k. keeps_power k past) powers) (list_any (λ l. keeps_letter l past) letters) some))) (calls_each it (PendingCalls past) letters past (λ some letter own. (running, or_right (list_any (λ k. keeps_power k past) powers) (list_any (λ l. keeps_letter l past) letters) some)))
+  pending : in_run (stage_of past) ≡ true → Each (Unless it (News past)) (power_steps powers past ++ letter_steps letters past)
+  pending running = each_append (Unless it (News past)) (power_steps powers past) (letter_steps letters past) (powers_each it (News past) powers past (λ some kind own. (running, or_left (list_any (λ k. keeps_power k past) powers) (list_any (λ l. keeps_letter l past) letters) some))) (calls_each it (News past) letters past (λ some letter own. (running, or_right (list_any (λ k. keeps_power k past) powers) (list_any (λ l. keeps_letter l past) letters) some)))
 
-  first : (o : Option Stage) → Each (Unless it (PendingCalls past)) (due_first goal o past)
+  first : (o : Option Stage) → Each (Unless it (News past)) (due_first goal o past)
   first None = enters stage.Sysinit (goal_of goal past).grace
   first (Some now) = tt
 
-  wished : (o : Option Goal) → Each (Unless it (PendingCalls past)) (enter_level o past)
+  wished : (o : Option Goal) → Each (Unless it (News past)) (enter_level o past)
   wished None = tt
   wished (Some wish) = (never (same_step it _) (other _ _), tt)
 
-  climbs : (o : Option Stage) → Each (Unless it (PendingCalls past)) (next_stage (goal_of goal past) o)
+  climbs : (o : Option Stage) → Each (Unless it (News past)) (next_stage (goal_of goal past) o)
   climbs None = tt
   climbs (Some stage.Sysinit) = (never (same_step it _) (other _ _), tt)
   climbs (Some stage.Boot) = (never (same_step it _) (other _ _), tt)
@@ -460,7 +460,7 @@ entering goal s grace between past may it = by (enter_by goal (between ++ past) 
   by (inr h) = climbed h.0 (subst (λ aim. Climb aim.level (stage_of now) s) it.aim (climb (goal_of goal now) (stage_of now) s grace h.1))
 
 -- entries are called
-calling : (goal : Goal) (happening : Event) (between past : List Event) → is_sound goal (between ++ past) ≡ true → (in_run (stage_of past) ≡ true → keeps_news past ≡ false) → PendingCalls (between ++ past) → is_quiet (between ++ past) ≡ true → is_quiet (happening ∷ (between ++ past)) ≡ is_quiet (between ++ past) → stage_of (happening ∷ (between ++ past)) ≡ stage_of (between ++ past) → table_of (happening ∷ (between ++ past)) ≡ table_of (between ++ past) → kept_children (happening ∷ (between ++ past)) ≡ kept_children (between ++ past) → Course goal between past → Entered goal past (happening ∷ (between ++ past))
+calling : (goal : Goal) (happening : Event) (between past : List Event) → is_sound goal (between ++ past) ≡ true → (in_run (stage_of past) ≡ true → keeps_news past ≡ false) → News (between ++ past) → is_quiet (between ++ past) ≡ true → is_quiet (happening ∷ (between ++ past)) ≡ is_quiet (between ++ past) → stage_of (happening ∷ (between ++ past)) ≡ stage_of (between ++ past) → table_of (happening ∷ (between ++ past)) ≡ table_of (between ++ past) → kept_children (happening ∷ (between ++ past)) ≡ kept_children (between ++ past) → Course goal between past → Entered goal past (happening ∷ (between ++ past))
 calling goal happening between past sound heard pending quiet quiets stays tables kepts it = by it.path where
   now : List Event
   now = between ++ past
