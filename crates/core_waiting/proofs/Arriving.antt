@@ -137,7 +137,7 @@ more_ahead b c less table (now ∷ stages) =
       more_wanted _ h = h
 
 same_ahead : (goal : Goal) (round past : List Event) → table_of (round ++ past) ≡ table_of past → goal_of goal (round ++ past) ≡ goal_of goal past → (keeps_news (round ++ past) ≡ true → keeps_news past ≡ true) → waits_ahead (keeps_news (round ++ past)) (table_of (round ++ past)) (stages_ahead (goal_of goal (round ++ past)).level (stage_of (round ++ past))) ≤ aim_ahead goal past (stage_of (round ++ past))
-same_ahead goal round past table aim pending = grind (arith, more_ahead)
+same_ahead goal round past table aim news = grind (arith, more_ahead)
 
 -- before the first stage there is no rest
 pub staged : (goal : Goal) (past : List Event) → AtRest goal past → is_some (stage_of past) ≡ true
@@ -150,14 +150,14 @@ unwished goal past rest idle = falsely (is_some (level_wish past)) (wish_stands 
 course_of : (goal : Goal) (round past : List Event) → is_sound goal (round ++ past) ≡ true → AtRest goal past → is_idle past ≡ true → is_unasked round ≡ true → Course goal round past
 course_of goal round past sound rest idle unasked = course goal round past sound unasked (staged goal past rest) (unwished goal past rest idle) heard where
   heard : in_run (stage_of past) ≡ true → keeps_news past ≡ false
-  heard running = falsely (keeps_news past) (wish_stands past) (λ pending. or_right (wants_reexec past || wants_reread past || is_some (level_wish past)) (in_run (stage_of past) && keeps_news past) (and_from (in_run (stage_of past)) (keeps_news past) running pending)) (rest_heard goal past rest idle)
+  heard running = falsely (keeps_news past) (wish_stands past) (λ news. or_right (wants_reexec past || wants_reread past || is_some (level_wish past)) (in_run (stage_of past) && keeps_news past) (and_from (in_run (stage_of past)) (keeps_news past) running news)) (rest_heard goal past rest idle)
 
 -- an announced level stays announced
 still_announced : (goal : Goal) (round past : List Event) → Course goal round past → is_level_announced past ≡ true → is_level_announced (round ++ past) ≡ true
 still_announced goal round past it told = grind (arith, Entered, still_level, both_ways)
 
 falls_at : (goal : Goal) (round past : List Event) → is_sound goal (round ++ past) ≡ true → AtRest goal past → is_idle past ≡ true → is_undisturbed round past ≡ true → AtRest goal (round ++ past) → is_idle (round ++ past) ≡ true → is_level_announced (round ++ past) ≡ false → rounds_to_come goal (round ++ past) < rounds_to_come goal past
-falls_at goal round past sound rest idle let_be rest_later idle_later untold = add (waits_ahead (keeps_news (round ++ past)) (table_of (round ++ past)) (stages_ahead (goal_of goal (round ++ past)).level (stage_of (round ++ past)))) (aim_ahead goal past (stage_of (round ++ past))) (to_come (round ++ past)) (some (round ++ past)) (most (round ++ past)) (aim_ahead goal past (stage_of past) + to_come past + some past + most past) (same_ahead goal round past way.table way.aim way.pending) (by way.path) where
+falls_at goal round past sound rest idle let_be rest_later idle_later untold = add (waits_ahead (keeps_news (round ++ past)) (table_of (round ++ past)) (stages_ahead (goal_of goal (round ++ past)).level (stage_of (round ++ past)))) (aim_ahead goal past (stage_of (round ++ past))) (to_come (round ++ past)) (some (round ++ past)) (most (round ++ past)) (aim_ahead goal past (stage_of past) + to_come past + some past + most past) (same_ahead goal round past way.table way.aim way.news) (by way.path) where
   add : (w d a b c z : ℕ) → w ≤ d → d + a + b + c < z → w + a + b + c < z
   add w d a b c z h i = omega arith
 
@@ -248,7 +248,7 @@ sound_behind goal later (happening ∷ round) past sound rest = sound_before goa
 
 -- so while nothing is asked they never rise, at rest or not
 never_rises : (goal : Goal) (round past : List Event) → is_sound goal (round ++ past) ≡ true → AtRest goal past → is_idle past ≡ true → is_unasked round ≡ true → rounds_to_come goal (round ++ past) ≤ rounds_to_come goal past
-never_rises goal round past sound rest idle unasked = add (waits_ahead (keeps_news (round ++ past)) (table_of (round ++ past)) (stages_ahead (goal_of goal (round ++ past)).level (stage_of (round ++ past)))) (aim_ahead goal past (stage_of (round ++ past))) (to_come (round ++ past)) (some (round ++ past)) (most (round ++ past)) (aim_ahead goal past (stage_of past) + to_come past + some past + most past) (same_ahead goal round past way.table way.aim way.pending) (by way.path) where
+never_rises goal round past sound rest idle unasked = add (waits_ahead (keeps_news (round ++ past)) (table_of (round ++ past)) (stages_ahead (goal_of goal (round ++ past)).level (stage_of (round ++ past)))) (aim_ahead goal past (stage_of (round ++ past))) (to_come (round ++ past)) (some (round ++ past)) (most (round ++ past)) (aim_ahead goal past (stage_of past) + to_come past + some past + most past) (same_ahead goal round past way.table way.aim way.news) (by way.path) where
   add : (w d a b c z : ℕ) → w ≤ d → d + a + b + c ≤ z → w + a + b + c ≤ z
   add w d a b c z h i = omega arith
 
@@ -378,14 +378,14 @@ num_one true = omega arith
 num_one false = omega arith
 
 -- of one entry, by its action
-at_boot : (a : Act) (marks : List Mark) (level : Level) (pending x : Bool) → num (waited_by a && (starts_by a marks (stage.Run level) && wanted_by a true true pending)) + num (waited_by a && (starts_by a marks stage.Boot && x)) ≤ num (waited_by a)
-at_boot a marks level pending x = grind arith
+at_boot : (a : Act) (marks : List Mark) (level : Level) (news x : Bool) → num (waited_by a && (starts_by a marks (stage.Run level) && wanted_by a true true news)) + num (waited_by a && (starts_by a marks stage.Boot && x)) ≤ num (waited_by a)
+at_boot a marks level news x = grind arith
 
-at_s : (a : Act) (marks : List Mark) (pending x : Bool) → num (waited_by a && (starts_by a marks (stage.Run S) && wanted_by a true true pending)) + num (waited_by a && (starts_by a marks stage.Sysinit && x)) ≤ num (waited_by a)
-at_s a marks pending x = grind arith
+at_s : (a : Act) (marks : List Mark) (news x : Bool) → num (waited_by a && (starts_by a marks (stage.Run S) && wanted_by a true true news)) + num (waited_by a && (starts_by a marks stage.Sysinit && x)) ≤ num (waited_by a)
+at_s a marks news x = grind arith
 
-at_sysinit : (a : Act) (marks : List Mark) (level : Level) (pending x : Bool) → num (waited_by a && (starts_by a marks stage.Boot && wanted_by a true true pending)) + num (waited_by a && (starts_by a marks (stage.Run level) && wanted_by a true true pending)) + num (waited_by a && (starts_by a marks stage.Sysinit && x)) ≤ num (waited_by a)
-at_sysinit a marks level pending x = grind arith
+at_sysinit : (a : Act) (marks : List Mark) (level : Level) (news x : Bool) → num (waited_by a && (starts_by a marks stage.Boot && wanted_by a true true news)) + num (waited_by a && (starts_by a marks (stage.Run level) && wanted_by a true true news)) + num (waited_by a && (starts_by a marks stage.Sysinit && x)) ≤ num (waited_by a)
+at_sysinit a marks level news x = grind arith
 
 abbrev waited_in : List Event → ℕ
 waited_in past = length (filter waited_of (table_of past))

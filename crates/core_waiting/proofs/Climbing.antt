@@ -81,7 +81,7 @@ whole it F (x ∷ xs) within = ((λ own. within (or_left (same_step it x) (list_
 
 -- rank by rank
 pub why_due : (goal : Goal) (past : List Event) (it : Step) (F : Type 0) → Moves it → Each (Unless it F) (due_first goal (stage_of past) past) → Each (Unless it F) (due_level past) → Each (Unless it F) (due_news past) → Each (Unless it F) (due_stage goal past) → is_due goal it past ≡ true → F
-why_due goal past it F moves first level pending over h = unless it F (due goal past) all h where
+why_due goal past it F moves first level news over h = unless it F (due goal past) all h where
   Q : Step → Type 0
   Q = Unless it F
 
@@ -137,7 +137,7 @@ why_due goal past it F moves first level pending over h = unless it F (due goal 
   f10 = looks_each it F moves (record_ids past) past
 
   all : Each (Unless it F) (due goal past)
-  all = join (due_first goal (stage_of past) past ++ due_reexec past ++ due_reread past ++ due_level past ++ due_news past ++ due_stops past ++ due_starts past ++ due_stage goal past ++ due_settle past) (due_looks past) (join (due_first goal (stage_of past) past ++ due_reexec past ++ due_reread past ++ due_level past ++ due_news past ++ due_stops past ++ due_starts past ++ due_stage goal past) (due_settle past) (join (due_first goal (stage_of past) past ++ due_reexec past ++ due_reread past ++ due_level past ++ due_news past ++ due_stops past ++ due_starts past) (due_stage goal past) (join (due_first goal (stage_of past) past ++ due_reexec past ++ due_reread past ++ due_level past ++ due_news past ++ due_stops past) (due_starts past) (join (due_first goal (stage_of past) past ++ due_reexec past ++ due_reread past ++ due_level past ++ due_news past) (due_stops past) (join (due_first goal (stage_of past) past ++ due_reexec past ++ due_reread past ++ due_level past) (due_news past) (join (due_first goal (stage_of past) past ++ due_reexec past ++ due_reread past) (due_level past) (join (due_first goal (stage_of past) past ++ due_reexec past) (due_reread past) (join (due_first goal (stage_of past) past) (due_reexec past) first f2) f3) level) pending) f6) f7) over) f9) f10
+  all = join (due_first goal (stage_of past) past ++ due_reexec past ++ due_reread past ++ due_level past ++ due_news past ++ due_stops past ++ due_starts past ++ due_stage goal past ++ due_settle past) (due_looks past) (join (due_first goal (stage_of past) past ++ due_reexec past ++ due_reread past ++ due_level past ++ due_news past ++ due_stops past ++ due_starts past ++ due_stage goal past) (due_settle past) (join (due_first goal (stage_of past) past ++ due_reexec past ++ due_reread past ++ due_level past ++ due_news past ++ due_stops past ++ due_starts past) (due_stage goal past) (join (due_first goal (stage_of past) past ++ due_reexec past ++ due_reread past ++ due_level past ++ due_news past ++ due_stops past) (due_starts past) (join (due_first goal (stage_of past) past ++ due_reexec past ++ due_reread past ++ due_level past ++ due_news past) (due_stops past) (join (due_first goal (stage_of past) past ++ due_reexec past ++ due_reread past ++ due_level past) (due_news past) (join (due_first goal (stage_of past) past ++ due_reexec past ++ due_reread past) (due_level past) (join (due_first goal (stage_of past) past ++ due_reexec past) (due_reread past) (join (due_first goal (stage_of past) past) (due_reexec past) first f2) f3) level) news) f6) f7) over) f9) f10
 
 -- a stage is entered first of all, by a wish for a level, or where the stage before is over
 abbrev EnterBy : Goal → List Event → Stage → ℕ → Type 0
@@ -161,12 +161,12 @@ abbrev News : List Event → Type 0
 News past = (in_run (stage_of past) ≡ true) × (keeps_news past ≡ true)
 
 news_of : (goal : Goal) (past : List Event) (it : Step) → Moves it → ((s : Stage) (grace : ℕ) → same_step it (step.Enter s grace) ≡ false) → is_due goal it past ≡ true → News past
-news_of goal past it moves other h = why_due goal past it (News past) moves (first (stage_of past)) (each_steps_if (Unless it (News past)) (is_quiet past) (enter_level (level_wish past) past) (λ _. wished (level_wish past))) (each_steps_if (Unless it (News past)) (is_quiet past && in_run (stage_of past)) (power_steps powers past ++ letter_steps letters past) (λ both. pending (and_parts (is_quiet past) (in_run (stage_of past)) both).1)) (each_steps_if (Unless it (News past)) (is_over past) (next_stage (goal_of goal past) (stage_of past)) (λ _. climbs (stage_of past))) h where
+news_of goal past it moves other h = why_due goal past it (News past) moves (first (stage_of past)) (each_steps_if (Unless it (News past)) (is_quiet past) (enter_level (level_wish past) past) (λ _. wished (level_wish past))) (each_steps_if (Unless it (News past)) (is_quiet past && in_run (stage_of past)) (power_steps powers past ++ letter_steps letters past) (λ both. news (and_parts (is_quiet past) (in_run (stage_of past)) both).1)) (each_steps_if (Unless it (News past)) (is_over past) (next_stage (goal_of goal past) (stage_of past)) (λ _. climbs (stage_of past))) h where
   enters : (s : Stage) (grace : ℕ) → Each (Unless it (News past)) (step.Enter s grace ∷ [])
   enters s grace = (never (same_step it (step.Enter s grace)) (other s grace), tt)
 
-  pending : in_run (stage_of past) ≡ true → Each (Unless it (News past)) (power_steps powers past ++ letter_steps letters past)
-  pending running = each_append (Unless it (News past)) (power_steps powers past) (letter_steps letters past) (powers_each it (News past) powers past (λ some kind own. (running, or_left (list_any (λ k. keeps_power k past) powers) (list_any (λ l. keeps_letter l past) letters) some))) (calls_each it (News past) letters past (λ some letter own. (running, or_right (list_any (λ k. keeps_power k past) powers) (list_any (λ l. keeps_letter l past) letters) some)))
+  news : in_run (stage_of past) ≡ true → Each (Unless it (News past)) (power_steps powers past ++ letter_steps letters past)
+  news running = each_append (Unless it (News past)) (power_steps powers past) (letter_steps letters past) (powers_each it (News past) powers past (λ some kind own. (running, or_left (list_any (λ k. keeps_power k past) powers) (list_any (λ l. keeps_letter l past) letters) some))) (calls_each it (News past) letters past (λ some letter own. (running, or_right (list_any (λ k. keeps_power k past) powers) (list_any (λ l. keeps_letter l past) letters) some)))
 
   first : (o : Option Stage) → Each (Unless it (News past)) (due_first goal o past)
   first None = enters stage.Sysinit (goal_of goal past).grace
@@ -312,7 +312,7 @@ Path goal between past = ((is_calm between ≡ true) × (stage_of (between ++ pa
 pub record Course (goal : Goal) (between past : List Event) : Type 0 where
   pub staged : is_some (stage_of (between ++ past)) ≡ true
   pub unwished : is_some (level_wish (between ++ past)) ≡ false
-  pub pending : keeps_news (between ++ past) ≡ true → keeps_news past ≡ true
+  pub news : keeps_news (between ++ past) ≡ true → keeps_news past ≡ true
   pub table : table_of (between ++ past) ≡ table_of past
   pub aim : goal_of goal (between ++ past) ≡ goal_of goal past
   pub bound_for : destination (goal_of goal past).level (stage_of (between ++ past)) ≡ destination (goal_of goal past).level (stage_of past)
@@ -334,7 +334,7 @@ longer goal happening between past calm others stays starts (inr it) = inr (reco
   table = it.table;
   bystanders = it.bystanders;
   few = it.few;
-  unstarted = λ running pending. starts it.entered it.after it.here running pending (it.unstarted running);
+  unstarted = λ running news. starts it.entered it.after it.here running news (it.unstarted running);
   early = it.early;
   ahead = it.ahead;
 })
@@ -391,14 +391,14 @@ not_awaited : (start : List Event) (s : Stage) → stage_of start ≡ Some s →
 not_awaited start s here child h = grind arith
 
 -- what is to come where a stage is entered, and where entries were called in it
-fresh_wanted : (a : Act) (idle pending : Bool) → waited_by a ≡ true → wanted_by a idle true false ≡ true → wanted_by a true true pending ≡ true
-fresh_wanted a idle pending waited h = grind arith
+fresh_wanted : (a : Act) (idle news : Bool) → waited_by a ≡ true → wanted_by a idle true false ≡ true → wanted_by a true true news ≡ true
+fresh_wanted a idle news waited h = grind arith
 
 called_wanted : (a : Act) (idle fresh called : Bool) → waited_by a ≡ true → wanted_by a idle fresh called ≡ true → wanted_by a true true true ≡ true
 called_wanted a idle fresh called waited h = grind arith
 
-first_to_come : (pending : Bool) (moment : List Event) (s : Stage) (grace : ℕ) → to_come (Enter s grace ∷ moment) ≤ length (filter (is_ahead pending s) (table_of moment))
-first_to_come pending moment s grace = grind (arith, fewer, fresh_wanted)
+first_to_come : (news : Bool) (moment : List Event) (s : Stage) (grace : ℕ) → to_come (Enter s grace ∷ moment) ≤ length (filter (is_ahead news s) (table_of moment))
+first_to_come news moment s grace = grind (arith, fewer, fresh_wanted)
 
 called_to_come : (start : List Event) (s : Stage) → stage_of start ≡ Some s → to_come start ≤ length (filter (is_ahead true s) (table_of start))
 called_to_come start s here = grind (arith, fewer, called_wanted)
@@ -420,7 +420,7 @@ entering goal s grace between past may it = by (enter_by goal (between ++ past) 
   climbed over c = record {
     staged = refl;
     unwished = none_wished (Some s);
-    pending = it.pending;
+    news = it.news;
     table = it.table;
     aim = it.aim;
     bound_for = c.bound_for ∙ it.bound_for;
@@ -437,7 +437,7 @@ entering goal s grace between past may it = by (enter_by goal (between ++ past) 
       table = it.table;
       bystanders = subst (λ es. list_any (λ child. not (stands_by es s child)) (kept_children now) ≡ false) it.table (bystanders_at now s over c.climbs);
       few = subst (λ es. to_come (Enter s grace ∷ now) ≤ length (filter (is_ahead (keeps_news past) s) es)) it.table (first_to_come (keeps_news past) now s grace);
-      unstarted = λ running pending. refl;
+      unstarted = λ running news. refl;
       early = early c.early it.path;
       ahead = whole_way (length (filter (is_ahead (keeps_news past) s) (table_of past))) (waits_ahead (keeps_news past) (table_of past) (stages_ahead level (Some s))) (waits_ahead (keeps_news past) (table_of past) (stages_ahead level (stage_of now))) (waits_ahead (keeps_news past) (table_of past) (stages_ahead level (stage_of past))) (ap (waits_ahead (keeps_news past) (table_of past)) c.comes) it.ahead;
     });
@@ -461,15 +461,15 @@ entering goal s grace between past may it = by (enter_by goal (between ++ past) 
 
 -- entries are called
 calling : (goal : Goal) (happening : Event) (between past : List Event) → is_sound goal (between ++ past) ≡ true → (in_run (stage_of past) ≡ true → keeps_news past ≡ false) → News (between ++ past) → is_quiet (between ++ past) ≡ true → is_quiet (happening ∷ (between ++ past)) ≡ is_quiet (between ++ past) → stage_of (happening ∷ (between ++ past)) ≡ stage_of (between ++ past) → table_of (happening ∷ (between ++ past)) ≡ table_of (between ++ past) → kept_children (happening ∷ (between ++ past)) ≡ kept_children (between ++ past) → Course goal between past → Entered goal past (happening ∷ (between ++ past))
-calling goal happening between past sound heard pending quiet quiets stays tables kepts it = by it.path where
+calling goal happening between past sound heard news quiet quiets stays tables kepts it = by it.path where
   now : List Event
   now = between ++ past
 
   kept_news : keeps_news past ≡ true
-  kept_news = it.pending pending.1
+  kept_news = it.news news.1
 
   by : ((is_calm between ≡ true) × (stage_of (between ++ past) ≡ stage_of past)) ⊎ Entered goal past (between ++ past) → Entered goal past (happening ∷ (between ++ past))
-  by (inl path) = both_ways (keeps_news past) kept_news (heard (ap in_run (sym path.1) ∙ pending.0))
+  by (inl path) = both_ways (keeps_news past) kept_news (heard (ap in_run (sym path.1) ∙ news.0))
   by (inr e) = record {
     after = [];
     start = happening ∷ now;
@@ -480,7 +480,7 @@ calling goal happening between past sound heard pending quiet quiets stays table
     stage = stays ∙ e.here;
     here = stays ∙ e.here;
     table = tables ∙ it.table;
-    bystanders = ap (list_any (λ child. not (stands_by (table_of past) e.entered child))) kepts ∙ ap (λ x. list_any (λ child. not (stands_by (table_of past) e.entered child)) (kept_children x)) e.is ∙ bystanders_on goal (table_of past) e.entered e.after e.start (subst (λ x. is_sound goal x ≡ true) e.is sound) e.calm e.quiet (e.unstarted (ap in_run (sym e.here) ∙ pending.0) pending.1) e.bystanders;
+    bystanders = ap (list_any (λ child. not (stands_by (table_of past) e.entered child))) kepts ∙ ap (λ x. list_any (λ child. not (stands_by (table_of past) e.entered child)) (kept_children x)) e.is ∙ bystanders_on goal (table_of past) e.entered e.after e.start (subst (λ x. is_sound goal x ≡ true) e.is sound) e.calm e.quiet (e.unstarted (ap in_run (sym e.here) ∙ news.0) news.1) e.bystanders;
     few = subst (λ b. to_come (happening ∷ now) ≤ length (filter (is_ahead b e.entered) (table_of past))) (sym kept_news) (subst (λ es. to_come (happening ∷ now) ≤ length (filter (is_ahead true e.entered) es)) (tables ∙ it.table) (called_to_come (happening ∷ now) e.entered (stays ∙ e.here)));
     unstarted = λ running still. refl;
     early = e.early;
@@ -488,7 +488,7 @@ calling goal happening between past sound heard pending quiet quiets stays table
   }
 
 pub course : (goal : Goal) (between past : List Event) → is_sound goal (between ++ past) ≡ true → is_unasked between ≡ true → is_some (stage_of past) ≡ true → is_some (level_wish past) ≡ false → (in_run (stage_of past) ≡ true → keeps_news past ≡ false) → Course goal between past
-course goal [] past sound unasked staged unwished heard = record { staged = staged; unwished = unwished; pending = λ pending. pending; table = refl; aim = refl; bound_for = refl; ahead = omega arith; path = inl (refl, refl) }
+course goal [] past sound unasked staged unwished heard = record { staged = staged; unwished = unwished; news = λ news. news; table = refl; aim = refl; bound_for = refl; ahead = omega arith; path = inl (refl, refl) }
 course goal (NewTable table ∷ between) past sound unasked staged unwished heard = absurd (false≢true unasked)
 course goal (Got (got.Level level grace) ∷ between) past sound unasked staged unwished heard = absurd (false≢true unasked)
 course goal (Got (got.Call letter) ∷ between) past sound unasked staged unwished heard = absurd (false≢true unasked)
@@ -501,21 +501,21 @@ course goal (Enter s grace ∷ between) past sound unasked staged unwished heard
 course goal (Power kind ∷ between) past sound unasked staged unwished heard =
     let two = sound_step goal (Power kind) (between ++ past) refl sound in
     let it = course goal between past two.1 unasked staged unwished heard in
-    let pending = news_of goal (between ++ past) (step.Power kind) (record { orders = λ id ask. refl; holds = λ id. refl; settles = λ level. refl; reexecs = refl; rereads = refl }) (λ s grace. refl) two.0 in
-    record { staged = it.staged; unwished = it.unwished; pending = λ _. it.pending pending.1; table = it.table; aim = it.aim; bound_for = it.bound_for; ahead = it.ahead; path = inr (calling goal (Power kind) between past two.1 heard pending (due_facts goal (between ++ past) (step.Power kind) two.0) refl refl refl refl it) }
+    let news = news_of goal (between ++ past) (step.Power kind) (record { orders = λ id ask. refl; holds = λ id. refl; settles = λ level. refl; reexecs = refl; rereads = refl }) (λ s grace. refl) two.0 in
+    record { staged = it.staged; unwished = it.unwished; news = λ _. it.news news.1; table = it.table; aim = it.aim; bound_for = it.bound_for; ahead = it.ahead; path = inr (calling goal (Power kind) between past two.1 heard news (due_facts goal (between ++ past) (step.Power kind) two.0) refl refl refl refl it) }
 course goal (Call letter ∷ between) past sound unasked staged unwished heard =
     let two = sound_step goal (Call letter) (between ++ past) refl sound in
     let it = course goal between past two.1 unasked staged unwished heard in
-    let pending = news_of goal (between ++ past) (step.Call letter) (record { orders = λ id ask. refl; holds = λ id. refl; settles = λ level. refl; reexecs = refl; rereads = refl }) (λ s grace. refl) two.0 in
-    record { staged = it.staged; unwished = it.unwished; pending = λ _. it.pending pending.1; table = it.table; aim = it.aim; bound_for = it.bound_for; ahead = it.ahead; path = inr (calling goal (Call letter) between past two.1 heard pending (due_facts goal (between ++ past) (step.Call letter) two.0) refl refl refl refl it) }
+    let news = news_of goal (between ++ past) (step.Call letter) (record { orders = λ id ask. refl; holds = λ id. refl; settles = λ level. refl; reexecs = refl; rereads = refl }) (λ s grace. refl) two.0 in
+    record { staged = it.staged; unwished = it.unwished; news = λ _. it.news news.1; table = it.table; aim = it.aim; bound_for = it.bound_for; ahead = it.ahead; path = inr (calling goal (Call letter) between past two.1 heard news (due_facts goal (between ++ past) (step.Call letter) two.0) refl refl refl refl it) }
 course goal (Asked i Start ∷ between) past sound unasked staged unwished heard =
     let two = sound_step goal (Asked i Start) (between ++ past) refl sound in
     let it = course goal between past two.1 unasked staged unwished heard in
-    record { staged = it.staged; unwished = it.unwished; pending = it.pending; table = it.table; aim = it.aim; bound_for = it.bound_for; ahead = it.ahead; path = longer goal (Asked i Start) between past (λ calm. calm) (λ after calm. calm) refl (λ s after here running pending before. both_ways (wish_stands (between ++ past)) (or_right (wants_reexec (between ++ past) || wants_reread (between ++ past) || is_some (level_wish (between ++ past))) (in_run (stage_of (between ++ past)) && keeps_news (between ++ past)) (and_from (in_run (stage_of (between ++ past))) (keeps_news (between ++ past)) (ap in_run here ∙ running) pending)) (start_unwished goal (between ++ past) i two.0)) it.path }
+    record { staged = it.staged; unwished = it.unwished; news = it.news; table = it.table; aim = it.aim; bound_for = it.bound_for; ahead = it.ahead; path = longer goal (Asked i Start) between past (λ calm. calm) (λ after calm. calm) refl (λ s after here running news before. both_ways (wish_stands (between ++ past)) (or_right (wants_reexec (between ++ past) || wants_reread (between ++ past) || is_some (level_wish (between ++ past))) (in_run (stage_of (between ++ past)) && keeps_news (between ++ past)) (and_from (in_run (stage_of (between ++ past))) (keeps_news (between ++ past)) (ap in_run here ∙ running) news)) (start_unwished goal (between ++ past) i two.0)) it.path }
 course goal (happening ∷ between) past sound unasked staged unwished heard =
     let two = sound_step goal happening (between ++ past) refl sound in
     let it = course goal between past two.1 unasked staged unwished heard in
-    record { staged = it.staged; unwished = it.unwished; pending = it.pending; table = it.table; aim = it.aim; bound_for = it.bound_for; ahead = it.ahead; path = longer goal happening between past (λ calm. calm) (λ after calm. calm) refl (λ s after here running pending before. before pending) it.path }
+    record { staged = it.staged; unwished = it.unwished; news = it.news; table = it.table; aim = it.aim; bound_for = it.bound_for; ahead = it.ahead; path = longer goal happening between past (λ calm. calm) (λ after calm. calm) refl (λ s after here running news before. before news) it.path }
 
 -- where it was entered, no child is awaited
 pub none_awaited : (goal : Goal) (past now : List Event) (it : Entered goal past now) → list_any (is_awaited it.start) (kept_children it.start) ≡ false

@@ -35,7 +35,7 @@ record Kind (goal : Goal) (round past : List Event) : Type 0 where
   kind : list_all is_kind round ≡ true
   nudged : list_any is_nudge round ≡ true
   staged : is_some (stage_of (round ++ past)) ≡ true
-  pending : keeps_news (round ++ past) ≡ false
+  news : keeps_news (round ++ past) ≡ false
   unwished : wish_stands (round ++ past) ≡ false
 
 -- an order is answered and told: none is open again
@@ -152,7 +152,7 @@ reap goal round past it child others is wants = by (is_dead id n now) refl where
       kind = kind;
       nudged = nudged;
       staged = ap is_some at.stages ∙ it.staged;
-      pending = at.kept ∙ it.pending;
+      news = at.kept ∙ it.news;
       unwished = at.wishes ∙ it.unwished;
     };
     wants = ap (list_all (λ (x : Child). wants_look x.id (Told child.id ∷ Reaped child.id child.number (Exit 0) ∷ (pre ++ past)))) left ∙ all_kept (λ (x : Child). wants_look x.id now) (λ x. not (is_of child.id x)) (λ (x : Child). wants_look x.id (pre ++ past)) (λ x other want. at.looks x.id ∙ and_from (not (same_id x.id child.id)) (wants_look x.id now) (ap not (same_id-sym x.id child.id) ∙ other) want) others (and_parts (wants_look child.id now) (list_all (λ (x : Child). wants_look x.id now) others) (sym (ap (list_all (λ (x : Child). wants_look x.id now)) is) ∙ wants)).1;
@@ -197,14 +197,14 @@ reap_all goal past (suc k) round it wants few = at (λ (one : List Event) (state
 
 -- the round begins
 begun : (goal : Goal) (past : List Event) → is_sound goal past ≡ true → is_idle past ≡ true → wish_stands past ≡ false → is_some (stage_of past) ≡ true → keeps_news past ≡ false → Kind goal (Nudge ∷ []) past × (all_want (Nudge ∷ past) ≡ true)
-begun goal past sound idle unwished staged pending = (
+begun goal past sound idle unwished staged news = (
   record {
     sound = sound;
     idle = idle;
     kind = refl;
     nudged = refl;
     staged = staged;
-    pending = pending;
+    news = news;
     unwished = unwished;
   },
   all_from (λ (child : Child). has_child child.id (known_children past)) (known_children past) (false_from_ne_true (list_any (λ (child : Child). not (has_child child.id (known_children past))) (known_children past)) (λ some. wrong (passing (λ (child : Child). not (has_child child.id (known_children past))) (known_children past) some))),
@@ -280,7 +280,7 @@ starting goal round past it i asks = record {
       kind = it.kind.kind;
       nudged = it.kind.nudged;
       staged = it.kind.staged;
-      pending = it.kind.pending;
+      news = it.kind.news;
       unwished = it.kind.unwished;
     };
     bare = false_from_ne_true (list_any (λ (child : Child). wants_look child.id (Told i ∷ Birth i n ∷ Asked i Start ∷ now)) (known_children (Told i ∷ Birth i n ∷ Asked i Start ∷ now))) (λ some. wanting (told_any (λ (child : Child). wants_look child.id (Told i ∷ Birth i n ∷ Asked i Start ∷ now)) i (unreaped_children (Birth i n ∷ Asked i Start ∷ now)) (known_children now) some));
@@ -370,7 +370,7 @@ holding goal round past it i asks = record {
       kind = it.kind.kind;
       nudged = it.kind.nudged;
       staged = it.kind.staged;
-      pending = it.kind.pending;
+      news = it.kind.news;
       unwished = it.kind.unwished;
     };
     bare = it.bare;
@@ -434,7 +434,7 @@ settling goal round past it level asks untold = record {
       kind = it.kind.kind;
       nudged = it.kind.nudged;
       staged = it.kind.staged;
-      pending = it.kind.pending;
+      news = it.kind.news;
       unwished = it.kind.unwished;
     };
     bare = it.bare;
@@ -505,14 +505,14 @@ record Wishless (past : List Event) : Type 0 where
   reexec : wants_reexec past ≡ false
   reread : wants_reread past ≡ false
   level : is_some (level_wish past) ≡ false
-  pending : (in_run (stage_of past) && keeps_news past) ≡ false
+  news : (in_run (stage_of past) && keeps_news past) ≡ false
 
 wishless : (past : List Event) → wish_stands past ≡ false → Wishless past
 wishless past h =
     let p2 = or_parts (wants_reexec past || wants_reread past || is_some (level_wish past)) (in_run (stage_of past) && keeps_news past) h in
     let p1 = or_parts (wants_reexec past || wants_reread past) (is_some (level_wish past)) p2.0 in
     let p0 = or_parts (wants_reexec past) (wants_reread past) p1.0 in
-    record { reexec = p0.0; reread = p0.1; level = p1.1; pending = p2.1 }
+    record { reexec = p0.0; reread = p0.1; level = p1.1; news = p2.1 }
 
 no_level : (past : List Event) (o : Option Goal) → is_some o ≡ false → enter_level o past ≡ []
 no_level past o h = grind arith
@@ -538,9 +538,9 @@ climbing goal round past it s n over next climbs lower = record {
       idle = it.kind.idle;
       kind = it.kind.kind;
       nudged = it.kind.nudged;
-      unwished = or_from (wants_reexec now || wants_reread now || is_some (other_than (Some s) None)) (in_run (Some s) && keeps_news now) (or_from (wants_reexec now || wants_reread now) (is_some (other_than (Some s) None)) (or_from (wants_reexec now) (wants_reread now) w.reexec w.reread) (no_other s)) (and_right (in_run (Some s)) (keeps_news now) it.kind.pending);
+      unwished = or_from (wants_reexec now || wants_reread now || is_some (other_than (Some s) None)) (in_run (Some s) && keeps_news now) (or_from (wants_reexec now || wants_reread now) (is_some (other_than (Some s) None)) (or_from (wants_reexec now) (wants_reread now) w.reexec w.reread) (no_other s)) (and_right (in_run (Some s)) (keeps_news now) it.kind.news);
       staged = refl;
-      pending = it.kind.pending;
+      news = it.kind.news;
     };
     bare = it.bare;
     spared = falsely (list_any (is_excluded (Enter s (goal_of goal now).grace ∷ now)) (kept_children now)) (list_any (λ child. not (stands_by (table_of now) s child)) (kept_children now)) (any_less (is_excluded (Enter s (goal_of goal now).grace ∷ now)) (λ child. not (stands_by (table_of now) s child)) (λ child own. not_from (stands_by (table_of now) s child) (false_from_ne_true (stands_by (table_of now) s child) (λ by. stands child own by (entry_of child.id (table_of now)) refl))) (kept_children now)) (bystanders_at now s over climbs);
@@ -733,13 +733,13 @@ record Behind (goal : Goal) (past : List Event) : Type 0 where
   quiet : is_undisturbed round past ≡ true
   rest : AtRest goal (round ++ past)
   idle : is_idle (round ++ past) ≡ true
-  pending : keeps_news (round ++ past) ≡ false
+  news : keeps_news (round ++ past) ≡ false
   unasked : is_unasked round ≡ true
 
 one_behind : (goal : Goal) (past : List Event) → is_sound goal past ≡ true → AtRest goal past → is_idle past ≡ true → keeps_news past ≡ false → Behind goal past
-one_behind goal past sound rest idle pending = record { round = it.round; sound = it.state.kind.sound; quiet = undisturbed goal it.round past sound idle it.state; rest = it.rest; idle = it.state.kind.idle; pending = it.state.kind.pending; unasked = asks_nothing it.round it.state.kind.kind } where
+one_behind goal past sound rest idle news = record { round = it.round; sound = it.state.kind.sound; quiet = undisturbed goal it.round past sound idle it.state; rest = it.rest; idle = it.state.kind.idle; news = it.state.kind.news; unasked = asks_nothing it.round it.state.kind.kind } where
   first : Kind goal (Nudge ∷ []) past × (all_want (Nudge ∷ past) ≡ true)
-  first = begun goal past sound idle (rest_heard goal past rest idle) (at_stage goal past rest) pending
+  first = begun goal past sound idle (rest_heard goal past rest idle) (at_stage goal past rest) news
 
   bare : Bare goal past
   bare = reap_all goal past (length (known_children past)) (Nudge ∷ []) first.0 first.1 (same_most (length (known_children past)))
@@ -756,13 +756,13 @@ record Chain (goal : Goal) (k : ℕ) (past : List Event) : Type 0 where
   all : undisturbed_among rounds past ≡ k
   rest : AtRest goal (after_rounds rounds past)
   idle : is_idle (after_rounds rounds past) ≡ true
-  pending : keeps_news (after_rounds rounds past) ≡ false
+  news : keeps_news (after_rounds rounds past) ≡ false
 
 chain : (goal : Goal) (past : List Event) → is_sound goal past ≡ true → AtRest goal past → is_idle past ≡ true → keeps_news past ≡ false → (k : ℕ) → Chain goal k past
-chain goal past sound rest idle pending zero = record { rounds = []; many = refl; sound = sound; quiet = (rest, idle); all = refl; rest = rest; idle = idle; pending = pending }
-chain goal past sound rest idle pending (suc k) = longer_by (chain goal past sound rest idle pending k) where
+chain goal past sound rest idle news zero = record { rounds = []; many = refl; sound = sound; quiet = (rest, idle); all = refl; rest = rest; idle = idle; news = news }
+chain goal past sound rest idle news (suc k) = longer_by (chain goal past sound rest idle news k) where
   longer_by : Chain goal k past → Chain goal (suc k) past
-  longer_by it = on (one_behind goal (after_rounds it.rounds past) it.sound it.rest it.idle it.pending) where
+  longer_by it = on (one_behind goal (after_rounds it.rounds past) it.sound it.rest it.idle it.news) where
     on : Behind goal (after_rounds it.rounds past) → Chain goal (suc k) past
     on one = record {
       rounds = one.round ∷ it.rounds;
@@ -772,13 +772,13 @@ chain goal past sound rest idle pending (suc k) = longer_by (chain goal past sou
       all = one_more (is_undisturbed one.round (after_rounds it.rounds past)) (undisturbed_among it.rounds past) one.quiet it.all;
       rest = one.rest;
       idle = one.idle;
-      pending = one.pending;
+      news = one.news;
     } where
       one_more : (b : Bool) (n : ℕ) → b ≡ true → n ≡ k → cond b 1 0 + n ≡ suc k
       one_more true n own is = omega (arith, is)
       one_more false n own is = absurd (false≢true own)
 
 pub rounds_exist : (goal : Goal) (later past : List Event) (k : ℕ) → is_sound goal (later ++ past) ≡ true → AtRest goal past → is_idle past ≡ true → keeps_news past ≡ false → (rounds : List (List Event)) × (length rounds ≡ k) × (is_sound goal (after_rounds rounds past) ≡ true) × AreUnasked goal rounds past × (undisturbed_among rounds past ≡ k)
-rounds_exist goal later past k sound rest idle pending = read (chain goal past (sound_rest goal later past sound rest) rest idle pending k) where
+rounds_exist goal later past k sound rest idle news = read (chain goal past (sound_rest goal later past sound rest) rest idle news k) where
   read : Chain goal k past → (rounds : List (List Event)) × (length rounds ≡ k) × (is_sound goal (after_rounds rounds past) ≡ true) × AreUnasked goal rounds past × (undisturbed_among rounds past ≡ k)
   read it = (it.rounds, it.many, it.sound, it.quiet, it.all)

@@ -64,8 +64,8 @@ level_wish = record { sound = refl; rests = refl; idle = refl; broken = refl }
 abbrev failed : List Event
 failed = Got (got.Power power.Fail) ∷ settled
 
-pending : Breaks 5 (opening level.L3) failed (not (wish_stands failed))
-pending = record { sound = refl; rests = refl; idle = refl; broken = refl }
+news : Breaks 5 (opening level.L3) failed (not (wish_stands failed))
+news = record { sound = refl; rests = refl; idle = refl; broken = refl }
 
 abbrev unsignalled : List Event
 unsignalled = goes_to level.L2 ++ settled

@@ -20,9 +20,9 @@ levels : (o : Option Goal) (past : List Event) → Each (Says past) (enter_level
 levels None past = tt
 levels (Some wish) past = (tt, tt)
 
-pending : (kinds : List PowerKind) (past : List Event) → Each (Says past) (power_steps kinds past)
-pending [] past = tt
-pending (kind ∷ kinds) past = each_append (Says past) (step_if (keeps_power kind past) (Power kind)) (power_steps kinds past) (each_step_if (Says past) (keeps_power kind past) (Power kind) (λ _. tt)) (pending kinds past)
+news : (kinds : List PowerKind) (past : List Event) → Each (Says past) (power_steps kinds past)
+news [] past = tt
+news (kind ∷ kinds) past = each_append (Says past) (step_if (keeps_power kind past) (Power kind)) (power_steps kinds past) (each_step_if (Says past) (keeps_power kind past) (Power kind) (λ _. tt)) (news kinds past)
 
 calls : (called : List Letter) (past : List Event) → Each (Says past) (letter_steps called past)
 calls [] past = tt
@@ -75,7 +75,7 @@ all_act goal past = join (one ++ two ++ three ++ four ++ five ++ six ++ seven ++
     (each_step_if (Says past) (is_quiet past && wants_reexec past) Reexec (λ h. (and_parts (is_quiet past) (wants_reexec past) h).1)))
     (each_step_if (Says past) (is_quiet past && wants_reread past) Reread (λ h. (and_parts (is_quiet past) (wants_reread past) h).1)))
     (each_steps_if (Says past) (is_quiet past) (enter_level (level_wish past) past) (λ _. levels (level_wish past) past)))
-    (each_steps_if (Says past) (is_quiet past && in_run (stage_of past)) (power_steps powers past ++ letter_steps letters past) (λ _. join (power_steps powers past) (letter_steps letters past) (pending powers past) (calls letters past))))
+    (each_steps_if (Says past) (is_quiet past && in_run (stage_of past)) (power_steps powers past ++ letter_steps letters past) (λ _. join (power_steps powers past) (letter_steps letters past) (news powers past) (calls letters past))))
     (each_steps_if (Says past) (not (wish_stands past)) (stops_among (record_ids past) past) (λ _. stops_all (record_ids past) past)))
     (each_steps_if (Says past) (not (wish_stands past) && none_excluded past) (starts_among (table_of past) past) (λ _. starts (table_of past) past)))
     (each_steps_if (Says past) (is_over past) (next_stage (goal_of goal past) (stage_of past)) (λ _. stages (goal_of goal past) (stage_of past) past)))

@@ -17,7 +17,7 @@ abbrev Reached : Goal → List Event → List Event → Type 0
 Reached goal past now = (is_sound goal now ≡ true) × (is_level_announced now ≡ true) × (stage_of now ≡ Some (Run (destination (goal_of goal past).level (stage_of past))))
 
 pub reached : (goal : Goal) (later past : List Event) → is_sound goal (later ++ past) ≡ true → AtRest goal past → is_idle past ≡ true → keeps_news past ≡ false → (onward : List Event) × (is_sound goal (onward ++ past) ≡ true) × (is_level_announced (onward ++ past) ≡ true) × (stage_of (onward ++ past) ≡ Some (Run (destination (goal_of goal past).level (stage_of past))))
-reached goal later past sound rest idle pending = by (rounds_exist goal later past (rounds_to_come goal past) sound rest idle pending) where
+reached goal later past sound rest idle news = by (rounds_exist goal later past (rounds_to_come goal past) sound rest idle news) where
   by : (rounds : List (List Event)) × (length rounds ≡ rounds_to_come goal past) × (is_sound goal (after_rounds rounds past) ≡ true) × AreUnasked goal rounds past × (undisturbed_among rounds past ≡ rounds_to_come goal past) → (onward : List Event) × (is_sound goal (onward ++ past) ≡ true) × (is_level_announced (onward ++ past) ≡ true) × (stage_of (onward ++ past) ≡ Some (Run (destination (goal_of goal past).level (stage_of past))))
   by some = (in_one some.0, there.0, there.1, there.2) where
     enough : rounds_to_come goal past ≤ undisturbed_among some.0 past

@@ -25,7 +25,7 @@ pub record Rest (goal : Goal) (past : List Event) : Type 0 where
   pub reexec : due_reexec past ≡ []
   pub reread : due_reread past ≡ []
   pub level : due_level past ≡ []
-  pub pending : due_news past ≡ []
+  pub news : due_news past ≡ []
   pub stops : due_stops past ≡ []
   pub starts : due_starts past ≡ []
   pub stage : due_stage goal past ≡ []
@@ -38,7 +38,7 @@ ten_parts a b c d e f g h i j none = grind (arith, nil_parts)
 pub at_rest : (goal : Goal) (past : List Event) → AtRest goal past → Rest goal past
 at_rest goal past h =
     let p = ten_parts (due_first goal (stage_of past) past) (due_reexec past) (due_reread past) (due_level past) (due_news past) (due_stops past) (due_starts past) (due_stage goal past) (due_settle past) (due_looks past) h in
-    record { first = p.0; reexec = p.1; reread = p.2; level = p.3; pending = p.4; stops = p.5; starts = p.6; stage = p.7; settle = p.8; looks = p.9 }
+    record { first = p.0; reexec = p.1; reread = p.2; level = p.3; news = p.4; stops = p.5; starts = p.6; stage = p.7; settle = p.8; looks = p.9 }
 
 -- where no order is open, the point is quiet
 pub idle_quiet : (past : List Event) → is_idle past ≡ true → is_quiet past ≡ true

@@ -108,11 +108,11 @@ destination level _ = level
 -- the entries that init will wait for in those stages: those wanted when the stage begins and, where news is kept, those
 -- that may be called then
 abbrev pub is_ahead : Bool → Stage → Entry → Bool
-is_ahead pending stage e = waited_of e && (starts_of e stage && wanted_by e.act true true pending)
+is_ahead news stage e = waited_of e && (starts_of e stage && wanted_by e.act true true news)
 
 abbrev pub waits_ahead : Bool → List Entry → List Stage → ℕ
-waits_ahead pending table [] = 0
-waits_ahead pending table (stage ∷ stages) = length (filter (is_ahead pending stage) table) + waits_ahead pending table stages
+waits_ahead news table [] = 0
+waits_ahead news table (stage ∷ stages) = length (filter (is_ahead news stage) table) + waits_ahead news table stages
 
 -- how many entries init will wait for before the level is settled
 abbrev pub waits_to_come : Goal → List Event → ℕ
