@@ -87,7 +87,7 @@ fn is_over<A: Allocator>(core: &Core<A>, drain: bool) -> bool
     drain && core.drained()
 }
 
-fn served<A: Allocator, E: Edge>(core: &Core<A>, edge: &E, turns: u64) -> Served
+fn served_so_far<A: Allocator, E: Edge>(core: &Core<A>, edge: &E, turns: u64) -> Served
     ensures turns { result.turns ≡ turns }
     ensures drained { result.drained ≡ is_drained core.now }
     ensures logged { result.logged ≡ not (E.state (E.log edge.now)).failed }
@@ -134,8 +134,8 @@ pub fn serve<A: Allocator + Copy, E: Edge, W: Watch<A>>(
         watch.look(core);
         edge.pause();
         if is_over(core, drain) {
-            return served(core, edge, made + 1);
+            return served_so_far(core, edge, made + 1);
         }
     }
-    served(core, edge, turns)
+    served_so_far(core, edge, turns)
 }

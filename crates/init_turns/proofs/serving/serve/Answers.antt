@@ -27,8 +27,8 @@ returns-then-is_over-clause-trace g c =
     let gone : MakesOver g.E.Edge.state told now_told log now_log (Gone c.args.strict c.args.drain (Fresh core) c.loop-made.made now saw now_saw) (Fresh core) (At now c.turn.new.blocks) =
     turns_more g.E.Edge.state c.args.strict c.args.drain c.turn.result c.loop-made.made told (g.E.Edge.told c.loop-made.edge) (g.E.Edge.told c.turn.new.edge) now_told log (g.E.Edge.state (g.E.Edge.log c.loop-made.edge)) (g.E.Edge.log c.turn.new.edge) (g.E.Edge.log c.pause.new.self)
     saw (g.W.Watch.seen c.loop-made.watch) now_saw core c.loop-made.core now c.loop-made.blocks c.turn.new.blocks turns c.turn.ensures.makes (λ short. ((c.turn.ensures.grows read).1 (grows short).0).1) c.look.ensures.seen c.pause.ensures.adds c.pause.ensures.log in
-    turns_left g.E.Edge.state told now_told log now_log (MadeTurns c.args.strict c.args.drain (Fresh core) c.served.result.turns saw now_saw) core now c.turn.new.blocks
-    (turns_end g.E.Edge.state c.args.strict c.args.drain c.loop-made.made c.served.result.turns told now_told log now_log saw now_saw (Fresh core) (At now c.turn.new.blocks) now (omega (arith, c.served.ensures.turns)) gone)
+    turns_left g.E.Edge.state told now_told log now_log (MadeTurns c.args.strict c.args.drain (Fresh core) c.served_so_far.result.turns saw now_saw) core now c.turn.new.blocks
+    (turns_end g.E.Edge.state c.args.strict c.args.drain c.loop-made.made c.served_so_far.result.turns told now_told log now_log saw now_saw (Fresh core) (At now c.turn.new.blocks) now (omega (arith, c.served_so_far.ensures.turns)) gone)
 
 pub returns-then-is_over-clause-requests : goal.returns-then-is_over-clause-requests
 returns-then-is_over-clause-requests g c =
@@ -71,9 +71,9 @@ returns-clause-trace g c =
     let saw = g.W.Watch.seen c.args.watch.now in
     let now_saw = g.W.Watch.seen c.loop-made.watch in
     let core = c.args.core.now in
-    let count : c.loop-made.made ≡ c.served-2.result.turns = search rules in
-    turns_left g.E.Edge.state told now_told log now_log (MadeTurns c.args.strict c.args.drain (Fresh core) c.served-2.result.turns saw now_saw) core c.loop-made.core c.loop-made.blocks
-    (turns_limit g.E.Edge.state c.args.strict c.args.drain c.loop-made.made c.served-2.result.turns told now_told log now_log saw now_saw (Fresh core) (At c.loop-made.core c.loop-made.blocks) count turns)
+    let count : c.loop-made.made ≡ c.served_so_far-2.result.turns = search rules in
+    turns_left g.E.Edge.state told now_told log now_log (MadeTurns c.args.strict c.args.drain (Fresh core) c.served_so_far-2.result.turns saw now_saw) core c.loop-made.core c.loop-made.blocks
+    (turns_limit g.E.Edge.state c.args.strict c.args.drain c.loop-made.made c.served_so_far-2.result.turns told now_told log now_log saw now_saw (Fresh core) (At c.loop-made.core c.loop-made.blocks) count turns)
 
 pub returns-clause-requests : goal.returns-clause-requests
 returns-clause-requests g c =
