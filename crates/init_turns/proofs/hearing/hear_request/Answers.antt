@@ -6,16 +6,16 @@ use Rattle.init_turns.proofs.hearing.hear_request.Goals as goal
 pub returns-clause-hears : goal.returns-clause-hears
 returns-clause-hears g c asks =
     let core = c.args.core.now in
-    let new = c.got.new.self in
+    let new = c.receive.new.self in
     let old = g.E.Edge.state (g.E.Edge.log c.args.edge.now) in
     let now = g.E.Edge.state (g.E.Edge.log c.note.new.edge) in
-    Hears-tracks core new old now (λ so_far. past.Got c.args.request ∷ so_far) (request_lasts core new c.args.request asks c.got.ensures.state)
-    (Hears-told core new old now (past.Got c.args.request) refl c.got.ensures.fits
+    Hears-tracks core new old now (λ so_far. past.Got c.args.request ∷ so_far) (request_lasts core new c.args.request asks c.receive.ensures.state)
+    (Hears-told core new old now (past.Got c.args.request) refl c.receive.ensures.fits
     c.note.ensures.logs)
 
 pub returns-clause-grows : goal.returns-clause-grows
 returns-clause-grows g c asks =
-    let lasts = request_lasts c.args.core.now c.got.new.self c.args.request asks c.got.ensures.state in
+    let lasts = request_lasts c.args.core.now c.receive.new.self c.args.request asks c.receive.ensures.state in
     let old = g.E.Edge.state (g.E.Edge.log c.args.edge.now) in
     let new = g.E.Edge.state (g.E.Edge.log c.note.new.edge) in
-    GrowsBy-one c.args.core.now c.got.new.self old new lasts.short (c.note.ensures.grows asks)
+    GrowsBy-one c.args.core.now c.receive.new.self old new lasts.short (c.note.ensures.grows asks)

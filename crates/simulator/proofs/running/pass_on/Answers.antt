@@ -60,12 +60,12 @@ returns-in-Nudge-clause-lasts g c goal past moment may =
 
 pub returns-in-Got-clause-fits : goal.returns-in-Got-clause-fits
 returns-in-Got-clause-fits g c goal past moment may =
-    fits_at goal past c.got.new.self c.args.happening.now (event.Got c.in-Got.request) c.in-Got.is (all_on c.args.core.now c.got.new.self goal past (event.Got c.in-Got.request ∷ past) (c.got.ensures.fits goal past (run_sound goal past moment.runs) moment.fits.0) moment.fits)
+    fits_at goal past c.receive.new.self c.args.happening.now (event.Got c.in-Got.request) c.in-Got.is (all_on c.args.core.now c.receive.new.self goal past (event.Got c.in-Got.request ∷ past) (c.receive.ensures.fits goal past (run_sound goal past moment.runs) moment.fits.0) moment.fits)
 
 pub returns-in-Got-clause-lasts : goal.returns-in-Got-clause-lasts
 returns-in-Got-clause-lasts g c goal past moment may =
-    lasts_at goal past c.got.new.self c.args.happening.now (event.Got c.in-Got.request) c.in-Got.is
-    (lasts_got c.args.core.now c.got.new.self goal past moment.lasts c.in-Got.request moment.fits (subst (λ h. is_in_range h ≡ true) c.in-Got.is c.requires.ranged) c.got.ensures.state)
+    lasts_at goal past c.receive.new.self c.args.happening.now (event.Got c.in-Got.request) c.in-Got.is
+    (lasts_got c.args.core.now c.receive.new.self goal past moment.lasts c.in-Got.request moment.fits (subst (λ h. is_in_range h ≡ true) c.in-Got.is c.requires.ranged) c.receive.ensures.state)
 
 pub returns-in_ok-hand-in-Handed-clause-fits : goal.returns-in_ok-hand-in-Handed-clause-fits
 returns-in_ok-hand-in-Handed-clause-fits g c goal past moment may =
