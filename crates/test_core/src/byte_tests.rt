@@ -165,35 +165,14 @@ const OF_OPENING: &[Row] = &[
     (9, 5, 5, Others, Some(Cut)),
 ];
 
-/// The version and the lines of a text of generation 1, what stands behind each of its records when it is handed over
-/// again, and the rows of its bytes.
-struct Part {
-    version: u64,
-    lines: &'static str,
-    behind: &'static str,
-    rows: &'static [&'static [Row]],
-}
+/// The version and the lines of a text of generation 1, and the rows of its bytes.
+type Part = (u64, &'static str, &'static [&'static [Row]]);
 
 const PARTS: &[Part] = &[
-    Part {
-        version: 2,
-        lines: STARTED,
-        behind: "",
-        rows: &[OF_NEW, OF_TABLE, OF_RECORDS, OF_HEADS],
-    },
+    (2, STARTED, &[OF_NEW, OF_TABLE, OF_RECORDS, OF_HEADS]),
     // It says nothing of how the last children ended.
-    Part {
-        version: 1,
-        lines: STARTED_OLD,
-        behind: " -",
-        rows: &[OF_OLD, OF_TABLE, OF_RECORDS, OF_HEADS],
-    },
-    Part {
-        version: 2,
-        lines: OPENING,
-        behind: "",
-        rows: &[OF_OPENING, OF_HEADS],
-    },
+    (1, STARTED_OLD, &[OF_OLD, OF_TABLE, OF_RECORDS, OF_HEADS]),
+    (2, OPENING, &[OF_OPENING, OF_HEADS]),
 ];
 
 fn has(bytes: Bytes, byte: u8) -> bool {
@@ -211,7 +190,7 @@ fn has(bytes: Bytes, byte: u8) -> bool {
 
 /// What is answered where the byte stands at this line and column. A row's columns are counted with its ends.
 fn wanted(part: &Part, line: usize, column: usize, byte: u8) -> Option<StateFault> {
-    for rows in part.rows {
+    for rows in part.2 {
         for (own, first, last, bytes, want) in *rows {
             if *own == line && *first <= column && column <= *last && has(*bytes, byte) {
                 return *want;
@@ -223,10 +202,10 @@ fn wanted(part: &Part, line: usize, column: usize, byte: u8) -> Option<StateFaul
 
 /// Whether the changed text is answered so, and where it is taken over, handed over again as it stands.
 fn is_right(own: Global, part: &Part, text: &[u8], want: Option<StateFault>) -> bool {
-    let front = text.len().saturating_sub(part.lines.len());
+    let front = text.len().saturating_sub(part.1.len());
     match taken(own, own, text, 1) {
         Ok(mut core) => match str::from_utf8(text.get(front..).unwrap_or(b"")) {
-            Ok(lines) => want.is_none() && handed(own, &mut core, 2, lines, part.behind).is_some(),
+            Ok(lines) => want.is_none() && handed(own, &mut core, 2, lines).is_some(),
             Err(_) => false,
         },
         Err(why) => want == Some(why),
@@ -287,7 +266,7 @@ fn wrong_in(
 
 fn are_right<R: Abort>(rt: &R, own: Global, first: usize, last: usize) -> Result<(), Fail> {
     for part in PARTS {
-        let text = text_of(own, part.version, 1, part.lines)?;
+        let text = text_of(own, part.0, 1, part.1)?;
         let wrong = wrong_in(own, part, text.as_bytes(), first, last);
         assert!(rt; wrong.is_none(), "{wrong:?}: {text}");
     }

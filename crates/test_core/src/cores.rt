@@ -2,22 +2,28 @@
 //! for later; `handed` is the end of the wish to be re-executed. `awaits` has the children whose end is awaited, parted
 //! by `, `, or `none`; `last` how the last child of an id ended, with which exit code.
 
-use crate::runs::{Subject, answer_of, goes_on, happening_of, table_of};
+use crate::runs::{Subject, goes_on, table_of};
 use core_steps::{Core, Goal, Step};
 use core_waiting::{Awaited, AwaitedChildren, WhyAwaited};
 use init_words::{Id, Level, Memory, Refusal, Status};
 use inittab_text::Table;
 use std::alloc::{Allocator, Global};
-use test_support::boxed;
+use test_support::{answer_of, boxed, happening_of};
 use trace_events::{Happening, HappeningIn};
 use trace_text::words::{read_level, read_stage};
 
 /// A core within a run.
 #[derive(Drop)]
-pub(crate) struct CoreRun<A: Allocator> {
-    core: Core<A>,
+pub(crate) struct CoreRun<'c, A: Allocator> {
+    core: &'c mut Core<A>,
     /// The step that stays until the next call; none before the first line that is no reader's.
     stays: Option<Step>,
+}
+
+impl<'c, A: Allocator> CoreRun<'c, A> {
+    pub(crate) fn of(core: &'c mut Core<A>) -> CoreRun<'c, A> {
+        CoreRun { core, stays: None }
+    }
 }
 
 pub(crate) fn core_over<A: Allocator + Copy>(
@@ -25,9 +31,8 @@ pub(crate) fn core_over<A: Allocator + Copy>(
     alloc: A,
     table: Table<A>,
     level: Option<Level>,
-) -> Result<Box<CoreRun<A>>, Memory> {
-    let core = Core::new(alloc, table, level)?;
-    Ok(boxed(own, CoreRun { core, stays: None })?)
+) -> Result<Box<Core<A>>, Memory> {
+    Ok(boxed(own, Core::new(alloc, table, level)?)?)
 }
 
 fn why_text(why: WhyAwaited) -> &'static str {
@@ -65,7 +70,7 @@ fn awaits<A: Allocator>(core: &Core<A>, text: &str) -> bool {
 }
 
 /// Whether a reader gives what its line says; none where the line is no reader's.
-pub(crate) fn gives<A: Allocator>(core: &Core<A>, line: &str) -> Option<bool> {
+fn gives<A: Allocator>(core: &Core<A>, line: &str) -> Option<bool> {
     let (reader, said) = line.split_once(' ').unwrap_or((line, ""));
     match reader {
         "busy" => Some(!core.drained()),
@@ -103,7 +108,7 @@ fn made_by(happening: &HappeningIn<Global>) -> Option<Step> {
     })
 }
 
-pub(crate) fn step_of(own: Global, line: &str) -> Option<Step> {
+fn step_of(own: Global, line: &str) -> Option<Step> {
     match line {
         "reread" => Some(Step::Reread),
         "reexec" => Some(Step::Reexec),
@@ -132,7 +137,7 @@ fn told<A: Allocator>(
 }
 
 /// How the core answers the call of a line; none where it is no call.
-pub(crate) fn answered<A: Allocator + Copy>(
+fn answered<A: Allocator + Copy>(
     own: Global,
     alloc: A,
     core: &mut Core<A>,
@@ -144,9 +149,9 @@ pub(crate) fn answered<A: Allocator + Copy>(
     }
 }
 
-impl<A: Allocator + Copy> Subject<A> for CoreRun<A> {
+impl<A: Allocator + Copy> Subject<A> for CoreRun<'_, A> {
     fn goes(&mut self, own: Global, alloc: A, line: &str, want: Result<(), Refusal>) -> bool {
-        if let Some(is_so) = gives(&self.core, line) {
+        if let Some(is_so) = gives(self.core, line) {
             return is_so;
         }
         if line == "then" {
@@ -162,7 +167,7 @@ impl<A: Allocator + Copy> Subject<A> for CoreRun<A> {
             return false;
         }
         self.stays = Some(Step::Idle);
-        answered(own, alloc, &mut self.core, line) == Some(want)
+        answered(own, alloc, self.core, line) == Some(want)
     }
 
     fn rests(&mut self) -> bool {
@@ -173,13 +178,24 @@ impl<A: Allocator + Copy> Subject<A> for CoreRun<A> {
     }
 }
 
-/// What comes of the lines of a run, of an inittab and an opening level, is as they say.
-pub(crate) fn is_core_run(
+/// What comes of the lines of a run over a core is as they say.
+pub(crate) fn does<A: Allocator + Copy>(
     own: Global,
-    inittab: &str,
-    level: Option<Level>,
+    alloc: A,
+    core: &mut Core<A>,
     run: &str,
-) -> Option<bool> {
-    let mut subject = core_over(own, own, table_of(own, inittab)?, level).ok()?;
-    Some(goes_on::<Global, CoreRun<Global>>(own, own, &mut subject, run))
+) -> bool {
+    goes_on(own, alloc, &mut CoreRun::of(core), run)
+}
+
+/// The core of an init that begins with an inittab, behind `>` for a level.
+pub(crate) fn opened(own: Global, inittab: &str) -> Option<Box<Core>> {
+    let (inittab, level) = inittab.split_once(" > ").unwrap_or((inittab, ""));
+    core_over(
+        own,
+        own,
+        table_of(own, inittab)?,
+        read_level(level.as_bytes()),
+    )
+    .ok()
 }

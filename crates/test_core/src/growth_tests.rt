@@ -1,14 +1,14 @@
 //! Growths are refused in turn, by less more room from one try to the next than the least growth takes. A refused
 //! adoption changes nothing, and one with room again is made.
 
-use crate::cores::core_over;
+use crate::cores::{CoreRun, core_over};
 use crate::records::records_over;
 use crate::runs::{Subject, goes_on, table_of};
 use core_records::{Record, Records};
 use init_words::{Act, Id, Level, Refusal};
 use linked_list_allocator::LocalHeap;
 use std::alloc::Global;
-use test_support::{Outcome, fill, refusals};
+use test_support::{Outcome, fill, first_unrefused};
 
 /// A run up to an adoption, what is so where that is refused, and what comes of it where it is made.
 struct Scarce<'a> {
@@ -97,7 +97,7 @@ fn tried_in(heaps: &Heaps, row: &Scarce) -> Option<bool> {
     let table = table_of(heaps.ample, row.inittab)?;
     if row.what == "core" {
         let mut core = core_over(heaps.own, heaps.scarce, table, None).ok()?;
-        return tried_on(heaps, &mut *core, row);
+        return tried_on(heaps, &mut CoreRun::of(&mut core), row);
     }
     let mut records = records_over(heaps.own, heaps.scarce, table).ok()?;
     tried_on(heaps, &mut *records, row)
@@ -165,11 +165,9 @@ fn has_room(own: Global, heap: &LocalHeap, what: &str) -> Option<bool> {
 
 #[test]
 fn what_has_no_room_is_not_made(rt: HostRuntime) {
-    for what in ["core", "records", "rebuilt"] {
-        let refused = refusals(
-            rt.alloc(),
-            |own, heap| has_room(own, heap, what).map(Outcome::of),
-        );
-        assert!(rt; refused > Some(3), "{what}: {refused:?}");
-    }
+    let rows = &[("core", 3), ("records", 3), ("rebuilt", 3)];
+    let wrong = first_unrefused(rt.alloc(), rows, |own, heap, what| {
+        has_room(own, heap, what).map(Outcome::of)
+    });
+    assert!(rt; wrong.is_none(), "{wrong:?}");
 }

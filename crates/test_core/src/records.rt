@@ -2,13 +2,13 @@
 //! id, `enter` a stage, and `judge` by the table and a level. Each order is given at the limit of the clock, and each
 //! answer there too, until a `clock` says when.
 
-use crate::runs::{Subject, answer_of, goes_on, happening_of, table_of};
+use crate::runs::{Subject, goes_on, table_of};
 use core_records::{Record, Records, Stop};
 use init_words::{ChildNumber, Id, Memory, OrderKind, Refusal, Stage, Status};
 use inittab_text::Table;
 use respawn_limit::CLOCK_LIMIT;
 use std::alloc::{Allocator, Global};
-use test_support::boxed;
+use test_support::{answer_of, boxed, happening_of};
 use trace_events::{Happening, HappeningIn};
 use trace_text::words::read_level;
 

@@ -10,7 +10,7 @@ use linked_list_allocator::LocalHeap;
 use std::alloc::Global;
 use std::test::Fail;
 use test_support::Outcome::{self, Done, Refused, Unmade};
-use test_support::{boxed, refusals};
+use test_support::{boxed, first_unrefused};
 
 /// A child, an order about it that is open, a signal that is due, a wish for another level, times, and ends of
 /// children.
@@ -33,9 +33,9 @@ const NEXT: &[u8] = b"r:3:respawn:b\nn:3:once:c\nm:3:off:\nl:3:wait:d\n";
 fn hand_over_on(own: Global, heap: &LocalHeap, text: &[u8]) -> Option<Outcome> {
     let mut core = taken(own, own, text, 1).ok()?;
     match hand_over(heap, &mut core) {
-        Ok(text) => is_text(own, &text, 2, BUSY, "")?.then_some(Done),
+        Ok(text) => is_text(own, &text, 2, BUSY)?.then_some(Done),
         Err(StateFault::Memory) => {
-            let _same = handed(own, &mut core, 2, BUSY, "")?;
+            let _same = handed(own, &mut core, 2, BUSY)?;
             Some(Refused)
         }
         Err(_) => None,
@@ -72,7 +72,7 @@ fn adopt_on(own: Global, heap: &LocalHeap, text: &[u8]) -> Option<Outcome> {
     match core.adopt(table) {
         Ok(()) => (core.table().len() == 4 && core.slots().len() == 5).then_some(Done),
         Err(Refusal::Memory) => {
-            let _same = handed(own, &mut core, 2, QUIET, "")?;
+            let _same = handed(own, &mut core, 2, QUIET)?;
             Some(Refused)
         }
         Err(_) => None,
@@ -92,22 +92,21 @@ fn outcome_on(own: Global, heap: &LocalHeap, what: &str, text: &[u8]) -> Option<
     }
 }
 
-/// What needs room, for which state, and how many heaps at least have none for it.
-const REFUSED: &[(&str, &str, usize)] = &[
-    ("hand over", BUSY, 8),
-    ("take over", BUSY, 8),
-    ("rebuild", SETTLED, 3),
-    ("adopt", QUIET, 3),
+/// States, what needs room for each, and how many heaps at least have none for it.
+const REFUSED: &[(&str, &[(&str, usize)])] = &[
+    (BUSY, &[("hand over", 8), ("take over", 8)]),
+    (SETTLED, &[("rebuild", 3)]),
+    (QUIET, &[("adopt", 3)]),
 ];
 
 #[test]
 fn what_has_no_room_is_refused(rt: HostRuntime) -> Result<(), Fail> {
-    for (what, lines, least) in REFUSED {
+    for (lines, calls) in REFUSED {
         let text = text_of(rt.alloc(), 2, 1, lines)?;
-        let refused = refusals(rt.alloc(), |own, heap| {
+        let wrong = first_unrefused(rt.alloc(), calls, |own, heap, what| {
             outcome_on(own, heap, what, text.as_bytes())
         });
-        assert!(rt; refused > Some(*least), "{what}: {refused:?}");
+        assert!(rt; wrong.is_none(), "{wrong:?}");
     }
     Ok(())
 }

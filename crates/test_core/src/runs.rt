@@ -3,11 +3,9 @@
 //! The calls are lines of a trace. What the system does for an order, `birth` to `miss`, is told at once as its answer;
 //! `use` has the lines of the table that is adopted. A call that is refused has the reason behind ` ! `.
 
-use init_words::{Answer, Id, Refusal};
+use init_words::Refusal;
 use inittab_text::Table;
 use std::alloc::{Allocator, Global};
-use trace_events::{Happening, HappeningIn};
-use trace_text::first_happening;
 
 /// What a run is about: a core, or records by themselves, in memory of an allocator.
 pub(crate) trait Subject<A: Allocator + Copy> {
@@ -21,28 +19,6 @@ pub(crate) trait Subject<A: Allocator + Copy> {
 pub(crate) fn table_of<A: Allocator + Copy>(alloc: A, inittab: &str) -> Option<Table<A>> {
     let (table, _) = inittab_text::read(alloc, inittab.as_bytes()).ok()?;
     Some(table)
-}
-
-/// The happening of a line, if it is one.
-pub(crate) fn happening_of(own: Global, line: &str) -> Option<HappeningIn<Global>> {
-    let mut text = Vec::from_slice(own, line.as_bytes()).ok()?;
-    text.push(b'\n').ok()?;
-    let (happening, _) = first_happening(own, text.as_slice()).ok()??;
-    Some(happening)
-}
-
-/// The answer of a happening that is one.
-pub(crate) fn answer_of(call: &HappeningIn<Global>) -> Option<(Id, Answer)> {
-    Some(match *call {
-        Happening::Birth(id, number) => (id, Answer::Born(number)),
-        Happening::NoBirth(id) => (id, Answer::NotBorn),
-        Happening::Reaped(id, _, status) => (id, Answer::Ended(status)),
-        Happening::Still(id) => (id, Answer::Alive),
-        Happening::NoLook(id) => (id, Answer::NoLook),
-        Happening::Hit(id) => (id, Answer::Hit),
-        Happening::Miss(id) => (id, Answer::Miss),
-        _ => return None,
-    })
 }
 
 fn want_of(refusal: &str) -> Result<(), Refusal> {

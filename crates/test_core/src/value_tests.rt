@@ -1,7 +1,8 @@
 //! What is written of a core, and the values that a text is read as.
 
-use crate::handed::{is_text, opened, parts_of};
-use crate::handover_tests::{STARTED_TABLE, STARTS, does};
+use crate::cores::{does, opened};
+use crate::handed::{is_text, parts_of};
+use crate::handover_tests::{STARTED_TABLE, STARTS};
 use crate::texts::{STARTED_OLD, text_of};
 use core_model::{CoreFields, PendingCalls, Parts, PlainRecord};
 use core_records::Stop;
@@ -10,46 +11,40 @@ use init_words::{Act, ChildNumber, Level, OrderKind, Stage, Status};
 use std::alloc::Global;
 use trace_events::Goal;
 
-/// A record, its flags in the order asked, called, look, missed.
-struct Kept {
-    id: &'static str,
-    child: Option<u32>,
-    act: Option<Act>,
-    order: Option<OrderKind>,
-    stop: Option<Stop>,
-    flags: [bool; 4],
-    held_until: Option<u64>,
-    starts: &'static [u64],
-    last: Option<Status>,
-}
+/// A record: its id, child, action, order and stop, its flags in the order asked, called, look, missed, the end of its hold,
+/// its starts, and how its last child ended.
+type Kept = (
+    &'static str,
+    (Option<u32>, Option<Act>, Option<OrderKind>),
+    [bool; 4],
+    (Option<Stop>, Option<u64>, Option<Status>),
+    &'static [u64],
+);
 
-const NOTHING: Kept = Kept {
-    id: "id",
-    child: None,
-    act: None,
-    order: None,
-    stop: None,
-    flags: [false; 4],
-    held_until: None,
-    starts: &[],
-    last: None,
-};
-
-const STARTING: Kept = Kept {
-    id: "b",
-    order: Some(OrderKind::Start),
-    flags: [true, false, false, false],
-    ..NOTHING
-};
+const ASKED: [bool; 4] = [true, false, false, false];
 
 const STARTED_RECORDS: &[Kept] = &[
-    NOTHING,
-    Kept {
-        id: "a",
-        starts: &[0],
-        ..STARTING
-    },
-    STARTING,
+    (
+        "id",
+        (None, None, None),
+        [false; 4],
+        (None, None, None),
+        &[],
+    ),
+    (
+        "a",
+        (None, None, Some(OrderKind::Start)),
+        ASKED,
+        (None, None, None),
+        &[0],
+    ),
+    (
+        "b",
+        (None, None, Some(OrderKind::Start)),
+        ASKED,
+        (None, None, None),
+        &[],
+    ),
 ];
 
 const STARTED_HEADS: CoreFields = CoreFields {
@@ -66,7 +61,7 @@ const STARTED_HEADS: CoreFields = CoreFields {
     reread: false,
     reexec: false,
     level_wish: None,
-    pending: PendingCalls {
+    news: PendingCalls {
         fail: false,
         fail_now: false,
         ok: false,
@@ -89,38 +84,31 @@ const BUSY_ALONE: &str =
     "clock 700\nstage S 3600\ngoal 0 0\nflags 01\nwish 10 9:8 101 010\ntable 0\nend 8\n";
 
 const BUSY_RECORDS: &[Kept] = &[
-    Kept {
-        id: "p",
-        child: Some(4_294_967_295),
-        act: Some(Act::Powerokwait),
-        order: Some(OrderKind::Look),
-        stop: Some(Stop::Termed(690)),
-        flags: [false, true, true, true],
-        held_until: Some(1000),
-        starts: &[0, 1, 2, 3, 4, 5, 6, 7, 8, 600],
-        last: Some(Status::Exit(255)),
-    },
-    Kept {
-        id: "old",
-        child: Some(0),
-        act: Some(Act::Boot),
-        order: Some(OrderKind::Kill),
-        stop: Some(Stop::Due),
-        flags: [true, false, false, false],
-        starts: &[9],
-        last: Some(Status::Killed),
-        ..NOTHING
-    },
-    Kept {
-        id: "~",
-        child: Some(7),
-        act: Some(Act::Off),
-        order: Some(OrderKind::Term),
-        stop: Some(Stop::Killed(u64::MAX)),
-        flags: [false, false, false, true],
-        held_until: Some(0),
-        ..NOTHING
-    },
+    (
+        "p",
+        (
+            Some(4_294_967_295),
+            Some(Act::Powerokwait),
+            Some(OrderKind::Look),
+        ),
+        [false, true, true, true],
+        (Some(Stop::Termed(690)), Some(1000), Some(Status::Exit(255))),
+        &[0, 1, 2, 3, 4, 5, 6, 7, 8, 600],
+    ),
+    (
+        "old",
+        (Some(0), Some(Act::Boot), Some(OrderKind::Kill)),
+        ASKED,
+        (Some(Stop::Due), None, Some(Status::Killed)),
+        &[9],
+    ),
+    (
+        "~",
+        (Some(7), Some(Act::Off), Some(OrderKind::Term)),
+        [false, false, false, true],
+        (Some(Stop::Killed(u64::MAX)), Some(0), None),
+        &[],
+    ),
 ];
 
 const BUSY_HEADS: CoreFields = CoreFields {
@@ -140,7 +128,7 @@ const BUSY_HEADS: CoreFields = CoreFields {
         level: Level::L9,
         grace: 8,
     }),
-    pending: PendingCalls {
+    news: PendingCalls {
         fail: true,
         fail_now: false,
         ok: true,
@@ -155,20 +143,20 @@ fn are_fields(fields: &CoreFields, want: &CoreFields) -> bool {
     (fields.generation, fields.time, fields.grace) == (want.generation, want.time, want.grace)
         && (fields.stage, fields.goal, fields.level_wish) == (want.stage, want.goal, want.level_wish)
         && flags == [want.booted, want.announced, want.reread, want.reexec]
-        && fields.pending == want.pending
+        && fields.news == want.news
 }
 
 fn is_kept(record: &PlainRecord, kept: &Kept) -> bool {
-    let flags = [record.asked, record.called, record.look, record.missed];
+    let (id, of_child, flags, of_end, starts) = *kept;
     let child = match record.child {
         Some(ChildNumber(number)) => Some(number),
         None => None,
     };
-    record.id.as_bytes() == kept.id.as_bytes()
-        && (child, record.act, record.order) == (kept.child, kept.act, kept.order)
-        && (record.stop, record.held_until, record.last) == (kept.stop, kept.held_until, kept.last)
-        && flags == kept.flags
-        && record.starts.as_slice() == kept.starts
+    record.id.as_bytes() == id.as_bytes()
+        && (child, record.act, record.order) == of_child
+        && [record.asked, record.called, record.look, record.missed] == flags
+        && (record.stop, record.held_until, record.last) == of_end
+        && record.starts.as_slice() == starts
 }
 
 fn are_parts(parts: &Parts, fields: &CoreFields, kept: &[Kept]) -> bool {
@@ -202,36 +190,22 @@ fn is_said(own: Global, said: &Said) -> Result<bool, StateFault> {
     Ok(are_parts(&parts, fields, kept) && written.as_slice() == table.as_bytes())
 }
 
-/// An inittab, what a core over it does, whether it is at these fields then, and the lines that are written of it with them,
-/// with this behind each record.
-type Written = (
-    &'static str,
-    &'static str,
-    bool,
-    CoreFields,
-    &'static str,
-    &'static str,
-);
+/// An inittab, what a core over it does, where it does anything, and the fields at which it is then, or others; and the lines
+/// that are written of it with them.
+type Written = (&'static str, &'static str, CoreFields, &'static str);
 
 const WRITTEN: &[Written] = &[
-    (
-        STARTED_TABLE,
-        STARTS,
-        true,
-        STARTED_HEADS,
-        STARTED_OLD,
-        " -",
-    ),
-    ("", "", false, BUSY_HEADS, BUSY_ALONE, ""),
+    (STARTED_TABLE, STARTS, STARTED_HEADS, STARTED_OLD),
+    ("", "", BUSY_HEADS, BUSY_ALONE),
 ];
 
 fn is_written(own: Global, written: &Written) -> Option<bool> {
-    let (inittab, steps, is_there, fields, lines, behind) = written;
-    let mut core = opened(own, inittab, None)?;
-    let is_done = does(own, &mut core, steps);
+    let (inittab, steps, fields, lines) = written;
+    let mut core = opened(own, inittab)?;
+    let is_done = steps.is_empty() || does(own, own, &mut core, steps);
     let is_at = (core.time(), core.stage(), core.goal()) == (fields.time, fields.stage, fields.goal);
     let text = write_state(own, fields, core.table(), core.slots().as_slice()).ok()?;
-    Some(is_done && is_at == *is_there && is_text(own, &text, fields.generation, lines, behind)?)
+    Some(is_done && is_at != steps.is_empty() && is_text(own, &text, fields.generation, lines)?)
 }
 
 #[test]
@@ -243,7 +217,7 @@ fn values_are_read_and_written(rt: HostRuntime) {
         assert!(rt;
             is_written(rt.alloc(), written) == Some(true),
             "{}",
-            written.4
+            written.3
         );
     }
 }

@@ -1,14 +1,12 @@
 //! Turns over a log: what is left of it behind them.
 
-use host_calls::Reply;
-use host_scripted::MemoryHost;
 use init_turns::Opening;
-use init_words::{Answer, ChildNumber, Level, Memory};
+use init_words::Level;
 use initd_command::make_turns;
 use initd_options::{RunWords, Words, read_words};
 use std::alloc::Global;
 use std::test::Fail;
-use test_support::{boxed, line_words};
+use test_support::{boxed, host_of, line_words};
 use trace_log::{EndedLog, StreamLog};
 use trace_log_wrappers::BriefLog;
 
@@ -39,19 +37,13 @@ fn opening_of(alloc: Global) -> Result<Opening, Fail> {
     Ok(Opening::new(alloc, table, Some(Level::L3))?)
 }
 
-/// The child lives where nothing else is answered.
-fn host_of(alloc: Global) -> Result<Box<MemoryHost>, Memory> {
-    let mut host = MemoryHost::new(alloc);
-    host.give_start(Reply::Now(Answer::Born(ChildNumber(10))))?;
-    Ok(boxed(alloc, host)?)
-}
-
 /// What is left of the log behind the turns.
 fn left_of<L: EndedLog + Drop>(rt: &HostRuntime, log: L) -> Result<L::Left, Fail> {
     let alloc = rt.alloc();
     let said = run_of(alloc)?;
     let opening = opening_of(alloc)?;
-    let host = host_of(alloc)?;
+    // The child lives where nothing else is answered.
+    let host = host_of(alloc, alloc, "start birth 10").ok_or("no host")?;
     let mut err: Vec<u8> = Vec::new(alloc);
     let (_, _, left) = make_turns(
         rt,

@@ -45,7 +45,7 @@ fn run_line<R: Processes>(rt: &R, command: &mut Command, line: &str) -> io::Resu
 }
 
 /// The line is this one, or begins and ends as this one does at its star.
-pub fn is_line(line: &str, want: &str) -> bool {
+fn is_line(line: &str, want: &str) -> bool {
     match want.split_once('*') {
         Some((start, end)) => line.starts_with(start) && line.ends_with(end),
         None => line == want,
@@ -92,9 +92,6 @@ pub fn is_said<R: Processes + Files + Env + Alloc>(
     run_line(rt, &mut command, line.as_str())?;
     Ok(are_texts(rt, again.said))
 }
-
-/// No program is found.
-pub const NOWHERE: &str = "/nowhere";
 
 /// The system's programs are found.
 pub const SYSTEM: &str = "/bin:/usr/bin";

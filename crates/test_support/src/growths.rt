@@ -1,5 +1,6 @@
 //! Growths that are refused one after another, on heaps of more and more room.
 
+use init_words::Memory;
 use linked_list_allocator::LocalHeap;
 use std::alloc::Global;
 
@@ -21,6 +22,15 @@ impl Outcome {
             Outcome::Refused
         }
     }
+
+    /// Of a call that answers whether what it gives is right.
+    pub fn of_answer(answer: Result<bool, Memory>) -> Option<Outcome> {
+        match answer {
+            Ok(true) => Some(Outcome::Done),
+            Ok(false) => None,
+            Err(Memory) => Some(Outcome::Refused),
+        }
+    }
 }
 
 /// On how many heaps a call is refused, each with less more room than the least growth takes, before the first on which
@@ -35,6 +45,22 @@ pub fn refusals<F: Fn(Global, &LocalHeap) -> Option<Outcome>>(own: Global, call:
             Outcome::Unmade => {}
             Outcome::Refused => refused = refused.wrapping_add(1),
             Outcome::Done => return Some(refused),
+        }
+    }
+    None
+}
+
+/// The first row whose call isn't refused on more heaps than the row says, and done on the next.
+pub fn first_unrefused<'r, F: Fn(Global, &LocalHeap, &str) -> Option<Outcome>>(
+    own: Global,
+    rows: &[(&'r str, usize)],
+    call: F,
+) -> Option<&'r str>
+    requires { F.IsAlwaysCallable call }
+{
+    for (what, least) in rows {
+        if refusals(own, |own, heap| call(own, heap, what)) <= Some(*least) {
+            return Some(what);
         }
     }
     None

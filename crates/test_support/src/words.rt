@@ -1,19 +1,5 @@
 use std::alloc::{AllocError, Global};
 
-fn add_words(alloc: Global, words: &mut Vec<String>, line: &[&str]) -> Result<(), AllocError> {
-    for word in line {
-        words.push(String::from_str(alloc, word)?)?;
-    }
-    Ok(())
-}
-
-/// The words of a command line, each given.
-pub fn words_of(alloc: Global, line: &[&str]) -> Result<Vec<String>, AllocError> {
-    let mut words = Vec::new(alloc);
-    add_words(alloc, &mut words, line)?;
-    Ok(words)
-}
-
 fn add_line(alloc: Global, words: &mut Vec<String>, line: &str) -> Result<(), AllocError> {
     for word in line.split(' ') {
         words.push(String::from_str(alloc, word)?)?;

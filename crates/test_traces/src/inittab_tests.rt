@@ -1,256 +1,148 @@
-//! Texts and files that are read as one table, and tables that are written. The cases are rows. Each helper owns at most
-//! one value, and what asserts owns none.
+//! Texts and files that are read as one table, and tables that are written. The cases are rows.
 
 use init_words::{Act, Id, Level, Memory, Part};
 use inittab_text::{Table, TableFault, read_parts, read_written};
 use std::alloc::Global;
 use std::fmt::{Display, Write};
 use std::test::Fail;
+use test_support::boxed;
+use text_lines::cut;
 
-/// Parts, what is written of their table, their faults, and the default level.
-struct Row {
-    parts: &'static [&'static [u8]],
-    written: &'static str,
-    faults: &'static str,
-    level: Option<Level>,
-}
+/// Parts whose lines say what becomes of them, and the default level of their table. A line is written as it stands, or as
+/// stands behind its `>`; with `>` alone it is none of an entry, and with `>!` a fault.
+type Row = (&'static [&'static [u8]], Option<Level>);
 
 const ROWS: &[Row] = &[
     // No parts are an empty table.
-    Row {
-        parts: &[],
-        written: "",
-        faults: "",
-        level: None,
-    },
+    (&[], None),
     // A last line without a newline ends with its part; an id of a part before is not taken again.
-    Row {
-        parts: &[
+    (
+        &[
             b"id:3:initdefault:\na:3:once:x\n",
             b"b:3:once:y",
-            b"# c\na:3:once:z\n",
+            b"# c>\na:3:once:z>!duplicate id\n",
         ],
-        written: "id:3:initdefault:\na:3:once:x\nb:3:once:y\n",
-        faults: "inittab part 2 line 2: duplicate id\n",
-        level: Some(Level::L3),
-    },
+        Some(Level::L3),
+    ),
     // Lines are counted in each part, and parts without lines are parts.
-    Row {
-        parts: &[
-            b"\nx\n",
+    (
+        &[
+            b">\nx>!too few fields\n",
             b"",
-            b"y",
-            b"a:3:once:x\nb:3:bogus:x\n\na:3:once:y",
+            b"y>!too few fields",
+            b"a:3:once:x\nb:3:bogus:x>!unknown action\n>\na:3:once:y>!duplicate id",
             b"c:3:off:",
         ],
-        written: "a:3:once:x\nc:3:off:\n",
-        faults: "inittab part 0 line 2: too few fields\ninittab part 2 line 1: too few fields\n\
-                 inittab part 3 line 2: unknown action\ninittab part 3 line 4: duplicate id\n",
-        level: None,
-    },
+        None,
+    ),
     // The default level is that of the first initdefault that names one, in whichever part.
-    Row {
-        parts: &[
-            b"i::initdefault:",
+    (
+        &[
+            b"i::initdefault:>i:-:initdefault:",
             b"j:52:initdefault:",
             b"k:4:initdefault:",
         ],
-        written: "i:-:initdefault:\nj:52:initdefault:\nk:4:initdefault:\n",
-        faults: "",
-        level: Some(Level::L5),
-    },
-    Row {
-        parts: &[b"a:3:wait:x\ni:abc:initdefault:\n"],
-        written: "a:3:wait:x\ni:ABC:initdefault:\n",
-        faults: "",
-        level: None,
-    },
-    Row {
-        parts: &[b"i:as5:initdefault:\nj:2:initdefault:\n"],
-        written: "i:AS5:initdefault:\nj:2:initdefault:\n",
-        faults: "",
-        level: Some(Level::S),
-    },
-    Row {
-        parts: &[b"i::initdefault:\nj:2:initdefault:\n"],
-        written: "i:-:initdefault:\nj:2:initdefault:\n",
-        faults: "",
-        level: Some(Level::L2),
-    },
-    Row {
-        parts: &[b"a:5:wait:x\ni:31:initdefault:y"],
-        written: "a:5:wait:x\ni:31:initdefault:\n",
-        faults: "",
-        level: Some(Level::L3),
-    },
-    Row {
-        parts: &[b"a:3:wait:x"],
-        written: "a:3:wait:x\n",
-        faults: "",
-        level: None,
-    },
+        Some(Level::L5),
+    ),
+    (
+        &[b"a:3:wait:x\ni:abc:initdefault:>i:ABC:initdefault:\n"],
+        None,
+    ),
+    (
+        &[b"i:as5:initdefault:>i:AS5:initdefault:\nj:2:initdefault:\n"],
+        Some(Level::S),
+    ),
+    (
+        &[b"i::initdefault:>i:-:initdefault:\nj:2:initdefault:\n"],
+        Some(Level::L2),
+    ),
+    (
+        &[b"a:5:wait:x\ni:31:initdefault:y>i:31:initdefault:"],
+        Some(Level::L3),
+    ),
+    (&[b"a:3:wait:x"], None),
     // Faulty lines are left out, and each kind of fault is there.
-    Row {
-        parts: &[FIVE],
-        written: "toolong:3:once:x\nb:3:off:\n",
-        faults: THREE_FAULTS,
-        level: None,
-    },
-    Row {
-        parts: &[RESPAWNS],
-        written: "b:3:respawn:y\n",
-        faults: FOUR_FAULTS,
-        level: None,
-    },
-    Row {
-        parts: &[CHECKED],
-        written: "z:3:wait:x\n",
-        faults: CHECKS,
-        level: None,
-    },
-    Row {
-        parts: &[LINES],
-        written: LINES_WRITTEN,
-        faults: "",
-        level: Some(Level::S),
-    },
-    Row {
-        parts: &[IN_USE],
-        written: IN_USE_WRITTEN,
-        faults: "",
-        level: Some(Level::L2),
-    },
+    (&[FIVE], None),
+    (&[RESPAWNS], None),
+    (&[CHECKED], None),
+    (&[LINES], Some(Level::S)),
+    (&[IN_USE], Some(Level::L2)),
 ];
 
 /// Three of the five lines are left out.
 const FIVE: &[u8] = b"toolong:3:once:x
-a:3:bogus:x
-a:3:once:
+a:3:bogus:x>!unknown action
+a:3:once:>!no process
 b:3:off:
-b:2:once:x
+b:2:once:x>!duplicate id
 ";
 
-const THREE_FAULTS: &str = "inittab part 0 line 2: unknown action
-inittab part 0 line 3: no process
-inittab part 0 line 5: duplicate id
-";
-
-const RESPAWNS: &[u8] = b"ninebytes:3:once:x
-a:3:bogus:x
-a:3:respawn:
+const RESPAWNS: &[u8] = b"ninebytes:3:once:x>!bad id
+a:3:bogus:x>!unknown action
+a:3:respawn:>!no process
 b:3:respawn:y
-b:2:wait:x
+b:2:wait:x>!duplicate id
 ";
 
-const FOUR_FAULTS: &str = "inittab part 0 line 1: bad id
-inittab part 0 line 2: unknown action
-inittab part 0 line 3: no process
-inittab part 0 line 5: duplicate id
-";
-
-const CHECKED: &[u8] = b"# a comment::
- \t# another
+const CHECKED: &[u8] = b"# a comment::>
+ \t# another>
 z:3:wait:x
- \t
+ \t>
+>
+a:3:wait>!too few fields
+:3:wait:x>!bad id
+a:012345678901:wait:x>!runlevels too long
+a:3:Wait:x>!unknown action
+a:3:wait: \t>!no process
+a:3:boot:+ >!no process
+a:3:wait:\xff>!bad text
+a:3:wait:x\0>!bad text
+z:3:wait:x>!duplicate id
+ninebytes:012345678901:Wait:>!bad id
+z:012345678901:wait:>!runlevels too long
+z:\xff:wait:>!no process
+a#b>!too few fields";
 
-a:3:wait
-:3:wait:x
-a:012345678901:wait:x
-a:3:Wait:x
-a:3:wait: \t
-a:3:boot:+ 
-a:3:wait:\xff
-a:3:wait:x\0
-z:3:wait:x
-ninebytes:012345678901:Wait:
-z:012345678901:wait:
-z:\xff:wait:
-a#b";
-
-const CHECKS: &str = "inittab part 0 line 6: too few fields
-inittab part 0 line 7: bad id
-inittab part 0 line 8: runlevels too long
-inittab part 0 line 9: unknown action
-inittab part 0 line 10: no process
-inittab part 0 line 11: no process
-inittab part 0 line 12: bad text
-inittab part 0 line 13: bad text
-inittab part 0 line 14: duplicate id
-inittab part 0 line 15: bad id
-inittab part 0 line 16: runlevels too long
-inittab part 0 line 17: no process
-inittab part 0 line 18: too few fields
-";
-
-const LINES: &[u8] = b" l3:3321x:wait:/etc/rc 3
-r::respawn:+getty a:b
-pf::powerwait:p
-si:5:sysinit:rcS
-k:x:once:y
-i::initdefault:
-id:s:initdefault:z
+const LINES: &[u8] = b" l3:3321x:wait:/etc/rc 3>l3:321:wait:/etc/rc 3
+r::respawn:+getty a:b>r:0123456789:respawn:+getty a:b
+pf::powerwait:p>pf:S0123456789:powerwait:p
+si:5:sysinit:rcS>si::sysinit:rcS
+k:x:once:y>k:-:once:y
+i::initdefault:>i:-:initdefault:
+id:s:initdefault:z>id:S:initdefault:
 ~~:S:wait:/sbin/sulogin
-o:c3Cba:ondemand:o
-kb::kbrequest:
+o:c3Cba:ondemand:o>o:C3BA:ondemand:o
+kb::kbrequest:>kb:0123456789:kbrequest:
 ca:12345:ctrlaltdel:/sbin/shutdown -t1 -a -r now";
 
-const LINES_WRITTEN: &str = "l3:321:wait:/etc/rc 3
-r:0123456789:respawn:+getty a:b
-pf:S0123456789:powerwait:p
-si::sysinit:rcS
-k:-:once:y
-i:-:initdefault:
-id:S:initdefault:
-~~:S:wait:/sbin/sulogin
-o:C3BA:ondemand:o
-kb:0123456789:kbrequest:
-ca:12345:ctrlaltdel:/sbin/shutdown -t1 -a -r now
-";
-
-const IN_USE: &[u8] = b"# /etc/inittab: init(8) configuration.
-
-# The default runlevel.
+const IN_USE: &[u8] = b"# /etc/inittab: init(8) configuration.>
+>
+# The default runlevel.>
 id:2:initdefault:
-
-# Boot-time system configuration/initialization script.
+>
+# Boot-time system configuration/initialization script.>
 si::sysinit:/etc/init.d/rcS
-
-# What to do in single-user mode.
+>
+# What to do in single-user mode.>
 ~~:S:wait:/sbin/sulogin --force
-
+>
 l0:0:wait:/etc/init.d/rc 0
 l1:1:wait:/etc/init.d/rc 1
 l2:2:wait:/etc/init.d/rc 2
 l6:6:wait:/etc/init.d/rc 6
 z6:6:respawn:/sbin/sulogin --force
-
+>
 ca:12345:ctrlaltdel:/sbin/shutdown -t1 -a -r now
-
-#kb::kbrequest:/bin/echo \"Keyboard Request--edit /etc/inittab to let this work.\"
-
-pf::powerwait:/etc/init.d/powerfail start
-pn::powerfailnow:/etc/init.d/powerfail now
-po::powerokwait:/etc/init.d/powerfail stop
-
+>
+#kb::kbrequest:/bin/echo \"Keyboard Request--edit /etc/inittab to let this work.\">
+>
+pf::powerwait:/etc/init.d/powerfail start>pf:S0123456789:powerwait:/etc/init.d/powerfail start
+pn::powerfailnow:/etc/init.d/powerfail now>pn:S0123456789:powerfailnow:/etc/init.d/powerfail now
+po::powerokwait:/etc/init.d/powerfail stop>po:S0123456789:powerokwait:/etc/init.d/powerfail stop
+>
 1:2345:respawn:/sbin/getty --noclear 38400 tty1
 2:23:respawn:/sbin/getty 38400 tty2
-#T0:23:respawn:/sbin/getty -L ttyS0 9600 vt100
-";
-
-const IN_USE_WRITTEN: &str = "id:2:initdefault:
-si::sysinit:/etc/init.d/rcS
-~~:S:wait:/sbin/sulogin --force
-l0:0:wait:/etc/init.d/rc 0
-l1:1:wait:/etc/init.d/rc 1
-l2:2:wait:/etc/init.d/rc 2
-l6:6:wait:/etc/init.d/rc 6
-z6:6:respawn:/sbin/sulogin --force
-ca:12345:ctrlaltdel:/sbin/shutdown -t1 -a -r now
-pf:S0123456789:powerwait:/etc/init.d/powerfail start
-pn:S0123456789:powerfailnow:/etc/init.d/powerfail now
-po:S0123456789:powerokwait:/etc/init.d/powerfail stop
-1:2345:respawn:/sbin/getty --noclear 38400 tty1
-2:23:respawn:/sbin/getty 38400 tty2
+#T0:23:respawn:/sbin/getty -L ttyS0 9600 vt100>
 ";
 
 /// The part of a text.
@@ -261,12 +153,58 @@ pub(crate) fn part_of(alloc: Global, name: &str, text: &[u8]) -> Result<Part, Me
     })
 }
 
-fn parts_of(alloc: Global, texts: &[&[u8]]) -> Result<Vec<Part>, Fail> {
-    let mut parts = Vec::new(alloc);
-    for text in texts {
-        parts.push(part_of(alloc, "part", text)?)?;
+/// What a row says: its parts, what is written of their table, and their faults.
+#[derive(Drop)]
+struct Want {
+    parts: Vec<Part>,
+    written: Vec<u8>,
+    faults: String,
+    level: Option<Level>,
+}
+
+/// Adds what becomes of a line of a part, by its number.
+fn add_said(want: &mut Want, place: usize, number: usize, said: &[u8]) -> Result<(), Fail> {
+    match said {
+        [] => {}
+        [b'!', fault @ ..] => {
+            let fault = str::from_utf8(fault)?;
+            writeln!(want.faults, "inittab part {place} line {number}: {fault}")?;
+        }
+        _ => {
+            want.written.extend_from_slice(said)?;
+            want.written.push(b'\n')?;
+        }
     }
-    Ok(parts)
+    Ok(())
+}
+
+/// Adds a part, whose lines say what becomes of them.
+fn add_part(alloc: Global, want: &mut Want, text: &[u8]) -> Result<(), Fail> {
+    let mut bytes = Vec::new(alloc);
+    for (at, line) in text.split(|byte| *byte == b'\n').enumerate() {
+        let (line, said) = cut(b'>', line).unwrap_or((line, line));
+        if at > 0 {
+            bytes.push(b'\n')?;
+        }
+        bytes.extend_from_slice(line)?;
+        add_said(want, want.parts.len(), at.saturating_add(1), said)?;
+    }
+    want.parts.push(part_of(alloc, "part", &bytes)?)?;
+    Ok(())
+}
+
+fn want_of(alloc: Global, (parts, level): &Row) -> Result<Box<Want>, Fail> {
+    let want = Want {
+        parts: Vec::new(alloc),
+        written: Vec::new(alloc),
+        faults: String::new(alloc),
+        level: *level,
+    };
+    let mut want = boxed(alloc, want)?;
+    for text in *parts {
+        add_part(alloc, &mut want, text)?;
+    }
+    Ok(want)
 }
 
 /// The faults, one a line.
@@ -278,27 +216,25 @@ fn report_of<T: Display>(alloc: Global, faults: &[T]) -> Result<String, Fail> {
     Ok(report)
 }
 
-/// The table is that of the row.
-fn is_table(alloc: Global, table: &Table, row: &Row) -> Result<bool, Fail> {
+/// The table and the faults are those of the row.
+fn is_table<T: Display>(
+    alloc: Global,
+    table: &Table,
+    faults: &[T],
+    want: &Want,
+) -> Result<bool, Fail> {
+    let lines = want.written.split(|byte| *byte == b'\n').count();
     Ok(
-        table.len() == row.written.lines().count()
-            && table.default_level() == row.level
-            && inittab_text::write(alloc, table)?.as_slice() == row.written.as_bytes(),
+        table.len() == lines.saturating_sub(1)
+            && table.default_level() == want.level
+            && inittab_text::write(alloc, table)?.as_slice() == want.written.as_slice()
+            && report_of(alloc, faults)?.as_str() == want.faults.as_str(),
     )
 }
 
-fn are_read(alloc: Global, parts: &[Part], row: &Row) -> Result<bool, Fail> {
-    let (table, faults) = read_parts(alloc, parts)?;
-    let report = report_of(alloc, faults.as_slice())?;
-    Ok(report.as_str() == row.faults && is_table(alloc, &table, row)?)
-}
-
-/// The one text of a row is read as its parts are.
-fn is_read(alloc: Global, text: &[u8], row: &Row) -> Result<bool, Fail> {
-    let (table, faults) = inittab_text::read(alloc, text)?;
-    let report = report_of(alloc, faults.as_slice())?;
-    let want = row.faults.replace(alloc, " part 0", "")?;
-    Ok(report.as_str() == want.as_str() && is_table(alloc, &table, row)?)
+fn are_read(alloc: Global, want: &Want) -> Result<bool, Fail> {
+    let (table, faults) = read_parts(alloc, &want.parts)?;
+    is_table(alloc, &table, faults.as_slice(), want)
 }
 
 /// The text is one that is written, and is written again of the copy of its table.
@@ -312,23 +248,28 @@ fn is_written(alloc: Global, text: &[u8]) -> Result<bool, Memory> {
     }
 }
 
-/// The row's one text, if it has one, is read so, and as one that is written just where it is written so.
-fn is_text(alloc: Global, row: &Row) -> Result<bool, Fail> {
-    let [text] = row.parts else {
+/// The one text of a row, if it has one, is read as its part is, and as one that is written just where it is written so.
+fn is_text(alloc: Global, want: &mut Want) -> Result<bool, Fail> {
+    let [part] = want.parts.as_slice() else {
         return Ok(true);
     };
-    let is_same = *text == row.written.as_bytes();
-    Ok(is_read(alloc, text, row)? && is_written(alloc, text)? == is_same)
+    let text = part.bytes.as_slice();
+    if is_written(alloc, text)? != (text == want.written.as_slice()) {
+        return Ok(false);
+    }
+    let (table, faults) = inittab_text::read(alloc, text)?;
+    want.faults = want.faults.replace(alloc, " part 0", "")?;
+    is_table(alloc, &table, faults.as_slice(), want)
 }
 
 #[test]
 fn texts_are_read_and_written(rt: HostRuntime) -> Result<(), Fail> {
     for row in ROWS {
-        let parts = parts_of(rt.alloc(), row.parts)?;
-        let is_so = are_read(rt.alloc(), &parts, row)?
-            && is_text(rt.alloc(), row)?
-            && is_written(rt.alloc(), row.written.as_bytes())?;
-        assert!(rt; is_so, "{}", row.written);
+        let mut want = want_of(rt.alloc(), row)?;
+        let is_so = are_read(rt.alloc(), &want)?
+            && is_written(rt.alloc(), &want.written)?
+            && is_text(rt.alloc(), &mut want)?;
+        assert!(rt; is_so, "{}", want.faults);
     }
     Ok(())
 }
@@ -343,7 +284,8 @@ const FOUND: &[(&[u8], Option<Act>)] = &[
 /// Its entries are found, by place and by id.
 #[test]
 fn entries_are_found(rt: HostRuntime) -> Result<(), Fail> {
-    let (table, _) = inittab_text::read(rt.alloc(), FIVE)?;
+    let want = want_of(rt.alloc(), &(&[FIVE], None))?;
+    let (table, _) = read_parts(rt.alloc(), &want.parts)?;
     for (place, (id, act)) in FOUND.iter().enumerate() {
         let of_id = match Id::read(id) {
             Some(id) => table.get(&id).map(|entry| entry.act),

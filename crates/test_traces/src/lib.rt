@@ -18,8 +18,6 @@ mod side_tests;
 #[cfg(test)]
 mod text_tests;
 #[cfg(test)]
-mod texts;
-#[cfg(test)]
 mod verdict_tests;
 #[cfg(test)]
 mod verdicts;

@@ -1,10 +1,8 @@
 //! The system's side below a run of `simulate`: what it allows, what it objects to, and the answers that are under way.
 
-use crate::texts::first_line;
-use init_words::{Answer, Id};
 use simulator::SimulatedSystem;
 use std::alloc::Global;
-use test_support::boxed;
+use test_support::{answer_of, boxed, happening_of};
 use trace_events::{Happening, HappeningIn};
 
 /// Lines that it takes, orders of init among them; behind ` ! ` what is objected to one. `owes` has the answer about an id
@@ -41,15 +39,6 @@ const RUNS: &[&str] = &[
      use 0 ! inittab is not to be read now / handed whole / notread / got reload / clock 5 / nudge",
 ];
 
-/// The answer of a happening, where it is one that is under way in a run.
-fn answer_of(happening: &HappeningIn<Global>) -> Option<(Id, Answer)> {
-    match *happening {
-        Happening::Birth(id, number) => Some((id, Answer::Born(number))),
-        Happening::Reaped(id, _, status) => Some((id, Answer::Ended(status))),
-        _ => None,
-    }
-}
-
 /// This is objected to the happening.
 fn is_refused(
     own: Global,
@@ -65,11 +54,11 @@ fn is_refused(
 /// The line goes as it says: its answer is under way, it is objected to, or it is an order or allowed, and taken.
 fn goes(own: Global, side: &mut SimulatedSystem, line: &str) -> Option<bool> {
     if let Some(owed) = line.strip_prefix("owes ") {
-        let (id, answer) = answer_of(&first_line(own, owed)?)?;
+        let (id, answer) = answer_of(&happening_of(own, owed)?)?;
         return Some(side.answer(&id) == Some(answer));
     }
     let (said, why) = line.split_once(" ! ").unwrap_or((line, ""));
-    let happening = first_line(own, said)?;
+    let happening = happening_of(own, said)?;
     if !why.is_empty() {
         return is_refused(own, side, &happening, why);
     }

@@ -200,124 +200,51 @@ fn traces_are_judged(rt: HostRuntime) {
     }
 }
 
-/// Traces and their brief forms, the verdicts on both, and how many happenings are held back at the end.
-const BRIEF: &[(&str, &str, (&str, &str), usize)] = &[
-    ("", "", (".", "."), 0),
+/// The verdicts on a trace and on its brief form, how many happenings are held back at the end, and the trace, of which its
+/// brief form has all but what stands in brackets.
+const BRIEF: &[&str] = &[
+    ". . 0 | ",
     // Idle rounds over two children.
-    (
-        "use 2 / a:3:respawn:x / b:3:respawn:y / enter 3 5 / ask a start / birth a 10 / told a / ask b start / \
-         birth b 11 / told b / settle 3 / clock 100 / nudge / ask a look / still a / told a / ask b look / still \
-         b / told b / clock 101 / nudge / ask a look / still a / told a / ask b look / still b / told b / clock \
-         102 / nudge / ask a look / still a / told a / ask b look / still b / told b",
-        "use 2 / a:3:respawn:x / b:3:respawn:y / enter 3 5 / ask a start / birth a 10 / told a / ask b start / \
-         birth b 11 / told b / settle 3 / clock 102 / nudge",
-        (".", "."),
-        2,
-    ),
+    ". . 2 | use 2 / a:3:respawn:x / b:3:respawn:y / enter 3 5 / ask a start / birth a 10 / told a / ask b start / \
+     birth b 11 / told b / settle 3 / [clock 100 / nudge / ask a look / still a / told a / ask b look / still b / \
+     told b / clock 101 / nudge / ask a look / still a / told a / ask b look / still b / told b] / clock 102 / nudge \
+     / [ask a look / still a / told a / ask b look / still b / told b]",
     // A look that found an end stays; the one before it, which found nothing, does not.
-    (
-        "use 2 / a:3:respawn:x / b:3:respawn:y / enter 3 5 / ask a start / birth a 10 / told a / ask b start / \
-         birth b 11 / told b / settle 3 / death 11 / clock 100 / nudge / ask a look / still a / told a / ask b \
-         look / reaped b 11 killed / told b / ask b start / birth b 12 / told b / clock 101 / nudge / ask a look \
-         / still a / told a",
-        "use 2 / a:3:respawn:x / b:3:respawn:y / enter 3 5 / ask a start / birth a 10 / told a / ask b start / \
-         birth b 11 / told b / settle 3 / death 11 / clock 100 / nudge / ask b look / reaped b 11 killed / told b \
-         / ask b start / birth b 12 / told b / clock 101 / nudge",
-        (".", "."),
-        2,
-    ),
+    ". . 2 | use 2 / a:3:respawn:x / b:3:respawn:y / enter 3 5 / ask a start / birth a 10 / told a / ask b start / \
+     birth b 11 / told b / settle 3 / death 11 / clock 100 / nudge / [ask a look / still a / told a] / ask b look / \
+     reaped b 11 killed / told b / ask b start / birth b 12 / told b / clock 101 / nudge / [ask a look / still a / \
+     told a]",
     // A signal that missed is sent again after a round, which stays.
-    (
-        "use 1 / a:3:respawn:x / enter 3 5 / ask a start / birth a 10 / told a / enter 1 5 / ask a term / miss a \
-         / told a / clock 106 / nudge / ask a look / still a / told a / clock 107 / nudge / ask a term / hit a / \
-         told a",
-        "use 1 / a:3:respawn:x / enter 3 5 / ask a start / birth a 10 / told a / enter 1 5 / ask a term / miss a \
-         / told a / clock 107 / nudge / ask a term / hit a / told a",
-        (".", "."),
-        0,
-    ),
+    ". . 0 | use 1 / a:3:respawn:x / enter 3 5 / ask a start / birth a 10 / told a / enter 1 5 / ask a term / miss a \
+     / told a / [clock 106 / nudge / ask a look / still a / told a] / clock 107 / nudge / ask a term / hit a / told a",
     // The clock is set back: the greater reading stays, by which the grace is over.
-    (
-        "use 1 / a:3:respawn:x / clock 100 / enter 3 5 / ask a start / birth a 10 / told a / enter 1 5 / ask a \
-         term / hit a / told a / clock 105 / nudge / ask a look / still a / told a / clock 104 / nudge / ask a \
-         kill",
-        "use 1 / a:3:respawn:x / clock 100 / enter 3 5 / ask a start / birth a 10 / told a / enter 1 5 / ask a \
-         term / hit a / told a / clock 105 / nudge / ask a kill",
-        (".", "."),
-        0,
-    ),
+    ". . 0 | use 1 / a:3:respawn:x / clock 100 / enter 3 5 / ask a start / birth a 10 / told a / enter 1 5 / ask a \
+     term / hit a / told a / clock 105 / [nudge / ask a look / still a / told a / clock 104] / nudge / ask a kill",
     // KILL a second before the grace is over.
-    (
-        "use 1 / a:3:respawn:x / clock 100 / enter 3 5 / ask a start / birth a 10 / told a / enter 1 5 / ask a \
-         term / hit a / told a / clock 103 / nudge / ask a look / still a / told a / clock 104 / nudge / ask a \
-         kill",
-        "use 1 / a:3:respawn:x / clock 100 / enter 3 5 / ask a start / birth a 10 / told a / enter 1 5 / ask a \
-         term / hit a / told a / clock 104 / nudge / ask a kill",
-        ("17:7", "12:7"),
-        0,
-    ),
+    "17:7 12:7 0 | use 1 / a:3:respawn:x / clock 100 / enter 3 5 / ask a start / birth a 10 / told a / enter 1 5 / \
+     ask a term / hit a / told a / [clock 103 / nudge / ask a look / still a / told a] / clock 104 / nudge / ask a \
+     kill",
     // A level that is announced too early.
-    (
-        "use 1 / a:3:respawn:x / enter 3 5 / clock 100 / nudge / ask a look / still a / told a / clock 101 / \
-         nudge / settle 3",
-        "use 1 / a:3:respawn:x / enter 3 5 / clock 101 / nudge / settle 3",
-        ("9:5", "4:5"),
-        0,
-    ),
+    "9:5 4:5 0 | use 1 / a:3:respawn:x / enter 3 5 / [clock 100 / nudge / ask a look / still a / told a] / clock 101 \
+     / nudge / settle 3",
     // A look within a look stays.
-    (
-        "clock 100 / nudge / ask a look / ask b look / still b / told b / still a / told a",
-        "clock 100 / nudge / ask a look / ask b look / still b / told b / still a / told a",
-        (".", "."),
-        0,
-    ),
-    (
-        "ask a look / still a / ask b look / still b / told b / told a / nudge",
-        "ask a look / still a / ask b look / still b / told b / told a / nudge",
-        (".", "."),
-        1,
-    ),
+    ". . 0 | clock 100 / nudge / ask a look / ask b look / still b / told b / still a / told a",
+    ". . 1 | ask a look / still a / ask b look / still b / told b / told a / nudge",
     // After a round a look is within no other.
-    (
-        "ask a look / nudge / ask b look / still b / told b / still a / told a",
-        "ask a look / nudge / still a / told a",
-        (".", "."),
-        0,
-    ),
+    ". . 0 | ask a look / nudge / [ask b look / still b / told b] / still a / told a",
     // What came between keeps a look, and so does another id.
-    (
-        "ask a look / death 10 / still a / told a / ask a look / still b / told a / ask a look / still a / told b",
-        "ask a look / death 10 / still a / told a / ask a look / still b / told a / ask a look / still a / told b",
-        (".", "."),
-        0,
-    ),
+    ". . 0 | ask a look / death 10 / still a / told a / ask a look / still b / told a / ask a look / still a / told b",
     // A reading goes before a round; of each, one stays.
-    (
-        "nudge / clock 5 / clock 7 / nudge / nudge / clock 6",
-        "clock 7 / nudge",
-        (".", "."),
-        2,
-    ),
+    ". . 2 | [nudge / clock 5] / clock 7 / [nudge] / nudge / [clock 6]",
     // A look that is not answered, and one whose finding is not told, are written at the end.
-    (
-        "got reload / clock 100 / nudge / ask a look",
-        "got reload / clock 100 / nudge / ask a look",
-        (".", "."),
-        3,
-    ),
-    (
-        "got reload / clock 100 / nudge / ask a look / still a",
-        "got reload / clock 100 / nudge / ask a look / still a",
-        (".", "."),
-        4,
-    ),
+    ". . 3 | got reload / clock 100 / nudge / ask a look",
+    ". . 4 | got reload / clock 100 / nudge / ask a look / still a",
 ];
 
 #[test]
 fn traces_are_shortened(rt: HostRuntime) {
-    for (trace, brief, verdicts, held) in BRIEF {
-        let is_so = is_shortened(rt.alloc(), (trace, brief), *verdicts, *held);
-        assert!(rt; is_so == Some(true), "{trace}");
+    for row in BRIEF {
+        assert!(rt; is_shortened(rt.alloc(), row) == Some(true), "{row}");
     }
 }
 

@@ -1,9 +1,8 @@
 //! What is said of a text: read whole, in pieces, and in its brief form.
 
-use crate::texts::{lines, trace_of};
 use init_words::Memory;
 use std::alloc::{AllocError, Allocator, Global};
-use test_support::boxed;
+use test_support::{boxed, lines_of};
 use trace_events::HappeningIn;
 use trace_log::{EndedLog, ListLog, Log};
 use trace_log_wrappers::BriefLog;
@@ -165,7 +164,7 @@ pub(crate) fn found_of(own: Global, text: &str, size: usize) -> Option<(String, 
 /// The trace of a row has its verdict, and its others with each of its lines changed so in turn, read whole and in pieces.
 pub(crate) fn are_judged(own: Global, row: &str) -> Option<bool> {
     let (trace, verdicts) = row.split_once("| ")?;
-    let text = lines(own, trace.trim_ascii_end()).ok()?;
+    let text = lines_of(own, trace.trim_ascii_end(), " / ").ok()?;
     for (change, said) in CHANGES.iter().zip(verdicts.split(" | ")) {
         for (place, want) in said.split(' ').enumerate() {
             let text = changed(own, text.as_str(), place, *change).ok()?;
@@ -180,20 +179,34 @@ pub(crate) fn are_judged(own: Global, row: &str) -> Option<bool> {
     Some(true)
 }
 
-/// The brief form of a trace is this, both have these verdicts, and so many happenings are held back at the end.
-pub(crate) fn is_shortened(
-    own: Global,
-    traces: (&str, &str),
-    verdicts: (&str, &str),
-    held: usize,
-) -> Option<bool> {
-    let trace = trace_of(own, traces.0)?;
-    let brief = lines(own, traces.1).ok()?;
+/// The lines of a trace, and those of its brief form, which are all but what stands in brackets.
+fn both_of(own: Global, row: &str) -> Option<(Vec<HappeningIn<Global>>, String)> {
+    let (mut whole, mut brief) = (String::new(own), String::new(own));
+    let mut is_left = false;
+    for part in row.split(" / ") {
+        let line = part.strip_prefix('[').unwrap_or(part);
+        is_left = is_left || line.len() < part.len();
+        let line = lines_of(own, line.strip_suffix(']').unwrap_or(line), " / ").ok()?;
+        whole.push_str(&line).ok()?;
+        if !is_left {
+            brief.push_str(&line).ok()?;
+        }
+        is_left = is_left && !part.ends_with(']');
+    }
+    Some((trace_text::read(own, whole.as_bytes()).ok()?, brief))
+}
+
+/// A trace and its brief form have the verdicts of a row, and so many happenings are held back at the end.
+pub(crate) fn is_shortened(own: Global, row: &str) -> Option<bool> {
+    let (said, trace) = row.split_once(" | ")?;
+    let mut said = said.split(' ');
+    let (trace, brief) = both_of(own, trace)?;
     let (list, all) = finished(ListLog::new(own), &trace);
+    let before = list.len().checked_sub(written_before(own, &trace))?;
     Some(
-        all && list.len() == written_before(own, &trace).saturating_add(held)
-            && is_printed(own, list.as_slice(), brief.as_str()) == Ok(true)
-            && verdict_on(own, list.as_slice()).ok()?.as_str() == verdicts.1
-            && verdict_on(own, &trace).ok()?.as_str() == verdicts.0,
+        all && is_printed(own, list.as_slice(), brief.as_str()) == Ok(true)
+            && said.next() == Some(verdict_on(own, &trace).ok()?.as_str())
+            && said.next() == Some(verdict_on(own, list.as_slice()).ok()?.as_str())
+            && said.next()?.parse::<usize>() == Ok(before),
     )
 }

@@ -7,8 +7,6 @@ mod log_tests;
 #[cfg(test)]
 mod os_hosts;
 #[cfg(test)]
-mod replies;
-#[cfg(test)]
 mod request_tests;
 #[cfg(test)]
 mod room_tests;

@@ -1,13 +1,12 @@
 //! A log that fails at each place: it has a prefix of the trace, and init goes on.
 
-use crate::replies::host_of;
 use crate::runs::{Bench, bench_of, log_of, serve_on};
 use host_calls::Host;
 use init_turns::Served;
 use init_words::{Id, Status};
 use linked_list_allocator::LocalHeap;
 use std::alloc::{Allocator, Global};
-use test_support::Slow;
+use test_support::{Slow, host_of};
 use trace_log::{ListLog, Log, StreamLog};
 use trace_log_wrappers::NotedLog;
 

@@ -1,12 +1,12 @@
 //! Blocks of requests that are cut at any place, by which the turns divide them.
 
-use crate::replies::{blocks_of, host_of};
 use crate::runs::{Bench, bench_of, serve_on};
 use host_calls::Bytes;
 use host_scripted::MemoryHost;
 use init_words::{Level, Memory};
 use initctl_frame::{BLOCK, Blocks, Cause, HeardRequest};
 use std::alloc::Global;
+use test_support::{blocks_of, host_of};
 use trace_events::{Happening, HappeningIn};
 use trace_log::ListLog;
 

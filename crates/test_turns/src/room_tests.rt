@@ -1,9 +1,8 @@
 //! Lack of memory within a turn, in an opening and in a log.
 
 use crate::log_tests::is_whole;
-use crate::replies::host_of;
 use crate::run_tests::STOPPED;
-use crate::runs::{Bench, bench_of, is_run, letters_of, lines_of, serve_on};
+use crate::runs::{Bench, bench_of, is_run, row_of, serve_on};
 use crate::scripted_tests::has_room;
 use host_trace::Edge;
 use init_turns::Opening;
@@ -11,17 +10,20 @@ use init_words::Memory;
 use inittab_text::Table;
 use linked_list_allocator::LocalHeap;
 use std::alloc::Global;
-use test_support::{Outcome, boxed, fill, refusals};
+use test_support::{Outcome, boxed, fill, first_unrefused, host_of, letters_of, lines_of};
 use trace_log::ListLog;
 
 /// The run is as it says where the host has no room left to tell a call.
 fn is_untold(own: Global) -> Option<bool> {
     let heap = LocalHeap::new(own, 16_384).ok()?;
-    let host = host_of(own, &heap, STOPPED.replies)?;
-    let mut bench = bench_of(own, host, own, STOPPED.inittab, ListLog::new(own))?;
+    let row = row_of(STOPPED)?;
+    let host = host_of(own, &heap, row.replies)?;
+    let mut bench = bench_of(own, host, own, row.inittab, ListLog::new(own))?;
     let _fillers = fill(own, &heap, 0)?;
-    Some(is_run(own, &mut bench, &STOPPED) && bench.edge.host().calls().is_none())
+    Some(is_run(own, &mut bench, &row) && bench.edge.host().calls().is_none())
 }
+
+const INITTAB: &str = "id:3:initdefault:|r:3:respawn:serv";
 
 /// What a turn does that is asked for something for which there may be too little room: what the host is given for a turn
 /// in which the child is born and two such turns, the trace of one of these and the number of entries behind it, where it
@@ -30,7 +32,7 @@ struct Scarce {
     replies: &'static str,
     done: (&'static str, usize),
     undone: (&'static str, usize),
-    call: u8,
+    call: char,
 }
 
 /// An inittab is read anew that is longer than the first.
@@ -47,7 +49,7 @@ const READING: &Scarce = &Scarce {
         "clock 0 / got reload / nudge / notread / ask r look / still r / told r",
         2,
     ),
-    call: b'T',
+    call: 'T',
 };
 
 /// Init is executed anew.
@@ -61,7 +63,7 @@ const HAND_OVER: &Scarce = &Scarce {
         "clock 0 / got reexec / nudge / handed none / ask r look / still r / told r",
         2,
     ),
-    call: b'H',
+    call: 'H',
 };
 
 type Scene<'a> = Bench<Global, &'a LocalHeap, ListLog>;
@@ -76,7 +78,7 @@ fn turn_text<'a>(own: Global, heap: &'a LocalHeap, bench: &mut Scene<'a>) -> Opt
 /// Init behind a turn in which the child is born.
 fn begun<'a>(own: Global, heap: &'a LocalHeap, scarce: &Scarce) -> Option<Box<Scene<'a>>> {
     let host = host_of(own, own, scarce.replies)?;
-    let mut bench = bench_of(own, host, heap, STOPPED.inittab, ListLog::new(own))?;
+    let mut bench = bench_of(own, host, heap, INITTAB, ListLog::new(own))?;
     turn_text(own, heap, &mut bench)?;
     Some(bench)
 }
@@ -85,7 +87,7 @@ fn begun<'a>(own: Global, heap: &'a LocalHeap, scarce: &Scarce) -> Option<Box<Sc
 fn is_made(own: Global, bench: &Scene, text: &[u8], want: (&str, usize)) -> Option<bool> {
     let trace = lines_of(own, want.0, " / ").ok()?;
     Some(
-        text == trace.as_slice()
+        text == trace.as_bytes()
             && bench.core.table().len() == want.1
             && bench.core.slots().len() == want.1,
     )
@@ -99,7 +101,7 @@ fn outcome_of(own: Global, bench: &Scene, text: &[u8], scarce: &Scarce) -> Optio
         return None;
     }
     let letters = letters_of(own, bench.edge.host())?;
-    if letters.contains(&scarce.call) {
+    if letters.contains(scarce.call) {
         return Some(Outcome::Refused);
     }
     Some(Outcome::Unmade)
@@ -220,11 +222,9 @@ const REFUSED: &[(&str, usize)] = &[
 
 #[test]
 fn what_has_no_room_is_refused(rt: HostRuntime) {
-    for (what, least) in REFUSED {
-        let refused = refusals(rt.alloc(), |own, heap| {
-            has_room_for(own, heap, what).map(Outcome::of)
-        });
-        assert!(rt; refused > Some(*least), "{what}: {refused:?}");
-    }
+    let wrong = first_unrefused(rt.alloc(), REFUSED, |own, heap, what| {
+        has_room_for(own, heap, what).map(Outcome::of)
+    });
+    assert!(rt; wrong.is_none(), "{wrong:?}");
     assert!(rt; is_untold(rt.alloc()) == Some(true), "calls");
 }

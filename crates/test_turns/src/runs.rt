@@ -1,16 +1,15 @@
 //! Runs of init over a scripted host, whose traces are text, their lines parted by ` / `.
 
-use crate::replies::host_of;
 use core_steps::Core;
-use host_calls::{Call, Host};
+use host_calls::Host;
 use host_scripted::MemoryHost;
 use host_trace::Edge;
 use init_stamped::Stamped;
 use init_turns::{Served, Unwatched};
 use init_words::Memory;
 use inittab_text::Table;
-use std::alloc::{AllocError, Allocator, Global};
-use test_support::boxed;
+use std::alloc::{Allocator, Global};
+use test_support::{boxed, host_of, letters_of, lines_of};
 use trace_events::{Happening, HappeningIn};
 use trace_log::{ListLog, Log};
 use trace_pass::Verdict;
@@ -21,25 +20,49 @@ pub(crate) struct Row<'a> {
     pub(crate) inittab: &'a str,
     pub(crate) replies: &'a str,
     /// How many turns it may make, and whether it ends where it is drained.
-    pub(crate) limit: (u64, bool),
-    /// How many turns it made, and whether it is drained.
-    pub(crate) ended: (u64, bool),
-    /// How many calls of the host were faults.
-    pub(crate) faults: u64,
-    pub(crate) trace: &'a str,
+    limit: (u64, bool),
+    ended: Served,
+    /// How many calls of the host are faults.
+    faults: u64,
+    is_strict: bool,
+    trace: &'a str,
+    /// The letters of the calls, where they are asked.
+    letters: Option<&'a str>,
 }
 
-/// The lines of a text, each ended by a newline; none of an empty text.
-pub(crate) fn lines_of(alloc: Global, text: &str, parted: &str) -> Result<Vec<u8>, AllocError> {
-    let mut lines = Vec::new(alloc);
-    if text.is_empty() {
-        return Ok(lines);
-    }
-    for line in text.split(parted) {
-        lines.extend_from_slice(line.as_bytes())?;
-        lines.push(b'\n')?;
-    }
-    Ok(lines)
+/// A number of turns, with a star where the run ends drained.
+fn turns_of(word: &str) -> Option<(u64, bool)> {
+    let number = word.strip_suffix('*').unwrap_or(word);
+    Some((number.parse::<u64>().ok()?, number.len() < word.len()))
+}
+
+/// A field of a row; `-` for nothing.
+fn field(text: &str) -> &str {
+    if text == "-" { "" } else { text }
+}
+
+/// The row of a text, its fields parted by ` | `: how many turns it may make and how many it made, each with a star where it
+/// ends drained, how many calls are faults, and `strict` for an init that is; the inittab; what the host is given; the trace;
+/// and the letters of the calls, where they are asked.
+pub(crate) fn row_of(row: &str) -> Option<Row> {
+    let mut fields = row.split(" | ");
+    let mut head = fields.next()?.split(' ');
+    let limit = turns_of(head.next()?)?;
+    let (turns, drained) = turns_of(head.next()?)?;
+    Some(Row {
+        limit,
+        ended: Served {
+            turns,
+            drained,
+            logged: true,
+        },
+        faults: head.next()?.parse::<u64>().ok()?,
+        is_strict: head.next().is_some(),
+        inittab: fields.next()?,
+        replies: field(fields.next()?),
+        trace: field(fields.next()?),
+        letters: fields.next().map(field),
+    })
 }
 
 /// Init before its first turn: its core, and its host and its log.
@@ -72,7 +95,7 @@ pub(crate) fn bench_of<A: Allocator + Copy, B: Allocator + Copy, L: Log + Drop>(
     log: L,
 ) -> Option<Box<Bench<A, B, L>>> {
     let lines = lines_of(own, inittab, "|").ok()?;
-    let (table, _) = inittab_text::read(alloc, lines.as_slice()).ok()?;
+    let (table, _) = inittab_text::read(alloc, lines.as_bytes()).ok()?;
     bench_over(own, host, alloc, table, log).ok()
 }
 
@@ -124,7 +147,7 @@ fn is_logged(own: Global, list: &[HappeningIn<Global>], trace: &str) -> Option<b
     let text = trace_text::print(own, made).ok()?;
     let want = lines_of(own, trace, " / ").ok()?;
     let verdict = trace_pass::check(own, list).ok()?;
-    Some(text.as_slice() == want.as_slice() && matches!(verdict, Verdict::Lawful))
+    Some(text.as_slice() == want.as_bytes() && matches!(verdict, Verdict::Lawful))
 }
 
 /// The run of a row is as it says.
@@ -133,53 +156,53 @@ pub(crate) fn is_run<A: Allocator + Copy>(
     bench: &mut Bench<A, Global, ListLog>,
     row: &Row,
 ) -> bool {
-    let ended = Served {
-        turns: row.ended.0,
-        drained: row.ended.1,
-        logged: true,
-    };
     log_table(own, bench)
-        && serve_on(own, bench, row.limit.0, row.limit.1) == ended
+        && serve_on(own, bench, row.limit.0, row.limit.1) == row.ended
         && bench.edge.host().faults() == row.faults
         && is_logged(own, bench.edge.log().list(), row.trace) == Some(true)
 }
 
-/// The letters of the calls that a host tells: `C`lock, `B`ytes, `L`ate answer, `T`able or none (`t`), `S`tart behind its
-/// command, l`O`ok, si`G`nal, carry `H`, a`N`nouncement, `P`ause.
-pub(crate) fn letters_of(own: Global, host: &MemoryHost) -> Option<Vec<u8>> {
-    let mut letters = Vec::new(own);
-    for call in host.calls()? {
-        if let Call::Start(_, command, _) = call {
-            letters.extend_from_slice(command.as_slice()).ok()?;
-        }
-        letters
-            .push(match call {
-                Call::Clock(_) => b'C',
-                Call::TakeBytes(_, _) => b'B',
-                Call::Late(_) => b'L',
-                Call::ReadTables(Ok(_)) => b'T',
-                Call::ReadTables(Err(_)) => b't',
-                Call::Start(_, _, _) => b'S',
-                Call::Look(_, _) => b'O',
-                Call::Signal(_, _, _) => b'G',
-                Call::Carry(_, _) => b'H',
-                Call::Announce(_) => b'N',
-                Call::Pause => b'P',
-            })
-            .ok()?;
-    }
-    Some(letters)
-}
-
-/// Makes the run of a row, of an init that is strict or not, and gives whether it is as it says, and its calls have these
-/// letters, where they are asked.
-pub(crate) fn passes(own: Global, row: &Row, calls: Option<&str>, strict: bool) -> Option<bool> {
+/// Makes the run of a row, and gives whether its calls have the letters that are asked; None where it is not as it says.
+fn is_made(own: Global, row: &Row) -> Option<bool> {
     let host = host_of(own, own, row.replies)?;
     let mut bench = bench_of(own, host, own, row.inittab, ListLog::new(own))?;
-    bench.strict = strict;
+    bench.strict = row.is_strict;
     if !is_run(own, &mut bench, row) {
         return None;
     }
     let letters = letters_of(own, bench.edge.host())?;
-    Some(calls.is_none_or(|calls| letters.as_slice() == calls.as_bytes()))
+    Some(row.letters.is_none_or(|want| letters.as_str() == want))
+}
+
+pub(crate) fn passes(own: Global, row: &str) -> Option<bool> {
+    is_made(own, &row_of(row)?)
+}
+
+/// The text, with what stands behind `=>` in the place of the part before it, which is there.
+fn changed(own: Global, text: &str, change: &str) -> Option<String> {
+    let (part, other) = change.split_once(" => ")?;
+    if !text.contains(part) {
+        return None;
+    }
+    text.replacen(own, part, other, 1).ok()
+}
+
+/// The same of a row of which this is otherwise.
+pub(crate) fn passes_changed(own: Global, row: &str, change: &str) -> Option<bool> {
+    let row = row_of(row)?;
+    let mut changes = change.split(" | ");
+    let faults = changes.next()?.parse::<u64>().ok()?;
+    let replies = changed(own, row.replies, changes.next()?)?;
+    let mut trace = String::from_str(own, row.trace).ok()?;
+    for change in changes {
+        trace = changed(own, &trace, change)?;
+    }
+    let row = Row {
+        replies: &replies,
+        trace: &trace,
+        faults,
+        letters: None,
+        ..row
+    };
+    is_made(own, &row)
 }

@@ -1,13 +1,12 @@
 //! Calls of a scripted host, as text: each takes the first of its queue, and has an answer of its own where the queue is
 //! empty; and a host without room.
 
-use crate::replies::{bytes_of, give, given, host_of, late_of, reply_of, table_of};
 use host_calls::{Bytes, Host, HostFault, PartList};
 use host_scripted::MemoryHost;
 use init_words::{Id, Level, Part, SignalKind};
 use linked_list_allocator::LocalHeap;
 use std::alloc::{Allocator, Global};
-use test_support::fill;
+use test_support::{bytes_of, fill, give, given, host_of, late_of, reply_of, table_of};
 use trace_events::Happening;
 
 const TABLES: &str = "table inittab@id:3:initdefault: + 10-b.tab@=b:3:once:y + 20-a.tab@";

@@ -1,5 +1,5 @@
 //! What a scripted host is given, as text, its items parted by ` / `: the queue's name, and its item in the words of a
-//! trace.
+//! trace; and the letters of the calls that were made of it.
 //!
 //! `start`, `look` and `signal` have a reply: an answer, or `later`. `late` has the id before the answer, or nothing
 //! for the end of a round; `lates` has a number of answers that nobody asked for. `clock` has a reading, `table` the
@@ -8,13 +8,13 @@
 //! text, and `bytes` the requests of a piece. A text behind a `=` stands as it is. A reading, a piece, a table and what
 //! comes back can be `fails`, or `lacks` where there is no memory.
 
-use crate::runs::lines_of;
-use host_calls::{Bytes, HostFault, PartList, Reply};
+use crate::boxes::boxed;
+use crate::texts::lines_of;
+use host_calls::{Bytes, Call, HostFault, PartList, Reply};
 use host_scripted::MemoryHost;
 use init_words::{Answer, ChildNumber, Id, Memory, Part, Status};
 use initctl_frame::{BLOCK, Request, Sign, encode};
 use std::alloc::{Allocator, Global};
-use test_support::boxed;
 
 fn answer_of(text: &str) -> Option<Answer> {
     match text.split_once(' ').unwrap_or((text, "")) {
@@ -30,14 +30,16 @@ fn answer_of(text: &str) -> Option<Answer> {
     }
 }
 
-pub(crate) fn reply_of(text: &str) -> Option<Reply> {
+/// The reply of an item.
+pub fn reply_of(text: &str) -> Option<Reply> {
     if text == "later" {
         return Some(Reply::Later);
     }
     Some(Reply::Now(answer_of(text)?))
 }
 
-pub(crate) fn late_of(text: &str) -> Option<Option<(Id, Answer)>> {
+/// The late answer of an item.
+pub fn late_of(text: &str) -> Option<Option<(Id, Answer)>> {
     if text.is_empty() {
         return Some(None);
     }
@@ -46,7 +48,7 @@ pub(crate) fn late_of(text: &str) -> Option<Option<(Id, Answer)>> {
 }
 
 /// What an item that can be a fault gives, where it is none what was made of it.
-pub(crate) fn given<T: Drop>(item: &str, made: Option<T>) -> Option<Result<T, HostFault>> {
+pub fn given<T: Drop>(item: &str, made: Option<T>) -> Option<Result<T, HostFault>> {
     match item {
         "fails" => Some(Err(HostFault::Device)),
         "lacks" => Some(Err(HostFault::Memory)),
@@ -56,7 +58,7 @@ pub(crate) fn given<T: Drop>(item: &str, made: Option<T>) -> Option<Result<T, Ho
 
 /// The bytes of requests, by their characters of telinit(8), or of zeros. A `-` behind a character leaves of its block the
 /// first 200 bytes, and one before it the others.
-pub(crate) fn blocks_of(alloc: Global, words: &str) -> Option<Vec<u8>> {
+pub fn blocks_of(alloc: Global, words: &str) -> Option<Vec<u8>> {
     let mut bytes = Vec::new(alloc);
     for word in words.split_ascii_whitespace() {
         let (code, from, to) = match word.as_bytes() {
@@ -78,11 +80,12 @@ fn text_of(own: Global, queue: &str, item: &str) -> Option<Vec<u8>> {
     match (item.strip_prefix('='), queue) {
         (Some(text), _) => Vec::from_slice(own, text.as_bytes()).ok(),
         (None, "bytes") => blocks_of(own, item),
-        (None, _) => lines_of(own, item, "|").ok(),
+        (None, _) => Vec::from_slice(own, lines_of(own, item, "|").ok()?.as_bytes()).ok(),
     }
 }
 
-pub(crate) fn bytes_of<A: Allocator + Copy>(
+/// The bytes of an item of a queue, in memory of an allocator.
+pub fn bytes_of<A: Allocator + Copy>(
     own: Global,
     alloc: A,
     queue: &str,
@@ -129,7 +132,8 @@ fn parts_of<A: Allocator + Copy>(own: Global, alloc: A, text: &str) -> Option<Pa
     Some(PartList::of(parts))
 }
 
-pub(crate) fn table_of<A: Allocator + Copy>(
+/// The files of an item, in memory of an allocator.
+pub fn table_of<A: Allocator + Copy>(
     own: Global,
     alloc: A,
     item: &str,
@@ -146,7 +150,7 @@ fn give_lates<A: Allocator + Copy>(host: &mut MemoryHost<A>, number: u32) -> Opt
 }
 
 /// Gives a host an item.
-pub(crate) fn give<A: Allocator + Copy>(
+pub fn give<A: Allocator + Copy>(
     own: Global,
     alloc: A,
     host: &mut MemoryHost<A>,
@@ -183,7 +187,7 @@ fn give_all<A: Allocator + Copy>(
 }
 
 /// A host that is given all items of a text.
-pub(crate) fn host_of<A: Allocator + Copy>(
+pub fn host_of<A: Allocator + Copy>(
     own: Global,
     alloc: A,
     replies: &str,
@@ -191,4 +195,32 @@ pub(crate) fn host_of<A: Allocator + Copy>(
     let mut host = boxed(own, MemoryHost::new(alloc)).ok()?;
     give_all(own, alloc, &mut host, replies)?;
     Some(host)
+}
+
+/// The letters of the calls that a host tells: `C`lock, `B`ytes, `L`ate answer, `T`able or none (`t`), `S`tart behind its
+/// command, l`O`ok, si`G`nal, carry `H`, a`N`nouncement, `P`ause.
+pub fn letters_of(own: Global, host: &MemoryHost) -> Option<String> {
+    let mut letters = String::new(own);
+    for call in host.calls()? {
+        if let Call::Start(_, command, _) = call {
+            letters
+                .push_str(str::from_utf8(command.as_slice()).ok()?)
+                .ok()?;
+        }
+        let letter = match call {
+            Call::Clock(_) => 'C',
+            Call::TakeBytes(_, _) => 'B',
+            Call::Late(_) => 'L',
+            Call::ReadTables(Ok(_)) => 'T',
+            Call::ReadTables(Err(_)) => 't',
+            Call::Start(_, _, _) => 'S',
+            Call::Look(_, _) => 'O',
+            Call::Signal(_, _, _) => 'G',
+            Call::Carry(_, _) => 'H',
+            Call::Announce(_) => 'N',
+            Call::Pause => 'P',
+        };
+        letters.push(letter).ok()?;
+    }
+    Some(letters)
 }
