@@ -1,14 +1,11 @@
 //! Writers and readers that give or take little at a time, or fail in the middle, and the words of a program.
 
-use program_io::{
-    only_byte, read_all, read_file, report_unread_words, unread_status, words, write_text,
-};
+use program_io::{only_byte, read_all, report_unread_words, unread_status, words, write_text};
 use std::alloc::Global;
 use std::env::{Env, FillError};
+use std::io;
 use std::io::{ErrorKind, Read, Write};
 use std::process::Abort;
-use std::test::Fail;
-use std::{fs, io};
 use telinit_command::SHORT_USAGE;
 use test_support::Slow;
 
@@ -102,29 +99,6 @@ fn slow_readers_are_read_to_their_end(rt: HostRuntime) {
             "{left} bytes"
         );
     }
-}
-
-/// A file of more than one read's bytes.
-const LONG: &[u8] = &[b'x'; 20_000];
-
-/// Paths, and how many bytes of the file are read, all `x`, or how that ends: a file, none, and a folder.
-const FILES: &[(&str, Result<usize, ErrorKind>)] = &[
-    ("long", Ok(20_000)),
-    ("missing", Err(ErrorKind::NotFound)),
-    (".", Err(ErrorKind::IsADirectory)),
-];
-
-#[test]
-fn files_are_read_whole(rt: HostRuntime) -> Result<(), Fail> {
-    fs::write(&rt, "long", LONG)?;
-    for (path, want) in FILES {
-        assert!(rt;
-            count_of(read_file(&rt, rt.alloc(), path)) == *want,
-            "{path}"
-        );
-    }
-    fs::remove_file(&rt, "long")?;
-    Ok(())
 }
 
 /// A command line, with the program's name in front.

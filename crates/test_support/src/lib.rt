@@ -16,8 +16,8 @@ pub use boxes::boxed;
 pub use growths::{Outcome, first_unrefused, refusals};
 pub use heaps::fill;
 pub use replies::{
-    blocks_of, bytes_of, give, given, host_of, late_of, letters_of, reply_of, table_of,
+    blocks_of, bytes_of, give, given, host_of, late_of, letters_of, part_of, reply_of, table_of,
 };
-pub use texts::{answer_of, fields_of, happening_of, lines_of, trace_of};
+pub use texts::{answer_of, fields_of, happening_of, lines_of};
 pub use words::line_words;
 pub use writers::Slow;

@@ -95,17 +95,12 @@ pub fn bytes_of<A: Allocator + Copy>(
     given(item, Bytes::copy_of(alloc, text.as_slice()).ok())
 }
 
-/// Adds a file of this name and text.
-fn add_part<A: Allocator + Copy>(
-    alloc: A,
-    parts: &mut Vec<Part<A>, A>,
-    name: &str,
-    text: &[u8],
-) -> Result<(), Memory> {
-    let name = String::from_str(alloc, name)?;
-    let bytes = Vec::from_slice(alloc, text)?;
-    parts.push(Part { name, bytes })?;
-    Ok(())
+/// A file of this name and text.
+pub fn part_of<A: Allocator + Copy>(alloc: A, name: &str, text: &[u8]) -> Result<Part<A>, Memory> {
+    Ok(Part {
+        name: String::from_str(alloc, name)?,
+        bytes: Vec::from_slice(alloc, text)?,
+    })
 }
 
 fn parts_of<A: Allocator + Copy>(own: Global, alloc: A, text: &str) -> Option<PartList<A>> {
@@ -114,18 +109,22 @@ fn parts_of<A: Allocator + Copy>(own: Global, alloc: A, text: &str) -> Option<Pa
         "none" => {}
         "long" => {
             let text = vec![in own; b'#'; 1_048_577].ok()?;
-            add_part(alloc, &mut parts, "part", text.as_slice()).ok()?;
+            parts
+                .push(part_of(alloc, "part", text.as_slice()).ok()?)
+                .ok()?;
         }
         "many" => {
             for _ in 0..257u32 {
-                add_part(alloc, &mut parts, "part", b"").ok()?;
+                parts.push(part_of(alloc, "part", b"").ok()?).ok()?;
             }
         }
         _ => {
             for part in text.split(" + ") {
                 let (name, lines) = part.split_once('@').unwrap_or(("part", part));
                 let text = text_of(own, "table", lines)?;
-                add_part(alloc, &mut parts, name, text.as_slice()).ok()?;
+                parts
+                    .push(part_of(alloc, name, text.as_slice()).ok()?)
+                    .ok()?;
             }
         }
     }

@@ -33,12 +33,6 @@ pub fn lines_of(own: Global, text: &str, parted: &str) -> Result<String, AllocEr
     Ok(lines)
 }
 
-/// The trace whose lines these are, parted by ` / `.
-pub fn trace_of(own: Global, row: &str) -> Option<Vec<HappeningIn<Global>>> {
-    let text = lines_of(own, row, " / ").ok()?;
-    trace_text::read(own, text.as_bytes()).ok()
-}
-
 /// The happening of a line, if it is one.
 pub fn happening_of(own: Global, line: &str) -> Option<HappeningIn<Global>> {
     let text = lines_of(own, line, " / ").ok()?;

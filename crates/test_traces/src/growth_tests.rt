@@ -8,7 +8,7 @@ use linked_list_allocator::LocalHeap;
 use simulator::{SimFault, Untold, simulate};
 use std::alloc::Global;
 use std::test::Fail;
-use test_support::{Outcome, Slow, boxed, first_unrefused, lines_of, trace_of};
+use test_support::{Outcome, Slow, boxed, first_unrefused, lines_of};
 use trace_check::Law;
 use trace_events::{HappeningIn, happening_copy};
 use trace_log::{ListLog, StreamLog};
@@ -167,7 +167,8 @@ fn what_has_no_room_is_refused(rt: HostRuntime) -> Result<(), Fail> {
 
 /// The writer took of the brief form what it has room for, and the log all where that is the whole text.
 fn is_streamed(own: Global, room: usize, fails: bool) -> Option<bool> {
-    let trace = trace_of(own, LONG)?;
+    let text = lines_of(own, LONG, " / ").ok()?;
+    let trace = trace_text::read(own, text.as_bytes()).ok()?;
     let log = StreamLog::new(own, Slow::new(own, room, fails, false));
     let (writer, all) = finished(log, &trace);
     Some(all == (room >= BRIEF.len()) && writer.taken.as_slice() == &BRIEF[..room.min(BRIEF.len())])

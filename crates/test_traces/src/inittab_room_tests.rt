@@ -1,14 +1,13 @@
 //! Growths are refused in turn, on heaps of more and more room, until a call meets no refusal: what is answered is lack
 //! of memory, and a table that was there is as it was.
 
-use crate::inittab_tests::part_of;
 use init_words::{Id, Memory, Part};
 use inittab_lint::{Findings, LineWarning, Warning, id_lines, lint_parts, warnings};
 use inittab_text::{Table, TableFault, read_parts};
 use linked_list_allocator::LocalHeap;
 use std::alloc::{Allocator, Global};
 use std::test::Fail;
-use test_support::{Outcome, first_unrefused};
+use test_support::{Outcome, first_unrefused, part_of};
 
 /// A text with two entries and two faults, and the two entries as they are written.
 const TEXT: &[u8] = b"id:3:initdefault:\nnothing\na:3:respawn:/bin/x 1\na:3:once:twice\n";

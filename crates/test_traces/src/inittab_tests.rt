@@ -5,7 +5,7 @@ use inittab_text::{Table, TableFault, read_parts, read_written};
 use std::alloc::Global;
 use std::fmt::{Display, Write};
 use std::test::Fail;
-use test_support::boxed;
+use test_support::{boxed, part_of};
 use text_lines::cut;
 
 /// Parts whose lines say what becomes of them, and the default level of their table. A line is written as it stands, or as
@@ -144,14 +144,6 @@ po::powerokwait:/etc/init.d/powerfail stop>po:S0123456789:powerokwait:/etc/init.
 2:23:respawn:/sbin/getty 38400 tty2
 #T0:23:respawn:/sbin/getty -L ttyS0 9600 vt100>
 ";
-
-/// The part of a text.
-pub(crate) fn part_of(alloc: Global, name: &str, text: &[u8]) -> Result<Part, Memory> {
-    Ok(Part {
-        name: String::from_str(alloc, name)?,
-        bytes: Vec::from_slice(alloc, text)?,
-    })
-}
 
 /// What a row says: its parts, what is written of their table, and their faults.
 #[derive(Drop)]
