@@ -4,7 +4,7 @@ use crate::cores::{does, opened};
 use crate::handed::{is_text, parts_of};
 use crate::handover_tests::{STARTED_TABLE, STARTS};
 use crate::texts::{STARTED_OLD, text_of};
-use core_model::{CoreFields, PendingCalls, Parts, PlainRecord};
+use core_model::{CoreFields, Parts, PendingCalls, PlainRecord};
 use core_records::Stop;
 use core_text::{StateFault, write_state};
 use init_words::{Act, ChildNumber, Level, OrderKind, Stage, Status};
@@ -61,7 +61,7 @@ const STARTED_HEADS: CoreFields = CoreFields {
     reread: false,
     reexec: false,
     level_wish: None,
-    news: PendingCalls {
+    pending: PendingCalls {
         fail: false,
         fail_now: false,
         ok: false,
@@ -128,7 +128,7 @@ const BUSY_HEADS: CoreFields = CoreFields {
         level: Level::L9,
         grace: 8,
     }),
-    news: PendingCalls {
+    pending: PendingCalls {
         fail: true,
         fail_now: false,
         ok: true,
@@ -139,11 +139,17 @@ const BUSY_HEADS: CoreFields = CoreFields {
 };
 
 fn are_fields(fields: &CoreFields, want: &CoreFields) -> bool {
-    let flags = [fields.booted, fields.announced, fields.reread, fields.reexec];
+    let flags = [
+        fields.booted,
+        fields.announced,
+        fields.reread,
+        fields.reexec,
+    ];
     (fields.generation, fields.time, fields.grace) == (want.generation, want.time, want.grace)
-        && (fields.stage, fields.goal, fields.level_wish) == (want.stage, want.goal, want.level_wish)
+        && (fields.stage, fields.goal, fields.level_wish)
+            == (want.stage, want.goal, want.level_wish)
         && flags == [want.booted, want.announced, want.reread, want.reexec]
-        && fields.news == want.news
+        && fields.pending == want.pending
 }
 
 fn is_kept(record: &PlainRecord, kept: &Kept) -> bool {
@@ -203,7 +209,8 @@ fn is_written(own: Global, written: &Written) -> Option<bool> {
     let (inittab, steps, fields, lines) = written;
     let mut core = opened(own, inittab)?;
     let is_done = steps.is_empty() || does(own, own, &mut core, steps);
-    let is_at = (core.time(), core.stage(), core.goal()) == (fields.time, fields.stage, fields.goal);
+    let is_at = (core.time(), core.stage(), core.goal())
+        == (fields.time, fields.stage, fields.goal);
     let text = write_state(own, fields, core.table(), core.slots().as_slice()).ok()?;
     Some(is_done && is_at != steps.is_empty() && is_text(own, &text, fields.generation, lines)?)
 }
