@@ -35,8 +35,9 @@ fn is_appended(alloc: Global, row: &Row) -> Result<bool, AllocError> {
     let mut request = Vec::new(alloc);
     request.resize(*before, 1)?;
     request.extend_from_slice(REQUEST)?;
-    request.resize(before + BLOCK, 0)?;
-    Ok(ended == *status && request.as_slice().get(..before + gained) == Some(channel.bytes()))
+    request.resize(before.saturating_add(BLOCK), 0)?;
+    let whole = before.saturating_add(*gained);
+    Ok(ended == *status && request.as_slice().get(..whole) == Some(channel.bytes()))
 }
 
 #[test]
