@@ -171,7 +171,7 @@ fn add_said(want: &mut Want, place: usize, number: usize, said: &[u8]) -> Result
 }
 
 /// Adds a part, whose lines say what becomes of them.
-fn add_part(alloc: Global, want: &mut Want, text: &[u8]) -> Result<(), Fail> {
+fn add_part(alloc: Global, want: &mut Want, place: usize, text: &[u8]) -> Result<(), Fail> {
     let mut bytes = Vec::new(alloc);
     for (at, line) in text.split(|byte| *byte == b'\n').enumerate() {
         let (line, said) = cut(b'>', line).unwrap_or((line, line));
@@ -179,7 +179,7 @@ fn add_part(alloc: Global, want: &mut Want, text: &[u8]) -> Result<(), Fail> {
             bytes.push(b'\n')?;
         }
         bytes.extend_from_slice(line)?;
-        add_said(want, want.parts.len(), at.saturating_add(1), said)?;
+        add_said(want, place, at.saturating_add(1), said)?;
     }
     want.parts.push(part_of(alloc, "part", &bytes)?)?;
     Ok(())
@@ -193,8 +193,8 @@ fn want_of(alloc: Global, (parts, level): &Row) -> Result<Box<Want>, Fail> {
         level: *level,
     };
     let mut want = boxed(alloc, want)?;
-    for text in *parts {
-        add_part(alloc, &mut want, text)?;
+    for (place, text) in parts.iter().enumerate() {
+        add_part(alloc, &mut want, place, text)?;
     }
     Ok(want)
 }
