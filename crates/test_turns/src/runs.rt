@@ -171,7 +171,10 @@ fn is_made(own: Global, row: &Row) -> Option<bool> {
         return None;
     }
     let letters = letters_of(own, bench.edge.host())?;
-    Some(row.letters.is_none_or(|want| letters.as_str() == want))
+    Some(match row.letters {
+        Some(want) => letters.as_bytes() == want.as_bytes(),
+        None => true,
+    })
 }
 
 pub(crate) fn passes(own: Global, row: &str) -> Option<bool> {
