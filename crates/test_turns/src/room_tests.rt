@@ -20,7 +20,7 @@ fn is_untold(own: Global) -> Option<bool> {
     let host = host_of(own, &heap, row.replies)?;
     let mut bench = bench_of(own, host, own, row.inittab, ListLog::new(own))?;
     let _fillers = fill(own, &heap, 0)?;
-    Some(is_run(own, &mut bench, &row) && bench.edge.host().calls().is_none())
+    Some(is_run(own, &mut bench, &row, row.trace) && bench.edge.host().calls().is_none())
 }
 
 const INITTAB: &str = "id:3:initdefault:|r:3:respawn:serv";

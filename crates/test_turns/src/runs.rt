@@ -150,24 +150,26 @@ fn is_logged(own: Global, list: &[HappeningIn<Global>], trace: &str) -> Option<b
     Some(text.as_slice() == want.as_bytes() && matches!(verdict, Verdict::Lawful))
 }
 
-/// The run of a row is as it says.
+/// The run of a row is as it says, with this trace.
 pub(crate) fn is_run<A: Allocator + Copy>(
     own: Global,
     bench: &mut Bench<A, Global, ListLog>,
     row: &Row,
+    trace: &str,
 ) -> bool {
     log_table(own, bench)
         && serve_on(own, bench, row.limit.0, row.limit.1) == row.ended
         && bench.edge.host().faults() == row.faults
-        && is_logged(own, bench.edge.log().list(), row.trace) == Some(true)
+        && is_logged(own, bench.edge.log().list(), trace) == Some(true)
 }
 
-/// Makes the run of a row, and gives whether its calls have the letters that are asked; None where it is not as it says.
-fn is_made(own: Global, row: &Row) -> Option<bool> {
-    let host = host_of(own, own, row.replies)?;
+/// Makes the run of a row whose host is given this, and gives whether its calls have the letters that are asked; None where
+/// it is not as it says, with this trace.
+fn is_made(own: Global, row: &Row, replies: &str, trace: &str) -> Option<bool> {
+    let host = host_of(own, own, replies)?;
     let mut bench = bench_of(own, host, own, row.inittab, ListLog::new(own))?;
     bench.strict = row.is_strict;
-    if !is_run(own, &mut bench, row) {
+    if !is_run(own, &mut bench, row, trace) {
         return None;
     }
     let letters = letters_of(own, bench.edge.host())?;
@@ -178,7 +180,8 @@ fn is_made(own: Global, row: &Row) -> Option<bool> {
 }
 
 pub(crate) fn passes(own: Global, row: &str) -> Option<bool> {
-    is_made(own, &row_of(row)?)
+    let row = row_of(row)?;
+    is_made(own, &row, row.replies, row.trace)
 }
 
 /// The text, with what stands behind `=>` in the place of the part before it, which is there.
@@ -192,20 +195,17 @@ fn changed(own: Global, text: &str, change: &str) -> Option<String> {
 
 /// The same of a row of which this is otherwise.
 pub(crate) fn passes_changed(own: Global, row: &str, change: &str) -> Option<bool> {
-    let row = row_of(row)?;
     let mut changes = change.split(" | ");
     let faults = changes.next()?.parse::<u64>().ok()?;
+    let row = Row {
+        faults,
+        letters: None,
+        ..row_of(row)?
+    };
     let replies = changed(own, row.replies, changes.next()?)?;
     let mut trace = String::from_str(own, row.trace).ok()?;
     for change in changes {
         trace = changed(own, &trace, change)?;
     }
-    let row = Row {
-        replies: &replies,
-        trace: &trace,
-        faults,
-        letters: None,
-        ..row
-    };
-    is_made(own, &row)
+    is_made(own, &row, &replies, &trace)
 }
