@@ -1,7 +1,7 @@
 //! `initview`: why an entry of init is not started, how all stand and which children are left, by a trace.
 #![tactic(auto)]
 
-use initview_command::{GrowingFiles, USAGE, run_words};
+use initview_command::{GrowingFiles, Printed, USAGE, run_words};
 use program_io::{StandardFiles, report_unread_words, words};
 use std::process::ExitCode;
 use trace_pieces::PiecedFiles;
@@ -16,7 +16,7 @@ fn main(rt: HostRuntime) -> ExitCode {
                 &GrowingFiles::new(&rt),
                 alloc,
                 words.as_slice(),
-                &mut rt.stdout(),
+                &mut Printed::on(rt.stdout()),
                 &mut rt.stderr(),
             )
         }

@@ -1,17 +1,20 @@
 -- The command line, and what its words ask is done.
-use Rattle.std.proofs.Common.{◌≡◌, ◌∙◌, [], ap, inl, inr, refl, sym, true, false, ℕ, Bool, codes, List, Option, Some, None, subst, unwrap_or, IsSome, option_and_then}
-use Rattle.std.proofs.KnownBytes.{Keeps-refl}
+use Rattle.std.proofs.Common.{◌≡◌, ◌∙◌, [], ◌∷◌, ap, inl, inr, refl, sym, true, false, ℕ, Bool, codes, List, Option, Some, None, subst, unwrap_or, IsSome, option_and_then}
 use Rattle.clap.specs.Words.{Row, all_of, is_simple_and_free}
 use Rattle.clap.proofs.OnLiterals.{clap_on_literals}
-use Rattle.program_io.specs.declared.statuses.TheConstants.{DEVICE_FAULT}
+use Rattle.program_io.specs.declared.statuses.TheConstants.{DONE, DEVICE_FAULT}
 use Rattle.program_io.specs.Known.{KnownTexts}
 use Rattle.command_words.specs.CommandLines.{bare_line, given_by, line_of}
 use Rattle.command_words.specs.Faults.{reason_of}
 use Rattle.command_words.specs.declared.faults.WordFault.{WordFault}
 use Rattle.command_words.specs.declared.faults.WordFault.TheVariants.{Usage, Memory}
-use Rattle.command_words.specs.VersionLine.{PrintsVersion}
-use Rattle.initview_command.specs.declared.asking.What.{What}
+use Rattle.command_words.specs.VersionLine.{version_line}
+use Rattle.initview_lines.specs.declared.lines.Line.TheVariants as line
+use Rattle.initview_lines.specs.Saying.{Heard}
+use Rattle.initview_command.specs.declared.asking.Command.{Command}
+use Rattle.initview_lines.proofs.SayingLemmas.{says_nothing}
 use Rattle.initview_command.specs.Asking.{asked_of, command_line, files_of, folder_of, path_of, what_of, words_said}
+use Rattle.initview_command.specs.Showing.{Writes}
 use Rattle.initview_command.specs.Writers.{KnownWriters}
 use Rattle.initview_command.specs.Refusals.{ReportsRefusal}
 use Rattle.initview_command.specs.Endings.{Does, EndsAs, EndsFor, EndsGiven, EndsOf, EndsOn, EndsWhere, Refuses}
@@ -21,9 +24,9 @@ pub is_free_line : is_simple_and_free command_line ≡ true
 unfolding bare_line line_of clap_on_literals
 is_free_line = refl
 
-module _ (text_at growing_at : KnownTexts) (writers : KnownWriters) (status : ℕ) (old new : Option (List ℕ)) where
+module _ (text_at growing_at : KnownTexts) (writers : KnownWriters) (status : ℕ) (old new : Heard) where
   pub so_done : (rows : List Row) (words : List (List ℕ)) (path : List ℕ) (files : List (List ℕ))
-      (folder : Option (List ℕ)) (what : What) (asked : Option What)
+      (folder : Option (List ℕ)) (what : Command) (asked : Option Command)
       → path ≡ path_of what rows words → files ≡ files_of what words → folder ≡ folder_of rows → Some what ≡ asked
       → Does text_at growing_at writers path files folder what status old new
       → EndsFor text_at growing_at writers rows words asked status old new
@@ -44,7 +47,7 @@ module _ (text_at growing_at : KnownTexts) (writers : KnownWriters) (status : �
 
   -- by whether the version is asked for
   pub version_done : (words : List (List ℕ)) (asks : Bool) → asks ≡ true
-      → PrintsVersion (codes "initview") status old new → EndsAs asks text_at growing_at writers words status old new
+      → Writes (line.Text (version_line (codes "initview")) ∷ []) DONE status old new → EndsAs asks text_at growing_at writers words status old new
   version_done words true is printed = printed
   version_done words false is printed = absurd (cc)
 
@@ -61,19 +64,19 @@ module _ (text_at growing_at : KnownTexts) (writers : KnownWriters) (status : �
       inl (subst (λ r. EndsWhere text_at growing_at writers r status old new) (sym is) done)
 
 -- the exit statuses of words that are refused
-pub refuses : (status : ℕ) (before after now : Option (List ℕ)) → ReportsRefusal status before after
+pub refuses : (status : ℕ) (before after : Option (List ℕ)) (now : Heard) → ReportsRefusal status before after
     → Refuses status now now
-refuses status before after now (inl told) = (inl told.0, Keeps-refl now)
-refuses status before after now (inr told) = (inr told.0, Keeps-refl now)
+refuses status before after now (inl told) = (inl told.0, says_nothing now)
+refuses status before after now (inr told) = (inr told.0, says_nothing now)
 
-pub fault_done : (text_at growing_at : KnownTexts) (writers : KnownWriters) (status : ℕ) (before after now : Option (List ℕ))
+pub fault_done : (text_at growing_at : KnownTexts) (writers : KnownWriters) (status : ℕ) (before after : Option (List ℕ)) (now : Heard)
     (words : List (List ℕ)) (fault : WordFault) → (IsSome (reason_of fault) → given_by command_line words ≡ None)
     → ReportsRefusal status before after → (fault ≡ Memory → status ≡ DEVICE_FAULT)
     → EndsOn text_at growing_at writers words status now now
 fault_done text_at growing_at writers status before after now words (Usage reason) none refused memory =
     inl (subst (λ r. EndsWhere text_at growing_at writers r status now now) (sym (none refl))
     (refuses status before after now refused))
-fault_done text_at growing_at writers status before after now words Memory none refused memory = inr (memory refl, Keeps-refl now)
+fault_done text_at growing_at writers status before after now words Memory none refused memory = inr (memory refl, says_nothing now)
 
 -- what words ask, by the rows that they give
 pub asked_none : (words : List (List ℕ)) (rows : List Row) → given_by command_line words ≡ Some rows

@@ -8,14 +8,14 @@ use Rattle.command_words.specs.CommandLines.{Line, given_by, is_set, line_of, va
 use Rattle.init_words.specs.declared.levels.Level.{Level}
 use Rattle.init_words.specs.Ids.{id_read}
 use Rattle.init_words.specs.Levels.{level_read}
-use Rattle.initview_lines.specs.declared.rows.RowFormat.{RowFormat}
-use Rattle.initview_lines.specs.declared.rows.RowFormat.TheVariants as shape
-use Rattle.initview_command.specs.declared.asking.Question.TheVariants as question
+use Rattle.initview_lines.specs.declared.lines.RowFormat.{RowFormat}
+use Rattle.initview_lines.specs.declared.lines.RowFormat.TheVariants as shape
+use Rattle.initview_command.specs.declared.asking.TraceQuery.TheVariants as question
 use Rattle.initview_command.specs.declared.asking.TableQuestion.{TableQuestion}
 use Rattle.initview_command.specs.declared.asking.TableQuestion.TheVariants as table
 use Rattle.initview_command.specs.declared.asking.TheConstants.{OPTIONS}
-use Rattle.initview_command.specs.declared.asking.What.{What}
-use Rattle.initview_command.specs.declared.asking.What.TheVariants.{Show, Draw, Follow, Explain, Reload, Timing, Tables}
+use Rattle.initview_command.specs.declared.asking.Command.{Command}
+use Rattle.initview_command.specs.declared.asking.Command.TheVariants.{Show, Draw, Follow, Explain, Reload, Timing, Tables}
 use Rattle.initview_command.specs.declared.charting.Form.{Form}
 use Rattle.initview_command.specs.declared.charting.Form.TheVariants.{Lines, Svg}
 use Rattle.initview_command.specs.declared.charting.TheConstants.{WIDTH}
@@ -63,47 +63,47 @@ abbrev pub form_said : List Row → Option Form
 form_said rows = form_given (is_set (codes "--svg") rows) (first_of (codes "--width") rows)
 
 -- status TRACE [ID]
-abbrev pub show_of : List Row → List Text → Option What
+abbrev pub show_of : List Row → List Text → Option Command
 show_of rows (trace ∷ []) = Some (Show (question.Status (shape_said rows)))
 show_of rows (trace ∷ id ∷ []) = option_map (λ i. Show (question.Row i (shape_said rows))) (id_read id)
 show_of rows _ = None
 
 -- timeline TRACE
-abbrev pub draw_of : List Row → List Text → Option What
+abbrev pub draw_of : List Row → List Text → Option Command
 draw_of rows (trace ∷ []) = option_map Draw (form_said rows)
 draw_of rows _ = None
 
 -- why ID TRACE [TABLE..]
-abbrev pub explained : Text → Option What
+abbrev pub explained : Text → Option Command
 explained id = option_map Explain (id_read id)
 
-abbrev pub explain_of : List Text → Option What
+abbrev pub explain_of : List Text → Option Command
 explain_of (id ∷ trace ∷ tables) = explained id
 explain_of _ = None
 
 -- diff [--trace TRACE] [--level LEVEL] OLD NEW
-abbrev pub diff_by : Bool → Option Level → What
+abbrev pub diff_by : Bool → Option Level → Command
 diff_by traced level = if traced then Reload level else Tables (table.Diff level)
 
-abbrev pub diff_of : List Row → List Text → Option What
+abbrev pub diff_of : List Row → List Text → Option Command
 diff_of rows (old ∷ new ∷ []) = option_map (diff_by (is_some (first_of (codes "--trace") rows))) (level_said rows)
 diff_of rows _ = None
 
 -- plan [--trace TRACE] [--level LEVEL] TABLE [FILE..]
-abbrev pub plan_by : Bool → Option Level → What
+abbrev pub plan_by : Bool → Option Level → Command
 plan_by traced level = if traced then Timing level else Tables (table.Plan level)
 
-abbrev pub plan_of : List Row → List Text → Option What
+abbrev pub plan_of : List Row → List Text → Option Command
 plan_of rows [] = None
 plan_of rows words = option_map (plan_by (is_some (first_of (codes "--trace") rows))) (level_said rows)
 
 -- lint [--programs FOLDERS] TABLE [FILE..]
-abbrev pub lint_of : List Row → List Text → Option What
+abbrev pub lint_of : List Row → List Text → Option Command
 lint_of rows [] = None
 lint_of rows words =
     Some (Tables (if is_some (first_of (codes "--programs") rows) then table.Programs else table.Lint))
 
-abbrev pub tables_of : List Row → Text → List Text → Option What
+abbrev pub tables_of : List Row → Text → List Text → Option Command
 tables_of rows verb words =
     if bytes_eq verb (codes "diff") then diff_of rows words
     else if bytes_eq verb (codes "plan") then plan_of rows words
@@ -111,18 +111,18 @@ tables_of rows verb words =
     else None
 
 -- left TRACE, follow TRACE
-abbrev pub plain_of : List Row → Text → List Text → Option What
+abbrev pub plain_of : List Row → Text → List Text → Option Command
 plain_of rows verb (trace ∷ []) =
     if bytes_eq verb (codes "left") then Some (Show (question.Left (shape_said rows)))
     else if bytes_eq verb (codes "follow") then Some Follow
     else None
 plain_of rows verb _ = None
 
-abbrev pub or_tables : Option What → Option What → Option What
+abbrev pub or_tables : Option Command → Option Command → Option Command
 or_tables (Some what) other = Some what
 or_tables None other = other
 
-abbrev pub asked_by : List Row → Text → List Text → Option What
+abbrev pub asked_by : List Row → Text → List Text → Option Command
 asked_by rows verb words =
     if bytes_eq verb (codes "status") then show_of rows words
     else if bytes_eq verb (codes "timeline") then draw_of rows words
@@ -130,7 +130,7 @@ asked_by rows verb words =
     else or_tables (plain_of rows verb words) (tables_of rows verb words)
 
 -- what options and words ask, whatever other options are given
-abbrev pub asked : List Row → List Text → Option What
+abbrev pub asked : List Row → List Text → Option Command
 asked rows [] = None
 asked rows (verb ∷ words) = asked_by rows verb words
 
@@ -145,7 +145,7 @@ abbrev pub goes_by_level : Text → Bool
 goes_by_level option =
     bytes_eq option (codes "--inittab-dir") || (bytes_eq option (codes "--trace") || bytes_eq option (codes "--level"))
 
-abbrev pub takes : What → Text → Bool
+abbrev pub takes : Command → Text → Bool
 takes (Show question) option = bytes_eq option (codes "--json")
 takes (Draw form) option = bytes_eq option (codes "--svg") || bytes_eq option (codes "--width")
 takes Follow option = false
@@ -155,21 +155,21 @@ takes (Timing level) option = goes_by_level option
 takes (Tables question) option = bytes_eq option (codes "--inittab-dir") || table_takes question option
 
 -- all that are given do
-abbrev pub belongs : List Row → What → Line → Bool
+abbrev pub belongs : List Row → Command → Line → Bool
 belongs rows what row = not (is_given rows row) || takes what row.0
 
-abbrev pub has_only : List Row → What → Bool
+abbrev pub has_only : List Row → Command → Bool
 has_only rows what = list_all (belongs rows what) (written OPTIONS.now)
 
 -- what options and words ask
-abbrev pub where_only : List Row → What → Option What
+abbrev pub where_only : List Row → Command → Option Command
 where_only rows what = if has_only rows what then Some what else None
 
-abbrev pub what_of : List Row → List Text → Option What
+abbrev pub what_of : List Row → List Text → Option Command
 what_of rows words = option_and_then (where_only rows) (asked rows words)
 
 -- what a command line asks
-abbrev pub asked_of : List Text → Option What
+abbrev pub asked_of : List Text → Option Command
 asked_of words = option_and_then (λ rows. what_of rows (words_said rows)) (given_by command_line words)
 
 -- the path of the trace, or the folders of programs; and the paths of the files of inittabs
@@ -189,14 +189,14 @@ abbrev pub behind_one : List Text → List Text
 behind_one (first ∷ words) = words
 behind_one [] = []
 
-abbrev pub path_of : What → List Row → List Text → Text
+abbrev pub path_of : Command → List Row → List Text → Text
 path_of (Reload level) rows words = value_said (codes "--trace") rows
 path_of (Timing level) rows words = value_said (codes "--trace") rows
 path_of (Tables question) rows words = value_said (codes "--programs") rows
 path_of (Explain id) rows words = third_of words
 path_of _ rows words = second_of words
 
-abbrev pub files_of : What → List Text → List Text
+abbrev pub files_of : Command → List Text → List Text
 files_of (Explain id) words = behind_three words
 files_of _ words = behind_one words
 

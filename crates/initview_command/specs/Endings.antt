@@ -1,31 +1,32 @@
 -- How initview ends on its words, and what it wrote.
-use Rattle.std.specs.Prelude.{◌≡◌, ◌⊎◌, ℕ, Bool, true, false, List, codes, Option, Some, None}
-use Rattle.std.specs.Io.KnownBytes.{Keeps}
-use Rattle.program_io.specs.declared.statuses.TheConstants.{REFUSED, DEVICE_FAULT}
+use Rattle.std.specs.Prelude.{◌≡◌, ◌⊎◌, ℕ, Bool, true, false, List, [], ◌∷◌, codes, Option, Some, None}
+use Rattle.program_io.specs.declared.statuses.TheConstants.{DONE, REFUSED, DEVICE_FAULT}
 use Rattle.program_io.specs.Known.{KnownTexts}
 use Rattle.clap.specs.Words.{Row}
 use Rattle.command_words.specs.CommandLines.{asks_version, given_by}
-use Rattle.command_words.specs.VersionLine.{PrintsVersion}
-use Rattle.initview_command.specs.declared.asking.What.{What}
-use Rattle.initview_command.specs.declared.asking.What.TheVariants.{Show, Draw, Follow, Explain, Reload, Timing, Tables}
+use Rattle.command_words.specs.VersionLine.{version_line}
+use Rattle.initview_lines.specs.declared.lines.Line.TheVariants as line
+use Rattle.initview_lines.specs.Saying.{Heard, SaysNothing}
+use Rattle.initview_command.specs.declared.asking.Command.{Command}
+use Rattle.initview_command.specs.declared.asking.Command.TheVariants.{Show, Draw, Follow, Explain, Reload, Timing, Tables}
 use Rattle.initview_command.specs.Asking.{command_line, files_of, folder_of, path_of, what_of, words_said}
 use Rattle.initview_command.specs.Charting.{drawing}
 use Rattle.initview_command.specs.Explaining.{explained_with}
 use Rattle.initview_command.specs.Following.{Follows}
 use Rattle.initview_command.specs.Planning.{timing_with}
 use Rattle.initview_command.specs.Reloading.{reload_with}
-use Rattle.initview_command.specs.Showing.{Shows, answer_by, stop_status}
+use Rattle.initview_command.specs.Showing.{Shows, Writes, answer_by, stop_status}
 use Rattle.initview_command.specs.Tables.{Answers, AreNone, NoneOf}
 use Rattle.initview_command.specs.WithFiles.{ShowsWithFiles}
 use Rattle.initview_command.specs.Writers.{KnownWriters}
 
 -- what is asked of the trace at a path, or of files, is done
-abbrev pub Does : KnownTexts → KnownTexts → KnownWriters → List ℕ → List (List ℕ) → Option (List ℕ) → What → ℕ
-    → Option (List ℕ) → Option (List ℕ) → Type 0
+abbrev pub Does : KnownTexts → KnownTexts → KnownWriters → List ℕ → List (List ℕ) → Option (List ℕ) → Command → ℕ
+    → Heard → Heard → Type 0
 Does text_at growing_at writers path files folder (Show question) status old new =
     Shows text_at writers path (answer_by question) status old new
 Does text_at growing_at writers path files folder (Draw form) status old new =
-    Shows text_at writers path (λ writer stop past. (drawing form past, stop_status stop)) status old new
+    Shows text_at writers path (λ writer stop past. (line.Text (drawing form past) ∷ [], stop_status stop)) status old new
 Does text_at growing_at writers path files folder Follow status old new = Follows (growing_at path) status old new
 Does text_at growing_at writers path files folder (Explain id) status old new =
     ShowsWithFiles text_at writers path files folder (explained_with path id) AreNone status old new
@@ -37,46 +38,47 @@ Does text_at growing_at writers path files folder (Tables question) status old n
     Answers text_at files folder question status old new
 
 -- words are refused, or memory ran out, and nothing was written
-abbrev pub Refuses : ℕ → Option (List ℕ) → Option (List ℕ) → Type 0
-Refuses status old new = ((status ≡ REFUSED) ⊎ (status ≡ DEVICE_FAULT)) × Keeps old new
+abbrev pub Refuses : ℕ → Heard → Heard → Type 0
+Refuses status old new = ((status ≡ REFUSED) ⊎ (status ≡ DEVICE_FAULT)) × SaysNothing old new
 
 -- so of what a command line gives, by its options and words; where they ask nothing it is refused
-abbrev pub EndsFor : KnownTexts → KnownTexts → KnownWriters → List Row → List (List ℕ) → Option What → ℕ
-    → Option (List ℕ) → Option (List ℕ) → Type 0
+abbrev pub EndsFor : KnownTexts → KnownTexts → KnownWriters → List Row → List (List ℕ) → Option Command → ℕ
+    → Heard → Heard → Type 0
 EndsFor text_at growing_at writers rows words (Some what) status old new =
     Does text_at growing_at writers (path_of what rows words) (files_of what words) (folder_of rows) what status old new
 EndsFor text_at growing_at writers rows words None status old new = Refuses status old new
 
-abbrev pub EndsGiven : KnownTexts → KnownTexts → KnownWriters → List Row → List (List ℕ) → ℕ → Option (List ℕ)
-    → Option (List ℕ) → Type 0
+abbrev pub EndsGiven : KnownTexts → KnownTexts → KnownWriters → List Row → List (List ℕ) → ℕ → Heard
+    → Heard → Type 0
 EndsGiven text_at growing_at writers rows words status old new =
     EndsFor text_at growing_at writers rows words (what_of rows words) status old new
 
-abbrev pub EndsOf : KnownTexts → KnownTexts → KnownWriters → List Row → ℕ → Option (List ℕ) → Option (List ℕ)
+abbrev pub EndsOf : KnownTexts → KnownTexts → KnownWriters → List Row → ℕ → Heard → Heard
     → Type 0
 EndsOf text_at growing_at writers rows status old new =
     EndsGiven text_at growing_at writers rows (words_said rows) status old new
 
 -- so of words that don't ask for the version; words that are no command line are refused
-abbrev pub EndsWhere : KnownTexts → KnownTexts → KnownWriters → Option (List Row) → ℕ → Option (List ℕ)
-    → Option (List ℕ) → Type 0
+abbrev pub EndsWhere : KnownTexts → KnownTexts → KnownWriters → Option (List Row) → ℕ → Heard
+    → Heard → Type 0
 EndsWhere text_at growing_at writers (Some rows) status old new = EndsOf text_at growing_at writers rows status old new
 EndsWhere text_at growing_at writers None status old new = Refuses status old new
 
 -- or memory ran out, and nothing was written
-abbrev pub EndsOn : KnownTexts → KnownTexts → KnownWriters → List (List ℕ) → ℕ → Option (List ℕ) → Option (List ℕ)
+abbrev pub EndsOn : KnownTexts → KnownTexts → KnownWriters → List (List ℕ) → ℕ → Heard → Heard
     → Type 0
 EndsOn text_at growing_at writers words status old new =
     EndsWhere text_at growing_at writers (given_by command_line words) status old new
-    ⊎ ((status ≡ DEVICE_FAULT) × Keeps old new)
+    ⊎ ((status ≡ DEVICE_FAULT) × SaysNothing old new)
 
-abbrev pub EndsAs : Bool → KnownTexts → KnownTexts → KnownWriters → List (List ℕ) → ℕ → Option (List ℕ)
-    → Option (List ℕ) → Type 0
-EndsAs true text_at growing_at writers words status old new = PrintsVersion (codes "initview") status old new
+abbrev pub EndsAs : Bool → KnownTexts → KnownTexts → KnownWriters → List (List ℕ) → ℕ → Heard
+    → Heard → Type 0
+EndsAs true text_at growing_at writers words status old new =
+    Writes (line.Text (version_line (codes "initview")) ∷ []) DONE status old new
 EndsAs false text_at growing_at writers words status old new =
     EndsOn text_at growing_at writers words status old new
 
-abbrev pub EndsBy : KnownTexts → KnownTexts → KnownWriters → List (List ℕ) → ℕ → Option (List ℕ) → Option (List ℕ)
+abbrev pub EndsBy : KnownTexts → KnownTexts → KnownWriters → List (List ℕ) → ℕ → Heard → Heard
     → Type 0
 EndsBy text_at growing_at writers words status old new =
     EndsAs (asks_version words) text_at growing_at writers words status old new

@@ -4,7 +4,10 @@ use Rattle.init_words.specs.Parts.{NamedText}
 use Rattle.trace_events.specs.Event.{Event}
 use Rattle.inittab_lint.specs.IdLines.{id_text}
 use Rattle.trace_view.specs.declared.text_views.ViewEnd.{ViewEnd}
-use Rattle.initview_lines.specs.Reasons.{chain_of, why_text}
+use Rattle.initview_lines.specs.declared.lines.Line.{Line}
+use Rattle.initview_lines.specs.declared.lines.Line.TheVariants as line
+use Rattle.initview_lines.specs.declared.reasons.Chain.{Chain}
+use Rattle.initview_lines.specs.Reasons.{chain_of, why_in}
 use Rattle.initview_command.specs.declared.growing.Writer.{Writer}
 use Rattle.initview_command.specs.Showing.{stop_status}
 use Rattle.initview_command.specs.Writers.{present}
@@ -14,10 +17,14 @@ abbrev pub files_text : List ℕ → List NamedText → List ℕ
 files_text id [] = []
 files_text id (file ∷ files) = id_text id (file ∷ files)
 
--- what is written: the reason by now, with the lines that were at fault, and what is told of the inittab
-abbrev pub explained : List ℕ → List ℕ → List ℕ → Writer → Option ViewEnd → List Event → List ℕ × ℕ
-explained path id told writer stop past =
-    (why_text path (chain_of id past) (present writer stop past) ++ told, stop_status stop)
+-- what is written of a trace that stands so by now: the reason, with the lines that were at fault, and what is told of the
+-- inittab
+abbrev pub explanation : List ℕ → Chain → List ℕ → List Event → List Line
+explanation path chain told now = why_in path chain now ++ line.Text told ∷ []
 
-abbrev pub explained_with : List ℕ → List ℕ → List NamedText → Writer → Option ViewEnd → List Event → List ℕ × ℕ
+abbrev pub explained : List ℕ → List ℕ → List ℕ → Writer → Option ViewEnd → List Event → List Line × ℕ
+explained path id told writer stop past =
+    (explanation path (chain_of id past) told (present writer stop past), stop_status stop)
+
+abbrev pub explained_with : List ℕ → List ℕ → List NamedText → Writer → Option ViewEnd → List Event → List Line × ℕ
 explained_with path id files = explained path id (files_text id files)

@@ -4,18 +4,19 @@ use Rattle.init_words.specs.Parts.{NamedText}
 use Rattle.init_words.specs.declared.entries.Entry.{Entry}
 use Rattle.init_words.specs.declared.levels.Level.{Level}
 use Rattle.trace_events.specs.Event.{Event}
-use Rattle.initview_lines.specs.Reloads.{reload_text, reloaded}
+use Rattle.initview_lines.specs.declared.lines.Line.{Line}
+use Rattle.initview_lines.specs.Reloads.{reload_in, reloaded}
 use Rattle.initview_command.specs.Showing.{stop_status}
 use Rattle.initview_command.specs.Tables.{old_of, table_in}
 use Rattle.trace_view.specs.declared.text_views.ViewEnd.{ViewEnd}
 
 -- what is written, by the inittabs, the level and the past of the trace
-abbrev pub reload_said : List Entry → List Entry → Option Level → List Event → List ℕ
-reload_said old new level past = reload_text old (reloaded new level past)
+abbrev pub reload_said : List Entry → List Entry → Option Level → List Event → List Line
+reload_said old new level past = reload_in old (reloaded new level past)
 
-abbrev pub reload_answer : List Entry → List Entry → Option Level → Option ViewEnd → List Event → List ℕ × ℕ
+abbrev pub reload_answer : List Entry → List Entry → Option Level → Option ViewEnd → List Event → List Line × ℕ
 reload_answer old new level stop past = (reload_said old new level past, stop_status stop)
 
 -- of two files, the old inittab and the new one
-abbrev pub reload_with : Option Level → List NamedText → Option ViewEnd → List Event → List ℕ × ℕ
+abbrev pub reload_with : Option Level → List NamedText → Option ViewEnd → List Event → List Line × ℕ
 reload_with level files = reload_answer (table_in (old_of files)) (table_in (drop 1 files)) level

@@ -1,7 +1,5 @@
 -- What is written of a trace, and the exit status.
-use Rattle.std.specs.Prelude.{◌≡◌, ◌⊎◌, ℕ, Bool, true, false, if◌then◌else◌, List, reverse, Option, Some, None, is_some}
-use Rattle.std.specs.Io.KnownBytes.{Appends, Keeps}
-use Rattle.program_io.specs.Writing.{AppendsPrefix}
+use Rattle.std.specs.Prelude.{◌≡◌, ◌⊎◌, ℕ, Bool, true, false, if◌then◌else◌, List, [], ◌∷◌, reverse, Option, Some, None, is_some}
 use Rattle.program_io.specs.declared.statuses.TheConstants.{DONE, REFUSED, UNLAWFUL, DEVICE_FAULT}
 use Rattle.program_io.specs.Known.{IsTextAt, KnownTexts}
 use Rattle.trace_events.specs.Event.{Event}
@@ -11,19 +9,21 @@ use Rattle.trace_view.specs.Rows.{row_of}
 use Rattle.trace_view.specs.declared.text_views.ViewEnd.{ViewEnd}
 use Rattle.trace_view.specs.declared.text_views.ViewEnd.TheVariants.{Breach, Torn, Within}
 use Rattle.trace_view.specs.Shown.{IsShown}
-use Rattle.initview_lines.specs.Left.{left_text}
-use Rattle.initview_lines.specs.Rows.{row_of_in, status_in}
-use Rattle.initview_command.specs.declared.asking.Question.{Question}
-use Rattle.initview_command.specs.declared.asking.Question.TheVariants as question
+use Rattle.initview_lines.specs.declared.lines.Line.{Line}
+use Rattle.initview_lines.specs.Left.{left_in}
+use Rattle.initview_lines.specs.Rows.{row_at, status_in}
+use Rattle.initview_lines.specs.Saying.{Heard, Says, SaysFront, SaysNothing}
+use Rattle.initview_command.specs.declared.asking.TraceQuery.{TraceQuery}
+use Rattle.initview_command.specs.declared.asking.TraceQuery.TheVariants as question
 use Rattle.initview_command.specs.declared.growing.Writer.{Writer}
 use Rattle.initview_command.specs.declared.growing.Writer.TheVariants.{Nobody}
 use Rattle.initview_command.specs.Writers.{IsWriterAt, KnownWriters, present}
 
 -- the answer to a question, by the past of a trace
-abbrev pub said : Question → List Event → List ℕ
+abbrev pub said : TraceQuery → List Event → List Line
 said (question.Status shape) past = status_in shape past
-said (question.Row id shape) past = row_of_in shape id past
-said (question.Left shape) past = left_text shape past
+said (question.Row id shape) past = row_at shape past id ∷ []
+said (question.Left shape) past = left_in shape past
 
 -- the exit statuses of the action `status` in the LSB: it runs, which is unknown where no init writes the trace; it
 -- doesn't; it is unknown
@@ -45,39 +45,39 @@ abbrev pub row_status : List ℕ → Writer → Option ViewEnd → List Event �
 row_status id writer None past = lsb_status writer (row_of id past)
 row_status id writer (Some stop) past = DEVICE_FAULT
 
-abbrev pub status_by : Question → Writer → Option ViewEnd → List Event → ℕ
+abbrev pub status_by : TraceQuery → Writer → Option ViewEnd → List Event → ℕ
 status_by (question.Row id shape) writer stop past = row_status id writer stop past
 status_by _ writer stop past = stop_status stop
 
 -- the answer and the exit status, of a trace as it stands by now
-abbrev pub answer_by : Question → Writer → Option ViewEnd → List Event → List ℕ × ℕ
+abbrev pub answer_by : TraceQuery → Writer → Option ViewEnd → List Event → List Line × ℕ
 answer_by question writer stop past =
     (said question (present writer stop past), status_by question writer stop (present writer stop past))
 
--- the text was written, and the exit status is this; or the output failed or memory ran out, and a part of it was written
-abbrev pub Writes : List ℕ → ℕ → ℕ → Option (List ℕ) → Option (List ℕ) → Type 0
-Writes text ends status old new =
-    ((status ≡ ends) × Appends old new text) ⊎ ((status ≡ DEVICE_FAULT) × AppendsPrefix old new text)
+-- the lines were said, and the exit status is this; or the output failed or memory ran out, and a front of them was said
+abbrev pub Writes : List Line → ℕ → ℕ → Heard → Heard → Type 0
+Writes lines ends status old new =
+    ((status ≡ ends) × Says old new lines) ⊎ ((status ≡ DEVICE_FAULT) × SaysFront old new lines)
 
 -- so of an answer and its exit status; a text that begins within a run is refused, and nothing was written
 abbrev pub is_within : Option ViewEnd → Bool
 is_within (Some Within) = true
 is_within _ = false
 
-abbrev pub ShowsBy : Bool → List ℕ × ℕ → ℕ → Option (List ℕ) → Option (List ℕ) → Type 0
-ShowsBy true answer status old new = (status ≡ REFUSED) × Keeps old new
+abbrev pub ShowsBy : Bool → List Line × ℕ → ℕ → Heard → Heard → Type 0
+ShowsBy true answer status old new = (status ≡ REFUSED) × SaysNothing old new
 ShowsBy false answer status old new = Writes answer.0 answer.1 status old new
 
-abbrev pub ShowsOf : Option ViewEnd → List ℕ × ℕ → ℕ → Option (List ℕ) → Option (List ℕ) → Type 0
+abbrev pub ShowsOf : Option ViewEnd → List Line × ℕ → ℕ → Heard → Heard → Type 0
 ShowsOf stop answer status old new = ShowsBy (is_within stop) answer status old new
 
 -- so of what a view shows of the text at the path, which breaks no law, and is written by whom its lock names; or it
 -- was not read, and nothing was written
-abbrev pub Shows : KnownTexts → KnownWriters → List ℕ → (Writer → Option ViewEnd → List Event → List ℕ × ℕ) → ℕ
-    → Option (List ℕ) → Option (List ℕ) → Type 0
+abbrev pub Shows : KnownTexts → KnownWriters → List ℕ → (Writer → Option ViewEnd → List Event → List Line × ℕ) → ℕ
+    → Heard → Heard → Type 0
 Shows text_at writers path gives status old new =
     ((text : List ℕ) × (writer : Writer) × (stop : Option ViewEnd) × (left : Option ℕ) × (trace : List Event)
     × IsTextAt text_at path text × IsWriterAt writers path writer
     × IsShown text stop left trace × (first_breach (reverse trace) ≡ None)
     × ShowsOf stop (gives writer stop (reverse trace)) status old new)
-    ⊎ ((status ≡ DEVICE_FAULT) × Keeps old new)
+    ⊎ ((status ≡ DEVICE_FAULT) × SaysNothing old new)

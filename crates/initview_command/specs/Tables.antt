@@ -1,6 +1,5 @@
 -- What is written of inittabs, and the exit status.
 use Rattle.std.specs.Prelude.{◌≡◌, ◌⊎◌, ℕ, true, List, [], ◌∷◌, ◌++◌, take, drop, Option, Some, None, unwrap_or}
-use Rattle.std.specs.Io.KnownBytes.{Keeps}
 use Rattle.std.specs.List.{list_all}
 use Rattle.program_io.specs.declared.statuses.TheConstants.{DONE, REFUSED, DEVICE_FAULT}
 use Rattle.program_io.specs.Known.{IsTextAt, KnownTexts}
@@ -17,8 +16,11 @@ use Rattle.inittab_lint.specs.declared.linting.Findings.TheVariants as found
 use Rattle.inittab_lint.specs.declared.traps.LineWarning.{LineWarning}
 use Rattle.inittab_lint.specs.Linting.{lint_in}
 use Rattle.inittab_lint.specs.Programs.{is_missing}
-use Rattle.initview_lines.specs.Changes.{changes_text}
-use Rattle.initview_lines.specs.Plans.{plan_text}
+use Rattle.initview_lines.specs.declared.lines.Line.{Line}
+use Rattle.initview_lines.specs.declared.lines.Line.TheVariants as line
+use Rattle.initview_lines.specs.Changes.{changes_in}
+use Rattle.initview_lines.specs.Plans.{plan_in}
+use Rattle.initview_lines.specs.Saying.{Heard, SaysNothing}
 use Rattle.initview_command.specs.Showing.{Writes}
 use Rattle.initview_command.specs.declared.asking.TableQuestion.{TableQuestion}
 use Rattle.initview_command.specs.declared.asking.TableQuestion.TheVariants as table
@@ -55,11 +57,11 @@ abbrev pub level_asked : Option Level → List Entry → Level
 level_asked (Some level) table = level
 level_asked None table = unwrap_or (default_level_of table) S
 
-abbrev pub changes_by : Option Level → List Entry → List Entry → List ℕ
-changes_by level old new = changes_text (level_asked level new) old new
+abbrev pub changes_by : Option Level → List Entry → List Entry → List Line
+changes_by level old new = changes_in (level_asked level new) old new
 
-abbrev pub plan_by : Option Level → List Entry → List ℕ
-plan_by level entries = plan_text (level_asked level entries) entries
+abbrev pub plan_by : Option Level → List Entry → List Line
+plan_by level entries = plan_in (level_asked level entries) entries
 
 -- of a diff the first file is the old inittab, and the second the new one; both go on in the others
 abbrev pub old_of : List NamedText → List NamedText
@@ -71,20 +73,20 @@ AreMissing table.Programs missing = list_all is_missing missing ≡ true
 AreMissing _ missing = missing ≡ []
 
 -- what is written of files, and the exit status
-abbrev pub lint_by : List NamedText → List LineWarning → List ℕ × ℕ
-lint_by parts missing = ((lint_in parts missing).0, found_status (lint_in parts missing).1)
+abbrev pub lint_by : List NamedText → List LineWarning → List Line × ℕ
+lint_by parts missing = (line.Text (lint_in parts missing).0 ∷ [], found_status (lint_in parts missing).1)
 
-abbrev pub answer_of : TableQuestion → List LineWarning → List NamedText → List ℕ × ℕ
+abbrev pub answer_of : TableQuestion → List LineWarning → List NamedText → List Line × ℕ
 answer_of (table.Diff level) missing parts =
     (changes_by level (table_in (old_of parts)) (table_in (drop 1 parts)), DONE)
 answer_of (table.Plan level) missing parts = (plan_by level (table_in parts), DONE)
 answer_of _ missing parts = lint_by parts missing
 
--- a text and an exit status are the answer
-abbrev pub IsAnswer : TableQuestion → List NamedText → List ℕ → ℕ → Type 0
-IsAnswer asked parts text status =
+-- lines and an exit status are the answer
+abbrev pub IsAnswer : TableQuestion → List NamedText → List Line → ℕ → Type 0
+IsAnswer asked parts lines status =
     (missing : List LineWarning) × AreMissing asked missing
-    × (text ≡ (answer_of asked missing parts).0) × (status ≡ (answer_of asked missing parts).1)
+    × (lines ≡ (answer_of asked missing parts).0) × (status ≡ (answer_of asked missing parts).1)
 
 -- files that are no table: too many, or too long
 abbrev pub AreNone : List NamedText → Type 0
@@ -110,15 +112,15 @@ fault_status fault.TooLong = REFUSED
 fault_status fault.Parts = REFUSED
 
 -- the answer was written; or there are too many files, or too long ones, and nothing was written
-abbrev pub AnswersOf : TableQuestion → List NamedText → ℕ → Option (List ℕ) → Option (List ℕ) → Type 0
+abbrev pub AnswersOf : TableQuestion → List NamedText → ℕ → Heard → Heard → Type 0
 AnswersOf asked parts status old new =
     ((missing : List LineWarning) × AreMissing asked missing
     × Writes (answer_of asked missing parts).0 (answer_of asked missing parts).1 status old new)
-    ⊎ ((status ≡ REFUSED) × IsRefused asked parts × Keeps old new)
+    ⊎ ((status ≡ REFUSED) × IsRefused asked parts × SaysNothing old new)
 
 -- so of the files at the paths; or one was not read, and nothing was written
-abbrev pub Answers : KnownTexts → List (List ℕ) → Option (List ℕ) → TableQuestion → ℕ → Option (List ℕ)
-    → Option (List ℕ) → Type 0
+abbrev pub Answers : KnownTexts → List (List ℕ) → Option (List ℕ) → TableQuestion → ℕ → Heard
+    → Heard → Type 0
 Answers text_at paths folder asked status old new =
     ((parts : List NamedText) × AreFiles text_at paths folder parts × AnswersOf asked parts status old new)
-    ⊎ ((status ≡ DEVICE_FAULT) × Keeps old new)
+    ⊎ ((status ≡ DEVICE_FAULT) × SaysNothing old new)

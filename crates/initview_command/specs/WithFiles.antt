@@ -1,31 +1,32 @@
 -- What is written of a trace where files of inittabs belong to the question.
 use Rattle.std.specs.Prelude.{◌≡◌, ◌⊎◌, ℕ, List, Option}
-use Rattle.std.specs.Io.KnownBytes.{Keeps}
 use Rattle.program_io.specs.declared.statuses.TheConstants.{REFUSED, DEVICE_FAULT}
 use Rattle.program_io.specs.Known.{KnownTexts}
 use Rattle.init_words.specs.Parts.{NamedText}
 use Rattle.trace_events.specs.Event.{Event}
 use Rattle.trace_view.specs.declared.text_views.ViewEnd.{ViewEnd}
 use Rattle.initview_command.specs.declared.growing.Writer.{Writer}
+use Rattle.initview_lines.specs.declared.lines.Line.{Line}
+use Rattle.initview_lines.specs.Saying.{Heard, SaysNothing}
 use Rattle.initview_command.specs.Showing.{Shows}
 use Rattle.initview_command.specs.Tables.{AreFiles}
 use Rattle.initview_command.specs.Writers.{KnownWriters}
 
 -- what is written and the exit status, by who writes the trace, why it is shown no further, and its past
 abbrev pub Gives : Type 0
-Gives = Writer → Option ViewEnd → List Event → List ℕ × ℕ
+Gives = Writer → Option ViewEnd → List Event → List Line × ℕ
 
 -- by these files; or they are no inittab, and nothing was written
 abbrev pub ShowsWith : KnownTexts → KnownWriters → List ℕ → List NamedText → (List NamedText → Gives)
-    → (List NamedText → Type 0) → ℕ → Option (List ℕ) → Option (List ℕ) → Type 0
+    → (List NamedText → Type 0) → ℕ → Heard → Heard → Type 0
 ShowsWith text_at writers path files gives AreRefused status old new =
     Shows text_at writers path (gives files) status old new
-    ⊎ ((status ≡ REFUSED) × AreRefused files × Keeps old new)
+    ⊎ ((status ≡ REFUSED) × AreRefused files × SaysNothing old new)
 
 -- so of the files at the paths; or one was not read, and nothing was written
 abbrev pub ShowsWithFiles : KnownTexts → KnownWriters → List ℕ → List (List ℕ) → Option (List ℕ)
-    → (List NamedText → Gives) → (List NamedText → Type 0) → ℕ → Option (List ℕ) → Option (List ℕ) → Type 0
+    → (List NamedText → Gives) → (List NamedText → Type 0) → ℕ → Heard → Heard → Type 0
 ShowsWithFiles text_at writers path paths folder gives AreRefused status old new =
     ((files : List NamedText) × AreFiles text_at paths folder files
     × ShowsWith text_at writers path files gives AreRefused status old new)
-    ⊎ ((status ≡ DEVICE_FAULT) × Keeps old new)
+    ⊎ ((status ≡ DEVICE_FAULT) × SaysNothing old new)

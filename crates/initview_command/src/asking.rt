@@ -17,7 +17,7 @@ use std::alloc::Global;
 
 /// What is asked of a trace.
 #[derive(Clone, Copy)]
-pub enum Question {
+pub enum TraceQuery {
     /// How init and all entries stand.
     Status(RowFormat),
     /// How this id stands.
@@ -41,8 +41,8 @@ pub enum TableQuestion {
 
 /// What words ask, of a trace or of the files of inittabs.
 #[derive(Clone, Copy)]
-pub enum What {
-    Show(Question),
+pub enum Command {
+    Show(TraceQuery),
     Draw(Form),
     Follow,
     /// Why the id is not started, and what the files have of it.
@@ -101,30 +101,30 @@ fn table_takes(question: &TableQuestion, option: &str) -> bool
 }
 
 /// The option belongs to what is asked.
-fn takes(what: &What, option: &str) -> bool
+fn takes(what: &Command, option: &str) -> bool
     ensures { result ≡ takes what.now option.now }
 {
     match what {
-        What::Show(_) => option == "--json",
-        What::Draw(_) => option == "--svg" || option == "--width",
-        What::Follow => false,
-        What::Explain(_) => option == "--inittab-dir",
-        What::Reload(_) | What::Timing(_) => {
+        Command::Show(_) => option == "--json",
+        Command::Draw(_) => option == "--svg" || option == "--width",
+        Command::Follow => false,
+        Command::Explain(_) => option == "--inittab-dir",
+        Command::Reload(_) | Command::Timing(_) => {
             option == "--inittab-dir" || option == "--trace" || option == "--level"
         }
-        What::Tables(question) => option == "--inittab-dir" || table_takes(question, option),
+        Command::Tables(question) => option == "--inittab-dir" || table_takes(question, option),
     }
 }
 
 /// A row of the table is none of an option that is given, or one of what is asked.
-pub(crate) fn belongs(matches: &ArgMatches, what: &What, row: Row) -> bool
+pub(crate) fn belongs(matches: &ArgMatches, what: &Command, row: Row) -> bool
     ensures { result ≡ belongs (rows_of (found_of matches.now)) what.now (text_of row.entry) }
 {
     !is_given(matches, row) || takes(what, row.0)
 }
 
 /// All options of a table that are given belong to what is asked.
-fn has_only(matches: &ArgMatches, what: &What, table: &[Row]) -> bool
+fn has_only(matches: &ArgMatches, what: &Command, table: &[Row]) -> bool
     ensures { result ≡ list_all
         (λ row. belongs (rows_of (found_of matches.now)) what.now (text_of row)) table.now }
 {
@@ -171,35 +171,35 @@ fn form_said(matches: &ArgMatches) -> Option<Form>
     }
 }
 
-fn show_of(matches: &ArgMatches, words: &[&str]) -> Option<What>
+fn show_of(matches: &ArgMatches, words: &[&str]) -> Option<Command>
     ensures { result
         ≡ show_of (rows_of (found_of matches.now)) (map (λ word. word.now) words.now) }
 {
     let shape = shape_said(matches);
     match words {
-        [_] => Some(What::Show(Question::Status(shape))),
-        [_, id] => Some(What::Show(Question::Row(Id::read(id.as_bytes())?, shape))),
+        [_] => Some(Command::Show(TraceQuery::Status(shape))),
+        [_, id] => Some(Command::Show(TraceQuery::Row(Id::read(id.as_bytes())?, shape))),
         _ => None,
     }
 }
 
-fn draw_of(matches: &ArgMatches, words: &[&str]) -> Option<What>
+fn draw_of(matches: &ArgMatches, words: &[&str]) -> Option<Command>
     ensures { result
         ≡ draw_of (rows_of (found_of matches.now)) (map (λ word. word.now) words.now) }
 {
     match words {
-        [_] => Some(What::Draw(form_said(matches)?)),
+        [_] => Some(Command::Draw(form_said(matches)?)),
         _ => None,
     }
 }
 
-fn explained(id: &str) -> Option<What>
+fn explained(id: &str) -> Option<Command>
     ensures { result ≡ explained id.now }
 {
-    Some(What::Explain(Id::read(id.as_bytes())?))
+    Some(Command::Explain(Id::read(id.as_bytes())?))
 }
 
-fn explain_of(words: &[&str]) -> Option<What>
+fn explain_of(words: &[&str]) -> Option<Command>
     ensures { result ≡ explain_of (map (λ word. word.now) words.now) }
 {
     match words {
@@ -208,7 +208,7 @@ fn explain_of(words: &[&str]) -> Option<What>
     }
 }
 
-fn diff_of(matches: &ArgMatches, words: &[&str]) -> Option<What>
+fn diff_of(matches: &ArgMatches, words: &[&str]) -> Option<Command>
     ensures { result
         ≡ diff_of (rows_of (found_of matches.now)) (map (λ word. word.now) words.now) }
 {
@@ -216,15 +216,15 @@ fn diff_of(matches: &ArgMatches, words: &[&str]) -> Option<What>
         [_, _] => {
             let level = level_said(matches)?;
             match word_of(matches, "--trace") {
-                Some(_) => Some(What::Reload(level)),
-                None => Some(What::Tables(TableQuestion::Diff(level))),
+                Some(_) => Some(Command::Reload(level)),
+                None => Some(Command::Tables(TableQuestion::Diff(level))),
             }
         }
         _ => None,
     }
 }
 
-fn plan_of(matches: &ArgMatches, words: &[&str]) -> Option<What>
+fn plan_of(matches: &ArgMatches, words: &[&str]) -> Option<Command>
     ensures { result
         ≡ plan_of (rows_of (found_of matches.now)) (map (λ word. word.now) words.now) }
 {
@@ -233,26 +233,26 @@ fn plan_of(matches: &ArgMatches, words: &[&str]) -> Option<What>
         _ => {
             let level = level_said(matches)?;
             match word_of(matches, "--trace") {
-                Some(_) => Some(What::Timing(level)),
-                None => Some(What::Tables(TableQuestion::Plan(level))),
+                Some(_) => Some(Command::Timing(level)),
+                None => Some(Command::Tables(TableQuestion::Plan(level))),
             }
         }
     }
 }
 
-fn lint_of(matches: &ArgMatches, words: &[&str]) -> Option<What>
+fn lint_of(matches: &ArgMatches, words: &[&str]) -> Option<Command>
     ensures { result
         ≡ lint_of (rows_of (found_of matches.now)) (map (λ word. word.now) words.now) }
 {
     match (words, word_of(matches, "--programs")) {
         ([], _) => None,
-        (_, Some(_)) => Some(What::Tables(TableQuestion::Programs)),
-        (_, None) => Some(What::Tables(TableQuestion::Lint)),
+        (_, Some(_)) => Some(Command::Tables(TableQuestion::Programs)),
+        (_, None) => Some(Command::Tables(TableQuestion::Lint)),
     }
 }
 
 /// What a command for inittabs asks.
-fn tables_of(matches: &ArgMatches, verb: &str, words: &[&str]) -> Option<What>
+fn tables_of(matches: &ArgMatches, verb: &str, words: &[&str]) -> Option<Command>
     ensures { result ≡ tables_of (rows_of (found_of matches.now)) verb.now
         (map (λ word. word.now) words.now) }
 {
@@ -265,21 +265,21 @@ fn tables_of(matches: &ArgMatches, verb: &str, words: &[&str]) -> Option<What>
 }
 
 /// What a command asks that has the path of a trace alone.
-fn plain_of(matches: &ArgMatches, verb: &str, words: &[&str]) -> Option<What>
+fn plain_of(matches: &ArgMatches, verb: &str, words: &[&str]) -> Option<Command>
     ensures { result ≡ plain_of (rows_of (found_of matches.now)) verb.now
         (map (λ word. word.now) words.now) }
 {
     match words {
         [_] => match verb {
-            "left" => Some(What::Show(Question::Left(shape_said(matches)))),
-            "follow" => Some(What::Follow),
+            "left" => Some(Command::Show(TraceQuery::Left(shape_said(matches)))),
+            "follow" => Some(Command::Follow),
             _ => None,
         },
         _ => None,
     }
 }
 
-fn asked_by(matches: &ArgMatches, verb: &str, words: &[&str]) -> Option<What>
+fn asked_by(matches: &ArgMatches, verb: &str, words: &[&str]) -> Option<Command>
     ensures { result ≡ asked_by (rows_of (found_of matches.now)) verb.now
         (map (λ word. word.now) words.now) }
 {
@@ -299,7 +299,7 @@ fn asked_by(matches: &ArgMatches, verb: &str, words: &[&str]) -> Option<What>
 }
 
 /// What options and words ask, whatever other options are given; nothing where the words are no command's.
-pub(crate) fn asked(matches: &ArgMatches, words: &[&str]) -> Option<What>
+pub(crate) fn asked(matches: &ArgMatches, words: &[&str]) -> Option<Command>
     ensures { result
         ≡ asked (rows_of (found_of matches.now)) (map (λ word. word.now) words.now) }
 {
@@ -310,7 +310,7 @@ pub(crate) fn asked(matches: &ArgMatches, words: &[&str]) -> Option<What>
 }
 
 /// What options and words ask; nothing where they are no command's.
-pub(crate) fn what_of(matches: &ArgMatches, words: &[&str]) -> Option<What>
+pub(crate) fn what_of(matches: &ArgMatches, words: &[&str]) -> Option<Command>
     ensures { result
         ≡ what_of (rows_of (found_of matches.now)) (map (λ word. word.now) words.now) }
 {
@@ -361,28 +361,28 @@ fn behind_three<'m, 'a>(words: &'m [&'a str]) -> &'m [&'a str]
 }
 
 /// The path of the trace, or the folders of programs.
-pub(crate) fn path_of<'a>(what: &What, matches: &ArgMatches<'a>, words: &[&'a str]) -> &'a str
+pub(crate) fn path_of<'a>(what: &Command, matches: &ArgMatches<'a>, words: &[&'a str]) -> &'a str
     ensures { result.now ≡ path_of what.now (rows_of (found_of matches.now))
         (map (λ word. word.now) words.now) }
 {
     match what {
-        What::Reload(_) => value_of(matches, "--trace"),
-        What::Timing(_) => value_of(matches, "--trace"),
-        What::Tables(_) => value_of(matches, "--programs"),
-        What::Explain(_) => third_of(words),
-        What::Show(_) => second_of(words),
-        What::Draw(_) => second_of(words),
-        What::Follow => second_of(words),
+        Command::Reload(_) => value_of(matches, "--trace"),
+        Command::Timing(_) => value_of(matches, "--trace"),
+        Command::Tables(_) => value_of(matches, "--programs"),
+        Command::Explain(_) => third_of(words),
+        Command::Show(_) => second_of(words),
+        Command::Draw(_) => second_of(words),
+        Command::Follow => second_of(words),
     }
 }
 
 /// The paths of the files of inittabs.
-pub(crate) fn files_of<'m, 'a>(what: &What, words: &'m [&'a str]) -> &'m [&'a str]
+pub(crate) fn files_of<'m, 'a>(what: &Command, words: &'m [&'a str]) -> &'m [&'a str]
     ensures { map (λ word. word.now) result.now
         ≡ files_of what.now (map (λ word. word.now) words.now) }
 {
     match what {
-        What::Explain(_) => behind_three(words),
+        Command::Explain(_) => behind_three(words),
         _ => behind_one(words),
     }
 }

@@ -9,8 +9,9 @@ ghost use Rattle.initview_timeline.specs.Rows.{drawn_of, scene_of};
 ghost use Rattle.initview_timeline.specs.Svg.{svg_text};
 ghost use Rattle.initview_command.specs.Charting.{drawing, lines_of};
 
-use crate::showing::{Answer, Asks, Shown, stop_status};
+use crate::showing::{Answer, Query, TraceOutcome, stop_status};
 use init_words::Memory;
+use initview_lines::text_line;
 use initview_timeline::{Marks, Seen, chart_lines, svg_text};
 use std::alloc::{AllocError, Global};
 use text_lines::read_below;
@@ -91,21 +92,24 @@ fn draw(alloc: Global, form: Form, marks: &Marks, view: &TraceView) -> Result<Ve
     }
 }
 
-impl Asks for Form {
+impl Query for Form {
+    ghost use Rattle.std.specs.Prelude.{◌∷◌, []};
+    ghost use Rattle.initview_lines.specs.declared.lines.Line.TheVariants as line;
     ghost use Rattle.initview_command.specs.Charting.{drawing};
     ghost use Rattle.initview_command.specs.Showing.{stop_status};
 
     type Seen = Marks;
 
-    ghost gives = { λ form path writer stop past. (drawing form past, stop_status stop) };
+    ghost gives = { λ form path writer stop past.
+        (line.Text (drawing form past) ∷ [], stop_status stop) };
 
     fn answer(
         &self,
         alloc: Global,
         text: &mut SeenText<Marks>,
-        shown: &Shown,
+        shown: &TraceOutcome,
     ) -> Result<Answer, Memory> {
         let drawn = draw(alloc, *self, text.seen(), text.view())?;
-        Ok((drawn, stop_status(shown.stop)))
+        Ok((text_line(alloc, drawn)?, stop_status(shown.stop)))
     }
 }

@@ -1,25 +1,31 @@
 //! The words of `initview`, and what it does for them.
 
-ghost use Rattle.std.specs.Prelude.{◌≡◌, false, map, option_map, string_bytes, None};
+ghost use Rattle.std.specs.Prelude.{◌≡◌, ◌∷◌, [], codes, false, map, option_map, string_bytes, None};
 ghost use Rattle.command_words.specs.CommandLines.{asks_version};
 ghost use Rattle.clap.specs.Words.{found_of, rows_of};
+ghost use Rattle.command_words.specs.VersionLine.{version_line};
+ghost use Rattle.program_io.specs.declared.statuses.TheConstants.{DONE};
+ghost use Rattle.initview_lines.specs.declared.lines.Line.TheVariants as line;
 ghost use Rattle.initview_command.specs.Asking.{asked_of, what_of, words_said};
 ghost use Rattle.initview_command.specs.Refusals.{ReportsRefusal};
 ghost use Rattle.initview_command.specs.Endings.{Does, EndsBy, EndsGiven, EndsOf};
+ghost use Rattle.initview_command.specs.Showing.{Writes};
 
-use crate::asking::{What, files_of, matched, path_of, what_of};
+use crate::asking::{Command, files_of, matched, path_of, what_of};
 use crate::explaining::ReasonOf;
 use crate::following::follow_file;
 use crate::growing::GrowingTexts;
 use crate::planning::TimingTo;
 use crate::refusals::{report_fault, report_refusal};
 use crate::reloading::ReloadTo;
-use crate::showing::show_file;
+use crate::showing::{show_file, write_answer};
 use crate::tables::show_files;
+use crate::telling::report_memory;
 use crate::with_files::show_with_files;
 use clap::ArgMatches;
-use command_words::{is_version, print_version, word_of, words_of};
-use program_io::Texts;
+use command_words::{is_version, word_of, words_of, write_version};
+use initview_lines::{Says, text_line};
+use program_io::{DONE, Texts};
 use std::alloc::Global;
 use std::io::Write;
 
@@ -78,24 +84,24 @@ pub const USAGE: &str = "usage: initview why [--inittab-dir DIR] ID TRACE [TABLE
 /// followed is read on in `growing` until it ends, and each of its lines is written when it comes. Of an inittab the
 /// status is 1 where it isn't read for its size, of `lint` also where it has faults, and 2 where it has warnings alone.
 /// Faults of files are told on `err`.
-pub fn run_words<T: Texts, G: GrowingTexts, W: Write, E: Write>(
+pub fn run_words<T: Texts, G: GrowingTexts, S: Says, E: Write>(
     texts: &T,
     growing: &G,
     alloc: Global,
     words: &[String],
-    out: &mut W,
+    out: &mut S,
     err: &mut E,
 ) -> u8
     ensures ends { EndsBy (T.text_at texts.now) (G.text_at growing.now)
         (G.writer_at growing.now) (map string_bytes words.now)
-        result (W.contents out.old) (W.contents out.new) }
+        result (S.said out.old) (S.said out.new) }
     // Of words that ask nothing a reason and the usage of a command are reported.
     ensures refused { asks_version (map string_bytes words.now) ≡ false
         → asked_of (map string_bytes words.now) ≡ None
         → ReportsRefusal result (E.contents err.old) (E.contents err.new) }
 {
     if is_version(words) {
-        return print_version("initview", out, err);
+        return say_version(alloc, out, err);
     }
     match matched(alloc, words) {
         Ok(matches) => run_matches(texts, growing, alloc, &matches, out, err),
@@ -103,17 +109,33 @@ pub fn run_words<T: Texts, G: GrowingTexts, W: Write, E: Write>(
     }
 }
 
+/// Says the version, and gives the exit status.
+#[tactic(auto, using(crate::proofs::Shown::none_written))]
+fn say_version<S: Says, E: Write>(alloc: Global, out: &mut S, err: &mut E) -> u8
+    ensures { Writes (line.Text (version_line (codes "initview")) ∷ []) DONE result
+        (S.said out.old) (S.said out.new) }
+{
+    let mut text = Vec::new(alloc);
+    if !write_version("initview", &mut text) {
+        return report_memory(err);
+    }
+    match text_line(alloc, text) {
+        Ok(lines) => write_answer(alloc, lines, DONE, out, err),
+        Err(_) => report_memory(err),
+    }
+}
+
 /// Runs initview on what its words give.
-fn run_matches<T: Texts, G: GrowingTexts, W: Write, E: Write>(
+fn run_matches<T: Texts, G: GrowingTexts, S: Says, E: Write>(
     texts: &T,
     growing: &G,
     alloc: Global,
     matches: &ArgMatches,
-    out: &mut W,
+    out: &mut S,
     err: &mut E,
 ) -> u8
     ensures ends { EndsOf (T.text_at texts.now) (G.text_at growing.now) (G.writer_at growing.now)
-        (rows_of (found_of matches.now)) result (W.contents out.old) (W.contents out.new) }
+        (rows_of (found_of matches.now)) result (S.said out.old) (S.said out.new) }
     ensures refused { what_of (rows_of (found_of matches.now))
         (words_said (rows_of (found_of matches.now))) ≡ None
         → ReportsRefusal result (E.contents err.old) (E.contents err.new) }
@@ -125,18 +147,18 @@ fn run_matches<T: Texts, G: GrowingTexts, W: Write, E: Write>(
 }
 
 /// The same, by the words that are no options.
-fn run_given<'a, T: Texts, G: GrowingTexts, W: Write, E: Write>(
+fn run_given<'a, T: Texts, G: GrowingTexts, S: Says, E: Write>(
     texts: &T,
     growing: &G,
     alloc: Global,
     matches: &ArgMatches<'a>,
     words: &[&'a str],
-    out: &mut W,
+    out: &mut S,
     err: &mut E,
 ) -> u8
     ensures ends { EndsGiven (T.text_at texts.now) (G.text_at growing.now) (G.writer_at growing.now)
         (rows_of (found_of matches.now)) (map (λ word. word.now) words.now)
-        result (W.contents out.old) (W.contents out.new) }
+        result (S.said out.old) (S.said out.new) }
     ensures refused { what_of (rows_of (found_of matches.now)) (map (λ word. word.now) words.now)
         ≡ None → ReportsRefusal result (E.contents err.old) (E.contents err.new) }
 {
@@ -152,39 +174,39 @@ fn run_given<'a, T: Texts, G: GrowingTexts, W: Write, E: Write>(
 }
 
 /// Does what is asked of the trace at a path, or of files and the programs of folders.
-fn run_asked<T: Texts, G: GrowingTexts, W: Write, E: Write>(
+fn run_asked<T: Texts, G: GrowingTexts, S: Says, E: Write>(
     texts: &T,
     growing: &G,
     alloc: Global,
-    what: &What,
+    what: &Command,
     path: &str,
     files: &[&str],
     folder: Option<&str>,
-    out: &mut W,
+    out: &mut S,
     err: &mut E,
 ) -> u8
     ensures { Does (T.text_at texts.now) (G.text_at growing.now)
         (G.writer_at growing.now) path.now
         (map (λ file. file.now) files.now) (option_map (λ path. path.now) folder.entry) what.now
-        result (W.contents out.old) (W.contents out.new) }
+        result (S.said out.old) (S.said out.new) }
 {
     match what {
-        What::Show(question) => show_file(texts, growing, alloc, path, question, out, err),
-        What::Draw(form) => show_file(texts, growing, alloc, path, form, out, err),
-        What::Follow => follow_file(growing, alloc, path, out, err),
-        What::Explain(id) => {
+        Command::Show(question) => show_file(texts, growing, alloc, path, question, out, err),
+        Command::Draw(form) => show_file(texts, growing, alloc, path, form, out, err),
+        Command::Follow => follow_file(growing, alloc, path, out, err),
+        Command::Explain(id) => {
             let asked = ReasonOf { id: *id };
             show_with_files(texts, growing, alloc, path, files, folder, &asked, out, err)
         }
-        What::Reload(level) => {
+        Command::Reload(level) => {
             let asked = ReloadTo { level: *level };
             show_with_files(texts, growing, alloc, path, files, folder, &asked, out, err)
         }
-        What::Timing(level) => {
+        Command::Timing(level) => {
             let asked = TimingTo { level: *level };
             show_with_files(texts, growing, alloc, path, files, folder, &asked, out, err)
         }
-        What::Tables(question) => {
+        Command::Tables(question) => {
             show_files(
                 texts, growing, alloc, path, files, folder, *question, out, err,
             )

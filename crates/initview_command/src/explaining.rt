@@ -1,19 +1,18 @@
 //! Why an entry isn't started next, asked for.
 
-ghost use Rattle.std.specs.Prelude.{◌≡◌, ◌++◌, List, IfOk, IfErr};
+ghost use Rattle.std.specs.Prelude.{◌≡◌, List, IfOk, IfErr};
 ghost use Rattle.trace_events.specs.Event.{Event};
 ghost use Rattle.trace_view.specs.Viewing.{Viewed};
-ghost use Rattle.initview_lines.specs.Reasons.{why_text};
-ghost use Rattle.initview_command.specs.Explaining.{files_text};
+ghost use Rattle.initview_command.specs.Explaining.{explanation, files_text};
 ghost use Rattle.initview_command.specs.Tables.{AreNone, FailsBy};
 
 use crate::presence::show_present;
-use crate::showing::{Answer, Asks, Shown, stop_status};
+use crate::showing::{Answer, Query, TraceOutcome, stop_status};
 use crate::with_files::NeedsFiles;
 use init_words::{Id, Memory, Part};
 use inittab_lint::id_lines;
 use inittab_text::TableFault;
-use initview_lines::{Chain, chain_of, why_lines};
+use initview_lines::{Bytes, Chain, Line, chain_of, why_lines};
 use std::alloc::{AllocError, Global};
 use std::io::Write;
 use trace_view::{LastLines, SeenText, TraceView};
@@ -38,16 +37,17 @@ fn explanation(
     asked: &Reason,
     view: &TraceView,
     chain: &Chain,
-) -> Result<Vec<u8>, AllocError>
-    ensures { IfOk result (λ text. (now : List Event) → Viewed view.now now
-        → text.items ≡ why_text path.now chain.now now ++ asked.now.told.items) }
+) -> Result<Vec<Line>, AllocError>
+    ensures { IfOk result (λ lines. (now : List Event) → Viewed view.now now
+        → lines.items ≡ explanation path.now chain.now asked.now.told.items now) }
 {
-    let mut text = why_lines(alloc, view, path.as_bytes(), chain)?;
-    text.extend_from_slice(asked.told.as_slice())?;
-    Ok(text)
+    let mut lines = why_lines(alloc, view, path.as_bytes(), chain)?;
+    let told = Bytes::copy_of(alloc, asked.told.as_slice())?;
+    lines.push(Line::Text(told))?;
+    Ok(lines)
 }
 
-impl Asks for Reason {
+impl Query for Reason {
     ghost use Rattle.initview_command.specs.Explaining.{explained};
 
     type Seen = LastLines;
@@ -63,7 +63,7 @@ impl Asks for Reason {
         &self,
         alloc: Global,
         text: &mut SeenText<LastLines>,
-        shown: &Shown,
+        shown: &TraceOutcome,
     ) -> Result<Answer, Memory> {
         let chain = chain_of(text.view(), text.seen(), self.id);
         show_present(text, shown.writer, shown.stop)?;
@@ -106,9 +106,7 @@ impl NeedsFiles for ReasonOf {
     ) -> Result<Reason, TableFault> {
         match files_text(alloc, files, &self.id) {
             Ok(told) => Ok(Reason { id: self.id, told }),
-            Err(TableFault::Memory) => Err(TableFault::Memory),
-            Err(TableFault::TooLong) => Err(TableFault::TooLong),
-            Err(TableFault::Parts) => Err(TableFault::Parts),
+            Err(fault) => Err(fault),
         }
     }
 }

@@ -7,13 +7,14 @@ ghost use Rattle.program_io.specs.declared.statuses.TheConstants.{DEVICE_FAULT};
 ghost use Rattle.trace_view.specs.Shown.{IsShown};
 ghost use Rattle.trace_view.specs.Views.{HasShown, TextState};
 ghost use Rattle.initview_lines.specs.Following.{HasSaid};
+ghost use Rattle.initview_lines.specs.Saying.{Heard};
 ghost use Rattle.initview_command.specs.Following.{Follows, HasWritten, WritesAll, WritesPart};
 
 use crate::growing::GrowingTexts;
 use crate::showing::{stop_status, tell_stop};
-use crate::telling::{report_memory, report_unread, report_unwritten, tell};
+use crate::telling::{report_memory, report_unread, report_unsaid};
 use init_words::Memory;
-use initview_lines::take_lines;
+use initview_lines::{SayFault, Says, take_lines};
 use program_io::{PIECE_LIMIT, PIECES_LIMIT};
 use std::alloc::{AllocError, Global};
 use std::io;
@@ -24,14 +25,13 @@ use trace_view::{TextView, ViewEnd};
 #[derive(Drop)]
 enum FollowFault {
     Unread(io::Error),
-    Unwritten,
-    Memory,
+    Unsaid(SayFault),
 }
 
 impl From<io::Error> for FollowFault {
     fn from(error: io::Error) -> FollowFault {
         match error.kind() {
-            ErrorKind::BrokenPipe => FollowFault::Unwritten,
+            ErrorKind::BrokenPipe => FollowFault::Unsaid(SayFault::Unwritten),
             _ => FollowFault::Unread(error),
         }
     }
@@ -39,7 +39,13 @@ impl From<io::Error> for FollowFault {
 
 impl From<Memory> for FollowFault {
     fn from(_memory: Memory) -> FollowFault {
-        FollowFault::Memory
+        FollowFault::Unsaid(SayFault::Memory)
+    }
+}
+
+impl From<SayFault> for FollowFault {
+    fn from(fault: SayFault) -> FollowFault {
+        FollowFault::Unsaid(fault)
     }
 }
 
@@ -49,8 +55,7 @@ fn report_fault<E: Write>(path: &str, fault: &FollowFault, err: &mut E) -> u8
 {
     match fault {
         FollowFault::Unread(error) => report_unread(path, error, err),
-        FollowFault::Unwritten => report_unwritten(err),
-        FollowFault::Memory => report_memory(err),
+        FollowFault::Unsaid(fault) => report_unsaid(*fault, err),
     }
 }
 
@@ -68,43 +73,40 @@ fn end_of(view: &TextView) -> End
 }
 
 /// Shows a view the next piece of its text, and writes the lines of it.
-fn write_piece<W: Write>(
+fn write_piece<S: Says>(
     view: &mut TextView,
     alloc: Global,
     piece: &[u8],
-    out: &mut W,
+    out: &mut S,
 ) -> Result<(), FollowFault>
-    ensures ok { OnOk result ((text : List ℕ) (first : Option (List ℕ))
+    ensures ok { OnOk result ((text : List ℕ) (first : Heard)
         → length (text ++ piece.now) < 2 ^ 64
-        → HasWritten view.old text first (W.contents out.old)
-        → HasWritten view.new (text ++ piece.now) first (W.contents out.new)) }
-    ensures err { OnErr result ((text : List ℕ) (first : Option (List ℕ))
+        → HasWritten view.old text first (S.said out.old)
+        → HasWritten view.new (text ++ piece.now) first (S.said out.new)) }
+    ensures err { OnErr result ((text : List ℕ) (first : Heard)
         → length (text ++ piece.now) < 2 ^ 64
-        → HasWritten view.old text first (W.contents out.old)
-        → WritesPart (Some (text ++ piece.now)) first (W.contents out.new)) }
+        → HasWritten view.old text first (S.said out.old)
+        → WritesPart (Some (text ++ piece.now)) first (S.said out.new)) }
 {
     let mut lines = Vec::new(alloc);
     take_lines(view, piece, &mut lines)?;
-    if tell(&lines, out) {
-        Ok(())
-    } else {
-        Err(FollowFault::Unwritten)
-    }
+    out.say(alloc, lines)?;
+    Ok(())
 }
 
 /// Writes the lines of a text, each when it comes, up to its end, or up to where the view goes no further. More than
 /// 4,294,967,296 reads are an error, `FileTooLarge`.
-fn write_lines<R: Read, W: Write>(
+fn write_lines<R: Read, S: Says>(
     from: &mut R,
     view: &mut TextView,
     alloc: Global,
-    out: &mut W,
+    out: &mut S,
 ) -> Result<End, FollowFault>
-    requires { HasWritten view.old [] (W.contents out.old) (W.contents out.old) }
+    requires { HasWritten view.old [] (S.said out.old) (S.said out.old) }
     ensures ok { IfOk result (λ end. WritesAll (R.remaining from.old) end.0 end.1
-        (W.contents out.old) (W.contents out.new)) }
+        (S.said out.old) (S.said out.new)) }
     ensures err { OnErr result
-        (WritesPart (R.remaining from.old) (W.contents out.old) (W.contents out.new)) }
+        (WritesPart (R.remaining from.old) (S.said out.old) (S.said out.new)) }
 {
     let mut piece = [0; PIECE_LIMIT];
     for _ in 0..PIECES_LIMIT {
@@ -122,16 +124,16 @@ fn write_lines<R: Read, W: Write>(
 }
 
 /// Writes the lines of a text, and gives the exit status.
-fn follow_text<R: Read, W: Write, E: Write>(
+fn follow_text<R: Read, S: Says, E: Write>(
     from: &mut R,
     view: &mut TextView,
     alloc: Global,
     path: &str,
-    out: &mut W,
+    out: &mut S,
     err: &mut E,
 ) -> u8
-    requires { HasWritten view.old [] (W.contents out.old) (W.contents out.old) }
-    ensures { Follows (R.remaining from.old) result (W.contents out.old) (W.contents out.new) }
+    requires { HasWritten view.old [] (S.said out.old) (S.said out.old) }
+    ensures { Follows (R.remaining from.old) result (S.said out.old) (S.said out.new) }
 {
     match write_lines(from, view, alloc, out) {
         Ok((stop, line)) => {
@@ -151,17 +153,17 @@ fn text_view(alloc: Global) -> Result<Box<TextView>, AllocError>
 }
 
 /// Follows the trace at a path with a view that has taken nothing.
-fn follow_over<G: GrowingTexts, W: Write, E: Write>(
+fn follow_over<G: GrowingTexts, S: Says, E: Write>(
     growing: &G,
     view: &mut TextView,
     alloc: Global,
     path: &str,
-    out: &mut W,
+    out: &mut S,
     err: &mut E,
 ) -> u8
     requires { HasShown view.old [] [] }
-    ensures { Follows (G.text_at growing.now path.now) result (W.contents out.old)
-        (W.contents out.new) }
+    ensures { Follows (G.text_at growing.now path.now) result (S.said out.old)
+        (S.said out.new) }
 {
     match growing.open(alloc, path) {
         Ok(mut text) => follow_text(&mut text, view, alloc, path, out, err),
@@ -170,15 +172,15 @@ fn follow_over<G: GrowingTexts, W: Write, E: Write>(
 }
 
 /// Follows the trace at a path, and gives the exit status.
-pub(crate) fn follow_file<G: GrowingTexts, W: Write, E: Write>(
+pub(crate) fn follow_file<G: GrowingTexts, S: Says, E: Write>(
     growing: &G,
     alloc: Global,
     path: &str,
-    out: &mut W,
+    out: &mut S,
     err: &mut E,
 ) -> u8
-    ensures { Follows (G.text_at growing.now path.now) result (W.contents out.old)
-        (W.contents out.new) }
+    ensures { Follows (G.text_at growing.now path.now) result (S.said out.old)
+        (S.said out.new) }
 {
     match text_view(alloc) {
         Ok(mut view) => follow_over(growing, &mut view, alloc, path, out, err),

@@ -9,6 +9,7 @@ mod following;
 mod growing;
 mod planning;
 mod presence;
+mod printing;
 mod programs;
 mod refusals;
 mod reloading;
@@ -17,7 +18,8 @@ mod tables;
 mod telling;
 mod with_files;
 
-pub use asking::{Question, TableQuestion, What};
+pub use asking::{Command, TableQuestion, TraceQuery};
 pub use charting::{Form, WIDTH, WIDTH_LEAST, WIDTH_LIMIT};
 pub use command::{USAGE, run_words};
 pub use growing::{GrowingFile, GrowingFiles, GrowingTexts, Writer};
+pub use printing::Printed;

@@ -5,11 +5,12 @@ ghost use Rattle.trace_events.specs.Event.{Event};
 ghost use Rattle.initview_timeline.specs.Marks.{marks_of};
 ghost use Rattle.initview_command.specs.Planning.{timing_said};
 
-use crate::showing::{Answer, Asks, Shown, stop_status};
+use crate::showing::{Answer, Query, TraceOutcome, stop_status};
 use crate::tables::{level_asked, plan_of, table_in};
 use crate::with_files::NeedsFiles;
 use init_words::{Level, Memory, Part};
 use inittab_text::{Table, TableFault};
+use initview_lines::{Bytes, Line};
 use initview_timeline::{Marks, TimelineMark, add_path_times};
 use std::alloc::{AllocError, Global};
 use std::io::Write;
@@ -34,16 +35,18 @@ fn timed_plan(
     level: Option<Level>,
     table: &Table,
     marks: &[TimelineMark],
-) -> Result<Vec<u8>, AllocError>
-    ensures { IfOk result (λ text. (past : List Event) → marks.now ≡ marks_of past
-        → text.items ≡ timing_said level table.now past) }
+) -> Result<Vec<Line>, AllocError>
+    ensures { IfOk result (λ lines. (past : List Event) → marks.now ≡ marks_of past
+        → lines.items ≡ timing_said level table.now past) }
 {
-    let mut text = plan_of(alloc, level, table)?;
+    let mut lines = plan_of(alloc, level, table)?;
+    let mut text = Vec::new(alloc);
     add_path_times(&mut text, alloc, level_asked(level, table), table, marks)?;
-    Ok(text)
+    lines.push(Line::Text(Bytes::of(text)))?;
+    Ok(lines)
 }
 
-impl Asks for Timing {
+impl Query for Timing {
     ghost use Rattle.initview_command.specs.Planning.{timing_answer};
 
     type Seen = Marks;
@@ -55,7 +58,7 @@ impl Asks for Timing {
         &self,
         alloc: Global,
         text: &mut SeenText<Marks>,
-        shown: &Shown,
+        shown: &TraceOutcome,
     ) -> Result<Answer, Memory> {
         let said = timed_plan(alloc, self.level, &self.table, text.seen().as_slice())?;
         Ok((said, stop_status(shown.stop)))

@@ -5,7 +5,7 @@ ghost use Rattle.command_words.specs.declared.faults.WordFault.TheVariants.{Memo
 ghost use Rattle.program_io.specs.declared.statuses.TheConstants.{DEVICE_FAULT};
 ghost use Rattle.initview_command.specs.Refusals.{ReportsRefusal, usage_line};
 
-use crate::asking::{OPTIONS, What, asked, belongs, level_in};
+use crate::asking::{Command, OPTIONS, asked, belongs, level_in};
 use crate::charting::lines_of;
 use crate::command::USAGE;
 use crate::telling::report_memory;
@@ -16,9 +16,9 @@ use std::alloc::{AllocError, Global};
 use std::io::Write;
 
 /// A command, and how many words stand behind it at least and at most.
-type Command = (&'static str, usize, usize);
+type CommandRow = (&'static str, usize, usize);
 
-const COMMANDS: &[Command] = &[
+const COMMANDS: &[CommandRow] = &[
     ("why", 2, usize::MAX),
     ("status", 1, 2),
     ("left", 1, 1),
@@ -29,7 +29,7 @@ const COMMANDS: &[Command] = &[
     ("plan", 1, usize::MAX),
 ];
 
-fn command_of(name: &str) -> Option<Command> {
+fn command_of(name: &str) -> Option<CommandRow> {
     for command in COMMANDS {
         if name == command.0 {
             return Some(*command);
@@ -96,7 +96,7 @@ fn id_in<'a>(name: &str, words: &[&'a str]) -> Option<&'a str> {
 fn words_reason(
     alloc: Global,
     matches: &ArgMatches,
-    command: Command,
+    command: CommandRow,
     words: &[&str],
 ) -> Result<String, AllocError> {
     let (name, least, most) = command;
@@ -116,7 +116,7 @@ fn options_reason(
     alloc: Global,
     matches: &ArgMatches,
     name: &str,
-    what: &What,
+    what: &Command,
 ) -> Result<String, AllocError> {
     let mut reason = String::new(alloc);
     for row in OPTIONS {

@@ -6,7 +6,7 @@ ghost use Rattle.trace_events.specs.Event.{Event};
 ghost use Rattle.trace_view.specs.Viewing.{Viewed};
 ghost use Rattle.initview_lines.specs.Reloads.{gone_on, reloaded, with_request};
 
-use crate::showing::{Answer, Asks, Shown, stop_status};
+use crate::showing::{Answer, Query, TraceOutcome, stop_status};
 use crate::tables::old_and_new;
 use crate::with_files::NeedsFiles;
 use init_words::{Level, Memory, Part};
@@ -86,7 +86,7 @@ fn read_anew(
     Ok(())
 }
 
-impl Asks for Reload {
+impl Query for Reload {
     ghost use Rattle.initview_command.specs.Reloading.{reload_answer};
 
     type Seen = ();
@@ -98,7 +98,7 @@ impl Asks for Reload {
         &self,
         alloc: Global,
         text: &mut SeenText<()>,
-        shown: &Shown,
+        shown: &TraceOutcome,
     ) -> Result<Answer, Memory> {
         read_anew(alloc, text, &self.new, self.level)?;
         let said = reload_lines(alloc, &self.old, text.view())?;

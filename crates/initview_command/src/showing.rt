@@ -5,15 +5,16 @@ ghost use Rattle.trace_events.specs.Event.{Event};
 ghost use Rattle.trace_view.specs.SeenTexts.{HasSeenText};
 ghost use Rattle.trace_view.specs.Viewing.{Viewed};
 ghost use Rattle.trace_view.specs.declared.text_views.ViewEnd.{ViewEnd};
+ghost use Rattle.initview_lines.specs.declared.lines.Line.{Line};
 ghost use Rattle.initview_command.specs.declared.growing.Writer.{Writer};
 ghost use Rattle.initview_command.specs.Showing.{Shows, ShowsOf, Writes, is_within, lsb_status, row_status, running_status, said, status_by, stop_status};
 
-use crate::asking::Question;
+use crate::asking::TraceQuery;
 use crate::growing::{GrowingTexts, Writer};
 use crate::presence::{show_present, tell_writer};
-use crate::telling::{report_memory, report_packed, report_unread, report_unwritten, tell};
+use crate::telling::{report_memory, report_packed, report_unread, report_unsaid};
 use init_words::{Id, Memory};
-use initview_lines::{is_starting, left_lines, row_line, status_lines};
+use initview_lines::{Line, Says, is_starting, left_lines, row_line, status_lines};
 use program_io::{DEVICE_FAULT, DONE, PieceTaker, REFUSED, Texts, UNLAWFUL};
 use std::alloc::{AllocError, Global};
 use std::io::Write;
@@ -21,23 +22,23 @@ use trace_view::{Row, SeenText, Sees, TraceView, ViewEnd};
 
 /// The trace of a path that was shown, who writes it, and why it is shown no further.
 #[derive(Clone, Copy)]
-pub(crate) struct Shown<'a> {
+pub(crate) struct TraceOutcome<'a> {
     pub(crate) path: &'a str,
     pub(crate) writer: Writer,
     pub(crate) stop: Option<ViewEnd>,
 }
 
 /// What is written, and the exit status.
-pub(crate) type Answer = (Vec<u8>, u8);
+pub(crate) type Answer = (Vec<Line>, u8);
 
 /// What is asked of a trace.
-pub(crate) trait Asks {
+pub(crate) trait Query {
     /// What sees the happenings for it.
     type Seen: Sees<Global> + Drop;
 
     /// What is written and the exit status, by the path of the trace, who writes it, why it is shown no further, and its
     /// past.
-    ghost gives: { Self → List ℕ → Writer → Option ViewEnd → List Event → List ℕ × ℕ };
+    ghost gives: { Self → List ℕ → Writer → Option ViewEnd → List Event → List Line × ℕ };
 
     /// Whether it is told that nobody writes the trace.
     fn asks_writer(&self) -> bool {
@@ -52,7 +53,7 @@ pub(crate) trait Asks {
         &self,
         alloc: Global,
         text: &mut SeenText<Self::Seen>,
-        shown: &Shown,
+        shown: &TraceOutcome,
     ) -> Result<Answer, Memory>
         ensures { IfOk result (λ given. (past : List Event) → Viewed text.old.viewing.viewing past
             → Self.Seen.has_seen text.old.seen past
@@ -156,14 +157,14 @@ pub(crate) fn stop_status(stop: Option<ViewEnd>) -> u8
 }
 
 /// The exit status of an answer.
-fn status_of(view: &TraceView, question: &Question, writer: Writer, stop: Option<ViewEnd>) -> u8
+fn status_of(view: &TraceView, question: &TraceQuery, writer: Writer, stop: Option<ViewEnd>) -> u8
     ensures { (past : List Event) → Viewed view.now past
         → result ≡ status_by question.now writer stop past }
 {
     match question {
-        Question::Row(id, _) => row_status(view, id, writer, stop),
-        Question::Status(_) => stop_status(stop),
-        Question::Left(_) => stop_status(stop),
+        TraceQuery::Row(id, _) => row_status(view, id, writer, stop),
+        TraceQuery::Status(_) => stop_status(stop),
+        TraceQuery::Left(_) => stop_status(stop),
     }
 }
 
@@ -179,14 +180,14 @@ fn row_status(view: &TraceView, id: &Id, writer: Writer, stop: Option<ViewEnd>) 
 }
 
 /// The answer to a question.
-fn lines(alloc: Global, view: &TraceView, question: &Question) -> Result<Vec<u8>, AllocError>
-    ensures { IfOk result (λ text. (past : List Event) → Viewed view.now past
-        → text.items ≡ said question.now past) }
+fn lines(alloc: Global, view: &TraceView, question: &TraceQuery) -> Result<Vec<Line>, AllocError>
+    ensures { IfOk result (λ lines. (past : List Event) → Viewed view.now past
+        → lines.items ≡ said question.now past) }
 {
     match question {
-        Question::Status(shape) => status_lines(alloc, view, *shape),
-        Question::Row(id, shape) => row_line(alloc, view, id, *shape),
-        Question::Left(shape) => left_lines(alloc, view, *shape),
+        TraceQuery::Status(shape) => status_lines(alloc, view, *shape),
+        TraceQuery::Row(id, shape) => row_line(alloc, view, id, *shape),
+        TraceQuery::Left(shape) => left_lines(alloc, view, *shape),
     }
 }
 
@@ -204,7 +205,7 @@ fn tell_starts<E: Write>(view: &TraceView, path: &str, err: &mut E) {
     }
 }
 
-impl Asks for Question {
+impl Query for TraceQuery {
     ghost use Rattle.initview_command.specs.Showing.{answer_by};
 
     type Seen = ();
@@ -216,7 +217,7 @@ impl Asks for Question {
     }
 
     fn tell_unsaid<E: Write>(&self, view: &TraceView, path: &str, err: &mut E) {
-        if let Question::Left(_) = self {
+        if let TraceQuery::Left(_) = self {
             tell_starts(view, path, err);
         }
     }
@@ -225,7 +226,7 @@ impl Asks for Question {
         &self,
         alloc: Global,
         text: &mut SeenText<()>,
-        shown: &Shown,
+        shown: &TraceOutcome,
     ) -> Result<Answer, Memory> {
         show_present(text, shown.writer, shown.stop)?;
         let said = lines(alloc, text.view(), self)?;
@@ -235,17 +236,17 @@ impl Asks for Question {
 }
 
 /// Reads the trace of a path, writes what is asked of it, and gives the exit status.
-pub(crate) fn show_file<T: Texts, G: GrowingTexts, Q: Asks, W: Write, E: Write>(
+pub(crate) fn show_file<T: Texts, G: GrowingTexts, Q: Query, S: Says, E: Write>(
     texts: &T,
     growing: &G,
     alloc: Global,
     path: &str,
     asked: &Q,
-    out: &mut W,
+    out: &mut S,
     err: &mut E,
 ) -> u8
     ensures { Shows (T.text_at texts.now) (G.writer_at growing.now) path.now
-        (Q.gives asked.now path.now) result (W.contents out.old) (W.contents out.new) }
+        (Q.gives asked.now path.now) result (S.said out.old) (S.said out.new) }
 {
     match file_text(alloc) {
         Ok(mut file) => show_text(texts, growing, alloc, path, asked, &mut file, out, err),
@@ -254,19 +255,19 @@ pub(crate) fn show_file<T: Texts, G: GrowingTexts, Q: Asks, W: Write, E: Write>(
 }
 
 /// Hands the text of a path to what has taken none, and writes what is asked of it.
-fn show_text<T: Texts, G: GrowingTexts, Q: Asks, W: Write, E: Write>(
+fn show_text<T: Texts, G: GrowingTexts, Q: Query, S: Says, E: Write>(
     texts: &T,
     growing: &G,
     alloc: Global,
     path: &str,
     asked: &Q,
     file: &mut FileText<Q::Seen>,
-    out: &mut W,
+    out: &mut S,
     err: &mut E,
 ) -> u8
     requires { HasSeenText Q.Seen.has_seen file.old.text [] }
     ensures { Shows (T.text_at texts.now) (G.writer_at growing.now) path.now
-        (Q.gives asked.now path.now) result (W.contents out.old) (W.contents out.new) }
+        (Q.gives asked.now path.now) result (S.said out.old) (S.said out.new) }
 {
     match texts.read_pieces(path, file) {
         Ok(()) => {
@@ -274,7 +275,7 @@ fn show_text<T: Texts, G: GrowingTexts, Q: Asks, W: Write, E: Write>(
                 return report_packed(path, unpacker, err);
             }
             let (stop, left) = file.text.end();
-            let shown = Shown {
+            let shown = TraceOutcome {
                 path,
                 writer: growing.writer(path),
                 stop,
@@ -287,7 +288,7 @@ fn show_text<T: Texts, G: GrowingTexts, Q: Asks, W: Write, E: Write>(
 }
 
 /// Tells how a trace ends.
-fn tell_end<Q: Asks, E: Write>(asked: &Q, shown: &Shown, left: Option<u64>, err: &mut E) {
+fn tell_end<Q: Query, E: Write>(asked: &Q, shown: &TraceOutcome, left: Option<u64>, err: &mut E) {
     tell_stop(shown.path, shown.stop, left, err);
     if asked.asks_writer() {
         tell_writer(shown.path, shown.writer, shown.stop, err);
@@ -305,43 +306,43 @@ fn is_within(stop: Option<ViewEnd>) -> bool
 }
 
 /// Writes what is asked of a text, unless that begins within a run, and gives the exit status.
-fn show_seen<Q: Asks, W: Write, E: Write>(
+fn show_seen<Q: Query, S: Says, E: Write>(
     alloc: Global,
     asked: &Q,
     text: &mut SeenText<Q::Seen>,
-    shown: &Shown,
-    out: &mut W,
+    shown: &TraceOutcome,
+    out: &mut S,
     err: &mut E,
 ) -> u8
     ensures { (past : List Event) → Viewed text.old.viewing.viewing past
         → Q.Seen.has_seen text.old.seen past
         → ShowsOf shown.now.stop
         (Q.gives asked.now shown.now.path.now shown.now.writer shown.now.stop past) result
-        (W.contents out.old) (W.contents out.new) }
+        (S.said out.old) (S.said out.new) }
 {
     if is_within(shown.stop) {
         return REFUSED;
     }
     asked.tell_unsaid(text.view(), shown.path, err);
     match asked.answer(alloc, text, shown) {
-        Ok((said, status)) => write_answer(&said, status, out, err),
+        Ok((said, status)) => write_answer(alloc, said, status, out, err),
         Err(_) => report_memory(err),
     }
 }
 
-/// Writes a text, and gives the exit status, which is this where all is written.
-pub(crate) fn write_answer<W: Write, E: Write>(
-    text: &[u8],
+/// Says lines, and gives the exit status, which is this where all are said.
+pub(crate) fn write_answer<S: Says, E: Write>(
+    alloc: Global,
+    lines: Vec<Line>,
     status: u8,
-    out: &mut W,
+    out: &mut S,
     err: &mut E,
 ) -> u8
-    ensures { Writes text.now status result (W.contents out.old) (W.contents out.new) }
+    ensures { Writes lines.items status result (S.said out.old) (S.said out.new) }
 {
-    if tell(text, out) {
-        status
-    } else {
-        report_unwritten(err)
+    match out.say(alloc, lines) {
+        Ok(()) => status,
+        Err(fault) => report_unsaid(fault, err),
     }
 }
 

@@ -14,7 +14,7 @@ use crate::telling::report_unread;
 use init_words::{Level, Part};
 use inittab_lint::{Findings, LineWarning, lint_parts};
 use inittab_text::{PartFault, Table, TableFault, read_parts};
-use initview_lines::{change_lines, plan_lines};
+use initview_lines::{Line, Says, change_lines, plan_lines, text_line};
 use program_io::{DEVICE_FAULT, DONE, REFUSED, Texts};
 use std::alloc::{AllocError, Global};
 use std::io;
@@ -151,7 +151,7 @@ fn lint_answer(
     alloc: Global,
     parts: &[Part],
     missing: &[LineWarning],
-) -> Result<(Vec<u8>, u8), TableFault>
+) -> Result<(Vec<Line>, u8), TableFault>
     ensures told { IfOk result (λ given. (given.0.items ≡ (lint_by parts.now missing.now).0)
         × (given.1 ≡ (lint_by parts.now missing.now).1)) }
     ensures fault { IfErr result (FailsBy (AreNone parts.now)) }
@@ -159,7 +159,10 @@ fn lint_answer(
     match lint_parts(alloc, parts, missing) {
         Ok(lint) => {
             let status = found_status(lint.found);
-            Ok((lint.text, status))
+            match text_line(alloc, lint.text) {
+                Ok(lines) => Ok((lines, status)),
+                Err(_) => Err(TableFault::Memory),
+            }
         }
         Err(TableFault::Memory) => Err(TableFault::Memory),
         Err(TableFault::TooLong) => Err(TableFault::TooLong),
@@ -173,7 +176,7 @@ fn programs_answer<G: GrowingTexts>(
     alloc: Global,
     folders: &str,
     parts: &[Part],
-) -> Result<(Vec<u8>, u8), TableFault>
+) -> Result<(Vec<Line>, u8), TableFault>
     ensures told { IfOk result (λ given.
         IsAnswer table_question.Programs parts.now given.0.items given.1) }
     ensures fault { IfErr result (FailsBy (AreNone parts.now)) }
@@ -213,8 +216,8 @@ fn diff_text(
     level: Option<Level>,
     old: &Table,
     new: &Table,
-) -> Result<Vec<u8>, AllocError>
-    ensures { IfOk result (λ text. text.items ≡ changes_by level old.now new.now) }
+) -> Result<Vec<Line>, AllocError>
+    ensures { IfOk result (λ lines. lines.items ≡ changes_by level old.now new.now) }
 {
     change_lines(alloc, level_asked(level, new), old, new)
 }
@@ -224,8 +227,8 @@ pub(crate) fn plan_of(
     alloc: Global,
     level: Option<Level>,
     table: &Table,
-) -> Result<Vec<u8>, AllocError>
-    ensures { IfOk result (λ text. text.items ≡ plan_by level table.now) }
+) -> Result<Vec<Line>, AllocError>
+    ensures { IfOk result (λ lines. lines.items ≡ plan_by level table.now) }
 {
     plan_lines(alloc, level_asked(level, table), table)
 }
@@ -238,7 +241,7 @@ fn answer<G: GrowingTexts, E: Write>(
     question: TableQuestion,
     parts: &mut [Part],
     err: &mut E,
-) -> Result<(Vec<u8>, u8), TableFault>
+) -> Result<(Vec<Line>, u8), TableFault>
     ensures told { IfOk result (λ given.
         IsAnswer question parts.old given.0.items given.1) }
     ensures fault { IfErr result (FailsBy (IsRefused question parts.old)) }
@@ -276,7 +279,7 @@ fn diff_answer<E: Write>(
     level: Option<Level>,
     parts: &mut [Part],
     err: &mut E,
-) -> Result<(Vec<u8>, u8), TableFault>
+) -> Result<(Vec<Line>, u8), TableFault>
     ensures told { IfOk result (λ given.
         IsAnswer (table_question.Diff level) parts.old given.0.items given.1) }
     ensures fault { IfErr result (FailsBy (NoneOf parts.old)) }
@@ -296,7 +299,7 @@ fn plan_answer<E: Write>(
     level: Option<Level>,
     parts: &[Part],
     err: &mut E,
-) -> Result<(Vec<u8>, u8), TableFault>
+) -> Result<(Vec<Line>, u8), TableFault>
     ensures told { IfOk result (λ given.
         IsAnswer (table_question.Plan level) parts.now given.0.items given.1) }
     ensures fault { IfErr result (FailsBy (AreNone parts.now)) }
@@ -330,25 +333,25 @@ pub(crate) fn report_fault<E: Write>(fault: TableFault, err: &mut E) -> u8
 }
 
 /// Writes what is answered of inittabs, and gives the exit status.
-fn show_parts<G: GrowingTexts, W: Write, E: Write>(
+fn show_parts<G: GrowingTexts, S: Says, E: Write>(
     growing: &G,
     alloc: Global,
     folders: &str,
     question: TableQuestion,
     parts: &mut [Part],
-    out: &mut W,
+    out: &mut S,
     err: &mut E,
 ) -> u8
-    ensures { AnswersOf question parts.old result (W.contents out.old) (W.contents out.new) }
+    ensures { AnswersOf question parts.old result (S.said out.old) (S.said out.new) }
 {
     match answer(growing, alloc, folders, question, parts, err) {
-        Ok((text, status)) => write_answer(&text, status, out, err),
+        Ok((lines, status)) => write_answer(alloc, lines, status, out, err),
         Err(fault) => report_fault(fault, err),
     }
 }
 
 /// Reads the files of inittabs, writes what is answered of them, and gives the exit status.
-pub(crate) fn show_files<T: Texts, G: GrowingTexts, W: Write, E: Write>(
+pub(crate) fn show_files<T: Texts, G: GrowingTexts, S: Says, E: Write>(
     texts: &T,
     growing: &G,
     alloc: Global,
@@ -356,12 +359,12 @@ pub(crate) fn show_files<T: Texts, G: GrowingTexts, W: Write, E: Write>(
     paths: &[&str],
     folder: Option<&str>,
     question: TableQuestion,
-    out: &mut W,
+    out: &mut S,
     err: &mut E,
 ) -> u8
     ensures { Answers (T.text_at texts.now) (map (λ path. path.now) paths.now)
         (option_map (λ path. path.now) folder.entry) question result
-        (W.contents out.old) (W.contents out.new) }
+        (S.said out.old) (S.said out.new) }
 {
     match read_files(texts, growing, alloc, paths, folder, err) {
         Some(mut parts) => show_parts(growing, alloc, folders, question, &mut parts, out, err),

@@ -1,20 +1,22 @@
-//! A text written, and why there is none.
+//! Why nothing is said.
 
-ghost use Rattle.std.specs.Prelude.{◌≡◌, true};
-ghost use Rattle.std.specs.Io.KnownBytes.{Appends};
+ghost use Rattle.std.specs.Prelude.{◌≡◌};
 ghost use Rattle.program_io.specs.Writing.{AppendsPrefix};
 ghost use Rattle.initview_command.specs.Refusals.{memory_line};
 
+use initview_lines::SayFault;
 use program_io::{DEVICE_FAULT, write_text};
 use std::io;
 use std::io::Write;
 
-/// Writes a text, and sees that it is out.
-pub(crate) fn tell<W: Write>(text: &[u8], out: &mut W) -> bool
-    ensures whole { result ≡ true → Appends (W.contents out.old) (W.contents out.new) text.now }
-    ensures part { AppendsPrefix (W.contents out.old) (W.contents out.new) text.now }
+/// Tells why lines were not all said, and gives the exit status.
+pub(crate) fn report_unsaid<E: Write>(fault: SayFault, err: &mut E) -> u8
+    ensures { result ≡ DEVICE_FAULT }
 {
-    write_text(out, text).is_ok() && out.flush().is_ok()
+    match fault {
+        SayFault::Memory => report_memory(err),
+        SayFault::Unwritten => report_unwritten(err),
+    }
 }
 
 pub(crate) fn report_memory<E: Write>(err: &mut E) -> u8
@@ -25,7 +27,7 @@ pub(crate) fn report_memory<E: Write>(err: &mut E) -> u8
     DEVICE_FAULT
 }
 
-pub(crate) fn report_unwritten<E: Write>(err: &mut E) -> u8
+fn report_unwritten<E: Write>(err: &mut E) -> u8
     ensures { result ≡ DEVICE_FAULT }
 {
     let _ = write_text(err, b"initview: cannot write\n");

@@ -4,15 +4,17 @@ ghost use Rattle.std.specs.Prelude.{◌≡◌, List, ℕ, Option, map, option_ma
 ghost use Rattle.init_words.specs.Parts.{NamedText};
 ghost use Rattle.trace_events.specs.Event.{Event};
 ghost use Rattle.trace_view.specs.declared.text_views.ViewEnd.{ViewEnd};
+ghost use Rattle.initview_lines.specs.declared.lines.Line.{Line};
 ghost use Rattle.initview_command.specs.declared.growing.Writer.{Writer};
 ghost use Rattle.initview_command.specs.Tables.{FailsBy};
 ghost use Rattle.initview_command.specs.WithFiles.{ShowsWith, ShowsWithFiles};
 
 use crate::growing::GrowingTexts;
-use crate::showing::{Asks, show_file};
+use crate::showing::{Query, show_file};
 use crate::tables::{read_files, report_fault};
 use init_words::Part;
 use inittab_text::TableFault;
+use initview_lines::Says;
 use program_io::{DEVICE_FAULT, Texts};
 use std::alloc::Global;
 use std::io::Write;
@@ -20,12 +22,12 @@ use std::io::Write;
 /// What is asked of a trace, once files of inittabs are read.
 pub(crate) trait NeedsFiles {
     /// What is asked then.
-    type Asked: Asks + Drop;
+    type Asked: Query + Drop;
 
     /// What is written and the exit status, by the path of the trace, the files, who writes it, why it is shown no
     /// further, and its past.
     ghost gives: { Self → List ℕ → List NamedText → Writer → Option ViewEnd
-        → List Event → List ℕ × ℕ };
+        → List Event → List Line × ℕ };
 
     /// Files that are refused: they are no inittab.
     ghost AreRefused: { List NamedText → Type 0 };
@@ -43,7 +45,7 @@ pub(crate) trait NeedsFiles {
 
 /// Reads the files of the paths, and those of a folder, where one is named, and the trace of a path, writes what is asked
 /// of it, and gives the exit status.
-pub(crate) fn show_with_files<T: Texts, G: GrowingTexts, Q: NeedsFiles, W: Write, E: Write>(
+pub(crate) fn show_with_files<T: Texts, G: GrowingTexts, Q: NeedsFiles, S: Says, E: Write>(
     texts: &T,
     growing: &G,
     alloc: Global,
@@ -51,13 +53,13 @@ pub(crate) fn show_with_files<T: Texts, G: GrowingTexts, Q: NeedsFiles, W: Write
     paths: &[&str],
     folder: Option<&str>,
     asked: &Q,
-    out: &mut W,
+    out: &mut S,
     err: &mut E,
 ) -> u8
     ensures { ShowsWithFiles (T.text_at texts.now) (G.writer_at growing.now) path.now
         (map (λ path. path.now) paths.now) (option_map (λ path. path.now) folder.entry)
         (Q.gives asked.now path.now) Q.AreRefused result
-        (W.contents out.old) (W.contents out.new) }
+        (S.said out.old) (S.said out.new) }
 {
     match read_files(texts, growing, alloc, paths, folder, err) {
         Some(mut files) => show_with(texts, growing, alloc, path, &mut files, asked, out, err),
@@ -65,19 +67,19 @@ pub(crate) fn show_with_files<T: Texts, G: GrowingTexts, Q: NeedsFiles, W: Write
     }
 }
 
-fn show_with<T: Texts, G: GrowingTexts, Q: NeedsFiles, W: Write, E: Write>(
+fn show_with<T: Texts, G: GrowingTexts, Q: NeedsFiles, S: Says, E: Write>(
     texts: &T,
     growing: &G,
     alloc: Global,
     path: &str,
     files: &mut [Part],
     asked: &Q,
-    out: &mut W,
+    out: &mut S,
     err: &mut E,
 ) -> u8
     ensures { ShowsWith (T.text_at texts.now) (G.writer_at growing.now) path.now files.old
         (Q.gives asked.now path.now) Q.AreRefused result
-        (W.contents out.old) (W.contents out.new) }
+        (S.said out.old) (S.said out.new) }
 {
     match asked.with_files(alloc, files, err) {
         Ok(asked) => show_file(texts, growing, alloc, path, &asked, out, err),

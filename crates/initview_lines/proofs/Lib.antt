@@ -1,7 +1,8 @@
 pub mod Dates
 pub mod Entering
-pub mod Lines
+pub mod Follows
 pub mod Paths
 pub mod ReloadLemmas
 pub mod SaidOf
-pub mod Saying
+pub mod SayingLemmas
+pub mod Stands

@@ -8,10 +8,11 @@ use Rattle.trace_view.specs.declared.text_views.ViewEnd.{ViewEnd}
 use Rattle.trace_view.specs.Shown.{IsShown}
 use Rattle.trace_view.specs.Views.{TextState, left_of}
 use Rattle.trace_view.proofs.SeenTexts.{shown, stops_more}
+use Rattle.initview_lines.specs.declared.lines.Line.{Line}
 use Rattle.initview_lines.specs.Following.{HasSaid, IsSaidOf}
 
 -- the lines of a view that has taken the text are said of it
-pub said_of : (state : TextState) (said text : List ℕ) → length text < 2 ^ 64 → HasSaid state said text → (stop : Option ViewEnd) × (left : Option ℕ) × IsSaidOf text stop left said
+pub said_of : (state : TextState) (said : List Line) (text : List ℕ) → length text < 2 ^ 64 → HasSaid state said text → (stop : Option ViewEnd) × (left : Option ℕ) × IsSaidOf text stop left said
 said_of state said text small has =
     let left : Option ℕ = left_of state.stop (option_map capped (line_left state.reading.lines state.reading.over)) in
     let so = shown state.stop state has.0 text left small has.1 refl in
@@ -22,5 +23,5 @@ shown_more text more None left trace is so = absurd (cc)
 shown_more text more (Some stop) left trace is so = (so.0, (stops_more stop trace text more so.1.0, so.1.1))
 
 -- behind the line at which a view stopped, the text may go on
-pub said_more : (text more : List ℕ) (stop : Option ViewEnd) (left : Option ℕ) (said : List ℕ) → is_some stop ≡ true → IsSaidOf text stop left said → IsSaidOf (text ++ more) stop left said
+pub said_more : (text more : List ℕ) (stop : Option ViewEnd) (left : Option ℕ) (said : List Line) → is_some stop ≡ true → IsSaidOf text stop left said → IsSaidOf (text ++ more) stop left said
 said_more text more stop left said is so = (so.0, shown_more text more stop left so.0 is so.1, so.2, so.3)

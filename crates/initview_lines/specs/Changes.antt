@@ -1,5 +1,5 @@
 -- What becomes of the entries of an inittab in a level, where init reads another one in its place (inittab(5), init(8)).
-use Rattle.std.specs.Prelude.{ℕ, Bool, false, ◌&&◌, if◌then◌else◌, List, [], ◌∷◌, ◌++◌, codes, Option, Some, None, is_some}
+use Rattle.std.specs.Prelude.{ℕ, Bool, false, ◌&&◌, if◌then◌else◌, List, ◌∷◌, ◌++◌, filter, map, Option, Some, None, is_none}
 use Rattle.std.specs.List.{list_any}
 use Rattle.std.specs.Option.{option_map}
 use Rattle.std.specs.Str.{bytes_eq}
@@ -13,7 +13,8 @@ use Rattle.trace_events.specs.Wanted.{may_live}
 use Rattle.initview_lines.specs.declared.changes.Change.{Change}
 use Rattle.initview_lines.specs.declared.changes.Change.TheVariants.{Keep, NextStart, Stop, StopStart, Start, NotAgain, NotHere}
 use Rattle.trace_laws.specs.Plans.{is_started, stages_to}
-use Rattle.initview_lines.specs.Words.{act_words, level_words, padded}
+use Rattle.initview_lines.specs.declared.lines.Line.{Line}
+use Rattle.initview_lines.specs.declared.lines.Line.TheVariants as line
 
 abbrev pub starts_there : Level → Option Entry → Bool
 starts_there level None = false
@@ -41,37 +42,20 @@ change_in level old new =
     else (if starts_there level new then StopStart else Stop)
     else (if starts_there level new then Start else NotHere)
 
-abbrev pub change_words : Change → List ℕ
-change_words Keep = codes "keep"
-change_words NextStart = codes "changed at its next start"
-change_words Stop = codes "stop"
-change_words StopStart = codes "stop and start"
-change_words Start = codes "start"
-change_words NotAgain = codes "not again"
-change_words NotHere = codes "not here"
+-- what becomes of an id: its action in the new inittab, and its change
+abbrev pub change_line : Level → List Entry → List Entry → List ℕ → Line
+change_line level old new id =
+    line.Change id (act_there (entry_of id new)) (change_in level (entry_of id old) (entry_of id new)) None
 
--- the line of an id: its action in the new inittab, and what becomes of it
-abbrev pub change_line : Level → List ℕ → Option Entry → Option Entry → List ℕ
-change_line level id old new =
-    padded 9 id ++ (padded 14 (act_words (act_there new)) ++ (change_words (change_in level old new) ++ codes "\n"))
+abbrev pub entry_change : Level → List Entry → List Entry → Entry → Line
+entry_change level old new e = change_line level old new e.id
 
-abbrev pub line_of_id : Level → List Entry → List Entry → List ℕ → List ℕ
-line_of_id level old new id = change_line level id (entry_of id old) (entry_of id new)
+-- a table has no such entry
+abbrev pub is_gone : List Entry → Entry → Bool
+is_gone table e = is_none (entry_of e.id table)
 
--- of the entries of the new inittab
-abbrev pub new_lines : Level → List Entry → List Entry → List Entry → List ℕ
-new_lines level old new [] = []
-new_lines level old new (e ∷ es) = line_of_id level old new e.id ++ new_lines level old new es
-
--- of the entries of the old one that the new one doesn't have
-abbrev pub gone_line : Level → List Entry → List Entry → List ℕ → List ℕ
-gone_line level old new id = if is_some (entry_of id new) then [] else line_of_id level old new id
-
-abbrev pub gone_lines : Level → List Entry → List Entry → List Entry → List ℕ
-gone_lines level old new [] = []
-gone_lines level old new (e ∷ es) = gone_line level old new e.id ++ gone_lines level old new es
-
--- the level, and a line each: the entries of the new inittab in its order, then those that are gone
-abbrev pub changes_text : Level → List Entry → List Entry → List ℕ
-changes_text level old new =
-    (level_words level ++ codes "\n") ++ (new_lines level old new new ++ gone_lines level old new old)
+-- the level, then the entries of the new inittab in its order, then those that are gone
+abbrev pub changes_in : Level → List Entry → List Entry → List Line
+changes_in level old new =
+    line.Stage (Some (Run level))
+    ∷ (map (entry_change level old new) new ++ map (entry_change level old new) (filter (is_gone new) old))

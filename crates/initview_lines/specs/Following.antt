@@ -5,22 +5,23 @@ use Rattle.trace_events.specs.Lawful.{first_breach}
 use Rattle.trace_view.specs.declared.text_views.ViewEnd.{ViewEnd}
 use Rattle.trace_view.specs.Shown.{IsShown}
 use Rattle.trace_view.specs.Views.{TextState, HasShown, IsAt}
-use Rattle.initview_lines.specs.Happenings.{follow_text}
+use Rattle.initview_lines.specs.declared.lines.Line.{Line}
+use Rattle.initview_lines.specs.Happenings.{follow_in}
 
 -- the view is at work on the text, or has taken it: these are the lines of the trace that it has seen
-abbrev pub IsSaying : TextState → List ℕ → List ℕ → Type 0
-IsSaying state said text = (trace : List Event) × IsAt state trace text × (said ≡ follow_text (reverse trace))
+abbrev pub IsSaying : TextState → List Line → List ℕ → Type 0
+IsSaying state said text = (trace : List Event) × IsAt state trace text × (said ≡ follow_in (reverse trace))
 
-abbrev pub HasSaid : TextState → List ℕ → List ℕ → Type 0
-HasSaid state said text = (trace : List Event) × HasShown state trace text × (said ≡ follow_text (reverse trace))
+abbrev pub HasSaid : TextState → List Line → List ℕ → Type 0
+HasSaid state said text = (trace : List Event) × HasShown state trace text × (said ≡ follow_in (reverse trace))
 
 -- it goes on with the text, or has taken it
-abbrev pub SaysOn : Bool → TextState → List ℕ → TextState → List ℕ → List ℕ → Type 0
+abbrev pub SaysOn : Bool → TextState → List Line → TextState → List Line → List ℕ → Type 0
 SaysOn true old before new after text = IsSaying old before text → IsSaying new after text
 SaysOn false old before new after text = IsSaying old before text → HasSaid new after text
 
 -- these are the lines of a trace that is shown of the text, and breaks no law
-abbrev pub IsSaidOf : List ℕ → Option ViewEnd → Option ℕ → List ℕ → Type 0
+abbrev pub IsSaidOf : List ℕ → Option ViewEnd → Option ℕ → List Line → Type 0
 IsSaidOf text stop left said =
     (trace : List Event) × IsShown text stop left trace × (first_breach (reverse trace) ≡ None)
-    × (said ≡ follow_text (reverse trace))
+    × (said ≡ follow_in (reverse trace))

@@ -8,5 +8,5 @@ pub mod Plans
 pub mod Reasons
 pub mod Reloads
 pub mod Rows
-pub mod Status
+pub mod Saying
 pub mod Words

@@ -1,55 +1,41 @@
 -- Which entries init starts of itself on its way to a level, in their order, and its critical path (inittab(5), init(8)).
-use Rattle.std.specs.Prelude.{ℕ, Bool, if◌then◌else◌, List, [], ◌∷◌, ◌++◌, codes, Option, Some, None}
+use Rattle.std.specs.Prelude.{ℕ, List, [], ◌∷◌, ◌++◌, map, Option, Some, None}
 use Rattle.init_words.specs.declared.entries.Entry.{Entry}
 use Rattle.init_words.specs.declared.levels.Level.{Level}
 use Rattle.init_words.specs.declared.stages.Stage.{Stage}
-use Rattle.init_words.specs.Actions.{word_of}
 use Rattle.init_words.specs.Entries.{waited_of}
 use Rattle.trace_laws.specs.Plans.{critical_path, started_in, stages_to}
-use Rattle.initview_lines.specs.Words.{level_words, padded, stage_words}
+use Rattle.initview_lines.specs.declared.lines.Line.{Line}
+use Rattle.initview_lines.specs.declared.lines.Line.TheVariants as line
 
--- whether init waits for a child's end before it goes on
-abbrev pub wait_words : Bool → List ℕ
-wait_words waits = if waits then codes "init waits for its end\n" else codes "init goes on\n"
-
-abbrev pub start_line : Entry → List ℕ
-start_line e = padded 9 e.id ++ (padded 14 (word_of e.act) ++ wait_words (waited_of e))
-
-abbrev pub start_lines : List Entry → List ℕ
-start_lines [] = []
-start_lines (e ∷ es) = start_line e ++ start_lines es
+-- an entry that is started, and whether init waits for its child's end before it goes on
+abbrev pub start_line : Entry → Line
+start_line e = line.Start e.id e.act (waited_of e)
 
 -- a stage, and the entries that it starts of itself
-abbrev pub stage_text : List Entry → Stage → List ℕ
-stage_text table stage = stage_words (Some stage) ++ (codes "\n" ++ start_lines (started_in table stage))
+abbrev pub stage_lines : List Entry → Stage → List Line
+stage_lines table stage = line.Stage (Some stage) ∷ map start_line (started_in table stage)
 
-abbrev pub stages_text : List Entry → List Stage → List ℕ
-stages_text table [] = []
-stages_text table (stage ∷ stages) = stage_text table stage ++ stages_text table stages
+abbrev pub stages_lines : List Entry → List Stage → List Line
+stages_lines table [] = []
+stages_lines table (stage ∷ stages) = stage_lines table stage ++ stages_lines table stages
 
--- what waits for the end of which entry
-abbrev pub behind_words : Option (List ℕ) → List ℕ
-behind_words None = codes "waits for nothing\n"
-behind_words (Some id) = codes "waits for " ++ (id ++ codes "\n")
-
-abbrev pub path_line : Option (List ℕ) → Entry → List ℕ
-path_line before e = padded 9 e.id ++ (padded 14 (word_of e.act) ++ behind_words before)
+-- an entry of a path, and the one for whose end it waits
+abbrev pub path_line : Option (List ℕ) → Entry → Line
+path_line before e = line.OnPath e.id e.act before
 
 -- the entries of a path, each behind the one before it
-abbrev pub path_lines : Option (List ℕ) → List Entry → List ℕ
+abbrev pub path_lines : Option (List ℕ) → List Entry → List Line
 path_lines before [] = []
-path_lines before (e ∷ es) = path_line before e ++ path_lines (Some e.id) es
+path_lines before (e ∷ es) = path_line before e ∷ path_lines (Some e.id) es
 
 abbrev pub last_of : Option (List ℕ) → List Entry → Option (List ℕ)
 last_of before [] = before
 last_of before (e ∷ es) = last_of (Some e.id) es
 
--- the level is reached behind the last of them
-abbrev pub reached_line : Level → Option (List ℕ) → List ℕ
-reached_line level before = padded 9 (level_words level) ++ (padded 14 [] ++ behind_words before)
+-- a path, and behind its last entry the level
+abbrev pub path_in : Level → List Entry → List Line
+path_in level path = line.CriticalPath ∷ (path_lines None path ++ line.Reached level (last_of None path) ∷ [])
 
-abbrev pub path_text : Level → List Entry → List ℕ
-path_text level path = codes "critical path\n" ++ (path_lines None path ++ reached_line level (last_of None path))
-
-abbrev pub plan_text : Level → List Entry → List ℕ
-plan_text level table = stages_text table (stages_to level) ++ path_text level (critical_path level table)
+abbrev pub plan_in : Level → List Entry → List Line
+plan_in level table = stages_lines table (stages_to level) ++ path_in level (critical_path level table)

@@ -1,5 +1,5 @@
 -- What becomes of each id where init, as a past left it, reads another inittab now (inittab(5), init(8), telinit(8)).
-use Rattle.std.specs.Prelude.{ℕ, Bool, true, false, not, ◌&&◌, ◌||◌, if◌then◌else◌, List, [], ◌∷◌, ◌++◌, codes, Option, Some, None, is_some}
+use Rattle.std.specs.Prelude.{ℕ, Bool, true, false, not, ◌&&◌, ◌||◌, if◌then◌else◌, List, ◌∷◌, ◌++◌, filter, map, Option, Some, None, is_none}
 use Rattle.std.specs.Option.{option_map, option_map_or}
 use Rattle.init_words.specs.declared.actions.Act.{Act}
 use Rattle.init_words.specs.declared.entries.Entry.{Entry}
@@ -18,8 +18,9 @@ use Rattle.trace_view.specs.Why.{number_of}
 use Rattle.trace_view.specs.Wishes.{next_stage}
 use Rattle.initview_lines.specs.declared.changes.Change.{Change}
 use Rattle.initview_lines.specs.declared.changes.Change.TheVariants.{Keep, NextStart, Stop, StopStart, Start, NotAgain, NotHere}
-use Rattle.initview_lines.specs.Changes.{change_words, same_process}
-use Rattle.initview_lines.specs.Words.{act_words, numbered, padded, stage_words}
+use Rattle.initview_lines.specs.declared.lines.Line.{Line}
+use Rattle.initview_lines.specs.declared.lines.Line.TheVariants as line
+use Rattle.initview_lines.specs.Changes.{is_gone, same_process}
 
 -- a level is asked for, where one is named
 abbrev pub with_request : Option Level → List Event → List Event
@@ -90,44 +91,23 @@ change_by None excluded idle same = idle
 change_by (Some number) excluded idle same =
     if excluded then stopped_change idle else kept_change same
 
--- the line of an id: its action in the new inittab, what becomes of it, and its child's number
-abbrev pub number_words : Option ℕ → List ℕ
-number_words None = []
-number_words (Some number) = numbered (codes "  ") number []
-
-abbrev pub line_by : List ℕ → Option Act → Change → Option ℕ → List ℕ
-line_by id action change number =
-    padded 9 id ++ (padded 14 (act_words action)
-    ++ (change_words change ++ (number_words number ++ codes "\n")))
-
-abbrev pub line_now : List Entry → List Event → List ℕ → List ℕ
+-- what becomes of an id: its action in the new inittab, its change, and its child's number
+abbrev pub line_now : List Entry → List Event → List ℕ → Line
 line_now old past id =
-    line_by id (act_of id (table_of past)) (change_now old past id) (option_map number_of (child_of id past))
+    line.Change id (act_of id (table_of past)) (change_now old past id) (option_map number_of (child_of id past))
 
--- of the entries of the new inittab
-abbrev pub new_now : List Entry → List Event → List Entry → List ℕ
-new_now old past [] = []
-new_now old past (e ∷ es) = line_now old past e.id ++ new_now old past es
+abbrev pub entry_now : List Entry → List Event → Entry → Line
+entry_now old past e = line_now old past e.id
 
--- the line of an id that a table doesn't have
-abbrev pub line_unless : Option Entry → List ℕ → List ℕ
-line_unless entry line = if is_some entry then [] else line
+-- an inittab has no entry of the id
+abbrev pub is_new : List Entry → List ℕ → Bool
+is_new table id = is_none (entry_of id table)
 
--- of the entries of the old inittab that the new one doesn't have
-abbrev pub gone_now : List Entry → List Event → List Entry → List ℕ
-gone_now old past [] = []
-gone_now old past (e ∷ es) =
-    line_unless (entry_of e.id (table_of past)) (line_now old past e.id) ++ gone_now old past es
-
--- of ids that the old inittab doesn't have
-abbrev pub left_now : List Entry → List Event → List (List ℕ) → List ℕ
-left_now old past [] = []
-left_now old past (id ∷ ids) = line_unless (entry_of id old) (line_now old past id) ++ left_now old past ids
-
--- the stage, and a line each: the entries of the new inittab in its order, those of the old one that are gone, and the
--- children that have an entry in neither
-abbrev pub reload_text : List Entry → List Event → List ℕ
-reload_text old past =
-    (stage_words (stage_of past) ++ codes "\n")
-    ++ (new_now old past (table_of past)
-    ++ (gone_now old past old ++ left_now old past (gone_ids (table_of past) (unreaped_children past))))
+-- the stage, the entries of the new inittab in its order, those of the old one that are gone, and the children that have
+-- an entry in neither
+abbrev pub reload_in : List Entry → List Event → List Line
+reload_in old past =
+    line.Stage (stage_of past)
+    ∷ (map (entry_now old past) (table_of past)
+    ++ (map (entry_now old past) (filter (is_gone (table_of past)) old)
+    ++ map (line_now old past) (filter (is_new old) (gone_ids (table_of past) (unreaped_children past)))))

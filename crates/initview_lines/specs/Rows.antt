@@ -1,16 +1,23 @@
--- How init and its entries stand, in lines or as JSON.
-use Rattle.std.specs.Prelude.{ℕ, List, [], ◌∷◌, ◌++◌}
+-- How init and its entries stand. Times and spans are seconds.
+use Rattle.std.specs.Prelude.{ℕ, ◌-◌, List, ◌∷◌, ◌++◌, map, Option, Some, None}
+use Rattle.std.specs.Option.{option_map}
+use Rattle.respawn_limit.specs.declared.TheConstants.{HOLD}
 use Rattle.init_words.specs.declared.entries.Entry.{Entry}
 use Rattle.trace_events.specs.Event.{Event}
 use Rattle.trace_events.specs.Past.{table_of, stage_of, grace_of, time_of, unreaped_children}
+use Rattle.trace_view.specs.declared.rows.Births.{Births}
+use Rattle.trace_view.specs.declared.rows.Ending.{Ending}
 use Rattle.trace_view.specs.declared.rows.Row.{Row}
+use Rattle.trace_view.specs.declared.whys.Why.{Why}
+use Rattle.trace_view.specs.declared.whys.Why.TheVariants as why
 use Rattle.trace_view.specs.Rows.{row_of, gone_ids, is_settled_now}
 use Rattle.trace_view.specs.Wishes.{asked_level, first_wish}
-use Rattle.initview_lines.specs.declared.rows.Head.{Head}
-use Rattle.initview_lines.specs.declared.rows.RowFormat.{RowFormat}
-use Rattle.initview_lines.specs.declared.rows.RowFormat.TheVariants.{Lines, Json}
-use Rattle.initview_lines.specs.Json.{head_json, row_json}
-use Rattle.initview_lines.specs.Status.{head_text, row_text}
+use Rattle.initview_lines.specs.declared.lines.Head.{Head}
+use Rattle.initview_lines.specs.declared.lines.IdRow.{IdRow}
+use Rattle.initview_lines.specs.declared.lines.Line.{Line}
+use Rattle.initview_lines.specs.declared.lines.Line.TheVariants as line
+use Rattle.initview_lines.specs.declared.lines.RowFormat.{RowFormat}
+use Rattle.initview_lines.specs.declared.lines.Stopping.{Stopping}
 
 -- how init stands
 abbrev pub head_of : List Event → Head
@@ -23,28 +30,45 @@ head_of past = record {
   wish = first_wish past;
 }
 
-abbrev pub head_in : RowFormat → Head → List ℕ
-head_in Lines head = head_text head
-head_in Json head = head_json head
+-- since when a child runs, by its latest birth
+abbrev pub runs_at : ℕ → Option Births → Option ℕ
+runs_at now births = option_map (λ (b : Births). now - b.latest) births
 
--- the row of an id, by the grace, the time and what is told of it
-abbrev pub row_in : RowFormat → ℕ → ℕ → List ℕ → Row → List ℕ
-row_in Lines grace now id row = row_text grace now id row
-row_in Json grace now id row = row_json now id row
+-- since when init was told that TERM was sent, and how long yet until KILL is
+abbrev pub stopping_at : ℕ → ℕ → Option ℕ → Option Stopping
+stopping_at now grace told = option_map (λ t. record { term = now - t; kill = grace - (now - t) }) told
 
-abbrev pub row_of_in : RowFormat → List ℕ → List Event → List ℕ
-row_of_in shape id past = row_in shape (grace_of past) (time_of past) id (row_of id past)
+-- how long a hold goes on
+abbrev pub held_at : ℕ → Why → Option ℕ
+held_at now (why.Held since) = Some (HOLD - (now - since))
+held_at now _ = None
 
-abbrev pub entries_in : RowFormat → List Entry → List Event → List ℕ
-entries_in shape [] past = []
-entries_in shape (entry ∷ entries) past = row_of_in shape entry.id past ++ entries_in shape entries past
+abbrev pub ended_at : ℕ → Option Ending → Option ℕ
+ended_at now last = option_map (λ (e : Ending). now - e.time) last
 
-abbrev pub ids_in : RowFormat → List (List ℕ) → List Event → List ℕ
-ids_in shape [] past = []
-ids_in shape (id ∷ ids) past = row_of_in shape id past ++ ids_in shape ids past
+-- how an id stands
+abbrev pub row_by : ℕ → ℕ → List ℕ → Row → IdRow
+row_by now grace id row = record {
+  id = id;
+  row = row;
+  runs = runs_at now row.births;
+  stopping = stopping_at now grace row.term;
+  held = held_at now row.why;
+  ended = ended_at now row.last;
+}
+
+abbrev pub id_row : List Event → List ℕ → IdRow
+id_row past id = row_by (time_of past) (grace_of past) id (row_of id past)
+
+abbrev pub row_at : RowFormat → List Event → List ℕ → Line
+row_at shape past id = line.Row shape (id_row past id)
+
+abbrev pub entry_row : RowFormat → List Event → Entry → Line
+entry_row shape past entry = row_at shape past entry.id
 
 -- all of it: init, the entries in the order of the table, and the ids whose child outlives its entry, the youngest first
-abbrev pub status_in : RowFormat → List Event → List ℕ
+abbrev pub status_in : RowFormat → List Event → List Line
 status_in shape past =
-    head_in shape (head_of past) ++ (entries_in shape (table_of past) past
-    ++ ids_in shape (gone_ids (table_of past) (unreaped_children past)) past)
+    line.Head shape (head_of past)
+    ∷ (map (entry_row shape past) (table_of past)
+    ++ map (row_at shape past) (gone_ids (table_of past) (unreaped_children past)))

@@ -1,13 +1,12 @@
 //! What becomes of the entries of an inittab in a level, where init reads another one in its place.
 
-ghost use Rattle.std.specs.Prelude.{◌≡◌, ◌++◌, Some, codes, option_copied, IfOk, OnOk};
+ghost use Rattle.std.specs.Prelude.{◌≡◌, ◌++◌, Some, filter, map, option_copied, IfOk, OnOk};
 ghost use Rattle.trace_events.specs.Wanted.{may_live};
 ghost use Rattle.std.specs.List.{list_any};
 ghost use Rattle.trace_laws.specs.Plans.{is_started, stages_to};
-ghost use Rattle.initview_lines.specs.Changes.{act_there, change_in, change_line, change_words, changes_text, gone_line, gone_lines, is_there, line_of_id, new_lines, same_process, starts_there};
-ghost use Rattle.initview_lines.specs.Words.{level_words};
+ghost use Rattle.initview_lines.specs.Changes.{act_there, change_in, change_line, changes_in, entry_change, is_gone, is_there, same_process, starts_there};
 
-use crate::words::{act_words, add_level, add_padded, put};
+use crate::lines::Line;
 use init_words::{Act, Entry, Id, Level, Stage, lives, starts};
 use inittab_text::Table;
 use std::alloc::{AllocError, Allocator, Global};
@@ -120,121 +119,70 @@ fn change_in(level: Level, old: Option<&Entry>, new: Option<&Entry>) -> Change
     }
 }
 
-pub(crate) fn change_words(change: Change) -> &'static [u8]
-    ensures { result.now ≡ change_words change }
+/// What becomes of an id in a level.
+fn change_line<A: Allocator>(level: Level, old: &Table<A>, new: &Table<A>, id: &Id) -> Line
+    ensures { result ≡ change_line level old.now new.now id.now }
 {
-    match change {
-        Change::Keep => b"keep",
-        Change::NextStart => b"changed at its next start",
-        Change::Stop => b"stop",
-        Change::StopStart => b"stop and start",
-        Change::Start => b"start",
-        Change::NotAgain => b"not again",
-        Change::NotHere => b"not here",
-    }
-}
-
-fn add_change(
-    text: &mut Vec<u8>,
-    level: Level,
-    id: &Id,
-    old: Option<&Entry>,
-    new: Option<&Entry>,
-) -> Result<(), AllocError>
-    ensures { OnOk result (text.new.items ≡ text.old.items
-        ++ change_line level id.now (option_copied old.entry) (option_copied new.entry)) }
-{
-    add_padded(text, 9, id.as_bytes())?;
-    add_padded(text, 14, act_words(act_there(new)))?;
-    put(text, change_words(change_in(level, old, new)))?;
-    put(text, b"\n")
-}
-
-fn add_id<A: Allocator>(
-    text: &mut Vec<u8>,
-    level: Level,
-    old: &Table<A>,
-    new: &Table<A>,
-    id: &Id,
-) -> Result<(), AllocError>
-    ensures { OnOk result (text.new.items
-        ≡ text.old.items ++ line_of_id level old.now new.now id.now) }
-{
-    add_change(text, level, id, old.get(id), new.get(id))
+    let after = new.get(id);
+    Line::Change(
+        *id,
+        act_there(after),
+        change_in(level, old.get(id), after),
+        None,
+    )
 }
 
 fn add_new<A: Allocator>(
-    text: &mut Vec<u8>,
+    lines: &mut Vec<Line>,
     level: Level,
     old: &Table<A>,
     new: &Table<A>,
     entries: &[Entry],
 ) -> Result<(), AllocError>
-    ensures { OnOk result (text.new.items
-        ≡ text.old.items ++ new_lines level old.now new.now entries.now) }
+    ensures { OnOk result (lines.new.items
+        ≡ lines.old.items ++ map (entry_change level old.now new.now) entries.now) }
 {
     let mut rest = entries;
     while let Some((entry, others)) = rest.split_first() {
-        add_id(text, level, old, new, &entry.id)?;
+        lines.push(change_line(level, old, new, &entry.id))?;
         rest = others;
     }
     Ok(())
-}
-
-fn add_where_gone<A: Allocator>(
-    text: &mut Vec<u8>,
-    level: Level,
-    old: &Table<A>,
-    new: &Table<A>,
-    id: &Id,
-) -> Result<(), AllocError>
-    ensures { OnOk result (text.new.items
-        ≡ text.old.items ++ gone_line level old.now new.now id.now) }
-{
-    if new.get(id).is_some() {
-        return Ok(());
-    }
-    add_id(text, level, old, new, id)
 }
 
 fn add_gone<A: Allocator>(
-    text: &mut Vec<u8>,
+    lines: &mut Vec<Line>,
     level: Level,
     old: &Table<A>,
     new: &Table<A>,
     entries: &[Entry],
 ) -> Result<(), AllocError>
-    ensures { OnOk result (text.new.items
-        ≡ text.old.items ++ gone_lines level old.now new.now entries.now) }
+    ensures { OnOk result (lines.new.items ≡ lines.old.items
+        ++ map (entry_change level old.now new.now) (filter (is_gone new.now) entries.now)) }
 {
     let mut rest = entries;
     while let Some((entry, others)) = rest.split_first() {
-        add_where_gone(text, level, old, new, &entry.id)?;
+        if new.get(&entry.id).is_none() {
+            lines.push(change_line(level, old, new, &entry.id))?;
+        }
         rest = others;
     }
     Ok(())
 }
 
-fn add_level_line(text: &mut Vec<u8>, level: Level) -> Result<(), AllocError>
-    ensures { OnOk result (text.new.items ≡ text.old.items ++ (level_words level ++ codes "\n")) }
-{
-    add_level(text, level)?;
-    put(text, b"\n")
-}
-
-/// What becomes of each id in a level, where init reads the new table in the place of the old one: a line for the level,
-/// then one for each entry of the new table, then one for each that is gone.
+/// What becomes of each id in a level, where init reads the new table in the place of the old one: the level, then each
+/// entry of the new table, then each that is gone.
 pub fn change_lines<A: Allocator>(
     alloc: Global,
     level: Level,
     old: &Table<A>,
     new: &Table<A>,
-) -> Result<Vec<u8>, AllocError>
-    ensures { IfOk result (λ text. text.items ≡ changes_text level old.now new.now) }
+) -> Result<Vec<Line>, AllocError>
+    ensures { IfOk result (λ lines. lines.items ≡ changes_in level old.now new.now) }
 {
-    let mut text = Vec::new(alloc);
-    add_level_line(&mut text, level)?;
-    add_new(&mut text, level, old, new, new.entries())?;
-    add_gone(&mut text, level, old, new, old.entries())?;
-    Ok(text)
+    let mut lines = Vec::new(alloc);
+    lines.push(Line::Stage(Some(Stage::Run(level))))?;
+    add_new(&mut lines, level, old, new, new.entries())?;
+    add_gone(&mut lines, level, old, new, old.entries())?;
+    Ok(lines)
 }

@@ -1,6 +1,6 @@
-//! What a view of a trace says, as lines for people to read: how the entries stand, why one isn't started next, and
+//! What a view of a trace says, line by line, for people to read: how the entries stand, why one isn't started next, and
 //! which children are left; and what init makes of inittabs: what changes by another one, also for what runs at the end
-//! of a trace, and what a level starts.
+//! of a trace, and what a level starts. A line is a value, and proved; how it is worded is tested by `tools/rows`.
 #![tactic(auto)]
 
 mod changes;
@@ -8,21 +8,29 @@ mod days;
 mod happenings;
 mod json;
 mod left;
+mod lines;
+mod phrases;
 mod pieces;
 mod plans;
 mod reasons;
 mod reloads;
 mod rows;
-mod status;
+mod sayers;
+mod texts;
+mod wording;
 mod words;
 
 pub use changes::{Change, change_lines};
-pub use days::{add_clock, add_day, add_hours, add_moment};
-pub use happenings::add_happening;
+pub use days::{add_day, add_hours, add_moment};
+pub use happenings::{News, add_happening};
 pub use left::{is_starting, left_lines};
+pub use lines::{Head, IdRow, Line, Reason, RowFormat, Stopping, text_line};
 pub use pieces::take_lines;
 pub use plans::{is_on_path, plan_lines};
 pub use reasons::{Chain, chain_of, why_lines};
 pub use reloads::{law_of_reloads, reload_lines};
-pub use rows::{Head, RowFormat, row_line, status_lines};
-pub use words::{add_level, add_number, add_padded, add_stage, add_status, put, seconds_since};
+pub use rows::{row_line, status_lines};
+pub use sayers::{SayFault, Says};
+pub use texts::Bytes;
+pub use wording::words_of;
+pub use words::{add_number, add_padded, add_stage, add_status, put};

@@ -2,8 +2,10 @@
 
 ghost use Rattle.std.specs.Prelude.{◌≡◌, ◌^◌, ◌<◌, List, ℕ, ◌++◌, length, true, IfOk, OnOk};
 ghost use Rattle.initview_lines.specs.Following.{HasSaid, SaysOn};
+ghost use Rattle.initview_lines.specs.declared.lines.Line.{Line};
 
 use crate::happenings::add_happening;
+use crate::lines::Line;
 use init_words::Memory;
 use std::alloc::Allocator;
 use trace_view::TextView;
@@ -11,9 +13,9 @@ use trace_view::TextView;
 /// Adds the line of the next happening, if one is whole.
 fn next_line<A: Allocator + Copy>(
     view: &mut TextView<A>,
-    lines: &mut Vec<u8>,
+    lines: &mut Vec<Line>,
 ) -> Result<bool, Memory>
-    ensures goes { IfOk result (λ more. (said text : List ℕ) → length text < 2 ^ 64
+    ensures goes { IfOk result (λ more. (said : List Line) (text : List ℕ) → length text < 2 ^ 64
         → SaysOn more view.old (said ++ lines.old.items) view.new (said ++ lines.new.items) text) }
     ensures shorter { IfOk result (λ more. more ≡ true
         → length view.new.reading.over < length view.old.reading.over) }
@@ -32,9 +34,9 @@ fn next_line<A: Allocator + Copy>(
 pub fn take_lines<A: Allocator + Copy>(
     view: &mut TextView<A>,
     piece: &[u8],
-    lines: &mut Vec<u8>,
+    lines: &mut Vec<Line>,
 ) -> Result<(), Memory>
-    ensures { OnOk result ((said text : List ℕ) → length (text ++ piece.now) < 2 ^ 64
+    ensures { OnOk result ((said : List Line) (text : List ℕ) → length (text ++ piece.now) < 2 ^ 64
         → HasSaid view.old (said ++ lines.old.items) text
         → HasSaid view.new (said ++ lines.new.items) (text ++ piece.now)) }
 {

@@ -1,6 +1,6 @@
 //! What becomes of each id where init, as a trace left it, reads another inittab now.
 
-ghost use Rattle.std.specs.Prelude.{◌≡◌, ◌++◌, ℕ, IsTrue, List, Option, Some, false, codes, option_copied, IfOk, OnOk};
+ghost use Rattle.std.specs.Prelude.{◌≡◌, ◌++◌, ℕ, IsTrue, List, Option, Some, false, filter, map, option_copied, IfOk, OnOk};
 ghost use Rattle.init_words.specs.declared.entries.Entry.{Entry};
 ghost use Rattle.trace_events.specs.Event.{Event};
 ghost use Rattle.trace_events.specs.Past.{is_quiet, stage_of, table_of};
@@ -13,11 +13,11 @@ ghost use Rattle.init_words.specs.declared.stages.Stage.{Stage};
 ghost use Rattle.inittab_text.specs.Tables.{entry_of};
 ghost use Rattle.trace_view.specs.Viewing.{Viewed};
 ghost use Rattle.trace_view.specs.Wishes.{next_stage};
-ghost use Rattle.initview_lines.specs.Reloads.{change_by, gone_now, idle_by, idle_change, idle_entry, kept_change, left_now, line_by, line_now, line_unless, new_now, number_words, read_again, reload_text, stopped_change};
-ghost use Rattle.initview_lines.specs.Words.{stage_words};
+ghost use Rattle.initview_lines.specs.Changes.{is_gone};
+ghost use Rattle.initview_lines.specs.Reloads.{change_by, entry_now, idle_by, idle_change, idle_entry, is_new, kept_change, line_now, read_again, reload_in, stopped_change};
 
-use crate::changes::{Change, change_words, same_process};
-use crate::words::{act_words, add_number, add_padded, add_stage, put};
+use crate::changes::{Change, same_process};
+use crate::lines::Line;
 use init_words::{Act, ChildNumber, Entry, Id, Stage};
 use inittab_text::Table;
 use std::alloc::{AllocError, Allocator, Global};
@@ -98,147 +98,91 @@ fn change_by(child: Option<ChildNumber>, excluded: bool, idle: Change, same: boo
     }
 }
 
-fn add_child(text: &mut Vec<u8>, number: Option<ChildNumber>) -> Result<(), AllocError>
-    ensures { OnOk result (text.new.items ≡ text.old.items ++ number_words number) }
-{
-    match number {
-        Some(number) => add_number(text, b"  ", u64::from(number.0), b""),
-        None => Ok(()),
-    }
-}
-
-fn add_line(
-    text: &mut Vec<u8>,
-    id: &Id,
-    act: Option<Act>,
-    change: Change,
-    number: Option<ChildNumber>,
-) -> Result<(), AllocError>
-    ensures { OnOk result (text.new.items ≡ text.old.items ++ line_by id.now act change number) }
-{
-    add_padded(text, 9, id.as_bytes())?;
-    add_padded(text, 14, act_words(act))?;
-    put(text, change_words(change))?;
-    add_child(text, number)?;
-    put(text, b"\n")
-}
-
-/// Adds the line of an id.
-fn add_id<A: Allocator>(
-    text: &mut Vec<u8>,
-    old: &Table<A>,
-    view: &TraceView<A>,
-    id: &Id,
-) -> Result<(), AllocError>
-    ensures { OnOk result ((past : List Event) → Viewed view.now past
-        → text.new.items ≡ text.old.items ++ line_now old.now past id.now) }
+/// What becomes of an id, with the number of its child.
+fn line_now<A: Allocator>(old: &Table<A>, view: &TraceView<A>, id: &Id) -> Line
+    ensures { (past : List Event) → Viewed view.now past → result ≡ line_now old.now past id.now }
 {
     let row = view.row(id);
     let idle = idle_change(view, id);
     let same = same_process(old.get(id), view.table().get(id));
     let change = change_by(row.child, row.excluded, idle, same);
-    add_line(text, id, row.act, change, row.child)?;
-    Ok(())
-}
-
-/// Adds the line of an id where it has no such entry.
-fn add_unless<A: Allocator>(
-    text: &mut Vec<u8>,
-    old: &Table<A>,
-    view: &TraceView<A>,
-    entry: Option<&Entry>,
-    id: &Id,
-) -> Result<(), AllocError>
-    ensures { OnOk result ((past : List Event) → Viewed view.now past
-        → text.new.items ≡ text.old.items
-        ++ line_unless (option_copied entry.entry) (line_now old.now past id.now)) }
-{
-    match entry {
-        Some(_) => Ok(()),
-        None => {
-            add_id(text, old, view, id)?;
-            Ok(())
-        }
-    }
+    Line::Change(*id, row.act, change, row.child)
 }
 
 fn add_new<A: Allocator>(
-    text: &mut Vec<u8>,
+    lines: &mut Vec<Line>,
     old: &Table<A>,
     view: &TraceView<A>,
     entries: &[Entry],
 ) -> Result<(), AllocError>
     ensures { OnOk result ((past : List Event) → Viewed view.now past
-        → text.new.items ≡ text.old.items ++ new_now old.now past entries.now) }
+        → lines.new.items ≡ lines.old.items ++ map (entry_now old.now past) entries.now) }
 {
     let mut rest = entries;
     while let Some((entry, others)) = rest.split_first() {
-        add_id(text, old, view, &entry.id)?;
+        lines.push(line_now(old, view, &entry.id))?;
         rest = others;
     }
     Ok(())
 }
 
 fn add_gone<A: Allocator>(
-    text: &mut Vec<u8>,
+    lines: &mut Vec<Line>,
     old: &Table<A>,
     view: &TraceView<A>,
     entries: &[Entry],
 ) -> Result<(), AllocError>
-    ensures { OnOk result ((past : List Event) → Viewed view.now past
-        → text.new.items ≡ text.old.items ++ gone_now old.now past entries.now) }
+    ensures { OnOk result ((past : List Event) → Viewed view.now past → lines.new.items
+        ≡ lines.old.items
+        ++ map (entry_now old.now past) (filter (is_gone (table_of past)) entries.now)) }
 {
     let mut rest = entries;
     while let Some((entry, others)) = rest.split_first() {
-        add_unless(text, old, view, view.table().get(&entry.id), &entry.id)?;
+        if view.table().get(&entry.id).is_none() {
+            lines.push(line_now(old, view, &entry.id))?;
+        }
         rest = others;
     }
     Ok(())
 }
 
 fn add_left<A: Allocator>(
-    text: &mut Vec<u8>,
+    lines: &mut Vec<Line>,
     old: &Table<A>,
     view: &TraceView<A>,
     ids: &[Id],
 ) -> Result<(), AllocError>
-    ensures { OnOk result ((past : List Event) → Viewed view.now past
-        → text.new.items ≡ text.old.items ++ left_now old.now past ids.now) }
+    ensures { OnOk result ((past : List Event) → Viewed view.now past → lines.new.items
+        ≡ lines.old.items ++ map (line_now old.now past) (filter (is_new old.now) ids.now)) }
 {
     let mut rest = ids;
     while let Some((id, others)) = rest.split_first() {
-        add_unless(text, old, view, old.get(id), id)?;
+        if old.get(id).is_none() {
+            lines.push(line_now(old, view, id))?;
+        }
         rest = others;
     }
     Ok(())
 }
 
-fn add_stage_line(text: &mut Vec<u8>, stage: Option<Stage>) -> Result<(), AllocError>
-    ensures { OnOk result (text.new.items ≡ text.old.items ++ (stage_words stage ++ codes "\n")) }
-{
-    add_stage(text, stage)?;
-    put(text, b"\n")
-}
-
-/// What becomes of each id, where this is the view of a trace behind which init read another inittab than the old one: a
-/// line for the stage in force, one for each entry of the new inittab in its order, one for each of the old one that is
-/// gone, and one for each child that has an entry in neither. A line has the number of the child that is stopped or
-/// kept.
+/// What becomes of each id, where this is the view of a trace behind which init read another inittab than the old one: the
+/// stage in force, each entry of the new inittab in its order, each of the old one that is gone, and each child that has
+/// an entry in neither. A line has the number of the child that is stopped or kept.
 pub fn reload_lines<A: Allocator>(
     alloc: Global,
     old: &Table<A>,
     view: &TraceView<A>,
-) -> Result<Vec<u8>, AllocError>
-    ensures { IfOk result (λ text. (past : List Event) → Viewed view.now past
-        → text.items ≡ reload_text old.now past) }
+) -> Result<Vec<Line>, AllocError>
+    ensures { IfOk result (λ lines. (past : List Event) → Viewed view.now past
+        → lines.items ≡ reload_in old.now past) }
 {
-    let mut text = Vec::new(alloc);
-    add_stage_line(&mut text, view.stage())?;
-    add_new(&mut text, old, view, view.table().entries())?;
-    add_gone(&mut text, old, view, old.entries())?;
+    let mut lines = Vec::new(alloc);
+    lines.push(Line::Stage(view.stage()))?;
+    add_new(&mut lines, old, view, view.table().entries())?;
+    add_gone(&mut lines, old, view, old.entries())?;
     let Ok(left) = view.gone(alloc) else {
         return Err(AllocError);
     };
-    add_left(&mut text, old, view, left.as_slice())?;
-    Ok(text)
+    add_left(&mut lines, old, view, left.as_slice())?;
+    Ok(lines)
 }

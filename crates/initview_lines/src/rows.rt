@@ -1,39 +1,15 @@
-//! How init and its entries stand: a walk over them, and two ways to write what stands.
+//! How init and its entries stand.
 
-ghost use Rattle.std.specs.Prelude.{◌≡◌, ◌++◌, List, IfOk, OnOk};
+ghost use Rattle.std.specs.Prelude.{◌≡◌, ◌++◌, ◌∷◌, [], List, map, IfOk, OnOk};
 ghost use Rattle.trace_events.specs.Event.{Event};
 ghost use Rattle.trace_view.specs.Viewing.{Viewed};
-ghost use Rattle.initview_lines.specs.Rows.{entries_in, head_in, head_of, ids_in, row_in, row_of_in, status_in};
+ghost use Rattle.initview_lines.specs.Rows.{ended_at, entry_row, head_of, held_at, id_row, row_at, row_by, runs_at, status_in, stopping_at};
 
-use crate::{json, status};
-use init_words::{Entry, Id, Level, Stage};
+use crate::lines::{Head, IdRow, Line, RowFormat, Stopping};
+use init_words::{Entry, Id};
+use respawn_limit::HOLD;
 use std::alloc::{AllocError, Allocator, Global};
-use trace_view::{Row, TraceView, Wish};
-
-/// In which way it is written how init and its entries stand.
-#[derive(Clone, Copy)]
-pub enum RowFormat {
-    /// Lines in columns.
-    Lines,
-    /// An object of JSON a line.
-    Json,
-}
-
-/// How init stands. Times are seconds.
-#[derive(Clone, Copy)]
-pub struct Head {
-    /// The stage in force.
-    pub stage: Option<Stage>,
-    /// It is a level that is settled.
-    pub settled: bool,
-    pub time: u64,
-    /// The seconds between the two signals that stop a child.
-    pub grace: u64,
-    /// The level that is asked for and not yet entered.
-    pub goal: Option<Level>,
-    /// The request that is carried out first.
-    pub wish: Option<Wish>,
-}
+use trace_view::{Births, Ending, Row, TraceView, Why};
 
 /// How init and its entries stand: first init, then each entry in the order of the table, and each id whose child outlives
 /// its entry.
@@ -41,18 +17,18 @@ pub fn status_lines<A: Allocator>(
     alloc: Global,
     view: &TraceView<A>,
     shape: RowFormat,
-) -> Result<Vec<u8>, AllocError>
-    ensures { IfOk result (λ text. (past : List Event) → Viewed view.now past
-        → text.items ≡ status_in shape past) }
+) -> Result<Vec<Line>, AllocError>
+    ensures { IfOk result (λ lines. (past : List Event) → Viewed view.now past
+        → lines.items ≡ status_in shape past) }
 {
-    let mut text = Vec::new(alloc);
-    add_head(&mut text, &read_head(view), shape)?;
-    add_entries(&mut text, view, view.table().entries(), shape)?;
+    let mut lines = Vec::new(alloc);
+    lines.push(Line::Head(shape, read_head(view)))?;
+    add_entries(&mut lines, view, view.table().entries(), shape)?;
     let Ok(gone) = view.gone(alloc) else {
         return Err(AllocError);
     };
-    add_ids(&mut text, view, gone.as_slice(), shape)?;
-    Ok(text)
+    add_ids(&mut lines, view, gone.as_slice(), shape)?;
+    Ok(lines)
 }
 
 /// How one id stands.
@@ -61,13 +37,13 @@ pub fn row_line<A: Allocator>(
     view: &TraceView<A>,
     id: &Id,
     shape: RowFormat,
-) -> Result<Vec<u8>, AllocError>
-    ensures { IfOk result (λ text. (past : List Event) → Viewed view.now past
-        → text.items ≡ row_of_in shape id.now past) }
+) -> Result<Vec<Line>, AllocError>
+    ensures { IfOk result (λ lines. (past : List Event) → Viewed view.now past
+        → lines.items ≡ row_at shape past id.now ∷ []) }
 {
-    let mut text = Vec::new(alloc);
-    add_id(&mut text, view, id, shape)?;
-    Ok(text)
+    let mut lines = Vec::new(alloc);
+    lines.push(row_at(view, id, shape))?;
+    Ok(lines)
 }
 
 pub(crate) fn read_head<A: Allocator>(view: &TraceView<A>) -> Head
@@ -83,78 +59,107 @@ pub(crate) fn read_head<A: Allocator>(view: &TraceView<A>) -> Head
     }
 }
 
-fn add_head(text: &mut Vec<u8>, head: &Head, shape: RowFormat) -> Result<(), AllocError>
-    ensures { OnOk result (text.new.items ≡ text.old.items ++ head_in shape head.now) }
-{
-    match shape {
-        RowFormat::Lines => status::add_head(text, head),
-        RowFormat::Json => json::add_head(text, head),
-    }
-}
-
 fn add_entries<A: Allocator>(
-    text: &mut Vec<u8>,
+    lines: &mut Vec<Line>,
     view: &TraceView<A>,
     entries: &[Entry],
     shape: RowFormat,
 ) -> Result<(), AllocError>
     ensures { OnOk result ((past : List Event) → Viewed view.now past
-        → text.new.items ≡ text.old.items ++ entries_in shape entries.now past) }
+        → lines.new.items ≡ lines.old.items ++ map (entry_row shape past) entries.now) }
 {
     let mut rest = entries;
     while let Some((entry, others)) = rest.split_first() {
-        add_id(text, view, &entry.id, shape)?;
+        lines.push(row_at(view, &entry.id, shape))?;
         rest = others;
     }
     Ok(())
 }
 
 fn add_ids<A: Allocator>(
-    text: &mut Vec<u8>,
+    lines: &mut Vec<Line>,
     view: &TraceView<A>,
     ids: &[Id],
     shape: RowFormat,
 ) -> Result<(), AllocError>
     ensures { OnOk result ((past : List Event) → Viewed view.now past
-        → text.new.items ≡ text.old.items ++ ids_in shape ids.now past) }
+        → lines.new.items ≡ lines.old.items ++ map (row_at shape past) ids.now) }
 {
     let mut rest = ids;
     while let Some((id, others)) = rest.split_first() {
-        add_id(text, view, id, shape)?;
+        lines.push(row_at(view, id, shape))?;
         rest = others;
     }
     Ok(())
 }
 
-fn add_id<A: Allocator>(
-    text: &mut Vec<u8>,
-    view: &TraceView<A>,
-    id: &Id,
-    shape: RowFormat,
-) -> Result<(), AllocError>
-    ensures { OnOk result ((past : List Event) → Viewed view.now past
-        → text.new.items ≡ text.old.items ++ row_of_in shape id.now past) }
+/// The seconds since a child was born.
+fn runs_at(now: u64, births: Option<Births>) -> Option<u64>
+    ensures { result ≡ runs_at now births }
 {
-    let grace = view.grace();
-    let now = view.time();
-    let row = view.row(id);
-    add_row(text, u64::from(grace), now, id, &row, shape)?;
-    Ok(())
+    match births {
+        Some(births) => Some(now.saturating_sub(births.latest)),
+        None => None,
+    }
 }
 
-fn add_row(
-    text: &mut Vec<u8>,
-    grace: u64,
-    now: u64,
-    id: &Id,
-    row: &Row,
-    shape: RowFormat,
-) -> Result<(), AllocError>
-    ensures { OnOk result (text.new.items
-        ≡ text.old.items ++ row_in shape grace now id.now row.now) }
+/// How far the stopping of a child has come, by when it was told that TERM was sent.
+fn stopping_at(now: u64, grace: u64, told: Option<u64>) -> Option<Stopping>
+    ensures { result ≡ stopping_at now grace told }
 {
-    match shape {
-        RowFormat::Lines => status::add_row(text, grace, now, id, row),
-        RowFormat::Json => json::add_row(text, now, id, row),
+    match told {
+        Some(told) => {
+            let term = now.saturating_sub(told);
+            Some(Stopping {
+                term,
+                kill: grace.saturating_sub(term),
+            })
+        }
+        None => None,
     }
+}
+
+/// The seconds that a hold goes on.
+fn held_at(now: u64, why: Why) -> Option<u64>
+    ensures { result ≡ held_at now why }
+{
+    match why {
+        Why::Held(since) => Some(HOLD.saturating_sub(now.saturating_sub(since))),
+        _ => None,
+    }
+}
+
+/// The seconds since the end of a child.
+fn ended_at(now: u64, last: Option<Ending>) -> Option<u64>
+    ensures { result ≡ ended_at now last }
+{
+    match last {
+        Some(ending) => Some(now.saturating_sub(ending.time)),
+        None => None,
+    }
+}
+
+fn row_by(now: u64, grace: u64, id: Id, row: Row) -> IdRow
+    ensures { result ≡ row_by now grace id row }
+{
+    IdRow {
+        id,
+        row,
+        runs: runs_at(now, row.births),
+        stopping: stopping_at(now, grace, row.term),
+        held: held_at(now, row.why),
+        ended: ended_at(now, row.last),
+    }
+}
+
+pub(crate) fn read_row<A: Allocator>(view: &TraceView<A>, id: &Id) -> IdRow
+    ensures { (past : List Event) → Viewed view.now past → result ≡ id_row past id.now }
+{
+    row_by(view.time(), u64::from(view.grace()), *id, view.row(id))
+}
+
+fn row_at<A: Allocator>(view: &TraceView<A>, id: &Id, shape: RowFormat) -> Line
+    ensures { (past : List Event) → Viewed view.now past → result ≡ row_at shape past id.now }
+{
+    Line::Row(shape, read_row(view, id))
 }

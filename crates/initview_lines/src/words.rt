@@ -1,13 +1,11 @@
-//! The words that lines are made of.
+//! The words that timelines are made of, with what they write.
 
-ghost use Rattle.std.specs.Prelude.{◌≡◌, ◌-◌, ◌++◌, replicate, OnOk};
-ghost use Rattle.initview_lines.specs.Words.{act_words, ago_words, held_left, last_words, level_wish_words, level_words, numbered, padded, stage_words, status_words, wish_words};
+ghost use Rattle.std.specs.Prelude.{◌≡◌, ◌++◌, replicate, OnOk};
+ghost use Rattle.initview_lines.specs.Words.{level_words, numbered, padded, stage_words, status_words};
 
-use init_words::{Act, Level, Stage, Status};
+use init_words::{Level, Stage, Status};
 use itoa::Buffer;
-use respawn_limit::HOLD;
 use std::alloc::AllocError;
-use trace_view::{Ending, Wish};
 
 /// Adds a text.
 pub fn put(text: &mut Vec<u8>, bytes: &[u8]) -> Result<(), AllocError>
@@ -53,16 +51,6 @@ pub fn add_padded(text: &mut Vec<u8>, width: usize, word: &[u8]) -> Result<(), A
     Ok(())
 }
 
-/// The word of an action, or a dash.
-pub(crate) fn act_words(act: Option<Act>) -> &'static [u8]
-    ensures { result.now ≡ act_words act }
-{
-    match act {
-        Some(act) => act.word(),
-        None => b"-",
-    }
-}
-
 /// Adds the words of a level.
 pub fn add_level(text: &mut Vec<u8>, level: Level) -> Result<(), AllocError>
     ensures { OnOk result (text.new.items ≡ text.old.items ++ level_words level) }
@@ -84,40 +72,6 @@ pub fn add_stage(text: &mut Vec<u8>, stage: Option<Stage>) -> Result<(), AllocEr
     }
 }
 
-/// Adds what a wish is for.
-pub(crate) fn add_wish(text: &mut Vec<u8>, wish: Wish) -> Result<(), AllocError>
-    ensures { OnOk result (text.new.items ≡ text.old.items ++ wish_words wish) }
-{
-    match wish {
-        Wish::Reexec => put(text, b"execute init anew"),
-        Wish::Reread => put(text, b"read inittab again"),
-        Wish::Level(level) => add_level_wish(text, level),
-        Wish::News => put(text, b"call entries"),
-    }
-}
-
-fn add_level_wish(text: &mut Vec<u8>, level: Level) -> Result<(), AllocError>
-    ensures { OnOk result (text.new.items ≡ text.old.items ++ level_wish_words level) }
-{
-    text.extend_from_slice(b"go to ")?;
-    add_level(text, level)?;
-    Ok(())
-}
-
-/// The seconds between two times.
-pub fn seconds_since(now: u64, time: u64) -> u64
-    ensures { result ≡ now - time }
-{
-    now.saturating_sub(time)
-}
-
-/// The seconds that a hold goes on.
-pub(crate) fn held_left(now: u64, since: u64) -> u64
-    ensures { result ≡ held_left now since }
-{
-    HOLD.saturating_sub(now.saturating_sub(since))
-}
-
 /// Adds the words of how an id ended.
 pub fn add_status(text: &mut Vec<u8>, status: Option<Status>) -> Result<(), AllocError>
     ensures { OnOk result (text.new.items ≡ text.old.items ++ status_words status) }
@@ -126,30 +80,5 @@ pub fn add_status(text: &mut Vec<u8>, status: Option<Status>) -> Result<(), Allo
         None => put(text, b"its start failed"),
         Some(Status::Exit(code)) => add_number(text, b"exit ", u64::from(code), b""),
         Some(Status::Killed) => put(text, b"killed"),
-    }
-}
-
-fn add_ago(text: &mut Vec<u8>, seconds: u64) -> Result<(), AllocError>
-    ensures { OnOk result (text.new.items ≡ text.old.items ++ ago_words seconds) }
-{
-    add_number(text, b", ", seconds, b" s ago")
-}
-
-fn add_ending(text: &mut Vec<u8>, now: u64, ending: Ending) -> Result<(), AllocError>
-    ensures { OnOk result (text.new.items
-        ≡ text.old.items ++ (status_words ending.status ++ ago_words (now - ending.time))) }
-{
-    add_status(text, ending.status)?;
-    add_ago(text, seconds_since(now, ending.time))?;
-    Ok(())
-}
-
-/// Adds how an id last ended, and how long ago.
-pub(crate) fn add_last(text: &mut Vec<u8>, now: u64, last: Option<Ending>) -> Result<(), AllocError>
-    ensures { OnOk result (text.new.items ≡ text.old.items ++ last_words now last) }
-{
-    match last {
-        None => put(text, b"never ran"),
-        Some(ending) => add_ending(text, now, ending),
     }
 }

@@ -11,8 +11,8 @@ returns-in-Some-clause-ends g c =
     let text_at = g.T.Texts.text_at c.args.texts.now in
     let growing_at = g.G.GrowingTexts.text_at c.args.growing.now in
     let writers = g.G.GrowingTexts.writer_at c.args.growing.now in
-    let old = g.W.Write.contents c.args.out.now in
-    let new = g.W.Write.contents c.run_asked.new.out in
+    let old = g.S.Says.said c.args.out.now in
+    let new = g.S.Says.said c.run_asked.new.out in
     let rows = rows_of (found_of c.args.matches.now) in
     let words = map (λ word. word.now) c.args.words.now in
     so_done text_at growing_at writers c.run_asked.result old new rows words _ _ _ c.in-Some.what (what_of rows words)
@@ -23,7 +23,7 @@ returns-in-None-clause-ends g c =
     let text_at = g.T.Texts.text_at c.args.texts.now in
     let growing_at = g.G.GrowingTexts.text_at c.args.growing.now in
     let writers = g.G.GrowingTexts.writer_at c.args.growing.now in
-    let now = g.W.Write.contents c.args.out.now in
+    let now = g.S.Says.said c.args.out.now in
     let rows = rows_of (found_of c.args.matches.now) in
     let words = map (λ word. word.now) c.args.words.now in
     subst (λ a. EndsFor text_at growing_at writers rows words a c.report_refusal.result now now) c.in-None.ensures

@@ -8,8 +8,8 @@ returns-in-Some-clause-ends g c =
     let text_at = g.T.Texts.text_at c.args.texts.now in
     let growing_at = g.G.GrowingTexts.text_at c.args.growing.now in
     let writers = g.G.GrowingTexts.writer_at c.args.growing.now in
-    let old = g.W.Write.contents c.args.out.now in
-    let new = g.W.Write.contents c.run_given.new.out in
+    let old = g.S.Says.said c.args.out.now in
+    let new = g.S.Says.said c.run_given.new.out in
     let rows = rows_of (found_of c.args.matches.now) in
     words_given text_at growing_at writers c.run_given.result old new rows (map (λ word. word.now) c.in-Some.words.now) _
     c.in-Some.ensures refl c.run_given.ensures.ends
@@ -19,8 +19,8 @@ returns-in-None-clause-ends g c =
     let text_at = g.T.Texts.text_at c.args.texts.now in
     let growing_at = g.G.GrowingTexts.text_at c.args.growing.now in
     let writers = g.G.GrowingTexts.writer_at c.args.growing.now in
-    let old = g.W.Write.contents c.args.out.now in
-    let new = g.W.Write.contents c.run_given-in-None.new.out in
+    let old = g.S.Says.said c.args.out.now in
+    let new = g.S.Says.said c.run_given-in-None.new.out in
     let rows = rows_of (found_of c.args.matches.now) in
     words_given text_at growing_at writers c.run_given-in-None.result old new rows _ _ c.in-None.ensures refl
     c.run_given-in-None.ensures.ends

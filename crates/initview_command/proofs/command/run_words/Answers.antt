@@ -6,7 +6,7 @@ use Rattle.initview_command.proofs.command.run_words.Goals as goal
 pub returns-then-is_version-clause-ends : goal.returns-then-is_version-clause-ends
 returns-then-is_version-clause-ends g c =
     version_done _ _ _ _ _ _ (map string_bytes c.args.words.now) _ (sym c.is_version.ensures ∙ c.if-is_version.true)
-    c.print_version.ensures.version
+    c.say_version.ensures
 
 pub returns-in-Ok-clause-ends : goal.returns-in-Ok-clause-ends
 returns-in-Ok-clause-ends g c =
@@ -14,8 +14,8 @@ returns-in-Ok-clause-ends g c =
     let growing_at = g.G.GrowingTexts.text_at c.args.growing.now in
     let writers = g.G.GrowingTexts.writer_at c.args.growing.now in
     let words = map string_bytes c.args.words.now in
-    let old = g.W.Write.contents c.args.out.now in
-    let new = g.W.Write.contents c.run_matches.new.out in
+    let old = g.S.Says.said c.args.out.now in
+    let new = g.S.Says.said c.run_matches.new.out in
     let rows = rows_of (found_of c.in-Ok.matches) in
     let other = sym c.is_version.ensures ∙ c.if-is_version.false in
     words_done text_at growing_at writers c.run_matches.result old new words _ other
@@ -27,7 +27,7 @@ returns-in-Err-clause-ends g c =
     let growing_at = g.G.GrowingTexts.text_at c.args.growing.now in
     let writers = g.G.GrowingTexts.writer_at c.args.growing.now in
     let words = map string_bytes c.args.words.now in
-    let now = g.W.Write.contents c.args.out.now in
+    let now = g.S.Says.said c.args.out.now in
     let other = sym c.is_version.ensures ∙ c.if-is_version.false in
     words_done text_at growing_at writers c.report_fault.result now now words _ other
     (fault_done text_at growing_at writers c.report_fault.result (g.E.Write.contents c.args.err.now)

@@ -8,4 +8,4 @@ use Rattle.initview_command.proofs.following.write_lines.Given as goal
 abbrev pub invariant-loop : goal.invariant-loop
 invariant-loop g l =
     (text : List ℕ) × Consumes (g.R.Read.remaining l.fn.from) (g.R.Read.remaining l.from) text × (length text ≤ PIECE_LIMIT * l.counter)
-    × HasWritten l.view text (g.W.Write.contents l.fn.out) (g.W.Write.contents l.out)
+    × HasWritten l.view text (g.S.Says.said l.fn.out) (g.S.Says.said l.out)

@@ -1,10 +1,10 @@
-use Rattle.std.proofs.Common.{◌≡◌, ◌++◌, length}
-use Rattle.initview_lines.specs.Changes.{gone_lines}
+use Rattle.std.proofs.Common.{◌≡◌, ◌++◌, filter, length, map}
+use Rattle.initview_lines.specs.Changes.{entry_change, is_gone}
 use Rattle.initview_lines.proofs.changes.add_gone.Given as goal
 
--- the text so far, and behind it the lines of the entries that are left, is the text and the lines of all
+-- the lines so far, and behind them those of the entries that are left, are the lines of all
 abbrev pub invariant-loop-entry : goal.invariant-loop-entry
-invariant-loop-entry g l = l.text.items ++ gone_lines l.level l.old l.new l.rest ≡ l.fn.text.items ++ gone_lines l.level l.old l.new l.entries
+invariant-loop-entry g l = l.lines.items ++ map (entry_change l.level l.old l.new) (filter (is_gone l.new) l.rest) ≡ l.fn.lines.items ++ map (entry_change l.level l.old l.new) (filter (is_gone l.new) l.entries)
 
 abbrev pub decreases-loop-entry : goal.decreases-loop-entry
 decreases-loop-entry g l = length l.rest

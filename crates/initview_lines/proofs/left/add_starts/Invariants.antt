@@ -1,12 +1,12 @@
-use Rattle.std.proofs.Common.{◌≡◌, ◌++◌, List, length}
+use Rattle.std.proofs.Common.{◌≡◌, ◌++◌, List, filter, length, map}
 use Rattle.trace_events.specs.Event.{Event}
 use Rattle.trace_view.specs.Viewing.{Viewed}
-use Rattle.initview_lines.specs.Left.{starts_text}
+use Rattle.initview_lines.specs.Left.{is_open, start_line}
 use Rattle.initview_lines.proofs.left.add_starts.Given as goal
 
--- the text so far, and behind it the lines of the entries that are left, is the text and the lines of all
+-- the lines so far, and behind them those of the entries that are left, are the lines of all
 abbrev pub invariant-loop-entry : goal.invariant-loop-entry
-invariant-loop-entry g l = (past : List Event) → Viewed l.view past → l.text.items ++ starts_text l.shape l.rest past ≡ l.fn.text.items ++ starts_text l.shape l.entries past
+invariant-loop-entry g l = (past : List Event) → Viewed l.view past → l.lines.items ++ map (start_line l.shape) (filter (is_open past) l.rest) ≡ l.fn.lines.items ++ map (start_line l.shape) (filter (is_open past) l.entries)
 
 abbrev pub decreases-loop-entry : goal.decreases-loop-entry
 decreases-loop-entry g l = length l.rest

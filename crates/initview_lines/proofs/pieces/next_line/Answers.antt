@@ -1,11 +1,11 @@
 use Rattle.std.proofs.Common.{◌∷◌, sym, subst}
 use Rattle.trace_view.specs.Viewing.{ViewState, Viewed}
-use Rattle.initview_lines.proofs.Saying.{some_said, none_said}
+use Rattle.initview_lines.proofs.Follows.{some_said, none_said}
 use Rattle.initview_lines.proofs.pieces.next_line.Goals as goal
 
 pub returns-in_ok-add_happening-in-Some-clause-goes : goal.returns-in_ok-add_happening-in-Some-clause-goes
 returns-in_ok-add_happening-in-Some-clause-goes g c = λ said text small at.
-    some_said c.in_ok-happening.field-0 c.in-Some.happening c.args.view.now c.next.new.self said c.args.lines.now.items c.add_happening.new.text.items text c.in-Some.is
+    some_said c.in_ok-happening.field-0 c.in-Some.happening c.args.view.now c.next.new.self said c.args.lines.now.items c.add_happening.new.lines.items text c.in-Some.is
     (λ trace. c.in_ok-happening.ensures.goes trace text small)
     (λ past seen. c.in_ok-add_happening-in-Some.ensures past (subst (λ (v : ViewState). Viewed v (c.in-Some.happening ∷ past)) (sym c.view.ensures) seen))
     at

@@ -1,5 +1,5 @@
 use Rattle.std.proofs.Common.{◌++◌}
-use Rattle.initview_lines.proofs.Saying.{more_said, all_said}
+use Rattle.initview_lines.proofs.Follows.{more_said, all_said}
 use Rattle.initview_lines.proofs.pieces.take_lines.Goals as goal
 
 pub loop-preserved : goal.loop-preserved

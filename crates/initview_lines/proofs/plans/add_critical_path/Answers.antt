@@ -3,6 +3,6 @@ use Rattle.initview_lines.proofs.plans.add_critical_path.Goals as goal
 
 pub returns : goal.returns
 returns c =
-    whole_path c.args.level c.args.entries.now c.args.text.now.items _ _ _ _ _ _ _ _ c.in_ok-put.ensures
+    whole_path c.args.level c.args.entries.now c.args.lines.now.items _ _ _ _ _ _ _ _ c.in_ok-push.ensures.items
     c.in_ok-sysinit.ensures.0 c.in_ok-sysinit.ensures.1 c.in_ok-boot.ensures.0 c.in_ok-boot.ensures.1 c.in_ok-last.ensures.0 c.in_ok-last.ensures.1
-    c.in_ok-add_reached.ensures
+    c.in_ok-push-2.ensures.items

@@ -1,12 +1,14 @@
-use Rattle.std.proofs.Common.{◌≡◌, ◌++◌, List, length}
+use Rattle.std.proofs.Common.{◌≡◌, ◌++◌, List, filter, length, map}
 use Rattle.trace_events.specs.Event.{Event}
+use Rattle.trace_events.specs.Past.{table_of}
 use Rattle.trace_view.specs.Viewing.{Viewed}
-use Rattle.initview_lines.specs.Reloads.{gone_now}
+use Rattle.initview_lines.specs.Changes.{is_gone}
+use Rattle.initview_lines.specs.Reloads.{entry_now}
 use Rattle.initview_lines.proofs.reloads.add_gone.Given as goal
 
--- the text so far, and behind it the lines of what is left, is the text and the lines of all
+-- the lines so far, and behind them those of what is left, are the lines of all
 abbrev pub invariant-loop-entry : goal.invariant-loop-entry
-invariant-loop-entry g l = (past : List Event) → Viewed l.view past → l.text.items ++ gone_now l.old past l.rest ≡ l.fn.text.items ++ gone_now l.old past l.entries
+invariant-loop-entry g l = (past : List Event) → Viewed l.view past → l.lines.items ++ map (entry_now l.old past) (filter (is_gone (table_of past)) l.rest) ≡ l.fn.lines.items ++ map (entry_now l.old past) (filter (is_gone (table_of past)) l.entries)
 
 abbrev pub decreases-loop-entry : goal.decreases-loop-entry
 decreases-loop-entry g l = length l.rest

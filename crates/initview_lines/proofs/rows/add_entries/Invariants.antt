@@ -1,12 +1,12 @@
-use Rattle.std.proofs.Common.{◌≡◌, ◌++◌, List, length}
+use Rattle.std.proofs.Common.{◌≡◌, ◌++◌, List, length, map}
 use Rattle.trace_events.specs.Event.{Event}
 use Rattle.trace_view.specs.Viewing.{Viewed}
-use Rattle.initview_lines.specs.Rows.{entries_in}
+use Rattle.initview_lines.specs.Rows.{entry_row}
 use Rattle.initview_lines.proofs.rows.add_entries.Given as goal
 
--- the text so far, and behind it the lines of the entries that are left, is the text and the lines of all
+-- the lines so far, and behind them those of the entries that are left, are the lines of all
 abbrev pub invariant-loop-entry : goal.invariant-loop-entry
-invariant-loop-entry g l = (past : List Event) → Viewed l.view past → l.text.items ++ entries_in l.shape l.rest past ≡ l.fn.text.items ++ entries_in l.shape l.entries past
+invariant-loop-entry g l = (past : List Event) → Viewed l.view past → l.lines.items ++ map (entry_row l.shape past) l.rest ≡ l.fn.lines.items ++ map (entry_row l.shape past) l.entries
 
 abbrev pub decreases-loop-entry : goal.decreases-loop-entry
 decreases-loop-entry g l = length l.rest

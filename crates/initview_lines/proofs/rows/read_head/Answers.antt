@@ -1,5 +1,5 @@
 use Rattle.std.proofs.Common.{◌∙◌}
-use Rattle.initview_lines.proofs.Lines.{head_is}
+use Rattle.initview_lines.proofs.Stands.{head_is}
 use Rattle.initview_lines.proofs.rows.read_head.Goals as goal
 
 pub returns : goal.returns

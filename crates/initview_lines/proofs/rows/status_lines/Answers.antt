@@ -1,15 +1,16 @@
-use Rattle.std.proofs.Common.{◌≡◌, ◌∙◌, ap, ◌++◌, [], rules}
+use Rattle.std.proofs.Common.{◌≡◌, ◌∙◌, ap, ◌++◌, ◌∷◌, [], map, rules}
 use Rattle.trace_events.specs.Past.{table_of, unreaped_children}
 use Rattle.trace_view.specs.Rows.{gone_ids}
-use Rattle.initview_lines.specs.Rows.{head_in, head_of, entries_in, ids_in}
-use Rattle.initview_lines.proofs.Lines.{whole}
+use Rattle.initview_lines.specs.declared.lines.Line.TheVariants as line
+use Rattle.initview_lines.specs.Rows.{entry_row, head_of, row_at}
+use Rattle.initview_lines.proofs.Stands.{whole}
 use Rattle.initview_lines.proofs.rows.status_lines.Goals as goal
 
 pub returns : goal.returns
 returns g c = λ past seen.
     let shape = c.args.shape in
-    let none : c.new-text.result.items ≡ [] = search rules in
-    whole (head_in shape (head_of past)) (entries_in shape (table_of past) past) (ids_in shape (gone_ids (table_of past) (unreaped_children past)) past) _ _ _
-    (c.in_ok-add_head.ensures ∙ ap (λ text. text ++ head_in shape c.read_head.result) none ∙ ap (head_in shape) (c.read_head.ensures past seen))
-    (c.in_ok-add_entries.ensures past seen ∙ ap (λ es. c.add_head.new.text.items ++ entries_in shape es past) (c.entries.ensures.value ∙ c.table.ensures.value past seen))
-    (c.in_ok-add_ids.ensures past seen ∙ ap (λ ids. c.add_entries.new.text.items ++ ids_in shape ids past) (c.as_slice.ensures.value ∙ c.in-Ok.ensures past seen))
+    let none : c.new-lines.result.items ≡ [] = search rules in
+    whole (line.Head shape (head_of past)) (map (entry_row shape past) (table_of past)) (map (row_at shape past) (gone_ids (table_of past) (unreaped_children past))) _ _ _ _ none
+    (c.in_ok-push.ensures.items ∙ ap (λ h. c.new-lines.result.items ++ line.Head shape h ∷ []) (c.read_head.ensures past seen))
+    (c.in_ok-add_entries.ensures past seen ∙ ap (λ es. c.push.new.self.items ++ map (entry_row shape past) es) (c.entries.ensures.value ∙ c.table.ensures.value past seen))
+    (c.in_ok-add_ids.ensures past seen ∙ ap (λ ids. c.add_entries.new.lines.items ++ map (row_at shape past) ids) (c.as_slice.ensures.value ∙ c.in-Ok.ensures past seen))

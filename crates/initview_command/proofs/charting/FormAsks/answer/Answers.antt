@@ -1,9 +1,0 @@
-use Rattle.std.proofs.Common.{sym, subst, ◌∙◌}
-use Rattle.trace_view.specs.Viewing.{ViewState, Viewed}
-use Rattle.initview_command.proofs.charting.FormAsks.answer.Goals as goal
-
-pub returns : goal.returns
-returns c = λ past seen has. (
-  c.in_ok-drawn.ensures past (subst (λ (v : ViewState). Viewed v past) (sym c.view.ensures) seen) (c.seen.ensures ∙ has),
-  c.stop_status.ensures,
-)

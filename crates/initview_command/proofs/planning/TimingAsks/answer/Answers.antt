@@ -1,9 +1,0 @@
-use Rattle.std.proofs.Common.{◌∙◌, ap}
-use Rattle.initview_timeline.specs.Marks.{SeenMarks}
-use Rattle.initview_command.proofs.planning.TimingAsks.answer.Goals as goal
-
-pub returns : goal.returns
-returns c = λ past seen has. (
-  c.in_ok-said.ensures past (c.as_slice.ensures ∙ ap (λ (m : SeenMarks). m.marks) (c.seen.ensures ∙ has)),
-  c.stop_status.ensures,
-)

@@ -1,0 +1,11 @@
+use Rattle.std.proofs.Common.{sym, subst}
+use Rattle.trace_view.specs.Viewing.{ViewState, Viewed}
+use Rattle.initview_lines.specs.Reloads.{reloaded}
+use Rattle.initview_command.proofs.reloading.ReloadQuery.answer.Goals as goal
+
+pub returns : goal.returns
+returns c = λ past seen has.
+    let after = reloaded c.args.self.now.new c.args.self.now.level past in (
+      c.in_ok-said.ensures after (subst (λ (v : ViewState). Viewed v after) (sym c.view.ensures) (c.in_ok-read_anew.ensures past seen)),
+      c.stop_status.ensures,
+    )

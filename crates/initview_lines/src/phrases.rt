@@ -1,0 +1,75 @@
+//! Phrases: words with places for values.
+
+use crate::days::{add_clock, add_time_of_day};
+use crate::json::add_quoted;
+use crate::words::{add_level, add_number, add_padded, add_stage, add_status, put};
+use init_words::{Level, Stage, Status};
+use std::alloc::AllocError;
+use trace_view::Wish;
+
+/// A value that stands in a phrase.
+#[derive(Clone, Copy)]
+pub(crate) enum Value<'a> {
+    Text(&'a [u8]),
+    /// A text, and spaces behind it up to a width.
+    Padded(usize, &'a [u8]),
+    Byte(u8),
+    Number(u64),
+    /// A number, or null.
+    Known(Option<u64>),
+    /// A text in quotes, or null.
+    Quoted(Option<&'a [u8]>),
+    Level(Level),
+    Stage(Option<Stage>),
+    Status(Option<Status>),
+    Wish(Wish),
+    /// A reading of the clock, for people.
+    Clock(u64),
+    /// The same as RFC 3339 writes it.
+    Time(u64),
+}
+
+/// Adds a phrase, in which each `@` is the place of the next value.
+pub(crate) fn fill(text: &mut Vec<u8>, phrase: &[u8], values: &[Value]) -> Result<(), AllocError> {
+    let mut next = 0;
+    for byte in phrase {
+        match values.get(next) {
+            Some(value) if *byte == b'@' => {
+                add_value(text, *value)?;
+                next += 1;
+            }
+            _ => text.push(*byte)?,
+        }
+    }
+    Ok(())
+}
+
+fn add_value(text: &mut Vec<u8>, value: Value) -> Result<(), AllocError> {
+    match value {
+        Value::Text(bytes) => put(text, bytes),
+        Value::Padded(width, bytes) => add_padded(text, width, bytes),
+        Value::Byte(byte) => put(text, &[byte]),
+        Value::Number(number) | Value::Known(Some(number)) => add_number(text, b"", number, b""),
+        Value::Quoted(Some(bytes)) => add_quoted(text, bytes),
+        Value::Known(None) | Value::Quoted(None) => put(text, b"null"),
+        Value::Level(level) => add_level(text, level),
+        Value::Stage(stage) => add_stage(text, stage),
+        Value::Status(status) => add_status(text, status),
+        Value::Wish(wish) => add_wish(text, wish),
+        Value::Clock(time) => add_clock(text, b"", time, b""),
+        Value::Time(time) => add_time_of_day(text, time),
+    }
+}
+
+/// Adds what a wish is for.
+fn add_wish(text: &mut Vec<u8>, wish: Wish) -> Result<(), AllocError> {
+    match wish {
+        Wish::Reexec => put(text, b"execute init anew"),
+        Wish::Reread => put(text, b"read inittab again"),
+        Wish::Level(level) => {
+            put(text, b"go to ")?;
+            add_level(text, level)
+        }
+        Wish::News => put(text, b"call entries"),
+    }
+}

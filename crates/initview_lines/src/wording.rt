@@ -1,0 +1,591 @@
+//! How lines are worded. `tools/rows/initview` tests it; no clause says a word.
+
+use crate::changes::Change;
+use crate::happenings::News;
+use crate::json;
+use crate::lines::{Head, IdRow, Line, Reason, RowFormat};
+use crate::phrases::{Value, fill};
+use crate::words::put;
+use init_words::{Act, ChildNumber, Id, Letter, Level, OrderKind, PowerKind, Stage};
+use initctl_frame::{Cause, HeardRequest};
+use respawn_limit::{HOLD, STARTS, WINDOW};
+use std::alloc::{AllocError, Global};
+use trace_events::Handed;
+use trace_view::Why;
+
+/// Lines in words, one after another.
+pub fn words_of(alloc: Global, lines: &[Line]) -> Result<Vec<u8>, AllocError> {
+    let mut text = Vec::new(alloc);
+    for line in lines {
+        add_line(&mut text, line)?;
+    }
+    Ok(text)
+}
+
+fn add_line(text: &mut Vec<u8>, line: &Line) -> Result<(), AllocError> {
+    match line {
+        Line::Head(RowFormat::Lines, head) => add_head(text, head),
+        Line::Head(RowFormat::Json, head) => json::add_head(text, head),
+        Line::Row(RowFormat::Lines, at) => add_row(text, at),
+        Line::Row(RowFormat::Json, at) => json::add_row(text, at),
+        Line::Left(RowFormat::Lines, id, number) => add_left(text, id, *number),
+        Line::Left(RowFormat::Json, id, number) => json::add_left(text, id, *number),
+        Line::Why(reason) => add_reason(text, reason),
+        Line::Advice(stage, act, why) => {
+            let advice = advice_of(*stage, *act, *why);
+            fill(text, b"  @\n", &[Value::Text(advice)])
+        }
+        Line::Stage(stage) => fill(text, b"@\n", &[Value::Stage(*stage)]),
+        Line::Change(id, act, change, child) => add_change(text, id, *act, *change, *child),
+        Line::Start(id, act, waits) => add_start(text, id, *act, *waits),
+        Line::CriticalPath => put(text, b"critical path\n"),
+        Line::OnPath(id, act, before) => add_on_path(text, id, *act, before),
+        Line::Reached(level, before) => add_reached(text, *level, before),
+        Line::Happened(time, news) => add_happened(text, *time, news),
+        Line::Text(bytes) => put(text, bytes.as_slice()),
+    }
+}
+
+/// The word of an action, or a dash.
+fn act_words(act: Option<Act>) -> &'static [u8] {
+    match act {
+        Some(act) => act.word(),
+        None => b"-",
+    }
+}
+
+/// Adds an id and an action, each in its column.
+fn add_columns(text: &mut Vec<u8>, id: &Id, act: Option<Act>) -> Result<(), AllocError> {
+    fill(
+        text,
+        b"@@",
+        &[
+            Value::Padded(9, id.as_bytes()),
+            Value::Padded(14, act_words(act)),
+        ],
+    )
+}
+
+fn add_head(text: &mut Vec<u8>, head: &Head) -> Result<(), AllocError> {
+    let settled: &[u8] = if head.settled { b", settled" } else { b"" };
+    fill(
+        text,
+        b"@@, clock @, @ s from TERM to KILL\n",
+        &[
+            Value::Stage(head.stage),
+            Value::Text(settled),
+            Value::Clock(head.time),
+            Value::Number(head.grace),
+        ],
+    )?;
+    if let Some(level) = head.goal {
+        fill(text, b"@ is asked for\n", &[Value::Level(level)])?;
+    }
+    match head.wish {
+        Some(wish) => fill(text, b"a request stands: @\n", &[Value::Wish(wish)]),
+        None => Ok(()),
+    }
+}
+
+fn add_row(text: &mut Vec<u8>, at: &IdRow) -> Result<(), AllocError> {
+    add_columns(text, &at.id, at.row.act)?;
+    match at.row.child {
+        Some(number) => add_child(text, at, number)?,
+        None => add_waits(text, at)?,
+    }
+    put(text, b"\n")
+}
+
+pub(crate) fn child_state(excluded: bool) -> &'static [u8] {
+    if excluded { b"stopping" } else { b"running" }
+}
+
+fn add_child(text: &mut Vec<u8>, at: &IdRow, number: ChildNumber) -> Result<(), AllocError> {
+    let state = child_state(at.row.excluded);
+    fill(
+        text,
+        b"@pid @",
+        &[Value::Padded(12, state), Value::Number(u64::from(number.0))],
+    )?;
+    add_births(text, at)?;
+    add_stopping(text, at)
+}
+
+/// Adds since when a child runs, and which of its id it is.
+fn add_births(text: &mut Vec<u8>, at: &IdRow) -> Result<(), AllocError> {
+    match (at.runs, at.row.births) {
+        (Some(seconds), Some(births)) => fill(
+            text,
+            b", @ s, start @",
+            &[Value::Number(seconds), Value::Number(births.count)],
+        ),
+        _ => Ok(()),
+    }
+}
+
+/// Adds how far the stopping of a child has come.
+fn add_stopping(text: &mut Vec<u8>, at: &IdRow) -> Result<(), AllocError> {
+    match at.stopping {
+        Some(stopping) => fill(
+            text,
+            b", TERM @ s ago, KILL in @ s",
+            &[Value::Number(stopping.term), Value::Number(stopping.kill)],
+        ),
+        None if at.row.excluded => put(text, b", no TERM yet"),
+        None => Ok(()),
+    }
+}
+
+/// The state of an id that has no child, in a word or two.
+pub(crate) fn state_word(why: Why) -> &'static [u8] {
+    match why {
+        Why::NoEntry => b"no entry",
+        Why::NeverStarts => b"never",
+        Why::NoStage => b"not yet",
+        Why::RanBefore | Why::WasStarted => b"done",
+        Why::StageOver | Why::OtherStage => b"not here",
+        Why::StageOwed(_) | Why::EarlierOwed(_) => b"waiting",
+        Why::ExcludedKept(_) | Why::WishStands(_) => b"waiting",
+        Why::OrderOpen(OrderKind::Start) => b"starting",
+        Why::ChildKept(_) | Why::OrderOpen(_) => b"ended",
+        Why::NotCalled => b"not called",
+        Why::Held(_) => b"held",
+        Why::WindowFull => b"held next",
+        Why::Nothing => b"due",
+    }
+}
+
+fn add_waits(text: &mut Vec<u8>, at: &IdRow) -> Result<(), AllocError> {
+    fill(text, b"@", &[Value::Padded(12, state_word(at.row.why))])?;
+    add_waited(text, at)?;
+    add_last(text, at)
+}
+
+/// Adds what is waited for.
+fn add_waited(text: &mut Vec<u8>, at: &IdRow) -> Result<(), AllocError> {
+    match at.row.why {
+        Why::EarlierOwed(id) | Why::StageOwed(id) => {
+            fill(text, b"for @; ", &[Value::Text(id.as_bytes())])
+        }
+        Why::ExcludedKept(child) => fill(
+            text,
+            b"for @ (pid @) to end; ",
+            &[
+                Value::Text(child.id.as_bytes()),
+                Value::Number(u64::from(child.number.0)),
+            ],
+        ),
+        Why::WishStands(_) => put(text, b"for a request; "),
+        Why::Held(_) => fill(text, b"@ s more; ", &[Value::Known(at.held)]),
+        _ => Ok(()),
+    }
+}
+
+/// Adds how an id last ended, and how long ago.
+fn add_last(text: &mut Vec<u8>, at: &IdRow) -> Result<(), AllocError> {
+    match (at.ended, at.row.last) {
+        (Some(seconds), Some(ending)) => fill(
+            text,
+            b"@, @ s ago",
+            &[Value::Status(ending.status), Value::Number(seconds)],
+        ),
+        _ => put(text, b"never ran"),
+    }
+}
+
+fn add_left(text: &mut Vec<u8>, id: &Id, number: Option<ChildNumber>) -> Result<(), AllocError> {
+    match number {
+        Some(number) => fill(
+            text,
+            b"@ @\n",
+            &[
+                Value::Text(id.as_bytes()),
+                Value::Number(u64::from(number.0)),
+            ],
+        ),
+        None => fill(text, b"@ ?\n", &[Value::Text(id.as_bytes())]),
+    }
+}
+
+fn add_reason(text: &mut Vec<u8>, reason: &Reason) -> Result<(), AllocError> {
+    fill(text, b"@: ", &[Value::Text(reason.at.id.as_bytes())])?;
+    add_why(text, reason)?;
+    add_stopping(text, &reason.stopped)?;
+    match reason.line {
+        Some(line) => fill(
+            text,
+            b" (@:@)\n",
+            &[Value::Text(reason.trace.as_slice()), Value::Number(line)],
+        ),
+        None => put(text, b"\n"),
+    }
+}
+
+fn add_why(text: &mut Vec<u8>, reason: &Reason) -> Result<(), AllocError> {
+    let row = &reason.at.row;
+    match row.why {
+        Why::NoEntry => put(text, b"the table in force has no such entry"),
+        Why::NeverStarts => fill(
+            text,
+            b"its action, @, starts nothing",
+            &[Value::Text(act_words(row.act))],
+        ),
+        Why::NoStage => put(text, b"no stage has begun"),
+        Why::RanBefore => fill(
+            text,
+            b"it ran once, before @",
+            &[Value::Stage(reason.stage)],
+        ),
+        Why::StageOver => put(text, b"its action starts it before the first level alone"),
+        Why::StageOwed(id) => fill(text, b"init waits for @", &[Value::Text(id.as_bytes())]),
+        Why::OtherStage => fill(
+            text,
+            b"it doesn't start in @",
+            &[Value::Stage(reason.stage)],
+        ),
+        Why::ChildKept(number) => add_kept(text, &reason.at, number),
+        Why::OrderOpen(ask) => put(text, order_words(ask)),
+        Why::NotCalled => put(
+            text,
+            b"nothing has called it since the level or the table changed",
+        ),
+        Why::WasStarted => {
+            put(
+                text,
+                b"it was started already since the level or its line changed: ",
+            )?;
+            add_last(text, &reason.at)
+        }
+        Why::EarlierOwed(id) => fill(
+            text,
+            b"init waits for @, which stands before it",
+            &[Value::Text(id.as_bytes())],
+        ),
+        Why::ExcludedKept(child) => fill(
+            text,
+            b"@ (pid @) may not live in @, and has to end first",
+            &[
+                Value::Text(child.id.as_bytes()),
+                Value::Number(u64::from(child.number.0)),
+                Value::Stage(reason.stage),
+            ],
+        ),
+        Why::WishStands(wish) => fill(
+            text,
+            b"a request is carried out first: @",
+            &[Value::Wish(wish)],
+        ),
+        Why::Held(_) => fill(
+            text,
+            b"it is held for @ s more: it was started ten times in two minutes",
+            &[Value::Known(reason.at.held)],
+        ),
+        Why::WindowFull => put(
+            text,
+            b"it was started ten times in two minutes: it is held next",
+        ),
+        Why::Nothing => put(text, b"nothing keeps it: its start is due"),
+    }
+}
+
+/// Adds that a child is kept: it runs, or its end isn't told.
+fn add_kept(text: &mut Vec<u8>, at: &IdRow, number: ChildNumber) -> Result<(), AllocError> {
+    let number = [Value::Number(u64::from(number.0))];
+    if at.row.child.is_none() {
+        return fill(
+            text,
+            b"its child @ has ended, which init isn't told yet",
+            &number,
+        );
+    }
+    fill(text, b"its child runs: pid @", &number)?;
+    add_births(text, at)
+}
+
+fn order_words(ask: OrderKind) -> &'static [u8] {
+    match ask {
+        OrderKind::Start => b"it is being started",
+        OrderKind::Look => b"init looks whether its child has ended",
+        OrderKind::Term => b"TERM is being sent to its child",
+        OrderKind::Kill => b"KILL is being sent to its child",
+    }
+}
+
+/// What to do.
+fn advice_of(stage: Option<Stage>, act: Option<Act>, why: Why) -> &'static [u8] {
+    match why {
+        Why::NoEntry => b"add its line to the inittab, or mend it, and run telinit q",
+        Why::NeverStarts => b"give its line another action, and run telinit q",
+        Why::NoStage => b"wait for stage sysinit",
+        Why::RanBefore | Why::StageOver => b"run it by hand, or boot again",
+        Why::OtherStage => other_advice(stage, act),
+        Why::ChildKept(_) => kept_advice(act),
+        Why::OrderOpen(_) => b"wait for the answer",
+        Why::NotCalled => call_advice(),
+        Why::WasStarted => again_advice(act),
+        Why::StageOwed(_) | Why::EarlierOwed(_) | Why::ExcludedKept(_) => {
+            b"wait: init sends TERM, and KILL when the grace is over"
+        }
+        Why::Held(_) => b"see why its children end so soon; telinit q ends the hold",
+        Why::WindowFull => b"see why its children end so soon",
+        Why::WishStands(_) | Why::Nothing => b"wait for init's next turn",
+    }
+}
+
+/// What to do about an entry of another stage. Where its action names no level, the way to another one starts it.
+fn other_advice(stage: Option<Stage>, act: Option<Act>) -> &'static [u8] {
+    match (stage, act) {
+        (Some(Stage::Run(_)), Some(act)) if act.ignores_levels() => b"go to another level",
+        (Some(Stage::Run(_)), _) => {
+            b"go to a level that its line names, or name this one and run telinit q"
+        }
+        _ => b"wait for the first level",
+    }
+}
+
+/// What to do about a child that runs, for which init may wait.
+fn kept_advice(act: Option<Act>) -> &'static [u8] {
+    match act {
+        Some(act) if act.is_waited() => b"wait for its end, or end it",
+        _ => b"end the child to have it started anew, where its action says so",
+    }
+}
+
+fn call_advice() -> &'static [u8] {
+    b"call it by telinit a, b or c, or by news of the power, as its action says"
+}
+
+/// What to do about an entry that was started, of itself or by a call.
+fn again_advice(act: Option<Act>) -> &'static [u8] {
+    match act {
+        Some(act) if !act.is_wanted(true, true, false) => call_advice(),
+        _ => b"go to another level and back to have it started again",
+    }
+}
+
+fn change_words(change: Change) -> &'static [u8] {
+    match change {
+        Change::Keep => b"keep",
+        Change::NextStart => b"changed at its next start",
+        Change::Stop => b"stop",
+        Change::StopStart => b"stop and start",
+        Change::Start => b"start",
+        Change::NotAgain => b"not again",
+        Change::NotHere => b"not here",
+    }
+}
+
+fn add_change(
+    text: &mut Vec<u8>,
+    id: &Id,
+    act: Option<Act>,
+    change: Change,
+    child: Option<ChildNumber>,
+) -> Result<(), AllocError> {
+    let words = Value::Text(change_words(change));
+    add_columns(text, id, act)?;
+    match child {
+        Some(number) => fill(
+            text,
+            b"@  @\n",
+            &[words, Value::Number(u64::from(number.0))],
+        ),
+        None => fill(text, b"@\n", &[words]),
+    }
+}
+
+fn add_start(text: &mut Vec<u8>, id: &Id, act: Act, waits: bool) -> Result<(), AllocError> {
+    add_columns(text, id, Some(act))?;
+    if waits {
+        put(text, b"init waits for its end\n")
+    } else {
+        put(text, b"init goes on\n")
+    }
+}
+
+/// The id for whose end is waited.
+fn behind(before: &Option<Id>) -> Value<'_> {
+    match before {
+        Some(id) => Value::Text(id.as_bytes()),
+        None => Value::Text(b"nothing"),
+    }
+}
+
+fn add_on_path(
+    text: &mut Vec<u8>,
+    id: &Id,
+    act: Act,
+    before: &Option<Id>,
+) -> Result<(), AllocError> {
+    add_columns(text, id, Some(act))?;
+    fill(text, b"waits for @\n", &[behind(before)])
+}
+
+fn add_reached(text: &mut Vec<u8>, level: Level, before: &Option<Id>) -> Result<(), AllocError> {
+    fill(
+        text,
+        b"@                waits for @\n",
+        &[Value::Level(level), behind(before)],
+    )
+}
+
+fn add_happened(text: &mut Vec<u8>, time: u64, news: &News) -> Result<(), AllocError> {
+    fill(text, b"@ ", &[Value::Clock(time)])?;
+    add_news(text, news)?;
+    put(text, b"\n")
+}
+
+fn add_news(text: &mut Vec<u8>, news: &News) -> Result<(), AllocError> {
+    match news {
+        News::Table(count) => {
+            let entries: &[u8] = if *count == 1 { b"entry" } else { b"entries" };
+            fill(
+                text,
+                b"inittab read: @ @",
+                &[Value::Number(*count as u64), Value::Text(entries)],
+            )
+        }
+        News::NotRead => put(text, b"inittab could not be read again"),
+        News::Entered(stage) => fill(text, b"entering @", &[Value::Stage(Some(*stage))]),
+        News::Settled(level) => fill(text, b"@ settled", &[Value::Level(*level)]),
+        News::Called(letter) => fill(text, b"calling the entries of @", &[code_of(*letter)]),
+        News::Power(kind) => fill(
+            text,
+            b"@: calling the entries for it",
+            &[Value::Text(power_words(*kind))],
+        ),
+        News::Held(id) => fill(
+            text,
+            b"@ held for @ s: started @ times in @ s",
+            &[
+                Value::Text(id.as_bytes()),
+                Value::Number(HOLD),
+                Value::Number(STARTS as u64),
+                Value::Number(WINDOW),
+            ],
+        ),
+        News::Born(id, number) => fill(
+            text,
+            b"@ started, @",
+            &[
+                Value::Text(id.as_bytes()),
+                Value::Number(u64::from(number.0)),
+            ],
+        ),
+        News::NotBorn(id) => fill(
+            text,
+            b"@ could not be started",
+            &[Value::Text(id.as_bytes())],
+        ),
+        News::Ended(id, number, status) => fill(
+            text,
+            b"@ ended, @: @",
+            &[
+                Value::Text(id.as_bytes()),
+                Value::Number(u64::from(number.0)),
+                Value::Status(Some(*status)),
+            ],
+        ),
+        News::NotSeen(id) => fill(
+            text,
+            b"@ could not be looked at",
+            &[Value::Text(id.as_bytes())],
+        ),
+        News::Sent(id, order, child) => add_signal(text, b"@ sent to @", id, *order, *child),
+        News::NotSent(id, order, child) => {
+            add_signal(text, b"@ could not be sent to @", id, *order, *child)
+        }
+        News::Got(request) => add_request(text, request),
+        News::Handed(how) => add_handed(text, *how),
+    }
+}
+
+fn code_of(letter: Letter) -> Value<'static> {
+    Value::Byte(letter.code())
+}
+
+fn power_words(kind: PowerKind) -> &'static [u8] {
+    match kind {
+        PowerKind::Fail => b"the power fails",
+        PowerKind::FailNow => b"the battery is almost empty",
+        PowerKind::Ok => b"the power is back",
+    }
+}
+
+fn signal_word(order: Option<OrderKind>) -> &'static [u8] {
+    match order {
+        Some(OrderKind::Term) => b"TERM",
+        Some(OrderKind::Kill) => b"KILL",
+        _ => b"a signal",
+    }
+}
+
+/// Adds what became of a signal to the child of an id.
+fn add_signal(
+    text: &mut Vec<u8>,
+    phrase: &[u8],
+    id: &Id,
+    order: Option<OrderKind>,
+    child: Option<ChildNumber>,
+) -> Result<(), AllocError> {
+    let word = Value::Text(signal_word(order));
+    fill(text, phrase, &[word, Value::Text(id.as_bytes())])?;
+    match child {
+        Some(number) => fill(text, b", @", &[Value::Number(u64::from(number.0))]),
+        None => Ok(()),
+    }
+}
+
+fn cause_words(cause: Cause) -> &'static [u8] {
+    match cause {
+        Cause::Magic => b"no magic number",
+        Cause::Unknown => b"an unknown command",
+        Cause::LeftOut => b"a command that init leaves out",
+        Cause::Character => b"no character of telinit",
+    }
+}
+
+fn add_request(text: &mut Vec<u8>, request: &HeardRequest) -> Result<(), AllocError> {
+    match request {
+        HeardRequest::Level(level, grace) => fill(
+            text,
+            b"request: @, @ s from TERM to KILL",
+            &[Value::Level(*level), Value::Number(u64::from(*grace))],
+        ),
+        HeardRequest::Call(letter) => fill(
+            text,
+            b"request: call the entries of @",
+            &[code_of(*letter)],
+        ),
+        HeardRequest::Reload => put(text, b"request: read inittab again"),
+        HeardRequest::Reexec => put(text, b"request: execute init anew"),
+        HeardRequest::Power(kind) => {
+            fill(text, b"request: @", &[Value::Text(power_words(*kind))])
+        }
+        HeardRequest::Nothing(why) => fill(
+            text,
+            b"request passed over: it has @",
+            &[Value::Text(cause_words(*why))],
+        ),
+    }
+}
+
+fn add_handed(text: &mut Vec<u8>, how: Handed) -> Result<(), AllocError> {
+    match how {
+        Handed::Whole => put(text, b"init executed itself anew"),
+        Handed::Cut(bytes) => fill(
+            text,
+            b"init could not execute itself anew: only @ bytes of its state came back",
+            &[Value::Number(bytes)],
+        ),
+        Handed::Older(generation) => fill(
+            text,
+            b"init could not execute itself anew: the state of generation @ came back",
+            &[Value::Number(generation)],
+        ),
+        Handed::Failed => put(
+            text,
+            b"init could not execute itself anew: its state was not handed over",
+        ),
+    }
+}
