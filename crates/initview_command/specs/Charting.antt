@@ -2,8 +2,9 @@
 use Rattle.std.specs.Prelude.{ℕ, ◌+◌, nat_le, if◌then◌else◌, List, Option, Some, None}
 use Rattle.text_lines.specs.Numbers.{number_read}
 use Rattle.trace_events.specs.Event.{Event}
-use Rattle.initview_timeline.specs.Chart.{chart_text}
-use Rattle.initview_timeline.specs.Svg.{svg_text}
+use Rattle.initview_lines.specs.declared.lines.Line.{Line}
+use Rattle.initview_lines.specs.declared.lines.Line.TheVariants as line
+use Rattle.initview_timeline.specs.Rows.{drawn_of, timeline_of}
 use Rattle.initview_command.specs.declared.charting.Form.{Form}
 use Rattle.initview_command.specs.declared.charting.Form.TheVariants.{Lines, Svg}
 use Rattle.initview_command.specs.declared.charting.TheConstants.{WIDTH_LEAST, WIDTH_LIMIT}
@@ -20,6 +21,6 @@ abbrev pub lines_of : List ℕ → Option Form
 lines_of word = lines_by (number_read (WIDTH_LIMIT + 1) word)
 
 -- what is drawn of a trace
-abbrev pub drawing : Form → List Event → List ℕ
-drawing (Lines width) past = chart_text width past
-drawing Svg past = svg_text past
+abbrev pub drawing : Form → List Event → Line
+drawing (Lines width) past = line.Chart width (timeline_of (drawn_of past))
+drawing Svg past = line.Svg (timeline_of (drawn_of past))

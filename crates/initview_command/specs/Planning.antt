@@ -1,20 +1,19 @@
 -- What is written of the plan of an inittab, and of how long what init waits for took in a trace.
-use Rattle.std.specs.Prelude.{ℕ, List, [], ◌∷◌, ◌++◌, Option}
+use Rattle.std.specs.Prelude.{ℕ, List, ◌++◌, Option}
 use Rattle.init_words.specs.Parts.{NamedText}
 use Rattle.init_words.specs.declared.entries.Entry.{Entry}
 use Rattle.init_words.specs.declared.levels.Level.{Level}
 use Rattle.trace_events.specs.Event.{Event}
 use Rattle.trace_view.specs.declared.text_views.ViewEnd.{ViewEnd}
 use Rattle.initview_lines.specs.declared.lines.Line.{Line}
-use Rattle.initview_lines.specs.declared.lines.Line.TheVariants as line
 use Rattle.initview_timeline.specs.Marks.{marks_of}
-use Rattle.initview_timeline.specs.Times.{times_text}
+use Rattle.initview_lines.specs.Times.{times_in}
 use Rattle.initview_command.specs.Showing.{stop_status}
 use Rattle.initview_command.specs.Tables.{level_asked, plan_by, table_in}
 
 -- the plan, and behind it the times, by the level, the inittab and the past of the trace
 abbrev pub timing_said : Option Level → List Entry → List Event → List Line
-timing_said level table past = plan_by level table ++ line.Text (times_text (level_asked level table) table (marks_of past)) ∷ []
+timing_said level table past = plan_by level table ++ times_in (level_asked level table) table (marks_of past)
 
 abbrev pub timing_answer : Option Level → List Entry → Option ViewEnd → List Event → List Line × ℕ
 timing_answer level table stop past = (timing_said level table past, stop_status stop)

@@ -3,16 +3,14 @@
 ghost use Rattle.std.specs.Prelude.{◌≡◌, List, IfOk};
 ghost use Rattle.trace_events.specs.Event.{Event};
 ghost use Rattle.trace_view.specs.Viewing.{Viewed};
-ghost use Rattle.initview_timeline.specs.Chart.{chart_text};
 ghost use Rattle.initview_timeline.specs.Marks.{seen_of};
 ghost use Rattle.initview_timeline.specs.Rows.{drawn_of, scene_of};
-ghost use Rattle.initview_timeline.specs.Svg.{svg_text};
 ghost use Rattle.initview_command.specs.Charting.{drawing, lines_of};
 
 use crate::showing::{Answer, Query, TraceOutcome, stop_status};
 use init_words::Memory;
-use initview_lines::text_line;
-use initview_timeline::{Marks, Seen, chart_lines, svg_text};
+use initview_lines::Line;
+use initview_timeline::{Marks, Seen, timeline_of};
 use std::alloc::{AllocError, Global};
 use text_lines::read_below;
 use trace_view::{SeenText, TraceView};
@@ -60,48 +58,27 @@ fn seen_by<'a>(marks: &'a Marks, view: &'a TraceView) -> Seen<'a>
     }
 }
 
-fn draw_lines(
-    alloc: Global,
-    width: u64,
-    marks: &Marks,
-    view: &TraceView,
-) -> Result<Vec<u8>, AllocError>
-    ensures { IfOk result (λ text. (past : List Event) → Viewed view.now past
-        → marks.now ≡ seen_of past → text.items ≡ chart_text width past) }
+/// A timeline in its form.
+fn draw(alloc: Global, form: Form, marks: &Marks, view: &TraceView) -> Result<Line, AllocError>
+    ensures { IfOk result (λ line. (past : List Event) → Viewed view.now past
+        → marks.now ≡ seen_of past → line ≡ drawing form past) }
 {
-    let text = chart_lines(alloc, width, &seen_by(marks, view))?;
-    Ok(text)
-}
-
-fn draw_picture(alloc: Global, marks: &Marks, view: &TraceView) -> Result<Vec<u8>, AllocError>
-    ensures { IfOk result (λ text. (past : List Event) → Viewed view.now past
-        → marks.now ≡ seen_of past → text.items ≡ svg_text past) }
-{
-    let text = svg_text(alloc, &seen_by(marks, view))?;
-    Ok(text)
-}
-
-/// A timeline, drawn.
-fn draw(alloc: Global, form: Form, marks: &Marks, view: &TraceView) -> Result<Vec<u8>, AllocError>
-    ensures { IfOk result (λ text. (past : List Event) → Viewed view.now past
-        → marks.now ≡ seen_of past → text.items ≡ drawing form past) }
-{
-    match form {
-        Form::Lines(width) => draw_lines(alloc, width, marks, view),
-        Form::Svg => draw_picture(alloc, marks, view),
-    }
+    let timeline = timeline_of(alloc, &seen_by(marks, view))?;
+    Ok(match form {
+        Form::Lines(width) => Line::Chart(width, timeline),
+        Form::Svg => Line::Svg(timeline),
+    })
 }
 
 impl Query for Form {
     ghost use Rattle.std.specs.Prelude.{◌∷◌, []};
-    ghost use Rattle.initview_lines.specs.declared.lines.Line.TheVariants as line;
     ghost use Rattle.initview_command.specs.Charting.{drawing};
     ghost use Rattle.initview_command.specs.Showing.{stop_status};
 
     type Seen = Marks;
 
     ghost gives = { λ form path writer stop past.
-        (line.Text (drawing form past) ∷ [], stop_status stop) };
+        (drawing form past ∷ [], stop_status stop) };
 
     fn answer(
         &self,
@@ -109,7 +86,8 @@ impl Query for Form {
         text: &mut SeenText<Marks>,
         shown: &TraceOutcome,
     ) -> Result<Answer, Memory> {
-        let drawn = draw(alloc, *self, text.seen(), text.view())?;
-        Ok((text_line(alloc, drawn)?, stop_status(shown.stop)))
+        let mut lines = Vec::new(alloc);
+        lines.push(draw(alloc, *self, text.seen(), text.view())?)?;
+        Ok((lines, stop_status(shown.stop)))
     }
 }

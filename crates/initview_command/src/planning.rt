@@ -10,8 +10,8 @@ use crate::tables::{level_asked, plan_of, table_in};
 use crate::with_files::NeedsFiles;
 use init_words::{Level, Memory, Part};
 use inittab_text::{Table, TableFault};
-use initview_lines::{Bytes, Line};
-use initview_timeline::{Marks, TimelineMark, add_path_times};
+use initview_lines::{Line, add_path_times};
+use initview_timeline::{Marks, TimelineMark};
 use std::alloc::{AllocError, Global};
 use std::io::Write;
 use trace_view::SeenText;
@@ -40,9 +40,7 @@ fn timed_plan(
         → lines.items ≡ timing_said level table.now past) }
 {
     let mut lines = plan_of(alloc, level, table)?;
-    let mut text = Vec::new(alloc);
-    add_path_times(&mut text, alloc, level_asked(level, table), table, marks)?;
-    lines.push(Line::Text(Bytes::of(text)))?;
+    add_path_times(&mut lines, alloc, level_asked(level, table), table, marks)?;
     Ok(lines)
 }
 

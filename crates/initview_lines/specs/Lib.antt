@@ -9,4 +9,5 @@ pub mod Reasons
 pub mod Reloads
 pub mod Rows
 pub mod Saying
+pub mod Times
 pub mod Words

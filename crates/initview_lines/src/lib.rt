@@ -4,7 +4,9 @@
 #![tactic(auto)]
 
 mod changes;
+mod chart;
 mod days;
+mod dimensions;
 mod happenings;
 mod json;
 mod left;
@@ -16,21 +18,22 @@ mod reasons;
 mod reloads;
 mod rows;
 mod sayers;
+mod svg;
 mod texts;
+mod times;
 mod wording;
 mod words;
 
 pub use changes::{Change, change_lines};
-pub use days::{add_day, add_hours, add_moment};
 pub use happenings::{News, add_happening};
 pub use left::{is_starting, left_lines};
 pub use lines::{Head, IdRow, Line, Reason, RowFormat, Stopping, text_line};
 pub use pieces::take_lines;
-pub use plans::{is_on_path, plan_lines};
+pub use plans::{plan_lines};
 pub use reasons::{Chain, chain_of, why_lines};
 pub use reloads::{law_of_reloads, reload_lines};
 pub use rows::{row_line, status_lines};
 pub use sayers::{SayFault, Says};
 pub use texts::Bytes;
+pub use times::{Took, add_path_times};
 pub use wording::words_of;
-pub use words::{add_number, add_padded, add_stage, add_status, put};

@@ -6,7 +6,9 @@ ghost use Rattle.initview_lines.specs.declared.lines.Line.TheVariants as line;
 use crate::changes::Change;
 use crate::happenings::News;
 use crate::texts::Bytes;
+use crate::times::Took;
 use init_words::{Act, ChildNumber, Id, Level, Stage};
+use initview_timeline::Timeline;
 use std::alloc::{AllocError, Global};
 use trace_view::{Row, Why, Wish};
 
@@ -95,8 +97,18 @@ pub enum Line {
     OnPath(Id, Act, Option<Id>),
     /// The level is reached, behind the end of an entry.
     Reached(Level, Option<Id>),
+    /// What follows is how long each entry of the critical path took in a trace.
+    PathTimes,
+    /// How long an entry of it took.
+    Took(Id, Act, Took),
+    /// How long they all took on the way to the level.
+    Whole(Level, u64),
     /// What happened at a time.
     Happened(u64, News),
+    /// A timeline, in lines of so many columns.
+    Chart(u64, Timeline),
+    /// A timeline, as a picture.
+    Svg(Timeline),
     /// A text as it is.
     Text(Bytes),
 }

@@ -54,7 +54,7 @@ fn add_stages(lines: &mut Vec<Line>, level: Level, entries: &[Entry]) -> Result<
 }
 
 /// The entry is on the critical path of a stage.
-pub fn is_on_path(stage: Stage, entry: &Entry) -> bool
+pub(crate) fn is_on_path(stage: Stage, entry: &Entry) -> bool
     ensures { result ≡ is_on_path stage entry.now }
 {
     is_started(stage, entry) && waited(entry)

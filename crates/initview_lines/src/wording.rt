@@ -1,10 +1,13 @@
 //! How lines are worded. `tools/rows/initview` tests it; no clause says a word.
 
 use crate::changes::Change;
+use crate::chart::add_chart;
 use crate::happenings::News;
 use crate::json;
 use crate::lines::{Head, IdRow, Line, Reason, RowFormat};
 use crate::phrases::{Value, fill};
+use crate::svg::add_svg;
+use crate::times::Took;
 use crate::words::put;
 use init_words::{Act, ChildNumber, Id, Letter, Level, OrderKind, PowerKind, Stage};
 use initctl_frame::{Cause, HeardRequest};
@@ -17,12 +20,12 @@ use trace_view::Why;
 pub fn words_of(alloc: Global, lines: &[Line]) -> Result<Vec<u8>, AllocError> {
     let mut text = Vec::new(alloc);
     for line in lines {
-        add_line(&mut text, line)?;
+        add_line(&mut text, alloc, line)?;
     }
     Ok(text)
 }
 
-fn add_line(text: &mut Vec<u8>, line: &Line) -> Result<(), AllocError> {
+fn add_line(text: &mut Vec<u8>, alloc: Global, line: &Line) -> Result<(), AllocError> {
     match line {
         Line::Head(RowFormat::Lines, head) => add_head(text, head),
         Line::Head(RowFormat::Json, head) => json::add_head(text, head),
@@ -41,8 +44,27 @@ fn add_line(text: &mut Vec<u8>, line: &Line) -> Result<(), AllocError> {
         Line::CriticalPath => put(text, b"critical path\n"),
         Line::OnPath(id, act, before) => add_on_path(text, id, *act, before),
         Line::Reached(level, before) => add_reached(text, *level, before),
+        Line::PathTimes => put(text, b"critical path in the trace\n"),
+        Line::Took(id, act, took) => add_took(text, id, *act, *took),
+        Line::Whole(level, seconds) => {
+            let level = [b'l', b'e', b'v', b'e', b'l', b' ', level.code()];
+            let columns = [Value::Padded(23, &level), Value::Number(*seconds)];
+            fill(text, b"@@ s\n", &columns)
+        }
         Line::Happened(time, news) => add_happened(text, *time, news),
+        Line::Chart(width, timeline) => add_chart(text, alloc, *width, timeline),
+        Line::Svg(timeline) => add_svg(text, timeline),
         Line::Text(bytes) => put(text, bytes.as_slice()),
+    }
+}
+
+fn add_took(text: &mut Vec<u8>, id: &Id, act: Act, took: Took) -> Result<(), AllocError> {
+    add_columns(text, id, Some(act))?;
+    match took {
+        Took::NotStarted => put(text, b"was not started\n"),
+        Took::RunsStill => put(text, b"runs still\n"),
+        Took::Seconds(seconds) => fill(text, b"@ s\n", &[Value::Number(seconds)]),
+        Took::Longest(seconds) => fill(text, b"@ s, the longest\n", &[Value::Number(seconds)]),
     }
 }
 

@@ -1,9 +1,6 @@
-pub mod Chart
 pub mod Frames
 pub mod Laws
 pub mod Lives
 pub mod Marks
 pub mod Pieces
 pub mod Rows
-pub mod Svg
-pub mod Times

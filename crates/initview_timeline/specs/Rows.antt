@@ -12,7 +12,6 @@ use Rattle.respawn_limit.specs.declared.TheConstants.{HOLD}
 use Rattle.trace_events.specs.Event.{Event}
 use Rattle.trace_events.specs.Past.{stage_of, table_of, time_of}
 use Rattle.trace_view.specs.Rows.{is_settled_now}
-use Rattle.initview_timeline.specs.declared.frames.Frame.{Frame}
 use Rattle.initview_timeline.specs.declared.lives.Life.{Life}
 use Rattle.initview_timeline.specs.declared.marks.Shown.{Shown}
 use Rattle.initview_timeline.specs.declared.marks.Shown.TheVariants.{Entered, Born, NotBorn, Ended, Sent, Held}
@@ -56,10 +55,6 @@ drawn_of past = record {
   start = start_of past;
   end = time_of past;
 }
-
--- from the first reading of the clock up to the last
-abbrev pub frame_of : Scene → ℕ → Frame
-frame_of s last = record { start = unwrap_or s.start s.end; end = s.end; last = last }
 
 -- the ids: of the table those that start of themselves in the stage in force, or to which something happened, in its
 -- order; and then the others to which something happened
@@ -182,7 +177,22 @@ stage_pieces s = record { bars = marks_bars s.end None s.marks; signs = marks_si
 abbrev pub is_ill : Row → Bool
 is_ill r = nat_lt 0 (length r.pieces.signs) || is_loud r.state
 
--- how many rows are ill
-abbrev pub ill_from : ℕ → List Row → ℕ
-ill_from n [] = n
-ill_from n (r ∷ rs) = ill_from (if is_ill r then plus n 1 else n) rs
+-- a timeline: from the first reading of the clock up to the last, with what is drawn of the stages and of each id, and how
+-- it all is at the end
+pub record TimelineParts : Type 0 where
+  pub start : ℕ
+  pub end : ℕ
+  pub stage : Option Stage
+  pub settled : Bool
+  pub stages : Drawing
+  pub rows : List Row
+
+abbrev pub timeline_of : Scene → TimelineParts
+timeline_of s = record {
+  start = unwrap_or s.start s.end;
+  end = s.end;
+  stage = s.stage;
+  settled = s.settled;
+  stages = stage_pieces s;
+  rows = rows_of s;
+}

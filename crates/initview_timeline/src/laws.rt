@@ -2,7 +2,7 @@
 
 ghost use Rattle.std.specs.Prelude.{◌≡◌, ◌≤◌, ◌<◌, ◌+◌, ◌*◌, ◌-◌, ◌^◌, ℕ, List, filter, length};
 ghost use Rattle.initview_timeline.specs.declared.frames.Frame.{Frame};
-ghost use Rattle.initview_timeline.specs.declared.looks.TheConstants.{BAR_LEAST};
+ghost use Rattle.initview_timeline.specs.declared.frames.TheConstants.{BAR_LEAST};
 ghost use Rattle.initview_timeline.specs.Frames.{left_of, place_of, span_of, width_of};
 ghost use Rattle.initview_timeline.specs.Laws.{births, is_fault, lives_drawn, own};
 ghost use Rattle.initview_timeline.specs.Lives.{lives_of};

@@ -1,21 +1,17 @@
 //! The timeline of a trace: the lives of each entry's children, what was sent to them, holds, failed starts and stages,
-//! over the trace's time, as lines of text or as a picture.
+//! over the trace's time. How it is drawn stands in `initview_lines`.
 #![tactic(auto)]
 
-mod chart;
 mod frames;
 mod laws;
 mod lives;
-mod looks;
 mod marks;
 mod pieces;
 mod rows;
-mod svg;
-mod times;
 
-pub use chart::chart_lines;
+pub use frames::{BAR_LEAST, Frame};
 pub use laws::law_of_rows;
+pub use lives::{Life, lives_of, marks_for};
 pub use marks::{Marks, Shown, TimelineMark};
-pub use rows::Seen;
-pub use svg::svg_text;
-pub use times::add_path_times;
+pub use pieces::{Drawn, Piece, Pieces};
+pub use rows::{Row, Seen, State, Timeline, is_ill, is_loud, timeline_of};

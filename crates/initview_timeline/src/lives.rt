@@ -71,7 +71,7 @@ pub(crate) fn is_for(id: &Option<Id>, what: Shown) -> bool
 }
 
 /// The marks of a row.
-pub(crate) fn marks_for(
+pub fn marks_for(
     alloc: Global,
     id: &Option<Id>,
     marks: &[TimelineMark],
@@ -137,7 +137,7 @@ fn take(lives: &mut Vec<Life>, mark: &TimelineMark) -> Result<(), AllocError>
 }
 
 /// The lives of an id's children, by its marks, the oldest first.
-pub(crate) fn lives_of(alloc: Global, marks: &[TimelineMark]) -> Result<Vec<Life>, AllocError>
+pub fn lives_of(alloc: Global, marks: &[TimelineMark]) -> Result<Vec<Life>, AllocError>
     ensures { IfOk result (λ lives. lives.items ≡ lives_of marks.now) }
 {
     let mut lives = Vec::new(alloc);

@@ -1,7 +1,7 @@
 //! The rows of a timeline.
 
 ghost use Rattle.std.specs.Prelude.{◌≡◌, ◌++◌, IfOk, OnOk};
-ghost use Rattle.initview_timeline.specs.Rows.{due_bars, frame_of, had_marks, ids_of, ill_from, is_begun, is_held, is_ill, is_loud, is_up, is_waited, of_stage, row_of, rows_of, scene_of, stage_pieces, starts_now, starts_there, state_after, state_from, state_of, table_ids, waits};
+ghost use Rattle.initview_timeline.specs.Rows.{due_bars, had_marks, ids_of, is_begun, is_held, is_ill, is_loud, is_up, is_waited, of_stage, row_of, rows_of, scene_of, stage_pieces, starts_now, starts_there, state_after, state_from, state_of, table_ids, timeline_of, waits};
 ghost use Rattle.initview_timeline.specs.declared.rows.State.TheVariants as state;
 
 use crate::frames::Frame;
@@ -11,6 +11,7 @@ use crate::pieces::{Drawn, Pieces, is_start, next_begin};
 use init_words::{Entry, Id, SignalKind, Stage, Status, starts, waited};
 use respawn_limit::HOLD;
 use std::alloc::{AllocError, Global};
+use std::marker::Model;
 
 /// What a timeline is drawn of: the table in force, the marks, the oldest first, the stage in force, and whether that is
 /// settled, the first reading of the clock and the last one, in seconds.
@@ -22,17 +23,6 @@ pub struct Seen<'a> {
     pub settled: bool,
     pub start: Option<u64>,
     pub end: u64,
-}
-
-/// From the first reading up to the last; what stands before the first one stands at it.
-pub(crate) fn frame_of(seen: &Seen, last: u64) -> Frame
-    ensures { result ≡ frame_of (scene_of seen.now) last }
-{
-    Frame {
-        start: seen.start.unwrap_or(seen.end),
-        end: seen.end,
-        last,
-    }
 }
 
 /// How an id is at the end; where it ended with no status its start failed.
@@ -52,6 +42,44 @@ pub struct Row {
     pub id: Id,
     pub state: State,
     pub pieces: Pieces,
+}
+
+/// A timeline, from the first reading of the clock up to the last, in seconds: what is drawn of the stages, the rows of the
+/// ids, and the stage in force at the end, and whether that is settled.
+#[derive(Drop)]
+pub struct Timeline {
+    pub start: u64,
+    pub end: u64,
+    pub stage: Option<Stage>,
+    pub settled: bool,
+    pub stages: Pieces,
+    pub rows: Vec<Row>,
+}
+
+impl Model for Timeline {
+    ghost use Rattle.initview_timeline.specs.Rows.{TimelineParts};
+
+    ghost Value = { TimelineParts };
+
+    ghost view = { λ t. record {
+      start = t.start;
+      end = t.end;
+      stage = t.stage;
+      settled = t.settled;
+      stages = t.stages;
+      rows = t.rows.items;
+    } };
+}
+
+impl Timeline {
+    /// Its times, in a drawing whose last place has this number.
+    pub fn frame(&self, last: u64) -> Frame {
+        Frame {
+            start: self.start,
+            end: self.end,
+            last,
+        }
+    }
 }
 
 /// What an entry starts of itself in a stage.
@@ -232,8 +260,7 @@ fn row_of(alloc: Global, seen: &Seen, id: Id) -> Result<Row, AllocError>
     Ok(Row { id, state, pieces })
 }
 
-/// The rows of the ids.
-pub(crate) fn rows_of(alloc: Global, seen: &Seen) -> Result<Vec<Row>, AllocError>
+fn rows_of(alloc: Global, seen: &Seen) -> Result<Vec<Row>, AllocError>
     ensures { IfOk result (λ rows. rows.items ≡ rows_of (scene_of seen.now)) }
 {
     let ids = ids_of(alloc, seen)?;
@@ -247,7 +274,7 @@ pub(crate) fn rows_of(alloc: Global, seen: &Seen) -> Result<Vec<Row>, AllocError
 }
 
 /// What is drawn of the stages.
-pub(crate) fn stage_pieces(alloc: Global, seen: &Seen) -> Result<Pieces, AllocError>
+fn stage_pieces(alloc: Global, seen: &Seen) -> Result<Pieces, AllocError>
     ensures { IfOk result (λ pieces. pieces ≡ stage_pieces (scene_of seen.now)) }
 {
     let mut pieces = Pieces::new(alloc);
@@ -256,7 +283,7 @@ pub(crate) fn stage_pieces(alloc: Global, seen: &Seen) -> Result<Pieces, AllocEr
 }
 
 /// It is one that an operator has to look at.
-pub(crate) fn is_loud(state: State) -> bool
+pub fn is_loud(state: State) -> bool
     ensures { result ≡ is_loud state }
 {
     match state {
@@ -267,23 +294,22 @@ pub(crate) fn is_loud(state: State) -> bool
 }
 
 /// Something of it went wrong, or is wrong at the end.
-pub(crate) fn is_ill(row: &Row) -> bool
+pub fn is_ill(row: &Row) -> bool
     ensures { result ≡ is_ill row.now }
 {
     !row.pieces.signs.is_empty() || is_loud(row.state)
 }
 
-/// How many are ill.
-pub(crate) fn ill(rows: &[Row]) -> u64
-    ensures { result ≡ ill_from 0 rows.now }
+/// The timeline of what was seen. Where the clock was never read it is one moment.
+pub fn timeline_of(alloc: Global, seen: &Seen) -> Result<Timeline, AllocError>
+    ensures { IfOk result (λ timeline. timeline ≡ timeline_of (scene_of seen.now)) }
 {
-    let mut ill = 0u64;
-    let mut rest = rows;
-    while let Some((row, others)) = rest.split_first() {
-        if is_ill(row) {
-            ill = ill.saturating_add(1);
-        }
-        rest = others;
-    }
-    ill
+    Ok(Timeline {
+        start: seen.start.unwrap_or(seen.end),
+        end: seen.end,
+        stage: seen.stage,
+        settled: seen.settled,
+        stages: stage_pieces(alloc, seen)?,
+        rows: rows_of(alloc, seen)?,
+    })
 }

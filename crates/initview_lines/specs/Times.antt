@@ -1,0 +1,65 @@
+-- How long what init waits for took in a trace, on the critical path to a level: each from its first birth to its end.
+use Rattle.std.specs.Prelude.{ℕ, ◌-◌, ◌&&◌, ◌==◌, max, nat_lt, if◌then◌else◌, List, [], ◌∷◌, ◌++◌, map, Option, Some, None}
+use Rattle.init_words.specs.declared.entries.Entry.{Entry}
+use Rattle.init_words.specs.declared.levels.Level.{Level}
+use Rattle.trace_laws.specs.Plans.{critical_path}
+use Rattle.trace_view.specs.declared.rows.Ending.{Ending}
+use Rattle.initview_lines.specs.declared.lines.Line.{Line}
+use Rattle.initview_lines.specs.declared.lines.Line.TheVariants as line
+use Rattle.initview_timeline.specs.declared.lives.Life.{Life}
+use Rattle.initview_timeline.specs.declared.marks.TimelineMark.{TimelineMark}
+use Rattle.initview_lines.specs.declared.times.Timed.{Timed}
+use Rattle.initview_lines.specs.declared.times.Took.{Took}
+use Rattle.initview_lines.specs.declared.times.Took.TheVariants as took
+use Rattle.initview_timeline.specs.Frames.{plus}
+use Rattle.initview_timeline.specs.Lives.{lives_of, marks_for}
+
+-- an entry, and the first life of its children
+abbrev pub first_of : List Life → Option Life
+first_of [] = None
+first_of (life ∷ lives) = Some life
+
+abbrev pub timed_of : List TimelineMark → Entry → Timed
+timed_of marks e = record { id = e.id; act = e.act; life = first_of (lives_of (marks_for (Some e.id) marks)) }
+
+-- the seconds of a life that ended, and 0 of any other
+abbrev pub seconds_to : ℕ → Option Ending → ℕ
+seconds_to from None = 0
+seconds_to from (Some ending) = ending.time - from
+
+abbrev pub seconds_of : Option Life → ℕ
+seconds_of None = 0
+seconds_of (Some life) = seconds_to life.from life.end
+
+-- the seconds of all, and those of the longest
+abbrev pub sum_from : ℕ → List Timed → ℕ
+sum_from sum [] = sum
+sum_from sum (t ∷ ts) = sum_from (plus sum (seconds_of t.life)) ts
+
+abbrev pub longest_from : ℕ → List Timed → ℕ
+longest_from longest [] = longest
+longest_from longest (t ∷ ts) = longest_from (max longest (seconds_of t.life)) ts
+
+-- an entry, and how long it took, or why that is unknown
+abbrev pub seconds_took : ℕ → ℕ → Took
+seconds_took longest seconds =
+    if nat_lt 0 seconds && seconds == longest then took.Longest seconds else took.Seconds seconds
+
+abbrev pub end_took : ℕ → ℕ → Option Ending → Took
+end_took longest from None = took.RunsStill
+end_took longest from (Some ending) = seconds_took longest (ending.time - from)
+
+abbrev pub took_of : ℕ → Option Life → Took
+took_of longest None = took.NotStarted
+took_of longest (Some life) = end_took longest life.from life.end
+
+abbrev pub time_line : ℕ → Timed → Line
+time_line longest t = line.Took t.id t.act (took_of longest t.life)
+
+-- init waits for one after the other, so that the way to the level takes as long as all of them
+abbrev pub times_by : Level → List Timed → List Line
+times_by level timed =
+    line.PathTimes ∷ (map (time_line (longest_from 0 timed)) timed ++ line.Whole level (sum_from 0 timed) ∷ [])
+
+abbrev pub times_in : Level → List Entry → List TimelineMark → List Line
+times_in level table marks = times_by level (map (timed_of marks) (critical_path level table))

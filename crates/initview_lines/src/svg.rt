@@ -1,0 +1,259 @@
+//! A timeline as a picture: one SVG document.
+
+use crate::chart::{add_facts, add_state, add_times, ill, stage_letter};
+use crate::days::{add_day, add_hours, add_moment};
+use crate::dimensions::{
+    AT_END, BAND, DAY, DRAWING, DUE, FAILED, FAULTS, HEAD, HELD, HOUR, KILLED, LEGEND, LETTER_ROOM,
+    LEVEL, LIVES, LOW, LOW_HOURS, LOW_ROWS, LOW_SECONDS, MANY, MARGINS, NAME, NAME_AT, SETTLED,
+    STAGE, STATE, STEPS, STOPS, STYLE, TALL, TALL_ROWS, TICK, TICKS, TOP_HOURS, TOP_SECONDS, UNBORN,
+    WAITED, WORDS_ROOM, YEAR,
+};
+use crate::words::{add_number, add_stage, add_status, put};
+use init_words::Stage;
+use initview_timeline::{Drawn, Frame, Piece, Pieces, Row, Timeline, is_ill, is_loud};
+use std::alloc::AllocError;
+
+/// Adds bytes as a text of XML.
+fn add_escaped(text: &mut Vec<u8>, bytes: &[u8]) -> Result<(), AllocError> {
+    for byte in bytes {
+        match byte {
+            b'&' => put(text, b"&amp;")?,
+            b'<' => put(text, b"&lt;")?,
+            b'>' => put(text, b"&gt;")?,
+            b'"' => put(text, b"&quot;")?,
+            _ => text.push(*byte)?,
+        }
+    }
+    Ok(())
+}
+
+/// How a piece is drawn, up to its place.
+fn look_of(what: Drawn) -> &'static [u8] {
+    match what {
+        Drawn::Stage(_) => STAGE,
+        Drawn::Settled(_) => SETTLED,
+        Drawn::Name(_, _) => NAME,
+        Drawn::Waited(_) => WAITED,
+        Drawn::Lives(_) => LIVES,
+        Drawn::Stops(_) => STOPS,
+        Drawn::Held => HELD,
+        Drawn::Due => DUE,
+        Drawn::Failed(_) => FAILED,
+        Drawn::Killed => KILLED,
+        Drawn::Unborn => UNBORN,
+    }
+}
+
+/// Adds what a piece is, behind its times.
+fn add_said(text: &mut Vec<u8>, what: Drawn) -> Result<(), AllocError> {
+    match what {
+        Drawn::Stage(_) | Drawn::Name(_, _) => put(text, b"entered"),
+        Drawn::Settled(_) => put(text, b"settled"),
+        Drawn::Waited(life) | Drawn::Lives(life) | Drawn::Failed(life) => match life.end {
+            Some(ending) => add_status(text, ending.status),
+            None => put(text, b"runs"),
+        },
+        Drawn::Stops(_) => put(text, b"TERM sent"),
+        Drawn::Held => put(text, b"held"),
+        Drawn::Due => put(text, b"not started"),
+        Drawn::Killed => put(text, b"KILL sent"),
+        Drawn::Unborn => put(text, b"start failed"),
+    }
+}
+
+/// Adds of whom a piece is: a stage, an id, or a child of it.
+fn add_whose(text: &mut Vec<u8>, id: &[u8], what: Drawn) -> Result<(), AllocError> {
+    match what {
+        Drawn::Stage(stage) | Drawn::Settled(stage) | Drawn::Name(stage, _) => {
+            add_stage(text, Some(stage))
+        }
+        Drawn::Waited(life) | Drawn::Lives(life) | Drawn::Stops(life) | Drawn::Failed(life) => {
+            add_escaped(text, id)?;
+            add_number(text, b" ", u64::from(life.number.0), b"")
+        }
+        Drawn::Held | Drawn::Due | Drawn::Killed | Drawn::Unborn => add_escaped(text, id),
+    }
+}
+
+/// Begins a piece: what is said of it where the pointer rests on it, and how it is drawn.
+fn add_tip(text: &mut Vec<u8>, id: &[u8], piece: &Piece) -> Result<(), AllocError> {
+    put(text, b"<g><title>")?;
+    add_whose(text, id, piece.what)?;
+    put(text, b": ")?;
+    add_moment(text, piece.from)?;
+    if piece.to != piece.from {
+        put(text, b" to ")?;
+        add_moment(text, piece.to)?;
+    }
+    put(text, b": ")?;
+    add_said(text, piece.what)?;
+    put(text, b"</title>")?;
+    put(text, look_of(piece.what))
+}
+
+/// Adds a stage's words where there is room for them, else its letter where there is room for that.
+fn add_name(text: &mut Vec<u8>, room: u64, stage: Stage) -> Result<(), AllocError> {
+    if room >= WORDS_ROOM {
+        add_stage(text, Some(stage))
+    } else if room >= LETTER_ROOM {
+        put(text, &[stage_letter(stage)])
+    } else {
+        Ok(())
+    }
+}
+
+/// Adds bars, each from its place on, as wide as it lasts, and signs, each at its place, with the name of a stage.
+fn add_pieces(
+    text: &mut Vec<u8>,
+    frame: Frame,
+    id: &[u8],
+    pieces: &Pieces,
+) -> Result<(), AllocError> {
+    for bar in pieces.bars.as_slice() {
+        add_tip(text, id, bar)?;
+        add_number(text, b"", frame.left(bar.from, bar.to), b"\" width=\"")?;
+        add_number(text, b"", frame.width(bar.from, bar.to), b"\"/></g>\n")?;
+    }
+    for sign in pieces.signs.as_slice() {
+        let place = frame.place(sign.from);
+        add_tip(text, id, sign)?;
+        add_number(text, b"", place, b"\"/>")?;
+        if let Drawn::Name(stage, to) = sign.what {
+            add_number(text, NAME_AT, place, b"\">")?;
+            add_name(text, frame.width(sign.from, to), stage)?;
+            put(text, b"</text>")?;
+        }
+        put(text, b"</g>\n")?;
+    }
+    Ok(())
+}
+
+/// Adds a time of the axis, above or below the rows, and below it the seconds from the first time, or the day.
+fn add_axis_time(
+    text: &mut Vec<u8>,
+    frame: Frame,
+    time: u64,
+    above: &[u8],
+    below: &[u8],
+) -> Result<(), AllocError> {
+    put(text, above)?;
+    add_hours(text, time)?;
+    put(text, below)?;
+    if frame.span() < HOUR {
+        add_number(text, b"+", time.saturating_sub(frame.start), b" s")?;
+    } else if frame.span() >= DAY && time >= YEAR {
+        add_day(text, time)?;
+    }
+    put(text, b"</text>")
+}
+
+/// The seconds from one tick to the next: of days, where hours are too many.
+fn step_of(span: u64) -> u64 {
+    for step in STEPS {
+        if span < step.saturating_mul(TICKS) {
+            return step;
+        }
+    }
+    (span / (TICKS * DAY) + 1).saturating_mul(DAY)
+}
+
+/// The time of a tick: below an hour they are counted from the first time, else they stand at whole steps of the day.
+fn tick_time(frame: Frame, number: u64) -> u64 {
+    let step = step_of(frame.span());
+    let first = if frame.span() < HOUR {
+        frame.start
+    } else {
+        frame.start.div_ceil(step.max(1)).saturating_mul(step)
+    };
+    first.saturating_add(number.saturating_mul(step))
+}
+
+/// Adds the ticks that aren't behind the last time: a line down, and its time above the rows and below them.
+fn add_ticks(text: &mut Vec<u8>, frame: Frame) -> Result<(), AllocError> {
+    for number in 0..TICKS {
+        let time = tick_time(frame, number);
+        if time <= frame.end {
+            add_number(text, b"<g transform=\"translate(", frame.place(time), TICK)?;
+            add_axis_time(text, frame, time, TOP_HOURS, TOP_SECONDS)?;
+            add_axis_time(text, frame, time, LOW_HOURS, LOW_SECONDS)?;
+            put(text, b"</g>\n")?;
+        }
+    }
+    Ok(())
+}
+
+/// Ends a text that is loud where it has to be.
+fn loud_if(loud: bool) -> &'static [u8] {
+    if loud { b" r\">" } else { b"\">" }
+}
+
+/// Adds the row of an id at a place from above.
+fn add_row(
+    text: &mut Vec<u8>,
+    frame: Frame,
+    top: u64,
+    height: u64,
+    row: &Row,
+) -> Result<(), AllocError> {
+    add_number(text, b"<svg y=\"", top, b"\" height=\"")?;
+    add_number(text, b"", height, BAND)?;
+    put(text, loud_if(is_ill(row)))?;
+    add_escaped(text, row.id.as_bytes())?;
+    put(text, STATE)?;
+    put(text, loud_if(is_loud(row.state)))?;
+    add_state(text, row.state)?;
+    if !row.pieces.signs.is_empty() {
+        add_number(text, FAULTS, row.pieces.signs.len() as u64, b"")?;
+    }
+    put(text, b"</text>\n")?;
+    add_pieces(text, frame, row.id.as_bytes(), &row.pieces)?;
+    put(text, b"</svg>\n")
+}
+
+/// Adds what stands above the rows: the size, the colors, the times, how it all is at the end, and what the shapes mean.
+fn add_front(text: &mut Vec<u8>, timeline: &Timeline, bottom: u64) -> Result<(), AllocError> {
+    let rows = timeline.rows.as_slice();
+    let height = bottom.saturating_add(MARGINS);
+    let faulty = ill(rows);
+    add_number(text, HEAD, height, b"\" viewBox=\"0 0 1130 ")?;
+    add_number(text, b"", height, b"\">\n<title>init: ")?;
+    add_times(text, timeline)?;
+    put(text, STYLE)?;
+    add_times(text, timeline)?;
+    put(text, b"</text>\n<text x=\"80\" y=\"40\">")?;
+    add_facts(text, timeline)?;
+    put(text, b"<tspan class=\"z")?;
+    put(text, loud_if(faulty > 0))?;
+    add_number(text, b"", faulty, b" of ")?;
+    add_number(text, b"", rows.len() as u64, LEGEND)?;
+    put(
+        text,
+        if rows.len() > MANY {
+            LOW_ROWS
+        } else {
+            TALL_ROWS
+        },
+    )?;
+    add_number(text, b"", bottom, b"\">\n")
+}
+
+/// A timeline as an SVG document: its times, how it all is at the end and what the shapes mean; an axis of the times of day
+/// above the rows and below them; a row for the stages, and one for each id, with how it is at the end and how much went
+/// wrong. Lives are quiet; what went wrong is loud; each shape says by a tooltip what it is. The document is 1,130 wide, and
+/// its rows are 22 high each, or 12 where there are more than 60. A browser shows it by itself, on a light or a dark ground.
+pub(crate) fn add_svg(text: &mut Vec<u8>, timeline: &Timeline) -> Result<(), AllocError> {
+    let frame = timeline.frame(DRAWING);
+    let rows = timeline.rows.as_slice();
+    let height = if rows.len() > MANY { LOW } else { TALL };
+    let bottom = LEVEL.saturating_add(height.saturating_mul(rows.len() as u64));
+    add_front(text, timeline, bottom)?;
+    add_ticks(text, frame)?;
+    put(text, AT_END)?;
+    add_pieces(text, frame, b"", &timeline.stages)?;
+    let mut top = LEVEL;
+    for row in rows {
+        add_row(text, frame, top, height, row)?;
+        top = top.saturating_add(height);
+    }
+    put(text, b"</svg>\n</svg>\n")
+}
