@@ -5,7 +5,7 @@ ghost use Rattle.program_io.specs.Writing.{AppendsPrefix};
 ghost use Rattle.initview_command.specs.Refusals.{memory_line};
 
 use initview_lines::SayFault;
-use program_io::{DEVICE_FAULT, write_text};
+use program_io::{DEVICE_FAULT, Reason, write_text};
 use std::io;
 use std::io::Write;
 
@@ -37,7 +37,7 @@ fn report_unwritten<E: Write>(err: &mut E) -> u8
 pub(crate) fn report_unread<E: Write>(path: &str, error: &io::Error, err: &mut E) -> u8
     ensures { result ≡ DEVICE_FAULT }
 {
-    let _ = writeln!(err, "initview: cannot read {path}: {error}");
+    let _ = writeln!(err, "initview: cannot read {path}: {}", Reason(error));
     DEVICE_FAULT
 }
 
