@@ -29,7 +29,7 @@ pub use happenings::{News, add_happening};
 pub use left::{is_starting, left_lines};
 pub use lines::{Head, IdRow, Line, Reason, RowFormat, Stopping, text_line};
 pub use pieces::take_lines;
-pub use plans::{plan_lines};
+pub use plans::plan_lines;
 pub use reasons::{Chain, chain_of, why_lines};
 pub use reloads::{law_of_reloads, reload_lines};
 pub use rows::{row_line, status_lines};

@@ -5,8 +5,8 @@ use crate::days::{add_day, add_hours, add_moment};
 use crate::dimensions::{
     AT_END, BAND, DAY, DRAWING, DUE, FAILED, FAULTS, HEAD, HELD, HOUR, KILLED, LEGEND, LETTER_ROOM,
     LEVEL, LIVES, LOW, LOW_HOURS, LOW_ROWS, LOW_SECONDS, MANY, MARGINS, NAME, NAME_AT, SETTLED,
-    STAGE, STATE, STEPS, STOPS, STYLE, TALL, TALL_ROWS, TICK, TICKS, TOP_HOURS, TOP_SECONDS, UNBORN,
-    WAITED, WORDS_ROOM, YEAR,
+    STAGE, STATE, STEPS, STOPS, STYLE, TALL, TALL_ROWS, TICK, TICKS, TOP_HOURS, TOP_SECONDS,
+    UNBORN, WAITED, WORDS_ROOM, YEAR,
 };
 use crate::words::{add_number, add_stage, add_status, put};
 use init_words::Stage;
