@@ -1,20 +1,14 @@
 -- Parts of a text that is UTF-8 are UTF-8 where they are cut at blanks, tabs, colons and '#'.
-use Rattle.std.proofs.Common.{◌≡◌, ℕ, ◌+◌, Bool, true, false, cond, if◌then◌else◌, not, ◌&&◌, ◌==◌, List, [], ◌∷◌, ◌++◌, drop, Option, Some, None, unwrap_or, refl, sym, ap, subst, arith}
-use Rattle.std.specs.List.{AllByRecursion}
+use Rattle.rc_header.proofs.Words.{◌≡◌, ℕ, ◌+◌, Bool, true, false, cond, if◌then◌else◌, not, ◌&&◌, ◌==◌, List, [], ◌∷◌, ◌++◌, drop, Option, Some, None, unwrap_or, refl, sym, ap, subst, arith, AllByRecursion, IsUtf8, is_utf8, args_of, block_fault, continued, described, description_of, seen_after, text_at, cut, trim, behind_ascii, behind-utf8, trim-utf8}
 use Rattle.std.specs.Option.{option_map, option_or, option_and_then}
-use Rattle.std.specs.Str.{IsUtf8, is_utf8}
 use Rattle.std.proofs.lemmas.Bool.{and_parts, true≢false, eqb-true}
 use Rattle.std.proofs.lemmas.Str.{IsUtf8-append, IsUtf8-from_ascii, IsUtf8-from_is_utf8, IsUtf8-nil}
 use Rattle.rc_header.specs.declared.keywords.Keyword.{Keyword}
 use Rattle.rc_header.specs.declared.keywords.Keyword.TheVariants as keyword
 use Rattle.rc_header.specs.declared.faults.HeaderFault.{HeaderFault}
-use Rattle.rc_header.specs.Blocks.{args_of, block_fault, continued, described, description_of, seen_after}
 use Rattle.rc_header.specs.Forms.{args_in, body_of, field_of, is_empty_comment, is_indented, is_line, is_word, is_wide, known_of}
-use Rattle.rc_header.specs.Headers.{text_at}
 use Rattle.rc_header.specs.Keywords.{keyword_read, same_keyword}
-use Rattle.text_lines.specs.Lines.{cut, trim}
 use Rattle.text_lines.proofs.CutLemmas.{cut-parts}
-use Rattle.text_lines.proofs.Utf8Lemmas.{behind_ascii, behind-utf8, trim-utf8}
 
 -- what a chain of choices that gives something went through
 and_then : {X Y : Type 0} (f : X → Option Y) (o : Option X) (y : Y) → option_and_then f o ≡ Some y → (x : X) × (o ≡ Some x) × (f x ≡ Some y)

@@ -22,9 +22,9 @@ unfoldable pub is_end : List ℕ → Bool
 is_end line = bytes_eq (trim_end line) (codes "### END INIT INFO")
 
 -- the lines after the first that begins a header, and the number of that line; the first line here has this number
-abbrev pub begun : ℕ → List (List ℕ) → Option (ℕ × List (List ℕ))
-begun number [] = None
-begun number (line ∷ lines) = if is_begin line then Some (number, lines) else begun (number + 1) lines
+abbrev pub find_header : ℕ → List (List ℕ) → Option (ℕ × List (List ℕ))
+find_header number [] = None
+find_header number (line ∷ lines) = if is_begin line then Some (number, lines) else find_header (number + 1) lines
 
 -- the lines before the first that ends the header
 abbrev pub block_of : List (List ℕ) → List (List ℕ)

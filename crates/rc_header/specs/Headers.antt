@@ -8,7 +8,7 @@ use Rattle.rc_header.specs.declared.keywords.Keyword.TheVariants as keyword
 use Rattle.rc_header.specs.HeaderText.{HeaderText}
 use Rattle.rc_header.specs.Forms.{is_empty}
 use Rattle.text_lines.specs.Lines.{lines_of, trim, words_of}
-use Rattle.rc_header.specs.Blocks.{args_of, begun, block_fault, block_of, description_of, is_end, levels_of}
+use Rattle.rc_header.specs.Blocks.{args_of, find_header, block_fault, block_of, description_of, is_end, levels_of}
 
 -- the text after the colon of a keyword's line, and nothing where there is none
 abbrev pub text_at : Keyword → List (List ℕ) → List ℕ
@@ -20,7 +20,7 @@ frame_of None = Some fault.NoBegin
 frame_of (Some (number, lines)) = if list_any is_end lines then None else Some fault.NoEnd
 
 unfoldable pub frame_fault : List ℕ → Option HeaderFault
-frame_fault text = frame_of (begun 1 (lines_of text))
+frame_fault text = frame_of (find_header 1 (lines_of text))
 
 -- what the lines of a header say
 abbrev pub header_of : List (List ℕ) → HeaderText
@@ -50,4 +50,4 @@ read_behind (Some (number, lines)) =
 
 -- the header of a text, or the first check that fails; lines are counted from 1
 unfoldable pub header_read : List ℕ → Result HeaderText HeaderFault
-header_read text = read_behind (begun 1 (lines_of text))
+header_read text = read_behind (find_header 1 (lines_of text))

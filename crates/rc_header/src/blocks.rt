@@ -4,7 +4,7 @@ ghost use Rattle.std.specs.Prelude.{◌≡◌, ◌<◌, ◌+◌, ◌≤◌, ◌�
 ghost use Rattle.std.specs.List.{list_any};
 ghost use Rattle.std.specs.Option.{option_map};
 ghost use Rattle.text_lines.specs.Lines.{lines_of};
-ghost use Rattle.rc_header.specs.Blocks.{begun, block_in, is_begin, is_end};
+ghost use Rattle.rc_header.specs.Blocks.{find_header, block_in, is_begin, is_end};
 
 use text_lines::{first_line, without_tail};
 
@@ -25,9 +25,9 @@ fn is_end(line: &[u8]) -> bool
 }
 
 /// The text after the line that begins the header, and the number of that line.
-pub fn begun(text: &[u8]) -> Option<(usize, &[u8])>
+pub fn find_header(text: &[u8]) -> Option<(usize, &[u8])>
     ensures value { option_map (λ parts. (parts.0, lines_of parts.1.now)) result
-        ≡ begun 1 (lines_of text.now) }
+        ≡ find_header 1 (lines_of text.now) }
     ensures counted { IfSome result (λ parts. parts.0 + length parts.1.now ≤ length text.now) }
 {
     let mut rest = text;

@@ -2,7 +2,7 @@
 
 ghost use Rattle.std.specs.Prelude.{◌≡◌};
 ghost use Rattle.std.specs.Option.{option_map};
-ghost use Rattle.rc_header.specs.Forms.{args_in, body_of, field_of, is_empty_comment, is_indented, is_line, is_wide, is_word, known_of};
+ghost use Rattle.rc_header.specs.Forms.{args_in, body_of, field_of, is_empty_comment, is_indented, is_line, known_of};
 
 use crate::keywords::Keyword;
 use text_lines::{cut, has_blank, is_all_blank, is_utf8};
@@ -17,24 +17,13 @@ pub(crate) fn is_empty_comment(line: &[u8]) -> bool
     }
 }
 
-/// A tab, or two blanks.
-fn is_wide(text: &[u8]) -> bool
-    ensures { result ≡ is_wide text.now }
-{
-    match text {
-        [] => false,
-        [first] => *first == b'\t',
-        [first, second, ..] => *first == b'\t' || (*first == b' ' && *second == b' '),
-    }
-}
-
 /// A `#`, and after it a tab or two blanks.
 pub(crate) fn is_indented(line: &[u8]) -> bool
     ensures { result ≡ is_indented line.now }
 {
     match line {
-        [] => false,
-        [first, rest @ ..] => *first == b'#' && is_wide(rest),
+        [b'#', b'\t', ..] | [b'#', b' ', b' ', ..] => true,
+        _ => false,
     }
 }
 
@@ -48,13 +37,6 @@ fn body_of(line: &[u8]) -> Option<&[u8]>
     }
 }
 
-/// Something, without blanks and tabs.
-fn is_word(text: &[u8]) -> bool
-    ensures { result ≡ is_word text.now }
-{
-    !text.is_empty() && !has_blank(text)
-}
-
 /// The word before the first colon of a line `# keyword: args`, and the text after the colon.
 #[tactic(auto, unfolding(crate::specs::Forms::field_of))]
 fn field_of(line: &[u8]) -> Option<(&[u8], &[u8])>
@@ -62,11 +44,10 @@ fn field_of(line: &[u8]) -> Option<(&[u8], &[u8])>
 {
     let body = body_of(line)?;
     let (word, args) = cut(b':', body)?;
-    if is_word(word) {
-        Some((word, args))
-    } else {
-        None
+    if word.is_empty() || has_blank(word) {
+        return None;
     }
+    Some((word, args))
 }
 
 /// A line that may stand in a header.

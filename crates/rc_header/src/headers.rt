@@ -8,7 +8,7 @@ ghost use Rattle.rc_header.specs.Blocks.{block_in};
 ghost use Rattle.rc_header.specs.HeaderText.{facility_header};
 ghost use Rattle.rc_header.specs.Headers.{frame_fault, header_of, header_read, text_at};
 
-use crate::blocks::{begun, has_end};
+use crate::blocks::{find_header, has_end};
 use crate::checks::check;
 use crate::faults::HeaderFault;
 use crate::keywords::Keyword;
@@ -181,7 +181,7 @@ pub fn read<A: Allocator + Copy>(alloc: A, text: &[u8]) -> Result<Header<A>, Hea
     // A header without its first or its last line takes no memory to refuse.
     ensures frame { IfSome (frame_fault text.now) (λ fault. result ≡ Err fault) }
 {
-    let Some((number, body)) = begun(text) else {
+    let Some((number, body)) = find_header(text) else {
         return Err(HeaderFault::NoBegin);
     };
     if !has_end(body) {

@@ -35,19 +35,19 @@ const KEYWORDS: [Keyword; 9] = [
 
 impl Keyword {
     /// How it is written.
-    pub fn word(self) -> &'static [u8]
+    pub fn word(self) -> &'static str
         ensures { result.now ≡ word_of self }
     {
         match self {
-            Keyword::Provides => b"Provides",
-            Keyword::RequiredStart => b"Required-Start",
-            Keyword::RequiredStop => b"Required-Stop",
-            Keyword::ShouldStart => b"Should-Start",
-            Keyword::ShouldStop => b"Should-Stop",
-            Keyword::DefaultStart => b"Default-Start",
-            Keyword::DefaultStop => b"Default-Stop",
-            Keyword::ShortDescription => b"Short-Description",
-            Keyword::Description => b"Description",
+            Keyword::Provides => "Provides",
+            Keyword::RequiredStart => "Required-Start",
+            Keyword::RequiredStop => "Required-Stop",
+            Keyword::ShouldStart => "Should-Start",
+            Keyword::ShouldStop => "Should-Stop",
+            Keyword::DefaultStart => "Default-Start",
+            Keyword::DefaultStop => "Default-Stop",
+            Keyword::ShortDescription => "Short-Description",
+            Keyword::Description => "Description",
         }
     }
 
@@ -66,7 +66,7 @@ impl Keyword {
         KEYWORDS
             .iter()
             .copied()
-            .find(|keyword| is_same(keyword.word(), word))
+            .find(|keyword| is_same(keyword.word().as_bytes(), word))
     }
 }
 
@@ -77,17 +77,7 @@ impl fmt::Display for Keyword {
     ghost output = { λ keyword. Some (word_of keyword) };
 
     fn fmt<W: fmt::Write>(&self, f: &mut fmt::Formatter<W>) -> fmt::Result {
-        f.write_str(match self {
-            Keyword::Provides => "Provides",
-            Keyword::RequiredStart => "Required-Start",
-            Keyword::RequiredStop => "Required-Stop",
-            Keyword::ShouldStart => "Should-Start",
-            Keyword::ShouldStop => "Should-Stop",
-            Keyword::DefaultStart => "Default-Start",
-            Keyword::DefaultStop => "Default-Stop",
-            Keyword::ShortDescription => "Short-Description",
-            Keyword::Description => "Description",
-        })
+        f.write_str(self.word())
     }
 }
 

@@ -11,9 +11,9 @@ mod keywords;
 mod pieces;
 mod places;
 
-pub use blocks::{begun, block_line};
+pub use blocks::{block_line, find_header};
 pub use faults::HeaderFault;
 pub use forms::known_of;
 pub use headers::{Header, read};
 pub use keywords::Keyword;
-pub use places::second_line;
+pub use places::second_keyword_line;

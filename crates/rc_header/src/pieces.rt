@@ -1,12 +1,11 @@
 //! The values of a header's fields: names, runlevels, descriptions.
 
-ghost use Rattle.std.specs.Prelude.{◌≡◌, ◌++◌, ◌∷◌, [], map, string_bytes, unwrap_or, IfOk, OnOk};
+ghost use Rattle.std.specs.Prelude.{◌≡◌, ◌++◌, ◌∷◌, [], map, string_bytes, IfOk, OnOk};
 ghost use Rattle.std.specs.List.{AllByRecursion};
 ghost use Rattle.std.specs.Str.{IsUtf8};
-ghost use Rattle.std.specs.Option.{option_map};
 ghost use Rattle.text_lines.specs.Lines.{trim, words_of};
 ghost use Rattle.rc_header.specs.Headers.{text_at};
-ghost use Rattle.rc_header.specs.Blocks.{args_of, block_in, continued, description_of, level_in, levels_of};
+ghost use Rattle.rc_header.specs.Blocks.{block_in, continued, description_of, level_in, levels_of};
 
 use crate::blocks::block_line;
 use crate::forms::{args_in, is_empty_comment, is_indented};
@@ -15,28 +14,18 @@ use init_words::{Level, Memory};
 use std::alloc::Allocator;
 use text_lines::{next_word, trimmed};
 
-/// The text after the colon of the header's line of this keyword.
-fn find_args(keyword: Keyword, body: &[u8]) -> Option<&[u8]>
-    ensures { option_map (λ args. args.now) result ≡ args_of keyword (block_in body.now) }
+/// The text after the colon of the line of this keyword; nothing where there is no such line.
+pub(crate) fn args_of(keyword: Keyword, body: &[u8]) -> &[u8]
+    ensures { result.now ≡ text_at keyword (block_in body.now) }
 {
     let mut rest = body;
     while let Some((line, more)) = block_line(rest) {
         if let Some(args) = args_in(keyword, line) {
-            return Some(args);
+            return args;
         }
         rest = more;
     }
-    None
-}
-
-/// The text after the colon of the line of this keyword; nothing where there is no such line.
-pub(crate) fn args_of(keyword: Keyword, body: &[u8]) -> &[u8]
-    ensures { result.now ≡ unwrap_or (args_of keyword (block_in body.now)) [] }
-{
-    match find_args(keyword, body) {
-        Some(args) => args,
-        None => &[],
-    }
+    &[]
 }
 
 /// A string of bytes that are UTF-8.

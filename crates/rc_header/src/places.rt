@@ -3,9 +3,9 @@
 ghost use Rattle.std.specs.Prelude.{◌≡◌, ◌+◌, ◌≤◌, ◌<◌, ◌^◌, length, IfSome};
 ghost use Rattle.std.specs.Option.{option_map};
 ghost use Rattle.rc_header.specs.Blocks.{block_in};
-ghost use Rattle.rc_header.specs.Places.{next_line, second_line};
+ghost use Rattle.rc_header.specs.Places.{next_line, second_keyword_line};
 
-use crate::blocks::{begun, block_line};
+use crate::blocks::{block_line, find_header};
 use crate::forms::args_in;
 use crate::keywords::Keyword;
 
@@ -30,11 +30,11 @@ fn next_line(keyword: Keyword, before: usize, body: &[u8]) -> Option<(usize, &[u
 }
 
 /// The number of the second line of a keyword in the header of a text, counted from 1 in the text.
-#[tactic(auto, unfolding(crate::specs::Places::second_line))]
-pub fn second_line(text: &[u8], keyword: Keyword) -> Option<usize>
-    ensures { result ≡ second_line text.now keyword }
+#[tactic(auto, unfolding(crate::specs::Places::second_keyword_line))]
+pub fn second_keyword_line(text: &[u8], keyword: Keyword) -> Option<usize>
+    ensures { result ≡ second_keyword_line text.now keyword }
 {
-    let (begin, body) = begun(text)?;
+    let (begin, body) = find_header(text)?;
     let (first, more) = next_line(keyword, begin, body)?;
     let (second, _) = next_line(keyword, first, more)?;
     Some(second)

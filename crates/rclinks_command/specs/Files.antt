@@ -6,7 +6,7 @@ use Rattle.std.specs.declared.io.ErrorKind.TheVariants.{OutOfMemory}
 use Rattle.rc_header.specs.declared.faults.HeaderFault.{HeaderFault}
 use Rattle.rc_header.specs.declared.faults.HeaderFault.TheVariants as header_fault
 use Rattle.rc_header.specs.Headers.{header_read}
-use Rattle.rc_header.specs.Places.{second_line}
+use Rattle.rc_header.specs.Places.{second_keyword_line}
 use Rattle.program_io.specs.Known.{IsTextAt, KnownTexts}
 use Rattle.rc_links.specs.Names.{is_name}
 use Rattle.rc_links.specs.ScriptText.{ScriptText}
@@ -45,7 +45,8 @@ abbrev pub refusal_of : List ℕ → HeaderFault → FileFault
 refusal_of text header_fault.NoBegin = fault.Header header_fault.NoBegin None
 refusal_of text header_fault.NoEnd = fault.Header header_fault.NoEnd None
 refusal_of text (header_fault.BadLine number) = fault.Header (header_fault.BadLine number) None
-refusal_of text (header_fault.Twice keyword) = fault.Header (header_fault.Twice keyword) (second_line text keyword)
+refusal_of text (header_fault.Twice keyword) =
+    fault.Header (header_fault.Twice keyword) (second_keyword_line text keyword)
 refusal_of text header_fault.NoProvides = fault.Header header_fault.NoProvides None
 refusal_of text header_fault.Memory = fault.Memory
 

@@ -10,7 +10,7 @@ use crate::lines::tell_why;
 use crate::remarks::{behind_end, warn_of_lines};
 use init_words::Memory;
 use program_io::{DEVICE_FAULT, REFUSED, Texts};
-use rc_header::{HeaderFault, second_line};
+use rc_header::{HeaderFault, second_keyword_line};
 use rc_links::{Script, is_name};
 use std::alloc::Global;
 use std::io::Write;
@@ -98,7 +98,7 @@ fn refusal_of(text: &[u8], fault: HeaderFault) -> FileFault
 {
     match fault {
         HeaderFault::Memory => FileFault::Memory,
-        HeaderFault::Twice(keyword) => FileFault::Header(fault, second_line(text, keyword)),
+        HeaderFault::Twice(keyword) => FileFault::Header(fault, second_keyword_line(text, keyword)),
         _ => FileFault::Header(fault, None),
     }
 }

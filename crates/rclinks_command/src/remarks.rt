@@ -5,7 +5,7 @@ ghost use Rattle.rclinks_command.specs.Reports.{Warns};
 use crate::files::FileFault;
 use crate::lines::tell_lines;
 use init_words::Level;
-use rc_header::{Header, HeaderFault, Keyword, begun, block_line, known_of};
+use rc_header::{Header, HeaderFault, Keyword, block_line, find_header, known_of};
 use std::alloc::Global;
 use std::io::Write;
 use std::str;
@@ -21,7 +21,7 @@ pub(crate) fn warn_of_lines<E: Write>(alloc: Global, path: &str, text: &[u8], er
 }
 
 fn tell_odd_lines<E: Write>(path: &str, text: &[u8], odd: &mut E) {
-    let Some((begin, body)) = begun(text) else {
+    let Some((begin, body)) = find_header(text) else {
         return;
     };
     let mut number = begin;
@@ -40,7 +40,7 @@ pub(crate) fn behind_end<'t>(text: &'t [u8], fault: &FileFault) -> Option<(usize
         FileFault::Header(HeaderFault::BadLine(number), _) => *number,
         _ => return None,
     };
-    let (begin, body) = begun(text)?;
+    let (begin, body) = find_header(text)?;
     let mut number = begin;
     let mut rest = body;
     while let Some((line, more)) = block_line(rest) {

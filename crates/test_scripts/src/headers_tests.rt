@@ -3,7 +3,7 @@
 use crate::texts::{END, NINE, header_of, joined, shown};
 use init_words::Memory;
 use rc_header::HeaderFault::{self, BadLine, NoBegin, NoEnd, NoProvides, Twice};
-use rc_header::{Keyword, second_line};
+use rc_header::{Keyword, second_keyword_line};
 use std::alloc::Global;
 use std::test::Fail;
 
@@ -231,10 +231,10 @@ fn is_keyword(own: Global, word: &str, shout: &[u8], keyword: Keyword) -> Result
     let told = format!(in own; "{keyword}")?;
     Ok(
         header_of(own, own, &text).err() == Some(Twice(keyword))
-            && second_line(&text, keyword) == Some(12)
+            && second_keyword_line(&text, keyword) == Some(12)
             && told.as_str() == word
             && Keyword::read(shout) == Some(keyword)
-            && keyword.word() == word.as_bytes(),
+            && keyword.word() == word,
     )
 }
 
@@ -268,7 +268,7 @@ const SECOND_LINES: &[(&[u8], Option<usize>)] = &[
 #[test]
 fn second_lines(rt: HostRuntime) {
     for (text, want) in SECOND_LINES {
-        assert!(rt; second_line(text, Keyword::Provides) == *want);
+        assert!(rt; second_keyword_line(text, Keyword::Provides) == *want);
     }
 }
 

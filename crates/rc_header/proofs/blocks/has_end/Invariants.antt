@@ -1,7 +1,4 @@
-use Rattle.std.proofs.Common.{◌≡◌, length}
-use Rattle.std.specs.List.{list_any}
-use Rattle.text_lines.specs.Lines.{lines_of}
-use Rattle.rc_header.specs.Blocks.{is_end}
+use Rattle.rc_header.proofs.Words.{◌≡◌, length, list_any, lines_of, is_end}
 use Rattle.rc_header.proofs.blocks.has_end.Given as goal
 
 abbrev pub invariant-loop-rest : goal.invariant-loop-rest

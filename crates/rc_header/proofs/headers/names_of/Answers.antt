@@ -1,5 +1,4 @@
-use Rattle.rc_header.specs.Blocks.{block_of}
-use Rattle.text_lines.specs.Lines.{lines_of}
+use Rattle.rc_header.proofs.Words.{block_of, lines_of}
 use Rattle.rc_header.proofs.TextLemmas.{text_at-utf8}
 use Rattle.rc_header.proofs.headers.names_of.Goals as goal
 

@@ -1,6 +1,4 @@
-use Rattle.std.proofs.Common.{[], ◌+◌}
-use Rattle.rc_header.specs.Blocks.{block_of}
-use Rattle.text_lines.specs.Lines.{lines_of}
+use Rattle.rc_header.proofs.Words.{[], ◌+◌, block_of, lines_of}
 use Rattle.rc_header.proofs.TextLemmas.{block-utf8}
 use Rattle.rc_header.proofs.headers.read.Goals as goal
 

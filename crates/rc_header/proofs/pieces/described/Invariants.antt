@@ -1,6 +1,4 @@
-use Rattle.std.proofs.Common.{◌≡◌, [], length}
-use Rattle.text_lines.specs.Lines.{lines_of}
-use Rattle.rc_header.specs.Blocks.{block_of, description_of}
+use Rattle.rc_header.proofs.Words.{◌≡◌, [], length, lines_of, block_of, description_of}
 use Rattle.rc_header.proofs.pieces.described.Given as goal
 
 abbrev pub invariant-loop-line : goal.invariant-loop-line

@@ -1,5 +1,4 @@
-use Rattle.rc_header.specs.Blocks.{block_of}
-use Rattle.text_lines.specs.Lines.{lines_of}
+use Rattle.rc_header.proofs.Words.{block_of, lines_of}
 use Rattle.rc_header.proofs.TextLemmas.{description_of-utf8}
 use Rattle.rc_header.proofs.pieces.description_of.Goals as goal
 

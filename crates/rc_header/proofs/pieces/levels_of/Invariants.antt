@@ -1,6 +1,4 @@
-use Rattle.std.proofs.Common.{◌≡◌, ◌++◌, length}
-use Rattle.text_lines.specs.Lines.{words_of}
-use Rattle.rc_header.specs.Blocks.{levels_of}
+use Rattle.rc_header.proofs.Words.{◌≡◌, ◌++◌, length, words_of, levels_of}
 use Rattle.rc_header.proofs.pieces.levels_of.Given as goal
 
 abbrev pub invariant-loop-word : goal.invariant-loop-word

@@ -1,8 +1,5 @@
 use Rattle.rc_header.specs.declared.keywords.Keyword.TheVariants as keyword
-use Rattle.rc_header.specs.Blocks.{block_of}
-use Rattle.rc_header.specs.Headers.{text_at}
-use Rattle.text_lines.specs.Lines.{lines_of}
-use Rattle.text_lines.proofs.Utf8Lemmas.{trim-utf8}
+use Rattle.rc_header.proofs.Words.{block_of, text_at, lines_of, trim-utf8}
 use Rattle.rc_header.proofs.TextLemmas.{text_at-utf8}
 use Rattle.rc_header.proofs.pieces.short_description_of.Goals as goal
 

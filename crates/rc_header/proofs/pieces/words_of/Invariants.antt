@@ -1,6 +1,4 @@
-use Rattle.std.proofs.Common.{◌≡◌, ◌++◌, length, map, string_bytes}
-use Rattle.std.specs.Str.{IsUtf8}
-use Rattle.text_lines.specs.Lines.{words_of}
+use Rattle.rc_header.proofs.Words.{◌≡◌, ◌++◌, length, map, string_bytes, IsUtf8, words_of}
 use Rattle.rc_header.proofs.pieces.words_of.Given as goal
 
 abbrev pub invariant-loop-word : goal.invariant-loop-word

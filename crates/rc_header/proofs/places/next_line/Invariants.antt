@@ -1,6 +1,4 @@
-use Rattle.std.proofs.Common.{◌≡◌, ◌+◌, ◌≤◌, length}
-use Rattle.text_lines.specs.Lines.{lines_of}
-use Rattle.rc_header.specs.Blocks.{block_of}
+use Rattle.rc_header.proofs.Words.{◌≡◌, ◌+◌, ◌≤◌, length, lines_of, block_of}
 use Rattle.rc_header.specs.Places.{next_line}
 use Rattle.rc_header.proofs.places.next_line.Given as goal
 
