@@ -4,4 +4,4 @@ pub mod MendingRows
 pub mod NameLemmas
 pub mod NeedLemmas
 pub mod PlanLemmas
-pub mod StepLemmas
+pub mod Words

@@ -1,34 +1,15 @@
--- Links one more script on; and texts in byte order: a list that ascends is the one list of its texts that does.
-use Rattle.std.proofs.Common.{◌≡◌, ℕ, zero, suc, ◌+◌, ◌<◌, ◌≤◌, Bool, true, false, cond, List, [], ◌∷◌, ◌++◌, length, get_or, drop, map, refl, sym, ap, ◌∙◌, subst, arith}
+-- Texts in byte order: a list that ascends is the one list of its texts that does.
+use Rattle.rc_links.proofs.Words.{◌≡◌, ℕ, zero, suc, ◌+◌, ◌<◌, ◌≤◌, Bool, true, false, cond, List, [], ◌∷◌, length, get_or, map, refl, sym, ap, ◌∙◌, subst, arith, AllByRecursion, filter, sum_by, bytes_eq, false_from_ne_true, true≢false, bytes_eq-Decides, in_byte_order, is_before, placed}
 use Rattle.std.specs.Cmp.{IsStrictWeakOrder}
 use Rattle.std.specs.Cmp.Lexicographic.{slice_cmp}
-use Rattle.std.specs.List.{AllByRecursion, filter, sum_by}
 use Rattle.std.specs.List.Sorted.{IsPermutation, IsSortedBy}
 use Rattle.std.specs.Ordering.{is_eq, is_lt, nat_cmp, ordering_reverse}
 use Rattle.std.specs.declared.cmp.Ordering.{Ordering}
 use Rattle.std.specs.declared.cmp.Ordering.TheVariants.{Less, Equal, Greater}
-use Rattle.std.specs.Str.{bytes_eq}
-use Rattle.std.proofs.lemmas.Bool.{false_from_ne_true, true≢false}
 use Rattle.std.proofs.lemmas.Cmp.{nat_list_cmp_total}
 use Rattle.std.proofs.lemmas.List.Recursion.{is_sum_by}
 use Rattle.std.proofs.lemmas.List.Sorted.{IsPermutation-cons, IsPermutation-map, IsPermutation-middle, IsPermutation-refl, IsPermutation-trans, ranks_by, sorted_far, sum_by-IsPermutation}
 use Rattle.std.proofs.lemmas.Map.Text.{is_eq-slice_cmp}
-use Rattle.std.proofs.lemmas.Slice.Eq.{bytes_eq-Decides}
-use Rattle.rc_links.specs.Links.{in_byte_order, is_before, placed}
-use Rattle.rc_links.proofs.NameLemmas.{cut_at}
-use Rattle.rc_links.proofs.NeedLemmas.{append_assoc}
-
-filter-first : {X Y : Type 0} (f : X → Y) (x : X) (xs : List X) (y : Bool) → map f (cond y (x ∷ []) []) ++ map f xs ≡ map f (cond y (x ∷ xs) xs)
-filter-first f x xs true = refl
-filter-first f x xs false = refl
-
--- what one more script gives, and those after it
-pub links-next : {X Y : Type 0} (f : X → Y) (p : X → Bool) (all : List X) (place : ℕ) (s : X) (old new whole : List Y) → place < length all → s ≡ get_or all place s → new ≡ old ++ map f (filter p (s ∷ []))
-    → old ++ map f (filter p (drop place all)) ≡ whole → new ++ map f (filter p (drop (place + 1) all)) ≡ whole
-links-next f p all place s old new whole within at added is =
-    let rest = drop (place + 1) all in
-    let kept = ap (λ scripts. old ++ map f (filter p scripts)) (sym (cut_at all place s within at).0) ∙ is in
-    rw added (append_assoc old (map f (filter p (s ∷ []))) (map f (filter p rest)) ∙ ap (λ ys. old ++ ys) (filter-first f s (filter p rest) (p s)) ∙ kept)
 
 order : IsStrictWeakOrder is_before
 order = ranks_by nat_list_cmp_total (λ text. text)

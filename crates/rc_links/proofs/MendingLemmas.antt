@@ -1,22 +1,10 @@
 -- Folders at each moment of their changes: those of other folders pass one by, what is neither ours nor planned stays,
 -- and a script whose link is planned and held has one throughout.
-use Rattle.std.proofs.Common.{◌≡◌, ℕ, zero, suc, Bool, true, false, not, ◌&&◌, ◌||◌, cond, List, [], ◌∷◌, ◌++◌, map, flat_map, take, refl, sym, ap, ◌∙◌, append_assoc}
-use Rattle.std.specs.List.{AllByRecursion, filter, list_any}
-use Rattle.std.specs.Str.{byte, bytes_eq}
-use Rattle.std.proofs.lemmas.Bool.{true≢false, and_parts, false_from_ne_true, or_from, or_left, or_parts, or_right}
-use Rattle.std.proofs.lemmas.List.{append-nil}
-use Rattle.init_words.specs.declared.levels.Level.{Level}
+use Rattle.rc_links.proofs.Words.{arith, or-false, or_assoc, append_assoc, ◌≡◌, ℕ, zero, suc, Bool, true, false, not, ◌&&◌, ◌||◌, cond, List, [], ◌∷◌, ◌++◌, map, take, refl, sym, ap, ◌∙◌, AllByRecursion, filter, list_any, byte, bytes_eq, true≢false, and_parts, false_from_ne_true, or_from, or_left, or_parts, or_right, append-nil, Level, ChangeText, changes_of, is_in_way, is_left_over, is_missing, is_ours, is_stale, making, removal, settled, same_entry, EntryText, FolderText, change_of, is_link_of, kept_script, levels_in, with_levels, AreApart, HoldSame, IsMended, Stays, StaysIn, behind, changed, held_behind, PlannedText}
+use Rattle.std.proofs.Common.{flat_map}
 use Rattle.init_words.specs.Levels.{same_level}
 use Rattle.init_words.proofs.Same.{same_level-is, same_level-self}
-use Rattle.rc_links.specs.ChangeText.{ChangeText}
-use Rattle.rc_links.specs.Changes.{changes_of, is_in_way, is_left_over, is_missing, is_ours, is_stale, making, removal, settled}
-use Rattle.rc_links.specs.Entries.{has_name, same_entry}
-use Rattle.rc_links.specs.EntryText.{EntryText}
-use Rattle.rc_links.specs.FolderText.{FolderText}
-use Rattle.rc_links.specs.Folders.{change_of}
-use Rattle.rc_links.specs.Kept.{is_link_of, kept_script, levels_in, with_levels}
-use Rattle.rc_links.specs.Mending.{AreApart, HoldSame, IsMended, Stays, StaysIn, behind, changed, held_behind}
-use Rattle.rc_links.specs.PlannedText.{PlannedText}
+use Rattle.rc_links.specs.Entries.{has_name}
 use Rattle.rc_links.specs.declared.folders.LinkAction.{LinkAction}
 use Rattle.rc_links.specs.declared.folders.LinkAction.TheVariants.{Make, Remove}
 use Rattle.rc_links.proofs.LinkLemmas.{same_bytes, same_itself}
@@ -42,14 +30,6 @@ entry_other q a b fails passes =
     false_from_ne_true (same_entry a b) (λ is. true≢false (sym passes ∙ sym (ap q (one_entry a b is)) ∙ fails))
 
 -- tests of lists
-or_assoc : (x y z : Bool) → ((x || y) || z) ≡ (x || (y || z))
-or_assoc true y z = refl
-or_assoc false y z = refl
-
-or_false : (x : Bool) → (x || false) ≡ x
-or_false true = refl
-or_false false = refl
-
 any-append : {X : Type 0} (p : X → Bool) (xs ys : List X) → list_any p (xs ++ ys) ≡ (list_any p xs || list_any p ys)
 any-append p [] ys = refl
 any-append p (x ∷ xs) ys = ap (λ b. p x || b) (any-append p xs ys) ∙ sym (or_assoc (p x) (list_any p xs) (list_any p ys))
@@ -265,7 +245,7 @@ change_of_other q e x es act false fails passes = refl
 change_of_other q e x es Remove true fails passes =
     has_filter (λ other. not (same_entry x other)) e es ∙ ap (λ b. not b && has e es) (other_entry q x e passes fails)
 change_of_other q e x es Make true fails passes =
-    any-append (same_entry e) es (x ∷ []) ∙ ap (λ b. has e es || (b || false)) (entry_other q e x fails passes) ∙ or_false (has e es)
+    any-append (same_entry e) es (x ∷ []) ∙ ap (λ b. has e es || (b || false)) (entry_other q e x fails passes) ∙ or-false (has e es)
 
 others_stay : (q : EntryText → Bool) (e : EntryText) (changes : List ChangeText) (level : Level) (es : List EntryText) → q e ≡ false → AllByRecursion (Each (Passes q)) changes
     → has e (held_behind changes level es) ≡ has e es
@@ -275,14 +255,7 @@ others_stay q e (c ∷ changes) level es fails all =
     ∙ change_of_other q e c.entry es c.act (same_level c.level level) fails all.0
 
 settled_by : (o p h : Bool) → ((not (o && not p) && h) || (not h && p)) ≡ (p || (not o && h))
-settled_by true true true = refl
-settled_by true true false = refl
-settled_by true false true = refl
-settled_by true false false = refl
-settled_by false true true = refl
-settled_by false true false = refl
-settled_by false false true = refl
-settled_by false false false = refl
+settled_by o p h = grind arith
 
 -- a settled folder holds what is planned, and what it held of others
 has_settled : (targets : List (List ℕ)) (planned es : List EntryText) (e : EntryText) → has e (settled targets planned es) ≡ (has e planned || (not (is_ours targets e) && has e es))

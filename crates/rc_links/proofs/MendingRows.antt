@@ -1,18 +1,6 @@
 -- A script that stands in a runlevel which its header doesn't name, at each of its changes; and what can't be had.
-use Rattle.std.proofs.Common.{◌≡◌, ℕ, true, List, [], ◌∷◌, ◌++◌, map, flat_map, take, codes, refl}
-use Rattle.std.specs.Str.{byte}
-use Rattle.init_words.specs.declared.levels.Level.{Level}
-use Rattle.init_words.specs.declared.levels.Level.TheVariants.{L2, L3, L5}
-use Rattle.rc_links.specs.ChangeText.{ChangeText}
-use Rattle.rc_links.specs.Changes.{changes_of, is_in_way, making, removal}
-use Rattle.rc_links.specs.Entries.{entry_of}
-use Rattle.rc_links.specs.EntryText.{EntryText}
-use Rattle.rc_links.specs.FolderText.{FolderText}
-use Rattle.rc_links.specs.Folders.{folder_text}
-use Rattle.rc_links.specs.Kept.{kept_plan, kept_script, levels_in}
-use Rattle.rc_links.specs.Links.{linked_name, links_at}
-use Rattle.rc_links.specs.Mending.{AreApart, Stays, behind}
-use Rattle.rc_links.specs.PlannedText.{PlannedText}
+use Rattle.rc_links.proofs.Words.{◌≡◌, ℕ, true, List, [], ◌∷◌, ◌++◌, map, take, codes, refl, byte, Level, L2, L3, L5, ChangeText, changes_of, is_in_way, making, removal, entry_of, EntryText, FolderText, folder_text, kept_plan, kept_script, levels_in, linked_name, links_at, AreApart, Stays, behind, PlannedText}
+use Rattle.std.proofs.Common.{flat_map}
 use Rattle.rc_links.proofs.MendingLemmas.{all_own, kept_stays}
 
 abbrev net : PlannedText

@@ -1,13 +1,8 @@
 -- Tables of names, and what the scripts before a place provide.
-use Rattle.std.proofs.Common.{◌≡◌, ℕ, zero, suc, ◌+◌, ◌<◌, Bool, true, false, cond, not, ◌&&◌, ◌||◌, if◌then◌else◌, List, [], ◌∷◌, ◌++◌, length, find, get_or, take, drop, Option, Some, None, is_some, Result, Ok, Err, IfErr, refl, sym, ap, ◌∙◌, subst, arith}
+use Rattle.rc_links.proofs.Words.{or-false, or_assoc, ◌≡◌, ℕ, zero, suc, ◌+◌, ◌<◌, Bool, true, false, cond, not, ◌&&◌, ◌||◌, if◌then◌else◌, List, [], ◌∷◌, ◌++◌, length, find, get_or, take, drop, Option, Some, None, is_some, Result, Ok, Err, IfErr, refl, sym, ap, ◌∙◌, subst, arith, option_or, bytes_eq, bytes_eq-Decides, true≢false, ScriptText, place_from, place_of, has_script, is_system, doubled, double_from, missing_of, missing_from}
 use Rattle.std.specs.Bool.{Decides, one_answer}
-use Rattle.std.specs.Option.{option_or}
 use Rattle.std.specs.Result.{IsErrAnd}
-use Rattle.std.specs.Str.{bytes_eq}
-use Rattle.std.proofs.lemmas.Slice.Eq.{bytes_eq-Decides}
-use Rattle.std.proofs.lemmas.Bool.{true≢false}
-use Rattle.rc_links.specs.ScriptText.{ScriptText}
-use Rattle.rc_links.specs.Scripts.{has_name, place_from, place_of, has_script, is_system, doubled, double_from, missing_of, missing_from}
+use Rattle.rc_links.specs.Scripts.{has_name}
 
 -- two names are the same from both sides
 pub bytes_eq-sym : (a b : List ℕ) → bytes_eq a b ≡ bytes_eq b a
@@ -18,14 +13,6 @@ bytes_eq-sym a b =
 same_cond : {X : Type 0} (y : Bool) (x : X) → cond y x x ≡ x
 same_cond true x = refl
 same_cond false x = refl
-
-or_false : (y : Bool) → y || false ≡ y
-or_false true = refl
-or_false false = refl
-
-or_assoc : (x y z : Bool) → (x || y) || z ≡ x || (y || z)
-or_assoc true y z = refl
-or_assoc false y z = refl
 
 -- what a table has for a name after these names were given the place
 abbrev pub put_all : ℕ → List (List ℕ) → List ℕ → Option ℕ → Option ℕ
@@ -90,13 +77,10 @@ place-next before s bs new =
 
 -- the names of scripts, with one more behind
 named-next_by : (x y : Bool) (o : Option ℕ) (n : ℕ) → is_some o ≡ x → is_some (if y then Some n else o) ≡ x || y
-named-next_by true true o n is = refl
-named-next_by true false o n is = is
-named-next_by false true o n is = refl
-named-next_by false false o n is = is
+named-next_by x y o n is = grind arith
 
 has_script-last : (before : List ScriptText) (s : ScriptText) (bs : List ℕ) → has_script (before ++ s ∷ []) bs ≡ has_script before bs || bytes_eq s.name bs
-has_script-last [] s bs = or_false (bytes_eq s.name bs)
+has_script-last [] s bs = or-false (bytes_eq s.name bs)
 has_script-last (x ∷ before) s bs = rw (has_script-last before s bs) (sym (or_assoc (bytes_eq x.name bs) (has_script before bs) (bytes_eq s.name bs)))
 
 pub named-next : (before : List ScriptText) (s : ScriptText) (bs : List ℕ) (o : Option ℕ) (n : ℕ) → is_some o ≡ has_script before bs → is_some (if bytes_eq s.name bs then Some n else o) ≡ has_script (before ++ s ∷ []) bs

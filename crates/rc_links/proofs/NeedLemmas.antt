@@ -1,20 +1,10 @@
 -- The needs by names: where they are, by a table, and within which places.
-use Rattle.std.proofs.Common.{◌≡◌, ℕ, zero, suc, ◌+◌, ◌<◌, ◌≤◌, Bool, true, false, cond, List, [], ◌∷◌, ◌++◌, length, get_or, drop, map, Option, Some, None, is_some, Result, Ok, Err, OnOk, refl, sym, ap, ◌∙◌, arith}
-use Rattle.std.specs.List.{filter_map, cons_option}
-use Rattle.std.specs.Option.{option_map, unwrap_or}
-use Rattle.std.proofs.lemmas.Bool.{true≢false}
-use Rattle.rc_links.specs.declared.needs.Phase.{Phase}
+use Rattle.rc_links.proofs.Words.{◌≡◌, ℕ, zero, suc, ◌+◌, ◌<◌, ◌≤◌, Bool, true, false, cond, List, [], ◌∷◌, ◌++◌, length, get_or, drop, map, Option, Some, None, is_some, Result, Ok, Err, OnOk, refl, sym, ap, ◌∙◌, arith, append_assoc, filter_map, cons_option, unwrap_or, true≢false, Phase, InRange, ScriptText, named, need, needs_from, needs_of, place_from, place_of, places_of}
 use Rattle.rc_links.specs.declared.needs.Phase.TheVariants as phase
-use Rattle.rc_numbers.specs.Numbering.{InRange}
-use Rattle.rc_links.specs.ScriptText.{ScriptText}
-use Rattle.rc_links.specs.Scripts.{has_name, named, need, needs_from, needs_of, place_from, place_of, places_of}
+use Rattle.rc_links.specs.Scripts.{has_name}
 use Rattle.rc_links.proofs.NameLemmas.{cut_at}
 
 -- two lists of names after another
-pub append_assoc : {X : Type 0} (xs ys zs : List X) → (xs ++ ys) ++ zs ≡ xs ++ (ys ++ zs)
-append_assoc [] ys zs = refl
-append_assoc (x ∷ xs) ys zs = ap (λ rest. x ∷ rest) (append_assoc xs ys zs)
-
 abbrev cons_option_of : {X Y : Type 0} (f : X → Y) (o : Option X) (rest : List Y) → List Y
 cons_option_of f None rest = rest
 cons_option_of f (Some x) rest = f x ∷ rest
@@ -93,19 +83,6 @@ needs-next turn all place s f edges whole within at same is =
     let rest = needs_from turn all (place + 1) (drop (place + 1) all) in
     let kept = ap (λ scripts. edges ++ needs_from turn all place scripts) (sym (cut_at all place s within at).0) ∙ is in
     rw (filter_map-ext f (place_of all) (named turn s.header) same) (append_assoc edges (map (need turn place) (places_of all (named turn s.header))) rest ∙ kept)
-
-pub append-none : {X : Type 0} (xs : List X) → xs ++ [] ≡ xs
-append-none [] = refl
-append-none (x ∷ xs) = ap (λ ys. x ∷ ys) (append-none xs)
-
--- the needs by one more name
-step_by : {X Y : Type 0} (f : X → Y) (edges : List Y) (o : Option X) (rest : List Y) → (edges ++ cons_option (option_map f o) []) ++ rest ≡ edges ++ cons_option_of f o rest
-step_by f edges None rest = ap (λ zs. zs ++ rest) (append-none edges)
-step_by f edges (Some x) rest = append_assoc edges (f x ∷ []) rest
-
-pub names-step : {X Y Z : Type 0} (f : Y → Z) (h : X → Option Y) (name : X) (rest : List X) (edges whole : List Z) → edges ++ map f (filter_map h (name ∷ rest)) ≡ whole → (edges ++ cons_option (option_map f (h name)) []) ++ map f (filter_map h rest) ≡ whole
-names-step f h name rest edges whole is =
-    step_by f edges (h name) (map f (filter_map h rest)) ∙ (ap (λ zs. edges ++ zs) (sym (cons_map f (h name) (filter_map h rest))) ∙ is)
 
 pub names-twice : {X Y Z : Type 0} (f : Y → Z) (h : X → Option Y) (xs ys : List X) (edges middle next : List Z) → middle ≡ edges ++ map f (filter_map h xs) → next ≡ middle ++ map f (filter_map h ys) → next ≡ edges ++ map f (filter_map h (xs ++ ys))
 names-twice f h xs ys edges middle next first second =

@@ -1,17 +1,8 @@
 -- Plans: their fields, their names, and the faults that a step gives on.
-use Rattle.std.proofs.Common.{Result, Ok, Err, IfOk, string_bytes, ◌≡◌, ℕ, zero, suc, ◌+◌, ◌<◌, List, [], ◌∷◌, ◌++◌, length, map, get_or, drop, refl, sym, ap, ◌∙◌, subst, arith, inl, inr}
-use Rattle.std.specs.List.{AllByRecursion}
-use Rattle.rc_links.specs.declared.needs.Phase.{Phase}
+use Rattle.rc_links.proofs.Words.{Result, Ok, Err, IfOk, string_bytes, ◌≡◌, ℕ, zero, suc, ◌+◌, ◌<◌, List, [], ◌∷◌, ◌++◌, length, map, get_or, drop, refl, sym, ap, ◌∙◌, subst, arith, append_assoc, inl, inr, AllByRecursion, Phase, Wrong, Round, IsAnyDeep, IsRound, IsTooDeep, Says, HasNoNumbering, IsCycle, IsLeast, ScriptText, PlannedText, AreLeast, IsCycleOf, IsPlan, IsProvided, IsRefused, IsShort, names_at, planned, planned_all, needs_of}
 use Rattle.rc_links.specs.declared.needs.Phase.TheVariants as phase
 use Rattle.rc_links.specs.declared.faults.PlanFault.{PlanFault}
 use Rattle.rc_links.specs.declared.faults.PlanFault.TheVariants as fault
-use Rattle.rc_links.specs.Faults.{Wrong, Round, IsAnyDeep, IsRound, IsTooDeep, Says}
-use Rattle.rc_numbers.specs.Numbering.{HasNoNumbering, IsCycle, IsLeast}
-use Rattle.rc_links.specs.ScriptText.{ScriptText}
-use Rattle.rc_links.specs.PlannedText.{PlannedText}
-use Rattle.rc_links.specs.Plans.{AreLeast, IsCycleOf, IsPlan, IsProvided, IsRefused, IsShort, names_at, planned, planned_all}
-use Rattle.rc_links.specs.Scripts.{needs_of}
-use Rattle.rc_links.proofs.NeedLemmas.{append_assoc}
 
 -- the name at a place
 pub name_is : (scripts : List ScriptText) (place : ℕ) (s : ScriptText) → place < length scripts → s ≡ get_or scripts place s → get_or (map (λ t. t.name) scripts) place [] ≡ s.name

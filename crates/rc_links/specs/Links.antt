@@ -52,11 +52,9 @@ abbrev pub link_line : Level → List ℕ → List ℕ
 link_line level link =
     codes "rc" ++ level_code level ∷ codes ".d/" ++ link ++ codes " ../init.d/" ++ linked_name link ++ codes "\n"
 
--- the lines of a level: the links that stop, then those that start, each set in byte order
+-- the lines of a level's folder
 abbrev pub level_text : List PlannedText → Level → List ℕ
-level_text plan level =
-    flat_map (link_line level) (in_byte_order (stop_links level plan))
-    ++ flat_map (link_line level) (in_byte_order (start_links level plan))
+level_text plan level = flat_map (link_line level) (links_at plan level)
 
 -- the lines of all levels, 0 to 9 and then S
 abbrev pub plan_text : List PlannedText → List ℕ

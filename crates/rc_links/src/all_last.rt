@@ -3,7 +3,7 @@
 //! Tested by `tools/pages.d/rclinks`. Each function is its definition in `specs/AllLast` and may be written otherwise.
 
 ghost use Rattle.std.specs.Prelude.{◌≡◌, ◌++◌, ◌∷◌, map, string_bytes, IfOk, IfErr, OnOk};
-ghost use Rattle.std.specs.List.{flat_map, list_any};
+ghost use Rattle.std.specs.List.{list_any};
 ghost use Rattle.rc_links.specs.AllLast.{all_facility, has_all, names_all, other_names, others};
 ghost use Rattle.rc_links.specs.Scripts.{has_name};
 
@@ -14,7 +14,7 @@ use rc_header::Header;
 use std::alloc::Allocator;
 
 /// The name is one of these.
-fn has_name<A: Allocator>(name: &str, names: &[String<A>]) -> bool
+pub fn has_name<A: Allocator>(name: &str, names: &[String<A>]) -> bool
     ensures { result ≡ has_name name.now (map string_bytes names.now) }
 {
     for other in names {
@@ -85,22 +85,6 @@ fn add_other<A: Allocator + Copy>(
     add_names(alloc, names, script.header().provides())
 }
 
-/// Adds those of all scripts.
-fn add_others<A: Allocator + Copy>(
-    alloc: A,
-    names: &mut Vec<String<A>, A>,
-    phase: Phase,
-    scripts: &[Script<A>],
-) -> Result<(), Memory>
-    ensures { OnOk result (map string_bytes names.new.items ≡
-        map string_bytes names.old.items ++ flat_map (other_names phase) scripts.now) }
-{
-    for script in scripts {
-        add_other(alloc, names, phase, script)?;
-    }
-    Ok(())
-}
-
 /// The names of the scripts that don't name `$all`, where one does.
 fn others<A: Allocator + Copy>(
     alloc: A,
@@ -110,8 +94,11 @@ fn others<A: Allocator + Copy>(
     ensures { IfOk result (λ names. map string_bytes names.items ≡ others phase scripts.now) }
 {
     let mut names = Vec::new(alloc);
-    if is_named(phase, scripts) {
-        add_others(alloc, &mut names, phase, scripts)?;
+    if !is_named(phase, scripts) {
+        return Ok(names);
+    }
+    for script in scripts {
+        add_other(alloc, &mut names, phase, script)?;
     }
     Ok(names)
 }

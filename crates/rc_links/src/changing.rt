@@ -1,6 +1,6 @@
 //! The changes that make the folders hold just the links of the plan, and the names that are taken.
 
-ghost use Rattle.std.specs.Prelude.{◌≡◌, ◌++◌, ◌∷◌, [], ℕ, map, flat_map, take, IfOk, OnOk};
+ghost use Rattle.std.specs.Prelude.{◌≡◌, ◌++◌, ℕ, map, flat_map, take, IfOk, OnOk};
 ghost use Rattle.std.specs.List.{AllByRecursion, filter, list_any};
 ghost use Rattle.std.specs.Str.{bytes_eq};
 ghost use Rattle.rc_links.specs.Changes.{changes_of, goes, is_missing, is_numbered, is_ours, is_taken, making, removal, targets_of};
@@ -69,40 +69,7 @@ fn goes<A: Allocator>(
         && has_name(folder.planned(), entry.name()) == named
 }
 
-/// Adds the removal of such an entry.
-fn add_removal<A: Allocator + Copy>(
-    alloc: A,
-    targets: &[Vec<u8, A>],
-    folder: &Folder<A>,
-    named: bool,
-    entry: &FolderEntry<A>,
-    changes: &mut Vec<LinkChange<A>, A>,
-) -> Result<(), Memory>
-    ensures { OnOk result (changes.new.items ≡ changes.old.items ++ map (removal folder.now.level)
-        (filter (goes named (targets_of targets.now) folder.now.planned) (entry.now ∷ []))) }
-{
-    if goes(targets, folder, named, entry) {
-        changes.push(LinkChange::new(LinkAction::Remove, folder.level(), entry.copy(alloc)?))?;
-    }
-    Ok(())
-}
-
-/// Adds the making of a link of the plan that the folder doesn't hold.
-fn add_making<A: Allocator + Copy>(
-    alloc: A,
-    folder: &Folder<A>,
-    link: &FolderEntry<A>,
-    changes: &mut Vec<LinkChange<A>, A>,
-) -> Result<(), Memory>
-    ensures { OnOk result (changes.new.items ≡ changes.old.items ++ map (making folder.now.level)
-        (filter (is_missing folder.now.held) (link.now ∷ []))) }
-{
-    if !has_entry(folder.held(), link) {
-        changes.push(LinkChange::new(LinkAction::Make, folder.level(), link.copy(alloc)?))?;
-    }
-    Ok(())
-}
-
+/// Adds the removals of such entries.
 fn add_removals<A: Allocator + Copy>(
     alloc: A,
     targets: &[Vec<u8, A>],
@@ -114,11 +81,14 @@ fn add_removals<A: Allocator + Copy>(
         (filter (goes named (targets_of targets.now) folder.now.planned) folder.now.held)) }
 {
     for entry in folder.held() {
-        add_removal(alloc, targets, folder, named, entry, changes)?;
+        if goes(targets, folder, named, entry) {
+            changes.push(LinkChange::new(LinkAction::Remove, folder.level(), entry.copy(alloc)?))?;
+        }
     }
     Ok(())
 }
 
+/// Adds the makings of the plan's links that the folder doesn't hold.
 fn add_makings<A: Allocator + Copy>(
     alloc: A,
     folder: &Folder<A>,
@@ -128,7 +98,9 @@ fn add_makings<A: Allocator + Copy>(
         (filter (is_missing folder.now.held) folder.now.planned)) }
 {
     for link in folder.planned() {
-        add_making(alloc, folder, link, changes)?;
+        if !has_entry(folder.held(), link) {
+            changes.push(LinkChange::new(LinkAction::Make, folder.level(), link.copy(alloc)?))?;
+        }
     }
     Ok(())
 }

@@ -1,6 +1,6 @@
 //! The runlevels of the links that folders hold, in the place of those of the headers; and links whose script is gone.
 
-ghost use Rattle.std.specs.Prelude.{◌≡◌, ◌++◌, ◌∷◌, [], IfOk, OnOk};
+ghost use Rattle.std.specs.Prelude.{◌≡◌, IfOk};
 ghost use Rattle.std.specs.List.{list_any};
 ghost use Rattle.rc_links.specs.Kept.{begins_with, is_gone, is_link_of, is_nowhere, kept_plan, kept_script, levels_in, target_in};
 
@@ -50,22 +50,6 @@ fn has_link_of<A: Allocator>(letter: u8, name: &[u8], folder: &Folder<A>) -> boo
     false
 }
 
-/// Adds the runlevel of a folder that holds such a link.
-fn add_level<A: Allocator>(
-    levels: &mut Vec<Level, A>,
-    letter: u8,
-    name: &[u8],
-    folder: &Folder<A>,
-) -> Result<(), Memory>
-    ensures { OnOk result
-        (levels.new.items ≡ levels.old.items ++ levels_in letter name.now (folder.now ∷ [])) }
-{
-    if has_link_of(letter, name, folder) {
-        levels.push(folder.level())?;
-    }
-    Ok(())
-}
-
 /// The runlevels of the folders that hold such a link.
 fn levels_in<A: Allocator>(
     alloc: A,
@@ -77,7 +61,9 @@ fn levels_in<A: Allocator>(
 {
     let mut levels = Vec::new(alloc);
     for folder in folders {
-        add_level(&mut levels, letter, name, folder)?;
+        if has_link_of(letter, name, folder) {
+            levels.push(folder.level())?;
+        }
     }
     Ok(levels)
 }

@@ -16,7 +16,7 @@ mod printing;
 mod scripts;
 mod tables;
 
-pub use all_last::add_all;
+pub use all_last::{add_all, has_name};
 pub use changing::{changes, is_taken};
 pub use faults::PlanFault;
 pub use folder_entries::{FolderEntry, is_same};

@@ -1,11 +1,9 @@
 //! Which scripts have to come before which, at the start and at the stop.
 
-ghost use Rattle.std.specs.Prelude.{string_bytes, ◌≡◌, ◌++◌, [], OnOk, IfOk, length, map};
-ghost use Rattle.std.specs.List.{cons_option};
-ghost use Rattle.std.specs.Option.{option_map};
+ghost use Rattle.std.specs.Prelude.{string_bytes, ◌≡◌, ◌++◌, OnOk, IfOk, length, map};
 ghost use Rattle.rc_numbers.specs.Numbering.{InRange};
 ghost use Rattle.rc_links.specs.Scripts.{need, named, needs_of};
-ghost use Rattle.rc_links.specs.Tables.{HasPlaces, needs_by, place_in};
+ghost use Rattle.rc_links.specs.Tables.{HasPlaces, needs_by};
 
 use crate::scripts::Script;
 use crate::tables::{Providers, place_at};
@@ -29,24 +27,6 @@ fn need(phase: Phase, place: usize, other: usize) -> (usize, usize)
     }
 }
 
-/// Adds who needs whom by one name, if a script provides it.
-fn add_name<A: Allocator>(
-    edges: &mut Vec<(usize, usize), A>,
-    phase: Phase,
-    place: usize,
-    table: &Providers<'_, A>,
-    name: &[u8],
-) -> Result<(), Memory>
-    ensures { OnOk result (edges.new.items ≡
-        edges.old.items ++ cons_option
-        (option_map (need phase place) (place_in table.now name.now)) []) }
-{
-    if let Some(other) = place_at(table, name) {
-        edges.push(need(phase, place, other))?;
-    }
-    Ok(())
-}
-
 /// Adds who needs whom, where the script at this place gives these names.
 fn add_names<A: Allocator, B: Allocator>(
     edges: &mut Vec<(usize, usize), A>,
@@ -59,7 +39,9 @@ fn add_names<A: Allocator, B: Allocator>(
         edges.old.items ++ needs_by phase place table.now (map string_bytes names.now)) }
 {
     for name in names {
-        add_name(edges, phase, place, table, name.as_bytes())?;
+        if let Some(other) = place_at(table, name.as_bytes()) {
+            edges.push(need(phase, place, other))?;
+        }
     }
     Ok(())
 }

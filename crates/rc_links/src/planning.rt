@@ -33,23 +33,6 @@ fn add_name<A: Allocator + Copy>(
     Ok(())
 }
 
-/// Adds the names of the scripts at these places.
-fn add_names<A: Allocator + Copy>(
-    alloc: A,
-    names: &mut Vec<String<A>, A>,
-    scripts: &[Script<A>],
-    places: &[usize],
-) -> Result<(), Memory>
-    requires { AllBelow (length scripts.now) places.now }
-    ensures { OnOk result (map string_bytes names.new.items ≡
-        map string_bytes names.old.items ++ names_at scripts.now places.now) }
-{
-    for place in places {
-        add_name(alloc, names, &scripts[*place])?;
-    }
-    Ok(())
-}
-
 /// The names of the scripts at these places.
 fn names_at<A: Allocator + Copy>(
     alloc: A,
@@ -61,7 +44,9 @@ fn names_at<A: Allocator + Copy>(
         map string_bytes names.items ≡ names_at scripts.now places.now) }
 {
     let mut names = Vec::new(alloc);
-    add_names(alloc, &mut names, scripts, places)?;
+    for place in places {
+        add_name(alloc, &mut names, &scripts[*place])?;
+    }
     Ok(names)
 }
 

@@ -46,54 +46,6 @@ fn has_level(levels: &[Level], level: Level) -> bool
     levels.contains(&level)
 }
 
-/// Adds the link of a script that stops at a runlevel.
-fn add_stop_link<A: Allocator + Copy>(
-    alloc: A,
-    links: &mut Vec<Vec<u8, A>, A>,
-    script: &Planned<A>,
-    level: Level,
-) -> Result<(), Memory>
-    ensures { OnOk result
-        (AddsLinks links.old.items links.new.items (stop_links level (script.now ∷ []))) }
-{
-    if has_level(script.stops(), level) {
-        links.push(link_of(alloc, b'K', script.stop(), script.name().as_bytes())?)?;
-    }
-    Ok(())
-}
-
-/// Adds the link of a script that starts at a runlevel.
-fn add_start_link<A: Allocator + Copy>(
-    alloc: A,
-    links: &mut Vec<Vec<u8, A>, A>,
-    script: &Planned<A>,
-    level: Level,
-) -> Result<(), Memory>
-    ensures { OnOk result
-        (AddsLinks links.old.items links.new.items (start_links level (script.now ∷ []))) }
-{
-    if has_level(script.starts(), level) {
-        links.push(link_of(alloc, b'S', script.start(), script.name().as_bytes())?)?;
-    }
-    Ok(())
-}
-
-/// Adds the links of the scripts that stop at a runlevel.
-fn add_stop_links<A: Allocator + Copy>(
-    alloc: A,
-    links: &mut Vec<Vec<u8, A>, A>,
-    scripts: &[Planned<A>],
-    level: Level,
-) -> Result<(), Memory>
-    ensures { OnOk result
-        (AddsLinks links.old.items links.new.items (stop_links level scripts.now)) }
-{
-    for script in scripts {
-        add_stop_link(alloc, links, script, level)?;
-    }
-    Ok(())
-}
-
 /// The links of the scripts that stop at a runlevel.
 fn stop_links<A: Allocator + Copy>(
     alloc: A,
@@ -104,24 +56,12 @@ fn stop_links<A: Allocator + Copy>(
         map (λ link. link.items) links.items ≡ stop_links level scripts.now) }
 {
     let mut links = Vec::new(alloc);
-    add_stop_links(alloc, &mut links, scripts, level)?;
-    Ok(links)
-}
-
-/// Adds the links of the scripts that start at a runlevel.
-fn add_start_links<A: Allocator + Copy>(
-    alloc: A,
-    links: &mut Vec<Vec<u8, A>, A>,
-    scripts: &[Planned<A>],
-    level: Level,
-) -> Result<(), Memory>
-    ensures { OnOk result
-        (AddsLinks links.old.items links.new.items (start_links level scripts.now)) }
-{
     for script in scripts {
-        add_start_link(alloc, links, script, level)?;
+        if has_level(script.stops(), level) {
+            links.push(link_of(alloc, b'K', script.stop(), script.name().as_bytes())?)?;
+        }
     }
-    Ok(())
+    Ok(links)
 }
 
 /// The links of the scripts that start at a runlevel.
@@ -134,7 +74,11 @@ fn start_links<A: Allocator + Copy>(
         map (λ link. link.items) links.items ≡ start_links level scripts.now) }
 {
     let mut links = Vec::new(alloc);
-    add_start_links(alloc, &mut links, scripts, level)?;
+    for script in scripts {
+        if has_level(script.starts(), level) {
+            links.push(link_of(alloc, b'S', script.start(), script.name().as_bytes())?)?;
+        }
+    }
     Ok(links)
 }
 
@@ -167,23 +111,6 @@ fn sort_links<A: Allocator>(links: &mut Vec<Vec<u8, A>, A>)
     links.sort_unstable();
 }
 
-/// Appends the lines of links at a runlevel, in byte order.
-fn add_lines<A: Allocator>(
-    text: &mut Vec<u8, A>,
-    level: Level,
-    mut links: Vec<Vec<u8, A>, A>,
-) -> Result<(), Memory>
-    ensures { OnOk result (text.new.items ≡
-        text.old.items ++ flat_map (link_line level)
-        (in_byte_order (map (λ link. link.items) links.items))) }
-{
-    sort_links(&mut links);
-    for link in &links {
-        add_line(text, level, link.as_slice())?;
-    }
-    Ok(())
-}
-
 /// Moves links to the end of others, in byte order.
 fn add_sorted<A: Allocator>(
     links: &mut Vec<Vec<u8, A>, A>,
@@ -197,17 +124,18 @@ fn add_sorted<A: Allocator>(
     Ok(())
 }
 
-/// Appends the lines of a runlevel: the links that stop, then those that start.
-fn add_level<A: Allocator + Copy>(
-    alloc: A,
+/// Appends the lines of links at a runlevel.
+fn add_lines<A: Allocator>(
     text: &mut Vec<u8, A>,
-    scripts: &[Planned<A>],
     level: Level,
+    links: &[Vec<u8, A>],
 ) -> Result<(), Memory>
-    ensures { OnOk result (text.new.items ≡ text.old.items ++ level_text scripts.now level) }
+    ensures { OnOk result (text.new.items ≡ text.old.items
+        ++ flat_map (link_line level) (map (λ link. link.items) links.now)) }
 {
-    add_lines(text, level, stop_links(alloc, scripts, level)?)?;
-    add_lines(text, level, start_links(alloc, scripts, level)?)?;
+    for link in links {
+        add_line(text, level, link.as_slice())?;
+    }
     Ok(())
 }
 
@@ -242,7 +170,7 @@ impl<A: Allocator + Copy> Plan<A> {
     {
         let mut text = Vec::new(alloc);
         for level in LEVELS {
-            add_level(alloc, &mut text, self.scripts(), level)?;
+            add_lines(&mut text, level, self.links_at(alloc, level)?.as_slice())?;
         }
         Ok(text)
     }

@@ -1,4 +1,4 @@
-use Rattle.std.proofs.Common.{string_bytes, ◌≡◌, ◌++◌, map, drop}
+use Rattle.rc_links.proofs.Words.{string_bytes, ◌≡◌, ◌++◌, map, drop}
 use Rattle.rc_links.proofs.all_last.add_names.Given as goal
 
 abbrev pub invariant-loop-name : goal.invariant-loop-name

@@ -1,4 +1,4 @@
-use Rattle.std.proofs.Common.{string_bytes, ◌≡◌, map, drop}
+use Rattle.rc_links.proofs.Words.{string_bytes, ◌≡◌, map, drop}
 use Rattle.rc_links.specs.Scripts.{has_name}
 use Rattle.rc_links.proofs.all_last.has_name.Given as goal
 

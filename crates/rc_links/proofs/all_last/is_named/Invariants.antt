@@ -1,6 +1,4 @@
-use Rattle.std.proofs.Common.{◌≡◌, drop}
-use Rattle.std.specs.List.{list_any}
-use Rattle.rc_links.specs.AllLast.{names_all}
+use Rattle.rc_links.proofs.Words.{◌≡◌, drop, list_any, names_all}
 use Rattle.rc_links.proofs.all_last.is_named.Given as goal
 
 abbrev pub invariant-loop-script : goal.invariant-loop-script

@@ -1,6 +1,4 @@
-use Rattle.std.proofs.Common.{◌≡◌, ◌++◌, map, drop}
-use Rattle.std.specs.List.{filter}
-use Rattle.rc_links.specs.Changes.{is_missing, making}
+use Rattle.rc_links.proofs.Words.{◌≡◌, ◌++◌, map, drop, filter, is_missing, making}
 use Rattle.rc_links.proofs.changing.add_makings.Given as goal
 
 abbrev pub invariant-loop-link : goal.invariant-loop-link

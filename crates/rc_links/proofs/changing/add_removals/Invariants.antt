@@ -1,6 +1,4 @@
-use Rattle.std.proofs.Common.{◌≡◌, ◌++◌, map, drop}
-use Rattle.std.specs.List.{filter}
-use Rattle.rc_links.specs.Changes.{goes, removal, targets_of}
+use Rattle.rc_links.proofs.Words.{◌≡◌, ◌++◌, map, drop, filter, goes, removal, targets_of}
 use Rattle.rc_links.proofs.changing.add_removals.Given as goal
 
 abbrev pub invariant-loop-entry : goal.invariant-loop-entry

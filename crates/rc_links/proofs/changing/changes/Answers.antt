@@ -1,16 +1,7 @@
-use Rattle.std.proofs.Common.{◌≡◌, take, sym, subst, map, flat_map}
-use Rattle.std.specs.List.{AllByRecursion}
-use Rattle.std.proofs.lemmas.List.{append-nil, drop_all}
-use Rattle.rc_links.specs.Changes.{changes_of, targets_of}
-use Rattle.rc_links.specs.Kept.{kept_script}
-use Rattle.rc_links.specs.Mending.{IsMended, behind}
+use Rattle.rc_links.proofs.Words.{◌≡◌, take, sym, subst, map, AllByRecursion, append-nil, drop_all, changes_of, targets_of, kept_script, IsMended, behind}
+use Rattle.std.proofs.Common.{flat_map}
 use Rattle.rc_links.proofs.MendingLemmas.{all_mended, all_own, kept_stays}
-use Rattle.rc_links.proofs.StepLemmas.{joined-next}
 use Rattle.rc_links.proofs.changing.changes.Goals as goal
-
-pub loop-folder-preserved : goal.loop-folder-preserved
-loop-folder-preserved g c =
-    joined-next (changes_of (targets_of c.args.targets.now)) c.args.folders.now c.loop-folder.folder-index c.folder-item.result c.loop-folder.found.items _ _ c.loop-folder-test.true c.folder-item.is c.in_ok-add_folder.ensures c.loop-folder.invariant
 
 pub returns : goal.returns
 returns g c =

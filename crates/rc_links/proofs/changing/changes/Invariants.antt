@@ -1,5 +1,5 @@
-use Rattle.std.proofs.Common.{◌≡◌, ◌++◌, flat_map, drop}
-use Rattle.rc_links.specs.Changes.{changes_of, targets_of}
+use Rattle.rc_links.proofs.Words.{◌≡◌, ◌++◌, drop, changes_of, targets_of}
+use Rattle.std.proofs.Common.{flat_map}
 use Rattle.rc_links.proofs.changing.changes.Given as goal
 
 abbrev pub invariant-loop-folder : goal.invariant-loop-folder

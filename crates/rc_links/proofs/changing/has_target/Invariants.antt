@@ -1,7 +1,4 @@
-use Rattle.std.proofs.Common.{◌≡◌, drop}
-use Rattle.std.specs.List.{list_any}
-use Rattle.std.specs.Str.{bytes_eq}
-use Rattle.rc_links.specs.Changes.{targets_of}
+use Rattle.rc_links.proofs.Words.{◌≡◌, drop, list_any, bytes_eq, targets_of}
 use Rattle.rc_links.proofs.changing.has_target.Given as goal
 
 abbrev pub invariant-loop-target : goal.invariant-loop-target

@@ -1,4 +1,4 @@
-use Rattle.std.proofs.Common.{◌≡◌, drop}
+use Rattle.rc_links.proofs.Words.{◌≡◌, drop}
 use Rattle.rc_links.specs.Entries.{has_name}
 use Rattle.rc_links.proofs.folder_entries.has_name.Given as goal
 

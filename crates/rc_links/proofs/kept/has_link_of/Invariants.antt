@@ -1,6 +1,4 @@
-use Rattle.std.proofs.Common.{◌≡◌, drop}
-use Rattle.std.specs.List.{list_any}
-use Rattle.rc_links.specs.Kept.{is_link_of}
+use Rattle.rc_links.proofs.Words.{◌≡◌, drop, list_any, is_link_of}
 use Rattle.rc_links.proofs.kept.has_link_of.Given as goal
 
 abbrev pub invariant-loop-entry : goal.invariant-loop-entry

@@ -1,5 +1,4 @@
-use Rattle.std.proofs.Common.{◌≡◌, ◌++◌, drop}
-use Rattle.rc_links.specs.Kept.{levels_in}
+use Rattle.rc_links.proofs.Words.{◌≡◌, ◌++◌, drop, levels_in}
 use Rattle.rc_links.proofs.kept.levels_in.Given as goal
 
 abbrev pub invariant-loop-folder : goal.invariant-loop-folder

@@ -1,7 +1,4 @@
-use Rattle.std.proofs.Common.{string_bytes, ◌≡◌, ◌++◌, map, drop}
-use Rattle.std.specs.List.{filter_map}
-use Rattle.rc_links.specs.Scripts.{need}
-use Rattle.rc_links.specs.Tables.{place_in}
+use Rattle.rc_links.proofs.Words.{string_bytes, ◌≡◌, ◌++◌, map, drop, filter_map, need, place_in}
 use Rattle.rc_links.proofs.needs.add_names.Given as goal
 
 abbrev pub invariant-loop-name : goal.invariant-loop-name

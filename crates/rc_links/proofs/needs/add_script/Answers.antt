@@ -1,6 +1,4 @@
-use Rattle.std.proofs.Common.{string_bytes, ◌≡◌, ◌∙◌, ◌++◌, ap, List, ℕ, Option, map}
-use Rattle.rc_links.specs.Scripts.{named, need}
-use Rattle.rc_links.specs.Tables.{place_in}
+use Rattle.rc_links.proofs.Words.{string_bytes, ◌≡◌, ◌∙◌, ◌++◌, ap, List, ℕ, Option, map, named, need, place_in}
 use Rattle.rc_links.proofs.NeedLemmas.{names-twice, on_ok}
 use Rattle.rc_links.proofs.needs.add_script.Goals as goal
 

@@ -1,8 +1,5 @@
-use Rattle.std.proofs.Common.{◌∙◌, sym, subst, length, arith}
-use Rattle.std.proofs.lemmas.List.{drop_all}
-use Rattle.rc_numbers.specs.Numbering.{InRange}
-use Rattle.rc_links.specs.Tables.{place_in}
-use Rattle.rc_links.proofs.NeedLemmas.{append-none, needs-next, needs-range}
+use Rattle.rc_links.proofs.Words.{◌∙◌, sym, subst, length, arith, append-nil, drop_all, InRange, place_in}
+use Rattle.rc_links.proofs.NeedLemmas.{needs-next, needs-range}
 use Rattle.rc_links.proofs.needs.needs.Goals as goal
 
 pub loop-place-preserved : goal.loop-place-preserved
@@ -14,5 +11,5 @@ pub returns-clause-range : goal.returns-clause-range
 returns-clause-range g c =
     let all = c.args.scripts.now in
     let past = drop_all c.loop-place.place all (omega (arith, c.loop-place-test.false)) in
-    let is = sym (append-none c.loop-place.edges.items) ∙ (rw past at c.loop-place.invariant) in
+    let is = sym (append-nil c.loop-place.edges.items) ∙ (rw past at c.loop-place.invariant) in
     subst (λ edges. InRange (length all) edges) (sym is) (needs-range c.args.phase all)

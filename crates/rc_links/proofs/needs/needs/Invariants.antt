@@ -1,5 +1,4 @@
-use Rattle.std.proofs.Common.{◌≡◌, ◌++◌, drop}
-use Rattle.rc_links.specs.Scripts.{needs_from}
+use Rattle.rc_links.proofs.Words.{◌≡◌, ◌++◌, drop, needs_from}
 use Rattle.rc_links.proofs.needs.needs.Given as goal
 
 abbrev pub invariant-loop-place : goal.invariant-loop-place

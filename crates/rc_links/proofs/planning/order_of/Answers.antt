@@ -1,6 +1,4 @@
-use Rattle.std.proofs.Common.{◌≡◌, ◌∙◌, ℕ, List, IfOk, IfErr, length, subst}
-use Rattle.rc_numbers.specs.Numbering.{HasNoNumbering, IsCycle, IsLeast}
-use Rattle.rc_links.specs.Scripts.{needs_of}
+use Rattle.rc_links.proofs.Words.{◌≡◌, ◌∙◌, ℕ, List, IfOk, IfErr, length, subst, HasNoNumbering, IsCycle, IsLeast, needs_of}
 use Rattle.rc_links.proofs.PlanLemmas.{AreLeast-order}
 use Rattle.rc_links.proofs.planning.order_of.Goals as goal
 

@@ -1,4 +1,4 @@
-use Rattle.rc_links.specs.Plans.{IsProvided}
+use Rattle.rc_links.proofs.Words.{IsProvided}
 use Rattle.rc_links.proofs.NameLemmas.{err_and}
 use Rattle.rc_links.proofs.PlanLemmas.{plan_made, refused-deep, refused-start, refused-stop}
 use Rattle.rc_links.proofs.planning.plan_by.Goals as goal

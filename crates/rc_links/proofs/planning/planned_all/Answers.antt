@@ -1,6 +1,4 @@
-use Rattle.std.proofs.Common.{◌+◌, subst, get_or, drop, arith}
-use Rattle.rc_links.specs.PlannedText.{PlannedText}
-use Rattle.rc_links.specs.Plans.{IsShort}
+use Rattle.rc_links.proofs.Words.{◌+◌, subst, get_or, drop, arith, PlannedText, IsShort}
 use Rattle.rc_links.proofs.NameLemmas.{cut_at, err_and}
 use Rattle.rc_links.proofs.PlanLemmas.{Says-weaker, any_deep, cut_number, planned-step, short-push}
 use Rattle.rc_links.proofs.planning.planned_all.Goals as goal

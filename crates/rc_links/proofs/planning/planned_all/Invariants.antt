@@ -1,6 +1,4 @@
-use Rattle.std.proofs.Common.{◌≡◌, ◌++◌, drop}
-use Rattle.std.specs.List.{AllByRecursion}
-use Rattle.rc_links.specs.Plans.{IsShort, planned_all}
+use Rattle.rc_links.proofs.Words.{◌≡◌, ◌++◌, drop, AllByRecursion, IsShort, planned_all}
 use Rattle.rc_links.proofs.planning.planned_all.Given as goal
 
 abbrev pub invariant-loop-place : goal.invariant-loop-place

@@ -1,9 +1,9 @@
-use Rattle.std.proofs.Common.{◌≡◌, ◌++◌, map, flat_map, drop}
-use Rattle.rc_links.specs.Links.{in_byte_order, link_line}
+use Rattle.rc_links.proofs.Words.{◌≡◌, ◌++◌, map, drop, link_line}
+use Rattle.std.proofs.Common.{flat_map}
 use Rattle.rc_links.proofs.printing.add_lines.Given as goal
 
 -- the text with the lines of the links that are left is the whole
 abbrev pub invariant-loop-link : goal.invariant-loop-link
 invariant-loop-link g l =
-    l.text.items ++ flat_map (link_line l.level) (map (λ link. link.items) (drop l.link-index l.link-items)) ≡
-    l.fn.text.items ++ flat_map (link_line l.level) (in_byte_order (map (λ link. link.items) l.fn.links.items))
+    l.text.items ++ flat_map (link_line l.level) (map (λ link. link.items) (drop l.link-index l.links))
+    ≡ l.fn.text.items ++ flat_map (link_line l.level) (map (λ link. link.items) l.links)

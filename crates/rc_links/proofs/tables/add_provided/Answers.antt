@@ -1,6 +1,4 @@
-use Rattle.std.proofs.Common.{arith}
-use Rattle.std.proofs.lemmas.List.{drop_all}
-use Rattle.rc_links.specs.Tables.{place_in}
+use Rattle.rc_links.proofs.Words.{arith, drop_all, place_in}
 use Rattle.rc_links.proofs.NameLemmas.{put_all-is}
 use Rattle.rc_links.proofs.tables.add_provided.Goals as goal
 

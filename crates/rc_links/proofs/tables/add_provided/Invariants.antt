@@ -1,5 +1,4 @@
-use Rattle.std.proofs.Common.{string_bytes, ◌≡◌, ℕ, List, map, drop}
-use Rattle.rc_links.specs.Tables.{place_in}
+use Rattle.rc_links.proofs.Words.{string_bytes, ◌≡◌, ℕ, List, map, drop, place_in}
 use Rattle.rc_links.proofs.NameLemmas.{put_all}
 use Rattle.rc_links.proofs.tables.add_provided.Given as goal
 

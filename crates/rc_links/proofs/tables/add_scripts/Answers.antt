@@ -1,8 +1,4 @@
-use Rattle.std.proofs.Common.{◌≡◌, ◌∙◌, ◌+◌, sym, ap, refl, None, take, drop, arith}
-use Rattle.std.proofs.lemmas.List.{take_all}
-use Rattle.rc_links.specs.Scripts.{double_from, doubled}
-use Rattle.rc_links.specs.Faults.{IsDouble}
-use Rattle.rc_links.specs.Tables.{known_again, place_in}
+use Rattle.rc_links.proofs.Words.{◌≡◌, ◌∙◌, ◌+◌, sym, ap, refl, None, take, drop, arith, take_all, double_from, doubled, IsDouble, known_again, place_in}
 use Rattle.rc_links.proofs.NameLemmas.{cut_at, err_and, doubled-is, double-next, double-told, named-next, place-next, unknown}
 use Rattle.rc_links.proofs.PlanLemmas.{Says-weaker}
 use Rattle.rc_links.proofs.tables.add_scripts.Goals as goal

@@ -1,6 +1,4 @@
-use Rattle.std.proofs.Common.{◌≡◌, ℕ, List, [], take, drop}
-use Rattle.rc_links.specs.Scripts.{double_from, has_script}
-use Rattle.rc_links.specs.Tables.{HasPlaces, is_known}
+use Rattle.rc_links.proofs.Words.{◌≡◌, ℕ, List, [], take, drop, double_from, has_script, HasPlaces, is_known}
 use Rattle.rc_links.proofs.tables.add_scripts.Given as goal
 
 abbrev pub invariant-loop-place : goal.invariant-loop-place

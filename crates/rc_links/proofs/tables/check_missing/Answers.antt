@@ -1,6 +1,4 @@
-use Rattle.std.proofs.Common.{◌∙◌, ◌+◌, sym, ap, drop}
-use Rattle.rc_links.specs.Scripts.{missing_from}
-use Rattle.rc_links.specs.Tables.{place_in}
+use Rattle.rc_links.proofs.Words.{◌∙◌, ◌+◌, sym, ap, drop, missing_from, place_in}
 use Rattle.rc_links.proofs.NameLemmas.{cut_at, missing-is, missing-next, missing-told}
 use Rattle.rc_links.proofs.PlanLemmas.{Says-weaker}
 use Rattle.rc_links.proofs.tables.check_missing.Goals as goal

@@ -1,5 +1,4 @@
-use Rattle.std.proofs.Common.{◌≡◌, drop}
-use Rattle.rc_links.specs.Scripts.{missing_from}
+use Rattle.rc_links.proofs.Words.{◌≡◌, drop, missing_from}
 use Rattle.rc_links.proofs.tables.check_missing.Given as goal
 
 abbrev pub invariant-loop-script : goal.invariant-loop-script

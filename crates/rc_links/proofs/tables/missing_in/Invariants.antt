@@ -1,5 +1,4 @@
-use Rattle.std.proofs.Common.{string_bytes, ◌≡◌, find, map, drop}
-use Rattle.rc_links.specs.Tables.{is_unknown}
+use Rattle.rc_links.proofs.Words.{string_bytes, ◌≡◌, find, map, drop, is_unknown}
 use Rattle.rc_links.proofs.tables.missing_in.Given as goal
 
 abbrev pub invariant-loop-name : goal.invariant-loop-name

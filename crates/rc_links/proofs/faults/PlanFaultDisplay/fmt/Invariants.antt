@@ -1,4 +1,5 @@
-use Rattle.std.proofs.Common.{flat_map, take}
+use Rattle.rc_links.proofs.Words.{take}
+use Rattle.std.proofs.Common.{flat_map}
 use Rattle.std.specs.Fmt.{HasWritten, IsPlainFormatter}
 use Rattle.rc_links.specs.FaultTexts.{with_blank}
 use Rattle.rc_links.proofs.faults.PlanFaultDisplay.fmt.Given as goal

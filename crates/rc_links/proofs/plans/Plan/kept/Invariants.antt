@@ -1,5 +1,4 @@
-use Rattle.std.proofs.Common.{◌≡◌, ◌++◌, drop}
-use Rattle.rc_links.specs.Kept.{kept_plan}
+use Rattle.rc_links.proofs.Words.{◌≡◌, ◌++◌, drop, kept_plan}
 use Rattle.rc_links.proofs.plans.Plan.kept.Given as goal
 
 abbrev pub invariant-loop-script : goal.invariant-loop-script

@@ -1,4 +1,4 @@
-use Rattle.std.proofs.Common.{◌≡◌, ◌++◌, map, drop}
+use Rattle.rc_links.proofs.Words.{◌≡◌, ◌++◌, map, drop}
 use Rattle.rc_links.proofs.plans.Plan.names.Given as goal
 
 abbrev pub invariant-loop-script : goal.invariant-loop-script

@@ -1,8 +1,6 @@
-use Rattle.std.proofs.Common.{◌≡◌, ◌++◌, flat_map, ℕ, ◌+◌, ◌<◌, length, List, get_or, drop, arith}
+use Rattle.rc_links.proofs.Words.{◌≡◌, ◌++◌, ℕ, ◌+◌, ◌<◌, length, List, get_or, drop, arith, Level, L0, level_text}
+use Rattle.std.proofs.Common.{flat_map}
 use Rattle.std.proofs.lemmas.Grind.{common_steps}
-use Rattle.init_words.specs.declared.levels.Level.{Level}
-use Rattle.init_words.specs.declared.levels.Level.TheVariants.{L0}
-use Rattle.rc_links.specs.Links.{level_text}
 use Rattle.rc_links.proofs.plans.Plan.print.Goals as goal
 
 more : (f : Level → List ℕ) (levels : List Level) (place : ℕ) (d : Level) (text new whole : List ℕ) → place < length levels → text ++ flat_map f (drop place levels) ≡ whole → new ≡ text ++ f (get_or levels place d) → new ++ flat_map f (drop (place + 1) levels) ≡ whole
@@ -10,5 +8,5 @@ more f levels place d text new whole below so_far added = grind (arith, common_s
 
 pub loop-level-preserved : goal.loop-level-preserved
 loop-level-preserved g c =
-    more (level_text c.args.self.now) _ c.loop-level.level-index L0 c.loop-level.text.items c.add_level.new.text.items _
-    c.loop-level-test.true c.loop-level.invariant (rw c.scripts.ensures at c.in_ok-add_level.ensures)
+    more (level_text c.args.self.now) _ c.loop-level.level-index L0 c.loop-level.text.items c.add_lines.new.text.items _
+    c.loop-level-test.true c.loop-level.invariant (rw (c.as_slice.ensures.value, c.in_ok-links_at.ensures) at c.in_ok-add_lines.ensures)

@@ -1,5 +1,5 @@
-use Rattle.std.proofs.Common.{◌≡◌, ◌++◌, flat_map, drop}
-use Rattle.rc_links.specs.Links.{level_text, plan_text}
+use Rattle.rc_links.proofs.Words.{◌≡◌, ◌++◌, drop, level_text, plan_text}
+use Rattle.std.proofs.Common.{flat_map}
 use Rattle.rc_links.proofs.plans.Plan.print.Given as goal
 
 -- the text with the lines of the levels that are left is the whole

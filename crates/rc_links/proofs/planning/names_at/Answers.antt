@@ -2,7 +2,7 @@ use Rattle.std.proofs.Common.{string_bytes, ◌∙◌, ◌+◌, ◌++◌, sym, a
 use Rattle.std.proofs.lemmas.List.{append-nil, drop_all}
 use Rattle.rc_links.specs.Plans.{names_at}
 use Rattle.rc_links.proofs.PlanLemmas.{cut_number, names-step}
-use Rattle.rc_links.proofs.planning.add_names.Goals as goal
+use Rattle.rc_links.proofs.planning.names_at.Goals as goal
 
 pub loop-place-preserved : goal.loop-place-preserved
 loop-place-preserved g c =

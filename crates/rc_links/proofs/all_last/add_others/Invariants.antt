@@ -1,9 +1,0 @@
-use Rattle.std.proofs.Common.{string_bytes, ◌≡◌, ◌++◌, map, drop}
-use Rattle.std.specs.List.{flat_map}
-use Rattle.rc_links.specs.AllLast.{other_names}
-use Rattle.rc_links.proofs.all_last.add_others.Given as goal
-
-abbrev pub invariant-loop-script : goal.invariant-loop-script
-invariant-loop-script g l =
-    map string_bytes l.names.items ++ flat_map (other_names l.phase) (drop l.script-index l.scripts)
-    ≡ map string_bytes l.fn.names.items ++ flat_map (other_names l.phase) l.scripts
