@@ -1,2 +1,3 @@
 pub mod ReadWords
 pub mod Reported
+pub mod Words

@@ -1,10 +1,7 @@
 -- What words say where the command line has no fault in them.
-use Rattle.std.proofs.Common.{◌≡◌, ◌∙◌, ap, refl, sym, true, ℕ, List, Bool, codes, Option, Some, option_and_then}
-use Rattle.clap.specs.Words.{Row, is_simple_and_free}
+use Rattle.rc_command.proofs.Words.{◌≡◌, ◌∙◌, ap, refl, sym, true, ℕ, List, Bool, codes, Option, Some, option_and_then, Row, is_simple_and_free, command_line, options_said, rows_said, rc_said_by, seconds_said, RunOptions}
 use Rattle.clap.proofs.OnLiterals.{clap_on_literals}
 use Rattle.command_words.specs.CommandLines.{bare_line, is_set, line_of}
-use Rattle.rc_command.specs.CommandLine.{command_line, options_said, rows_said, rc_said_by, seconds_said}
-use Rattle.rc_command.specs.declared.command.RunOptions.{RunOptions}
 
 -- the command line uses no more of clap than what is known of it
 pub is_free_line : is_simple_and_free command_line ≡ true

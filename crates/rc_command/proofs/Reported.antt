@@ -1,37 +1,31 @@
 -- A run of all scripts reports them, and no answer to one is missing before it.
-use Rattle.std.proofs.Common.{◌≡◌, ◌≢◌, ◌⊎◌, ◌∙◌, inl, inr, refl, sym, arith, ℕ, ◌-◌, Bool, true, false, cond, ◌||◌, List, [], ◌∷◌, length, Option, ap, subst}
+use Rattle.rc_command.proofs.Words.{◌≡◌, ◌≢◌, ◌⊎◌, ◌∙◌, inl, inr, refl, sym, arith, ℕ, ◌-◌, Bool, true, false, cond, ◌||◌, List, [], ◌∷◌, length, Option, ap, subst, true≢false, Asked, RcSaid, entering, said_at, RunOptions, AreNames, AsksFor, IsBefore, IsStatusOf, IsWhole, Reports, ReportsFirst, ReportsNames, ReportsPart, RunsAsked, RunsNames, RunsSaid, RunsScripts, ended_text, rc_of, status_of, written, LinkRun, RcState, is_failure, writes_ends}
 use Rattle.std.specs.Io.KnownBytes.{Appends}
-use Rattle.std.proofs.lemmas.Bool.{true≢false}
 use Rattle.program_io.specs.Writing.{AppendsPrefix}
 use Rattle.program_io.specs.declared.statuses.TheConstants.{DEVICE_FAULT, DONE, LIMIT_REACHED}
 use Rattle.host_calls.specs.Calls.{HostCall}
 use Rattle.host_calls.specs.Record.{Since}
 use Rattle.host_calls.proofs.Record.{Since-map}
 use Rattle.init_words.specs.declared.levels.Level.{Level}
-use Rattle.rc_command.specs.CommandLine.{Asked, RcSaid, entering, said_at}
 use Rattle.rc_command.specs.LevelFiles.{KnownFiles}
-use Rattle.rc_command.specs.declared.command.RunOptions.{RunOptions}
-use Rattle.rc_command.specs.Endings.{AreNames, AsksFor, IsBefore, IsStatusOf, IsWhole, Reports, ReportsFirst, ReportsNames, ReportsPart, RunsAsked, RunsNames, RunsSaid, RunsScripts, ended_text, rc_of, status_of, written}
 use Rattle.rc_command.specs.Folders.{AreNamesAt, ArePrevious, KnownNames, folder_of}
 use Rattle.rc_command.specs.declared.running.TheConstants.{PAUSES_LIMIT}
 use Rattle.rc_driver.specs.declared.driving.RunEnd.{RunEnd}
 use Rattle.rc_driver.specs.declared.driving.RunEnd.TheVariants as run_end
 use Rattle.rc_runs.specs.declared.runs.RcAnswer.{RcAnswer}
-use Rattle.rc_runs.specs.declared.runs.RunWay.{RunWay}
+use Rattle.rc_runs.specs.declared.runs.ScriptOptions.{ScriptOptions}
 use Rattle.rc_driver.specs.Printing.{PrintsLinks, command_lines}
 use Rattle.rc_driver.specs.Progress.{count_pauses}
 use Rattle.rc_driver.specs.Report.{Output, done_end, is_over, output, report}
-use Rattle.rc_runs.specs.Runs.{LinkRun, RcState, is_failure}
 use Rattle.rc_runs.specs.Sysv.{scripts_by}
 use Rattle.rc_driver.specs.Told.{ScriptsEndAt, RunsFrom, RunsLinks}
-use Rattle.rc_driver.proofs.RunLemmas.{writes_ends}
 
 -- a run that none was handed out before
 done_is_not_waiting : (failed : Bool) → done_end failed ≢ run_end.Waiting
 done_is_not_waiting true = λ is. cc
 done_is_not_waiting false = λ is. cc
 
-runs_on : (way : RunWay) (dir : List ℕ) (pauses : ℕ) (failed : Bool) (scripts : List LinkRun) (before : Output) (ended : RunEnd) (left : List LinkRun) (after : Output) (calls : List HostCall)
+runs_on : (way : ScriptOptions) (dir : List ℕ) (pauses : ℕ) (failed : Bool) (scripts : List LinkRun) (before : Output) (ended : RunEnd) (left : List LinkRun) (after : Output) (calls : List HostCall)
     → RunsFrom way dir pauses failed scripts before ended left after calls → ended ≢ run_end.Waiting
 runs_on way dir pauses failed [] before ended left after calls (is, none, same, no_calls) =
     λ waiting. done_is_not_waiting failed (sym is ∙ waiting)
@@ -40,7 +34,7 @@ runs_on way dir pauses failed (s ∷ scripts) before ended left after calls (inl
 runs_on way dir pauses failed (s ∷ scripts) before ended left after calls (inr (given, first, later, between, is, ran, line, rest)) =
     runs_on way dir (pauses - count_pauses first) (failed || is_failure given) scripts between ended left after later rest
 
-pub not_waiting : (old now : Option (List HostCall)) (way : RunWay) (dir : List ℕ) (pauses : ℕ) (failed : Bool) (rc new : RcState) (before after : Output) (ended : RunEnd)
+pub not_waiting : (old now : Option (List HostCall)) (way : ScriptOptions) (dir : List ℕ) (pauses : ℕ) (failed : Bool) (rc new : RcState) (before after : Output) (ended : RunEnd)
     → rc.waits ≡ false → Since old now (RunsLinks way dir pauses failed rc before ended new after) → ended ≢ run_end.Waiting
 not_waiting old now way dir pauses failed rc new before after ended ready (calls, told, runs) =
     runs_on way dir pauses failed rc.left before ended new.left after calls (runs.runs ready)
@@ -166,12 +160,12 @@ dry_known status (inl done) = inl (inl done)
 dry_known status (inr fault) = inr (inr fault)
 
 -- how a print ends
-print_ends : (way : RunWay) (path : List ℕ) (rc new : RcState) (before after : Option (List ℕ)) (ended : RunEnd) → rc.waits ≡ false
+print_ends : (way : ScriptOptions) (path : List ℕ) (rc new : RcState) (before after : Option (List ℕ)) (ended : RunEnd) → rc.waits ≡ false
     → PrintsLinks way path rc before ended new after
     → (ended ≡ run_end.Done) ⊎ (ended ≡ run_end.Write) ⊎ (ended ≡ run_end.Memory)
 print_ends way path rc new before after ended ready prints = prints.ends ready
 
-pub print_not_waiting : (way : RunWay) (path : List ℕ) (rc new : RcState) (before after : Option (List ℕ)) (ended : RunEnd) → rc.waits ≡ false
+pub print_not_waiting : (way : ScriptOptions) (path : List ℕ) (rc new : RcState) (before after : Option (List ℕ)) (ended : RunEnd) → rc.waits ≡ false
     → PrintsLinks way path rc before ended new after → ended ≢ run_end.Waiting
 print_not_waiting way path rc new before after ended ready prints = by (print_ends way path rc new before after ended ready prints)
   where
@@ -180,7 +174,7 @@ print_not_waiting way path rc new before after ended ready prints = by (print_en
     by (inr (inl is)) = λ waiting. let both : run_end.Write ≡ run_end.Waiting = sym is ∙ waiting in cc
     by (inr (inr is)) = λ waiting. let both : run_end.Memory ≡ run_end.Waiting = sym is ∙ waiting in cc
 
-pub print_known : (way : RunWay) (path : List ℕ) (rc new : RcState) (before after : Option (List ℕ)) (ended : RunEnd) (status : ℕ) → rc.waits ≡ false
+pub print_known : (way : ScriptOptions) (path : List ℕ) (rc new : RcState) (before after : Option (List ℕ)) (ended : RunEnd) (status : ℕ) → rc.waits ≡ false
     → status ≡ status_of false ended → PrintsLinks way path rc before ended new after → (status ≡ DONE) ⊎ (status ≡ DEVICE_FAULT)
 print_known way path rc new before after ended status ready of prints = by (print_ends way path rc new before after ended ready prints)
   where
@@ -189,7 +183,7 @@ print_known way path rc new before after ended status ready of prints = by (prin
     by (inr (inl is)) = inr (of ∙ ap (status_of false) is)
     by (inr (inr is)) = inr (of ∙ ap (status_of false) is)
 
-pub print_done : (way : RunWay) (path : List ℕ) (rc new : RcState) (before after : Option (List ℕ)) (ended : RunEnd) (status : ℕ) → rc.waits ≡ false
+pub print_done : (way : ScriptOptions) (path : List ℕ) (rc new : RcState) (before after : Option (List ℕ)) (ended : RunEnd) (status : ℕ) → rc.waits ≡ false
     → status ≡ status_of false ended → PrintsLinks way path rc before ended new after → status ≡ DONE
     → Appends before after (command_lines way path rc.left)
 print_done way path rc new before after ended status ready of prints done =

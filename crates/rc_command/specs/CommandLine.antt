@@ -10,7 +10,7 @@ use Rattle.init_words.specs.Levels.{level_read}
 use Rattle.program_io.specs.Arguments.{only_byte}
 use Rattle.rc_command.specs.declared.command.RunOptions.{RunOptions}
 use Rattle.rc_command.specs.declared.command.TheConstants.{OPTIONS, SECONDS_LIMIT}
-use Rattle.rc_runs.specs.declared.runs.Passage.{Passage}
+use Rattle.rc_runs.specs.declared.runs.LevelChange.{LevelChange}
 use Rattle.text_lines.specs.Numbers.{number_read}
 use Rattle.rc_command.specs.declared.command.Words.{Words}
 use Rattle.rc_links.specs.Names.{is_name_byte}
@@ -84,37 +84,37 @@ options_said seconds rows = record {
 }
 
 -- the options with the change of level, where scripts are run as sysv-rc runs them
-abbrev pub entering : Bool → Passage → RunOptions → RunOptions
-entering sysv passage options =
-    if sysv then record options { way = record options.way { levels = Some passage } } else options
+abbrev pub entering : Bool → LevelChange → RunOptions → RunOptions
+entering sysv change options =
+    if sysv then record options { way = record options.way { levels = Some change } } else options
 
 -- what is run from the folder at a change of level
-abbrev pub said_at : Text → Passage → RunOptions → RcSaid
-said_at dir passage options = record { dir = dir; previous = passage.before; new = passage.new; options = options }
+abbrev pub said_at : Text → LevelChange → RunOptions → RcSaid
+said_at dir change options = record { dir = dir; previous = change.before; new = change.new; options = options }
 
 -- what is run where that was the level before
 abbrev pub run_said : Asked → Option Level → RcSaid
 run_said asked before =
-    let passage : Passage = record { before = before; new = asked.new } in
-    said_at asked.dir passage (entering asked.sysv passage asked.options)
+    let change : LevelChange = record { before = before; new = asked.new } in
+    said_at asked.dir change (entering asked.sysv change asked.options)
 
 -- the level of a word, with none before it
-abbrev pub new_of : Text → Option Passage
+abbrev pub new_of : Text → Option LevelChange
 new_of after = option_map (λ new. record { before = None; new = new }) (level_of after)
 
 -- the levels of two words
-abbrev pub levels_of : Text → Text → Option Passage
+abbrev pub levels_of : Text → Text → Option LevelChange
 levels_of before after =
     option_and_then (λ previous. option_map (λ new. record { before = previous; new = new }) (level_of after)) (previous_of before)
 
 -- the levels of the words, of which the first is left out where a file has it
-abbrev pub levels_in : Option Text → Text → Option Text → Option Passage
+abbrev pub levels_in : Option Text → Text → Option Text → Option LevelChange
 levels_in None first (Some second) = levels_of first second
 levels_in None first None = None
 levels_in (Some file) first None = new_of first
 levels_in (Some file) first (Some second) = None
 
-abbrev pub levels_said : List Row → Option Passage
+abbrev pub levels_said : List Row → Option LevelChange
 levels_said rows =
     levels_in (first_of (codes "--level-file") rows) (value_said (codes "PREV") rows) (first_of (codes "NEW") rows)
 
@@ -123,7 +123,7 @@ abbrev pub rc_said_by : List Row → Bool → RunOptions → Option Asked
 rc_said_by rows sysv options =
     if is_dir (value_said (codes "DIR") rows) then
     option_map
-    (λ (levels : Passage). record {
+    (λ (levels : LevelChange). record {
       dir = value_said (codes "DIR") rows;
       previous = levels.before;
       file = first_of (codes "--level-file") rows;

@@ -13,7 +13,7 @@ use Rattle.rc_driver.specs.Printing.{command_lines}
 use Rattle.rc_driver.specs.Report.{done_end, output, report}
 use Rattle.rc_runs.specs.Runs.{LinkRun, RcState, is_failure}
 use Rattle.rc_runs.specs.Sysv.{scripts_by}
-use Rattle.rc_runs.specs.declared.runs.Passage.{Passage}
+use Rattle.rc_runs.specs.declared.runs.LevelChange.{LevelChange}
 use Rattle.rc_driver.specs.Told.{RunsLinks}
 use Rattle.rc_command.specs.CommandLine.{Asked, RcSaid, rc_read_of, run_said}
 use Rattle.rc_command.specs.LevelFiles.{IsBeforeIn, KeepsIn, KnownFiles}
@@ -34,7 +34,7 @@ abbrev pub IsWhole : ℕ → Type 0
 IsWhole status = (status ≡ DONE) ⊎ (status ≡ SCRIPT_FAILED)
 
 -- the scripts by the names in two folders, as sysv-rc has them where a change of level is given; none is handed out
-abbrev pub rc_of : Option Passage → List (List ℕ) → List (List ℕ) → RcState
+abbrev pub rc_of : Option LevelChange → List (List ℕ) → List (List ℕ) → RcState
 rc_of levels previous names = record { left = scripts_by levels previous names; waits = false }
 
 -- nothing is told where nothing is run, or scripts have no limit
@@ -43,8 +43,8 @@ IsSilent options = (options.dry ≡ true) ⊎ (options.way.seconds ≡ None)
 
 -- what is reported of a script that has not ended: the link in the folder at the path
 abbrev pub limit_text : List ℕ → List ℕ → List ℕ
-limit_text path link = codes "rc: " ++ (path ++ (codes "/" ++ (link ++
-    codes " has not ended after 100000 pauses, of a second at most: it runs on, and no script behind it was run\n")))
+limit_text path link = (codes "rc: " ++ (path ++ codes "/")) ++ (link ++
+    codes " has not ended after 100000 pauses, of a second at most: it runs on, and no script behind it was run\n")
 
 -- what is reported of how a run ended
 abbrev pub ended_text : List ℕ → RunEnd → List ℕ

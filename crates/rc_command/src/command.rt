@@ -11,7 +11,7 @@ use clap::ArgMatches;
 use command_words::{Row, WordFault, is_set, read_line, read_path, refused, value_of, word_of};
 use init_words::Level;
 use program_io::only_byte;
-use rc_driver::{Passage, RunWay};
+use rc_driver::{LevelChange, ScriptOptions};
 use rc_links::is_name_byte;
 use std::alloc::{AllocError, Global};
 use text_lines::read_below;
@@ -58,7 +58,7 @@ pub struct RunOptions {
     /// A script that fails is told by the exit status.
     pub strict: bool,
     /// How the scripts are run; with a change of level as sysv-rc runs them.
-    pub way: RunWay,
+    pub way: ScriptOptions,
 }
 
 /// What words give the rows of the table.
@@ -102,7 +102,7 @@ fn read_matches(alloc: Global, matches: &ArgMatches) -> Result<Words, WordFault>
 }
 
 /// The two runlevels, of which a file has the first where one is named.
-fn read_levels(alloc: Global, matches: &ArgMatches) -> Result<Passage, WordFault>
+fn read_levels(alloc: Global, matches: &ArgMatches) -> Result<LevelChange, WordFault>
     ensures ok { IfOk result (λ levels.
         levels_said (rows_of (found_of matches.now)) ≡ Some levels) }
     ensures usage { IfErr result (λ fault. IsSome (reason_of fault)
@@ -120,7 +120,7 @@ fn read_levels(alloc: Global, matches: &ArgMatches) -> Result<Passage, WordFault
 }
 
 /// The levels of two words.
-fn read_both(alloc: Global, before: &str, after: &str) -> Result<Passage, WordFault>
+fn read_both(alloc: Global, before: &str, after: &str) -> Result<LevelChange, WordFault>
     ensures ok { IfOk result (λ levels. levels_of before.now after.now ≡ Some levels) }
     ensures usage { IfErr result (λ fault. IsSome (reason_of fault)
         → levels_of before.now after.now ≡ None) }
@@ -130,14 +130,14 @@ fn read_both(alloc: Global, before: &str, after: &str) -> Result<Passage, WordFa
         return Err(WordFault::Usage(reason));
     };
     let levels = read_new(alloc, after)?;
-    Ok(Passage {
+    Ok(LevelChange {
         before: previous,
         new: levels.new,
     })
 }
 
 /// The level of a word.
-fn read_new(alloc: Global, after: &str) -> Result<Passage, WordFault>
+fn read_new(alloc: Global, after: &str) -> Result<LevelChange, WordFault>
     ensures ok { IfOk result (λ levels. new_of after.now ≡ Some levels) }
     ensures usage { IfErr result (λ fault. IsSome (reason_of fault) → new_of after.now ≡ None) }
 {
@@ -145,7 +145,7 @@ fn read_new(alloc: Global, after: &str) -> Result<Passage, WordFault>
         let reason = format!(in alloc; "{after}: NEW is a runlevel, 0 to 9 or S")?;
         return Err(WordFault::Usage(reason));
     };
-    Ok(Passage { before: None, new })
+    Ok(LevelChange { before: None, new })
 }
 
 /// What the options say, with these seconds.
@@ -155,7 +155,7 @@ fn read_options(matches: &ArgMatches, seconds: Option<u32>) -> RunOptions
     RunOptions {
         dry: is_set(matches, "-n"),
         strict: is_set(matches, "--strict"),
-        way: RunWay {
+        way: ScriptOptions {
             direct: is_set(matches, "--direct") || is_set(matches, "--as-sysv"),
             verbose: is_set(matches, "-v"),
             seconds,
@@ -221,15 +221,15 @@ fn words_of(
 }
 
 /// The options with the change of level, where scripts are run as sysv-rc runs them.
-pub(crate) fn entering(sysv: bool, passage: Passage, options: RunOptions) -> RunOptions
-    ensures { result ≡ entering sysv passage options }
+pub(crate) fn entering(sysv: bool, change: LevelChange, options: RunOptions) -> RunOptions
+    ensures { result ≡ entering sysv change options }
 {
     if !sysv {
         return options;
     }
     RunOptions {
-        way: RunWay {
-            levels: Some(passage),
+        way: ScriptOptions {
+            levels: Some(change),
             ..options.way
         },
         ..options

@@ -21,7 +21,7 @@ use command_words::{is_version, print_version, report_word_fault};
 use host_calls::Host;
 use init_words::{Level, Memory};
 use program_io::{DEVICE_FAULT, DONE, LIMIT_REACHED, REFUSED, report_no_memory, write_text};
-use rc_driver::{Passage, Rc, RunEnd, RunWay, print_links, run_links};
+use rc_driver::{LevelChange, Rc, RunEnd, ScriptOptions, print_links, run_links, write_six};
 use std::alloc::Global;
 use std::io;
 use std::io::Write;
@@ -153,17 +153,17 @@ fn run_asked<H: Host, F: Folders, L: LevelFiles, W: Write, E: Write>(
         Ok(before) => before,
         Err(status) => return status,
     };
-    let passage = Passage {
+    let change = LevelChange {
         before,
         new: said.new,
     };
-    let options = entering(said.sysv, passage, said.options);
+    let options = entering(said.sysv, change, said.options);
     let status = run(
         host,
         folders,
         alloc,
         said.dir.as_str(),
-        passage,
+        change,
         options,
         out,
         err,
@@ -270,27 +270,27 @@ fn run<H: Host, F: Folders, W: Write, E: Write>(
     folders: &F,
     alloc: Global,
     dir: &str,
-    passage: Passage,
+    change: LevelChange,
     options: RunOptions,
     out: &mut W,
     err: &mut E,
 ) -> u8
     ensures statuses { IsWhole result ⊎ (result ≡ LIMIT_REACHED) ⊎ (result ≡ DEVICE_FAULT) }
     ensures done { IsWhole result → Reports (F.names_at folders.now)
-        (said_at dir.now passage options) (W.contents out.old) result (W.contents out.new) }
+        (said_at dir.now change options) (W.contents out.old) result (W.contents out.new) }
     ensures part { (out.new ≡ out.old) ⊎ ReportsPart (F.names_at folders.now)
-        (said_at dir.now passage options) (W.contents out.old) (W.contents out.new) }
+        (said_at dir.now change options) (W.contents out.old) (W.contents out.new) }
     ensures ran { ((result ≡ DEVICE_FAULT) × (out.new ≡ out.old)
         × (H.told host.new ≡ H.told host.old))
         ⊎ ((options.dry ≡ true → H.told host.new ≡ H.told host.old)
-        × (options.dry ≡ false → RunsSaid (F.names_at folders.now) (said_at dir.now passage options)
+        × (options.dry ≡ false → RunsSaid (F.names_at folders.now) (said_at dir.now change options)
         (H.told host.old) (H.told host.new) (W.contents out.old) (E.contents err.old) result
         (W.contents out.new) (E.contents err.new))) }
 {
-    let Ok(path) = folder_of(alloc, dir, passage.new) else {
+    let Ok(path) = folder_of(alloc, dir, change.new) else {
         return report_no_memory("rc", err);
     };
-    let previous = match previous_names(folders, alloc, dir, passage.before) {
+    let previous = match previous_names(folders, alloc, dir, change.before) {
         Ok(previous) => previous,
         Err(error) => return report_unlisted(dir, &error, err),
     };
@@ -353,7 +353,7 @@ pub fn run_names<H: Host, W: Write, E: Write>(
 /// The scripts by the names in two folders: as sysv-rc has them, where a change of level is given.
 fn rc_of<'n>(
     alloc: Global,
-    levels: Option<Passage>,
+    levels: Option<LevelChange>,
     previous: &[String],
     names: &'n [String],
 ) -> Result<Rc<'n>, Memory>
@@ -361,7 +361,7 @@ fn rc_of<'n>(
         ≡ rc_of levels (map string_bytes previous.now) (map string_bytes names.now)) }
 {
     match levels {
-        Some(passage) => Rc::as_sysv(alloc, passage, previous, names),
+        Some(change) => Rc::as_sysv(alloc, change, previous, names),
         None => Rc::new(alloc, previous, names),
     }
 }
@@ -392,7 +392,7 @@ fn print_all<'n, W: Write, E: Write>(
     alloc: Global,
     rc: &mut Rc<'n>,
     path: &str,
-    way: RunWay,
+    way: ScriptOptions,
     out: &mut W,
     err: &mut E,
 ) -> u8
@@ -440,24 +440,18 @@ fn report_limit<E: Write>(path: &str, link: &str, err: &mut E) -> u8
     ensures report { AppendsPrefix (E.contents err.old) (E.contents err.new)
         (limit_text path.now link.now) }
 {
-    let _ = write_limit(path, link, err);
-    LIMIT_REACHED
-}
-
-/// Writes that a script has not ended.
-fn write_limit<E: Write>(path: &str, link: &str, err: &mut E) -> io::Result<()>
-    ensures { AppendsPrefix (E.contents err.old) (E.contents err.new)
-        (limit_text path.now link.now) }
-{
-    write_text(err, b"rc: ")?;
-    write_text(err, path.as_bytes())?;
-    write_text(err, b"/")?;
-    write_text(err, link.as_bytes())?;
-    write_text(
+    let runs_on = b" has not ended after 100000 pauses, of a second at most: it runs on, \
+        and no script behind it was run\n";
+    let _ = write_six(
         err,
-        b" has not ended after 100000 pauses, of a second at most: it runs on, \
-          and no script behind it was run\n",
-    )
+        b"rc: ",
+        path.as_bytes(),
+        b"/",
+        link.as_bytes(),
+        runs_on,
+        b"",
+    );
+    LIMIT_REACHED
 }
 
 /// Reports a line, by as much of it as `err` takes, and gives the exit status.

@@ -1,5 +1,5 @@
 -- The calls of one script's run, put together.
-use Rattle.std.proofs.Common.{◌≡◌, refl, ap, ◌∙◌, subst, cond, nat_lt, ℕ, ◌+◌, ◌-◌, Bool, true, false, List, [], ◌∷◌, ◌++◌, length, filter, Option, Some, None, Result, Ok, Err, arith}
+use Rattle.rc_driver.proofs.Words.{◌≡◌, refl, ap, ◌∙◌, subst, cond, nat_lt, ℕ, ◌+◌, ◌-◌, Bool, true, false, List, [], ◌∷◌, ◌++◌, length, filter, Option, Some, None, Result, Ok, Err, arith, HostCall, AddsCall, Since, Since-map, Since-one, Since-then, RcAnswer, ScriptOptions, AppendsPrefix, Begins, EndsEarly, Goes, GoesFurther, GoneTo, HasRun, RunsTo, by_late, by_look, by_reply, by_start, count_pauses, is_pause, is_waiting, script_id, Tells, due_by, due_signal, signal_line, time_lines, timer_at, timer_by}
 use Rattle.std.proofs.lemmas.List.{length-append}
 use Rattle.std.proofs.lemmas.Option.{none-some, same_Some}
 use Rattle.std.proofs.lemmas.List.Elements.{filter-append}
@@ -7,23 +7,13 @@ use Rattle.init_words.specs.declared.limits.TheConstants.{GRACE}
 use Rattle.init_words.specs.declared.orders.Answer.{Answer}
 use Rattle.init_words.specs.declared.orders.SignalKind.{SignalKind}
 use Rattle.init_words.specs.declared.orders.SignalKind.TheVariants as sig
-use Rattle.host_calls.specs.Calls.{HostCall, AddsCall}
-use Rattle.host_calls.specs.Record.{Since}
 use Rattle.host_calls.specs.declared.calls.Call.TheVariants as call
 use Rattle.host_calls.specs.declared.calls.HostFault.{HostFault}
 use Rattle.host_calls.specs.declared.calls.Reply.{Reply}
-use Rattle.host_calls.proofs.Record.{Since-map, Since-one, Since-then}
 use Rattle.rc_driver.specs.declared.progress.Progress.{Progress}
 use Rattle.rc_driver.specs.declared.progress.Progress.TheVariants as progress
-use Rattle.rc_runs.specs.declared.runs.RcAnswer.{RcAnswer}
-use Rattle.rc_runs.specs.declared.runs.RunWay.{RunWay}
 use Rattle.rc_driver.specs.declared.times.Timer.{Timer}
 use Rattle.rc_driver.specs.declared.times.Timer.TheVariants as timer
-use Rattle.program_io.specs.Writing.{AppendsPrefix}
-use Rattle.rc_driver.specs.Parts.{Begins, EndsEarly, Goes, GoesFurther, GoneTo, HasRun}
-use Rattle.rc_driver.specs.Progress.{RunsTo, by_late, by_look, by_reply, by_start, count_pauses, is_pause, is_waiting, script_id}
-use Rattle.rc_driver.specs.Report.{Tells}
-use Rattle.rc_driver.specs.Times.{due_by, due_signal, signal_line, time_lines, timer_at, timer_by}
 
 -- a start
 pub begins : (old new : Option (List HostCall)) (limit : Option ℕ) (id text : List ℕ) (reply : Reply) (now : Progress) → AddsCall old new (call.Start id text reply) → id ≡ script_id
@@ -77,7 +67,7 @@ some_of true x y is = same_Some x y is
 some_of false x y is = absurd (none-some y is)
 
 -- a signal that is due is told behind those before
-tells_due : (way : RunWay) (dir link : List ℕ) (seconds now : ℕ) (time : Timer) (signal : SignalKind) → due_signal seconds time now ≡ Some signal
+tells_due : (way : ScriptOptions) (dir link : List ℕ) (seconds now : ℕ) (time : Timer) (signal : SignalKind) → due_signal seconds time now ≡ Some signal
     → time_lines way dir link (timer_at time now (Some signal)) ≡ signal_line way.seconds dir link signal ∷ time_lines way dir link time
 tells_due way dir link seconds now timer.Unread signal due = absurd (none-some signal due)
 tells_due way dir link seconds now timer.Killed signal due = absurd (none-some signal due)
@@ -88,19 +78,19 @@ tells_due way dir link seconds now (timer.Warned sent) signal due =
     subst (λ g. time_lines way dir link (timer_at (timer.Warned sent) now (Some g)) ≡ signal_line way.seconds dir link g ∷ signal_line way.seconds dir link sig.Term ∷ [])
     (some_of (nat_lt GRACE (now - sent)) sig.Kill signal due) refl
 
-tells_by : (way : RunWay) (dir link : List ℕ) (limit : Option ℕ) (now : ℕ) (time : Timer) (signal : SignalKind) → due_by limit time (Ok now) ≡ Some signal
+tells_by : (way : ScriptOptions) (dir link : List ℕ) (limit : Option ℕ) (now : ℕ) (time : Timer) (signal : SignalKind) → due_by limit time (Ok now) ≡ Some signal
     → time_lines way dir link (timer_at time now (Some signal)) ≡ signal_line way.seconds dir link signal ∷ time_lines way dir link time
 tells_by way dir link None now time signal due = absurd (none-some signal due)
 tells_by way dir link (Some seconds) now time signal due = tells_due way dir link seconds now time signal due
 
-pub tells_signal : (way : RunWay) (dir link : List ℕ) (limit : Option ℕ) (now : ℕ) (time : Timer) (signal : SignalKind) (before told tells : Option (List ℕ))
+pub tells_signal : (way : ScriptOptions) (dir link : List ℕ) (limit : Option ℕ) (now : ℕ) (time : Timer) (signal : SignalKind) (before told tells : Option (List ℕ))
     → due_by limit time (Ok now) ≡ Some signal → AppendsPrefix told tells (signal_line way.seconds dir link signal)
     → Tells before told (time_lines way dir link time) → Tells before tells (time_lines way dir link (timer_at time now (Some signal)))
 tells_signal way dir link limit now time signal before told tells due line earlier =
     rw (tells_by way dir link limit now time signal due) (told, earlier, line)
 
 -- a moment at which none is due tells nothing
-pub tells_none : (way : RunWay) (dir link : List ℕ) (now : ℕ) (time : Timer)
+pub tells_none : (way : ScriptOptions) (dir link : List ℕ) (now : ℕ) (time : Timer)
     → time_lines way dir link (timer_at time now None) ≡ time_lines way dir link time
 tells_none way dir link now timer.Unread = refl
 tells_none way dir link now (timer.Since began) = refl
@@ -132,7 +122,7 @@ gone_further old mid new limit command known before now time taken pauses still 
     (Since-map mid new (GoesFurther limit before now taken) (Goes limit before time now time taken) goes (λ calls is. is time))
 
 -- a script that came to its end, with what its time has told
-pub has_run : (old new : Option (List HostCall)) (way : RunWay) (dir link command : List ℕ) (now : Progress) (given : RcAnswer) (time : Timer) (pauses still : ℕ) (told tells : Option (List ℕ))
+pub has_run : (old new : Option (List HostCall)) (way : ScriptOptions) (dir link command : List ℕ) (now : Progress) (given : RcAnswer) (time : Timer) (pauses still : ℕ) (told tells : Option (List ℕ))
     → now ≡ progress.Over given → Since old new (GoneTo way.seconds command now time pauses still) → Tells told tells (time_lines way dir link time)
     → Since old new (HasRun way dir link command given pauses still told tells)
 has_run old new way dir link command now given time pauses still told tells is gone lines =
@@ -140,7 +130,7 @@ has_run old new way dir link command now given time pauses still told tells is g
     (λ calls was. (time, subst (λ p. GoneTo way.seconds command p time pauses still calls) is was, lines))
 
 -- one that has none where the pauses are used up
-pub has_stopped : (old new : Option (List HostCall)) (way : RunWay) (dir link command : List ℕ) (now : Progress) (time : Timer) (pauses still : ℕ) (told tells : Option (List ℕ))
+pub has_stopped : (old new : Option (List HostCall)) (way : ScriptOptions) (dir link command : List ℕ) (now : Progress) (time : Timer) (pauses still : ℕ) (told tells : Option (List ℕ))
     → is_waiting now ≡ true → still ≡ 0 → Since old new (GoneTo way.seconds command now time pauses still) → Tells told tells (time_lines way dir link time)
     → Since old new (EndsEarly way dir link command pauses told tells)
 has_stopped old new way dir link command now time pauses still told tells waiting none gone lines =

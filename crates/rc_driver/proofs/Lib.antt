@@ -2,4 +2,5 @@ pub mod CallLemmas
 pub mod PrintLemmas
 pub mod RunLemmas
 pub mod ToldLemmas
+pub mod Words
 pub mod WritingLemmas

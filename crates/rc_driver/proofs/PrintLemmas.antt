@@ -1,16 +1,6 @@
 -- A print of scripts, put together from its lines.
-use Rattle.std.proofs.Common.{◌≡◌, ◌≢◌, ◌⊎◌, refl, sym, ◌∙◌, subst, inl, inr, ℕ, true, false, List, [], ◌∷◌, ◌++◌, codes, Option, Result, Ok, Err, OnOk, IfErr}
-use Rattle.std.specs.Io.KnownBytes.{Appends}
-use Rattle.std.proofs.KnownBytes.{Appends-nil, Appends-trans}
-use Rattle.std.proofs.lemmas.Bool.{true≢false}
-use Rattle.program_io.specs.Writing.{AppendsPrefix}
-use Rattle.program_io.proofs.WritingLemmas.{AppendsPrefix-first, AppendsPrefix-then}
-use Rattle.rc_driver.specs.declared.driving.RunEnd.{RunEnd}
+use Rattle.rc_driver.proofs.Words.{◌≡◌, ◌≢◌, ◌⊎◌, refl, sym, ◌∙◌, subst, inl, inr, ℕ, true, false, List, [], ◌∷◌, ◌++◌, codes, Option, Result, Ok, Err, OnOk, IfErr, Appends, Appends-nil, Appends-trans, true≢false, AppendsPrefix, AppendsPrefix-first, AppendsPrefix-then, RunEnd, ScriptOptions, PrintStops, Printed, PrintsLinks, command_line, command_lines, command_text, LinkRun, RcState}
 use Rattle.rc_driver.specs.declared.driving.RunEnd.TheVariants as run_end
-use Rattle.rc_runs.specs.declared.runs.RunWay.{RunWay}
-use Rattle.rc_driver.specs.Printing.{PrintStops, Printed, PrintsLinks, command_line, command_lines}
-use Rattle.rc_driver.specs.Report.{command_text}
-use Rattle.rc_runs.specs.Runs.{LinkRun, RcState}
 use Rattle.rc_driver.proofs.RunLemmas.{AppendsPrefix-none}
 
 write_is_not_done : run_end.Write ≢ run_end.Done
@@ -23,7 +13,7 @@ waiting_is_not_done : run_end.Waiting ≢ run_end.Done
 waiting_is_not_done = λ is. cc
 
 -- no script is left
-pub prints_done : (way : RunWay) (dir : List ℕ) (rc new : RcState) (bytes : Option (List ℕ)) → (rc.waits ≡ false) × (rc.left ≡ []) × (new ≡ rc)
+pub prints_done : (way : ScriptOptions) (dir : List ℕ) (rc new : RcState) (bytes : Option (List ℕ)) → (rc.waits ≡ false) × (rc.left ≡ []) × (new ≡ rc)
     → PrintsLinks way dir rc bytes run_end.Done new bytes
 prints_done way dir rc new bytes (ready, none, same) = subst (λ r. PrintsLinks way dir rc bytes run_end.Done r bytes) (sym same) (record {
   part = AppendsPrefix-none bytes (command_lines way dir rc.left);
@@ -33,7 +23,7 @@ prints_done way dir rc new bytes (ready, none, same) = subst (λ r. PrintsLinks 
 })
 
 -- an answer is missing
-pub prints_waiting : (way : RunWay) (dir : List ℕ) (rc new : RcState) (bytes : Option (List ℕ)) → (rc.waits ≡ true) × (new ≡ rc)
+pub prints_waiting : (way : ScriptOptions) (dir : List ℕ) (rc new : RcState) (bytes : Option (List ℕ)) → (rc.waits ≡ true) × (new ≡ rc)
     → PrintsLinks way dir rc bytes run_end.Waiting new bytes
 prints_waiting way dir rc new bytes (waiting, same) = record {
   part = AppendsPrefix-none bytes (command_lines way dir rc.left);
@@ -43,7 +33,7 @@ prints_waiting way dir rc new bytes (waiting, same) = record {
 }
 
 -- a print that ends at its first script
-stops_by : (way : RunWay) (dir : List ℕ) (old new : RcState) (before after : Option (List ℕ)) (ended : RunEnd) (s : LinkRun) → old.waits ≡ false
+stops_by : (way : ScriptOptions) (dir : List ℕ) (old new : RcState) (before after : Option (List ℕ)) (ended : RunEnd) (s : LinkRun) → old.waits ≡ false
     → old.left ≡ s ∷ new.left → AppendsPrefix before after (command_line way dir s) → ended ≢ run_end.Done
     → (ended ≡ run_end.Done) ⊎ (ended ≡ run_end.Write) ⊎ (ended ≡ run_end.Memory) → PrintsLinks way dir old before ended new after
 stops_by way dir old new before after ended s ready head part other ends = record {
@@ -54,7 +44,7 @@ stops_by way dir old new before after ended s ready head part other ends = recor
   ends = λ is. ends;
 }
 
-pub prints_stops : (way : RunWay) (dir : List ℕ) (old new : RcState) (before after : Option (List ℕ)) (ended : RunEnd) (s : LinkRun) → old.waits ≡ false
+pub prints_stops : (way : ScriptOptions) (dir : List ℕ) (old new : RcState) (before after : Option (List ℕ)) (ended : RunEnd) (s : LinkRun) → old.waits ≡ false
     → old.left ≡ s ∷ new.left → PrintStops ended way dir s before after → PrintsLinks way dir old before ended new after
 prints_stops way dir old new before after run_end.Write s ready head part =
     stops_by way dir old new before after run_end.Write s ready head part write_is_not_done (inr (inl refl))
@@ -68,13 +58,13 @@ prints_stops way dir old new before after run_end.Failed s ready head at = absur
 prints_stops way dir old new before after run_end.Waiting s ready head at = absurd at
 
 -- the line of the text that would start it
-pub line_written : {T : Type 0} (told : Result T RunEnd) (way : RunWay) (dir : List ℕ) (s : LinkRun) (text : List ℕ) (before after : Option (List ℕ))
+pub line_written : {T : Type 0} (told : Result T RunEnd) (way : ScriptOptions) (dir : List ℕ) (s : LinkRun) (text : List ℕ) (before after : Option (List ℕ))
     → text ≡ command_text way dir s → OnOk told (Appends before after (text ++ codes "\n"))
     → OnOk told (Appends before after (command_line way dir s))
 line_written (Ok value) way dir s text before after same line = subst (λ t. Appends before after (t ++ codes "\n")) same line
 line_written (Err ended) way dir s text before after same line = tt
 
-pub line_stopped : {T : Type 0} (told : Result T RunEnd) (way : RunWay) (dir : List ℕ) (s : LinkRun) (text : List ℕ) (before after : Option (List ℕ))
+pub line_stopped : {T : Type 0} (told : Result T RunEnd) (way : ScriptOptions) (dir : List ℕ) (s : LinkRun) (text : List ℕ) (before after : Option (List ℕ))
     → text ≡ command_text way dir s
     → IfErr told (λ ended. (ended ≡ run_end.Write) × AppendsPrefix before after (text ++ codes "\n"))
     → IfErr told (λ ended. PrintStops ended way dir s before after)
@@ -84,14 +74,14 @@ line_stopped (Err ended) way dir s text before after same (is, part) =
     (subst (λ t. AppendsPrefix before after (t ++ codes "\n")) same part)
 
 -- a script that was printed
-pub printed_by : (way : RunWay) (dir : List ℕ) (old mid new : RcState) (before after : Option (List ℕ)) (s : LinkRun) → old.waits ≡ false
+pub printed_by : (way : ScriptOptions) (dir : List ℕ) (old mid new : RcState) (before after : Option (List ℕ)) (s : LinkRun) → old.waits ≡ false
     → old.left ≡ s ∷ mid.left → new ≡ record mid { waits = false } → Appends before after (command_line way dir s)
     → Printed way dir old before new after
 printed_by way dir old mid new before after s ready head is line =
     subst (λ (r : RcState). Printed way dir old before r after) (sym is) (s, ready, head, refl, line)
 
 -- a script, and the print behind it
-pub prints_more : (way : RunWay) (dir : List ℕ) (old mid new : RcState) (before between after : Option (List ℕ)) (ended : RunEnd)
+pub prints_more : (way : ScriptOptions) (dir : List ℕ) (old mid new : RcState) (before between after : Option (List ℕ)) (ended : RunEnd)
     → Printed way dir old before mid between → PrintsLinks way dir mid between ended new after → PrintsLinks way dir old before ended new after
 prints_more way dir old mid new before between after ended (s, ready, head, answered, line) went = record {
   part = subst (λ left. AppendsPrefix before after (command_lines way dir left)) (sym head)

@@ -1,23 +1,9 @@
 -- What a run of scripts over a host has written, by its calls.
-use Rattle.std.proofs.Common.{◌≡◌, ◌∙◌, ℕ, suc, Bool, true, false, not, cond, ◌||◌, ◌-◌, inl, inr, List, [], ◌∷◌, ◌++◌, length, Option, refl, sym, ap, subst}
+use Rattle.rc_driver.proofs.Words.{◌≡◌, ◌∙◌, ℕ, suc, Bool, true, false, not, cond, ◌||◌, ◌-◌, inl, inr, List, [], ◌∷◌, ◌++◌, length, Option, refl, sym, ap, subst, Appends-nil, Appends-trans, true≢false, Appends, AppendsPrefix, AppendsPrefix-first, AppendsPrefix-then, HostCall, Since, RunEnd, RcAnswer, ScriptOptions, count_pauses, Output, TellsStart, WritesEnds, begin_line, done_end, is_over, line_of, lines_of, report, LinkRun, RcState, is_failure, ScriptsEndAt, RunsFrom, RunsLinks}
 use Rattle.std.specs.List.{list_any}
-use Rattle.std.proofs.KnownBytes.{Appends-nil, Appends-trans}
 use Rattle.std.proofs.Math.Bool.{or-false, or_assoc}
-use Rattle.std.proofs.lemmas.Bool.{true≢false}
-use Rattle.std.specs.Io.KnownBytes.{Appends}
-use Rattle.program_io.specs.Writing.{AppendsPrefix}
-use Rattle.program_io.proofs.WritingLemmas.{AppendsPrefix-first, AppendsPrefix-then}
-use Rattle.host_calls.specs.Calls.{HostCall}
-use Rattle.host_calls.specs.Record.{Since}
-use Rattle.rc_driver.specs.declared.driving.RunEnd.{RunEnd}
 use Rattle.rc_driver.specs.declared.driving.RunEnd.TheVariants as run_end
-use Rattle.rc_runs.specs.declared.runs.RcAnswer.{RcAnswer}
 use Rattle.rc_runs.specs.declared.runs.RcAnswer.TheVariants as answer
-use Rattle.rc_runs.specs.declared.runs.RunWay.{RunWay}
-use Rattle.rc_driver.specs.Progress.{count_pauses}
-use Rattle.rc_driver.specs.Report.{Output, TellsStart, WritesEnds, begin_line, done_end, is_over, line_of, lines_of, report}
-use Rattle.rc_runs.specs.Runs.{LinkRun, RcState, is_failure}
-use Rattle.rc_driver.specs.Told.{ScriptsEndAt, RunsFrom, RunsLinks}
 
 -- nothing of a text was written
 pub AppendsPrefix-none : (old : Option (List ℕ)) (text : List ℕ) → AppendsPrefix old old text
@@ -42,13 +28,13 @@ unstarted_part true begin line before after is wrote = AppendsPrefix-first befor
 unstarted_part false begin line before after is wrote = absurd (true≢false (sym is))
 
 -- both lines of a script
-pub lines_told : (way : RunWay) (s : LinkRun) (given : RcAnswer) (before mid after : Option (List ℕ)) → TellsStart way s before mid
+pub lines_told : (way : ScriptOptions) (s : LinkRun) (given : RcAnswer) (before mid after : Option (List ℕ)) → TellsStart way s before mid
     → Appends mid after (line_of s given) → Appends before after (lines_of way s given)
 lines_told way s given before mid after told wrote =
     started_line way.verbose (begin_line s) (line_of s given) before mid after told wrote
 
 -- a run that ends at a script has written a part of its lines
-pub stops_part : (way : RunWay) (dir : List ℕ) (pauses : ℕ) (s : LinkRun) (before : Output) (ended : RunEnd) (after : Output) (calls : List HostCall)
+pub stops_part : (way : ScriptOptions) (dir : List ℕ) (pauses : ℕ) (s : LinkRun) (before : Output) (ended : RunEnd) (after : Output) (calls : List HostCall)
     → ScriptsEndAt way dir pauses s before ended after calls → (given : RcAnswer) × AppendsPrefix before.lines after.lines (lines_of way s given)
 stops_part way dir pauses s before (run_end.Limit link) after calls (named, now, time, waiting, ran, count, told, begun) = (
   answer.NotStarted,
@@ -71,7 +57,7 @@ stops_part way dir pauses s before run_end.Failed after calls at = absurd at
 stops_part way dir pauses s before run_end.Waiting after calls at = absurd at
 
 -- it is not over
-pub stops_early : (way : RunWay) (dir : List ℕ) (pauses : ℕ) (s : LinkRun) (before : Output) (ended : RunEnd) (after : Output) (calls : List HostCall)
+pub stops_early : (way : ScriptOptions) (dir : List ℕ) (pauses : ℕ) (s : LinkRun) (before : Output) (ended : RunEnd) (after : Output) (calls : List HostCall)
     → ScriptsEndAt way dir pauses s before ended after calls → is_over ended ≡ false
 stops_early way dir pauses s before (run_end.Limit link) after calls at = refl
 stops_early way dir pauses s before run_end.Write after calls at = refl
@@ -81,7 +67,7 @@ stops_early way dir pauses s before run_end.Failed after calls at = absurd at
 stops_early way dir pauses s before run_end.Waiting after calls at = absurd at
 
 -- what scripts have written that were run from here
-record Wrote (way : RunWay) (failed : Bool) (scripts : List LinkRun) (before : Option (List ℕ)) (ended : RunEnd) (left : List LinkRun)
+record Wrote (way : ScriptOptions) (failed : Bool) (scripts : List LinkRun) (before : Option (List ℕ)) (ended : RunEnd) (left : List LinkRun)
     (after : Option (List ℕ)) : Type 0 where
   answers : List RcAnswer
   part : AppendsPrefix before after (report way scripts answers)
@@ -89,7 +75,7 @@ record Wrote (way : RunWay) (failed : Bool) (scripts : List LinkRun) (before : O
       (ended ≡ done_end (failed || list_any is_failure answers)) × (length answers ≡ length scripts)
       × Appends before after (report way scripts answers) × (left ≡ [])
 
-wrote : (way : RunWay) (dir : List ℕ) (pauses : ℕ) (failed : Bool) (scripts : List LinkRun) (before : Output) (ended : RunEnd) (left : List LinkRun) (after : Output) (calls : List HostCall)
+wrote : (way : ScriptOptions) (dir : List ℕ) (pauses : ℕ) (failed : Bool) (scripts : List LinkRun) (before : Output) (ended : RunEnd) (left : List LinkRun) (after : Output) (calls : List HostCall)
     → RunsFrom way dir pauses failed scripts before ended left after calls → Wrote way failed scripts before.lines ended left after.lines
 wrote way dir pauses failed [] before ended left after calls (is, none, same, no_calls) = record {
   answers = [];
@@ -118,7 +104,7 @@ wrote way dir pauses failed (s ∷ scripts) before ended left after calls (inr (
     }
 
 -- what a run has written
-pub writes_ends : (old new : Option (List HostCall)) (way : RunWay) (dir : List ℕ) (pauses : ℕ) (rc now : RcState) (before after : Output) (ended : RunEnd)
+pub writes_ends : (old new : Option (List HostCall)) (way : ScriptOptions) (dir : List ℕ) (pauses : ℕ) (rc now : RcState) (before after : Output) (ended : RunEnd)
     → Since old new (RunsLinks way dir pauses false rc before ended now after) → WritesEnds way rc before.lines ended now after.lines
 writes_ends old new way dir pauses rc now before after ended (calls, told, runs) = by rc.waits refl
   where

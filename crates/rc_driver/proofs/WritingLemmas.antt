@@ -1,8 +1,5 @@
 -- What is written where texts are written one behind the other.
-use Rattle.std.proofs.Common.{◌++◌, Result, Ok, Err, OnErr, OnOk, Option, List, ℕ}
-use Rattle.std.specs.Io.KnownBytes.{Appends}
-use Rattle.program_io.specs.Writing.{AppendsPrefix}
-use Rattle.program_io.proofs.WritingLemmas.{AppendsPrefix-first, AppendsPrefix-whole, on_err}
+use Rattle.rc_driver.proofs.Words.{◌++◌, Result, Ok, Err, OnErr, OnOk, Option, List, ℕ, Appends, AppendsPrefix, AppendsPrefix-first, AppendsPrefix-whole, on_err}
 pub use Rattle.program_io.proofs.WritingLemmas.{last_err, last_ok}
 
 -- the first of the writes failed

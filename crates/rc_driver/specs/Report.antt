@@ -13,8 +13,8 @@ use Rattle.rc_runs.specs.declared.runs.Arg.{Arg}
 use Rattle.rc_runs.specs.declared.runs.Arg.TheVariants as arg
 use Rattle.rc_runs.specs.declared.runs.RcAnswer.{RcAnswer}
 use Rattle.rc_runs.specs.declared.runs.RcAnswer.TheVariants as answer
-use Rattle.rc_runs.specs.declared.runs.Passage.{Passage}
-use Rattle.rc_runs.specs.declared.runs.RunWay.{RunWay}
+use Rattle.rc_runs.specs.declared.runs.LevelChange.{LevelChange}
+use Rattle.rc_runs.specs.declared.runs.ScriptOptions.{ScriptOptions}
 use Rattle.rc_runs.specs.Runs.{LinkRun, RcState, is_failure}
 
 -- the word of an argument
@@ -47,7 +47,7 @@ abbrev pub begin_line : LinkRun → List ℕ
 begin_line s = script_text s ++ codes " begins\n"
 
 -- what is written of a script that came to its end; of its start too, where starts are told
-abbrev pub lines_of : RunWay → LinkRun → RcAnswer → List ℕ
+abbrev pub lines_of : ScriptOptions → LinkRun → RcAnswer → List ℕ
 lines_of way s given = (if way.verbose then begin_line s else []) ++ line_of s given
 
 -- what stands in the writer of lines, and in that of what is told, where it is known
@@ -65,12 +65,12 @@ Tells before after (line ∷ lines) =
     (between : Option (List ℕ)) × Tells before between lines × AppendsPrefix between after line
 
 -- the line of a script's start was written, where starts are told
-abbrev pub TellsStart : RunWay → LinkRun → Option (List ℕ) → Option (List ℕ) → Type 0
+abbrev pub TellsStart : ScriptOptions → LinkRun → Option (List ℕ) → Option (List ℕ) → Type 0
 TellsStart way s before after =
     (way.verbose ≡ true → Appends before after (begin_line s)) × (way.verbose ≡ false → after ≡ before)
 
 -- what stands in front of a script's path where it is started
-abbrev pub shell_word : RunWay → List ℕ
+abbrev pub shell_word : ScriptOptions → List ℕ
 shell_word way = if way.direct then [] else codes "sh "
 
 -- the word for the level before, N where there was none
@@ -79,16 +79,16 @@ before_code (Some level) = level_code level
 before_code None = 78
 
 -- env(1), which sets the two levels for a script (init(8)), where scripts have them
-abbrev pub level_words : Option Passage → List ℕ
+abbrev pub level_words : Option LevelChange → List ℕ
 level_words None = []
-level_words (Some passage) = codes "env RUNLEVEL=" ++ (level_code passage.new ∷ (codes " PREVLEVEL=" ++ (before_code passage.before ∷ codes " ")))
+level_words (Some change) = codes "env RUNLEVEL=" ++ (level_code change.new ∷ (codes " PREVLEVEL=" ++ (before_code change.before ∷ codes " ")))
 
 -- what starts a script, whose link stands in the folder
-abbrev pub command_text : RunWay → List ℕ → LinkRun → List ℕ
+abbrev pub command_text : ScriptOptions → List ℕ → LinkRun → List ℕ
 command_text way dir s = level_words way.levels ++ (shell_word way ++ (dir ++ (codes "/" ++ script_text s)))
 
 -- what is written of scripts that came to these ends, as far as there are both
-abbrev pub report : RunWay → List LinkRun → List RcAnswer → List ℕ
+abbrev pub report : ScriptOptions → List LinkRun → List RcAnswer → List ℕ
 report way (s ∷ scripts) (given ∷ answers) = lines_of way s given ++ report way scripts answers
 report way _ _ = []
 
@@ -105,7 +105,7 @@ is_over _ = false
 -- how a run over a host changes the run of the scripts and a writer's bytes. Lines of the scripts that were left were
 -- written, each with an end (which one the host answered is not said): of all of them, where the run is over, which says
 -- whether one failed; else as far as it came, and the last script that was handed out is not answered
-pub record WritesEnds (way : RunWay) (old : RcState) (before : Option (List ℕ)) (ended : RunEnd) (new : RcState)
+pub record WritesEnds (way : ScriptOptions) (old : RcState) (before : Option (List ℕ)) (ended : RunEnd) (new : RcState)
     (after : Option (List ℕ)) : Type 0 where
   pub answers : List RcAnswer
   pub part : AppendsPrefix before after (report way old.left answers)

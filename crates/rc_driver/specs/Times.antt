@@ -6,7 +6,7 @@ use Rattle.init_words.specs.declared.orders.SignalKind.TheVariants as sig
 use Rattle.host_calls.specs.declared.calls.HostFault.{HostFault}
 use Rattle.rc_driver.specs.declared.times.Timer.{Timer}
 use Rattle.rc_driver.specs.declared.times.Timer.TheVariants as timer
-use Rattle.rc_runs.specs.declared.runs.RunWay.{RunWay}
+use Rattle.rc_runs.specs.declared.runs.ScriptOptions.{ScriptOptions}
 
 -- the signal that is due at a moment: TERM where a script has run for longer than its limit, and KILL where it was sent
 -- TERM and has run for longer than init's grace since
@@ -42,14 +42,14 @@ signal_word sig.Kill = codes " s more: KILL was sent\n"
 
 -- the line that tells of a signal to the script of a link in the folder, behind so many seconds
 abbrev pub late_line : List ℕ → List ℕ → ℕ → SignalKind → List ℕ
-late_line dir link seconds signal = (codes "rc: " ++ (dir ++ codes "/"))
-    ++ ((link ++ (codes " has not ended after " ++ decimal seconds)) ++ signal_word signal)
+late_line dir link seconds signal = ((codes "rc: " ++ (dir ++ codes "/"))
+    ++ (link ++ (codes " has not ended after " ++ decimal seconds))) ++ signal_word signal
 
 abbrev pub signal_line : Option ℕ → List ℕ → List ℕ → SignalKind → List ℕ
 signal_line limit dir link signal = late_line dir link (wait_of limit signal) signal
 
 -- the lines that a script's time has told, the newest first
-abbrev pub time_lines : RunWay → List ℕ → List ℕ → Timer → List (List ℕ)
+abbrev pub time_lines : ScriptOptions → List ℕ → List ℕ → Timer → List (List ℕ)
 time_lines way dir link (timer.Warned sent) = signal_line way.seconds dir link sig.Term ∷ []
 time_lines way dir link timer.Killed =
     signal_line way.seconds dir link sig.Kill ∷ signal_line way.seconds dir link sig.Term ∷ []

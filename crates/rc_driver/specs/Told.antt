@@ -8,7 +8,7 @@ use Rattle.rc_driver.specs.declared.driving.RunEnd.TheVariants as run_end
 use Rattle.rc_driver.specs.declared.progress.Progress.{Progress}
 use Rattle.rc_driver.specs.declared.progress.Progress.TheVariants as progress
 use Rattle.rc_runs.specs.declared.runs.RcAnswer.{RcAnswer}
-use Rattle.rc_runs.specs.declared.runs.RunWay.{RunWay}
+use Rattle.rc_runs.specs.declared.runs.ScriptOptions.{ScriptOptions}
 use Rattle.rc_driver.specs.declared.times.Timer.{Timer}
 use Rattle.rc_driver.specs.Progress.{RunsTo, count_pauses, is_waiting}
 use Rattle.rc_driver.specs.Report.{Output, Tells, TellsStart, begin_line, command_text, done_end, is_over, line_of, lines_of}
@@ -17,19 +17,19 @@ use Rattle.rc_driver.specs.Times.{time_lines}
 
 -- the calls run the script that a command starts to this end, with so many pauses at most, and what its time has told
 -- was told
-abbrev pub RanBy : RunWay → List ℕ → List ℕ → ℕ → LinkRun → RcAnswer → Option (List ℕ) → Option (List ℕ)
+abbrev pub RanBy : ScriptOptions → List ℕ → List ℕ → ℕ → LinkRun → RcAnswer → Option (List ℕ) → Option (List ℕ)
     → List HostCall → Type 0
 RanBy way dir command pauses s given told tells calls = (time : Timer)
     × RunsTo way.seconds command (progress.Over given) time calls × (count_pauses calls ≤ pauses)
     × Tells told tells (time_lines way dir s.0 time)
 
 -- the calls run the script of a link
-abbrev pub Ran : RunWay → List ℕ → ℕ → LinkRun → RcAnswer → Option (List ℕ) → Option (List ℕ) → List HostCall → Type 0
+abbrev pub Ran : ScriptOptions → List ℕ → ℕ → LinkRun → RcAnswer → Option (List ℕ) → Option (List ℕ) → List HostCall → Type 0
 Ran way dir pauses s given told tells calls =
     RanBy way dir (command_text way dir s) pauses s given told tells calls
 
 -- a script's line was not written whole: that of its start, and so nothing is started; or that of its end
-abbrev pub EndsUnwritten : RunWay → List ℕ → ℕ → LinkRun → Output → Output → List HostCall → Type 0
+abbrev pub EndsUnwritten : ScriptOptions → List ℕ → ℕ → LinkRun → Output → Output → List HostCall → Type 0
 EndsUnwritten way dir pauses s before after calls =
     ((way.verbose ≡ true) × (calls ≡ []) × AppendsPrefix before.lines after.lines (begin_line s)
     × (after.told ≡ before.told))
@@ -38,7 +38,7 @@ EndsUnwritten way dir pauses s before after calls =
 
 -- how a run ends at a script. The pauses are used up, and it, which is named, has no end yet; or of one of its lines a
 -- prefix was written; or it was not started for lack of memory
-abbrev pub ScriptsEndAt : RunWay → List ℕ → ℕ → LinkRun → Output → RunEnd → Output → List HostCall → Type 0
+abbrev pub ScriptsEndAt : ScriptOptions → List ℕ → ℕ → LinkRun → Output → RunEnd → Output → List HostCall → Type 0
 ScriptsEndAt way dir pauses s before (run_end.Limit link) after calls =
     (link.now ≡ s.0) × (now : Progress) × (time : Timer)
     × (is_waiting now ≡ true) × RunsTo way.seconds (command_text way dir s) now time calls
@@ -50,7 +50,7 @@ ScriptsEndAt way dir pauses s before _ after calls = ⊥
 
 -- a script ran to the end that the host answered, and its lines were written; the calls behind it, with the pauses that
 -- are left then, whether this one failed, and what was written by then
-abbrev pub ScriptsGoOn : RunWay → List ℕ → ℕ → LinkRun → Output → List HostCall
+abbrev pub ScriptsGoOn : ScriptOptions → List ℕ → ℕ → LinkRun → Output → List HostCall
     → (ℕ → Bool → Output → List HostCall → Type 0) → Type 0
 ScriptsGoOn way dir pauses s before calls Rest = (given : RcAnswer) × (first later : List HostCall)
     × (between : Output) × (calls ≡ later ++ first) × Ran way dir pauses s given before.told between.told first
@@ -59,7 +59,7 @@ ScriptsGoOn way dir pauses s before calls Rest = (given : RcAnswer) × (first la
 
 -- The scripts were run one behind the other, from a folder and with so many pauses, where one has failed already or
 -- none: each to its end, and then the next, until none was left or the run ended at one. Those behind it are left.
-abbrev pub RunsFrom : RunWay → List ℕ → ℕ → Bool → List LinkRun → Output → RunEnd → List LinkRun → Output
+abbrev pub RunsFrom : ScriptOptions → List ℕ → ℕ → Bool → List LinkRun → Output → RunEnd → List LinkRun → Output
     → List HostCall → Type 0
 RunsFrom way dir pauses failed [] before ended left after calls =
     (ended ≡ done_end failed) × (left ≡ []) × (after ≡ before) × (calls ≡ [])
@@ -70,7 +70,7 @@ RunsFrom way dir pauses failed (s ∷ scripts) before ended left after calls =
 
 -- a run of the scripts that are left, where one has failed already or none. Where the answer to one that was handed out
 -- before is missing, none is run
-pub record RunsLinks (way : RunWay) (dir : List ℕ) (pauses : ℕ) (failed : Bool) (old : RcState) (before : Output)
+pub record RunsLinks (way : ScriptOptions) (dir : List ℕ) (pauses : ℕ) (failed : Bool) (old : RcState) (before : Output)
     (ended : RunEnd) (new : RcState) (after : Output) (calls : List HostCall) : Type 0 where
   pub waits : old.waits ≡ true → (ended ≡ run_end.Waiting) × (new ≡ old) × (after ≡ before) × (calls ≡ [])
   pub runs : old.waits ≡ false → RunsFrom way dir pauses failed old.left before ended new.left after calls

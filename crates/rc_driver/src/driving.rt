@@ -12,7 +12,7 @@ use crate::progress::run_script;
 use crate::writing::{command_of, tell_end, tell_start};
 use host_calls::Host;
 use init_words::Status;
-use rc_runs::{Arg, Rc, RcAnswer, RcStep, RunWay};
+use rc_runs::{Arg, Rc, RcAnswer, RcStep, ScriptOptions};
 use std::alloc::Allocator;
 use std::io::Write;
 
@@ -62,7 +62,7 @@ fn done_end(failed: bool) -> RunEnd<'static>
 fn run_command<'n, A: Allocator + Copy, H: Host, W: Write, E: Write>(
     alloc: A,
     host: &mut H,
-    way: RunWay,
+    way: ScriptOptions,
     dir: &str,
     command: &[u8],
     link: &'n str,
@@ -95,7 +95,7 @@ fn run_command<'n, A: Allocator + Copy, H: Host, W: Write, E: Write>(
 fn run_link<'n, A: Allocator + Copy, H: Host, W: Write, E: Write>(
     alloc: A,
     host: &mut H,
-    way: RunWay,
+    way: ScriptOptions,
     dir: &str,
     link: &'n str,
     arg: Arg,
@@ -139,7 +139,7 @@ fn run_next<'n, A: Allocator + Copy, B: Allocator, H: Host, W: Write, E: Write>(
     alloc: A,
     rc: &mut Rc<'n, B>,
     host: &mut H,
-    way: RunWay,
+    way: ScriptOptions,
     dir: &str,
     pauses: &mut u32,
     failed: &mut bool,
@@ -185,7 +185,7 @@ pub fn run_links<'n, A: Allocator + Copy, B: Allocator, H: Host, W: Write, E: Wr
     alloc: A,
     rc: &mut Rc<'n, B>,
     host: &mut H,
-    way: RunWay,
+    way: ScriptOptions,
     dir: &str,
     limit: u32,
     out: &mut W,

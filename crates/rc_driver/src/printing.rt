@@ -6,7 +6,7 @@ ghost use Rattle.rc_driver.specs.Printing.{PrintStops, Printed, PrintsLinks, com
 
 use crate::driving::RunEnd;
 use crate::writing::{command_of, tell_text};
-use rc_runs::{Arg, Rc, RcAnswer, RcStep, RunWay};
+use rc_runs::{Arg, Rc, RcAnswer, RcStep, ScriptOptions};
 use std::alloc::Allocator;
 use std::io::Write;
 
@@ -14,7 +14,7 @@ use std::io::Write;
 fn print_next<'n, A: Allocator + Copy, B: Allocator, W: Write>(
     alloc: A,
     rc: &mut Rc<'n, B>,
-    way: RunWay,
+    way: ScriptOptions,
     dir: &str,
     out: &mut W,
 ) -> Option<RunEnd<'n>>
@@ -44,7 +44,7 @@ fn print_next<'n, A: Allocator + Copy, B: Allocator, W: Write>(
 #[tactic(auto, using(crate::proofs::PrintLemmas::line_stopped, crate::proofs::PrintLemmas::line_written))]
 fn print_link<A: Allocator + Copy, W: Write>(
     alloc: A,
-    way: RunWay,
+    way: ScriptOptions,
     dir: &str,
     link: &str,
     arg: Arg,
@@ -66,7 +66,7 @@ fn print_link<A: Allocator + Copy, W: Write>(
 pub fn print_links<'n, A: Allocator + Copy, B: Allocator, W: Write>(
     alloc: A,
     rc: &mut Rc<'n, B>,
-    way: RunWay,
+    way: ScriptOptions,
     dir: &str,
     out: &mut W,
 ) -> RunEnd<'n>

@@ -11,7 +11,7 @@ use crate::times::{Timer, due_at, timer_at};
 use crate::writing::tell_signal;
 use host_calls::{Host, Reply};
 use init_words::{Answer, Id};
-use rc_runs::{RcAnswer, RunWay};
+use rc_runs::{RcAnswer, ScriptOptions};
 use std::alloc::Allocator;
 use std::io::Write;
 
@@ -114,7 +114,7 @@ fn looked<H: Host>(host: &mut H, limit: Option<u32>) -> Progress
 /// Looks at the time of a script that was found alive: sends it the signal that is due, and tells of that.
 fn timed<H: Host, E: Write>(
     host: &mut H,
-    way: RunWay,
+    way: ScriptOptions,
     dir: &str,
     link: &str,
     timer: &mut Timer,
@@ -153,7 +153,7 @@ fn paused<H: Host>(host: &mut H, limit: Option<u32>, progress: Progress) -> Prog
 pub(crate) fn run_script<A: Allocator + Copy, H: Host, E: Write>(
     alloc: A,
     host: &mut H,
-    way: RunWay,
+    way: ScriptOptions,
     dir: &str,
     link: &str,
     command: &[u8],

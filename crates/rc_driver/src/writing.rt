@@ -1,11 +1,10 @@
 //! The lines of scripts, and the texts that start them.
 
-ghost use Rattle.std.specs.Prelude.{◌≡◌, ◌++◌, string_bytes, true, codes, decimal, IfOk, IfErr, OnOk, OnErr};
+ghost use Rattle.std.specs.Prelude.{◌≡◌, ◌++◌, string_bytes, true, codes, IfOk, IfErr, OnOk, OnErr};
 ghost use Rattle.std.specs.Io.KnownBytes.{Appends};
 ghost use Rattle.program_io.specs.Writing.{AppendsPrefix};
-ghost use Rattle.rc_driver.specs.Report.{TellsStart, arg_word, begin_line, command_text, end_text};
-ghost use Rattle.rc_driver.specs.Report.{before_code, exit_text, level_words, line_of, script_text, shell_word, status_text};
-ghost use Rattle.rc_driver.specs.Times.{late_line, signal_line, signal_word, wait_of};
+ghost use Rattle.rc_driver.specs.Report.{TellsStart, arg_word, before_code, begin_line, command_text, level_words, line_of, script_text, shell_word};
+ghost use Rattle.rc_driver.specs.Times.{late_line, signal_line, signal_word};
 ghost use Rattle.rc_driver.specs.declared.driving.RunEnd.TheVariants as run_end;
 
 use crate::driving::RunEnd;
@@ -13,7 +12,7 @@ use crate::times::wait_of;
 use init_words::{Level, SignalKind, Status};
 use itoa::Buffer;
 use program_io::write_text;
-use rc_runs::{Arg, Passage, RcAnswer, RunWay};
+use rc_runs::{Arg, LevelChange, RcAnswer, ScriptOptions};
 use std::alloc::{AllocError, Allocator};
 use std::io;
 use std::io::Write;
@@ -60,91 +59,54 @@ fn write_three<W: Write>(out: &mut W, first: &[u8], second: &[u8], third: &[u8])
     write_two(out, second, third)
 }
 
-fn write_exit<W: Write>(out: &mut W, code: u8) -> io::Result<()>
-    ensures ok { OnOk result
-        (Appends (W.contents out.old) (W.contents out.new) (exit_text code)) }
-    ensures err { OnErr result
-        (AppendsPrefix (W.contents out.old) (W.contents out.new) (exit_text code)) }
-{
-    let mut buffer = Buffer::new();
-    let number = buffer.format(code).as_bytes();
-    write_three(out, b" exit ", number, b"\n")
-}
-
-fn write_status<W: Write>(out: &mut W, status: Status) -> io::Result<()>
-    ensures ok { OnOk result
-        (Appends (W.contents out.old) (W.contents out.new) (status_text status)) }
-    ensures err { OnErr result
-        (AppendsPrefix (W.contents out.old) (W.contents out.new) (status_text status)) }
-{
-    match status {
-        Status::Exit(code) => write_exit(out, code),
-        Status::Killed => write_one(out, b" killed\n"),
-    }
-}
-
-fn write_end<W: Write>(out: &mut W, answer: &RcAnswer) -> io::Result<()>
-    ensures ok { OnOk result
-        (Appends (W.contents out.old) (W.contents out.new) (end_text answer.now)) }
-    ensures err { OnErr result
-        (AppendsPrefix (W.contents out.old) (W.contents out.new) (end_text answer.now)) }
-{
-    match answer {
-        RcAnswer::Ended(status) => write_status(out, *status),
-        RcAnswer::NotStarted => write_one(out, b" not started\n"),
-    }
-}
-
-fn write_script<W: Write>(out: &mut W, link: &str, arg: Arg) -> io::Result<()>
-    ensures ok { OnOk result (Appends (W.contents out.old) (W.contents out.new)
-        (script_text (link.now, arg))) }
-    ensures err { OnErr result (AppendsPrefix (W.contents out.old) (W.contents out.new)
-        (script_text (link.now, arg))) }
-{
-    write_three(out, link.as_bytes(), b" ", arg_word(arg).as_bytes())
-}
-
-/// Writes the line of a script that came to its end.
+/// Writes six texts, one after the other.
 #[tactic(auto, using(crate::proofs::WritingLemmas::first_err, crate::proofs::WritingLemmas::last_ok, crate::proofs::WritingLemmas::last_err))]
-fn write_line<W: Write>(out: &mut W, link: &str, arg: Arg, answer: &RcAnswer) -> io::Result<()>
+pub fn write_six<W: Write>(
+    out: &mut W,
+    first: &[u8],
+    second: &[u8],
+    third: &[u8],
+    fourth: &[u8],
+    fifth: &[u8],
+    sixth: &[u8],
+) -> io::Result<()>
     ensures ok { OnOk result (Appends (W.contents out.old) (W.contents out.new)
-        (line_of (link.now, arg) answer.now)) }
+        ((first.now ++ (second.now ++ third.now)) ++ (fourth.now ++ (fifth.now ++ sixth.now)))) }
     ensures err { OnErr result (AppendsPrefix (W.contents out.old) (W.contents out.new)
-        (line_of (link.now, arg) answer.now)) }
+        ((first.now ++ (second.now ++ third.now)) ++ (fourth.now ++ (fifth.now ++ sixth.now)))) }
 {
-    write_script(out, link, arg)?;
-    write_end(out, answer)
+    write_three(out, first, second, third)?;
+    write_three(out, fourth, fifth, sixth)
 }
 
-/// Writes the line of a script's start, and sees that it is out.
-fn tell_begin<W: Write>(out: &mut W, link: &str, arg: Arg) -> Result<(), RunEnd<'static>>
+/// Writes the line of a script, which ends with three texts, and sees that it is out.
+fn tell_script<W: Write>(
+    out: &mut W,
+    link: &str,
+    arg: Arg,
+    first: &[u8],
+    second: &[u8],
+    third: &[u8],
+) -> Result<(), RunEnd<'static>>
     ensures ok { OnOk result (Appends (W.contents out.old) (W.contents out.new)
-        (begin_line (link.now, arg))) }
+        (script_text (link.now, arg) ++ (first.now ++ (second.now ++ third.now)))) }
     ensures err { IfErr result (λ ended. (ended ≡ run_end.Write) × AppendsPrefix
-        (W.contents out.old) (W.contents out.new) (begin_line (link.now, arg))) }
+        (W.contents out.old) (W.contents out.new)
+        (script_text (link.now, arg) ++ (first.now ++ (second.now ++ third.now)))) }
 {
-    if write_begin(out, link, arg).is_err() || out.flush().is_err() {
+    let word = arg_word(arg).as_bytes();
+    if write_six(out, link.as_bytes(), b" ", word, first, second, third).is_err()
+        || out.flush().is_err()
+    {
         return Err(RunEnd::Write);
     }
     Ok(())
 }
 
-/// Writes the line of a script's start.
-#[tactic(auto, using(crate::proofs::WritingLemmas::first_err, crate::proofs::WritingLemmas::last_ok, crate::proofs::WritingLemmas::last_err))]
-fn write_begin<W: Write>(out: &mut W, link: &str, arg: Arg) -> io::Result<()>
-    ensures ok { OnOk result (Appends (W.contents out.old) (W.contents out.new)
-        (begin_line (link.now, arg))) }
-    ensures err { OnErr result (AppendsPrefix (W.contents out.old) (W.contents out.new)
-        (begin_line (link.now, arg))) }
-{
-    write_script(out, link, arg)?;
-    write_one(out, b" begins\n")
-}
-
 /// Writes the line of a script's start, where starts are told.
 pub(crate) fn tell_start<W: Write>(
     out: &mut W,
-    way: RunWay,
+    way: ScriptOptions,
     link: &str,
     arg: Arg,
 ) -> Result<(), RunEnd<'static>>
@@ -155,13 +117,13 @@ pub(crate) fn tell_start<W: Write>(
         (begin_line (link.now, arg))) }
 {
     if way.verbose {
-        tell_begin(out, link, arg)
+        tell_script(out, link, arg, b" begins\n", b"", b"")
     } else {
         Ok(())
     }
 }
 
-/// Writes the line of a script, and sees that it is out.
+/// Writes the line of a script that came to its end.
 pub(crate) fn tell_end<W: Write>(
     out: &mut W,
     link: &str,
@@ -173,14 +135,19 @@ pub(crate) fn tell_end<W: Write>(
     ensures err { IfErr result (λ ended. (ended ≡ run_end.Write) × AppendsPrefix
         (W.contents out.old) (W.contents out.new) (line_of (link.now, arg) answer.now)) }
 {
-    if write_line(out, link, arg, answer).is_err() || out.flush().is_err() {
-        return Err(RunEnd::Write);
+    match answer {
+        RcAnswer::Ended(Status::Exit(code)) => {
+            let mut buffer = Buffer::new();
+            let number = buffer.format(*code).as_bytes();
+            tell_script(out, link, arg, b" exit ", number, b"\n")
+        }
+        RcAnswer::Ended(Status::Killed) => tell_script(out, link, arg, b" killed\n", b"", b""),
+        RcAnswer::NotStarted => tell_script(out, link, arg, b" not started\n", b"", b""),
     }
-    Ok(())
 }
 
 /// What stands in front of a script's path where it is started.
-fn shell_word(way: RunWay) -> &'static str
+fn shell_word(way: ScriptOptions) -> &'static str
     ensures { result.now ≡ shell_word way }
 {
     if way.direct { "" } else { "sh " }
@@ -197,21 +164,21 @@ fn before_code(before: Option<Level>) -> u8
 }
 
 /// What sets the two levels for a script, where scripts have them.
-fn level_words<A: Allocator>(alloc: A, levels: Option<Passage>) -> Result<String<A>, AllocError>
+fn level_words<A: Allocator>(alloc: A, levels: Option<LevelChange>) -> Result<String<A>, AllocError>
     ensures { IfOk result (λ text. string_bytes text ≡ level_words levels) }
 {
-    let Some(passage) = levels else {
+    let Some(change) = levels else {
         return Ok(String::new(alloc));
     };
-    let new = char::from(passage.new.code());
-    let before = char::from(before_code(passage.before));
+    let new = char::from(change.new.code());
+    let before = char::from(before_code(change.before));
     format!(in alloc; "env RUNLEVEL={new} PREVLEVEL={before} ")
 }
 
 /// The process text that starts a script.
 pub(crate) fn command_of<A: Allocator + Copy>(
     alloc: A,
-    way: RunWay,
+    way: ScriptOptions,
     dir: &str,
     link: &str,
     arg: Arg,
@@ -234,51 +201,8 @@ fn signal_word(signal: SignalKind) -> &'static [u8]
     }
 }
 
-/// Writes what names the folder.
-fn write_folder<E: Write>(err: &mut E, dir: &str) -> io::Result<()>
-    ensures ok { OnOk result (Appends (E.contents err.old) (E.contents err.new)
-        (codes "rc: " ++ (dir.now ++ codes "/"))) }
-    ensures err { OnErr result (AppendsPrefix (E.contents err.old) (E.contents err.new)
-        (codes "rc: " ++ (dir.now ++ codes "/"))) }
-{
-    write_three(err, b"rc: ", dir.as_bytes(), b"/")
-}
-
-/// Writes how long a script has run.
-fn write_wait<E: Write>(err: &mut E, link: &str, seconds: u32) -> io::Result<()>
-    ensures ok { OnOk result (Appends (E.contents err.old) (E.contents err.new)
-        (link.now ++ (codes " has not ended after " ++ decimal seconds))) }
-    ensures err { OnErr result (AppendsPrefix (E.contents err.old) (E.contents err.new)
-        (link.now ++ (codes " has not ended after " ++ decimal seconds))) }
-{
-    let mut buffer = Buffer::new();
-    let number = buffer.format(seconds).as_bytes();
-    write_three(err, link.as_bytes(), b" has not ended after ", number)
-}
-
-/// Writes which signal was sent.
-fn write_word<E: Write>(err: &mut E, signal: SignalKind) -> io::Result<()>
-    ensures ok { OnOk result
-        (Appends (E.contents err.old) (E.contents err.new) (signal_word signal)) }
-    ensures err { OnErr result
-        (AppendsPrefix (E.contents err.old) (E.contents err.new) (signal_word signal)) }
-{
-    write_one(err, signal_word(signal))
-}
-
-/// Writes the line that tells of a signal, behind what names the folder.
-fn write_late<E: Write>(err: &mut E, link: &str, seconds: u32, signal: SignalKind) -> io::Result<()>
-    ensures ok { OnOk result (Appends (E.contents err.old) (E.contents err.new)
-        ((link.now ++ (codes " has not ended after " ++ decimal seconds)) ++ signal_word signal)) }
-    ensures err { OnErr result (AppendsPrefix (E.contents err.old) (E.contents err.new)
-        ((link.now ++ (codes " has not ended after " ++ decimal seconds)) ++ signal_word signal)) }
-{
-    write_wait(err, link, seconds)?;
-    write_word(err, signal)?;
-    Ok(())
-}
-
 /// Writes the line that tells of a signal.
+#[tactic(auto, using(crate::proofs::WritingLemmas::first_err, crate::proofs::WritingLemmas::last_ok, crate::proofs::WritingLemmas::last_err))]
 fn write_signal<E: Write>(
     err: &mut E,
     dir: &str,
@@ -291,21 +215,23 @@ fn write_signal<E: Write>(
     ensures err { OnErr result (AppendsPrefix (E.contents err.old) (E.contents err.new)
         (late_line dir.now link.now seconds signal)) }
 {
-    write_folder(err, dir)?;
-    write_late(err, link, seconds, signal)?;
-    Ok(())
+    let mut buffer = Buffer::new();
+    let number = buffer.format(seconds).as_bytes();
+    let late = b" has not ended after ";
+    write_six(
+        err,
+        b"rc: ",
+        dir.as_bytes(),
+        b"/",
+        link.as_bytes(),
+        late,
+        number,
+    )?;
+    write_one(err, signal_word(signal))
 }
 
 /// Tells that a script was sent a signal, by as much of the line as `err` takes.
 #[tactic(auto, using(crate::proofs::WritingLemmas::prefix_of))]
-fn tell_late<E: Write>(err: &mut E, dir: &str, link: &str, seconds: u32, signal: SignalKind)
-    ensures { AppendsPrefix (E.contents err.old) (E.contents err.new)
-        (late_line dir.now link.now seconds signal) }
-{
-    let _ = write_signal(err, dir, link, seconds, signal);
-}
-
-/// The same, behind the seconds that the signal has waited.
 pub(crate) fn tell_signal<E: Write>(
     err: &mut E,
     limit: Option<u32>,
@@ -316,7 +242,7 @@ pub(crate) fn tell_signal<E: Write>(
     ensures { AppendsPrefix (E.contents err.old) (E.contents err.new)
         (signal_line limit dir.now link.now signal) }
 {
-    tell_late(err, dir, link, wait_of(limit, signal), signal);
+    let _ = write_signal(err, dir, link, wait_of(limit, signal), signal);
 }
 
 /// Writes a text as a line, and sees that it is out.

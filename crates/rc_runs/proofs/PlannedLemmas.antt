@@ -1,7 +1,5 @@
 -- Of a folder that holds the links of a plan just these are run.
-use Rattle.std.proofs.Common.{◌≡◌, ℕ, Bool, true, not, ◌&&◌, List, [], ◌∷◌, ◌++◌, refl, ap, ◌∙◌, arith}
-use Rattle.std.specs.List.{dedup, filter}
-use Rattle.std.specs.Str.{byte, bytes_eq}
+use Rattle.rc_runs.proofs.Words.{◌≡◌, ℕ, Bool, true, not, ◌&&◌, List, [], ◌∷◌, ◌++◌, refl, ap, ◌∙◌, arith, dedup, filter, byte, bytes_eq, in_byte_order-moves, one_order, is_link, is_skipped, is_started, rc_run, with_arg}
 use Rattle.std.proofs.lemmas.Bool.Decides.{nat_tests}
 use Rattle.std.proofs.lemmas.List.{append-nil}
 use Rattle.std.proofs.lemmas.List.Elements.{filter-append}
@@ -10,10 +8,7 @@ use Rattle.init_words.specs.declared.levels.Level.{Level}
 use Rattle.rc_links.specs.Links.{in_byte_order, link_of, start_links, stop_links}
 use Rattle.rc_links.specs.Names.{is_name}
 use Rattle.rc_links.specs.PlannedText.{PlannedText}
-use Rattle.rc_links.proofs.LinkLemmas.{in_byte_order-moves, one_order}
 use Rattle.rc_runs.specs.declared.runs.Arg.TheVariants as arg
-use Rattle.rc_runs.specs.Links.{is_link, is_skipped, is_started}
-use Rattle.rc_runs.specs.Runs.{rc_run, with_arg}
 use Rattle.rc_runs.specs.Planned.{AreNamed, RunsPlans}
 
 -- a letter, a number in two digits and such a name are a link with the letter

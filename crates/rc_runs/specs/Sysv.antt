@@ -5,7 +5,7 @@ use Rattle.std.specs.Str.{byte}
 use Rattle.init_words.specs.declared.levels.Level.{Level}
 use Rattle.init_words.specs.declared.levels.Level.TheVariants.{L0, L6}
 use Rattle.rc_runs.specs.declared.runs.Arg.TheVariants as arg
-use Rattle.rc_runs.specs.declared.runs.Passage.{Passage}
+use Rattle.rc_runs.specs.declared.runs.LevelChange.{LevelChange}
 use Rattle.rc_runs.specs.Links.{has_link, is_link, ordered, start_links}
 use Rattle.rc_runs.specs.Runs.{LinkRun, rc_run, with_arg}
 
@@ -37,10 +37,10 @@ abbrev pub sysv_starts : Bool → List (List ℕ) → List (List ℕ) → List L
 sysv_starts true previous new = with_arg arg.Stop (stopping_links (byte "S") previous new)
 sysv_starts false previous new = with_arg arg.Start (start_links previous new)
 
-abbrev pub sysv_run : Passage → List (List ℕ) → List (List ℕ) → List LinkRun
-sysv_run passage previous new = sysv_stops passage.before previous new ++ sysv_starts (is_halt passage.new) previous new
+abbrev pub sysv_run : LevelChange → List (List ℕ) → List (List ℕ) → List LinkRun
+sysv_run change previous new = sysv_stops change.before previous new ++ sysv_starts (is_halt change.new) previous new
 
 -- the scripts by the names in the previous folder and in the new one: as sysv-rc has them, where a change is given
-abbrev pub scripts_by : Option Passage → List (List ℕ) → List (List ℕ) → List LinkRun
+abbrev pub scripts_by : Option LevelChange → List (List ℕ) → List (List ℕ) → List LinkRun
 scripts_by None previous new = rc_run previous new
-scripts_by (Some passage) previous new = sysv_run passage previous new
+scripts_by (Some change) previous new = sysv_run change previous new

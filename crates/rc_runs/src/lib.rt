@@ -5,4 +5,4 @@
 mod links;
 mod runs;
 
-pub use runs::{Arg, NotAsked, Passage, Rc, RcAnswer, RcStep, RunWay};
+pub use runs::{Arg, LevelChange, NotAsked, Rc, RcAnswer, RcStep, ScriptOptions};

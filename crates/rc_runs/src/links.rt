@@ -1,9 +1,7 @@
 //! Which links of a runlevel's folder are run, and in which order.
 
-ghost use Rattle.std.specs.Prelude.{◌≡◌, ◌++◌, ◌∷◌, [], map, string_bytes, IfOk, OnOk};
-ghost use Rattle.std.specs.List.{filter};
-ghost use Rattle.rc_runs.specs.Links.{has_link, is_link, is_link_like};
-ghost use Rattle.rc_runs.specs.Links.{is_started, ordered, start_links, stop_links};
+ghost use Rattle.std.specs.Prelude.{◌≡◌, map, string_bytes, IfOk};
+ghost use Rattle.rc_runs.specs.Links.{has_link, is_link, is_link_like, is_started, ordered, start_links, stop_links};
 ghost use Rattle.rc_runs.specs.Runs.{texts_of};
 ghost use Rattle.rc_runs.specs.Sysv.{is_halt, is_stopping, stopping_links, was_stopped};
 
@@ -72,95 +70,6 @@ pub(crate) fn is_halt(level: Level) -> bool
     matches!(level, Level::L0 | Level::L6)
 }
 
-/// Adds the name where it is a link that stops.
-fn add_stop<'n, A: Allocator>(links: &mut Vec<&'n str, A>, name: &'n str) -> Result<(), Memory>
-    ensures { OnOk result (texts_of links.new.items
-        ≡ texts_of links.old.items ++ filter (is_link 75) (name.now ∷ [])) }
-{
-    if is_link(b'K', name.as_bytes()) {
-        links.push(name)?;
-    }
-    Ok(())
-}
-
-/// Adds the name where it is a link that starts, and not one to skip.
-fn add_start<'n, A: Allocator>(
-    links: &mut Vec<&'n str, A>,
-    previous: &[String],
-    new: &[String],
-    name: &'n str,
-) -> Result<(), Memory>
-    ensures { OnOk result (texts_of links.new.items ≡ texts_of links.old.items
-        ++ filter (is_started (map string_bytes previous.now) (map string_bytes new.now))
-        (name.now ∷ [])) }
-{
-    if is_started(previous, new, name) {
-        links.push(name)?;
-    }
-    Ok(())
-}
-
-/// Adds the name where it is a link with the letter that sysv-rc stops.
-fn add_stopping<'n, A: Allocator>(
-    links: &mut Vec<&'n str, A>,
-    letter: u8,
-    previous: &[String],
-    name: &'n str,
-) -> Result<(), Memory>
-    ensures { OnOk result (texts_of links.new.items ≡ texts_of links.old.items
-        ++ filter (is_stopping letter (map string_bytes previous.now)) (name.now ∷ [])) }
-{
-    if is_stopping(letter, previous, name) {
-        links.push(name)?;
-    }
-    Ok(())
-}
-
-fn add_all_stopping<'n, A: Allocator>(
-    links: &mut Vec<&'n str, A>,
-    letter: u8,
-    previous: &[String],
-    names: &'n [String],
-) -> Result<(), Memory>
-    ensures { OnOk result (texts_of links.new.items ≡ texts_of links.old.items
-        ++ filter (is_stopping letter (map string_bytes previous.now))
-        (map string_bytes names.now)) }
-{
-    for name in names {
-        add_stopping(links, letter, previous, name.as_str())?;
-    }
-    Ok(())
-}
-
-fn add_stops<'n, A: Allocator>(
-    links: &mut Vec<&'n str, A>,
-    names: &'n [String],
-) -> Result<(), Memory>
-    ensures { OnOk result (texts_of links.new.items
-        ≡ texts_of links.old.items ++ filter (is_link 75) (map string_bytes names.now)) }
-{
-    for name in names {
-        add_stop(links, name.as_str())?;
-    }
-    Ok(())
-}
-
-fn add_starts<'n, A: Allocator>(
-    links: &mut Vec<&'n str, A>,
-    previous: &[String],
-    new: &[String],
-    names: &'n [String],
-) -> Result<(), Memory>
-    ensures { OnOk result (texts_of links.new.items ≡ texts_of links.old.items
-        ++ filter (is_started (map string_bytes previous.now) (map string_bytes new.now))
-        (map string_bytes names.now)) }
-{
-    for name in names {
-        add_start(links, previous, new, name.as_str())?;
-    }
-    Ok(())
-}
-
 /// Puts links into byte order, each once.
 fn put_in_order<'n, A: Allocator>(links: &mut Vec<&'n str, A>)
     ensures { texts_of links.new.items ≡ ordered (texts_of links.old.items) }
@@ -178,7 +87,11 @@ pub(crate) fn stop_links<'n, A: Allocator>(
         texts_of links.items ≡ stop_links (map string_bytes new.now)) }
 {
     let mut links = Vec::new(alloc);
-    add_stops(&mut links, new)?;
+    for name in new {
+        if is_link(b'K', name.as_bytes()) {
+            links.push(name.as_str())?;
+        }
+    }
     put_in_order(&mut links);
     Ok(links)
 }
@@ -193,7 +106,11 @@ pub(crate) fn start_links<'n, A: Allocator>(
         ≡ start_links (map string_bytes previous.now) (map string_bytes new.now)) }
 {
     let mut links = Vec::new(alloc);
-    add_starts(&mut links, previous, new, new)?;
+    for name in new {
+        if is_started(previous, new, name.as_str()) {
+            links.push(name.as_str())?;
+        }
+    }
     put_in_order(&mut links);
     Ok(links)
 }
@@ -209,7 +126,11 @@ pub(crate) fn stopping_links<'n, A: Allocator>(
         ≡ stopping_links letter (map string_bytes previous.now) (map string_bytes new.now)) }
 {
     let mut links = Vec::new(alloc);
-    add_all_stopping(&mut links, letter, previous, new)?;
+    for name in new {
+        if is_stopping(letter, previous, name.as_str()) {
+            links.push(name.as_str())?;
+        }
+    }
     put_in_order(&mut links);
     Ok(links)
 }

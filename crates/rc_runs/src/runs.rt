@@ -44,7 +44,7 @@ pub enum RcAnswer {
 
 /// A change of runlevel.
 #[derive(Clone, Copy, PartialEq, Eq)]
-pub struct Passage {
+pub struct LevelChange {
     /// The runlevel before, if there was one.
     pub before: Option<Level>,
     /// The runlevel that is entered.
@@ -53,7 +53,7 @@ pub struct Passage {
 
 /// How scripts are run.
 #[derive(Clone, Copy, PartialEq, Eq)]
-pub struct RunWay {
+pub struct ScriptOptions {
     /// A script is executed itself, by what its first line says; else `sh` reads it.
     pub direct: bool,
     /// A line tells of each start.
@@ -61,7 +61,7 @@ pub struct RunWay {
     /// The seconds behind which a script is sent TERM, and KILL behind init's grace, where there is such a limit.
     pub seconds: Option<u32>,
     /// The change that scripts have in RUNLEVEL and PREVLEVEL (init(8)), by env(1), where they have it.
-    pub levels: Option<Passage>,
+    pub levels: Option<LevelChange>,
 }
 
 /// An answer that was not asked for.
@@ -135,18 +135,18 @@ impl<'n, A: Allocator + Copy> Rc<'n, A> {
     /// In levels 0 and 6 the S links are stopped too, by the same rule.
     pub fn as_sysv(
         alloc: A,
-        passage: Passage,
+        change: LevelChange,
         previous: &[String],
         new: &'n [String],
     ) -> Result<Rc<'n, A>, Memory>
         ensures { IfOk result (λ rc. rc ≡ record {
-          left = sysv_run passage (map string_bytes previous.now) (map string_bytes new.now);
+          left = sysv_run change (map string_bytes previous.now) (map string_bytes new.now);
           waits = false;
         }) }
     {
         let mut left = VecDeque::new(alloc);
-        add_sysv_stops(alloc, &mut left, passage.before, previous, new)?;
-        add_sysv_starts(alloc, &mut left, is_halt(passage.new), previous, new)?;
+        add_sysv_stops(alloc, &mut left, change.before, previous, new)?;
+        add_sysv_starts(alloc, &mut left, is_halt(change.new), previous, new)?;
         Ok(Rc { left, waits: false })
     }
 }

@@ -8,7 +8,7 @@ use crate::texts::{END, NET, NINE, SHOWN_NINE, header_of, joined, scripts_of, sh
 use init_words::{Level, Memory};
 use linked_list_allocator::LocalHeap;
 use program_io::{KeptTexts, Texts};
-use rc_driver::{Arg, Passage, RcStep, RunEnd, RunWay, run_links};
+use rc_driver::{Arg, LevelChange, RcStep, RunEnd, ScriptOptions, run_links};
 use rc_header::HeaderFault;
 use rc_links::{Folder, FolderEntry, LinkChange, Plan, PlanFault, Script};
 use std::alloc::{Allocator, Global};
@@ -131,8 +131,8 @@ fn read_kept(own: Global, heap: &LocalHeap) -> Option<Outcome> {
     }
 }
 
-const WAY: RunWay = RunWay {
-    levels: Some(Passage {
+const WAY: ScriptOptions = ScriptOptions {
+    levels: Some(LevelChange {
         before: Some(Level::L2),
         new: Level::L3,
     }),

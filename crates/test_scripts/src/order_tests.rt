@@ -1,7 +1,7 @@
 //! The scripts that are handed out, by the names in two folders.
 
 use init_words::{Level, Memory, Status};
-use rc_driver::{Arg, NotAsked, Passage, Rc, RcAnswer, RcStep};
+use rc_driver::{Arg, NotAsked, LevelChange, Rc, RcAnswer, RcStep};
 use std::alloc::{Allocator, Global};
 use std::test::Fail;
 use test_support::{boxed, line_words};
@@ -78,17 +78,17 @@ pub(crate) fn rc_over<'n, A: Allocator + Copy>(
     previous: &[String],
     new: &'n [String],
 ) -> Result<Box<Rc<'n, A>>, Memory> {
-    match passage_of(change) {
+    match change_of(change) {
         None => Ok(boxed(own, Rc::new(alloc, previous, new)?)?),
         Some(passage) => Ok(boxed(own, Rc::as_sysv(alloc, passage, previous, new)?)?),
     }
 }
 
-fn passage_of(change: &str) -> Option<Passage> {
+fn change_of(change: &str) -> Option<LevelChange> {
     let [before, new] = change.as_bytes() else {
         return None;
     };
-    Some(Passage {
+    Some(LevelChange {
         before: Level::read(*before),
         new: Level::read(*new)?,
     })

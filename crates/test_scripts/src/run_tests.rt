@@ -4,12 +4,12 @@ use crate::hosts::{begins_with, fields_of, given_host, has_calls};
 use crate::order_tests::rc_over;
 use host_scripted::MemoryHost;
 use init_words::Level;
-use rc_driver::{Passage, Rc, RcStep, RunEnd, RunWay, print_links, run_links};
+use rc_driver::{LevelChange, Rc, RcStep, RunEnd, ScriptOptions, print_links, run_links};
 use std::alloc::Global;
 use test_support::{Slow, line_words};
 
 /// By `sh`, and no start is told.
-pub(crate) const PLAIN: RunWay = RunWay {
+pub(crate) const PLAIN: ScriptOptions = ScriptOptions {
     direct: false,
     verbose: false,
     seconds: None,
@@ -17,23 +17,23 @@ pub(crate) const PLAIN: RunWay = RunWay {
 };
 
 /// The scripts themselves, and each start is told.
-const TOLD: RunWay = RunWay {
+const TOLD: ScriptOptions = ScriptOptions {
     direct: true,
     verbose: true,
     ..PLAIN
 };
 
 /// The scripts themselves, each with three seconds.
-const TIMED: RunWay = RunWay {
+const TIMED: ScriptOptions = ScriptOptions {
     direct: true,
     seconds: Some(3),
     ..PLAIN
 };
 
 /// The scripts themselves, with the levels of a change to S from no level.
-const FIRST: RunWay = RunWay {
+const FIRST: ScriptOptions = ScriptOptions {
     direct: true,
-    levels: Some(Passage {
+    levels: Some(LevelChange {
         before: None,
         new: Level::S,
     }),
@@ -80,7 +80,7 @@ const ROWS: &[&str] = &[
      env RUNLEVEL=S PREVLEVEL=N x/K05c stop\nenv RUNLEVEL=S PREVLEVEL=N x/S10a start\n||",
 ];
 
-fn way_of(how: &str) -> RunWay {
+fn way_of(how: &str) -> ScriptOptions {
     match how {
         "told" | "print told" => TOLD,
         "timed" => TIMED,

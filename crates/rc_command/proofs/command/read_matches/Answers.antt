@@ -1,6 +1,4 @@
-use Rattle.std.proofs.Common.{◌∙◌}
-use Rattle.std.proofs.lemmas.Result.{IfErr-weaker, IfOk-weaker}
-use Rattle.clap.specs.Words.{found_of, rows_of}
+use Rattle.rc_command.proofs.Words.{◌∙◌, IfErr-weaker, IfOk-weaker, found_of, rows_of}
 use Rattle.rc_command.proofs.ReadWords.{rows_are}
 use Rattle.rc_command.proofs.command.read_matches.Goals as goal
 

@@ -1,6 +1,4 @@
-use Rattle.std.proofs.Common.{◌∙◌, ap, option_and_then}
-use Rattle.std.proofs.lemmas.Result.{IfErr-weaker, IfOk-weaker}
-use Rattle.rc_command.specs.CommandLine.{rows_said}
+use Rattle.rc_command.proofs.Words.{◌∙◌, ap, option_and_then, IfErr-weaker, IfOk-weaker, rows_said}
 use Rattle.rc_command.proofs.command.read_words.Goals as goal
 
 pub returns-in-Ok-clause-ok : goal.returns-in-Ok-clause-ok

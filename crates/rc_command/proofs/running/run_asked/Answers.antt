@@ -1,6 +1,4 @@
-use Rattle.std.proofs.Common.{inl, inr, ap}
-use Rattle.rc_command.specs.CommandLine.{said_of}
-use Rattle.rc_command.specs.Endings.{ReportsPart}
+use Rattle.rc_command.proofs.Words.{inl, inr, ap, said_of, ReportsPart}
 use Rattle.rc_command.proofs.Reported.{asks_for, fault_of, known_of, reports_asked, runs_asked}
 use Rattle.rc_command.proofs.running.run_asked.Goals as goal
 

@@ -1,4 +1,4 @@
-use Rattle.std.proofs.Common.{◌∙◌}
+use Rattle.rc_driver.proofs.Words.{◌∙◌}
 use Rattle.rc_driver.proofs.ToldLemmas.{ends_unbegun, started_ends, started_lines, started_ran}
 use Rattle.rc_driver.proofs.driving.run_link.Goals as goal
 

@@ -1,4 +1,4 @@
-use Rattle.std.proofs.Common.{◌∙◌}
+use Rattle.rc_driver.proofs.Words.{◌∙◌}
 use Rattle.rc_driver.proofs.RunLemmas.{writes_ends}
 use Rattle.rc_driver.proofs.ToldLemmas.{runs_more}
 use Rattle.rc_driver.proofs.driving.run_links.Goals as goal

@@ -1,10 +1,4 @@
-use Rattle.std.proofs.Common.{◌≡◌, List, Option, None, false, length}
-use Rattle.host_calls.specs.Calls.{HostCall}
-use Rattle.host_calls.specs.Record.{Since}
-use Rattle.rc_driver.specs.Report.{Output, output}
-use Rattle.rc_runs.specs.Runs.{RcState}
-use Rattle.rc_driver.specs.Told.{RunsLinks}
-use Rattle.rc_driver.specs.declared.driving.RunEnd.{RunEnd}
+use Rattle.rc_driver.proofs.Words.{◌≡◌, List, Option, None, false, length, HostCall, Since, Output, output, RcState, RunsLinks, RunEnd}
 use Rattle.rc_driver.proofs.driving.run_links.Given as goal
 
 -- what follows from here follows from the beginning

@@ -1,7 +1,4 @@
-use Rattle.std.proofs.Common.{List, ℕ, Option, length}
-use Rattle.rc_driver.specs.Printing.{PrintsLinks}
-use Rattle.rc_runs.specs.Runs.{RcState}
-use Rattle.rc_driver.specs.declared.driving.RunEnd.{RunEnd}
+use Rattle.rc_driver.proofs.Words.{List, ℕ, Option, length, PrintsLinks, RcState, RunEnd}
 use Rattle.rc_driver.proofs.printing.print_links.Given as goal
 
 -- what follows from here follows from the beginning

@@ -1,5 +1,4 @@
-use Rattle.std.proofs.Common.{sym, ap, ◌∙◌}
-use Rattle.rc_driver.specs.Progress.{by_look, by_reply}
+use Rattle.rc_driver.proofs.Words.{sym, ap, ◌∙◌, by_look, by_reply}
 use Rattle.rc_driver.proofs.CallLemmas.{goes_look}
 use Rattle.rc_driver.proofs.progress.looked.Goals as goal
 

@@ -1,4 +1,4 @@
-use Rattle.std.proofs.Common.{refl, arith, ◌-◌, ◌∙◌}
+use Rattle.rc_driver.proofs.Words.{refl, arith, ◌-◌, ◌∙◌}
 use Rattle.rc_driver.proofs.CallLemmas.{gone_further, gone_on}
 use Rattle.rc_driver.proofs.progress.run_script.Goals as goal
 

@@ -1,8 +1,4 @@
-use Rattle.std.proofs.Common.{◌≡◌, None, ◌*◌, ◌+◌, cond}
-use Rattle.host_calls.specs.Record.{Since}
-use Rattle.rc_driver.specs.Parts.{GoneTo, is_born, is_found}
-use Rattle.rc_driver.specs.Report.{Tells}
-use Rattle.rc_driver.specs.Times.{time_lines}
+use Rattle.rc_driver.proofs.Words.{◌≡◌, None, ◌*◌, ◌+◌, cond, Since, GoneTo, is_born, is_found, Tells, time_lines}
 use Rattle.rc_driver.proofs.progress.run_script.Given as goal
 
 abbrev pub invariant-loop-progress : goal.invariant-loop-progress

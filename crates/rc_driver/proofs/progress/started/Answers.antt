@@ -1,5 +1,4 @@
-use Rattle.std.proofs.Common.{sym, ap, ◌∙◌}
-use Rattle.rc_driver.specs.Progress.{by_reply, by_start}
+use Rattle.rc_driver.proofs.Words.{sym, ap, ◌∙◌, by_reply, by_start}
 use Rattle.rc_driver.proofs.CallLemmas.{begins}
 use Rattle.rc_driver.proofs.progress.started.Goals as goal
 

@@ -1,6 +1,4 @@
-use Rattle.std.proofs.Common.{refl, sym, ap, ◌∙◌, subst, Ok}
-use Rattle.rc_driver.specs.Report.{Tells}
-use Rattle.rc_driver.specs.Times.{time_lines, timer_at}
+use Rattle.rc_driver.proofs.Words.{refl, sym, ap, ◌∙◌, subst, Ok, Tells, time_lines, timer_at}
 use Rattle.rc_driver.proofs.CallLemmas.{goes_clock, goes_signal, no_reading, tells_signal}
 use Rattle.rc_driver.proofs.progress.timed.Goals as goal
 

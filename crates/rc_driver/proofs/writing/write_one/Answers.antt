@@ -1,4 +1,4 @@
-use Rattle.program_io.proofs.WritingLemmas.{AppendsFront-prefix}
+use Rattle.rc_driver.proofs.Words.{AppendsFront-prefix}
 use Rattle.rc_driver.proofs.WritingLemmas.{after_error}
 use Rattle.rc_driver.proofs.writing.write_one.Goals as goal
 

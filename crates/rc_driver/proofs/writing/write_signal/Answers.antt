@@ -1,12 +1,14 @@
-use Rattle.std.proofs.KnownBytes.{Appends-trans}
-use Rattle.program_io.proofs.WritingLemmas.{AppendsPrefix-first, AppendsPrefix-then, on_err}
+use Rattle.program_io.proofs.WritingLemmas.{AppendsPrefix-first, on_err}
+use Rattle.rc_driver.specs.Times.{signal_word}
+use Rattle.rc_driver.proofs.WritingLemmas.{last_err}
 use Rattle.rc_driver.proofs.writing.write_signal.Goals as goal
 
-pub returns-in_err-write_folder-clause-err : goal.returns-in_err-write_folder-clause-err
-returns-in_err-write_folder-clause-err g c = on_err _ _ (AppendsPrefix-first _ _ _ _ c.in_err-write_folder.ensures.err)
+pub returns-in_err-write_six-clause-err : goal.returns-in_err-write_six-clause-err
+returns-in_err-write_six-clause-err g c =
+    let part = rw (c.as_bytes.ensures.value, c.as_bytes-2.ensures.value, c.as_bytes-number.ensures.value, c.format.ensures.text) at c.in_err-write_six.ensures.err in
+    on_err c.from_residual.result _ (AppendsPrefix-first _ _ _ (signal_word c.args.signal) part)
 
-pub returns-in_err-write_late-clause-err : goal.returns-in_err-write_late-clause-err
-returns-in_err-write_late-clause-err g c = on_err _ _ (AppendsPrefix-then _ _ _ _ _ c.in_ok-write_folder.ensures.ok c.in_err-write_late.ensures.err)
-
-pub returns-clause-ok : goal.returns-clause-ok
-returns-clause-ok g c = Appends-trans _ _ _ _ _ c.in_ok-write_folder.ensures.ok c.in_ok-write_late.ensures.ok
+pub returns-clause-err : goal.returns-clause-err
+returns-clause-err g c =
+    let whole = rw (c.as_bytes.ensures.value, c.as_bytes-2.ensures.value, c.as_bytes-number.ensures.value, c.format.ensures.text) at c.in_ok-write_six.ensures.ok in
+    last_err c.write_one.result _ _ _ _ (signal_word c.args.signal) whole (rw c.signal_word.ensures at c.write_one.ensures.err)

@@ -1,5 +1,4 @@
-use Rattle.std.proofs.Common.{◌≡◌, map, string_bytes, drop}
-use Rattle.rc_runs.specs.Links.{has_link}
+use Rattle.rc_runs.proofs.Words.{◌≡◌, map, string_bytes, drop, has_link}
 use Rattle.rc_runs.proofs.links.has_link.Given as goal
 
 abbrev pub invariant-loop-name : goal.invariant-loop-name

@@ -1,10 +1,6 @@
-use Rattle.std.proofs.Common.{◌∙◌, ap}
-use Rattle.std.specs.List.{dedup}
-use Rattle.std.specs.Str.{bytes_eq}
+use Rattle.rc_runs.proofs.Words.{◌∙◌, ap, dedup, bytes_eq, sorted_texts, texts_of}
 use Rattle.std.proofs.lemmas.List.Filters.{dedup_is}
-use Rattle.rc_links.proofs.LinkLemmas.{sorted_texts}
 use Rattle.rc_runs.proofs.OrderLemmas.{map-dedup}
-use Rattle.rc_runs.specs.Runs.{texts_of}
 use Rattle.rc_runs.proofs.links.put_in_order.Goals as goal
 
 pub returns : goal.returns

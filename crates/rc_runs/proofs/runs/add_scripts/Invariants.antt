@@ -1,5 +1,4 @@
-use Rattle.std.proofs.Common.{◌≡◌, ◌++◌, drop}
-use Rattle.rc_runs.specs.Runs.{scripts_of, texts_of, with_arg}
+use Rattle.rc_runs.proofs.Words.{◌≡◌, ◌++◌, drop, scripts_of, texts_of, with_arg}
 use Rattle.rc_runs.proofs.runs.add_scripts.Given as goal
 
 abbrev pub invariant-loop-link : goal.invariant-loop-link
