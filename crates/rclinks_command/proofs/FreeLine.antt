@@ -1,9 +1,7 @@
 -- The command line uses no more of clap than what is known of it.
-use Rattle.std.proofs.Common.{◌≡◌, refl, true}
-use Rattle.clap.specs.Words.{is_simple_and_free}
+use Rattle.rclinks_command.proofs.Words.{◌≡◌, refl, true, is_simple_and_free, command_line}
 use Rattle.clap.proofs.OnLiterals.{clap_on_literals}
 use Rattle.command_words.specs.CommandLines.{bare_line, line_of}
-use Rattle.rclinks_command.specs.Command.{command_line}
 
 pub is_free_line : is_simple_and_free command_line ≡ true
 unfolding bare_line line_of clap_on_literals

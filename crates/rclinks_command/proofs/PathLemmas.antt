@@ -1,13 +1,9 @@
 -- The last part of a path, and names.
-use Rattle.std.proofs.Common.{◌≡◌, ◌≢◌, inl, inr, ℕ, zero, suc, ◌+◌, ◌<◌, Bool, true, false, ◌&&◌, sym, List, [], ◌∷◌, length, drop, get_or, refl, arith, add-one, drop-cons}
-use Rattle.std.specs.List.{list_all, list_any}
-use Rattle.std.specs.Str.{IsAscii, IsUtf8}
+use Rattle.rclinks_command.proofs.Words.{◌≡◌, ◌≢◌, inl, inr, ℕ, zero, suc, ◌+◌, ◌<◌, Bool, true, false, ◌&&◌, sym, List, [], ◌∷◌, length, drop, get_or, refl, arith, add-one, drop-cons, list_all, list_any, IsAscii, IsUtf8, true≢false, is_slash, last_part}
 use Rattle.std.proofs.lemmas.Bool.Decides.{eqb_tells, nat_tests}
 use Rattle.std.proofs.lemmas.List.Folds.{list_any_at}
-use Rattle.std.proofs.lemmas.Bool.{true≢false}
 use Rattle.std.proofs.lemmas.Str.{IsUtf8-from_ascii}
 use Rattle.rc_links.specs.Names.{is_name, is_name_byte}
-use Rattle.rclinks_command.specs.Files.{is_slash, last_part}
 
 no_slash : (b : ℕ) → b ≢ 47 → is_slash b ≡ false
 no_slash b other = elim (eqb_tells b 47) [ inl is ↦ absurd (other is.1) | inr is ↦ is.0 ]

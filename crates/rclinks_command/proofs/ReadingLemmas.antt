@@ -1,15 +1,7 @@
 -- What the paths of scripts give.
-use Rattle.std.proofs.Common.{◌≡◌, ◌⊎◌, inl, inr, ℕ, suc, Bool, true, List, [], ◌∷◌, ◌++◌, length, slice_get, unwrap_or, None, Some, refl, ap, sym, subst, ◌∙◌, append_assoc, append-nil, arith, map, string_bytes, String, Global, get_or, take, ◌+◌, ◌<◌}
-use Rattle.std.proofs.lemmas.Bool.{both_ways}
-use Rattle.std.proofs.lemmas.List.{map-append}
+use Rattle.rclinks_command.proofs.Words.{◌≡◌, ◌⊎◌, inl, inr, ℕ, suc, Bool, true, List, [], ◌∷◌, ◌++◌, length, slice_get, unwrap_or, None, Some, refl, ap, sym, subst, ◌∙◌, append_assoc, arith, map, string_bytes, String, get_or, take, ◌+◌, ◌<◌, both_ways, map-append, KnownTexts, cut_at, ScriptText, HasRefused, AreScripts, IsNoScriptAt, IsScriptAt, file_status, Reads, ReadsOne, ReadsTo, FileFault}
+use Rattle.std.proofs.Common.{append-nil, Global}
 use Rattle.std.proofs.lemmas.Option.{none-some}
-use Rattle.program_io.specs.Known.{KnownTexts}
-use Rattle.rc_links.proofs.NameLemmas.{cut_at}
-use Rattle.rc_links.specs.ScriptText.{ScriptText}
-use Rattle.rclinks_command.specs.Command.{HasRefused}
-use Rattle.rclinks_command.specs.Files.{AreScripts, IsNoScriptAt, IsScriptAt, file_status}
-use Rattle.rclinks_command.specs.Reading.{Reads, ReadsOne, ReadsTo}
-use Rattle.rclinks_command.specs.declared.files.FileFault.{FileFault}
 
 pub nil_is_no_cons : {X : Type 0} (x : X) (xs : List X) → [] ≡ x ∷ xs → ⊥
 nil_is_no_cons x xs is = let lengths : 0 ≡ suc (length xs) = ap length is in absurd (omega (arith, lengths))

@@ -1,15 +1,8 @@
 -- Lines that a writer gained, one after the other.
-use Rattle.std.proofs.Common.{◌≡◌, inl, inr, ℕ, ◌+◌, ◌<◌, Bool, true, false, not, ◌&&◌, List, [], ◌∷◌, ◌++◌, Option, String, Global, refl, sym, ap, ◌∙◌, subst, arith, length, get_or, take, drop, map, string_bytes, codes}
-use Rattle.std.proofs.lemmas.List.{map-append, take-append-drop}
-use Rattle.program_io.specs.Known.{KnownTexts}
+use Rattle.rclinks_command.proofs.Words.{◌≡◌, inl, inr, ℕ, ◌+◌, ◌<◌, Bool, true, false, not, ◌&&◌, List, [], ◌∷◌, ◌++◌, Option, String, refl, sym, ap, ◌∙◌, subst, arith, length, get_or, take, drop, map, string_bytes, codes, map-append, take-append-drop, KnownTexts, cut_at, ScriptText, true≢false, Reads, has_faults, file_status, Gains, ReportsFile, ReportsPlan, ReportsWhy, TellsFiles, TellsLines, TellsOne, Warns, FileFault}
+use Rattle.std.proofs.Common.{Global}
 use Rattle.program_io.specs.Writing.{AppendsPrefix}
-use Rattle.rc_links.proofs.NameLemmas.{cut_at}
-use Rattle.rc_links.specs.ScriptText.{ScriptText}
-use Rattle.std.proofs.lemmas.Bool.{true≢false}
-use Rattle.rclinks_command.specs.Reading.{Reads, has_faults}
-use Rattle.rclinks_command.specs.Files.{file_status}
-use Rattle.rclinks_command.specs.Reports.{Gains, ReportsFile, ReportsPlan, ReportsWhy, TellsFiles, TellsLines, TellsOne, Warns, line_of}
-use Rattle.rclinks_command.specs.declared.files.FileFault.{FileFault}
+use Rattle.rclinks_command.specs.Reports.{line_of}
 use Rattle.rclinks_command.proofs.ReadingLemmas.{all_scripts, nil_is_no_cons}
 
 gains-then : (word : List ℕ) (lines more : List (List ℕ)) (old mid new : Option (List ℕ)) → Gains word lines old mid → Gains word more mid new → Gains word (lines ++ more) old new

@@ -1,10 +1,5 @@
 -- Runs over the scripts of files.
-use Rattle.std.proofs.Common.{◌≡◌, ◌⊎◌, inl, inr, refl, ℕ, false, List, Option, ap, ◌∙◌, subst}
-use Rattle.program_io.specs.Known.{KnownTexts}
-use Rattle.rclinks_command.specs.Command.{Line, TellsRefused, goes_on, line_with}
-use Rattle.rclinks_command.specs.Folders.{KnownFolders, KnownScripts}
-use Rattle.rclinks_command.specs.Files.{file_status}
-use Rattle.rclinks_command.specs.declared.files.FileFault.{FileFault}
+use Rattle.rclinks_command.proofs.Words.{◌≡◌, ◌⊎◌, inl, inr, refl, ℕ, false, List, Option, ap, ◌∙◌, subst, KnownTexts, Line, TellsRefused, goes_on, line_with, KnownFolders, KnownScripts, file_status, FileFault}
 use Rattle.rclinks_command.specs.declared.files.FileFault.TheVariants as fault
 
 -- a file's fault gives one of two statuses

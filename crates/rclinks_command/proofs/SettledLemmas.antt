@@ -1,25 +1,16 @@
 -- Changes, one after the other, that make a plan's folders hold its links.
-use Rattle.std.proofs.Common.{◌≡◌, ℕ, Bool, true, false, not, ◌&&◌, ◌||◌, cond, List, [], ◌∷◌, ◌++◌, map, flat_map, Some, refl, sym, ap, ◌∙◌, subst, append_assoc}
-use Rattle.std.specs.List.{AllByRecursion, filter, list_any}
-use Rattle.std.specs.Str.{bytes_eq}
-use Rattle.std.proofs.lemmas.Bool.{true≢false, and_left, and_parts, or_left, or_right}
+use Rattle.rclinks_command.proofs.Words.{◌≡◌, ℕ, Bool, true, false, not, ◌&&◌, ◌||◌, cond, List, [], ◌∷◌, ◌++◌, map, flat_map, Some, refl, sym, ap, ◌∙◌, subst, append_assoc, AllByRecursion, filter, list_any, bytes_eq, true≢false, and_left, and_parts, or_left, or_right, ChangeText, changes_of, is_in_way, is_left_over, is_missing, is_stale, making, removal, settled, EntryText, PlannedText, KnownFolders, changed_by, changed_in, AreFolders, IsFolder, all_levels, changes_in, planned_at, settled_in}
 use Rattle.std.proofs.lemmas.List.{append-nil}
 use Rattle.init_words.specs.declared.levels.Level.{Level}
 use Rattle.init_words.specs.declared.levels.Level.TheVariants.{L0, L1, L2, L3, L4, L5, L6, L7, L8, L9, S}
 use Rattle.init_words.specs.Levels.{same_level}
 use Rattle.init_words.proofs.Same.{same_level-is}
-use Rattle.rc_links.specs.ChangeText.{ChangeText}
-use Rattle.rc_links.specs.Changes.{changes_of, is_in_way, is_left_over, is_missing, is_stale, making, removal, settled}
 use Rattle.rc_links.specs.Entries.{has_name, same_entry}
-use Rattle.rc_links.specs.EntryText.{EntryText}
 use Rattle.rc_links.specs.FolderText.{FolderText}
 use Rattle.rc_links.specs.Folders.{change_of}
 use Rattle.rc_links.specs.declared.folders.LinkAction.{LinkAction}
 use Rattle.rc_links.specs.declared.folders.LinkAction.TheVariants.{Make, Remove}
-use Rattle.rc_links.specs.PlannedText.{PlannedText}
 use Rattle.rc_links.specs.Mending.{changed}
-use Rattle.rclinks_command.specs.Folders.{KnownFolders, changed_by, changed_in}
-use Rattle.rclinks_command.specs.Writing.{AreFolders, IsFolder, all_levels, changes_in, planned_at, settled_in}
 use Rattle.rc_links.proofs.LinkLemmas.{same_bytes}
 use Rattle.rc_links.proofs.MendingLemmas.{all-filter, all_among, entry_itself, has, not_stale, one_entry}
 

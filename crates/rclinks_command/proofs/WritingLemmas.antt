@@ -1,10 +1,5 @@
 -- Changes, one more on, and the folders behind all of them.
-use Rattle.std.proofs.Common.{◌≡◌, ℕ, Bool, ◌+◌, ◌<◌, List, [], ◌∷◌, ◌++◌, length, get_or, drop, take, map, Some, sym, ap, ◌∙◌, append_assoc}
-use Rattle.rc_links.proofs.NameLemmas.{cut_at}
-use Rattle.rc_links.specs.ChangeText.{ChangeText}
-use Rattle.rc_links.specs.PlannedText.{PlannedText}
-use Rattle.rclinks_command.specs.Folders.{Becomes, KnownFolders, KnownScripts, changed_by, changed_in}
-use Rattle.rclinks_command.specs.Writing.{IsWritten, Wants}
+use Rattle.rclinks_command.proofs.Words.{◌≡◌, ℕ, Bool, ◌+◌, ◌<◌, List, [], ◌∷◌, ◌++◌, length, get_or, drop, take, map, Some, sym, ap, ◌∙◌, append_assoc, cut_at, ChangeText, PlannedText, Becomes, KnownFolders, KnownScripts, changed_by, changed_in, IsWritten, Wants}
 use Rattle.rclinks_command.proofs.SettledLemmas.{changed_by-append, settles}
 
 -- what one more of a list gives by two steps, and those after it

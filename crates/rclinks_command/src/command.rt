@@ -15,7 +15,7 @@ ghost use Rattle.rclinks_command.specs.Command.{goes_on, Does, DoesBy, DoesIn, D
 ghost use Rattle.rclinks_command.specs.Files.{file_status};
 ghost use Rattle.rclinks_command.specs.Reports.{ReportsPlan, ReportsRefused};
 ghost use Rattle.rclinks_command.specs.Skipping.{LeavesSome};
-ghost use Rattle.rclinks_command.specs.Writing.{InFolders, IsTaken};
+ghost use Rattle.rclinks_command.specs.Writing.{IsTaken};
 
 use crate::facilities::files_with;
 use crate::files::FileFault;
@@ -318,32 +318,6 @@ fn plan_of<T: Texts, E: Write>(
     }
 }
 
-/// Prints the changes by which the folders of a directory hold a plan's links, and gives the exit status.
-fn print_changes<F: LinkFolders, W: Write, E: Write>(
-    folders: &F,
-    alloc: Global,
-    dir: &str,
-    prunes: bool,
-    plan: &Plan,
-    out: &mut W,
-    err: &mut E,
-) -> u8
-    ensures statuses { (result ≡ DONE) ⊎ (result ≡ REFUSED) ⊎ (result ≡ DEVICE_FAULT) }
-    ensures done { result ≡ DONE → DoesIn true prunes (F.scripts_in folders.now)
-        (F.held folders.now) dir.now (F.held folders.now) (W.contents out.old) (W.contents out.new)
-        plan.now }
-    ensures refused { result ≡ REFUSED → IsTaken (F.held folders.now) (F.scripts_in folders.now)
-        prunes dir.now plan.now × (out.new ≡ out.old) }
-    ensures part { (out.new ≡ out.old) ⊎ PartIn true prunes (F.scripts_in folders.now)
-        (F.held folders.now) dir.now (F.held folders.now) (W.contents out.old) (W.contents out.new)
-        plan.now }
-{
-    match preview(folders, alloc, dir, prunes, plan, err) {
-        Ok(text) => write_links(text.as_slice(), out, err),
-        Err(status) => status,
-    }
-}
-
 /// Makes the folders of a directory hold a plan's links, or prints the changes, and gives the exit status.
 fn do_in<F: LinkFolders, W: Write, E: Write>(
     folders: &mut F,
@@ -367,42 +341,11 @@ fn do_in<F: LinkFolders, W: Write, E: Write>(
         ⊎ PartIn dry prunes (F.scripts_in folders.old) (F.held folders.old) dir.now
         (F.held folders.new) (W.contents out.old) (W.contents out.new) plan.now }
 {
-    if dry {
-        print_changes(folders, alloc, dir, prunes, plan, out, err)
-    } else {
-        write_folders(folders, alloc, dir, prunes, plan, err)
+    if !dry {
+        return write_folders(folders, alloc, dir, prunes, plan, err);
     }
-}
-
-/// The same, with the runlevels of the links that are there, where they are kept.
-fn do_kept<F: LinkFolders, W: Write, E: Write>(
-    folders: &mut F,
-    alloc: Global,
-    dir: &str,
-    line: &Line,
-    plan: &Plan,
-    out: &mut W,
-    err: &mut E,
-) -> u8
-    ensures statuses { (result ≡ DONE) ⊎ (result ≡ REFUSED) ⊎ (result ≡ DEVICE_FAULT) }
-    ensures done { result ≡ DONE → InFolders line.now.keeps (F.held folders.old) dir.now plan.now
-        (DoesIn line.now.dry line.now.prunes (F.scripts_in folders.old) (F.held folders.old)
-        dir.now (F.held folders.new) (W.contents out.old) (W.contents out.new)) }
-    ensures refused { result ≡ REFUSED → InFolders line.now.keeps (F.held folders.old) dir.now
-        plan.now (IsTaken (F.held folders.old) (F.scripts_in folders.old) line.now.prunes dir.now)
-        × (out.new ≡ out.old) × (folders.new ≡ folders.old) }
-    ensures kept { line.now.dry ≡ true → folders.new ≡ folders.old }
-    ensures silent { line.now.dry ≡ false → out.new ≡ out.old }
-    ensures part { (out.new ≡ out.old) × (folders.new ≡ folders.old)
-        ⊎ InFolders line.now.keeps (F.held folders.old) dir.now plan.now
-        (PartIn line.now.dry line.now.prunes (F.scripts_in folders.old) (F.held folders.old)
-        dir.now (F.held folders.new) (W.contents out.old) (W.contents out.new)) }
-{
-    if !line.keeps {
-        return do_in(folders, alloc, dir, line.dry, line.prunes, plan, out, err);
-    }
-    match kept_in(folders, alloc, dir, plan, err) {
-        Ok(kept) => do_in(folders, alloc, dir, line.dry, line.prunes, &kept, out, err),
+    match preview(folders, alloc, dir, prunes, plan, err) {
+        Ok(text) => write_links(text.as_slice(), out, err),
         Err(status) => status,
     }
 }
@@ -430,9 +373,15 @@ fn do_by<F: LinkFolders, W: Write, E: Write>(
         (F.held folders.old) (F.held folders.new) (W.contents out.old) (W.contents out.new)
         plan.now }
 {
-    match line.dir {
-        None => print_links(alloc, plan, out, err),
-        Some(dir) => do_kept(folders, alloc, dir, line, plan, out, err),
+    let Some(dir) = line.dir else {
+        return print_links(alloc, plan, out, err);
+    };
+    if !line.keeps {
+        return do_in(folders, alloc, dir, line.dry, line.prunes, plan, out, err);
+    }
+    match kept_in(folders, alloc, dir, plan, err) {
+        Ok(kept) => do_in(folders, alloc, dir, line.dry, line.prunes, &kept, out, err),
+        Err(status) => status,
     }
 }
 

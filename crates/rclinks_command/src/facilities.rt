@@ -1,6 +1,6 @@
 //! The facility files that are read with the files of a command line.
 
-ghost use Rattle.std.specs.Prelude.{◌≡◌, ◌++◌, ◌∷◌, [], map, string_bytes, IfOk, OnOk};
+ghost use Rattle.std.specs.Prelude.{◌≡◌, ◌++◌, map, string_bytes, IfOk, OnOk};
 ghost use Rattle.std.specs.List.{filter};
 ghost use Rattle.rclinks_command.specs.Facilities.{files_with, is_unnamed};
 
@@ -19,22 +19,6 @@ fn is_unnamed(files: &[&str], facility: &str) -> bool
     true
 }
 
-/// Adds a facility file, where none of the files has its name.
-fn add_facility(
-    alloc: Global,
-    files: &[&str],
-    facility: &str,
-    all: &mut Vec<String>,
-) -> Result<(), AllocError>
-    ensures { OnOk result (map string_bytes all.new.items ≡ map string_bytes all.old.items
-        ++ filter (is_unnamed (map (λ file. file.now) files.now)) (facility.now ∷ [])) }
-{
-    if is_unnamed(files, facility) {
-        all.push(String::from_str(alloc, facility)?)?;
-    }
-    Ok(())
-}
-
 /// Adds the facility files whose name none of the files has.
 fn add_facilities(
     alloc: Global,
@@ -47,7 +31,9 @@ fn add_facilities(
         (map string_bytes facilities.now)) }
 {
     for facility in facilities {
-        add_facility(alloc, files, facility.as_str(), all)?;
+        if is_unnamed(files, facility.as_str()) {
+            all.push(String::from_str(alloc, facility.as_str())?)?;
+        }
     }
     Ok(())
 }

@@ -3,24 +3,11 @@
 //! Tested by `tools/pages.d/rclinks-lines`, with `--skip` and `--all`. Each function is its definition in
 //! `specs/Skipping` and may be written otherwise; what a fault says is told by `telling`.
 
-ghost use Rattle.std.specs.Prelude.{◌≡◌, ◌<◌, ◌||◌, ◌&&◌, true, IfSome, length, map, string_bytes};
-ghost use Rattle.std.specs.List.{list_any};
+ghost use Rattle.std.specs.Prelude.{◌≡◌, ◌<◌, ◌||◌, ◌&&◌, true, IfSome, length};
 ghost use Rattle.rc_links.specs.Scripts.{has_name, has_script};
 ghost use Rattle.rclinks_command.specs.Skipping.{IsFaultAt, is_at_fault, is_doubled, is_provided};
 
-use rc_links::{PlanFault, Script};
-
-/// The name is one of these.
-pub(crate) fn has_name(name: &str, names: &[String]) -> bool
-    ensures { result ≡ has_name name.now (map string_bytes names.now) }
-{
-    for other in names {
-        if name == other.as_str() {
-            return true;
-        }
-    }
-    false
-}
+use rc_links::{PlanFault, Script, has_name};
 
 /// One of the scripts provides the name.
 pub(crate) fn is_provided(scripts: &[Script], name: &str) -> bool
@@ -75,10 +62,6 @@ fn is_at_fault(before: &[Script], fault: &PlanFault, script: &Script) -> bool
     }
 }
 
-fn is_cycle(fault: &PlanFault) -> bool {
-    matches!(fault, PlanFault::Cycle(_))
-}
-
 /// The place of a script that a fault of the plan is about: the first, and of a cycle the last. None where there is no
 /// such script.
 pub(crate) fn place_of(scripts: &[Script], fault: &PlanFault) -> Option<usize>
@@ -89,7 +72,7 @@ pub(crate) fn place_of(scripts: &[Script], fault: &PlanFault) -> Option<usize>
     for place in 0..scripts.len() {
         if is_at_fault(&scripts[..place], fault, &scripts[place]) {
             found = Some(place);
-            if !is_cycle(fault) {
+            if !matches!(fault, PlanFault::Cycle(_)) {
                 return found;
             }
         }

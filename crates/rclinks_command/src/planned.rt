@@ -1,17 +1,16 @@
 //! The folders of a directory, with the links that a plan has there.
 
-ghost use Rattle.std.specs.Prelude.{◌≡◌, ◌++◌, ◌∷◌, [], List, true, flat_map, map, IfOk, IfErr, IfSome, OnOk};
-ghost use Rattle.std.specs.List.{filter, list_any};
+ghost use Rattle.std.specs.Prelude.{◌≡◌, ◌++◌, List, true, flat_map, IfOk, IfErr, IfSome, OnOk};
+ghost use Rattle.std.specs.List.{list_any};
 ghost use Rattle.rc_links.specs.Changes.{targets_of, is_taken};
 ghost use Rattle.rc_links.specs.FolderText.{FolderText};
 ghost use Rattle.rc_links.specs.Kept.{is_gone, kept_plan};
-ghost use Rattle.rc_links.specs.Links.{linked_name};
 ghost use Rattle.rclinks_command.specs.Writing.{AreFolders, AreTargets, IsFolder, all_levels, gone_at, has_taken, link_entry, planned_at, target_of, targets_in};
 
 use crate::folders::LinkFolders;
 use init_words::{Level, Memory};
 use program_io::{DEVICE_FAULT, report_no_memory};
-use rc_links::{Folder, FolderEntry, LEVELS, Plan, is_gone, is_taken};
+use rc_links::{Folder, FolderEntry, LEVELS, Plan, is_gone, is_taken, linked_name};
 use std::alloc::Global;
 use std::io::Write;
 
@@ -23,13 +22,6 @@ fn target_of(alloc: Global, name: &[u8]) -> Result<Vec<u8>, Memory>
     target.extend_from_slice(b"../init.d/")?;
     target.extend_from_slice(name)?;
     Ok(target)
-}
-
-/// The script's name in a link.
-fn linked_name(link: &[u8]) -> &[u8]
-    ensures { result.now ≡ linked_name link.now }
-{
-    link.get(3..).unwrap_or(&[])
 }
 
 /// A link, as it stands in a folder.
@@ -136,22 +128,6 @@ pub(crate) fn kept_in<F: LinkFolders, E: Write>(
     }
 }
 
-/// Adds where an entry leads, where its script is none of those that are there.
-fn add_gone(
-    alloc: Global,
-    scripts: &[FolderEntry],
-    entry: &FolderEntry,
-    targets: &mut Vec<Vec<u8>>,
-) -> Result<(), Memory>
-    ensures { OnOk result (targets_of targets.new.items ≡ targets_of targets.old.items
-        ++ map (λ e. e.leads) (filter (is_gone scripts.now) (entry.now ∷ []))) }
-{
-    if is_gone(scripts, entry) {
-        targets.push(Vec::from_slice(alloc, entry.leads())?)?;
-    }
-    Ok(())
-}
-
 /// Adds where the links of a folder lead whose script is none of those that are there.
 fn add_gone_at(
     alloc: Global,
@@ -163,7 +139,9 @@ fn add_gone_at(
         ≡ targets_of targets.old.items ++ gone_at scripts.now folder.now) }
 {
     for entry in folder.held() {
-        add_gone(alloc, scripts, entry, targets)?;
+        if is_gone(scripts, entry) {
+            targets.push(Vec::from_slice(alloc, entry.leads())?)?;
+        }
     }
     Ok(())
 }

@@ -2,10 +2,10 @@
 
 ghost use Rattle.rclinks_command.specs.Reports.{Warns};
 
-use crate::faulty::{has_name, is_provided};
+use crate::faulty::is_provided;
 use crate::lines::tell_lines;
 use rc_header::Header;
-use rc_links::{PlanFault, Script};
+use rc_links::{PlanFault, Script, has_name};
 use std::alloc::Global;
 use std::io::Write;
 

@@ -1,10 +1,5 @@
-use Rattle.std.proofs.Common.{◌∙◌, inl, inr, map, string_bytes, subst, sym}
+use Rattle.rclinks_command.proofs.Words.{◌∙◌, inl, inr, map, string_bytes, subst, sym, or_parts, IsPlan, HasNoPlan, Reads, ReadsTo, ReportsPlan, ReportsRefused}
 use Rattle.std.proofs.lemmas.Result.{IfOk-weaker, IfErr-weaker}
-use Rattle.std.proofs.lemmas.Bool.{or_parts}
-use Rattle.rc_links.specs.Plans.{IsPlan}
-use Rattle.rclinks_command.specs.Command.{HasNoPlan}
-use Rattle.rclinks_command.specs.Reading.{Reads, ReadsTo}
-use Rattle.rclinks_command.specs.Reports.{ReportsPlan, ReportsRefused}
 use Rattle.rclinks_command.proofs.ReadingLemmas.{all_read, all_scripts, none_first, refused_first, some_first}
 use Rattle.rclinks_command.proofs.ReportLemmas.{plan_told, refused_told, warned_told}
 use Rattle.rclinks_command.proofs.RunLemmas.{two_statuses}

@@ -1,6 +1,4 @@
-use Rattle.std.proofs.Common.{map, string_bytes}
-use Rattle.clap.specs.Words.{found_of, rows_of}
-use Rattle.rclinks_command.specs.Command.{asked_by}
+use Rattle.rclinks_command.proofs.Words.{map, string_bytes, found_of, rows_of, asked_by}
 use Rattle.rclinks_command.proofs.RunLemmas.{retold}
 use Rattle.rclinks_command.proofs.command.run_matches.Goals as goal
 

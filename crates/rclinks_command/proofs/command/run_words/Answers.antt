@@ -1,6 +1,5 @@
-use Rattle.std.proofs.Common.{◌∙◌, codes, inl, inr, ap, option_map, sym}
+use Rattle.rclinks_command.proofs.Words.{◌∙◌, codes, inl, inr, ap, option_map, sym, asked_by, writes_by}
 use Rattle.command_words.proofs.Refusals.{refused_by, reported_by}
-use Rattle.rclinks_command.specs.Command.{asked_by, writes_by}
 use Rattle.rclinks_command.specs.declared.command.TheConstants.{SHORT_USAGE, USAGE}
 use Rattle.rclinks_command.proofs.command.run_words.Goals as goal
 

@@ -1,5 +1,4 @@
-use Rattle.std.proofs.Common.{string_bytes, ◌≡◌, ◌++◌, map, drop}
-use Rattle.std.specs.List.{filter}
+use Rattle.rclinks_command.proofs.Words.{string_bytes, ◌≡◌, ◌++◌, map, drop, filter}
 use Rattle.rclinks_command.specs.Facilities.{is_unnamed}
 use Rattle.rclinks_command.proofs.facilities.add_facilities.Given as goal
 

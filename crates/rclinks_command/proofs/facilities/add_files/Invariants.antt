@@ -1,4 +1,4 @@
-use Rattle.std.proofs.Common.{string_bytes, ◌≡◌, ◌++◌, map, drop}
+use Rattle.rclinks_command.proofs.Words.{string_bytes, ◌≡◌, ◌++◌, map, drop}
 use Rattle.rclinks_command.proofs.facilities.add_files.Given as goal
 
 abbrev pub invariant-loop-file : goal.invariant-loop-file

@@ -1,7 +1,4 @@
-use Rattle.std.proofs.Common.{◌≡◌, map, drop}
-use Rattle.std.specs.List.{list_any}
-use Rattle.std.specs.Str.{bytes_eq}
-use Rattle.rclinks_command.specs.Files.{last_part}
+use Rattle.rclinks_command.proofs.Words.{◌≡◌, map, drop, list_any, bytes_eq, last_part}
 use Rattle.rclinks_command.proofs.facilities.is_unnamed.Given as goal
 
 abbrev pub invariant-loop-file : goal.invariant-loop-file

@@ -1,5 +1,4 @@
-use Rattle.std.proofs.Common.{◌≡◌, drop}
-use Rattle.rc_links.specs.Scripts.{has_script}
+use Rattle.rclinks_command.proofs.Words.{◌≡◌, drop, has_script}
 use Rattle.rclinks_command.proofs.faulty.has_script.Given as goal
 
 abbrev pub invariant-loop-script : goal.invariant-loop-script

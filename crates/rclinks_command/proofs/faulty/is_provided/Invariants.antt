@@ -1,5 +1,4 @@
-use Rattle.std.proofs.Common.{◌≡◌, drop}
-use Rattle.rclinks_command.specs.Skipping.{is_provided}
+use Rattle.rclinks_command.proofs.Words.{◌≡◌, drop, is_provided}
 use Rattle.rclinks_command.proofs.faulty.is_provided.Given as goal
 
 abbrev pub invariant-loop-script : goal.invariant-loop-script

@@ -1,5 +1,4 @@
-use Rattle.std.proofs.Common.{◌<◌, IfSome, length}
-use Rattle.rclinks_command.specs.Skipping.{IsFaultAt}
+use Rattle.rclinks_command.proofs.Words.{◌<◌, IfSome, length, IsFaultAt}
 use Rattle.rclinks_command.proofs.faulty.place_of.Given as goal
 
 abbrev pub invariant-loop-place : goal.invariant-loop-place

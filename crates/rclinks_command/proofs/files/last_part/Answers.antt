@@ -1,5 +1,4 @@
-use Rattle.std.proofs.Common.{◌≡◌, ◌+◌, ◌-◌, arith, sym}
-use Rattle.std.proofs.lemmas.List.{take_rest}
+use Rattle.rclinks_command.proofs.Words.{◌≡◌, ◌+◌, ◌-◌, arith, sym, take_rest}
 use Rattle.rclinks_command.proofs.PathLemmas.{last_part-behind, last_part-whole, no_slash_before}
 use Rattle.rclinks_command.proofs.files.last_part.Goals.{then-loop-start-test+else-path-start-ne47, else-loop-start-test}
 use Rattle.rclinks_command.proofs.files.last_part.Goals as goal

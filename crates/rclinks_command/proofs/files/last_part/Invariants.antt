@@ -1,6 +1,4 @@
-use Rattle.std.proofs.Common.{◌≡◌, ◌≤◌, false, drop, length}
-use Rattle.std.specs.List.{list_any}
-use Rattle.rclinks_command.specs.Files.{is_slash}
+use Rattle.rclinks_command.proofs.Words.{◌≡◌, ◌≤◌, false, drop, length, list_any, is_slash}
 use Rattle.rclinks_command.proofs.files.last_part.Given as goal
 
 abbrev pub invariant-loop-start : goal.invariant-loop-start

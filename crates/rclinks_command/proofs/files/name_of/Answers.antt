@@ -1,5 +1,4 @@
-use Rattle.std.proofs.Common.{sym}
-use Rattle.std.proofs.lemmas.Bool.{true≢false}
+use Rattle.rclinks_command.proofs.Words.{sym, true≢false}
 use Rattle.rclinks_command.proofs.PathLemmas.{name-utf8}
 use Rattle.rclinks_command.proofs.files.name_of.Goals as goal
 

@@ -1,5 +1,4 @@
-use Rattle.std.proofs.Common.{length}
-use Rattle.rclinks_command.specs.Reports.{TellsLines}
+use Rattle.rclinks_command.proofs.Words.{length, TellsLines}
 use Rattle.rclinks_command.proofs.lines.tell_lines.Given as goal
 
 abbrev pub invariant-loop-line : goal.invariant-loop-line

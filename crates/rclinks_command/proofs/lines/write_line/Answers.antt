@@ -1,4 +1,4 @@
-use Rattle.std.proofs.Common.{codes}
+use Rattle.rclinks_command.proofs.Words.{codes}
 use Rattle.program_io.proofs.WritingLemmas.{AppendsPrefix-of_write, AppendsPrefix-then, last_ok, stops}
 use Rattle.rclinks_command.proofs.lines.write_line.Goals as goal
 

@@ -1,9 +1,5 @@
-use Rattle.std.proofs.Common.{◌≡◌, ◌++◌, map, drop}
-use Rattle.std.specs.List.{filter}
-use Rattle.rc_links.specs.Changes.{targets_of}
-use Rattle.rc_links.specs.EntryText.{EntryText}
+use Rattle.rclinks_command.proofs.Words.{◌≡◌, ◌++◌, map, drop, filter, targets_of, EntryText, gone_at}
 use Rattle.rc_links.specs.Kept.{is_gone}
-use Rattle.rclinks_command.specs.Writing.{gone_at}
 use Rattle.rclinks_command.proofs.planned.add_gone_at.Given as goal
 
 abbrev pub invariant-loop-entry : goal.invariant-loop-entry

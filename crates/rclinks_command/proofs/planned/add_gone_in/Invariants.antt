@@ -1,6 +1,4 @@
-use Rattle.std.proofs.Common.{◌≡◌, ◌++◌, drop, flat_map}
-use Rattle.rc_links.specs.Changes.{targets_of}
-use Rattle.rclinks_command.specs.Writing.{gone_at}
+use Rattle.rclinks_command.proofs.Words.{◌≡◌, ◌++◌, drop, flat_map, targets_of, gone_at}
 use Rattle.rclinks_command.proofs.planned.add_gone_in.Given as goal
 
 abbrev pub invariant-loop-folder : goal.invariant-loop-folder

@@ -1,6 +1,4 @@
-use Rattle.std.proofs.Common.{◌≡◌, map, take}
-use Rattle.std.specs.List.{AllByRecursion}
-use Rattle.rclinks_command.specs.Writing.{IsFolder, all_levels}
+use Rattle.rclinks_command.proofs.Words.{◌≡◌, map, take, AllByRecursion, IsFolder, all_levels}
 use Rattle.rclinks_command.proofs.planned.folders_in.Given as goal
 
 abbrev pub invariant-loop-level : goal.invariant-loop-level

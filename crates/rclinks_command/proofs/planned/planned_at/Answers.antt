@@ -1,4 +1,4 @@
-use Rattle.rclinks_command.specs.Writing.{link_entry}
+use Rattle.rclinks_command.proofs.Words.{link_entry}
 use Rattle.rclinks_command.proofs.WritingLemmas.{mapped-next}
 use Rattle.rclinks_command.proofs.planned.planned_at.Goals as goal
 

@@ -1,5 +1,4 @@
-use Rattle.std.proofs.Common.{◌≡◌, ◌++◌, map, drop}
-use Rattle.rclinks_command.specs.Writing.{link_entry, planned_at}
+use Rattle.rclinks_command.proofs.Words.{◌≡◌, ◌++◌, map, drop, link_entry, planned_at}
 use Rattle.rclinks_command.proofs.planned.planned_at.Given as goal
 
 abbrev pub invariant-loop-link : goal.invariant-loop-link

@@ -1,6 +1,4 @@
-use Rattle.std.proofs.Common.{◌≡◌, ◌++◌, map, drop}
-use Rattle.rc_links.specs.Changes.{targets_of}
-use Rattle.rclinks_command.specs.Writing.{target_of, targets_in}
+use Rattle.rclinks_command.proofs.Words.{◌≡◌, ◌++◌, map, drop, targets_of, target_of, targets_in}
 use Rattle.rclinks_command.proofs.planned.targets_in.Given as goal
 
 abbrev pub invariant-loop-name : goal.invariant-loop-name

@@ -1,6 +1,4 @@
-use Rattle.std.proofs.Common.{◌≡◌, ◌||◌, drop}
-use Rattle.rc_links.specs.Changes.{targets_of}
-use Rattle.rclinks_command.specs.Writing.{has_taken}
+use Rattle.rclinks_command.proofs.Words.{◌≡◌, ◌||◌, drop, targets_of, has_taken}
 use Rattle.rclinks_command.proofs.planned.tell_taken.Given as goal
 
 abbrev pub invariant-loop-folder : goal.invariant-loop-folder

@@ -1,6 +1,4 @@
-use Rattle.std.proofs.Common.{◌≡◌, ◌||◌, drop}
-use Rattle.std.specs.List.{list_any}
-use Rattle.rc_links.specs.Changes.{is_taken, targets_of}
+use Rattle.rclinks_command.proofs.Words.{◌≡◌, ◌||◌, drop, list_any, is_taken, targets_of}
 use Rattle.rclinks_command.proofs.planned.tell_taken_at.Given as goal
 
 abbrev pub invariant-loop-entry : goal.invariant-loop-entry

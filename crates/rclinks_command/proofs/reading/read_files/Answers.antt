@@ -1,7 +1,4 @@
-use Rattle.std.proofs.Common.{◌+◌, ◌∙◌, codes, inl, inr, ap, rules, sym, subst, map, string_bytes, drop, take}
-use Rattle.std.proofs.lemmas.List.{map-append, take-append-drop}
-use Rattle.rclinks_command.specs.Reading.{ReadsOne}
-use Rattle.rclinks_command.specs.Reports.{TellsOne}
+use Rattle.rclinks_command.proofs.Words.{◌+◌, ◌∙◌, codes, inl, inr, ap, rules, sym, subst, map, string_bytes, drop, take, map-append, take-append-drop, ReadsOne, TellsOne}
 use Rattle.rclinks_command.proofs.ReadingLemmas.{reads_next}
 use Rattle.rclinks_command.proofs.ReportLemmas.{not_over, over_parts, tells_none, told_file, warned_on}
 use Rattle.rclinks_command.proofs.reading.read_files.Goals as goal

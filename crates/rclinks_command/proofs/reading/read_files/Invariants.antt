@@ -1,6 +1,4 @@
-use Rattle.std.proofs.Common.{◌≡◌, [], false, map, string_bytes, take}
-use Rattle.rclinks_command.specs.Reading.{Reads}
-use Rattle.rclinks_command.specs.Reports.{Warns}
+use Rattle.rclinks_command.proofs.Words.{◌≡◌, [], false, map, string_bytes, take, Reads, Warns}
 use Rattle.rclinks_command.proofs.reading.read_files.Given as goal
 
 -- the paths up to here are read; where a fault ends it, there is none

@@ -1,4 +1,4 @@
-use Rattle.std.proofs.Common.{codes, inl, refl}
+use Rattle.rclinks_command.proofs.Words.{codes, inl, refl}
 use Rattle.rclinks_command.proofs.ReportLemmas.{tells-then}
 use Rattle.rclinks_command.proofs.reading.read_one.Goals as goal
 

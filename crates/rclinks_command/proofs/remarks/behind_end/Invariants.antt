@@ -1,4 +1,4 @@
-use Rattle.std.proofs.Common.{length}
+use Rattle.rclinks_command.proofs.Words.{length}
 use Rattle.rclinks_command.proofs.remarks.behind_end.Given as goal
 
 abbrev pub decreases-loop-line : goal.decreases-loop-line

@@ -1,4 +1,4 @@
-use Rattle.std.proofs.Common.{length}
+use Rattle.rclinks_command.proofs.Words.{length}
 use Rattle.rclinks_command.proofs.remarks.tell_odd_levels.Given as goal
 
 abbrev pub decreases-loop-word : goal.decreases-loop-word

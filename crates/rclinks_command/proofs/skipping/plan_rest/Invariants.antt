@@ -1,5 +1,4 @@
-use Rattle.std.proofs.Common.{length}
-use Rattle.rclinks_command.specs.Skipping.{LeavesSome}
+use Rattle.rclinks_command.proofs.Words.{length, LeavesSome}
 use Rattle.rclinks_command.proofs.skipping.plan_rest.Given as goal
 
 abbrev pub invariant-loop-plan : goal.invariant-loop-plan

@@ -1,5 +1,4 @@
-use Rattle.std.proofs.Common.{◌≡◌, ◌++◌, drop}
-use Rattle.rclinks_command.specs.Writing.{changes_text}
+use Rattle.rclinks_command.proofs.Words.{◌≡◌, ◌++◌, drop, changes_text}
 use Rattle.rclinks_command.proofs.writing.changes_text.Given as goal
 
 abbrev pub invariant-loop-change : goal.invariant-loop-change

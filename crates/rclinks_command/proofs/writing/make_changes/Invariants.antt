@@ -1,5 +1,4 @@
-use Rattle.std.proofs.Common.{take}
-use Rattle.rclinks_command.specs.Folders.{Becomes, changed_by}
+use Rattle.rclinks_command.proofs.Words.{take, Becomes, changed_by}
 use Rattle.rclinks_command.proofs.writing.make_changes.Given as goal
 
 abbrev pub invariant-loop-place : goal.invariant-loop-place

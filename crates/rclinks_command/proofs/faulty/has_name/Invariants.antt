@@ -1,6 +1,0 @@
-use Rattle.std.proofs.Common.{string_bytes, ◌≡◌, map, drop}
-use Rattle.rc_links.specs.Scripts.{has_name}
-use Rattle.rclinks_command.proofs.faulty.has_name.Given as goal
-
-abbrev pub invariant-loop-other : goal.invariant-loop-other
-invariant-loop-other l = has_name l.name (map string_bytes (drop l.other-index l.names)) ≡ has_name l.name (map string_bytes l.names)
