@@ -1,3 +1,3 @@
+pub mod CommonWords
 pub mod ReadWords
 pub mod Reported
-pub mod Words

@@ -1,5 +1,5 @@
 -- What words say where the command line has no fault in them.
-use Rattle.rc_command.proofs.Words.{◌≡◌, ◌∙◌, ap, refl, sym, true, ℕ, List, Bool, codes, Option, Some, option_and_then, Row, is_simple_and_free, command_line, options_said, rows_said, rc_said_by, seconds_said, RunOptions}
+use Rattle.rc_command.proofs.CommonWords.{◌≡◌, ◌∙◌, ap, refl, sym, true, ℕ, List, Bool, codes, Option, Some, option_and_then, Row, is_simple_and_free, command_line, options_said, rows_said, rc_said_by, seconds_said, RunOptions}
 use Rattle.clap.proofs.OnLiterals.{clap_on_literals}
 use Rattle.command_words.specs.CommandLines.{bare_line, is_set, line_of}
 

@@ -1,5 +1,5 @@
 -- A run of all scripts reports them, and no answer to one is missing before it.
-use Rattle.rc_command.proofs.Words.{◌≡◌, ◌≢◌, ◌⊎◌, ◌∙◌, inl, inr, refl, sym, arith, ℕ, ◌-◌, Bool, true, false, cond, ◌||◌, List, [], ◌∷◌, length, Option, ap, subst, true≢false, Asked, RcSaid, entering, said_at, RunOptions, AreNames, AsksFor, IsBefore, IsStatusOf, IsWhole, Reports, ReportsFirst, ReportsNames, ReportsPart, RunsAsked, RunsNames, RunsSaid, RunsScripts, ended_text, rc_of, status_of, written, LinkRun, RcState, is_failure, writes_ends}
+use Rattle.rc_command.proofs.CommonWords.{◌≡◌, ◌≢◌, ◌⊎◌, ◌∙◌, inl, inr, refl, sym, arith, ℕ, ◌-◌, Bool, true, false, cond, ◌||◌, List, [], ◌∷◌, length, Option, ap, subst, true≢false, Asked, RcSaid, entering, said_at, RunOptions, AreNames, AsksFor, IsBefore, IsStatusOf, IsWhole, Reports, ReportsFirst, ReportsNames, ReportsPart, RunsAsked, RunsNames, RunsSaid, RunsScripts, ended_text, rc_of, status_of, written, LinkRun, RcState, is_failure, writes_ends}
 use Rattle.std.specs.Io.KnownBytes.{Appends}
 use Rattle.program_io.specs.Writing.{AppendsPrefix}
 use Rattle.program_io.specs.declared.statuses.TheConstants.{DEVICE_FAULT, DONE, LIMIT_REACHED}

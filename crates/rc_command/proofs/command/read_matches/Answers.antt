@@ -1,4 +1,4 @@
-use Rattle.rc_command.proofs.Words.{◌∙◌, IfErr-weaker, IfOk-weaker, found_of, rows_of}
+use Rattle.rc_command.proofs.CommonWords.{◌∙◌, IfErr-weaker, IfOk-weaker, found_of, rows_of}
 use Rattle.rc_command.proofs.ReadWords.{rows_are}
 use Rattle.rc_command.proofs.command.read_matches.Goals as goal
 

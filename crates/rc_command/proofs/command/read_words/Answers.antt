@@ -1,4 +1,4 @@
-use Rattle.rc_command.proofs.Words.{◌∙◌, ap, option_and_then, IfErr-weaker, IfOk-weaker, rows_said}
+use Rattle.rc_command.proofs.CommonWords.{◌∙◌, ap, option_and_then, IfErr-weaker, IfOk-weaker, rows_said}
 use Rattle.rc_command.proofs.command.read_words.Goals as goal
 
 pub returns-in-Ok-clause-ok : goal.returns-in-Ok-clause-ok

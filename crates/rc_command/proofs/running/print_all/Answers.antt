@@ -1,4 +1,4 @@
-use Rattle.rc_command.proofs.Words.{inl}
+use Rattle.rc_command.proofs.CommonWords.{inl}
 use Rattle.rc_command.proofs.Reported.{print_done, print_known, print_not_waiting}
 use Rattle.rc_command.proofs.running.print_all.Goals as goal
 

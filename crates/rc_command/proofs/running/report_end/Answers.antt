@@ -1,4 +1,4 @@
-use Rattle.rc_command.proofs.Words.{AppendsPrefix-none}
+use Rattle.rc_command.proofs.CommonWords.{AppendsPrefix-none}
 use Rattle.rc_command.proofs.Reported.{not_whole_fault, not_whole_limit}
 use Rattle.rc_command.proofs.running.report_end.Goals as goal
 

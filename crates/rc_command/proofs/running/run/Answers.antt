@@ -1,4 +1,4 @@
-use Rattle.rc_command.proofs.Words.{refl, ◌∙◌, ap, inl, inr, Global, List, String, map, string_bytes, ℕ, said_at}
+use Rattle.rc_command.proofs.CommonWords.{refl, ◌∙◌, ap, inl, inr, Global, List, String, map, string_bytes, ℕ, said_at}
 use Rattle.rc_command.proofs.Reported.{said_part, said_reports, said_runs}
 use Rattle.rc_command.proofs.running.run.Goals as goal
 

@@ -1,4 +1,4 @@
-use Rattle.rc_command.proofs.Words.{inl, inr, ap, said_of, ReportsPart}
+use Rattle.rc_command.proofs.CommonWords.{inl, inr, ap, said_of, ReportsPart}
 use Rattle.rc_command.proofs.Reported.{asks_for, fault_of, known_of, reports_asked, runs_asked}
 use Rattle.rc_command.proofs.running.run_asked.Goals as goal
 

@@ -1,4 +1,4 @@
-use Rattle.rc_command.proofs.Words.{rules, ◌≡◌, ◌∙◌, inl, inr, ap, sym, true, false, Global, List, String, map, string_bytes, ℕ, true≢false, RcState}
+use Rattle.rc_command.proofs.CommonWords.{rules, ◌≡◌, ◌∙◌, inl, inr, ap, sym, true, false, Global, List, String, map, string_bytes, ℕ, true≢false, RcState}
 use Rattle.rc_command.proofs.Reported.{dry_known, dry_part, dry_reports, run_names, run_part, run_reports}
 use Rattle.rc_command.proofs.running.run_names.Goals as goal
 

@@ -1,4 +1,4 @@
-use Rattle.rc_command.proofs.Words.{inl, inr, refl, sym, subst, IsSome}
+use Rattle.rc_command.proofs.CommonWords.{inl, inr, refl, sym, subst, IsSome}
 use Rattle.command_words.proofs.Refusals.{refused_by}
 use Rattle.rc_command.proofs.running.run_words.Goals as goal
 
