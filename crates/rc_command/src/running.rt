@@ -20,7 +20,9 @@ use crate::level_files::{LevelFiles, level_in};
 use command_words::{is_version, print_version, report_word_fault};
 use host_calls::Host;
 use init_words::{Level, Memory};
-use program_io::{DEVICE_FAULT, DONE, LIMIT_REACHED, REFUSED, report_no_memory, write_text};
+use program_io::{
+    DEVICE_FAULT, DONE, LIMIT_REACHED, REFUSED, Reason, report_no_memory, write_text,
+};
 use rc_driver::{LevelChange, Rc, RunEnd, ScriptOptions, print_links, run_links, write_six};
 use std::alloc::Global;
 use std::io;
@@ -214,7 +216,8 @@ fn report_unread<E: Write>(path: &str, error: &io::Error, err: &mut E) -> u8
 {
     let _ = writeln!(
         err,
-        "rc: cannot read {path}: {error}: nothing was run; give PREV as a word without --level-file"
+        "rc: cannot read {path}: {}: nothing was run; give PREV as a word without --level-file",
+        Reason(error)
     );
     DEVICE_FAULT
 }
@@ -259,7 +262,8 @@ fn report_unkept<E: Write>(path: &str, error: &io::Error, err: &mut E) -> u8
 {
     let _ = writeln!(
         err,
-        "rc: cannot write {path}: {error}: all scripts were carried out, and it has not the new level"
+        "rc: cannot write {path}: {}: all scripts were carried out, and it has not the new level",
+        Reason(error)
     );
     DEVICE_FAULT
 }
@@ -467,6 +471,6 @@ fn tell<E: Write>(status: u8, line: &str, err: &mut E) -> u8
 fn report_unlisted<E: Write>(path: &str, error: &io::Error, err: &mut E) -> u8
     ensures { result ≡ DEVICE_FAULT }
 {
-    let _ = writeln!(err, "rc: cannot list {path}: {error}");
+    let _ = writeln!(err, "rc: cannot list {path}: {}", Reason(error));
     DEVICE_FAULT
 }

@@ -9,7 +9,7 @@ ghost use Rattle.rclinks_command.specs.Reports.{ReportsWhy, TellsWhy, Warns};
 use crate::lines::tell_why;
 use crate::remarks::{behind_end, warn_of_lines};
 use init_words::Memory;
-use program_io::{DEVICE_FAULT, REFUSED, Texts};
+use program_io::{DEVICE_FAULT, REFUSED, Reason, Texts};
 use rc_header::{HeaderFault, second_keyword_line};
 use rc_links::{Script, is_name};
 use std::alloc::Global;
@@ -21,7 +21,7 @@ use thiserror::Error;
 #[derive(Clone, Copy, Debug, Error)]
 pub enum FileFault {
     /// It can't be read.
-    #[error("{0}")]
+    #[error("{reason}", reason = Reason(.0))]
     Unread(io::Error),
     /// Its name is none that a link may have.
     #[error("the name of a script has bytes of A-Z a-z 0-9 . _ - alone")]

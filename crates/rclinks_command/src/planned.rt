@@ -9,7 +9,7 @@ ghost use Rattle.rclinks_command.specs.Writing.{AreFolders, AreTargets, IsFolder
 
 use crate::folders::LinkFolders;
 use init_words::{Level, Memory};
-use program_io::{DEVICE_FAULT, report_no_memory};
+use program_io::{DEVICE_FAULT, Reason, report_no_memory};
 use rc_links::{Folder, FolderEntry, LEVELS, Plan, is_gone, is_taken, linked_name};
 use std::alloc::Global;
 use std::io::Write;
@@ -78,7 +78,8 @@ fn folder_at<F: LinkFolders, E: Write>(
             let code = char::from(level.code());
             let _ = writeln!(
                 err,
-                "rclinks: {dir}/rc{code}.d: cannot list: {error}; nothing was changed"
+                "rclinks: {dir}/rc{code}.d: cannot list: {}; nothing was changed",
+                Reason(&error)
             );
             Err(DEVICE_FAULT)
         }
@@ -178,7 +179,8 @@ fn scripts_in<F: LinkFolders, E: Write>(
         Err(error) => {
             let _ = writeln!(
                 err,
-                "rclinks: {dir}/init.d: cannot list: {error}; nothing was changed"
+                "rclinks: {dir}/init.d: cannot list: {}; nothing was changed",
+                Reason(&error)
             );
             Err(DEVICE_FAULT)
         }

@@ -7,7 +7,7 @@ ghost use Rattle.rclinks_command.specs.Writing.{IsTaken, IsWritten, IsWrittenPar
 use crate::folders::LinkFolders;
 use crate::planned::{folders_in, targets_for, tell_taken};
 use init_words::Memory;
-use program_io::{DEVICE_FAULT, DONE, REFUSED, report_no_memory, write_text};
+use program_io::{DEVICE_FAULT, DONE, REFUSED, Reason, report_no_memory, write_text};
 use rc_links::{LinkAction, LinkChange, Plan, changes};
 use std::alloc::Global;
 use std::io;
@@ -70,7 +70,7 @@ fn tell_failure<E: Write>(
     err: &mut E,
 ) {
     let (done, rest) = changes.split_at(place.min(changes.len()));
-    let _ = writeln!(err, "rclinks: {dir}: a change failed: {error}");
+    let _ = writeln!(err, "rclinks: {dir}: a change failed: {}", Reason(error));
     tell_changes(alloc, "done", done, err);
     tell_changes(alloc, "not done", rest, err);
 }

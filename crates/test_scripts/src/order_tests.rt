@@ -1,7 +1,7 @@
 //! The scripts that are handed out, by the names in two folders.
 
 use init_words::{Level, Memory, Status};
-use rc_driver::{Arg, NotAsked, LevelChange, Rc, RcAnswer, RcStep};
+use rc_driver::{Arg, LevelChange, NotAsked, Rc, RcAnswer, RcStep};
 use std::alloc::{Allocator, Global};
 use std::test::Fail;
 use test_support::{boxed, line_words};
