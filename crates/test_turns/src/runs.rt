@@ -25,7 +25,7 @@ pub(crate) struct Row<'a> {
     /// How many calls of the host are faults.
     faults: u64,
     is_strict: bool,
-    trace: &'a str,
+    pub(crate) trace: &'a str,
     /// The letters of the calls, where they are asked.
     letters: Option<&'a str>,
 }
