@@ -14,6 +14,8 @@ mod inittab_tests;
 #[cfg(test)]
 mod respawn_tests;
 #[cfg(test)]
+mod said_tests;
+#[cfg(test)]
 mod side_tests;
 #[cfg(test)]
 mod text_tests;
