@@ -86,8 +86,9 @@ impl Query for Form {
         text: &mut SeenText<Marks>,
         shown: &TraceOutcome,
     ) -> Result<Answer, Memory> {
+        let drawn = draw(alloc, *self, text.seen(), text.view())?;
         let mut lines = Vec::new(alloc);
-        lines.push(draw(alloc, *self, text.seen(), text.view())?)?;
+        lines.push(drawn)?;
         Ok((lines, stop_status(shown.stop)))
     }
 }
