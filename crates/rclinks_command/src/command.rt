@@ -20,11 +20,11 @@ ghost use Rattle.rclinks_command.specs.Writing.{IsTaken};
 use crate::facilities::files_with;
 use crate::files::FileFault;
 use crate::folders::LinkFolders;
-use crate::planned::kept_in;
+use crate::planned::{kept_in, report_unlisted};
 use crate::reading::read_files;
 use crate::skipping::{plan_rest, report_first, status_of};
 use crate::telling::warn_of_names;
-use crate::writing::{preview, write_folders};
+use crate::writing::{changes_for, changes_text, make_changes};
 use clap::ArgMatches;
 use command_words::{
     Row, WordFault, is_set, is_version, print_version, read_line, report_word_fault, word_of,
@@ -341,12 +341,17 @@ fn do_in<F: LinkFolders, W: Write, E: Write>(
         ⊎ PartIn dry prunes (F.scripts_in folders.old) (F.held folders.old) dir.now
         (F.held folders.new) (W.contents out.old) (W.contents out.new) plan.now }
 {
+    let found = match changes_for(folders, alloc, dir, prunes, plan, err) {
+        Ok(Some(found)) => found,
+        Ok(None) => return REFUSED,
+        Err(fault) => return report_unlisted(dir, &fault, err),
+    };
     if !dry {
-        return write_folders(folders, alloc, dir, prunes, plan, err);
+        return make_changes(folders, alloc, dir, found.as_slice(), err);
     }
-    match preview(folders, alloc, dir, prunes, plan, err) {
+    match changes_text(alloc, found.as_slice()) {
         Ok(text) => write_links(text.as_slice(), out, err),
-        Err(status) => status,
+        Err(Memory) => report_no_memory("rclinks", err),
     }
 }
 
@@ -379,40 +384,9 @@ fn do_by<F: LinkFolders, W: Write, E: Write>(
     if !line.keeps {
         return do_in(folders, alloc, dir, line.dry, line.prunes, plan, out, err);
     }
-    match kept_in(folders, alloc, dir, plan, err) {
+    match kept_in(folders, alloc, dir, plan) {
         Ok(kept) => do_in(folders, alloc, dir, line.dry, line.prunes, &kept, out, err),
-        Err(status) => status,
-    }
-}
-
-/// Runs rclinks on what words ask for, and gives its exit status.
-fn run_line<T: Texts, F: LinkFolders, W: Write, E: Write>(
-    texts: &T,
-    folders: &mut F,
-    alloc: Global,
-    line: &Line,
-    out: &mut W,
-    err: &mut E,
-) -> u8
-    ensures statuses { (result ≡ DONE) ⊎ (result ≡ REFUSED) ⊎ (result ≡ DEVICE_FAULT) }
-    ensures done { result ≡ DONE → Does (T.text_at texts.now) (line_said line.now)
-        (F.scripts_in folders.old) (F.held folders.old) (F.held folders.new) (W.contents out.old)
-        (W.contents out.new) }
-    ensures refused { result ≡ REFUSED → IsRefusedBy (T.text_at texts.now) (line_said line.now)
-        (F.scripts_in folders.old) (F.held folders.old) }
-    ensures told { goes_on (line_said line.now) ≡ false → result ≡ REFUSED
-        → TellsRefused (T.text_at texts.now) (line_said line.now) (F.scripts_in folders.old)
-        (F.held folders.old) (E.contents err.old) (E.contents err.new) }
-    ensures quiet { result ≡ REFUSED → (out.new ≡ out.old) × (folders.new ≡ folders.old) }
-    ensures kept { writes (line_said line.now) ≡ false → folders.new ≡ folders.old }
-    ensures silent { writes (line_said line.now) ≡ true → out.new ≡ out.old }
-    ensures part { (out.new ≡ out.old) × (folders.new ≡ folders.old)
-        ⊎ DoesPart (T.text_at texts.now) (line_said line.now) (F.scripts_in folders.old)
-        (F.held folders.old) (F.held folders.new) (W.contents out.old) (W.contents out.new) }
-{
-    match plan_of(texts, alloc, line, err) {
-        Ok(plan) => do_by(folders, alloc, line, &plan, out, err),
-        Err(status) => status,
+        Err(fault) => report_unlisted(dir, &fault, err),
     }
 }
 
@@ -449,12 +423,13 @@ fn run_matches<T: Texts, F: LinkFolders, W: Write, E: Write>(
         (F.scripts_in folders.old) (F.held folders.old) (F.held folders.new) (W.contents out.old)
         (W.contents out.new) }
 {
-    match files_of(alloc, facilities, matches) {
-        Ok(files) => {
-            let line = line_of(matches, files.as_slice());
-            run_line(texts, folders, alloc, &line, out, err)
-        }
-        Err(AllocError) => report_no_memory("rclinks", err),
+    let Ok(files) = files_of(alloc, facilities, matches) else {
+        return report_no_memory("rclinks", err);
+    };
+    let line = line_of(matches, files.as_slice());
+    match plan_of(texts, alloc, &line, err) {
+        Ok(plan) => do_by(folders, alloc, &line, &plan, out, err),
+        Err(status) => status,
     }
 }
 

@@ -13,24 +13,16 @@ use rc_links::{PlanFault, Script, has_name};
 pub(crate) fn is_provided(scripts: &[Script], name: &str) -> bool
     ensures { result ≡ is_provided scripts.now name.now }
 {
-    for script in scripts {
-        if has_name(name, script.header().provides()) {
-            return true;
-        }
-    }
-    false
+    scripts
+        .iter()
+        .any(|script| has_name(name, script.header().provides()))
 }
 
 /// One of the scripts has the name.
 fn has_script(scripts: &[Script], name: &str) -> bool
     ensures { result ≡ has_script scripts.now name.now }
 {
-    for script in scripts {
-        if script.name() == name {
-            return true;
-        }
-    }
-    false
+    scripts.iter().any(|script| script.name() == name)
 }
 
 /// The script provides a name as one before it does, or has the name of one before it.

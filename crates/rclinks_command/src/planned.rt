@@ -1,6 +1,6 @@
 //! The folders of a directory, with the links that a plan has there.
 
-ghost use Rattle.std.specs.Prelude.{◌≡◌, ◌++◌, List, true, flat_map, IfOk, IfErr, IfSome, OnOk};
+ghost use Rattle.std.specs.Prelude.{◌≡◌, ◌++◌, List, true, flat_map, IfOk, OnOk};
 ghost use Rattle.std.specs.List.{list_any};
 ghost use Rattle.rc_links.specs.Changes.{targets_of, is_taken};
 ghost use Rattle.rc_links.specs.FolderText.{FolderText};
@@ -12,7 +12,43 @@ use init_words::{Level, Memory};
 use program_io::{DEVICE_FAULT, Reason, report_no_memory};
 use rc_links::{Folder, FolderEntry, LEVELS, Plan, is_gone, is_taken, linked_name};
 use std::alloc::Global;
+use std::io;
 use std::io::Write;
+
+/// Why it isn't known what the folders of a directory hold.
+#[derive(Drop)]
+pub(crate) enum FoldersFault {
+    /// The folder of a runlevel can't be listed.
+    Level(Level, io::Error),
+    /// The folder of the scripts can't be listed.
+    Scripts(io::Error),
+    /// Memory runs out.
+    Memory,
+}
+
+impl From<Memory> for FoldersFault {
+    fn from(_error: Memory) -> FoldersFault {
+        FoldersFault::Memory
+    }
+}
+
+/// Reports such a fault, and gives the exit status.
+pub(crate) fn report_unlisted<E: Write>(dir: &str, fault: &FoldersFault, err: &mut E) -> u8
+    ensures { result ≡ DEVICE_FAULT }
+{
+    let (level, error) = match fault {
+        FoldersFault::Memory => return report_no_memory("rclinks", err),
+        FoldersFault::Scripts(error) => (None, error),
+        FoldersFault::Level(level, error) => (Some(*level), error),
+    };
+    let _ = write!(err, "rclinks: {dir}/");
+    let _ = match level {
+        Some(level) => write!(err, "rc{}.d", char::from(level.code())),
+        None => write!(err, "init.d"),
+    };
+    let _ = writeln!(err, ": cannot list: {}; nothing was changed", Reason(error));
+    DEVICE_FAULT
+}
 
 /// Where the link of a script leads.
 fn target_of(alloc: Global, name: &[u8]) -> Result<Vec<u8>, Memory>
@@ -56,77 +92,56 @@ fn targets_in(alloc: Global, plan: &Plan) -> Result<Vec<Vec<u8>>, Memory>
     Ok(targets)
 }
 
-/// The folder of a runlevel; the exit status where it can't be listed, or memory runs out, which is told.
-fn folder_at<F: LinkFolders, E: Write>(
+/// The folder of a runlevel.
+fn folder_at<F: LinkFolders>(
     folders: &F,
     alloc: Global,
     dir: &str,
     plan: &Plan,
     level: Level,
-    err: &mut E,
-) -> Result<Folder, u8>
-    ensures folder { IfOk result (λ folder. (folder.level ≡ level)
+) -> Result<Folder, FoldersFault>
+    ensures { IfOk result (λ folder. (folder.level ≡ level)
         × IsFolder (F.held folders.now) dir.now plan.now folder) }
-    ensures status { IfErr result (λ status. status ≡ DEVICE_FAULT) }
 {
-    let Ok(planned) = planned_at(alloc, plan, level) else {
-        return Err(report_no_memory("rclinks", err));
-    };
+    let planned = planned_at(alloc, plan, level)?;
     match folders.entries(alloc, dir, level) {
         Ok(held) => Ok(Folder::new(level, planned, held)),
-        Err(error) => {
-            let code = char::from(level.code());
-            let _ = writeln!(
-                err,
-                "rclinks: {dir}/rc{code}.d: cannot list: {}; nothing was changed",
-                Reason(&error)
-            );
-            Err(DEVICE_FAULT)
-        }
+        Err(error) => Err(FoldersFault::Level(level, error)),
     }
 }
 
-/// The folders of all runlevels, with the plan's links and what they hold; the exit status where one can't be listed,
-/// or memory runs out, which is told.
-pub(crate) fn folders_in<F: LinkFolders, E: Write>(
+/// The folders of all runlevels, with the plan's links and what they hold.
+pub(crate) fn folders_in<F: LinkFolders>(
     folders: &F,
     alloc: Global,
     dir: &str,
     plan: &Plan,
-    err: &mut E,
-) -> Result<Vec<Folder>, u8>
-    ensures folders { IfOk result (λ found.
+) -> Result<Vec<Folder>, FoldersFault>
+    ensures { IfOk result (λ found.
         AreFolders (F.held folders.now) dir.now plan.now found.items) }
-    ensures status { IfErr result (λ status. status ≡ DEVICE_FAULT) }
 {
     let mut found = Vec::new(alloc);
     for level in LEVELS {
-        let folder = folder_at(folders, alloc, dir, plan, level, err)?;
+        let folder = folder_at(folders, alloc, dir, plan, level)?;
         if found.push(folder).is_err() {
-            return Err(report_no_memory("rclinks", err));
+            return Err(FoldersFault::Memory);
         }
     }
     Ok(found)
 }
 
-/// The plan with the runlevels of the links that the folders of a directory hold; the exit status where one can't be
-/// listed, or memory runs out, which is told.
-pub(crate) fn kept_in<F: LinkFolders, E: Write>(
+/// The plan with the runlevels of the links that the folders of a directory hold.
+pub(crate) fn kept_in<F: LinkFolders>(
     folders: &F,
     alloc: Global,
     dir: &str,
     plan: &Plan,
-    err: &mut E,
-) -> Result<Plan, u8>
-    ensures kept { IfOk result (λ kept. (read : List FolderText)
+) -> Result<Plan, FoldersFault>
+    ensures { IfOk result (λ kept. (read : List FolderText)
         × AreFolders (F.held folders.now) dir.now plan.now read × (kept ≡ kept_plan read plan.now)) }
-    ensures status { IfErr result (λ status. status ≡ DEVICE_FAULT) }
 {
-    let read = folders_in(folders, alloc, dir, plan, err)?;
-    match plan.kept(alloc, read.as_slice()) {
-        Ok(kept) => Ok(kept),
-        Err(Memory) => Err(report_no_memory("rclinks", err)),
-    }
+    let read = folders_in(folders, alloc, dir, plan)?;
+    Ok(plan.kept(alloc, read.as_slice())?)
 }
 
 /// Adds where the links of a folder lead whose script is none of those that are there.
@@ -163,75 +178,29 @@ fn add_gone_in(
     Ok(())
 }
 
-/// The entries of `init.d` in a directory; the exit status where they can't be listed, which is told.
-fn scripts_in<F: LinkFolders, E: Write>(
-    folders: &F,
-    alloc: Global,
-    dir: &str,
-    err: &mut E,
-) -> Result<Vec<FolderEntry>, u8>
-    ensures scripts { IfOk result (λ found. IfSome (F.scripts_in folders.now dir.now)
-        (λ known. found.items ≡ known)) }
-    ensures status { IfErr result (λ status. status ≡ DEVICE_FAULT) }
-{
-    match folders.scripts(alloc, dir) {
-        Ok(found) => Ok(found),
-        Err(error) => {
-            let _ = writeln!(
-                err,
-                "rclinks: {dir}/init.d: cannot list: {}; nothing was changed",
-                Reason(&error)
-            );
-            Err(DEVICE_FAULT)
-        }
-    }
-}
-
-/// Where the links lead that are settled where those are taken away whose script is gone; the exit status where the
-/// scripts can't be listed, or memory runs out, which is told.
-fn pruned_targets<F: LinkFolders, E: Write>(
-    folders: &F,
-    alloc: Global,
-    dir: &str,
-    plan: &Plan,
-    read: &[Folder],
-    err: &mut E,
-) -> Result<Vec<Vec<u8>>, u8>
-    ensures targets { IfOk result (λ targets. AreTargets true (F.scripts_in folders.now) dir.now
-        plan.now read.now (targets_of targets.items)) }
-    ensures status { IfErr result (λ status. status ≡ DEVICE_FAULT) }
-{
-    let scripts = scripts_in(folders, alloc, dir, err)?;
-    let Ok(mut targets) = targets_in(alloc, plan) else {
-        return Err(report_no_memory("rclinks", err));
-    };
-    match add_gone_in(alloc, scripts.as_slice(), read, &mut targets) {
-        Ok(()) => Ok(targets),
-        Err(Memory) => Err(report_no_memory("rclinks", err)),
-    }
-}
-
 /// Where the links lead that are settled in the folders of a directory: to the scripts of the plan; and where links are
-/// pruned, to scripts that are gone. The exit status where the scripts can't be listed, or memory runs out, which is told.
-pub(crate) fn targets_for<F: LinkFolders, E: Write>(
+/// pruned, to scripts that are gone.
+pub(crate) fn targets_for<F: LinkFolders>(
     folders: &F,
     alloc: Global,
     dir: &str,
     prunes: bool,
     plan: &Plan,
     read: &[Folder],
-    err: &mut E,
-) -> Result<Vec<Vec<u8>>, u8>
-    ensures targets { IfOk result (λ targets. AreTargets prunes (F.scripts_in folders.now) dir.now
+) -> Result<Vec<Vec<u8>>, FoldersFault>
+    ensures { IfOk result (λ targets. AreTargets prunes (F.scripts_in folders.now) dir.now
         plan.now read.now (targets_of targets.items)) }
-    ensures status { IfErr result (λ status. status ≡ DEVICE_FAULT) }
 {
-    if prunes {
-        return pruned_targets(folders, alloc, dir, plan, read, err);
+    let mut targets = targets_in(alloc, plan)?;
+    if !prunes {
+        return Ok(targets);
     }
-    match targets_in(alloc, plan) {
-        Ok(targets) => Ok(targets),
-        Err(Memory) => Err(report_no_memory("rclinks", err)),
+    match folders.scripts(alloc, dir) {
+        Ok(scripts) => {
+            add_gone_in(alloc, scripts.as_slice(), read, &mut targets)?;
+            Ok(targets)
+        }
+        Err(error) => Err(FoldersFault::Scripts(error)),
     }
 }
 

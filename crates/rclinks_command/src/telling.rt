@@ -109,7 +109,7 @@ fn tell_double<E: Write>(
     }
 }
 
-/// Tells the names that a script requires and that are missing, or only the one.
+/// Tells the names that a script requires and that no script provides, or only the one.
 fn tell_missing<E: Write>(
     script: &Script,
     path: &str,
@@ -119,50 +119,25 @@ fn tell_missing<E: Write>(
     more: &mut E,
 ) {
     let header = script.header();
-    tell_absent(
-        path,
-        "Required-Start",
-        header.required_start(),
-        only,
-        scripts,
-        outs,
-        more,
-    );
-    tell_absent(
-        path,
-        "Required-Stop",
-        header.required_stop(),
-        only,
-        scripts,
-        outs,
-        more,
-    );
-}
-
-/// Tells those of the names of a keyword that no script provides, or only the one.
-fn tell_absent<E: Write>(
-    path: &str,
-    keyword: &str,
-    names: &[String],
-    only: Option<&str>,
-    scripts: &[Script],
-    outs: &[Script],
-    more: &mut E,
-) {
-    for name in names {
-        let name = name.as_str();
-        if name.starts_with('$')
-            || is_provided(scripts, name)
-            || only.is_some_and(|one| one != name)
-        {
-            continue;
+    for (keyword, names) in [
+        ("Required-Start", header.required_start()),
+        ("Required-Stop", header.required_stop()),
+    ] {
+        for name in names {
+            let name = name.as_str();
+            if name.starts_with('$')
+                || is_provided(scripts, name)
+                || only.is_some_and(|one| one != name)
+            {
+                continue;
+            }
+            let reason = if is_provided(outs, name) {
+                "which is left out"
+            } else {
+                "which no file provides"
+            };
+            let _ = writeln!(more, "{path}: {keyword} names {name}, {reason}");
         }
-        let reason = if is_provided(outs, name) {
-            "which is left out"
-        } else {
-            "which no file provides"
-        };
-        let _ = writeln!(more, "{path}: {keyword} names {name}, {reason}");
     }
 }
 
@@ -204,12 +179,7 @@ fn step_of<'s>(
 }
 
 fn script_named<'s>(scripts: &'s [Script], name: &str) -> Option<&'s Script> {
-    for script in scripts {
-        if script.name() == name {
-            return Some(script);
-        }
-    }
-    None
+    scripts.iter().find(|script| script.name() == name)
 }
 
 /// Each script of the cycle needs the next to start.
@@ -226,31 +196,32 @@ fn is_start_cycle(names: &[String], scripts: &[Script]) -> bool {
 /// How a script names another that is started before it.
 fn start_naming<'s>(from: &'s Script, to: &Script) -> Option<Naming<'s>> {
     let header = from.header();
-    if let Some(name) = first_provided(header.required_start(), to) {
-        return Some(("Required-Start", name));
-    }
-    let name = first_provided(header.should_start(), to)?;
-    Some(("Should-Start", name))
+    first_provided("Required-Start", header.required_start(), to).or(first_provided(
+        "Should-Start",
+        header.should_start(),
+        to,
+    ))
 }
 
 /// How a script names another that is stopped after it.
 fn stop_naming<'s>(from: &'s Script, to: &Script) -> Option<Naming<'s>> {
     let header = from.header();
-    if let Some(name) = first_provided(header.required_stop(), to) {
-        return Some(("Required-Stop", name));
-    }
-    let name = first_provided(header.should_stop(), to)?;
-    Some(("Should-Stop", name))
+    first_provided("Required-Stop", header.required_stop(), to).or(first_provided(
+        "Should-Stop",
+        header.should_stop(),
+        to,
+    ))
 }
 
-/// The first of the names that a script provides.
-fn first_provided<'s>(names: &'s [String], script: &Script) -> Option<&'s str> {
-    for name in names {
-        if has_name(name.as_str(), script.header().provides()) {
-            return Some(name.as_str());
-        }
-    }
-    None
+/// The first of the names of a keyword that a script provides.
+fn first_provided<'s>(
+    keyword: &'static str,
+    names: &'s [String],
+    script: &Script,
+) -> Option<Naming<'s>> {
+    let provides = script.header().provides();
+    let name = names.iter().find(|name| has_name(name.as_str(), provides))?;
+    Some((keyword, name.as_str()))
 }
 
 /// Warns of the names of the system that scripts name and none provides, of each once.
@@ -281,18 +252,18 @@ fn tell_system_names<E: Write>(scripts: &[Script], paths: &[&str], odd: &mut E) 
 
 /// Tells the keywords of a script that name `$all`.
 fn tell_all<E: Write>(header: &Header, path: &str, odd: &mut E) {
-    tell_all_name(header.required_start(), path, "Required-Start", odd);
-    tell_all_name(header.should_start(), path, "Should-Start", odd);
-    tell_all_name(header.required_stop(), path, "Required-Stop", odd);
-    tell_all_name(header.should_stop(), path, "Should-Stop", odd);
-}
-
-fn tell_all_name<E: Write>(names: &[String], path: &str, keyword: &str, odd: &mut E) {
-    if has_name("$all", names) {
-        let _ = writeln!(
-            odd,
-            "{path}: {keyword} names $all, which orders nothing without --all-last"
-        );
+    for (keyword, names) in [
+        ("Required-Start", header.required_start()),
+        ("Should-Start", header.should_start()),
+        ("Required-Stop", header.required_stop()),
+        ("Should-Stop", header.should_stop()),
+    ] {
+        if has_name("$all", names) {
+            let _ = writeln!(
+                odd,
+                "{path}: {keyword} names $all, which orders nothing without --all-last"
+            );
+        }
     }
 }
 
@@ -321,11 +292,8 @@ fn tell_system<E: Write>(
 
 /// One of the scripts is started after what has the name.
 fn is_named(scripts: &[Script], name: &str) -> bool {
-    for script in scripts {
+    scripts.iter().any(|script| {
         let header = script.header();
-        if has_name(name, header.required_start()) || has_name(name, header.should_start()) {
-            return true;
-        }
-    }
-    false
+        has_name(name, header.required_start()) || has_name(name, header.should_start())
+    })
 }

@@ -1,13 +1,13 @@
 //! The changes that a plan asks of the folders of a directory, printed or made.
 
-ghost use Rattle.std.specs.Prelude.{◌≡◌, ◌⊎◌, ◌++◌, ℕ, IfOk, IfErr, OnOk, take};
+ghost use Rattle.std.specs.Prelude.{◌≡◌, ◌⊎◌, ◌++◌, ℕ, None, IfOk, IfSome, OnOk, take};
 ghost use Rattle.rclinks_command.specs.Folders.{Becomes, changed_by};
-ghost use Rattle.rclinks_command.specs.Writing.{IsTaken, IsWritten, IsWrittenPart, Previews, Wants, act_word, change_line, changes_text};
+ghost use Rattle.rclinks_command.specs.Writing.{IsTaken, Wants, act_word, change_line, changes_text};
 
 use crate::folders::LinkFolders;
-use crate::planned::{folders_in, targets_for, tell_taken};
+use crate::planned::{FoldersFault, folders_in, targets_for, tell_taken};
 use init_words::Memory;
-use program_io::{DEVICE_FAULT, DONE, REFUSED, Reason, report_no_memory, write_text};
+use program_io::{DEVICE_FAULT, DONE, Reason, write_text};
 use rc_links::{LinkAction, LinkChange, Plan, changes};
 use std::alloc::Global;
 use std::io;
@@ -39,7 +39,7 @@ fn add_change(text: &mut Vec<u8>, change: &LinkChange) -> Result<(), Memory>
 }
 
 /// The lines of changes.
-fn changes_text(alloc: Global, changes: &[LinkChange]) -> Result<Vec<u8>, Memory>
+pub(crate) fn changes_text(alloc: Global, changes: &[LinkChange]) -> Result<Vec<u8>, Memory>
     ensures { IfOk result (λ text. text.items ≡ changes_text changes.now) }
 {
     let mut text = Vec::new(alloc);
@@ -77,7 +77,7 @@ fn tell_failure<E: Write>(
 
 /// Makes changes in a directory, one after the other, and gives the exit status: 4 where one is refused, which is told
 /// with those before and behind it.
-fn make_changes<F: LinkFolders, E: Write>(
+pub(crate) fn make_changes<F: LinkFolders, E: Write>(
     folders: &mut F,
     alloc: Global,
     dir: &str,
@@ -99,73 +99,24 @@ fn make_changes<F: LinkFolders, E: Write>(
     DONE
 }
 
-/// The changes that a plan asks of the folders of a directory; the exit status where a name is taken or a folder can't
-/// be listed, or memory runs out, which is told.
-fn changes_for<F: LinkFolders, E: Write>(
+/// The changes that a plan asks of the folders of a directory; None where a name is taken, which is told.
+pub(crate) fn changes_for<F: LinkFolders, E: Write>(
     folders: &F,
     alloc: Global,
     dir: &str,
     prunes: bool,
     plan: &Plan,
     err: &mut E,
-) -> Result<Vec<LinkChange>, u8>
-    ensures wanted { IfOk result (λ found. Wants (F.held folders.now) (F.scripts_in folders.now)
-        prunes dir.now plan.now found.items) }
-    ensures refused { IfErr result (λ status. (status ≡ DEVICE_FAULT) ⊎ (status ≡ REFUSED)
-        × IsTaken (F.held folders.now) (F.scripts_in folders.now) prunes dir.now plan.now) }
+) -> Result<Option<Vec<LinkChange>>, FoldersFault>
+    ensures wanted { IfOk result (λ asked. IfSome asked (λ found. Wants (F.held folders.now)
+        (F.scripts_in folders.now) prunes dir.now plan.now found.items)) }
+    ensures taken { IfOk result (λ found. found ≡ None
+        → IsTaken (F.held folders.now) (F.scripts_in folders.now) prunes dir.now plan.now) }
 {
-    let read = folders_in(folders, alloc, dir, plan, err)?;
-    let targets = targets_for(folders, alloc, dir, prunes, plan, read.as_slice(), err)?;
+    let read = folders_in(folders, alloc, dir, plan)?;
+    let targets = targets_for(folders, alloc, dir, prunes, plan, read.as_slice())?;
     if tell_taken(dir, targets.as_slice(), read.as_slice(), err) {
-        return Err(REFUSED);
+        return Ok(None);
     }
-    match changes(alloc, targets.as_slice(), read.as_slice()) {
-        Ok(found) => Ok(found),
-        Err(Memory) => Err(report_no_memory("rclinks", err)),
-    }
-}
-
-/// Makes the folders of a directory hold a plan's links, and gives the exit status.
-pub(crate) fn write_folders<F: LinkFolders, E: Write>(
-    folders: &mut F,
-    alloc: Global,
-    dir: &str,
-    prunes: bool,
-    plan: &Plan,
-    err: &mut E,
-) -> u8
-    ensures statuses { (result ≡ DONE) ⊎ (result ≡ REFUSED) ⊎ (result ≡ DEVICE_FAULT) }
-    ensures done { result ≡ DONE → IsWritten (F.held folders.old) (F.scripts_in folders.old)
-        prunes dir.now plan.now (F.held folders.new) }
-    ensures refused { result ≡ REFUSED → IsTaken (F.held folders.old) (F.scripts_in folders.old)
-        prunes dir.now plan.now × (folders.new ≡ folders.old) }
-    ensures part { (folders.new ≡ folders.old) ⊎ IsWrittenPart (F.held folders.old)
-        (F.scripts_in folders.old) prunes dir.now plan.now (F.held folders.new) }
-{
-    match changes_for(folders, alloc, dir, prunes, plan, err) {
-        Ok(found) => make_changes(folders, alloc, dir, found.as_slice(), err),
-        Err(status) => status,
-    }
-}
-
-/// The lines of the changes that a plan asks of the folders of a directory; the exit status where it asks for none that
-/// could be made.
-pub(crate) fn preview<F: LinkFolders, E: Write>(
-    folders: &F,
-    alloc: Global,
-    dir: &str,
-    prunes: bool,
-    plan: &Plan,
-    err: &mut E,
-) -> Result<Vec<u8>, u8>
-    ensures text { IfOk result (λ text. Previews (F.held folders.now) (F.scripts_in folders.now)
-        prunes dir.now plan.now text.items) }
-    ensures refused { IfErr result (λ status. (status ≡ DEVICE_FAULT) ⊎ (status ≡ REFUSED)
-        × IsTaken (F.held folders.now) (F.scripts_in folders.now) prunes dir.now plan.now) }
-{
-    let found = changes_for(folders, alloc, dir, prunes, plan, err)?;
-    match changes_text(alloc, found.as_slice()) {
-        Ok(text) => Ok(text),
-        Err(Memory) => Err(report_no_memory("rclinks", err)),
-    }
+    Ok(Some(changes(alloc, targets.as_slice(), read.as_slice())?))
 }

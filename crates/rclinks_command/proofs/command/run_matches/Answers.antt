@@ -1,8 +1,8 @@
-use Rattle.rclinks_command.proofs.Words.{map, string_bytes, found_of, rows_of, asked_by}
+use Rattle.rclinks_command.proofs.Words.{inl, map, string_bytes, found_of, rows_of, asked_by}
 use Rattle.rclinks_command.proofs.RunLemmas.{retold}
 use Rattle.rclinks_command.proofs.command.run_matches.Goals as goal
 
-pub returns-in-Ok-clause-told : goal.returns-in-Ok-clause-told
-returns-in-Ok-clause-told g c =
+pub returns-clause-told : goal.returns-clause-told
+returns-clause-told g c =
     retold _ (asked_by (rows_of (found_of c.args.matches.now))) _ (map string_bytes c.args.facilities.now) (map string_bytes c.in-Ok.files.items) _ _ _ _ _
-    (rw c.as_slice.ensures.value at c.line_of-line.ensures) c.in-Ok.ensures c.run_line.ensures.told
+    (rw c.as_slice.ensures.value at c.line_of-line.ensures) c.in-Ok.ensures (λ plain is. inl (c.in-Err.ensures.told plain is))
