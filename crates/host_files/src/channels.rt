@@ -1,6 +1,6 @@
 //! The channel of requests, as a file: what was read of it, the lock, and whether another file stands at its path.
 //!
-//! Tested by `tools/pages.d/channel` and `edges`, over real files, and by `test_hosts`. No clause says what a
+//! Tested by `tools/pages.d/channel` and `edges`, over real files, and by `test_turns`. No clause says what a
 //! file has; the clauses bound what is handed on. Its messages are those of `host_messages`.
 
 ghost use Rattle.std.specs.Prelude.{◌≡◌, ◌≤◌, ◌-◌, ◌%◌, length, IfOk};
@@ -18,10 +18,10 @@ use std::fs::{File, Metadata};
 use std::io::{Error, ErrorKind, Read, Seek, SeekFrom};
 use std::os::unix::fs::MetadataExt;
 use std::rt::{Clock, Files};
-use std::time::Duration;
+use std::time::{Duration, Instant};
 use std::{fs, io, thread};
 
-/// After how many microseconds of a pause the channel is looked at.
+/// After how many microseconds of a pause the channel is looked at, and a write that added no byte is over.
 const LOOK: u64 = 40_000;
 
 /// The channel of requests.
@@ -40,6 +40,8 @@ pub struct Channel<A: Allocator> {
     owner: Option<u32>,
     /// When it was last written to, as it was found read to this end: seconds and nanoseconds.
     end: Option<(u64, i64, i64)>,
+    /// Since when each look has found it written to behind that, and no byte longer.
+    changed: Option<Instant>,
     /// That file, open.
     open: Option<File>,
     /// No file stood at the path at the last look.
@@ -78,6 +80,7 @@ impl<A: Allocator + Copy> Channel<A> {
             file: None,
             owner: None,
             end: None,
+            changed: None,
             open: None,
             missing: false,
             heard: 0,
@@ -150,7 +153,7 @@ impl<A: Allocator + Copy> Channel<A> {
     /// shorter than what was read, it was made anew, and is read from its first byte on; where a lock is held, that file's
     /// is taken first, and where another init has it, that is an error. What is no plain file is not opened, since a
     /// FIFO would wait for its writer.
-    pub fn take_bytes<R: Files<File = File> + Eprint>(
+    pub fn take_bytes<R: Files<File = File> + Clock + Eprint>(
         &mut self,
         rt: &R,
         buffer: &mut [u8],
@@ -162,7 +165,7 @@ impl<A: Allocator + Copy> Channel<A> {
         taken
     }
 
-    fn next_bytes<R: Files<File = File> + Eprint>(
+    fn next_bytes<R: Files<File = File> + Clock + Eprint>(
         &mut self,
         rt: &R,
         buffer: &mut [u8],
@@ -195,7 +198,7 @@ impl<A: Allocator + Copy> Channel<A> {
     }
 
     /// The channel has a whole request that was not read.
-    fn has_request<R: Files<File = File> + Eprint>(&mut self, rt: &R) -> io::Result<bool> {
+    fn has_request<R: Files<File = File> + Clock + Eprint>(&mut self, rt: &R) -> io::Result<bool> {
         let found = found_at(rt, self.path.as_str())?;
         if !self.begun {
             self.begin(rt, found.as_ref().map_or(0, Metadata::len));
@@ -232,16 +235,22 @@ impl<A: Allocator + Copy> Channel<A> {
         self.owner = Some(owner);
     }
 
-    /// Notes a channel that was read to its end, and tells that it was written to since, where it has no byte more.
-    fn note_end(&mut self, rt: &impl Eprint, found: &Metadata) {
+    /// Notes a channel that was read to its end, and tells that it was written to since, where it has no byte more and
+    /// stays so: a file that is appended to has its new time for a moment before its new length.
+    fn note_end(&mut self, rt: &(impl Clock + Eprint), found: &Metadata) {
         let end = (found.len(), found.mtime(), found.mtime_nsec());
-        let is_written_over = match &self.end {
-            Some(before) => before.0 == end.0 && *before != end,
-            None => false,
-        };
-        if is_written_over {
+        if matches!(&self.end, Some(before) if before.0 == end.0 && *before != end) {
+            let Some(changed) = self.changed else {
+                self.changed = Instant::now(rt).ok();
+                return;
+            };
+            let settled = Duration::from_micros(LOOK);
+            if !matches!(changed.elapsed(rt), Ok(passed) if passed >= settled) {
+                return;
+            }
             tell_written_over(rt, self.path.as_str());
         }
+        self.changed = None;
         self.end = Some(end);
     }
 
