@@ -8,7 +8,7 @@ ghost use Rattle.host_files.specs.Folders.{IsFaultIn, IsFolderFault, ends_in_tab
 use host_messages::tell_passed;
 use indexmap::IndexSet;
 use init_words::Part;
-use program_io::{read_all, read_file};
+use program_io::{Reason, read_all, read_file};
 use std::alloc::{AllocError, AllocFailed, Allocator, Global};
 use std::hash::{BuildHasherDefault, FoldHasher};
 use std::rt::Files;
@@ -21,7 +21,7 @@ use thiserror::Error;
 #[derive_where(Debug)]
 pub enum FolderFault<A: Allocator = Global> {
     /// The folder of this path could not be listed, or the file of this path not be read.
-    #[error("cannot read {0}: {1}")]
+    #[error("cannot read {0}: {reason}", reason = Reason(.1))]
     Unread(String<A>, io::Error),
     /// Out of memory.
     #[error("out of memory")]
