@@ -4,7 +4,7 @@ ghost use Rattle.std.specs.Prelude.{◌≡◌, ◌∷◌, []};
 
 use crate::noted::{Noted, Reads};
 use host_calls::Call;
-use std::marker::Model;
+use std::marker::{Model, PhantomData};
 
 /// A list of calls, the newest first. None is ever made: it is the type of what is noted.
 pub struct CallList {
@@ -36,34 +36,20 @@ pub fn no_calls() -> Noted<CallList>
     Noted::of::<(), Empty>(&())
 }
 
-/// A call that was made, with what was answered.
-pub(crate) trait Made {
-    ghost use Rattle.host_calls.specs.Calls.{HostCall};
-
-    ghost call: { Self → HostCall };
+/// How the record with the call is read, by how the call is.
+struct ByCall<M> {
+    marker: PhantomData<M>,
 }
 
-/// A record, and a call behind it.
-struct Added<'a, C> {
-    before: &'a Noted<CallList>,
-    call: C,
-}
-
-/// How the record with the call is read.
-struct ByCall;
-
-impl<'a, C: Made> Reads<Added<'a, C>, CallList> for ByCall {
+impl<'a, X, M: Reads<X, Call>> Reads<(&'a Noted<CallList>, X), CallList> for ByCall<M> {
     ghost use Rattle.std.specs.Prelude.{◌∷◌};
 
-    ghost value = { λ added. C.call added.call ∷ added.before.now.value };
+    ghost value = { λ added. M.value added.1 ∷ added.0.now.value };
 }
 
-/// The record with a call added.
-pub(crate) fn with<C: Made + Copy>(before: &Noted<CallList>, call: C) -> Noted<CallList>
-    ensures { result.value ≡ C.call call ∷ before.now.value }
+/// The record with a call added: what it was asked, and what was answered.
+pub(crate) fn with<X: Copy, M: Reads<X, Call>>(before: &Noted<CallList>, call: X) -> Noted<CallList>
+    ensures { result.value ≡ M.value call ∷ before.now.value }
 {
-    let added = Added { before, call };
-    let record = Noted::of::<Added<C>, ByCall>(&added);
-    let Added { before: _, call: _ } = added;
-    record
+    Noted::of::<(&Noted<CallList>, X), ByCall<M>>(&(before, call))
 }

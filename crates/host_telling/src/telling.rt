@@ -86,63 +86,43 @@ impl<H: Host> Host for RecordingHost<H> {
 
     fn start<A: Allocator + Copy>(&mut self, alloc: A, id: Id, command: &[u8]) -> Reply {
         let reply = self.host.start(alloc, id, command);
-        self.calls = with(
-            &self.calls,
-            Start {
-                id: &id,
-                command,
-                reply: &reply,
-            },
-        );
+        self.calls = with::<_, Start>(&self.calls, (&id, command, &reply));
         reply
     }
 
     fn look(&mut self, id: Id) -> Reply {
         let reply = self.host.look(id);
-        self.calls = with(
-            &self.calls,
-            Look {
-                id: &id,
-                reply: &reply,
-            },
-        );
+        self.calls = with::<_, Look>(&self.calls, (&id, &reply));
         reply
     }
 
     fn signal(&mut self, id: Id, signal: SignalKind) -> Reply {
         let reply = self.host.signal(id, signal);
-        self.calls = with(
-            &self.calls,
-            Signal {
-                id: &id,
-                signal,
-                reply: &reply,
-            },
-        );
+        self.calls = with::<_, Signal>(&self.calls, (&id, signal, &reply));
         reply
     }
 
     fn late(&mut self) -> Option<(Id, Answer)> {
         let late = self.host.late();
-        self.calls = with(&self.calls, Late { late: &late });
+        self.calls = with::<_, Late>(&self.calls, &late);
         late
     }
 
     fn clock(&mut self) -> Result<u64, HostFault> {
         let reading = self.host.clock();
-        self.calls = with(&self.calls, Clock { reading });
+        self.calls = with::<_, Clock>(&self.calls, reading);
         reading
     }
 
     fn take_bytes(&mut self, buffer: &mut [u8]) -> Result<usize, HostFault> {
         let taken = self.host.take_bytes(buffer);
-        self.calls = with(&self.calls, TakeBytes { buffer, taken });
+        self.calls = with::<_, TakeBytes>(&self.calls, (&*buffer, taken));
         taken
     }
 
     fn read_tables<A: Allocator + Copy>(&mut self, alloc: A) -> Result<Vec<Part<A>, A>, HostFault> {
         let parts = self.host.read_tables(alloc);
-        self.calls = with(&self.calls, ReadTables { parts: &parts });
+        self.calls = with::<_, ReadTables>(&self.calls, &parts);
         parts
     }
 
@@ -152,18 +132,18 @@ impl<H: Host> Host for RecordingHost<H> {
         text: &[u8],
     ) -> Result<Vec<u8, A>, HostFault> {
         let back = self.host.carry(alloc, text);
-        self.calls = with(&self.calls, Carry { text, back: &back });
+        self.calls = with::<_, Carry>(&self.calls, (text, &back));
         back
     }
 
     fn announce<A: Allocator>(&mut self, happening: &HappeningIn<A>) {
         self.host.announce(happening);
-        self.calls = with(&self.calls, Announce { happening });
+        self.calls = with::<_, Announce>(&self.calls, happening);
     }
 
     fn pause(&mut self) {
         self.host.pause();
-        self.calls = with(&self.calls, Pause);
+        self.calls = with::<_, Pause>(&self.calls, ());
     }
 
     fn faults(&self) -> u64 {

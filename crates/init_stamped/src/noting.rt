@@ -21,46 +21,30 @@ impl<L> Model for StampList<L> {
     ghost view = { λ _. [] };
 }
 
-/// A host and a log.
-struct Both<'a, H, L> {
-    host: &'a H,
-    log: &'a L,
-}
-
 /// How the calls that a host has told before are read: as made with the log as it is.
 struct Before;
 
-impl<'a, H: Host, L> Reads<Both<'a, H, L>, StampList<L>> for Before {
+impl<'a, H: Host, L> Reads<(&'a H, &'a L), StampList<L>> for Before {
     ghost use Rattle.init_stamped.specs.Stamps.{first_stamps};
 
-    ghost value = { λ both. first_stamps (H.told both.host.now) both.log.now };
+    ghost value = { λ both. first_stamps (H.told both.0.now) both.1.now };
 }
 
 /// The calls that a host has told before, as made with the log as it is.
 pub(crate) fn stamps_of<H: Host, L>(host: &H, log: &L) -> Noted<StampList<L>>
     ensures { result.value ≡ first_stamps (H.told host.now) log.now }
 {
-    let both = Both { host, log };
-    let stamps = Noted::of::<Both<H, L>, Before>(&both);
-    let Both { host: _, log: _ } = both;
-    stamps
+    Noted::of::<(&H, &L), Before>(&(host, log))
 }
 
-/// A record, and a host that has told a call more.
-struct Added<'a, H, L> {
-    before: &'a Noted<StampList<L>>,
-    host: &'a H,
-    log: &'a L,
-}
-
-/// How the record with that call is read.
+/// How a record with the newest call of a host that has told one more is read.
 struct ByCall;
 
-impl<'a, H: Host, L> Reads<Added<'a, H, L>, StampList<L>> for ByCall {
+impl<'a, H: Host, L> Reads<(&'a Noted<StampList<L>>, &'a H, &'a L), StampList<L>> for ByCall {
     ghost use Rattle.init_stamped.specs.Stamps.{newest_stamped};
 
     ghost value = { λ added.
-        newest_stamped (H.told added.host.now) added.log.now added.before.now.value };
+        newest_stamped (H.told added.1.now) added.2.now added.0.now.value };
 }
 
 /// The record with the newest call of the host added, as made with the log as it is.
@@ -71,12 +55,5 @@ pub(crate) fn with<H: Host, L>(
 ) -> Noted<StampList<L>>
     ensures { result.value ≡ newest_stamped (H.told host.now) log.now before.now.value }
 {
-    let added = Added { before, host, log };
-    let stamps = Noted::of::<Added<H, L>, ByCall>(&added);
-    let Added {
-        before: _,
-        host: _,
-        log: _,
-    } = added;
-    stamps
+    Noted::of::<(&Noted<StampList<L>>, &H, &L), ByCall>(&(before, host, log))
 }
