@@ -35,27 +35,21 @@ impl<A: Allocator + Copy> Bell<A> {
         program: &'static str,
         channel: &str,
     ) -> Result<Box<Bell<A>, A>, AllocError> {
-        let path = format!(in alloc; "{channel}.bell")?;
-        boxed(alloc, Bell::unheard(program, path))
-    }
-
-    fn unheard(program: &'static str, path: String<A>) -> Bell<A> {
-        Bell {
-            path,
+        let bell = Bell {
+            path: format!(in alloc; "{channel}.bell")?,
             open: None,
             file: None,
             hearing: Trouble::new(program, "hear", "heard"),
+        };
+        boxed(alloc, bell)
+    }
+
+    /// Its path, where nothing stands there.
+    pub(crate) fn missing_path<R: Files>(&self, rt: &R) -> Option<&str> {
+        match found_at(rt, self.path.as_str()) {
+            Ok(None) => Some(self.path.as_str()),
+            _ => None,
         }
-    }
-
-    /// Its path.
-    pub(crate) fn path(&self) -> &str {
-        self.path.as_str()
-    }
-
-    /// Nothing stands at its path.
-    pub(crate) fn is_missing<R: Files>(&self, rt: &R) -> bool {
-        matches!(found_at(rt, self.path.as_str()), Ok(None))
     }
 
     /// Waits for so many microseconds, or until the bell is rung. Gives whether it did: it doesn't where there is no bell,
@@ -107,14 +101,12 @@ fn found_at<R: Files>(rt: &R, path: &str) -> io::Result<Option<Metadata>> {
     match fs::metadata(rt, path) {
         Ok(found) if found.file_type().is_fifo() => Ok(Some(found)),
         Ok(_) => Err(Error::new(ErrorKind::InvalidInput, "it is no FIFO")),
-        Err(error) if is_nowhere(&error) => Ok(None),
-        Err(error) => Err(error),
+        Err(error) => match error.kind() {
+            // Where the channel has no folder, that is told as the channel's fault.
+            ErrorKind::NotFound | ErrorKind::NotADirectory => Ok(None),
+            _ => Err(error),
+        },
     }
-}
-
-/// Nothing can stand at the path: the channel, whose fault is told, has no folder.
-fn is_nowhere(error: &Error) -> bool {
-    matches!(error.kind(), ErrorKind::NotFound | ErrorKind::NotADirectory)
 }
 
 /// Waits for so many milliseconds, or until the FIFO has a byte, and takes what is there.

@@ -3,8 +3,7 @@
 //! Tested by `tools/pages.d/channel` and `edges`, over real files, and by `test_turns`. No clause says what a
 //! file has; the clauses bound what is handed on. Its messages are those of `host_messages`.
 
-ghost use Rattle.std.specs.Prelude.{◌≡◌, ◌≤◌, ◌-◌, ◌%◌, length, IfOk};
-ghost use Rattle.program_io.specs.declared.channel_files.TheConstants.{REQUEST};
+ghost use Rattle.std.specs.Prelude.{◌≤◌, length, IfOk};
 
 use crate::bells::Bell;
 use crate::boxes::boxed;
@@ -60,21 +59,18 @@ pub struct Channel<A: Allocator> {
 }
 
 impl<A: Allocator + Copy> Channel<A> {
-    /// The channel at this path, with nothing taken.
+    /// The channel at this path, with nothing taken, and whether its first reading begins behind the whole requests that
+    /// stand there then.
     pub fn new(
         alloc: A,
         program: &'static str,
         path: &str,
+        fresh: bool,
     ) -> Result<Box<Channel<A>, A>, AllocError> {
         let bell = Bell::new(alloc, program, path)?;
-        let path = String::from_str(alloc, path)?;
-        boxed(alloc, Channel::unread(program, path, bell))
-    }
-
-    fn unread(program: &'static str, path: String<A>, bell: Box<Bell<A>, A>) -> Channel<A> {
-        Channel {
-            path,
-            fresh: false,
+        let channel = Channel {
+            path: String::from_str(alloc, path)?,
+            fresh,
             begun: false,
             lock: None,
             file: None,
@@ -91,17 +87,13 @@ impl<A: Allocator + Copy> Channel<A> {
             torn: 0,
             told_torn: false,
             bell,
-        }
+        };
+        boxed(alloc, channel)
     }
 
-    /// The path of its bell.
-    pub fn bell_path(&self) -> &str {
-        self.bell.path()
-    }
-
-    /// Nothing stands at the path of its bell.
-    pub fn lacks_bell<R: Files>(&self, rt: &R) -> bool {
-        self.bell.is_missing(rt)
+    /// The path of its bell, where nothing stands there.
+    pub fn missing_bell<R: Files>(&self, rt: &R) -> Option<&str> {
+        self.bell.missing_path(rt)
     }
 
     /// Sleeps for so many microseconds, or until the bell is rung; where there is none, until the channel has news,
@@ -117,11 +109,6 @@ impl<A: Allocator + Copy> Channel<A> {
             }
         }
         thread::sleep(rt, Duration::from_micros(length % LOOK));
-    }
-
-    /// Its first reading will begin behind the whole requests that stand there then.
-    pub fn pass_over_old(&mut self) {
-        self.fresh = true;
     }
 
     /// It holds the lock of the file at its path, and takes that of each other file that comes to stand there.
@@ -143,7 +130,7 @@ impl<A: Allocator + Copy> Channel<A> {
             }
         }
         match found_at(rt, self.path.as_str()) {
-            Ok(Some(found)) => self.is_anew(&found) || self.is_whole(&found),
+            Ok(Some(found)) => self.is_anew(&found) || self.is_request_behind(found.len()),
             _ => false,
         }
     }
@@ -181,20 +168,15 @@ impl<A: Allocator + Copy> Channel<A> {
             channel.read_exact(&mut self.request)?;
             self.heard = self.heard.saturating_add(REQUEST as u64);
             self.handed = 0;
-            self.tell_passed(rt);
+            if let HeardRequest::Nothing(cause) = decode(&self.request) {
+                let number = self.heard / REQUEST as u64;
+                self.passed_over.tell(rt, self.path.as_str(), number, cause);
+            }
         }
         let mut rest = self.request.get(self.handed..).unwrap_or(&[]);
         let taken = rest.read(buffer)?;
         self.handed = self.handed.saturating_add(taken);
         Ok(taken)
-    }
-
-    /// Tells why init passes over the request that was read last, where it does.
-    fn tell_passed(&mut self, rt: &impl Eprint) {
-        if let HeardRequest::Nothing(cause) = decode(&self.request) {
-            let number = self.heard / REQUEST as u64;
-            self.passed_over.tell(rt, self.path.as_str(), number, cause);
-        }
     }
 
     /// The channel has a whole request that was not read.
@@ -218,7 +200,7 @@ impl<A: Allocator + Copy> Channel<A> {
         self.note_owner(rt, found.uid());
         self.keep_open(rt, &found);
         self.missing = false;
-        let is_whole = self.is_whole(&found);
+        let is_whole = self.is_request_behind(found.len());
         if !is_whole {
             self.note_end(rt, &found);
             self.tell_torn(rt, found.len());
@@ -228,11 +210,10 @@ impl<A: Allocator + Copy> Channel<A> {
 
     /// Tells that the channel is of another user than before.
     fn note_owner(&mut self, rt: &impl Eprint, owner: u32) {
-        let before = self.owner.unwrap_or(owner);
+        let before = self.owner.replace(owner).unwrap_or(owner);
         if before != owner {
             tell_other_owner(rt, self.path.as_str(), before, owner);
         }
-        self.owner = Some(owner);
     }
 
     /// Notes a channel that was read to its end, and tells that it was written to since, where it has no byte more and
@@ -267,11 +248,6 @@ impl<A: Allocator + Copy> Channel<A> {
         Ok(())
     }
 
-    /// A file that was found has a whole request that was not read.
-    fn is_whole(&self, found: &Metadata) -> bool {
-        self.is_request_behind(found.len())
-    }
-
     /// A channel of this length has a whole request that was not read.
     fn is_request_behind(&self, length: u64) -> bool {
         length.saturating_sub(self.heard) >= REQUEST as u64
@@ -302,7 +278,7 @@ impl<A: Allocator + Copy> Channel<A> {
             tell_old(rt, self.path.as_str(), length, self.fresh);
         }
         if self.fresh {
-            self.go_to(whole_requests(length));
+            self.go_to(length - length % REQUEST as u64);
         }
     }
 
@@ -330,13 +306,6 @@ impl<A: Allocator + Copy> Channel<A> {
         }
         self.torn = length;
     }
-}
-
-/// How many of so many bytes are those of whole requests.
-fn whole_requests(length: u64) -> u64
-    ensures { result ≡ length - length % REQUEST }
-{
-    length - length % REQUEST as u64
 }
 
 /// The device and the number of a file.

@@ -1,9 +1,9 @@
 //! The files of an inittab's folder.
 
-ghost use Rattle.std.specs.Prelude.{◌≡◌, ◌<◌, ◌++◌, ◌∷◌, [], List, codes, length, string_bytes, option_map, None, IfOk, IfErr, IfSome, OnOk};
+ghost use Rattle.std.specs.Prelude.{◌≡◌, ◌++◌, ◌∷◌, [], List, codes, string_bytes, option_map, None, IfOk, IfErr};
 ghost use Rattle.std.specs.List.{list_all};
 ghost use Rattle.init_words.specs.Parts.{NamedText};
-ghost use Rattle.host_files.specs.Folders.{IsFaultIn, IsFolderFault, ends_in_tab, is_hidden, is_name_byte, is_part_name};
+ghost use Rattle.host_files.specs.Folders.{IsFaultIn, IsFolderFault, is_hidden, is_name_byte, is_part_name};
 
 use host_messages::tell_passed;
 use indexmap::IndexSet;
@@ -13,7 +13,6 @@ use std::alloc::{AllocError, AllocFailed, Allocator, Global};
 use std::hash::{BuildHasherDefault, FoldHasher};
 use std::rt::Files;
 use std::{io, str};
-use text_lines::cut;
 use thiserror::Error;
 
 /// Why the files of a folder were not read.
@@ -50,14 +49,6 @@ impl<T: Drop, A: Allocator> From<AllocFailed<T>> for FolderFault<A> {
     }
 }
 
-/// The file's name is that of a part of an inittab: bytes of A-Z a-z 0-9 . _ - that end in `.tab` and don't begin with
-/// a point.
-fn is_part_name(name: &[u8]) -> bool
-    ensures { result ≡ is_part_name name.now }
-{
-    !is_hidden(name) && are_name_bytes(name) && ends_in_tab(name)
-}
-
 /// The name begins with a point.
 pub fn is_hidden(name: &[u8]) -> bool
     ensures { result ≡ is_hidden name.now }
@@ -68,10 +59,12 @@ pub fn is_hidden(name: &[u8]) -> bool
     }
 }
 
-fn ends_in_tab(name: &[u8]) -> bool
-    ensures { result ≡ ends_in_tab name.now }
+/// The file's name is that of a part of an inittab: bytes of A-Z a-z 0-9 . _ - that end in `.tab` and don't begin with
+/// a point.
+fn is_part_name(name: &[u8]) -> bool
+    ensures { result ≡ is_part_name name.now }
 {
-    name.ends_with(b".tab")
+    !is_hidden(name) && are_name_bytes(name) && name.ends_with(b".tab")
 }
 
 fn are_name_bytes(name: &[u8]) -> bool
@@ -128,10 +121,8 @@ impl<A: Allocator + Copy> PassedNames<A> {
         let Ok(list) = listed(rt, self.alloc, folder) else {
             return;
         };
-        let mut rest: &[u8] = &list;
-        while let Some((name, more)) = next_name(rest) {
+        for name in list.split(|byte| *byte == 0) {
             self.note(name);
-            rest = more;
         }
     }
 
@@ -143,35 +134,12 @@ impl<A: Allocator + Copy> PassedNames<A> {
         !matches!(self.told.insert(name), Ok(false))
     }
 
-    /// Tells of a name that is passed over, where it is asked for and was not told.
+    /// Tells of a name that is passed over, where it is one, it is asked for and was not told.
     fn tell(&mut self, rt: &impl Eprint, folder: &str, name: &[u8]) {
-        if self.is_asked && self.note(name) {
+        if self.is_asked && !name.is_empty() && self.note(name) {
             tell_passed(rt, folder, name);
         }
     }
-}
-
-/// The first of a list of names, each with a NUL behind it, and the list after it; None where there is none.
-fn next_name(list: &[u8]) -> Option<(&[u8], &[u8])>
-    ensures shorter { IfSome result (λ parts. length parts.1.now < length list.now) }
-{
-    cut(0, list)
-}
-
-/// Adds the name, where it is that of a part; any other is passed over.
-fn add_name<R: Eprint, A: Allocator + Copy, B: Allocator + Copy>(
-    rt: &R,
-    alloc: A,
-    folder: &str,
-    name: &[u8],
-    passed: &mut PassedNames<B>,
-    names: &mut Vec<String<A>, A>,
-) -> Result<(), AllocError> {
-    match str::from_utf8(name) {
-        Ok(text) if is_part_name(name) => names.push(String::from_str(alloc, text)?)?,
-        _ => passed.tell(rt, folder, name),
-    }
-    Ok(())
 }
 
 /// The names in a list of names that are those of parts, in byte order. The others are passed over.
@@ -183,10 +151,11 @@ fn part_names<R: Eprint, A: Allocator + Copy, B: Allocator + Copy>(
     passed: &mut PassedNames<B>,
 ) -> Result<Vec<String<A>, A>, AllocError> {
     let mut names = Vec::new(alloc);
-    let mut rest = list;
-    while let Some((name, more)) = next_name(rest) {
-        add_name(rt, alloc, folder, name, passed, &mut names)?;
-        rest = more;
+    for name in list.split(|byte| *byte == 0) {
+        match str::from_utf8(name) {
+            Ok(text) if is_part_name(name) => names.push(String::from_str(alloc, text)?)?,
+            _ => passed.tell(rt, folder, name),
+        }
     }
     names.sort_unstable();
     Ok(names)
@@ -223,24 +192,6 @@ fn names_in<R: Files + Eprint, A: Allocator + Copy, B: Allocator + Copy>(
     }
 }
 
-/// Adds the parts in a folder, by the order of their names.
-fn add_parts<R: Files + Eprint, A: Allocator + Copy, B: Allocator + Copy>(
-    rt: &R,
-    alloc: A,
-    folder: &str,
-    passed: &mut PassedNames<B>,
-    parts: &mut Vec<Part<A>, A>,
-) -> Result<(), FolderFault<A>>
-    ensures parts { OnOk result ((more : List NamedText)
-        × (parts.new.items ≡ parts.old.items ++ more)) }
-    ensures err { IfErr result (IsFaultIn folder.now) }
-{
-    for name in names_in(rt, alloc, folder, passed)? {
-        parts.push(part_in(rt, alloc, folder, name)?)?;
-    }
-    Ok(())
-}
-
 /// The parts of an inittab: its own file, and after it the files of a folder, where there is one, by the order of
 /// their names. Those files count whose names end in `.tab`, don't begin with a point, and have only bytes of A-Z a-z
 /// 0-9 . _ -. The others are passed over.
@@ -258,7 +209,9 @@ pub fn with_folder<R: Files + Eprint, A: Allocator + Copy, B: Allocator + Copy>(
     let mut parts = Vec::new(alloc);
     parts.push(own)?;
     if let Some(folder) = folder {
-        add_parts(rt, alloc, folder, passed, &mut parts)?;
+        for name in names_in(rt, alloc, folder, passed)? {
+            parts.push(part_in(rt, alloc, folder, name)?)?;
+        }
     }
     Ok(parts)
 }

@@ -30,24 +30,18 @@ impl<A: Allocator + Copy> InittabFiles<A> {
         path: &str,
         folder: Option<&str>,
     ) -> Result<Box<InittabFiles<A>, A>, AllocError> {
-        let path = String::from_str(alloc, path)?;
-        let folder = path_copy(alloc, folder)?;
-        boxed(alloc, InittabFiles::unread(alloc, program, path, folder))
-    }
-
-    fn unread(
-        alloc: A,
-        program: &'static str,
-        path: String<A>,
-        folder: Option<String<A>>,
-    ) -> InittabFiles<A> {
-        InittabFiles {
-            path,
+        let folder = match folder {
+            Some(folder) => Some(String::from_str(alloc, folder)?),
+            None => None,
+        };
+        let files = InittabFiles {
+            path: String::from_str(alloc, path)?,
             reading: Trouble::new(program, "read", "read"),
             folder,
             listing: Trouble::new(program, "read", "read"),
             passed: PassedNames::new(alloc, false),
-        }
+        };
+        boxed(alloc, files)
     }
 
     /// The path of the inittab's own file.
@@ -57,8 +51,8 @@ impl<A: Allocator + Copy> InittabFiles<A> {
 
     /// From now on files that come to stand in the folder and are passed over are told.
     pub fn tell_all<R: Files>(&mut self, rt: &R) {
-        if let Some(folder) = path_in(&self.folder) {
-            self.passed.tell_further(rt, folder);
+        if let Some(folder) = &self.folder {
+            self.passed.tell_further(rt, folder.as_str());
         }
     }
 
@@ -71,7 +65,19 @@ impl<A: Allocator + Copy> InittabFiles<A> {
         let text = read_file(rt, alloc, self.path.as_str());
         self.reading.tell(rt, self.path.as_str(), &text);
         let name = String::from_str(alloc, self.path.as_str())?;
-        self.with_folder(rt, alloc, Part { name, bytes: text? })
+        let own = Part { name, bytes: text? };
+        let folder = self.folder.as_ref().map(String::as_str);
+        match with_folder(rt, alloc, own, folder, &mut self.passed) {
+            Ok(parts) => {
+                self.listing.tell_over(rt, folder.unwrap_or(""));
+                Ok(parts)
+            }
+            Err(FolderFault::Unread(path, error)) => {
+                self.listing.tell_begun(rt, path.as_str(), &error);
+                Err(error)
+            }
+            Err(FolderFault::Memory) => Err(Error::from(ErrorKind::OutOfMemory)),
+        }
     }
 
     /// Says why the parts have no table.
@@ -85,43 +91,5 @@ impl<A: Allocator + Copy> InittabFiles<A> {
                     .tell_begun(rt, path, &Error::from(ErrorKind::OutOfMemory));
             }
         }
-    }
-
-    /// The part, and those of the folder.
-    fn with_folder<R: Files + Eprint, B: Allocator + Copy>(
-        &mut self,
-        rt: &R,
-        alloc: B,
-        own: Part<B>,
-    ) -> io::Result<Vec<Part<B>, B>> {
-        let folder = path_in(&self.folder);
-        let outcome = with_folder(rt, alloc, own, folder, &mut self.passed);
-        match outcome {
-            Ok(parts) => {
-                self.listing.tell_over(rt, folder.unwrap_or(""));
-                Ok(parts)
-            }
-            Err(FolderFault::Unread(path, error)) => {
-                self.listing.tell_begun(rt, path.as_str(), &error);
-                Err(error)
-            }
-            Err(FolderFault::Memory) => Err(Error::from(ErrorKind::OutOfMemory)),
-        }
-    }
-}
-
-/// The path, where there is one.
-fn path_in<A: Allocator>(path: &Option<String<A>>) -> Option<&str> {
-    match path {
-        Some(path) => Some(path.as_str()),
-        None => None,
-    }
-}
-
-/// A copy of a path, where there is one.
-fn path_copy<A: Allocator>(alloc: A, path: Option<&str>) -> Result<Option<String<A>>, AllocError> {
-    match path {
-        Some(path) => Ok(Some(String::from_str(alloc, path)?)),
-        None => Ok(None),
     }
 }

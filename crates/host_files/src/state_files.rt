@@ -21,35 +21,20 @@ pub struct StateFile<A: Allocator> {
 }
 
 impl<A: Allocator + Copy> StateFile<A> {
-    /// The file at this path.
+    /// The file at this path, and one that no text replaces.
     pub fn new(
         alloc: A,
         program: &'static str,
         path: &str,
+        spared: &str,
     ) -> Result<Box<StateFile<A>, A>, AllocError> {
-        let beside = format!(in alloc; "{path}.new")?;
-        let path = String::from_str(alloc, path)?;
-        boxed(alloc, StateFile::unwritten(alloc, program, path, beside))
-    }
-
-    fn unwritten(
-        alloc: A,
-        program: &'static str,
-        path: String<A>,
-        beside: String<A>,
-    ) -> StateFile<A> {
-        StateFile {
-            path,
-            beside,
-            spared: String::new(alloc),
+        let state = StateFile {
+            path: String::from_str(alloc, path)?,
+            beside: format!(in alloc; "{path}.new")?,
+            spared: String::from_str(alloc, spared)?,
             carrying: Trouble::new(program, "write and read back", "written and read back"),
-        }
-    }
-
-    /// From now on no text replaces the file at this path.
-    pub fn spare(&mut self, alloc: A, path: &str) -> Result<(), AllocError> {
-        self.spared = String::from_str(alloc, path)?;
-        Ok(())
+        };
+        boxed(alloc, state)
     }
 
     /// Why no text can be put in its place as things stand, which is told: something else than a plain file stands
@@ -73,7 +58,13 @@ impl<A: Allocator + Copy> StateFile<A> {
 
     /// Refuses a link, what is no plain file, and another file of the run.
     fn refuse<R: Files>(&self, rt: &R, path: &str, inittab: &str, channel: &str) -> io::Result<()> {
-        refuse_other(rt, path)?;
+        match fs::symlink_metadata(rt, path) {
+            Ok(found) if found.is_symlink() => {
+                return Err(refusal("it is a link: name the file that it leads to"));
+            }
+            Ok(found) if !found.is_file() => return Err(refusal("it is no plain file")),
+            _ => {}
+        }
         if are_one_file(rt, path, inittab)
             || are_one_file(rt, path, channel)
             || are_one_file(rt, path, self.spared.as_str())
@@ -107,17 +98,6 @@ impl<A: Allocator + Copy> StateFile<A> {
         write_whole(rt, self.beside.as_str(), text)?;
         fs::rename(rt, self.beside.as_str(), self.path.as_str())?;
         read_file(rt, alloc, self.path.as_str())
-    }
-}
-
-/// Refuses a link, and what is no plain file.
-fn refuse_other<R: Files>(rt: &R, path: &str) -> io::Result<()> {
-    match fs::symlink_metadata(rt, path) {
-        Ok(found) if found.is_symlink() => {
-            Err(refusal("it is a link: name the file that it leads to"))
-        }
-        Ok(found) if !found.is_file() => Err(refusal("it is no plain file")),
-        _ => Ok(()),
     }
 }
 

@@ -1,5 +1,5 @@
--- Why a reading of the inittab costs a child, as it is told behind its id.
-use Rattle.std.specs.Prelude.{ℕ, Bool, true, false, List, codes, Option, Some, None, if◌then◌else◌}
+-- Why a reading of the inittab costs a child.
+use Rattle.std.specs.Prelude.{ℕ, Bool, true, false, Option, Some, None, if◌then◌else◌}
 use Rattle.init_words.specs.declared.entries.Entry.{Entry}
 use Rattle.init_words.specs.declared.stages.Stage.{Stage}
 use Rattle.init_words.specs.declared.actions.Act.{Act}
@@ -23,9 +23,3 @@ abbrev pub is_cost : ChildLine → Bool → Bool
 is_cost line.Gone same = true
 is_cost line.Off same = true
 is_cost _ same = same
-
-abbrev pub cost_text : ChildLine → List ℕ
-cost_text line.Gone = codes "no line any more"
-cost_text line.Off = codes "its line is off"
-cost_text line.Here = codes "its line has another action"
-cost_text line.Elsewhere = codes "its line does not run in this level"

@@ -1,5 +1,3 @@
 pub mod Announced
 pub mod Costs
 pub mod LineFaults
-pub mod ChildMessages
-pub mod OldRequests

@@ -1,11 +1,32 @@
 //! What is said of the channel of requests.
 
-use crate::old_requests::OldRequests;
+use initctl_frame::Cause;
+use program_io::REQUEST;
 
 /// Says what becomes of the bytes that stand in a channel before its first reading.
 pub fn tell_old(rt: &impl Eprint, path: &str, length: u64, fresh: bool) {
-    let old = OldRequests::of(length, fresh);
-    let _ = eprintln!(rt; "initd: {path} has {old}");
+    let requests = length / REQUEST as u64;
+    let over = length % REQUEST as u64;
+    let (s, they) = match requests {
+        1 => ("", "it is"),
+        _ => ("s", "they are"),
+    };
+    let fate = if fresh {
+        "passed over, as --fresh says"
+    } else {
+        "carried out; remove it, or give --fresh, to begin without"
+    };
+    let _ = match (requests, over) {
+        (0, _) => eprintln!(rt;
+            "initd: {path} has {over} bytes of a request from before: the next request begins with them; remove it to begin without"
+        ),
+        (_, 0) => eprintln!(rt;
+            "initd: {path} has {requests} request{s} from before: {they} {fate}"
+        ),
+        _ => eprintln!(rt;
+            "initd: {path} has {requests} request{s} and {over} bytes of another from before: {they} {fate}"
+        ),
+    };
 }
 
 /// Says that the channel is another file than before, or shorter than what was read.
@@ -32,4 +53,41 @@ pub fn tell_torn(rt: &impl Eprint, path: &str, over: u64) {
     let _ = eprintln!(rt;
         "initd: {path} has {over} bytes that are no whole request: every later request is out of step; truncate -s /384 {path}, or remove it"
     );
+}
+
+/// How many requests are told of one by one.
+const TOLD_LIMIT: u32 = 10;
+
+/// How many requests that init passes over were told.
+#[derive(Drop)]
+pub struct PassedOver {
+    told: u32,
+}
+
+impl PassedOver {
+    /// None was told.
+    pub fn new() -> PassedOver {
+        PassedOver { told: 0 }
+    }
+
+    /// Tells on standard error why init passes over the channel's request of this number, the first being 1.
+    pub fn tell(&mut self, rt: &impl Eprint, path: &str, number: u64, cause: Cause) {
+        if self.told < TOLD_LIMIT {
+            let why = cause_text(cause);
+            let _ = eprintln!(rt; "initd: {path}: request {number} {why}: passed over");
+        } else if self.told == TOLD_LIMIT {
+            let _ = eprintln!(rt; "initd: {path}: and more: not told any more");
+        }
+        self.told = self.told.saturating_add(1);
+    }
+}
+
+/// What a request has for which it is passed over (initreq.h).
+fn cause_text(cause: Cause) -> &'static str {
+    match cause {
+        Cause::Magic => "has no magic number",
+        Cause::Unknown => "has an unknown command",
+        Cause::LeftOut => "has a command that init leaves out",
+        Cause::Character => "has no character of telinit",
+    }
 }

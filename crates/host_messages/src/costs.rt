@@ -41,11 +41,6 @@ impl ChildLine {
 }
 
 impl fmt::Display for ChildLine {
-    ghost use Rattle.std.specs.Prelude.{Some};
-    ghost use Rattle.host_messages.specs.Costs.{cost_text};
-
-    ghost output = { λ line. Some (cost_text line) };
-
     fn fmt<W: fmt::Write>(&self, f: &mut fmt::Formatter<W>) -> fmt::Result {
         f.write_str(match self {
             ChildLine::Gone => "no line any more",

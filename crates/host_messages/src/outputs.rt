@@ -35,11 +35,7 @@ impl<A: Allocator + Copy> Output<A> {
         rt: &R,
         happening: &HappeningIn<B>,
     ) -> bool {
-        let said = match announcement_text(self.alloc, happening) {
-            Ok(text) => rt.write_all(text.as_slice()).map(|()| text.len()),
-            Err(_) => Err(io::Error::from(ErrorKind::OutOfMemory)),
-        };
-        self.tell(rt, &said)
+        self.print(rt, announcement_text(self.alloc, happening))
     }
 
     /// Prints the faults of the lines of an inittab's parts. Gives whether it could, which is told.
@@ -49,11 +45,7 @@ impl<A: Allocator + Copy> Output<A> {
         parts: &[Part<B>],
         faults: &[PartFault],
     ) -> bool {
-        let told = match faults_text(self.alloc, parts, faults) {
-            Ok(text) => rt.write_all(text.as_slice()).map(|()| text.len()),
-            Err(_) => Err(io::Error::from(ErrorKind::OutOfMemory)),
-        };
-        self.tell(rt, &told)
+        self.print(rt, faults_text(self.alloc, parts, faults))
     }
 
     /// All could be printed that was to be.
@@ -61,10 +53,14 @@ impl<A: Allocator + Copy> Output<A> {
         !self.lost
     }
 
-    /// Tells whether so many bytes could be printed, where there were any.
-    fn tell(&mut self, rt: &impl Eprint, printed: &io::Result<usize>) -> bool {
+    /// Prints a text, and tells whether it could, where the text has a byte.
+    fn print<R: Print + Eprint, E: Drop>(&mut self, rt: &R, text: Result<Vec<u8, A>, E>) -> bool {
+        let printed = match text {
+            Ok(text) => rt.write_all(text.as_slice()).map(|()| text.len()),
+            Err(_) => Err(io::Error::from(ErrorKind::OutOfMemory)),
+        };
         if !matches!(printed, Ok(0)) {
-            self.saying.tell(rt, "standard output", printed);
+            self.saying.tell(rt, "standard output", &printed);
         }
         self.lost |= printed.is_err();
         printed.is_ok()

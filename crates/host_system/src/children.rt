@@ -7,6 +7,7 @@ ghost use Rattle.host_system.specs.Hosts.{is_look_answer, is_signal_answer};
 
 use crate::commands::{BoxedCommand, command_of, needs_shell};
 use crate::held::HeldChild;
+use crate::host_options::HostOptions;
 use crate::logs::Logs;
 use crate::terms::{TermSender, check_sending};
 use host_files::boxed;
@@ -50,33 +51,25 @@ impl<R: Processes, A: Allocator> Model for Children<R, A> {
 }
 
 impl<R: Processes, A: Allocator + Copy> Children<R, A> {
-    /// No children.
-    pub(crate) fn new(alloc: A, program: &'static str) -> Result<Box<Children<R, A>, A>, AllocError>
+    /// No children. The options say what is told of them, and where their output goes.
+    pub(crate) fn new(alloc: A, options: &HostOptions) -> Result<Box<Children<R, A>, A>, Memory>
         ensures { IfOk result (λ children. children.value ≡ []) }
     {
-        boxed(alloc, Children::none(alloc, program))
-    }
-
-    fn none(alloc: A, program: &'static str) -> Children<R, A>
-        ensures { result ≡ [] }
-    {
-        Children {
+        let logs = match options.logs {
+            Some(folder) => Some(Logs::new(alloc, folder)?),
+            None => None,
+        };
+        let children = Children {
             alloc,
-            program,
+            program: options.program,
             handles: IndexMap::new(alloc),
             terms: TermSender::new(),
             stage: None,
             read_in: None,
-            messages: ChildMessages::new(alloc, program),
-            logs: None,
-        }
-    }
-
-    /// From now on it is told on standard error what children do. It takes no memory.
-    pub(crate) fn set_verbose(&mut self)
-        ensures { self.new ≡ self.old }
-    {
-        self.messages.set_verbose();
+            messages: ChildMessages::new(alloc, options.program, options.verbose),
+            logs,
+        };
+        Ok(boxed(alloc, children)?)
     }
 
     /// Says on standard error where none can be sent TERM.
@@ -91,14 +84,6 @@ impl<R: Processes, A: Allocator + Copy> Children<R, A> {
                 Reason(&error)
             );
         }
-    }
-
-    /// From now on the output of the children that are started goes to logs in this folder.
-    pub(crate) fn log_to(&mut self, folder: &str) -> Result<(), Memory>
-        ensures { self.new ≡ self.old }
-    {
-        self.logs = Some(Logs::new(self.alloc, folder)?);
-        Ok(())
     }
 
     /// Starts a child for an id that has none, and gives its number.
@@ -273,54 +258,16 @@ impl<R: Processes, A: Allocator + Copy> Children<R, A> {
         ensures kind { IsTrue (is_signal_answer result) }
         ensures held { Signals self.old self.new id.now (Now result) }
     {
-        let sent = match signal {
-            SignalKind::Term => self.term(rt, id),
-            SignalKind::Kill => self.kill(id),
-        };
-        if !sent {
-            return Answer::Miss;
-        }
-        self.tell_cost(rt, id);
-        self.messages.tell_sent(rt, id, signal);
-        Answer::Hit
-    }
-
-    /// Says on standard error, once, that the id's child, which is sent a signal, is the cost of an inittab that was
-    /// read again.
-    fn tell_cost(&mut self, rt: &R, id: &Id)
-    where
-        R: Eprint,
-        ensures { self.new ≡ self.old }
-    {
         let is_same_stage = self.stage == self.read_in;
         let Some(held) = self.handles.get_mut(id) else {
-            return;
+            return Answer::Miss;
         };
+        if !held.send(rt, self.alloc, &mut self.terms, id, signal) {
+            return Answer::Miss;
+        }
         held.tell_cost(rt, &self.messages, id, is_same_stage);
-    }
-
-    fn term(&mut self, rt: &R, id: &Id) -> bool
-    where
-        R: Eprint,
-        ensures held { result ≡ true → IsTrue (holds_child id.now self.old) }
-        ensures same { self.new ≡ self.old }
-    {
-        let Some(held) = self.handles.get_mut(id) else {
-            return false;
-        };
-        let sent = self.terms.send(rt, self.alloc, held.number().0);
-        held.tell_sent(rt, id, &sent);
-        sent.is_ok()
-    }
-
-    fn kill(&mut self, id: &Id) -> bool
-        ensures held { result ≡ true → IsTrue (holds_child id.now self.old) }
-        ensures same { self.new ≡ self.old }
-    {
-        let Some(held) = self.handles.get_mut(id) else {
-            return false;
-        };
-        held.kill().is_ok()
+        self.messages.tell_sent(rt, id, signal);
+        Answer::Hit
     }
 }
 

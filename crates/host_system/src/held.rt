@@ -2,12 +2,13 @@
 
 ghost use Rattle.std.specs.Prelude.{◌≡◌};
 
+use crate::terms::TermSender;
 use host_messages::{ChildLine, ChildMessages, Trouble, shown};
-use init_words::{ChildNumber, Id};
+use init_words::{ChildNumber, Id, SignalKind};
 use std::alloc::Allocator;
 use std::io;
 use std::marker::Model;
-use std::process::{Child, ExitStatus, OpenProcess};
+use std::process::{Child, ExitStatus, OpenProcess, Processes};
 
 /// A child with the number that it was born with, and whether TERM could be sent to it.
 #[derive(Drop)]
@@ -52,18 +53,26 @@ impl<P: OpenProcess + Drop> HeldChild<P> {
         self.child.try_wait()
     }
 
-    /// Sends it KILL (kill(2)).
-    pub(crate) fn kill(&mut self) -> io::Result<()>
+    /// Sends it the signal, and gives whether that was done: TERM by the shell, of which it is told what fails, and KILL
+    /// by kill(2).
+    pub(crate) fn send<R: Processes<Started = P> + Eprint, A: Allocator + Copy>(
+        &mut self,
+        rt: &R,
+        alloc: A,
+        terms: &mut TermSender<P>,
+        id: &Id,
+        signal: SignalKind,
+    ) -> bool
         ensures { self.new ≡ self.old }
     {
-        self.child.kill()
-    }
-
-    /// Tells whether TERM was sent.
-    pub(crate) fn tell_sent(&mut self, rt: &impl Eprint, id: &Id, sent: &io::Result<()>)
-        ensures { self.new ≡ self.old }
-    {
-        self.stopping.tell(rt, shown(id.as_bytes()), sent);
+        match signal {
+            SignalKind::Term => {
+                let sent = terms.send(rt, alloc, self.number.0);
+                self.stopping.tell(rt, shown(id.as_bytes()), &sent);
+                sent.is_ok()
+            }
+            SignalKind::Kill => self.child.kill().is_ok(),
+        }
     }
 
     /// An inittab that was read has this for it.

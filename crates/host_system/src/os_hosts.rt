@@ -11,7 +11,7 @@ use host_calls::{Host, HostFault, Reply, counted, is_failed_reply};
 use host_files::{Channel, InittabFiles, StateFile, boxed};
 use host_messages::{Output, tell_refused};
 use init_words::{Answer, Id, Memory, Part, SignalKind};
-use inittab_text::{PartFault, Table, read_parts};
+use inittab_text::read_parts;
 use program_io::ChannelLock;
 use std::alloc::{Allocator, Global};
 use std::fs::File;
@@ -25,17 +25,18 @@ use trace_events::{Happening, HappeningIn};
 /// A host that asks the operating system. It tells nothing of its calls, and answers each order at once.
 ///
 /// A process text is executed by `sh` where it has a character that a shell reads; any other is split at blanks and
-/// tabs and started directly. A start for an id that has a child is refused. A child is looked at by waitpid(2) with
-/// WNOHANG; SIGTERM is sent by kill(1) in one `sh` for all of a turn,
-/// SIGKILL directly. A pause starts nothing, does not fail, and ends where
-/// a request comes: where a FIFO stands beside the channel, by the name of the channel with `.bell` after it, when it is
-/// rung, by a byte that is written to it, and else when the channel, which is looked at meanwhile, has grown. Requests are read from the channel file's first byte on, and anew where it is shorter than what was
-/// read, or another file stands at its path. The clock gives
-/// the seconds since the beginning of 1970 at its first reading, and goes on from there by the monotonic clock. What
-/// fails is told on standard error once when it begins and once when it is over; told too are requests that stand in
-/// the channel before its first reading, those that count for nothing, and that it ends within a request. The faults of
-/// the lines of an inittab's files are printed at each reading. Of a child that is stopped since an inittab that was read again has no line of it, or one that is off, does not run in the level or has
-/// another action, that is told on standard error.
+/// tabs and started directly. A start for an id that has a child is refused. A child is looked at by waitpid(2)
+/// with WNOHANG; SIGTERM is sent by kill(1) in one `sh` for all of a turn, SIGKILL directly. A pause starts
+/// nothing, does not fail, and ends where a request comes: where a FIFO stands beside the channel, by the name of
+/// the channel with `.bell` after it, when it is rung, by a byte that is written to it, and else when the channel,
+/// which is looked at meanwhile, has grown. Requests are read from the channel file's first byte on, and anew where
+/// it is shorter than what was read, or another file stands at its path. The clock gives the seconds since the
+/// beginning of 1970 at its first reading, and goes on from there by the monotonic clock. What fails is told on
+/// standard error once when it begins and once when it is over; told too are requests that stand in the channel
+/// before its first reading, those that count for nothing, and that it ends within a request. The faults of the
+/// lines of an inittab's files are printed at each reading. Of a child that is stopped since an inittab that was
+/// read again has no line of it, or one that is off, does not run in the level or has another action, that is told
+/// on standard error.
 #[derive(Drop)]
 pub struct OsHost<
     R: Processes + Files<File = File> + Clock + Print + Eprint + Drop,
@@ -56,9 +57,9 @@ struct OsHostParts<
     channel: Box<Channel<A>, A>,
     inittab: Box<InittabFiles<A>, A>,
     state: Box<StateFile<A>, A>,
-    output: Box<Output<A>, A>,
-    pauses: Box<Pauses, A>,
-    clock: Box<SteadyClock, A>,
+    output: Output<A>,
+    pauses: Pauses,
+    clock: SteadyClock,
     strict: bool,
     verbose: bool,
     fresh: bool,
@@ -103,9 +104,8 @@ impl<R: Processes + Files<File = File> + Clock + Print + Eprint + Drop, A: Alloc
           held = [];
         }) }
     {
-        let children = Children::new(alloc, options.program)?;
+        let children = Children::new(alloc, options)?;
         let (channel, inittab, state) = files_of(alloc, options)?;
-        let (output, pauses, clock) = outputs_of(alloc, options)?;
         let parts = OsHostParts {
             rt,
             alloc,
@@ -113,16 +113,16 @@ impl<R: Processes + Files<File = File> + Clock + Print + Eprint + Drop, A: Alloc
             channel,
             inittab,
             state,
-            output,
-            pauses,
-            clock,
+            output: Output::new(alloc, options.program),
+            pauses: Pauses::of(options.pace),
+            clock: SteadyClock::new(options.program),
             strict: options.strict,
             verbose: options.verbose,
             fresh: options.fresh,
             faults: 0,
         };
         let mut host = boxed(alloc, parts)?;
-        host.begin(options)?;
+        host.begin(options);
         Ok(OsHost { host })
     }
 
@@ -151,33 +151,12 @@ type HostFiles<A> = (
 );
 
 fn files_of<A: Allocator + Copy>(alloc: A, options: &HostOptions) -> Result<HostFiles<A>, Memory> {
-    let HostOptions {
-        program,
-        inittab,
-        folder,
-        channel,
-        state,
-        ..
-    } = *options;
-    let channel = Channel::new(alloc, program, channel)?;
-    let inittab = InittabFiles::new(alloc, program, inittab, folder)?;
-    Ok((channel, inittab, StateFile::new(alloc, program, state)?))
-}
-
-/// What a host prints by, and how it passes time.
-type HostOutputs<A> = (Box<Output<A>, A>, Box<Pauses, A>, Box<SteadyClock, A>);
-
-fn outputs_of<A: Allocator + Copy>(
-    alloc: A,
-    options: &HostOptions,
-) -> Result<HostOutputs<A>, Memory> {
-    let output = boxed(alloc, Output::new(alloc, options.program))?;
-    let pauses = boxed(alloc, Pauses::of(options.pace))?;
-    Ok((
-        output,
-        pauses,
-        boxed(alloc, SteadyClock::new(options.program))?,
-    ))
+    let program = options.program;
+    let channel = Channel::new(alloc, program, options.channel, options.fresh)?;
+    let inittab = InittabFiles::new(alloc, program, options.inittab, options.folder)?;
+    let spared = options.spared.unwrap_or("");
+    let state = StateFile::new(alloc, program, options.state, spared)?;
+    Ok((channel, inittab, state))
 }
 
 impl<
@@ -185,81 +164,46 @@ impl<
     A: Allocator + Copy,
 > OsHostParts<R, A> {
     /// Does what is asked for before the first call.
-    fn begin(&mut self, options: &HostOptions) -> Result<(), Memory>
+    fn begin(&mut self, options: &HostOptions)
         ensures { self.new ≡ self.old }
     {
         if options.bell {
             make_bell(&self.rt, self.alloc, &self.channel);
         }
-        if let Some(path) = options.spared {
-            self.spare(path)?;
+        if options.spared.is_some() {
+            let inittab = self.inittab.path();
+            let _ = self
+                .state
+                .tell_blocked(&self.rt, inittab, self.channel.path());
         }
         if options.sends_term {
             self.children.tell_unsendable(&self.rt);
         }
-        if options.fresh {
-            self.channel.pass_over_old();
-        }
         if options.verbose {
-            self.children.set_verbose();
             self.inittab.tell_all(&self.rt);
         }
-        if let Some(folder) = options.logs {
-            self.children.log_to(folder)?;
-        }
-        Ok(())
     }
 
-    fn spare(&mut self, path: &str) -> Result<(), Memory>
-        ensures { self.new ≡ self.old }
-    {
-        self.state.spare(self.alloc, path)?;
-        let inittab = self.inittab.path();
-        let _ = self
-            .state
-            .tell_blocked(&self.rt, inittab, self.channel.path());
-        Ok(())
-    }
-
-    /// Tells of an inittab's files how they are read: the faults of the lines, or why there is no table. Gives whether
-    /// what is to be printed could be.
+    /// Tells of an inittab's files how they are read: the faults of the lines, or why there is no table; and notes which
+    /// children the table costs, where init takes it. Gives whether what is to be printed could be.
     fn tell_reading<B: Allocator + Copy>(&mut self, alloc: B, parts: &[Part<B>]) -> bool
         ensures { self.new ≡ self.old }
     {
-        match read_parts(alloc, parts) {
-            Ok((table, faults)) => self.tell_table(parts, &table, &faults),
+        let (table, faults) = match read_parts(alloc, parts) {
+            Ok(read) => read,
             Err(fault) => {
                 self.inittab.tell_no_table(&self.rt, fault);
-                true
+                return true;
             }
-        }
-    }
-
-    /// Prints the faults of the lines, and notes which children the table costs, where init takes it. Gives whether it
-    /// could print.
-    fn tell_table<B: Allocator>(
-        &mut self,
-        parts: &[Part<B>],
-        table: &Table<B>,
-        faults: &[PartFault],
-    ) -> bool
-        ensures { self.new ≡ self.old }
-    {
-        let is_printed = self.output.print_faults(&self.rt, parts, faults);
+        };
+        let is_printed = self.output.print_faults(&self.rt, parts, &faults);
         if self.strict && !faults.is_empty() {
             tell_refused(&self.rt, self.inittab.path());
         } else {
-            self.children.note_lines(table);
+            self.children.note_lines(&table);
         }
+        drop(table);
         is_printed
-    }
-}
-
-/// The host's fault for an error of the system.
-fn fault_of(error: &io::Error) -> HostFault {
-    match error.kind() {
-        ErrorKind::OutOfMemory => HostFault::Memory,
-        _ => HostFault::Device,
     }
 }
 
@@ -270,7 +214,8 @@ fn host_result<T>(outcome: io::Result<T>) -> Result<T, HostFault>
 {
     match outcome {
         Ok(value) => Ok(value),
-        Err(error) => Err(fault_of(&error)),
+        Err(error) if error.kind() == ErrorKind::OutOfMemory => Err(HostFault::Memory),
+        Err(_) => Err(HostFault::Device),
     }
 }
 

@@ -1,10 +1,10 @@
 //! How long a pause is.
 
 use crate::host_options::Pace;
-use crate::steady_clocks::TurnTimer;
 use host_calls::Reply;
 use init_words::Answer;
 use std::rt::Clock;
+use std::time::Instant;
 use text_lines::{cut, read_below};
 
 /// The longest pause that may be asked for, in hundredths of a second.
@@ -40,14 +40,22 @@ pub(crate) struct Pauses {
     stirred: bool,
     /// The length of all pauses since something happened, where each is a tenth of those before it.
     passed: Option<u64>,
-    /// What takes the time of a turn.
-    watch: TurnTimer,
+    /// When the turn began.
+    turn: Option<Instant>,
 }
 
 impl Pauses {
     /// Pauses of this pace.
     pub(crate) fn of(pace: Pace) -> Pauses {
-        let mut pauses = Pauses::of_a_second();
+        let mut pauses = Pauses {
+            shortest: SECOND,
+            longest: SECOND,
+            next: SECOND,
+            by_cost: false,
+            stirred: false,
+            passed: None,
+            turn: None,
+        };
         match pace {
             Pace::Second => {}
             Pace::Tenth => {
@@ -58,18 +66,6 @@ impl Pauses {
             Pace::UpTo { length, by_cost } => pauses.grow_to(length, by_cost),
         }
         pauses
-    }
-
-    fn of_a_second() -> Pauses {
-        Pauses {
-            shortest: SECOND,
-            longest: SECOND,
-            next: SECOND,
-            by_cost: false,
-            stirred: false,
-            passed: None,
-            watch: TurnTimer::new(),
-        }
     }
 
     /// Lets pauses grow up to this length, where it is one.
@@ -92,7 +88,18 @@ impl Pauses {
 
     /// A turn begins.
     pub(crate) fn begin_turn(&mut self, rt: &impl Clock) {
-        self.watch.start(rt);
+        self.turn = Instant::now(rt).ok();
+    }
+
+    /// The microseconds since the turn began; 0 where no clock could be read.
+    fn turn_length(&self, rt: &impl Clock) -> u64 {
+        let Some(began) = self.turn else {
+            return 0;
+        };
+        match began.elapsed(rt) {
+            Ok(passed) => u64::try_from(passed.as_micros()).unwrap_or(u64::MAX),
+            Err(_) => 0,
+        }
     }
 
     /// The length of the pause that is due over so many children behind the turn, in microseconds: where something
@@ -103,7 +110,7 @@ impl Pauses {
             self.shortest_over(children)
         } else {
             self.next
-                .min(self.longest_over(children, self.watch.passed(rt)))
+                .min(self.longest_over(children, self.turn_length(rt)))
         };
         if let Some(passed) = self.passed {
             let passed = if self.stirred { 0 } else { passed };
@@ -129,48 +136,31 @@ impl Pauses {
     /// The shortest pause over so many children: pauses that don't grow stay as they are.
     fn shortest_over(&self, children: usize) -> u64 {
         if self.shortest < self.longest {
-            self.shortest.min(short_for(children))
+            let short = SHORT_A_CHILD.saturating_mul(children as u64).max(SHORT);
+            self.shortest.min(short)
         } else {
             self.shortest
         }
     }
 }
 
-/// How long a pause has to be at least, by how many children are looked at behind it.
-fn short_for(children: usize) -> u64 {
-    SHORT_A_CHILD.saturating_mul(children as u64).max(SHORT)
-}
-
 /// A child was born, had ended, or was sent a signal.
 pub(crate) fn has_stirred(reply: &Reply) -> bool {
-    match reply {
-        Reply::Now(answer) => matches!(answer, Answer::Born(_) | Answer::Ended(_) | Answer::Hit),
-        Reply::Later => false,
-    }
+    matches!(
+        reply,
+        Reply::Now(Answer::Born(_) | Answer::Ended(_) | Answer::Hit)
+    )
 }
 
 /// The hundredths of a second of a decimal of at most two digits after the point.
 fn read_hundredths(word: &[u8]) -> Option<u64> {
-    let Some((whole, part)) = cut(b'.', word) else {
-        return Some(read_below(word, 61)?.saturating_mul(100));
+    let (whole, part) = match cut(b'.', word) {
+        Some((whole, [tenth])) => (whole, read_below(&[*tenth], 10)?.saturating_mul(10)),
+        Some((whole, [b'0', hundredth])) => (whole, read_below(&[*hundredth], 10)?),
+        Some((whole, part)) if part.len() == 2 => (whole, read_below(part, 100)?),
+        Some(_) => return None,
+        None => (word, 0),
     };
     let seconds = read_below(whole, 61)?;
-    Some(seconds.saturating_mul(100).saturating_add(read_part(part)?))
-}
-
-/// The hundredths of one or two digits after a point.
-fn read_part(digits: &[u8]) -> Option<u64> {
-    match digits {
-        [tenth] => Some(read_digit(*tenth)?.saturating_mul(10)),
-        [tenth, hundredth] => {
-            let tenths = read_digit(*tenth)?.saturating_mul(10);
-            Some(tenths.saturating_add(read_digit(*hundredth)?))
-        }
-        _ => None,
-    }
-}
-
-/// The number of a digit.
-fn read_digit(byte: u8) -> Option<u64> {
-    read_below(&[byte], 10)
+    Some(seconds.saturating_mul(100).saturating_add(part))
 }

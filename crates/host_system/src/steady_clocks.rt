@@ -1,4 +1,4 @@
-//! A clock that no one can set, and the time of a turn.
+//! A clock that no one can set.
 
 use host_messages::Trouble;
 use std::io;
@@ -54,38 +54,5 @@ fn begun(rt: &impl Clock) -> io::Result<Beginning> {
     match SystemTime::now(rt)?.duration_since(SystemTime::UNIX_EPOCH) {
         Ok(since_1970) => Ok(Beginning { since_1970, at }),
         Err(_) => Err(io::Error::from(ErrorKind::InvalidData)),
-    }
-}
-
-/// What takes the time of a turn.
-#[derive(Drop)]
-pub(crate) struct TurnTimer {
-    started: Option<Instant>,
-}
-
-impl TurnTimer {
-    /// It was not started yet.
-    pub(crate) fn new() -> TurnTimer {
-        TurnTimer { started: None }
-    }
-
-    /// Starts it anew.
-    pub(crate) fn start(&mut self, rt: &impl Clock) {
-        self.started = Instant::now(rt).ok();
-    }
-
-    /// The microseconds since it was started; 0 where it wasn't, or no clock can be read.
-    pub(crate) fn passed(&self, rt: &impl Clock) -> u64 {
-        match self.started {
-            Some(started) => microseconds(started.elapsed(rt).ok()),
-            None => 0,
-        }
-    }
-}
-
-fn microseconds(passed: Option<Duration>) -> u64 {
-    match passed {
-        Some(passed) => u64::try_from(passed.as_micros()).unwrap_or(u64::MAX),
-        None => 0,
     }
 }

@@ -2,7 +2,7 @@
 
 use crate::commands::{BoxedCommand, shell_command};
 use program_io::write_text;
-use std::alloc::{AllocError, Allocator};
+use std::alloc::Allocator;
 use std::io;
 use std::io::{Error, ErrorKind, Read};
 use std::process::{Child, ExitStatus, OpenProcess, Processes, Stdio};
@@ -34,7 +34,12 @@ impl<P: OpenProcess + Drop> TermSender<P> {
         alloc: A,
         number: u32,
     ) -> io::Result<()> {
-        self.begin(rt, alloc)?;
+        if self.shell.is_none() {
+            let mut command = shell_command(alloc, HELPER)?;
+            command.stdin(Stdio::piped());
+            command.stdout(Stdio::piped());
+            self.shell = Some(started(rt, command)?);
+        }
         let Some(shell) = &mut self.shell else {
             return Err(Error::from(ErrorKind::BrokenPipe));
         };
@@ -57,18 +62,6 @@ impl<P: OpenProcess + Drop> TermSender<P> {
             }
             _ => error,
         }
-    }
-
-    /// Starts the shell, where there is none.
-    fn begin<R: Processes<Started = P>, A: Allocator + Copy>(
-        &mut self,
-        rt: &R,
-        alloc: A,
-    ) -> io::Result<()> {
-        if self.shell.is_none() {
-            self.shell = Some(started(rt, helper_command(alloc)?)?);
-        }
-        Ok(())
     }
 
     /// Lets the shell end, and waits for it.
@@ -102,13 +95,6 @@ fn started<R: Processes, A: Allocator + Copy>(
 
 fn no_kill() -> Error {
     Error::new(ErrorKind::NotFound, "kill: not found in PATH")
-}
-
-fn helper_command<A: Allocator + Copy>(alloc: A) -> Result<BoxedCommand<A>, AllocError> {
-    let mut command = shell_command(alloc, HELPER)?;
-    command.stdin(Stdio::piped());
-    command.stdout(Stdio::piped());
-    Ok(command)
 }
 
 /// Hands the number to the shell, and gives its answer.

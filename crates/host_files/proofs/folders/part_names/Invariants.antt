@@ -1,8 +1,0 @@
-use Rattle.std.specs.Prelude.{⊤, length}
-use Rattle.host_files.proofs.folders.part_names.Given as goal
-
-abbrev pub invariant-loop-name : goal.invariant-loop-name
-invariant-loop-name g l = ⊤
-
-abbrev pub decreases-loop-name : goal.decreases-loop-name
-decreases-loop-name g l = length l.rest
