@@ -1,6 +1,5 @@
 -- Why words are refused, and what is reported of it.
-use Rattle.std.specs.Prelude.{◌==◌, if◌then◌else◌, ◌++◌, codes, drop, length, Option, Some, None, string_bytes}
-use Rattle.std.specs.List.{before_first, starts_with}
+use Rattle.std.specs.Prelude.{◌==◌, if◌then◌else◌, ◌++◌, codes, length, Option, Some, None, string_bytes}
 use Rattle.clap.specs.Words.{Text}
 use Rattle.program_io.specs.Writing.{AppendsPrefix}
 use Rattle.command_words.specs.declared.faults.WordFault.{WordFault}
@@ -10,18 +9,6 @@ use Rattle.command_words.specs.declared.faults.WordFault.TheVariants.{Usage, Mem
 abbrev pub reason_of : WordFault → Option Text
 reason_of (Usage reason) = Some (string_bytes reason)
 reason_of Memory = None
-
--- a text up to its first newline
-abbrev pub first_line : Text → Text
-first_line text = before_first (λ b. b == 10) text
-
--- a text without this one, where it begins with it
-abbrev pub without_front : Text → Text → Text
-without_front front text = if starts_with (λ a b. a == b) text front then drop (length front) text else text
-
--- the reason in a text of clap: its first line without `error: `
-abbrev pub reason_in : Text → Text
-reason_in text = without_front (codes "error: ") (first_line text)
 
 -- the line of a program for a reason
 abbrev pub reason_line : Text → Text → Text

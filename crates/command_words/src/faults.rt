@@ -5,7 +5,7 @@ ghost use Rattle.std.specs.Io.KnownBytes.{Appends};
 ghost use Rattle.clap.specs.Words.{kind_of};
 ghost use Rattle.program_io.specs.Arguments.{no_memory_text};
 ghost use Rattle.program_io.specs.Writing.{AppendsPrefix};
-ghost use Rattle.command_words.specs.Faults.{first_line, reason_in, reason_line, reason_of, usage_report};
+ghost use Rattle.command_words.specs.Faults.{reason_line, reason_of, usage_report};
 ghost use Rattle.command_words.specs.declared.faults.WordFault.TheVariants.{Memory};
 
 use clap::Error;
@@ -39,8 +39,8 @@ impl From<AllocError> for WordFault {
 }
 
 /// The fault of words that clap refused: want of memory where that was the reason or where the text has no room, else
-/// usage, with the first line of what clap says.
-pub fn word_fault(alloc: Global, error: &Error) -> WordFault
+/// usage, with the reason in a line.
+pub(crate) fn word_fault(alloc: Global, error: &Error) -> WordFault
     ensures usage { IsSome (reason_of result) → kind_of error.now ≢ ErrorKind.OutOfMemory }
 {
     if is_no_memory(error) {
@@ -66,40 +66,50 @@ fn refusal(alloc: Global, error: &Error) -> Result<String, AllocError> {
         ErrorKind::MissingRequiredArgument => String::from_str(alloc, "a word is missing"),
         _ => {
             let text = format!(in alloc; "{error}")?;
-            let reason = reason_in(text.as_str());
-            match guess_in(text.as_str()) {
-                Some(guess) => format!(in alloc; "{reason}: {guess}?"),
-                None => String::from_str(alloc, reason),
-            }
+            reason_in(alloc, text.as_str())
         }
     }
 }
 
-/// The first line of a text of clap, without `error: ` in front.
-fn reason_in(text: &str) -> &str
-    ensures { result.now ≡ reason_in text.now }
-{
-    let line = first_line(text);
-    match line.strip_prefix("error: ") {
-        Some(reason) => reason,
-        None => line,
+/// The reason in a text of clap, of its kinds that a table of options and words has.
+fn reason_in(alloc: Global, text: &str) -> Result<String, AllocError> {
+    let (line, tip) = text.split_once('\n').unwrap_or((text, ""));
+    if let Some(word) = within("error: unexpected argument '", line, "' found") {
+        return match guess_in(tip) {
+            Some(guess) => format!(in alloc; "no such option: {word}: {guess}?"),
+            None if word.starts_with('-') => format!(in alloc; "no such option: {word}"),
+            None => format!(in alloc; "a word too many: {word}"),
+        };
     }
+    if let Some(option) = within(
+        "error: a value is required for '",
+        line,
+        "' but none was supplied",
+    ) {
+        let (name, _) = option.split_once(' ').unwrap_or((option, ""));
+        return format!(in alloc; "{name}: a value is missing");
+    }
+    if let Some(option) = within(
+        "error: unexpected value '",
+        line,
+        "' found; no more were expected",
+    ) {
+        let (value, name) = option.rsplit_once("' for '").unwrap_or(("", option));
+        return format!(in alloc; "{name} {value}: it takes no value");
+    }
+    String::from_str(alloc, line)
 }
 
-/// The word that was probably meant, where a text of clap has one.
+/// What stands between two texts.
+fn within<'a>(front: &str, line: &'a str, behind: &str) -> Option<&'a str> {
+    line.strip_prefix(front)?.strip_suffix(behind)
+}
+
+/// The option that was probably meant, where a text of clap has one.
 fn guess_in(text: &str) -> Option<&str> {
-    let (_, tip) = text.split_once("\n  tip: a similar ")?;
-    let (_, guess) = first_line(tip).split_once('\'')?;
-    guess.strip_suffix('\'')
-}
-
-fn first_line(text: &str) -> &str
-    ensures { result.now ≡ first_line text.now }
-{
-    match text.split_once('\n') {
-        Some((line, _)) => line,
-        None => text,
-    }
+    let (_, tip) = text.split_once("  tip: a similar argument exists: '")?;
+    let (guess, _) = tip.split_once('\'')?;
+    Some(guess)
 }
 
 /// Reports why words were not read, by as much of the text as `err` takes, and gives the status: for words that are no

@@ -10,9 +10,9 @@ mod versions;
 ghost use Rattle.std.specs.Prelude.{◌≡◌, map, string_bytes};
 ghost use Rattle.command_words.specs.CommandLines.{asks_version};
 
-pub use faults::{WordFault, report_refused_words, report_word_fault, word_fault};
+pub use faults::{WordFault, report_refused_words, report_word_fault};
 pub use options::{
-    Row, is_set, read_line, read_path, refused, table_line, value_of, word_of, words_of,
+    Row, checked, is_set, read_line, read_path, refused, value_of, word_of, words_of,
 };
 pub use slips::{is_slip, meant_of};
 pub use versions::{KIT, VERSION, print_version, write_version};

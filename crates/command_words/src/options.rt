@@ -1,6 +1,6 @@
 //! A command line by a table of its options and words, and what is read by it.
 
-ghost use Rattle.std.specs.Prelude.{◌≡◌, ◌∷◌, [], false, map, option_map, string_bytes, true, unwrap_or, IfErr, IfOk, IfSome, IsSome, None, Some};
+ghost use Rattle.std.specs.Prelude.{◌≡◌, ◌∷◌, [], false, map, option_map, string_bytes, true, unwrap_or, IfErr, IfOk, IfSome, IsSome, None, OnErr, Some};
 ghost use Rattle.clap.specs.Words.{FailsBy, all_of, fault_of, first_of, found_of, is_simple_and_free, matches_of, rows_of, rule_of};
 ghost use Rattle.command_words.specs.CommandLines.{AddsAll, IsLine, bare_line, given_by, is_set, letter_of, line_of, refusal_text, long_of, row_rule, standing, taking, text_of, texts_of, value_said};
 ghost use Rattle.command_words.specs.Faults.{reason_of};
@@ -101,7 +101,7 @@ fn with_rows<'a>(alloc: Global, line: Command<'a>, table: &[Row]) -> Result<Comm
 }
 
 /// The command line of a table, of a program or one of its subcommands. It fails for want of memory alone.
-pub fn table_line<'a>(
+fn table_line<'a>(
     alloc: Global,
     name: &'static str,
     table: &[Row],
@@ -193,6 +193,23 @@ pub fn read_path(
     match word_of(matches, id) {
         Some(path) => Ok(Some(String::from_str(alloc, path)?)),
         None => Ok(None),
+    }
+}
+
+/// The value that was read of an option's word; where none was, the word is refused.
+pub fn checked<T>(
+    alloc: Global,
+    id: &str,
+    word: &str,
+    read: Option<T>,
+    why: &str,
+) -> Result<T, WordFault>
+    ensures ok { IfOk result (λ value. read ≡ Some value) }
+    ensures err { OnErr result (read ≡ None) }
+{
+    match read {
+        Some(value) => Ok(value),
+        None => Err(refused(alloc, id, word, why)),
     }
 }
 

@@ -1,13 +1,11 @@
 -- The command lines `initd simulate [--level L] TABLE SCRIPT`, `initd check [--growing] [--pieces] TRACE` and `initd run ..`, and
--- `initd --version`. What they take is said by clap's own words; they are opaque, since a goal that sees them sees the whole
--- parser.
-use Rattle.std.specs.Prelude.{Bool, true, if◌then◌else◌, List, [], codes, Option, Some, None, option_map, length, ◌==◌, string_bytes}
+-- `initd --version`.
+use Rattle.std.specs.Prelude.{Bool, if◌then◌else◌, List, [], ◌∷◌, codes, Option, Some, None, option_and_then, option_map, string_bytes}
 use Rattle.std.specs.Str.{bytes_eq}
-use Rattle.clap.specs.Words.{App, Row, Text, fault_of, subcommand_of, with_subcommand}
-use Rattle.command_words.specs.CommandLines.{asks_version, is_set, line_of, value_said, written}
+use Rattle.clap.specs.Words.{App, Row, Text}
+use Rattle.command_words.specs.CommandLines.{asks_version, given_by, is_set, line_of, value_said, written}
 use Rattle.init_words.specs.declared.levels.Level.{Level}
-use Rattle.initd_options.specs.Options.{RunSaid, run_of, run_said}
-use Rattle.initd_options.specs.Levels.{level_said}
+use Rattle.initd_options.specs.Options.{RunSaid, level_said, run_of, run_said}
 use Rattle.initd_options.specs.declared.command.TheConstants.{CHECK, SIMULATE}
 use Rattle.initd_options.specs.declared.options.TheConstants.{OPTIONS}
 use Rattle.initd_options.specs.declared.command.CheckWords.{CheckWords}
@@ -15,14 +13,14 @@ use Rattle.initd_options.specs.declared.command.SimulateWords.{SimulateWords}
 use Rattle.initd_options.specs.declared.command.Words.{Words}
 use Rattle.initd_options.specs.declared.command.Words.TheVariants.{Version, Simulate, Check, Run as Serve}
 
--- the words name a subcommand
-unfoldable pub command_line : App
-command_line =
-    let program = line_of (codes "initd") [] in
-    let required = record program { top = record program.top { subcommand_required = true } } in
-    let simulate = with_subcommand required (line_of (codes "simulate") (written SIMULATE.now)).top in
-    let check = with_subcommand simulate (line_of (codes "check") (written CHECK.now)).top in
-    with_subcommand check (line_of (codes "run") (written OPTIONS.now)).top
+abbrev pub simulate_line : App
+simulate_line = line_of (codes "simulate") (written SIMULATE.now)
+
+abbrev pub check_line : App
+check_line = line_of (codes "check") (written CHECK.now)
+
+abbrev pub run_line : App
+run_line = line_of (codes "run") (written OPTIONS.now)
 
 -- the level to go to, if one is given, and the paths of the inittab and the script
 pub record SimulateSaid : Type 0 where
@@ -65,6 +63,9 @@ simulation_said rows =
     })
     (level_said rows)
 
+abbrev pub simulation_read_of : List Text → Option SimulateSaid
+simulation_read_of words = option_and_then simulation_said (given_by simulate_line words)
+
 -- what the words after `check` say
 abbrev pub check_said : List Row → CheckSaid
 check_said rows = record {
@@ -73,24 +74,24 @@ check_said rows = record {
   trace = value_said (codes "TRACE") rows;
 }
 
-abbrev pub run_said_by : Option (Text × List Row) → Option InitdSaid
-run_said_by None = None
-run_said_by (Some entered) = if bytes_eq entered.0 (codes "run") then option_map runs (run_said entered.1) else None
+abbrev pub check_read_of : List Text → Option CheckSaid
+check_read_of words = option_map check_said (given_by check_line words)
 
-abbrev pub judged_by : Option (Text × List Row) → Option InitdSaid
-judged_by None = None
-judged_by (Some entered) =
-    if bytes_eq entered.0 (codes "check") then Some (judges (check_said entered.1)) else run_said_by (Some entered)
+-- what the words after `run` say
+abbrev pub run_read_of : List Text → Option RunSaid
+run_read_of words = option_and_then run_said (given_by run_line words)
 
-abbrev pub initd_said_by : Option (Text × List Row) → Option InitdSaid
-initd_said_by None = None
-initd_said_by (Some entered) =
-    if bytes_eq entered.0 (codes "simulate") then option_map simulates (simulation_said entered.1) else judged_by (Some entered)
+-- what a command says by the words behind it; where it is none, or they are none of its, nothing
+abbrev pub command_said : Text → List Text → Option InitdSaid
+command_said command words =
+    if bytes_eq command (codes "simulate") then option_map simulates (simulation_read_of words)
+    else if bytes_eq command (codes "check") then option_map judges (check_read_of words)
+    else if bytes_eq command (codes "run") then option_map runs (run_read_of words)
+    else None
 
--- what words say that don't ask for the version; where the command line has a fault in them, nothing
 abbrev pub line_said : List Text → Option InitdSaid
-line_said words =
-    if length (fault_of command_line words) == 0 then initd_said_by (subcommand_of command_line words) else None
+line_said [] = None
+line_said (command ∷ words) = command_said command words
 
 -- what words say
 abbrev pub initd_read_of : List Text → Option InitdSaid

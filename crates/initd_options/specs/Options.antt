@@ -10,7 +10,20 @@ use Rattle.text_lines.specs.Lines.{cut}
 use Rattle.text_lines.specs.Numbers.{number_read}
 use Rattle.initd_options.specs.declared.options.RunWords.{RunWords}
 use Rattle.initd_options.specs.declared.options.TheConstants.{FOREVER, PAUSE_LIMIT, PAUSE_SECONDS, SIZE_LEAST, SIZE_MOST, TURNS_DEFAULT, TURNS_LIMIT, UNITS_LIMIT}
-use Rattle.initd_options.specs.Levels.{level_said}
+use Rattle.init_words.specs.Levels.{level_read}
+use Rattle.program_io.specs.Arguments.{only_byte}
+
+-- the level of a word of one character
+abbrev pub level_word_read : Text → Option Level
+level_word_read word = option_and_then level_read (only_byte word)
+
+-- the level that is given, if one is; nothing where it is none
+abbrev pub level_in : Option Text → Option (Option Level)
+level_in None = Some None
+level_in (Some word) = option_map Some (level_word_read word)
+
+abbrev pub level_said : List Row → Option (Option Level)
+level_said rows = level_in (first_of (codes "--level") rows)
 
 -- a word without the zeros in front of it
 abbrev pub without_zeros : Text → Text

@@ -1,18 +1,14 @@
-//! The command lines of initd's subcommands.
+//! The command lines of initd's commands.
 
-ghost use Rattle.std.specs.Prelude.{◌≡◌, ◌≢◌, map, string_bytes, IfErr, IfOk, IsSome, None, Some};
-ghost use Rattle.clap.specs.Words.{FailsBy, app_of, fault_of, found_of, kind_of, rows_of, subcommand_of, subcommand_rows_of, with_subcommand};
-ghost use Rattle.command_words.specs.CommandLines.{line_of, texts_of};
+ghost use Rattle.std.specs.Prelude.{◌≡◌, map, string_bytes, IfErr, IfOk, IsSome, None, Some};
+ghost use Rattle.clap.specs.Words.{found_of, rows_of};
 ghost use Rattle.command_words.specs.Faults.{reason_of};
-ghost use Rattle.initd_options.specs.CommandLine.{command_line, judged_by, line_said, initd_read_of, run_said_by, initd_said_by, said_of, simulation_of, simulation_said, check_of, check_said};
+ghost use Rattle.initd_options.specs.CommandLine.{check_of, check_read_of, command_said, initd_read_of, run_read_of, said_of, simulation_of, simulation_read_of, simulation_said};
+ghost use Rattle.initd_options.specs.Options.{run_of};
 
-use crate::levels::read_level_option;
-use crate::options::{OPTIONS, RunWords, read_run};
-use clap::error::ErrorKind;
-use clap::{ArgMatches, Command, Error};
-use command_words::{
-    Row, WordFault, is_set, is_version, meant_of, table_line, value_of, word_fault,
-};
+use crate::options::{OPTIONS, RunWords, read_level_option, read_matches};
+use clap::ArgMatches;
+use command_words::{Row, WordFault, is_set, is_version, meant_of, read_line, value_of};
 use init_words::Level;
 use std::alloc::{AllocError, Global};
 
@@ -51,56 +47,6 @@ pub enum Words {
     Run(RunWords),
 }
 
-/// Reads a command line, without the program's name in front. `Usage` says why it is none.
-pub fn read_words(alloc: Global, words: &[String]) -> Result<Words, WordFault>
-    ensures ok { IfOk result (λ said.
-        initd_read_of (map string_bytes words.now) ≡ Some (said_of said)) }
-    ensures usage { IfErr result (λ fault. IsSome (reason_of fault)
-        → initd_read_of (map string_bytes words.now) ≡ None) }
-{
-    if is_version(words) {
-        return Ok(Words::Version);
-    }
-    read_line(alloc, words)
-}
-
-/// Reads a command line that does not ask for the version.
-fn read_line(alloc: Global, words: &[String]) -> Result<Words, WordFault>
-    ensures ok { IfOk result (λ said.
-        line_said (map string_bytes words.now) ≡ Some (said_of said)) }
-    ensures usage { IfErr result (λ fault. IsSome (reason_of fault)
-        → line_said (map string_bytes words.now) ≡ None) }
-{
-    match parse(alloc, words) {
-        Ok(matches) => read_matches(alloc, &matches),
-        Err(error) => Err(line_fault(alloc, words, &error)),
-    }
-}
-
-/// The fault of a command line that clap refused. Of a command that is missing or unknown it says that, and which one was
-/// probably meant.
-fn line_fault(alloc: Global, words: &[String], error: &Error) -> WordFault
-    ensures usage { IsSome (reason_of result) → kind_of error.now ≢ ErrorKind.OutOfMemory }
-{
-    let reason = match (error.kind(), words.first()) {
-        (ErrorKind::MissingSubcommand, _) => String::from_str(alloc, "a word is missing"),
-        (ErrorKind::InvalidSubcommand, Some(word)) => unknown_command(alloc, word.as_str()),
-        _ => return word_fault(alloc, error),
-    };
-    match reason {
-        Ok(reason) => WordFault::Usage(reason),
-        Err(AllocError) => WordFault::Memory,
-    }
-}
-
-/// Why a word that is no command is refused.
-fn unknown_command(alloc: Global, word: &str) -> Result<String, AllocError> {
-    match meant_of(COMMANDS, word) {
-        Some(meant) => format!(in alloc; "no such command: {word}: {meant}?"),
-        None => format!(in alloc; "no such command: {word}"),
-    }
-}
-
 /// The commands.
 const COMMANDS: &[&str] = &["run", "simulate", "check"];
 
@@ -114,94 +60,59 @@ const CHECK: &[Row] = &[
     ("TRACE", "", ""),
 ];
 
-/// The command with one more subcommand, that of a table. It holds one of the two at a time: a command has some forty
-/// fields, and what may fail while it is held lets go of each.
-fn with_line<'a>(
-    alloc: Global,
-    command: Command<'a>,
-    name: &'static str,
-    table: &[Row],
-) -> Result<Command<'a>, AllocError>
-    ensures { IfOk result (λ made. app_of made
-        ≡ with_subcommand (app_of command.entry) (line_of name.now (texts_of table.now)).top) }
-{
-    match table_line(alloc, name, table) {
-        Ok(line) => command.subcommand(line),
-        Err(error) => {
-            drop(command);
-            Err(error)
-        }
-    }
-}
-
-/// The command line of `initd`.
-fn command<'a>(alloc: Global) -> Result<Command<'a>, AllocError>
-    ensures { IfOk result (λ made. app_of made ≡ command_line) }
-{
-    let program = table_line(alloc, "initd", &[])?.subcommand_required(true);
-    let with_simulate = with_line(alloc, program, "simulate", SIMULATE)?;
-    let with_check = with_line(alloc, with_simulate, "check", CHECK)?;
-    with_line(alloc, with_check, "run", OPTIONS)
-}
-
-fn parse<'a>(alloc: Global, words: &'a [String]) -> Result<ArgMatches<'a>, Error>
-    ensures entered { IfOk result (λ found. subcommand_rows_of found
-        ≡ subcommand_of command_line (map string_bytes words.entry.now)) }
-    ensures faults { FailsBy (fault_of command_line (map string_bytes words.entry.now)) result }
-{
-    command(alloc)?.try_get_matches_from(words)
-}
-
-/// What matches say.
-fn read_matches(alloc: Global, matches: &ArgMatches) -> Result<Words, WordFault>
+/// Reads a command line, without the program's name in front. `Usage` says why it is none.
+pub fn read_words(alloc: Global, words: &[String]) -> Result<Words, WordFault>
     ensures ok { IfOk result (λ said.
-        initd_said_by (subcommand_rows_of matches.now) ≡ Some (said_of said)) }
+        initd_read_of (map string_bytes words.now) ≡ Some (said_of said)) }
     ensures usage { IfErr result (λ fault. IsSome (reason_of fault)
-        → initd_said_by (subcommand_rows_of matches.now) ≡ None) }
+        → initd_read_of (map string_bytes words.now) ≡ None) }
 {
-    match matches.subcommand_matches("simulate") {
-        Some(simulate) => Ok(Words::Simulate(read_simulate(alloc, simulate)?)),
-        None => read_check(alloc, matches),
+    if is_version(words) {
+        return Ok(Words::Version);
+    }
+    match words {
+        [command, rest @ ..] => read_command(alloc, command.as_str(), rest),
+        [] => Err(WordFault::Usage(String::from_str(alloc, "a word is missing")?)),
     }
 }
 
-/// The same, where `simulate` was not entered.
-fn read_check(alloc: Global, matches: &ArgMatches) -> Result<Words, WordFault>
+/// Reads the words behind a command.
+fn read_command(alloc: Global, command: &str, words: &[String]) -> Result<Words, WordFault>
     ensures ok { IfOk result (λ said.
-        judged_by (subcommand_rows_of matches.now) ≡ Some (said_of said)) }
+        command_said command.now (map string_bytes words.now) ≡ Some (said_of said)) }
     ensures usage { IfErr result (λ fault. IsSome (reason_of fault)
-        → judged_by (subcommand_rows_of matches.now) ≡ None) }
+        → command_said command.now (map string_bytes words.now) ≡ None) }
 {
-    match matches.subcommand_matches("check") {
-        Some(check) => Ok(Words::Check(read_trace(alloc, check)?)),
-        None => read_serving(alloc, matches),
+    match command {
+        "simulate" => Ok(Words::Simulate(read_simulate(alloc, words)?)),
+        "check" => Ok(Words::Check(read_check(alloc, words)?)),
+        "run" => Ok(Words::Run(read_run(alloc, words)?)),
+        _ => Err(WordFault::Usage(unknown_command(alloc, command)?)),
     }
 }
 
-/// The same, where `check` was not entered either.
-fn read_serving(alloc: Global, matches: &ArgMatches) -> Result<Words, WordFault>
+/// Why a word that is no command is refused. It is empty where help is asked for.
+fn unknown_command(alloc: Global, word: &str) -> Result<String, AllocError> {
+    match (word, meant_of(COMMANDS, word)) {
+        ("--help" | "-h" | "help", _) => Ok(String::new(alloc)),
+        (_, Some(meant)) => format!(in alloc; "no such command: {word}: {meant}?"),
+        _ if word.starts_with('-') => format!(in alloc; "no such option: {word}"),
+        _ => format!(in alloc; "no such command: {word}"),
+    }
+}
+
+#[tactic(auto, using(crate::proofs::FreeLines::is_free_simulate))]
+fn read_simulate(alloc: Global, words: &[String]) -> Result<SimulateWords, WordFault>
     ensures ok { IfOk result (λ said.
-        run_said_by (subcommand_rows_of matches.now) ≡ Some (said_of said)) }
+        simulation_read_of (map string_bytes words.now) ≡ Some (simulation_of said)) }
     ensures usage { IfErr result (λ fault. IsSome (reason_of fault)
-        → run_said_by (subcommand_rows_of matches.now) ≡ None) }
+        → simulation_read_of (map string_bytes words.now) ≡ None) }
 {
-    match matches.subcommand_matches("run") {
-        Some(run) => Ok(Words::Run(read_run(alloc, run)?)),
-        None => Err(WordFault::Usage(String::from_str(alloc, "a word is missing")?)),
-    }
+    let matches = read_line(alloc, "simulate", SIMULATE, words)?;
+    read_scenario(alloc, &matches)
 }
 
-fn read_trace(alloc: Global, matches: &ArgMatches) -> Result<CheckWords, AllocError>
-    ensures { IfOk result (λ said. check_of said ≡ check_said (rows_of (found_of matches.now))) }
-{
-    Ok(CheckWords {
-        growing: is_set(matches, "--growing"),
-        pieces: is_set(matches, "--pieces"),
-        trace: String::from_str(alloc, value_of(matches, "TRACE"))?,
-    })
-}
-
-fn read_simulate(alloc: Global, matches: &ArgMatches) -> Result<SimulateWords, WordFault>
+fn read_scenario(alloc: Global, matches: &ArgMatches) -> Result<SimulateWords, WordFault>
     ensures ok { IfOk result (λ said.
         simulation_said (rows_of (found_of matches.now)) ≡ Some (simulation_of said)) }
     ensures usage { IfErr result (λ fault. IsSome (reason_of fault)
@@ -213,4 +124,29 @@ fn read_simulate(alloc: Global, matches: &ArgMatches) -> Result<SimulateWords, W
         table: String::from_str(alloc, value_of(matches, "TABLE"))?,
         script: String::from_str(alloc, value_of(matches, "SCRIPT"))?,
     })
+}
+
+#[tactic(auto, using(crate::proofs::FreeLines::is_free_check))]
+fn read_check(alloc: Global, words: &[String]) -> Result<CheckWords, WordFault>
+    ensures ok { IfOk result (λ said.
+        check_read_of (map string_bytes words.now) ≡ Some (check_of said)) }
+    ensures usage { IfErr result (λ fault. IsSome (reason_of fault)
+        → check_read_of (map string_bytes words.now) ≡ None) }
+{
+    let matches = read_line(alloc, "check", CHECK, words)?;
+    Ok(CheckWords {
+        growing: is_set(&matches, "--growing"),
+        pieces: is_set(&matches, "--pieces"),
+        trace: String::from_str(alloc, value_of(&matches, "TRACE"))?,
+    })
+}
+
+fn read_run(alloc: Global, words: &[String]) -> Result<RunWords, WordFault>
+    ensures ok { IfOk result (λ said.
+        run_read_of (map string_bytes words.now) ≡ Some (run_of said)) }
+    ensures usage { IfErr result (λ fault. IsSome (reason_of fault)
+        → run_read_of (map string_bytes words.now) ≡ None) }
+{
+    let matches = read_line(alloc, "run", OPTIONS, words)?;
+    read_matches(alloc, &matches)
 }

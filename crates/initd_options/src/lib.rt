@@ -2,7 +2,6 @@
 #![tactic(auto)]
 
 mod command;
-mod levels;
 mod options;
 
 pub use command::{CheckWords, SimulateWords, Words, read_words};

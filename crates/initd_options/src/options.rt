@@ -3,12 +3,12 @@
 ghost use Rattle.std.specs.Prelude.{◌≡◌, ◌<◌, ◌≤◌, string_bytes, IfErr, IfOk, IfSome, IsSome, None, Some};
 ghost use Rattle.clap.specs.Words.{found_of, rows_of};
 ghost use Rattle.command_words.specs.Faults.{reason_of};
-ghost use Rattle.initd_options.specs.Options.{begins_with_point, brief_said, digit_read, hundredths_read, is_pause, part_read, pause_said, result_said, run_of, run_said, size_given, size_read, turns_read, turns_said, units_read, with_whole, without_zeros};
+ghost use Rattle.initd_options.specs.Options.{brief_said, digit_read, hundredths_read, is_pause, level_said, level_word_read, part_read, pause_said, result_said, run_of, run_said, size_given, size_read, turns_read, turns_said, units_read, with_whole, without_zeros};
 
-use crate::levels::read_level_option;
 use clap::ArgMatches;
-use command_words::{Row, WordFault, is_set, read_path, refused, value_of, word_of};
+use command_words::{Row, WordFault, checked, is_set, read_path, refused, value_of, word_of};
 use init_words::{Id, Level};
+use program_io::only_byte;
 use std::alloc::{AllocError, Global};
 use text_lines::{cut, read_below, read_number};
 
@@ -103,7 +103,7 @@ pub(crate) const OPTIONS: &[Row] = &[
 ];
 
 /// What the words after `run` say.
-pub(crate) fn read_run(alloc: Global, matches: &ArgMatches) -> Result<RunWords, WordFault>
+pub(crate) fn read_matches(alloc: Global, matches: &ArgMatches) -> Result<RunWords, WordFault>
     ensures ok { IfOk result (λ said.
         run_said (rows_of (found_of matches.now)) ≡ Some (run_of said)) }
     ensures usage { IfErr result (λ fault. IsSome (reason_of fault)
@@ -138,6 +138,30 @@ pub(crate) fn read_run(alloc: Global, matches: &ArgMatches) -> Result<RunWords, 
     })
 }
 
+/// The level that is given, where one is.
+pub(crate) fn read_level_option(
+    alloc: Global,
+    matches: &ArgMatches,
+) -> Result<Option<Level>, WordFault>
+    ensures ok { IfOk result (λ level.
+        level_said (rows_of (found_of matches.now)) ≡ Some level) }
+    ensures usage { IfErr result (λ fault. IsSome (reason_of fault)
+        → level_said (rows_of (found_of matches.now)) ≡ None) }
+{
+    let Some(word) = word_of(matches, "--level") else {
+        return Ok(None);
+    };
+    let level = checked(alloc, "--level", word, read_level(word), "not a runlevel")?;
+    Ok(Some(level))
+}
+
+/// The runlevel of a word of one character.
+fn read_level(word: &str) -> Option<Level>
+    ensures { result ≡ level_word_read word.now }
+{
+    Level::read(only_byte(word)?)
+}
+
 /// The greatest number of turns, by `--turns` or `--forever`, of which one may be given.
 fn read_turns_option(alloc: Global, matches: &ArgMatches) -> Result<u64, WordFault>
     ensures ok { IfOk result (λ turns.
@@ -149,10 +173,13 @@ fn read_turns_option(alloc: Global, matches: &ArgMatches) -> Result<u64, WordFau
     match word_of(matches, "--turns") {
         None => Ok(if forever { FOREVER } else { TURNS_DEFAULT }),
         Some(word) if forever => Err(refused(alloc, "--turns", word, "not with --forever")),
-        Some(word) => match read_turns(word) {
-            Some(turns) => Ok(turns),
-            None => Err(refused(alloc, "--turns", word, "not 1 to 1000000000")),
-        },
+        Some(word) => checked(
+            alloc,
+            "--turns",
+            word,
+            read_turns(word),
+            "not 1 to 1000000000",
+        ),
     }
 }
 
@@ -194,19 +221,9 @@ fn read_pause(alloc: Global, matches: &ArgMatches) -> Result<String, WordFault>
 fn with_whole(alloc: Global, word: &str) -> Result<String, AllocError>
     ensures { IfOk result (λ text. string_bytes text ≡ with_whole word.now) }
 {
-    if begins_with_point(word.as_bytes()) {
-        format!(in alloc; "0{word}")
-    } else {
-        String::from_str(alloc, word)
-    }
-}
-
-fn begins_with_point(word: &[u8]) -> bool
-    ensures { result ≡ begins_with_point word.now }
-{
-    match word {
-        [b'.', ..] => true,
-        _ => false,
+    match word.as_bytes() {
+        [b'.', ..] => format!(in alloc; "0{word}"),
+        _ => String::from_str(alloc, word),
     }
 }
 
@@ -283,10 +300,14 @@ fn read_trace_size(alloc: Global, matches: &ArgMatches) -> Result<Option<u64>, W
     if word_of(matches, "--trace").is_none() {
         return Err(refused(alloc, "--trace-size", word, "not without --trace"));
     }
-    match read_size(word.as_bytes()) {
-        Some(size) => Ok(Some(size)),
-        None => Err(refused(alloc, "--trace-size", word, "not 4K to 1024G")),
-    }
+    let size = checked(
+        alloc,
+        "--trace-size",
+        word,
+        read_size(word.as_bytes()),
+        "not 4K to 1024G",
+    )?;
+    Ok(Some(size))
 }
 
 /// A number of bytes, or of kibibytes, mebibytes or gibibytes where K, M or G stands behind it.
@@ -328,8 +349,6 @@ fn read_result(alloc: Global, matches: &ArgMatches) -> Result<Option<Id>, WordFa
     let Some(word) = word_of(matches, "--result") else {
         return Ok(None);
     };
-    match Id::read(word.as_bytes()) {
-        Some(id) => Ok(Some(id)),
-        None => Err(refused(alloc, "--result", word, "no id")),
-    }
+    let id = checked(alloc, "--result", word, Id::read(word.as_bytes()), "no id")?;
+    Ok(Some(id))
 }
