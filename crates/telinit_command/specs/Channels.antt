@@ -2,8 +2,8 @@
 use Rattle.std.specs.Prelude.{◌≡◌, ℕ, ◌%◌, if◌then◌else◌, List, length, ◌++◌, Option, Some, IfSome, option_map}
 use Rattle.std.specs.Str.{bytes_eq}
 use Rattle.initctl_frame.specs.declared.frames.TheConstants.{BLOCK}
+use Rattle.initctl_frame.specs.Frames.{block_of}
 use Rattle.telinit_command.specs.CommandLine.{TelinitSaid, telinit_read_of}
-use Rattle.telinit_command.specs.Frames.{frame_for}
 
 -- the bytes of the channel at each path, where they are known
 abbrev pub KnownBytes : Type 0
@@ -31,7 +31,7 @@ IsWholeAt path old = IfSome (old path) (λ bytes. length bytes % BLOCK ≡ 0)
 abbrev pub IsAsked : List ℕ → List (List ℕ) → List ℕ → List ℕ → Type 0
 IsAsked home words path block =
     (said : TelinitSaid) × (telinit_read_of home words ≡ Some said) × (path ≡ said.path)
-    × (frame_for said.sign said.secs said.power ≡ Some block)
+    × (block_of said.request ≡ block)
 
 -- the channel that the words name, of whole requests, has gained the one that they ask for
 abbrev pub Asks : List ℕ → List (List ℕ) → KnownBytes → KnownBytes → Type 0

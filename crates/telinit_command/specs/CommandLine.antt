@@ -1,17 +1,34 @@
 -- The command line `telinit [-t SEC] [-d DIR] [--initctl P] CHAR`, or `--power KIND` in place of CHAR (telinit(8)).
-use Rattle.std.specs.Prelude.{ℕ, if◌then◌else◌, List, [], ◌++◌, codes, Option, Some, None, option_and_then, option_map, length, string_bytes, ◌==◌}
+use Rattle.std.specs.Prelude.{ℕ, Bool, ◌&&◌, not, if◌then◌else◌, nat_le, List, ◌++◌, codes, Option, Some, None, option_and_then, option_map, length, string_bytes, ◌==◌}
+use Rattle.std.specs.List.{list_all}
+use Rattle.std.specs.Char.{is_ascii_digit}
 use Rattle.std.specs.Str.{bytes_eq}
+use Rattle.std.specs.Str.Parse.{digits_value}
 use Rattle.clap.specs.Words.{App, Row, Text, first_of}
 use Rattle.command_words.specs.CommandLines.{given_by, line_of, value_said, written}
+use Rattle.init_words.specs.declared.limits.TheConstants.{GRACE_LIMIT}
 use Rattle.init_words.specs.declared.orders.PowerKind.{PowerKind}
 use Rattle.init_words.specs.declared.orders.PowerKind.TheVariants as power
+use Rattle.initctl_frame.specs.declared.requests.Request.{Request}
+use Rattle.initctl_frame.specs.declared.requests.Request.TheVariants as request
+use Rattle.initctl_frame.specs.Frames.{block_of}
+use Rattle.initctl_frame.specs.Signs.{sign_read}
+use Rattle.program_io.specs.Arguments.{only_byte}
 use Rattle.telinit_command.specs.declared.command.TheConstants.{OPTIONS}
 use Rattle.telinit_command.specs.declared.command.Words.{Words}
-use Rattle.telinit_command.specs.Frames.{frame_for}
-use Rattle.telinit_command.specs.Seconds.{seconds_read}
 
 abbrev pub command_line : App
 command_line = line_of (codes "telinit") (written OPTIONS.now)
+
+-- a word of decimal digits
+abbrev pub is_numeral : List ℕ → Bool
+is_numeral word = not (length word == 0) && list_all is_ascii_digit word
+
+-- the seconds of a word, in decimal, where they are within the limit
+abbrev pub seconds_read : List ℕ → Option ℕ
+seconds_read word =
+    let secs = digits_value 10 word in
+    if is_numeral word && nat_le secs GRACE_LIMIT then Some secs else None
 
 -- the news of a word
 abbrev pub power_read : Text → Option PowerKind
@@ -21,12 +38,14 @@ power_read word =
     else if bytes_eq word (codes "ok") then Some power.Ok
     else None
 
--- what is asked for, by the word in the place of CHAR and by that of the power, of which one is given
-abbrev pub asked_in : Option Text → Option Text → Option (Text × Option PowerKind)
-asked_in None None = None
-asked_in (Some sign) None = Some (sign, None)
-asked_in None (Some word) = option_map (λ kind. ([], Some kind)) (power_read word)
-asked_in (Some sign) (Some word) = None
+-- the request of one character of the list in the place of CHAR, with these seconds, or of the power's word, of which one
+-- is given
+abbrev pub request_in : ℕ → Option Text → Option Text → Option Request
+request_in secs None None = None
+request_in secs (Some sign) None =
+    option_map (λ code. request.Runlvl code secs) (option_and_then sign_read (only_byte sign))
+request_in secs None (Some word) = option_map request.Power (power_read word)
+request_in secs (Some sign) (Some word) = None
 
 -- a name in a folder; in no folder the name alone
 abbrev pub in_folder : Text → Text → Text
@@ -40,36 +59,23 @@ path_in None folder home = in_folder (if length folder == 0 then home else folde
 abbrev pub path_said : Text → List Row → Text
 path_said home rows = path_in (first_of (codes "--initctl") rows) (value_said (codes "-d") rows) home
 
--- seconds, path, and the sign or the news of the power
+-- the channel and the request
 pub record TelinitSaid : Type 0 where
-  pub secs : ℕ
   pub path : Text
-  pub sign : Text
-  pub power : Option PowerKind
+  pub request : Request
 
 abbrev pub said_of : Words → TelinitSaid
-said_of words = record {
-  secs = words.secs;
-  path = string_bytes words.path;
-  sign = string_bytes words.sign;
-  power = words.power;
-}
+said_of words = record { path = string_bytes words.path; request = words.request }
 
-abbrev pub asked_said : List Row → Option (Text × Option PowerKind)
-asked_said rows = asked_in (first_of (codes "CHAR") rows) (first_of (codes "--power") rows)
+abbrev pub request_said : ℕ → List Row → Option Request
+request_said secs rows = request_in secs (first_of (codes "CHAR") rows) (first_of (codes "--power") rows)
 
 -- what is said where the environment names this folder: the values that are given or the defaults, where the seconds
 -- are 0 to 3,600
 abbrev pub telinit_said_by : Text → List Row → Option TelinitSaid
 telinit_said_by home rows =
     option_and_then
-    (λ secs. option_map (λ asked. record {
-      secs = secs;
-      path = path_said home rows;
-      sign = asked.0;
-      power = asked.1;
-    })
-    (asked_said rows))
+    (λ secs. option_map (λ asked. record { path = path_said home rows; request = asked }) (request_said secs rows))
     (seconds_read (value_said (codes "-t") rows))
 
 -- what words say; where the command line has a fault in them, nothing
@@ -78,4 +84,4 @@ telinit_read_of home words = option_and_then (telinit_said_by home) (given_by co
 
 -- the request block that words ask for
 abbrev pub block_said : Text → List Text → Option (List ℕ)
-block_said home words = option_and_then (λ said. frame_for said.sign said.secs said.power) (telinit_read_of home words)
+block_said home words = option_map (λ said. block_of said.request) (telinit_read_of home words)

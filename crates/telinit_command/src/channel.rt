@@ -13,17 +13,20 @@ use std::io;
 use std::io::Write;
 
 /// Why a block was not appended.
-#[derive(Debug, Drop, thiserror::Error)]
-pub enum ChannelFault {
+#[derive(Drop)]
+pub(crate) enum ChannelFault {
     /// The channel has so many bytes, which are no whole number of requests. Nothing was written.
-    #[error("it has {0} bytes, which is no whole number of requests")]
     Torn(u64),
     /// It could not be opened or written.
-    #[error("{0}")]
-    Device(#[from] io::Error),
+    Device(io::Error),
     /// Memory ran out before the block was written.
-    #[error("out of memory")]
     Memory,
+}
+
+impl From<io::Error> for ChannelFault {
+    fn from(error: io::Error) -> ChannelFault {
+        ChannelFault::Device(error)
+    }
 }
 
 impl From<AllocError> for ChannelFault {
@@ -35,7 +38,7 @@ impl From<AllocError> for ChannelFault {
 /// Appends the block to the channel at the path, which is made where it is missing. That it was made, and that no init
 /// reads it, is told on `err`, as much of it as that takes. After a refusal the channel has gained a front of the block at
 /// most.
-pub fn append_block<C: Channels, E: Write>(
+pub(crate) fn append_block<C: Channels, E: Write>(
     channels: &mut C,
     alloc: Global,
     path: &str,

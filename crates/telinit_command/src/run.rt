@@ -11,11 +11,10 @@ ghost use Rattle.telinit_command.specs.Notes.{IsTold};
 use crate::channel::{ChannelFault, append_block};
 use crate::channels::Channels;
 use crate::command::read_words;
-use crate::frame::frame_of;
-use command_words::{is_version, print_version, report_refused_words, report_word_fault};
-use initctl_frame::BLOCK;
-use program_io::{DEVICE_FAULT, DONE, REFUSED, report_no_memory};
-use std::alloc::{AllocError, Global};
+use command_words::{is_version, print_version, report_word_fault};
+use initctl_frame::{BLOCK, encode};
+use program_io::{DEVICE_FAULT, DONE, REFUSED, Reason, report_no_memory};
+use std::alloc::Global;
 use std::io::Write;
 
 /// What standard error gets where help is asked for.
@@ -78,26 +77,12 @@ pub fn run_words<C: Channels, W: Write, E: Write>(
     if is_version(words.as_slice()) {
         return print_version("telinit", out, err);
     }
-    let words = match read_words(alloc, home, words) {
-        Ok(words) => words,
-        Err(fault) => return report_word_fault("telinit", &fault, USAGE, SHORT_USAGE, err),
-    };
-    match frame_of(&words) {
-        Some(block) => ask(channels, alloc, words.path.as_str(), &block, err),
-        None => refuse_sign(alloc, words.sign.as_str(), err),
-    }
-}
-
-/// Reports that a word is none that telinit takes for CHAR.
-fn refuse_sign<E: Write>(alloc: Global, sign: &str, err: &mut E) -> u8
-    ensures statuses { (result ≡ REFUSED) ⊎ (result ≡ DEVICE_FAULT) }
-    ensures report { result ≡ REFUSED
-        → ReportsUsage (codes "telinit") USAGE.now SHORT_USAGE.now
-        (E.contents err.old) (E.contents err.new) }
-{
-    match format!(in alloc; "{sign}: not a runlevel, a letter, q or u") {
-        Ok(reason) => report_refused_words("telinit", reason.as_str(), USAGE, SHORT_USAGE, err),
-        Err(AllocError) => report_no_memory("telinit", err),
+    match read_words(alloc, home, words) {
+        Ok(words) => {
+            let block = encode(&words.request);
+            ask(channels, alloc, words.path.as_str(), &block, err)
+        }
+        Err(fault) => report_word_fault("telinit", &fault, USAGE, SHORT_USAGE, err),
     }
 }
 
@@ -127,19 +112,19 @@ fn ask<C: Channels, E: Write>(
 fn report_channel<E: Write>(path: &str, fault: &ChannelFault, err: &mut E) -> u8
     ensures { result ≡ DEVICE_FAULT }
 {
-    if let ChannelFault::Memory = fault {
-        return report_no_memory("telinit", err);
-    }
-    let _ = writeln!(err, "telinit: cannot append to {path}: {fault}");
     let _ = match fault {
-        ChannelFault::Torn(_) => writeln!(
+        ChannelFault::Torn(length) => writeln!(
             err,
-            "telinit: cut off what is over by truncate -s /{BLOCK} {path}, or stop init and remove {path}"
+            "telinit: cannot append to {path}: it has {length} bytes, which is no whole number of requests\n\
+             telinit: cut off what is over by truncate -s /{BLOCK} {path}, or stop init and remove {path}"
         ),
-        _ => writeln!(
+        ChannelFault::Device(error) => writeln!(
             err,
-            "telinit: see that it is a file that you may write, in a folder that is there, with room on its disk"
+            "telinit: cannot append to {path}: {}\n\
+             telinit: see that it is a file that you may write, in a folder that is there, with room on its disk",
+            Reason(error)
         ),
+        ChannelFault::Memory => return report_no_memory("telinit", err),
     };
     DEVICE_FAULT
 }

@@ -5,8 +5,8 @@ use Rattle.std.specs.Char.{is_ascii_digit}
 use Rattle.std.specs.Str.Parse.{digits_value}
 use Rattle.std.proofs.lemmas.Bool.Decides.{nat_tests}
 use Rattle.std.proofs.lemmas.Str.Parse.{IsNumeralModel, numerals_by_value, parse_gives}
-use Rattle.telinit_command.specs.Seconds.{is_numeral}
-use Rattle.telinit_command.proofs.seconds.read_grace.Goals as goal
+use Rattle.telinit_command.specs.CommandLine.{is_numeral}
+use Rattle.telinit_command.proofs.command.read_grace.Goals as goal
 
 digits : IsNumeralModel (λ ds. list_all is_ascii_digit ds ≡ true) (digits_value 10)
 digits = numerals_by_value _ (search rules)

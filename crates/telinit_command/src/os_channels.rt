@@ -1,0 +1,148 @@
+//! The channels of the operating system: how one is opened, who reads it, and its bell, a FIFO beside it, which whoever
+//! appended a request rings, so that init hears that at once.
+
+ghost use Rattle.std.specs.Prelude.{None};
+
+use crate::channels::{Channels, FoundChannel};
+use initctl_frame::BLOCK;
+use libc::net::{POLLOUT, poll};
+use libc::types::pollfd;
+use program_io::{OpenChannel, Reason, read_file};
+use std::alloc::Global;
+use std::fs::{File, OpenOptions, canonicalize, metadata, read_dir, read_link};
+use std::io::{Error, ErrorKind, Write};
+use std::os::fd::AsRawFd;
+use std::os::unix::fs::FileTypeExt;
+use std::rt::Files;
+use std::{io, str};
+
+/// The file in which Linux lists the locks of files (proc_locks(5)).
+const LOCKS: &str = "/proc/locks";
+
+/// The channels of the operating system, whose bells are rung. Nothing is known of their bytes.
+#[derive(Drop)]
+pub struct OsChannels<'a, R> {
+    rt: &'a R,
+    alloc: Global,
+    opened: Option<OpenChannel>,
+}
+
+impl<'a, R> OsChannels<'a, R> {
+    /// None is open yet.
+    pub fn new(rt: &'a R, alloc: Global) -> OsChannels<'a, R> {
+        OsChannels {
+            rt,
+            alloc,
+            opened: None,
+        }
+    }
+}
+
+impl<R: Files<File = File> + Alloc + Eprint + Clone + Drop> Channels for OsChannels<'_, R> {
+    ghost bytes_at = { λ _ _. None };
+
+    fn open(&mut self, path: &str) -> io::Result<FoundChannel> {
+        let channel = OpenChannel::open(self.rt, path)?;
+        let found = FoundChannel {
+            was_made: channel.was_made,
+            length: channel.length,
+            is_read: match channel.is_read() {
+                Ok(false) if is_read_before(self.rt, self.alloc, path).unwrap_or(false) => Ok(true),
+                // An init may have gone over to this file meanwhile.
+                Ok(false) => channel.is_read(),
+                told => told,
+            },
+        };
+        self.opened = Some(channel);
+        Ok(found)
+    }
+
+    fn append(&mut self, path: &str, block: &[u8; BLOCK]) -> io::Result<()> {
+        match &mut self.opened {
+            Some(channel) => channel.append(block)?,
+            None => return Err(Error::from(ErrorKind::NotFound)),
+        }
+        if let Err(error) = ring(self.rt, self.alloc, path) {
+            let _ = eprintln!(self.rt;
+                "telinit: cannot ring {path}.bell: {}; init hears the request in its next turn",
+                Reason(&error)
+            );
+        }
+        Ok(())
+    }
+}
+
+/// A process holds a lock and has a file open that stood at the path of the channel before the one that stands there:
+/// an init that sees within a pause that another came.
+fn is_read_before<R: Files + Alloc + Clone + Drop>(
+    rt: &R,
+    alloc: Global,
+    path: &str,
+) -> io::Result<bool> {
+    let stood = canonicalize(rt, path)?;
+    let removed = format!(in alloc; "{} (deleted)", stood.as_path().as_str())?;
+    let locks = read_file(rt, alloc, LOCKS)?;
+    for line in str::from_utf8(&locks).unwrap_or("").lines() {
+        if let Some(number) = holder_in(line) {
+            if has_open(rt, alloc, number, removed.as_str()).unwrap_or(false) {
+                return Ok(true);
+            }
+        }
+    }
+    Ok(false)
+}
+
+/// The process in a line of the list, `1: FLOCK  ADVISORY  WRITE 4711 08:01:1234 0 EOF`.
+fn holder_in(line: &str) -> Option<u32> {
+    let mut words = line.split_whitespace();
+    let kind = words.nth(1)?;
+    let number = words.nth(2)?.parse().ok()?;
+    if kind == "FLOCK" { Some(number) } else { None }
+}
+
+/// The process has a file open that the system calls so.
+fn has_open<R: Files + Alloc + Clone + Drop>(
+    rt: &R,
+    alloc: Global,
+    number: u32,
+    name: &str,
+) -> io::Result<bool> {
+    let folder = format!(in alloc; "/proc/{number}/fd")?;
+    for entry in read_dir(rt, folder.as_str())? {
+        let leads = read_link(rt, entry?.path())?;
+        if leads.as_path().as_str() == name {
+            return Ok(true);
+        }
+    }
+    Ok(false)
+}
+
+/// Rings the bell of the channel at the path, a FIFO of that path with `.bell` after it, where one is there. It never
+/// waits: one that is full of rings is rung already.
+fn ring<R: Files<File = File>>(rt: &R, alloc: Global, channel: &str) -> io::Result<()> {
+    let path = format!(in alloc; "{channel}.bell")?;
+    match metadata(rt, path.as_str()) {
+        Ok(found) if found.file_type().is_fifo() => {}
+        Ok(_) => return Err(Error::new(ErrorKind::InvalidInput, "it is no FIFO")),
+        Err(error) if error.kind() == ErrorKind::NotFound => return Ok(()),
+        Err(error) => return Err(error),
+    }
+    let mut file = OpenOptions::new()
+        .read(true)
+        .write(true)
+        .open(rt, path.as_str())?;
+    if has_room(&file) {
+        file.write_all(b"\n")?;
+    }
+    Ok(())
+}
+
+/// A byte can be written to the FIFO without waiting.
+fn has_room(file: &File) -> bool {
+    let mut asked = [pollfd {
+        fd: file.as_raw_fd(),
+        events: POLLOUT,
+        revents: 0,
+    }];
+    poll(&mut asked, 0) > 0
+}
