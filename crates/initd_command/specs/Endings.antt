@@ -1,6 +1,7 @@
 -- How a command line of initd ends: its exit status, what was written, and what is reported of it.
-use Rattle.std.specs.Prelude.{◌≡◌, ◌&&◌, ℕ, Bool, true, false, if◌then◌else◌, List, [], ◌++◌, codes, decimal, Option, Some, None}
+use Rattle.std.specs.Prelude.{◌≡◌, ◌&&◌, ℕ, Bool, true, false, if◌then◌else◌, List, [], ◌∷◌, ◌++◌, codes, decimal, Option, Some, None, unwrap_or}
 use Rattle.std.specs.Io.KnownBytes.{Keeps}
+use Rattle.std.specs.Str.{bytes_eq}
 use Rattle.program_io.specs.Writing.{AppendsPrefix}
 use Rattle.program_io.specs.declared.statuses.TheConstants.{DONE, REFUSED, UNLAWFUL, DEVICE_FAULT}
 use Rattle.simulator.specs.declared.running.SimFault.{SimFault}
@@ -11,7 +12,7 @@ use Rattle.simulator.specs.Objections.{objection_text}
 use Rattle.initd_command.specs.Lines.{line_at, line_told}
 use Rattle.initd_command.specs.declared.check.TheConstants.{UNWRITTEN}
 use Rattle.initd_command.specs.declared.reports.TheConstants.{FLAWED, NO_MEMORY, TOO_MANY}
-use Rattle.initd_command.specs.declared.command.TheConstants.{SHORT_USAGE, UNVERSIONED, USAGE}
+use Rattle.initd_command.specs.declared.command.TheConstants.{CHECK_USAGE, RUN_USAGE, SHORT_USAGE, SIMULATE_USAGE, UNVERSIONED, VERSION_USAGE}
 use Rattle.initd_command.specs.declared.run.TheConstants.{UNLED, UNTOLD}
 use Rattle.initd_command.specs.Turned.{End, ReportsEnd, ReportsText, end_status}
 use Rattle.command_words.specs.Faults.{usage_report}
@@ -46,14 +47,14 @@ pub record Spoken : Type 0 where
   pub told : Bool
   pub printed : Bool
 
--- done; the words are no command line, and why; there is an obstacle; the run over this script ended before its end; the
+-- done; the words are no command line: the usage of the command that they begin with, if with one, and why; there is an obstacle; the run over this script ended before its end; the
 -- writer could not be flushed; a trace is lawful, or unlawful, of which this is told, so far as it was judged; its line of
 -- this number is none; its happening at this line isn't finished, and this is the verdict up to it; the verdict could not
 -- be written; the turns of a run over the operating system ended so, of which this is said; the version could not be
 -- written
 pub data Ending : Type 0 where
   done : Ending
-  usage : List ℕ → Ending
+  usage : Option (List ℕ) → List ℕ → Ending
   refused : Obstacle → Ending
   stopped : List ℕ → SimFault → Ending
   unflushed : Ending
@@ -86,7 +87,7 @@ fault_status fault.Memory = DEVICE_FAULT
 
 abbrev pub status_of : Ending → ℕ
 status_of done = DONE
-status_of (usage reason) = REFUSED
+status_of (usage help reason) = REFUSED
 status_of (refused why) = obstacle_status why
 status_of (stopped script f) = fault_status f
 status_of unflushed = DEVICE_FAULT
@@ -196,10 +197,36 @@ ReportsObstacle (shared one other) old new = ReportsText (shared_message one oth
 ReportsObstacle (unlocked path why) old new = ReportsText (cannot_message (codes "lock") path why) old new
 ReportsObstacle (uncreated path why) old new = ReportsText (cannot_message (codes "create") path why) old new
 
+-- the usage of a command, and of the one that words begin with
+abbrev pub usage_of : List ℕ → Option (List ℕ)
+usage_of command =
+    if bytes_eq command (codes "run") then Some RUN_USAGE.now
+    else if bytes_eq command (codes "simulate") then Some SIMULATE_USAGE.now
+    else if bytes_eq command (codes "check") then Some CHECK_USAGE.now
+    else None
+
+abbrev pub usage_named : List (List ℕ) → Option (List ℕ)
+usage_named [] = None
+usage_named (command ∷ words) = usage_of command
+
+-- the usage of all commands is reported
+abbrev pub ReportsAll : Option (List ℕ) → Option (List ℕ) → Type 0
+ReportsAll old new =
+    (run simulate check : Option (List ℕ)) × AppendsPrefix old run RUN_USAGE.now
+    × AppendsPrefix run simulate SIMULATE_USAGE.now × AppendsPrefix simulate check CHECK_USAGE.now
+    × AppendsPrefix check new VERSION_USAGE.now
+
+-- what is reported of words that are refused, by the usage of the command that they begin with and the reason, which is
+-- empty where help is asked for
+abbrev pub ReportsRefused : Option (List ℕ) → List ℕ → Option (List ℕ) → Option (List ℕ) → Type 0
+ReportsRefused None [] old new = ReportsAll old new
+ReportsRefused help reason old new =
+    AppendsPrefix old new (usage_report (codes "initd") reason (unwrap_or help []) SHORT_USAGE.now)
+
 -- what is reported of an ending
 abbrev pub Reports : Ending → Option (List ℕ) → Option (List ℕ) → Type 0
 Reports done old new = Keeps old new
-Reports (usage reason) old new = AppendsPrefix old new (usage_report (codes "initd") reason USAGE.now SHORT_USAGE.now)
+Reports (usage help reason) old new = ReportsRefused help reason old new
 Reports (refused why) old new = ReportsObstacle why old new
 Reports (stopped script f) old new = ReportsText (fault_message script f) old new
 Reports unflushed old new = ReportsText (fault_message [] fault.Write) old new

@@ -8,7 +8,7 @@ use Rattle.program_io.specs.Known.{IsTextAt, KnownTexts}
 use Rattle.simulator.specs.declared.running.SimFault.{SimFault}
 use Rattle.simulator.specs.Simulation.{Done, Ends, Scenario, scenario}
 use Rattle.initd_options.specs.CommandLine.{CheckSaid, SimulateSaid, InitdSaid, judges, initd_read_of, simulates, runs, version}
-use Rattle.initd_command.specs.Endings.{Ending, EndsUnread, done, usage, refused, no_memory, stopped, unflushed, unversioned}
+use Rattle.initd_command.specs.Endings.{Ending, EndsUnread, done, usage, refused, no_memory, stopped, unflushed, unversioned, usage_named}
 use Rattle.initd_command.specs.Services.{EndsRun}
 use Rattle.initd_command.specs.Verdicts.{EndsCheck}
 
@@ -44,11 +44,12 @@ EndsSaid text_at (judges check) ending old new = EndsCheck (judged_at text_at ch
 EndsSaid text_at (runs service) ending old new = EndsRun text_at service ending old new
 
 -- how words end that are no command line, and how they end by what they say
-abbrev pub EndsRead : KnownTexts → Option InitdSaid → Ending → Option (List ℕ) → Option (List ℕ) → Type 0
-EndsRead text_at None ending old new = (reason : List ℕ) × (ending ≡ usage reason) × Keeps old new
-EndsRead text_at (Some said) ending old new = EndsSaid text_at said ending old new
+abbrev pub EndsRead : KnownTexts → List (List ℕ) → Option InitdSaid → Ending → Option (List ℕ) → Option (List ℕ) → Type 0
+EndsRead text_at words None ending old new =
+    (reason : List ℕ) × (ending ≡ usage (usage_named words) reason) × Keeps old new
+EndsRead text_at words (Some said) ending old new = EndsSaid text_at said ending old new
 
 -- how words end: so, or memory ran out to read them
 abbrev pub EndsBy : KnownTexts → List (List ℕ) → Ending → Option (List ℕ) → Option (List ℕ) → Type 0
 EndsBy text_at words ending old new =
-    ((ending ≡ refused no_memory) × Keeps old new) ⊎ EndsRead text_at (initd_read_of words) ending old new
+    ((ending ≡ refused no_memory) × Keeps old new) ⊎ EndsRead text_at words (initd_read_of words) ending old new

@@ -1,7 +1,7 @@
 //! The words of `initd`, and which work they ask for.
 
-ghost use Rattle.std.specs.Prelude.{◌≡◌, map, string_bytes};
-ghost use Rattle.initd_command.specs.Endings.{Ending, Reports, status_of};
+ghost use Rattle.std.specs.Prelude.{◌≡◌, map, option_map, string_bytes};
+ghost use Rattle.initd_command.specs.Endings.{Ending, Reports, ReportsAll, ReportsRefused, status_of, usage_named, usage_of};
 ghost use Rattle.initd_command.specs.Ran.{AsksBy};
 ghost use Rattle.initd_command.specs.Runs.{EndsBy, EndsVersion};
 
@@ -13,17 +13,14 @@ use crate::simulate::simulate_files;
 use command_words::{report_refused_words, write_version};
 use host_calls::Host;
 use initd_options::{WordFault, Words, read_words};
-use program_io::{DEVICE_FAULT, DONE, Texts};
+use program_io::{DEVICE_FAULT, DONE, REFUSED, Texts, report_usage};
 use std::alloc::Global;
 use std::fs::File;
 use std::io::Write;
 use std::rt::{Clock, Files};
 
-/// What standard error gets where help is asked for.
-pub const USAGE: &str = "usage: initd run [OPTION]..
-       initd simulate [--level L] TABLE SCRIPT
-       initd check [--growing] [--pieces] TRACE
-       initd --version
+/// What standard error gets where help with a command is asked for.
+const RUN_USAGE: &str = "usage: initd run [OPTION]..
   --inittab P      the inittab(5); inittab where it is left out
   --inittab-dir DIR
                    the folder whose files NAME.tab are read after the inittab;
@@ -44,8 +41,8 @@ pub const USAGE: &str = "usage: initd run [OPTION]..
   --judge          judge each happening while the run goes on, as check judges a
                    trace, and tell a breach at once; the run ends with 2 then,
                    in place of 0 or 3
-  --level L        the runlevel to go to, 0 to 9, S or s, of a simulated run
-                   too; the inittab's initdefault where it is left out
+  --level L        the runlevel to go to, 0 to 9, S or s; the inittab's
+                   initdefault where it is left out
   --turns N        the greatest number of turns, 1 to 1000000000; 1000000 where
                    it is left out
   --forever        no limit of turns; it is refused beside a limit
@@ -69,14 +66,25 @@ pub const USAGE: &str = "usage: initd run [OPTION]..
   --bell           make the FIFO that telinit rings, P.bell beside the file of
                    requests, where there is none: a request is heard at once
                    then
+";
+
+const SIMULATE_USAGE: &str = "usage: initd simulate [--level L] TABLE SCRIPT
+  --level L        the runlevel to go to, 0 to 9, S or s; the inittab's
+                   initdefault where it is left out
+  TABLE            an inittab(5)
+  SCRIPT           what the system did, one happening a line
+";
+
+const CHECK_USAGE: &str = "usage: initd check [--growing] [--pieces] TRACE
   --growing        judge a trace that is still written up to its last whole
                    happening
   --pieces         judge with the trace the pieces TRACE.1, TRACE.2, .. that
                    were put away before it
-  TABLE            an inittab(5)
-  SCRIPT           what the system did, one happening a line
   TRACE            a trace of init, which is judged
 ";
+
+/// What it gets behind them where help with none is asked for.
+const VERSION_USAGE: &str = "usage: initd --version\n";
 
 /// What standard error gets of words that are no command line, behind a line that says why.
 pub const SHORT_USAGE: &str =
@@ -123,9 +131,7 @@ where
         Ok(Words::Simulate(said)) => simulate_files(texts, alloc, &said, out, err),
         Ok(Words::Check(said)) => check_files(rt, texts, alloc, &said, out, err),
         Ok(Words::Run(said)) => run_files(rt, texts, hosts, alloc, &said, out, err),
-        Err(WordFault::Usage(reason)) => {
-            report_refused_words("initd", reason.as_str(), USAGE, SHORT_USAGE, err)
-        }
+        Err(WordFault::Usage(reason)) => report_refused(words.as_slice(), reason.as_str(), err),
         Err(WordFault::Memory) => report_memory(err),
     }
 }
@@ -141,4 +147,50 @@ fn tell_version<W: Write, E: Write>(out: &mut W, err: &mut E) -> u8
     }
     report(UNVERSIONED, err);
     DEVICE_FAULT
+}
+
+/// Reports why words are refused, with a line of usage. Where no reason is given, since help is asked for, it reports the
+/// usage of the command that they begin with, or of all.
+fn report_refused<E: Write>(words: &[String], reason: &str, err: &mut E) -> u8
+    ensures status { result ≡ REFUSED }
+    ensures reported { ReportsRefused (usage_named (map string_bytes words.now)) reason.now
+        (E.contents err.old) (E.contents err.new) }
+{
+    match usage_named(words) {
+        Some(usage) => report_refused_words("initd", reason, usage, SHORT_USAGE, err),
+        None if reason.is_empty() => report_all(err),
+        None => report_refused_words("initd", reason, "", SHORT_USAGE, err),
+    }
+}
+
+/// The usage of the command that words begin with.
+fn usage_named(words: &[String]) -> Option<&'static str>
+    ensures { option_map (λ usage. usage.now) result ≡ usage_named (map string_bytes words.now) }
+{
+    match words {
+        [command, ..] => usage_of(command.as_str()),
+        [] => None,
+    }
+}
+
+fn usage_of(command: &str) -> Option<&'static str>
+    ensures { option_map (λ usage. usage.now) result ≡ usage_of command.now }
+{
+    match command {
+        "run" => Some(RUN_USAGE),
+        "simulate" => Some(SIMULATE_USAGE),
+        "check" => Some(CHECK_USAGE),
+        _ => None,
+    }
+}
+
+/// Reports the usage of all commands.
+fn report_all<E: Write>(err: &mut E) -> u8
+    ensures status { result ≡ REFUSED }
+    ensures reported { ReportsAll (E.contents err.old) (E.contents err.new) }
+{
+    report(RUN_USAGE, err);
+    report(SIMULATE_USAGE, err);
+    report(CHECK_USAGE, err);
+    report_usage(VERSION_USAGE, err)
 }

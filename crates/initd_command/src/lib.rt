@@ -16,7 +16,7 @@ mod run;
 mod simulate;
 mod watchers;
 
-pub use command::{SHORT_USAGE, USAGE, run_words};
+pub use command::{SHORT_USAGE, run_words};
 pub use hosts::Hosts;
 pub use laws::law_of_telinit;
 pub use os_hosts::OsHosts;

@@ -4,7 +4,7 @@ use Rattle.program_io.specs.Known.{KnownTexts}
 use Rattle.initd_options.specs.CommandLine.{InitdSaid, check_of, judges, initd_read_of, simulation_of, simulates, runs, version}
 use Rattle.initd_options.specs.Options.{RunSaid, run_of}
 use Rattle.host_calls.specs.Calls.{HostCall}
-use Rattle.initd_command.specs.Endings.{Ending, no_memory, refused, usage}
+use Rattle.initd_command.specs.Endings.{Ending, no_memory, refused, usage, usage_named}
 use Rattle.initd_command.specs.Ran.{AsksBy, AsksSaid, RunTold}
 use Rattle.initd_command.specs.Runs.{EndsBy, EndsRead}
 use Rattle.initd_command.proofs.Ran.{none_asked}
@@ -12,10 +12,10 @@ use Rattle.initd_command.proofs.command.run_words.Goals as goal
 
 -- words that were read end, and ask, by what they say
 by_words : (text_at : KnownTexts) (words : List (List ℕ)) (said : Option InitdSaid) (own : List HostCall → Type 0) (ending : Ending) (old new : RunTold)
-    → initd_read_of words ≡ said → EndsRead text_at said ending old.out new.out → AsksSaid text_at said own ending old new
+    → initd_read_of words ≡ said → EndsRead text_at words said ending old.out new.out → AsksSaid text_at said own ending old new
     → EndsBy text_at words ending old.out new.out × AsksBy text_at words own ending old new
 by_words text_at words said own ending old new is ends asks =
-    (inr (subst (λ s. EndsRead text_at s ending old.out new.out) (sym is) ends), subst (λ s. AsksSaid text_at s own ending old new) (sym is) asks)
+    (inr (subst (λ s. EndsRead text_at words s ending old.out new.out) (sym is) ends), subst (λ s. AsksSaid text_at s own ending old new) (sym is) asks)
 
 abbrev told : Option (List RunSaid) → Option (List HostCall) → Option (List ℕ) → RunTold
 told opened calls out = record { opened = opened; calls = calls; out = out }
@@ -60,10 +60,11 @@ pub returns-in-Err-Usage : goal.returns-in-Err-Usage
 returns-in-Err-Usage g c =
     let none : initd_read_of (map string_bytes c.args.words.items) ≡ None = search rules in
     let reason = c.as_str.result.now in
+    let end = usage (usage_named (map string_bytes c.args.words.items)) reason in
     let now = told (g.S.Hosts.opened c.args.hosts.now) (g.S.Hosts.told c.args.hosts.now) (g.W.Write.contents c.args.out.now) in
-    let so = by_words (g.T.Texts.text_at c.args.texts.now) (map string_bytes c.args.words.items) None g.S.Hosts.own (usage reason) now now none
+    let so = by_words (g.T.Texts.text_at c.args.texts.now) (map string_bytes c.args.words.items) None g.S.Hosts.own end now now none
     (reason, refl, Keeps-refl (g.W.Write.contents c.args.out.now)) refl in
-    (usage reason, c.report_refused_words.ensures.status, so.0, c.report_refused_words.ensures.report, so.1)
+    (end, c.report_refused.ensures.status, so.0, rw c.as_slice-in-Err-Usage.ensures.value at c.report_refused.ensures.reported, so.1)
 
 pub returns : goal.returns
 returns g c =
