@@ -115,7 +115,7 @@ fault_message script f = codes "initd: " ++ fault_text f ++ codes "\n" ++ reason
 -- what could not be done with a file, by a verb, and why
 abbrev pub cannot_message : List ℕ → List ℕ → List ℕ → List ℕ
 cannot_message verb path why =
-    codes "initd: cannot " ++ verb ++ codes " " ++ path ++ codes ": " ++ why ++ codes "\n"
+    codes "initd: cannot " ++ (verb ++ (codes " " ++ (path ++ (codes ": " ++ (why ++ codes "\n")))))
 
 abbrev pub torn_message : ℕ → List ℕ
 torn_message line = codes "initd: trace line " ++ decimal line ++ codes " is not a line\n"
@@ -132,8 +132,8 @@ left_message line =
 -- with the verdict on what stands before it
 abbrev pub unfinished_message : ℕ → List ℕ → List ℕ
 unfinished_message line verdict =
-    codes "initd: the happening at trace line " ++ decimal line
-    ++ codes " is not finished: --growing judges what stands before it: " ++ verdict
+    codes "initd: the happening at trace line "
+    ++ (decimal line ++ (codes " is not finished: --growing judges what stands before it: " ++ verdict))
 
 -- by the number of the process that holds it, where that is known
 abbrev pub busy_message : List ℕ → Option ℕ → List ℕ
@@ -141,12 +141,12 @@ busy_message path None =
     codes "initd: " ++ path
     ++ codes " is in use by another initd run: end that one, or give this one a file of its own\n"
 busy_message path (Some holder) =
-    codes "initd: " ++ path ++ codes " is in use by initd run " ++ decimal holder
-    ++ codes ": end that one, or give this one a file of its own\n"
+    codes "initd: " ++ (path ++ (codes " is in use by initd run "
+    ++ (decimal holder ++ codes ": end that one, or give this one a file of its own\n")))
 
 abbrev pub shared_message : List ℕ → List ℕ → List ℕ
 shared_message one other =
-    codes "initd: " ++ one ++ codes " and " ++ other ++ codes " are one file: give each its own\n"
+    codes "initd: " ++ (one ++ (codes " and " ++ (other ++ codes " are one file: give each its own\n")))
 
 -- that an inittab has no entry of an id
 abbrev pub unlisted_message : List ℕ → List ℕ

@@ -1,5 +1,5 @@
 -- How a trace is judged: the verdict that is written, and what is told of a breach.
-use Rattle.std.specs.Prelude.{◌≡◌, ◌⊎◌, ◌==◌, ◌&&◌, if◌then◌else◌, not, nat_lt, ℕ, Bool, true, false, List, [], ◌∷◌, ◌++◌, codes, decimal, Option, Some, None}
+use Rattle.std.specs.Prelude.{◌≡◌, ◌⊎◌, ◌==◌, ◌&&◌, if◌then◌else◌, not, nat_lt, ℕ, Bool, true, false, List, [], ◌∷◌, ◌++◌, codes, decimal, Option, Some, None, option_map}
 use Rattle.std.specs.Io.KnownBytes.{Appends, Keeps}
 use Rattle.program_io.specs.Writing.{AppendsPrefix}
 use Rattle.program_io.specs.Known.{IsTextAt, KnownTexts}
@@ -9,8 +9,16 @@ use Rattle.trace_verdict.specs.declared.findings.Finding.TheVariants.{Lawful, Br
 use Rattle.trace_verdict.specs.Answers.{Named, Answers}
 use Rattle.trace_verdict.specs.Judges.{HasTaken, TextState}
 use Rattle.initd_options.specs.CommandLine.{CheckSaid}
+use Rattle.initd_command.specs.declared.check.JudgedTrace.{JudgedTrace}
 use Rattle.initd_command.specs.Lines.{front_line}
 use Rattle.initd_command.specs.Endings.{Ending, EndsUnread, Judged, refused, no_memory, lawful, unlawful, torn, unfinished, unwritten}
+
+abbrev pub judged_of : JudgedTrace → Judged
+judged_of told = record {
+  within = option_map (λ path. path.now) told.within;
+  left = told.left;
+  count = told.count;
+}
 
 -- the verdicts
 abbrev pub lawful_text : List ℕ
@@ -18,7 +26,7 @@ lawful_text = codes "lawful\n"
 
 abbrev pub verdict_text : ℕ → ℕ → List ℕ
 verdict_text place law =
-    codes "unlawful: happening " ++ decimal place ++ codes ", law " ++ decimal law ++ codes "\n"
+    codes "unlawful: happening " ++ (decimal place ++ (codes ", law " ++ (decimal law ++ codes "\n")))
 
 abbrev pub unlawful_text : Named → List ℕ
 unlawful_text breach = verdict_text breach.place (law_number breach.law)

@@ -1,16 +1,14 @@
 //! `initd check`: a trace file, judged.
 
-ghost use Rattle.std.specs.Prelude.{◌≡◌, ◌++◌, ℕ, List, Some, [], option_map, string_bytes, IfOk, OnOk};
+ghost use Rattle.std.specs.Prelude.{◌≡◌, ◌++◌, ℕ, List, Some, [], option_map, string_bytes, IfOk};
 ghost use Rattle.initd_options.specs.CommandLine.{check_of};
 ghost use Rattle.initd_command.specs.Endings.{Ending, Reports, ReportsJudged, ReportsLeft, ReportsWithin, status_of, left_message, torn_message, unfinished_message, within_message};
 ghost use Rattle.initd_command.specs.Runs.{judged_at};
 ghost use Rattle.initd_command.specs.Turned.{ReportsText};
-ghost use Rattle.initd_command.specs.Verdicts.{EndsBreach, EndsCheck, EndsFound, EndsLawful, EndsTold, IsJudge, breach_message, cut_at, first_byte, message_of, unlawful_text, verdict_of, verdict_text, within_of};
+ghost use Rattle.initd_command.specs.Verdicts.{EndsBreach, EndsCheck, EndsFound, EndsLawful, EndsTold, IsJudge, breach_message, cut_at, first_byte, judged_of, message_of, verdict_of, verdict_text, within_of};
 
 use crate::lines::front_line;
-use crate::reports::{
-    numbered, report, report_bytes, report_cannot, report_lines, report_made, report_memory, tell,
-};
+use crate::reports::{report, report_bytes, report_cannot, report_made, report_memory, tell};
 use init_words::Memory;
 use initd_options::CheckWords;
 use itoa::Buffer;
@@ -22,6 +20,15 @@ use std::io::Write;
 use std::rt::Files;
 use trace_pieces::PiecedFiles;
 use trace_verdict::{Breach, Finding, TextJudge};
+
+/// What is told of a trace beside what is found: its path, if it begins within a run; the line at which its last
+/// happening isn't finished, if at any; and how many happenings it has.
+#[derive(Clone, Copy)]
+struct JudgedTrace<'a> {
+    within: Option<&'a str>,
+    left: Option<u64>,
+    count: u64,
+}
 
 /// The judge of a trace whose text is read in pieces, and the text's first byte.
 #[derive(Drop)]
@@ -145,7 +152,12 @@ fn judge_text<T: Texts, W: Write, E: Write>(
         Ok(()) => {
             let (finding, left, count) = file.judge.answer();
             let within = within_of(path, file.first, count);
-            tell_text(alloc, said.growing, finding, within, left, count, out, err)
+            let judged = JudgedTrace {
+                within,
+                left,
+                count,
+            };
+            tell_text(alloc, said.growing, finding, judged, out, err)
         }
         Err(error) => report_cannot(alloc, "read", path, &error, err),
     }
@@ -173,23 +185,17 @@ fn tell_text<W: Write, E: Write>(
     alloc: Global,
     growing: bool,
     finding: &Finding,
-    within: Option<&str>,
-    left: Option<u64>,
-    count: u64,
+    judged: JudgedTrace,
     out: &mut W,
     err: &mut E,
 ) -> u8
     ensures { (ending : Ending) × (result ≡ status_of ending)
-        × EndsTold (cut_at growing left) finding.now (record {
-          within = option_map (λ path. path.now) within.entry;
-          left = left;
-          count = count;
-        }) ending (W.contents out.old) (W.contents out.new)
+        × EndsTold (cut_at growing judged.entry.left) finding.now (judged_of judged.entry) ending (W.contents out.old) (W.contents out.new)
         × Reports ending (E.contents err.old) (E.contents err.new) }
 {
-    match cut_at(growing, left) {
+    match cut_at(growing, judged.left) {
         Some(line) => report_unfinished(alloc, line, finding, err),
-        None => tell_finding(alloc, finding, within, left, count, out, err),
+        None => tell_finding(alloc, finding, judged, out, err),
     }
 }
 
@@ -197,23 +203,17 @@ fn tell_text<W: Write, E: Write>(
 fn tell_finding<W: Write, E: Write>(
     alloc: Global,
     finding: &Finding,
-    within: Option<&str>,
-    left: Option<u64>,
-    count: u64,
+    judged: JudgedTrace,
     out: &mut W,
     err: &mut E,
 ) -> u8
     ensures { (ending : Ending) × (result ≡ status_of ending)
-        × EndsFound finding.now (record {
-          within = option_map (λ path. path.now) within.entry;
-          left = left;
-          count = count;
-        }) ending (W.contents out.old) (W.contents out.new)
+        × EndsFound finding.now (judged_of judged.entry) ending (W.contents out.old) (W.contents out.new)
         × Reports ending (E.contents err.old) (E.contents err.new) }
 {
     match finding {
-        Finding::Lawful => tell_lawful(alloc, within, left, count, out, err),
-        Finding::Breach(breach) => tell_breach(alloc, breach, within, left, count, out, err),
+        Finding::Lawful => tell_lawful(alloc, judged, out, err),
+        Finding::Breach(breach) => tell_breach(alloc, breach, judged, out, err),
         Finding::Torn(number) => report_torn(alloc, *number, err),
     }
 }
@@ -224,25 +224,19 @@ const UNWRITTEN: &str = "initd: the verdict could not be written\n";
 /// Writes that the trace is lawful.
 fn tell_lawful<W: Write, E: Write>(
     alloc: Global,
-    within: Option<&str>,
-    left: Option<u64>,
-    count: u64,
+    judged: JudgedTrace,
     out: &mut W,
     err: &mut E,
 ) -> u8
     ensures { (ending : Ending) × (result ≡ status_of ending)
-        × EndsLawful (record {
-          within = option_map (λ path. path.now) within.entry;
-          left = left;
-          count = count;
-        }) ending (W.contents out.old) (W.contents out.new)
+        × EndsLawful (judged_of judged.entry) ending (W.contents out.old) (W.contents out.new)
         × Reports ending (E.contents err.old) (E.contents err.new) }
 {
     if !tell(b"lawful\n", out) {
         report(UNWRITTEN, err);
         return DEVICE_FAULT;
     }
-    report_judged(alloc, within, left, count, err);
+    report_judged(alloc, judged, err);
     DONE
 }
 
@@ -250,64 +244,44 @@ fn tell_lawful<W: Write, E: Write>(
 fn tell_breach<W: Write, E: Write>(
     alloc: Global,
     breach: &Breach,
-    within: Option<&str>,
-    left: Option<u64>,
-    count: u64,
+    judged: JudgedTrace,
     out: &mut W,
     err: &mut E,
 ) -> u8
     ensures { (ending : Ending) × (result ≡ status_of ending)
-        × EndsBreach breach.now (record {
-          within = option_map (λ path. path.now) within.entry;
-          left = left;
-          count = count;
-        }) ending (W.contents out.old) (W.contents out.new)
+        × EndsBreach breach.now (judged_of judged.entry) ending (W.contents out.old) (W.contents out.new)
         × Reports ending (E.contents err.old) (E.contents err.new) }
 {
-    let Ok(verdict) = verdict_line(alloc, breach) else {
+    let Ok(verdict) = verdict_text(alloc, breach.place(), breach.law().number()) else {
         return report_memory(err);
     };
     let Ok(message) = breach_message(alloc, breach) else {
         return report_memory(err);
     };
-    if !tell(&verdict, out) {
+    if !tell(verdict.as_bytes(), out) {
         report(UNWRITTEN, err);
         return DEVICE_FAULT;
     }
     report_bytes(&message, err);
-    report_judged(alloc, within, left, count, err);
+    report_judged(alloc, judged, err);
     UNLAWFUL
 }
 
-fn verdict_line(alloc: Global, breach: &Breach) -> Result<Vec<u8>, AllocError>
-    ensures { IfOk result (λ text. text.items ≡ unlawful_text breach.now) }
+/// The verdict on a trace whose happening of this place, from 0, breaks this law.
+fn verdict_text(alloc: Global, place: u64, law: u8) -> Result<String, AllocError>
+    ensures { IfOk result (λ text. string_bytes text ≡ verdict_text place law) }
 {
-    let mut text = Vec::new(alloc);
-    add_unlawful(&mut text, breach.place(), breach.law().number())?;
-    Ok(text)
+    format!(in alloc; "unlawful: happening {place}, law {law}\n")
 }
 
-/// Adds the verdict on a trace whose happening of this place, from 0, breaks this law.
-fn add_unlawful(text: &mut Vec<u8>, place: u64, law: u8) -> Result<(), AllocError>
-    ensures { OnOk result (text.new.items ≡ text.old.items ++ verdict_text place law) }
-{
-    let mut digits = Buffer::new();
-    text.extend_from_slice(b"unlawful: happening ")?;
-    text.extend_from_slice(digits.format(place).as_bytes())?;
-    text.extend_from_slice(b", law ")?;
-    text.extend_from_slice(digits.format(law).as_bytes())?;
-    text.push(b'\n')?;
-    Ok(())
-}
-
-/// Adds the verdict by what is found.
-fn add_verdict(text: &mut Vec<u8>, finding: &Finding) -> Result<(), AllocError>
-    ensures { OnOk result (text.new.items ≡ text.old.items ++ verdict_of finding.now) }
+/// The verdict by what is found.
+fn verdict_of(alloc: Global, finding: &Finding) -> Result<String, AllocError>
+    ensures { IfOk result (λ text. string_bytes text ≡ verdict_of finding.now) }
 {
     match finding {
-        Finding::Lawful => text.extend_from_slice(b"lawful\n"),
-        Finding::Breach(breach) => add_unlawful(text, breach.place(), breach.law().number()),
-        Finding::Torn(_) => Ok(()),
+        Finding::Lawful => String::from_str(alloc, "lawful\n"),
+        Finding::Breach(breach) => verdict_text(alloc, breach.place(), breach.law().number()),
+        Finding::Torn(_) => Ok(String::new(alloc)),
     }
 }
 
@@ -336,22 +310,13 @@ fn message_of(alloc: Global, number: u64, line: &[u8], why: &[u8]) -> Result<Vec
 
 /// Tells of a trace that was judged that it begins within a run, how many happenings it has, and the line at which the
 /// last one isn't finished.
-fn report_judged<E: Write>(
-    alloc: Global,
-    within: Option<&str>,
-    left: Option<u64>,
-    count: u64,
-    err: &mut E,
-)
-    ensures { ReportsJudged (record {
-      within = option_map (λ path. path.now) within.entry;
-      left = left;
-      count = count;
-    }) (E.contents err.old) (E.contents err.new) }
+fn report_judged<E: Write>(alloc: Global, judged: JudgedTrace, err: &mut E)
+    ensures { ReportsJudged (judged_of judged.entry) (E.contents err.old) (E.contents err.new) }
 {
-    report_within(alloc, within, err);
-    report_lines(numbered(alloc, b"initd: ", count, b" happenings\n"), err);
-    report_left(alloc, left, err);
+    report_within(alloc, judged.within, err);
+    let count = judged.count;
+    report_made(format!(in alloc; "initd: {count} happenings\n"), err);
+    report_left(alloc, judged.left, err);
 }
 
 /// Tells that the trace of a path begins within a run.
@@ -377,18 +342,15 @@ fn report_left<E: Write>(alloc: Global, left: Option<u64>, err: &mut E)
     ensures { ReportsLeft left (E.contents err.old) (E.contents err.new) }
 {
     if let Some(line) = left {
-        report_lines(left_text(alloc, line), err);
+        report_made(left_text(alloc, line), err);
     }
 }
 
-fn left_text(alloc: Global, line: u64) -> Result<Vec<u8>, AllocError>
-    ensures { IfOk result (λ text. text.items ≡ left_message line) }
+fn left_text(alloc: Global, line: u64) -> Result<String, AllocError>
+    ensures { IfOk result (λ text. string_bytes text ≡ left_message line) }
 {
-    numbered(
-        alloc,
-        b"initd: the happening at trace line ",
-        line,
-        b" is not finished: judged up to the line before it\n",
+    format!(in alloc;
+        "initd: the happening at trace line {line} is not finished: judged up to the line before it\n"
     )
 }
 
@@ -398,22 +360,19 @@ fn report_unfinished<E: Write>(alloc: Global, line: u64, finding: &Finding, err:
     ensures reported { ReportsText (unfinished_message line (verdict_of finding.now))
         (E.contents err.old) (E.contents err.new) }
 {
-    report_lines(unfinished_text(alloc, line, finding), err);
+    report_made(unfinished_text(alloc, line, finding), err);
     REFUSED
 }
 
-fn unfinished_text(alloc: Global, line: u64, finding: &Finding) -> Result<Vec<u8>, AllocError>
+fn unfinished_text(alloc: Global, line: u64, finding: &Finding) -> Result<String, AllocError>
     ensures { IfOk result (λ text.
-        text.items ≡ unfinished_message line (verdict_of finding.now)) }
+        string_bytes text ≡ unfinished_message line (verdict_of finding.now)) }
 {
-    let mut text = numbered(
-        alloc,
-        b"initd: the happening at trace line ",
-        line,
-        b" is not finished: --growing judges what stands before it: ",
-    )?;
-    add_verdict(&mut text, finding)?;
-    Ok(text)
+    let verdict = verdict_of(alloc, finding)?;
+    let verdict = verdict.as_str();
+    format!(in alloc;
+        "initd: the happening at trace line {line} is not finished: --growing judges what stands before it: {verdict}"
+    )
 }
 
 /// Reports that a line of a trace is none, and gives the exit status.
@@ -421,8 +380,8 @@ fn report_torn<E: Write>(alloc: Global, number: u64, err: &mut E) -> u8
     ensures status { result ≡ REFUSED }
     ensures reported { ReportsText (torn_message number) (E.contents err.old) (E.contents err.new) }
 {
-    report_lines(
-        numbered(alloc, b"initd: trace line ", number, b" is not a line\n"),
+    report_made(
+        format!(in alloc; "initd: trace line {number} is not a line\n"),
         err,
     );
     REFUSED

@@ -1,12 +1,12 @@
 //! How the turns of a run ended, as it is reported, and the exit status.
 
-ghost use Rattle.std.specs.Prelude.{◌≡◌, ◌++◌, ◌&&◌, [], None, Some, true, IfOk, OnOk};
+ghost use Rattle.std.specs.Prelude.{◌≡◌, ◌++◌, ◌&&◌, [], None, Some, true, string_bytes, IfOk, OnOk};
 ghost use Rattle.initd_options.specs.Options.{run_of};
 ghost use Rattle.initd_command.specs.Services.{end_at, end_of, entry_end, noted_of};
 ghost use Rattle.core_waiting.specs.Lines.{waiting_text};
-ghost use Rattle.initd_command.specs.Turned.{ReportsEnd, ReportsJudgement, ReportsResult, ReportsRunning, ReportsText, ReportsTurns, breach_text, child_text, drained_status, end_status, judged_status, judgement_text, last_text, lawful_text, result_status, result_text, running_text, turns_status};
+ghost use Rattle.initd_command.specs.Turned.{ReportsEnd, ReportsJudgement, ReportsResult, ReportsRunning, ReportsText, ReportsTurns, breach_text, child_text, drained_status, end_status, judged_status, judgement_text, lawful_text, result_status, result_text, running_text, turns_status};
 
-use crate::reports::{numbered, report, report_lines};
+use crate::reports::{report, report_lines, report_made};
 use core_steps::Core;
 use core_waiting::waiting_lines;
 use init_turns::Served;
@@ -113,51 +113,33 @@ fn report_judgement<E: Write>(alloc: Global, whole: bool, judgement: Option<Judg
     ensures { ReportsJudgement whole judgement (E.contents err.old) (E.contents err.new) }
 {
     if let Some(judgement) = judgement {
-        report_lines(judgement_text(alloc, whole, judgement), err);
+        report_made(judgement_text(alloc, whole, judgement), err);
     }
 }
 
-fn judgement_text(alloc: Global, whole: bool, judgement: Judgement) -> Result<Vec<u8>, AllocError>
-    ensures { IfOk result (λ text. text.items ≡ judgement_text whole judgement) }
+fn judgement_text(alloc: Global, whole: bool, judgement: Judgement) -> Result<String, AllocError>
+    ensures { IfOk result (λ text. string_bytes text ≡ judgement_text whole judgement) }
 {
     match judgement {
         Judgement::Lawful(count) => lawful_text(alloc, whole, count),
         Judgement::Breach(place, law) => breach_text(alloc, place, law.words()),
-        Judgement::Unjudged => Vec::from_slice(alloc, UNJUDGED.as_bytes()),
+        Judgement::Unjudged => String::from_str(alloc, UNJUDGED),
     }
 }
 
-fn lawful_text(alloc: Global, whole: bool, count: u64) -> Result<Vec<u8>, AllocError>
-    ensures { IfOk result (λ text. text.items ≡ lawful_text whole count) }
+fn lawful_text(alloc: Global, whole: bool, count: u64) -> Result<String, AllocError>
+    ensures { IfOk result (λ text. string_bytes text ≡ lawful_text whole count) }
 {
     if whole {
-        return numbered(
-            alloc,
-            b"initd: the run was lawful: ",
-            count,
-            b" happenings\n",
-        );
+        return format!(in alloc; "initd: the run was lawful: {count} happenings\n");
     }
-    numbered(
-        alloc,
-        b"initd: what was judged of the run was lawful: ",
-        count,
-        b" happenings\n",
-    )
+    format!(in alloc; "initd: what was judged of the run was lawful: {count} happenings\n")
 }
 
-fn breach_text(alloc: Global, place: u64, why: &str) -> Result<Vec<u8>, AllocError>
-    ensures { IfOk result (λ text. text.items ≡ breach_text place why.now) }
+fn breach_text(alloc: Global, place: u64, why: &str) -> Result<String, AllocError>
+    ensures { IfOk result (λ text. string_bytes text ≡ breach_text place why.now) }
 {
-    let mut text = numbered(
-        alloc,
-        b"initd: the run was unlawful: happening ",
-        place,
-        b": ",
-    )?;
-    text.extend_from_slice(why.as_bytes())?;
-    text.push(b'\n')?;
-    Ok(text)
+    format!(in alloc; "initd: the run was unlawful: happening {place}: {why}\n")
 }
 
 /// Reports how the last child of an entry ended, where a run has an entry's result, and gives the exit status.
@@ -170,7 +152,7 @@ fn report_result<E: Write>(alloc: Global, entry: Option<Id>, notes: &RunNotes, e
         return DONE;
     };
     let last = notes.last();
-    report_lines(result_text(alloc, &id, last), err);
+    report_made(result_text(alloc, id.as_str(), last), err);
     result_status(last)
 }
 
@@ -184,25 +166,14 @@ fn result_status(last: Option<Status>) -> u8
     }
 }
 
-fn result_text(alloc: Global, id: &Id, last: Option<Status>) -> Result<Vec<u8>, AllocError>
+fn result_text(alloc: Global, id: &str, last: Option<Status>) -> Result<String, AllocError>
     ensures { IfOk result (λ text.
-        text.items ≡ result_text (record { id = id.now; last = last })) }
-{
-    let how = last_text(alloc, last)?;
-    let mut text = Vec::new(alloc);
-    text.extend_from_slice(b"initd: ")?;
-    text.extend_from_slice(id.as_bytes())?;
-    text.extend_from_slice(&how)?;
-    Ok(text)
-}
-
-fn last_text(alloc: Global, last: Option<Status>) -> Result<Vec<u8>, AllocError>
-    ensures { IfOk result (λ text. text.items ≡ last_text last) }
+        string_bytes text ≡ result_text (record { id = id.now; last = last })) }
 {
     match last {
-        Some(Status::Exit(code)) => { numbered(alloc, b" ended with ", u64::from(code), b"\n") }
-        Some(Status::Killed) => Vec::from_slice(alloc, b" was killed\n"),
-        None => Vec::from_slice(alloc, b" never ended\n"),
+        Some(Status::Exit(code)) => format!(in alloc; "initd: {id} ended with {code}\n"),
+        Some(Status::Killed) => format!(in alloc; "initd: {id} was killed\n"),
+        None => format!(in alloc; "initd: {id} never ended\n"),
     }
 }
 

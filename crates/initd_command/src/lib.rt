@@ -10,7 +10,6 @@ mod lines;
 mod logs;
 mod os_hosts;
 mod passed_over;
-mod patience;
 mod reports;
 mod run;
 mod simulate;

@@ -90,21 +90,16 @@ impl AnewFile {
             count,
         }
     }
-
-    /// Empties a plain file. Of what is none nothing is left to lose.
-    fn begin(&mut self) -> io::Result<()> {
-        if self.file.metadata()?.is_file() {
-            self.file.set_len(0)?;
-        }
-        self.is_begun = true;
-        Ok(())
-    }
 }
 
 impl Write for AnewFile {
     fn write(&mut self, buf: &[u8]) -> io::Result<usize> {
         if !self.is_begun {
-            self.begin()?;
+            // Of what is no plain file nothing is left to lose.
+            if self.file.metadata()?.is_file() {
+                self.file.set_len(0)?;
+            }
+            self.is_begun = true;
         }
         let count = self.file.write(buf)?;
         self.length = self.length.saturating_add(count as u64);
@@ -155,8 +150,8 @@ impl TraceFile {
 
     /// Writes what is kept, as far as the file takes it.
     fn catch_up(&mut self) {
-        let count = self.piece.count;
-        match write_rest(&mut self.piece, &self.kept, count) {
+        let rest = self.kept.get(self.piece.count..).unwrap_or(&[]);
+        match write_text(&mut self.piece, rest) {
             Ok(()) => {
                 self.piece.count = 0;
                 self.kept.clear();
@@ -170,11 +165,6 @@ impl TraceFile {
     fn go_on_in(&mut self, file: File) {
         self.piece = AnewFile::new(file, self.piece.count);
     }
-}
-
-/// Writes the bytes behind so many.
-fn write_rest<F: Write>(file: &mut F, kept: &[u8], count: usize) -> io::Result<()> {
-    write_text(file, kept.get(count..).unwrap_or(&[]))
 }
 
 /// The log of a trace in a file. The pieces one behind the other are the trace: where the file is gone from its path when
@@ -345,22 +335,16 @@ impl<'a, R: Files<File = File> + Eprint> FileLog<'a, R> {
             Ok(found) if are_same(&found, &self.trace.piece.file.metadata()?) => {
                 let newest = newest_piece(self.rt, self.alloc, self.path)?;
                 let piece = piece_path(self.alloc, self.path, newest.saturating_add(1))?;
-                give_name(self.rt, self.path, piece.as_str())?;
+                // Where the file system lets it, the file has both names until the new one comes.
+                if hard_link(self.rt, self.path, piece.as_str()).is_err() {
+                    rename(self.rt, self.path, piece.as_str())?;
+                }
             }
             Ok(_) => return Err(io::Error::other("another file stands there")),
             Err(error) if error.kind() == ErrorKind::NotFound => {}
             Err(error) => return Err(error),
         }
         rename(self.rt, new, self.path)
-    }
-}
-
-/// Gives a file another name. It keeps the one that it has until another file takes that, where the file system lets one
-/// file have two.
-fn give_name<R: Files>(rt: &R, path: &str, name: &str) -> io::Result<()> {
-    match hard_link(rt, path, name) {
-        Ok(()) => Ok(()),
-        Err(_) => rename(rt, path, name),
     }
 }
 

@@ -10,15 +10,6 @@ use std::marker::Model;
 use trace_events::{Happening, HappeningIn};
 use trace_log::{EndedLog, Log, LogFault};
 
-/// What there is to say of a request for a level.
-#[derive(Clone, Copy)]
-enum Remark {
-    /// The one asked for before it, and the one asked for, which passes that over.
-    PassedOver(Level, Level),
-    /// The level in force is asked for: it is settled, or on the way and had another grace, in seconds, than this one.
-    Unchanged(Level, bool, Option<u16>),
-}
-
 /// The level in force, the grace with which it was entered, and the one that was asked for and isn't entered yet.
 #[derive(Clone, Copy)]
 struct Asked {
@@ -29,8 +20,8 @@ struct Asked {
 }
 
 impl Asked {
-    /// Notes a happening; gives what there is to say of it.
-    fn note<A: Allocator>(&mut self, happening: &HappeningIn<A>) -> Option<Remark> {
+    /// Notes a happening, and says on standard error what there is to say of a request for a level.
+    fn note<A: Allocator>(&mut self, rt: &impl Eprint, happening: &HappeningIn<A>) {
         match happening {
             Happening::Enter(Stage::Run(level), grace) => {
                 *self = Asked {
@@ -41,54 +32,34 @@ impl Asked {
                 };
             }
             Happening::Settle(_) => self.is_settled = true,
-            Happening::Got(HeardRequest::Level(level, grace)) => return self.hear(*level, *grace),
+            Happening::Got(HeardRequest::Level(level, grace)) => self.hear(rt, *level, *grace),
             _ => {}
         }
-        None
     }
 
     /// The same of a request for a level. One for the level in force leaves no wish.
-    fn hear(&mut self, level: Level, grace: u16) -> Option<Remark> {
+    fn hear(&mut self, rt: &impl Eprint, asked: Level, grace: u16) {
         let before = self.wish;
-        let is_now = self.now == Some(level);
-        self.wish = if is_now { None } else { Some(level) };
-        match before {
-            Some(other) if other != level => Some(Remark::PassedOver(other, level)),
-            None if is_now => {
-                let is_other = !self.is_settled && grace != self.grace;
-                let untaken = if is_other { Some(grace) } else { None };
-                Some(Remark::Unchanged(level, self.is_settled, untaken))
-            }
-            _ => None,
-        }
+        let is_now = self.now == Some(asked);
+        self.wish = if is_now { None } else { Some(asked) };
+        let level = char::from(asked.code());
+        let _ = match before {
+            Some(other) if other != asked => eprintln!(rt;
+                "initd: runlevel {} is passed over: runlevel {level} was asked for before it was entered",
+                char::from(other.code())
+            ),
+            None if is_now && self.is_settled => eprintln!(rt;
+                "initd: runlevel {level} is settled: the request for it changes nothing"
+            ),
+            None if is_now && grace != self.grace => eprintln!(rt;
+                "initd: runlevel {level} is being entered: the request for it changes nothing, its {grace} seconds aren't taken"
+            ),
+            None if is_now => eprintln!(rt;
+                "initd: runlevel {level} is being entered: the request for it changes nothing"
+            ),
+            _ => Ok(()),
+        };
     }
-}
-
-/// Says it on standard error.
-fn tell(rt: &impl Eprint, remark: Remark) {
-    let _ = match remark {
-        Remark::PassedOver(earlier, later) => {
-            let earlier = char::from(earlier.code());
-            let later = char::from(later.code());
-            eprintln!(rt;
-                "initd: runlevel {earlier} is passed over: runlevel {later} was asked for before it was entered"
-            )
-        }
-        Remark::Unchanged(level, is_settled, untaken) => {
-            let level = char::from(level.code());
-            match untaken {
-                Some(grace) => eprintln!(rt;
-                    "initd: runlevel {level} is being entered: the request for it changes nothing, its {grace} seconds aren't taken"
-                ),
-                None if is_settled => eprintln!(rt;
-                    "initd: runlevel {level} is settled: the request for it changes nothing"
-                ),
-                None => eprintln!(rt;
-                    "initd: runlevel {level} is being entered: the request for it changes nothing"
-                ),
-            }
-        }
-    };
 }
 
 /// A log in front of another one, to which each happening is handed on. It says on standard error what there is to say of
@@ -131,9 +102,7 @@ impl<R: Eprint, L: Log> Log for AskedLog<'_, R, L> {
     ghost state = { L.state };
 
     fn take<B: Allocator>(&mut self, happening: &HappeningIn<B>) -> Result<(), LogFault> {
-        if let Some(remark) = self.asked.note(happening) {
-            tell(self.rt, remark);
-        }
+        self.asked.note(self.rt, happening);
         self.log.take(happening)
     }
 

@@ -1,6 +1,6 @@
 //! Messages about files and faults.
 
-ghost use Rattle.std.specs.Prelude.{◌≡◌, true, ℕ, List, None, Some, OnOk, OnErr, string_bytes, IfOk, ◌++◌, decimal};
+ghost use Rattle.std.specs.Prelude.{◌≡◌, true, ℕ, List, None, Some, OnOk, OnErr, string_bytes, IfOk, ◌++◌};
 ghost use Rattle.std.specs.Io.KnownBytes.{Appends};
 ghost use Rattle.program_io.specs.Writing.{AppendsPrefix};
 ghost use Rattle.initd_command.specs.Endings.{ReportsFlawed, busy_message, cannot_message, fault_message, fault_status, reason_message, shared_message, unlisted_message};
@@ -8,7 +8,6 @@ ghost use Rattle.initd_command.specs.Turned.{ReportsText};
 
 use crate::lines::{line_at, line_told};
 use init_words::Id;
-use itoa::Buffer;
 use program_io::{DEVICE_FAULT, REFUSED, Reason, write_text};
 use simulator::{Objection, SimFault};
 use std::alloc::{AllocError, Global};
@@ -99,19 +98,8 @@ fn cannot_message(
     ensures { IfOk result (λ text.
         (why : List ℕ) × (string_bytes text ≡ cannot_message verb.now path.now why)) }
 {
-    let why = format!(in alloc; "{}", Reason(error))?;
-    cannot_message_with(alloc, verb, path, why.as_str())
-}
-
-fn cannot_message_with(
-    alloc: Global,
-    verb: &str,
-    path: &str,
-    why: &str,
-) -> Result<String, AllocError>
-    ensures { IfOk result (λ text.
-        string_bytes text ≡ cannot_message verb.now path.now why.now) }
-{
+    let reason = format!(in alloc; "{}", Reason(error))?;
+    let why = reason.as_str();
     format!(in alloc; "initd: cannot {verb} {path}: {why}\n")
 }
 
@@ -135,25 +123,13 @@ fn busy_message(alloc: Global, path: &str, holder: Option<u32>) -> Result<String
     ensures { IfOk result (λ text. string_bytes text ≡ busy_message path.now holder) }
 {
     match holder {
-        Some(number) => held_message(alloc, path, number),
-        None => unheld_message(alloc, path),
+        Some(number) => format!(in alloc;
+            "initd: {path} is in use by initd run {number}: end that one, or give this one a file of its own\n"
+        ),
+        None => format!(in alloc;
+            "initd: {path} is in use by another initd run: end that one, or give this one a file of its own\n"
+        ),
     }
-}
-
-fn held_message(alloc: Global, path: &str, number: u32) -> Result<String, AllocError>
-    ensures { IfOk result (λ text. string_bytes text ≡ busy_message path.now (Some number)) }
-{
-    format!(in alloc;
-        "initd: {path} is in use by initd run {number}: end that one, or give this one a file of its own\n"
-    )
-}
-
-fn unheld_message(alloc: Global, path: &str) -> Result<String, AllocError>
-    ensures { IfOk result (λ text. string_bytes text ≡ busy_message path.now None) }
-{
-    format!(in alloc;
-        "initd: {path} is in use by another initd run: end that one, or give this one a file of its own\n"
-    )
 }
 
 /// Reports that two of a run's files are one, and gives the exit status.
@@ -162,31 +138,11 @@ pub(crate) fn report_shared<E: Write>(alloc: Global, one: &str, other: &str, err
     ensures reported { ReportsText (shared_message one.now other.now) (E.contents err.old)
         (E.contents err.new) }
 {
-    report_made(shared_message(alloc, one, other), err);
+    report_made(
+        format!(in alloc; "initd: {one} and {other} are one file: give each its own\n"),
+        err,
+    );
     REFUSED
-}
-
-fn shared_message(alloc: Global, one: &str, other: &str) -> Result<String, AllocError>
-    ensures { IfOk result (λ text. string_bytes text ≡ shared_message one.now other.now) }
-{
-    format!(in alloc; "initd: {one} and {other} are one file: give each its own\n")
-}
-
-/// A number in a text.
-pub(crate) fn numbered(
-    alloc: Global,
-    front: &[u8],
-    number: u64,
-    behind: &[u8],
-) -> Result<Vec<u8>, AllocError>
-    ensures { IfOk result (λ text. text.items ≡ front.now ++ decimal number ++ behind.now) }
-{
-    let mut text = Vec::new(alloc);
-    let mut digits = Buffer::new();
-    text.extend_from_slice(front)?;
-    text.extend_from_slice(digits.format(number).as_bytes())?;
-    text.extend_from_slice(behind)?;
-    Ok(text)
 }
 
 /// Reports a message that was made, or that there was no memory to make it.
@@ -263,18 +219,14 @@ pub(crate) fn report_unlisted<E: Write>(alloc: Global, id: &Id, err: &mut E) -> 
     ensures reported { ReportsText (unlisted_message id.now) (E.contents err.old)
         (E.contents err.new) }
 {
-    report_lines(unlisted_message(alloc, id), err);
+    report_made(unlisted_message(alloc, id.as_str()), err);
     REFUSED
 }
 
-fn unlisted_message(alloc: Global, id: &Id) -> Result<Vec<u8>, AllocError>
-    ensures { IfOk result (λ text. text.items ≡ unlisted_message id.now) }
+fn unlisted_message(alloc: Global, id: &str) -> Result<String, AllocError>
+    ensures { IfOk result (λ text. string_bytes text ≡ unlisted_message id.now) }
 {
-    let mut text = Vec::new(alloc);
-    text.extend_from_slice(b"initd: no entry has the id ")?;
-    text.extend_from_slice(id.as_bytes())?;
-    text.extend_from_slice(b": give --result an id of the inittab\n")?;
-    Ok(text)
+    format!(in alloc; "initd: no entry has the id {id}: give --result an id of the inittab\n")
 }
 
 /// Writes a text and sees that it is out.

@@ -174,31 +174,7 @@ where
     ensures unasked { OnErr result (S.told hosts.new ≡ S.told hosts.old) }
 {
     refuse_shared(rt, alloc, said)?;
-    let inittab = read_inittab(rt, texts, alloc, said)?;
-    open_over(rt, hosts, alloc, said, inittab)
-}
-
-/// A run over an inittab that was read.
-fn open_over<R, H: Host + Drop, S: Hosts<H>>(
-    rt: &R,
-    hosts: &mut S,
-    alloc: Global,
-    said: &RunWords,
-    inittab: Inittab,
-) -> Result<Run<H>, RunFault>
-where
-    R: Files<File = File> + Alloc,
-    ensures opening { IfOk result (λ run. IsOpeningOf said.now.level inittab.table run.opening) }
-    ensures host { IfOk result (λ run. H.told run.host ≡ S.told hosts.old) }
-    ensures opened { OnOk result (Since (S.opened hosts.old) (S.opened hosts.new)
-        (λ saids. saids ≡ run_of said.now ∷ [])) }
-    ensures unasked { OnErr result (S.told hosts.new ≡ S.told hosts.old) }
-    ensures faults { IfOk result (λ run. run.faults.items ≡ inittab.faults.items) }
-    ensures unled { IfOk result (λ run. run.is_unled ≡ is_unled said.now.level inittab.table) }
-    ensures err { (text_at : KnownTexts) → IsInittab text_at (run_of said.now) inittab
-        → IfErr result (Hinders text_at (run_of said.now)) }
-{
-    let Inittab { table, faults } = inittab;
+    let Inittab { table, faults } = read_inittab(rt, texts, alloc, said)?;
     let is_unled = is_unled(said.level, &table);
     let opening = Opening::new(alloc, table, said.level)?;
     let (trace, made_trace) = open_trace(rt, alloc, said)?;
@@ -232,7 +208,11 @@ fn open_host<R: Files<File = File> + Alloc, H: Host + Drop, S: Hosts<H>>(
     ensures err { (text_at : KnownTexts) → IfErr result (Hinders text_at (run_of said.now)) }
 {
     let path = said.initctl.as_str();
-    let lock = take_lock(rt, alloc, path)?;
+    let lock = match lock_channel(rt, path) {
+        Ok(Some(lock)) => lock,
+        Ok(None) => return Err(RunFault::Busy(lock_holder(rt, alloc, path))),
+        Err(error) => return Err(RunFault::Channel(error)),
+    };
     let was_made = lock.was_made();
     match hosts.open(alloc, said, lock) {
         Ok(host) => Ok(host),
@@ -291,21 +271,6 @@ fn refuse_pair<R: Files>(rt: &R, alloc: Global, one: &str, other: &str) -> Resul
     let one = String::from_str(alloc, one)?;
     let other = String::from_str(alloc, other)?;
     Err(RunFault::Shared(one, other))
-}
-
-/// The lock of the channel of requests.
-fn take_lock<R: Files<File = File>>(
-    rt: &R,
-    alloc: Global,
-    path: &str,
-) -> Result<ChannelLock, RunFault>
-    ensures { (text_at : KnownTexts) (service : RunSaid) → IfErr result (Hinders text_at service) }
-{
-    match lock_channel(rt, path) {
-        Ok(Some(lock)) => Ok(lock),
-        Ok(None) => Err(RunFault::Busy(lock_holder(rt, alloc, path))),
-        Err(error) => Err(RunFault::Channel(error)),
-    }
 }
 
 /// The folder of the inittab's further files, where words name one.

@@ -1,22 +1,28 @@
 //! What is said between turns, on standard error: of waited entries that failed, of a channel whose folder is gone, and,
 //! on request, of a stage that isn't settled for long.
 
-use crate::patience::Patience;
 use core_steps::Core;
+use core_waiting::waiting_lines;
 use init_turns::Watch;
 use init_words::{Act, ChildNumber, Entry, Id, Stage, Status, lives};
 use std::alloc::Global;
-use std::fs;
 use std::io::ErrorKind;
 use std::rt::Files;
+use std::{fs, str};
+
+/// How long a stage may go on unsettled, in seconds, before it is said what it waits for.
+const PATIENCE: u64 = 60;
 
 /// Looks at init between its turns.
 #[derive(Drop)]
 pub(crate) struct Watcher<'a, R> {
     rt: &'a R,
-    patience: Patience<'a, R>,
-    /// Each end of a child is told by itself.
-    is_told: bool,
+    alloc: Global,
+    /// Each end of a child is told by itself, and what an unsettled stage waits for.
+    is_verbose: bool,
+    stage: Option<Stage>,
+    /// The time, in seconds, from which on the stage has been unsettled, or what it waits for was said.
+    since: u64,
     /// The children of waited entries, as they were behind the turn before.
     waited: Vec<(Id, ChildNumber)>,
     /// The folder of the channel.
@@ -26,11 +32,18 @@ pub(crate) struct Watcher<'a, R> {
 
 impl<'a, R> Watcher<'a, R> {
     /// One that looks for the folder of the channel at this path. Where all ends are told it tells no failure.
-    pub(crate) fn new(rt: &'a R, alloc: Global, is_told: bool, channel: &'a str) -> Watcher<'a, R> {
+    pub(crate) fn new(
+        rt: &'a R,
+        alloc: Global,
+        is_verbose: bool,
+        channel: &'a str,
+    ) -> Watcher<'a, R> {
         Watcher {
             rt,
-            patience: Patience::new(rt, alloc, is_told),
-            is_told,
+            alloc,
+            is_verbose,
+            stage: None,
+            since: 0,
             waited: Vec::new(alloc),
             folder: folder_of(channel),
             is_gone: false,
@@ -51,6 +64,24 @@ impl<'a, R> Watcher<'a, R> {
 }
 
 impl<'a, R: Eprint> Watcher<'a, R> {
+    /// Tells what a stage waits for that has gone on for a minute and is not announced settled; and again after each
+    /// further minute.
+    fn tell_waiting(&mut self, core: &Core) {
+        let fields = core.fields();
+        let is_same = fields.stage == self.stage && !fields.announced;
+        if is_same && fields.time.saturating_sub(self.since) < PATIENCE {
+            return;
+        }
+        self.stage = fields.stage;
+        self.since = fields.time;
+        if !is_same {
+            return;
+        }
+        if let Ok(lines) = waiting_lines(self.alloc, core) {
+            let _ = eprint!(self.rt; "{}", str::from_utf8(&lines).unwrap_or(""));
+        }
+    }
+
     /// Tells how each child that init waited for ended, where it failed.
     fn tell_failures(&self, core: &Core) {
         for (id, number) in &self.waited {
@@ -96,12 +127,14 @@ impl<'a, R: Files + Eprint> Watch<Global> for Watcher<'a, R> {
     ghost seen = { λ _. None };
 
     fn look(&mut self, core: &Core) {
-        if !self.is_told {
+        if !self.is_verbose {
             self.tell_failures(core);
             self.note_waited(core);
         }
         self.tell_folder();
-        self.patience.look(core);
+        if self.is_verbose {
+            self.tell_waiting(core);
+        }
     }
 }
 

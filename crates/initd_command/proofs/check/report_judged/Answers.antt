@@ -1,3 +1,4 @@
+use Rattle.std.proofs.Common.{string_bytes}
 use Rattle.initd_command.specs.Endings.{count_message}
 use Rattle.initd_command.proofs.Reported.{reported_text}
 use Rattle.initd_command.proofs.check.report_judged.Goals as goal
@@ -5,6 +6,6 @@ use Rattle.initd_command.proofs.check.report_judged.Goals as goal
 pub returns : goal.returns
 returns g c =
     let first = g.E.Write.contents c.report_within.new.err in
-    let mid = g.E.Write.contents c.report_lines.new.err in
-    let told = reported_text c.numbered.result (λ text. text.items) (count_message c.args.count) first mid c.numbered.ensures c.report_lines.ensures.made c.report_lines.ensures.unmade in
+    let mid = g.E.Write.contents c.report_made.new.err in
+    let told = reported_text c.format.result (λ text. string_bytes text) (count_message c.args.judged.count) first mid c.format.ensures.ok c.report_made.ensures.made c.report_made.ensures.unmade in
     (first, c.report_within.ensures, mid, told, c.report_left.ensures)

@@ -14,12 +14,12 @@ returns-in_default-breach_message g c = (refused no_memory, c.report_memory-in_d
 
 pub returns-then-not-tell : goal.returns-then-not-tell
 returns-then-not-tell g c =
-    let verdict : c.deref.result.now ≡ unlawful_text c.args.breach.now = search rules in
+    let verdict : c.as_bytes.result.now ≡ unlawful_text c.args.breach.now = search rules in
     (unwritten, refl, subst (λ text. AppendsPrefix (g.W.Write.contents c.args.out.now) (g.W.Write.contents c.tell.new.out) text) verdict c.tell.ensures.part, c.report.ensures)
 
 pub returns : goal.returns
 returns g c =
-    let verdict : c.deref.result.now ≡ unlawful_text c.args.breach.now = search rules in
-    let message : c.deref-2.result.now ≡ breach_message c.args.breach.now = search rules in
+    let verdict : c.as_bytes.result.now ≡ unlawful_text c.args.breach.now = search rules in
+    let message : c.deref.result.now ≡ breach_message c.args.breach.now = search rules in
     let said : Appends (g.W.Write.contents c.args.out.now) (g.W.Write.contents c.tell.new.out) (unlawful_text c.args.breach.now) = subst (λ text. Appends (g.W.Write.contents c.args.out.now) (g.W.Write.contents c.tell.new.out) text) verdict (c.tell.ensures.whole (search rules)) in
-    (unlawful c.deref-2.result.now _, refl, (message, refl, said), (g.E.Write.contents c.report_bytes.new.err, c.report_bytes.ensures, c.report_judged.ensures))
+    (unlawful c.deref.result.now _, refl, (message, refl, said), (g.E.Write.contents c.report_bytes.new.err, c.report_bytes.ensures, c.report_judged.ensures))

@@ -1,10 +1,10 @@
-use Rattle.std.proofs.Common.{refl, sym, subst, option_map}
+use Rattle.std.proofs.Common.{refl, sym, subst}
 use Rattle.std.proofs.KnownBytes.{Keeps-refl}
 use Rattle.initd_command.specs.Endings.{Judged, torn}
-use Rattle.initd_command.specs.Verdicts.{EndsFound}
+use Rattle.initd_command.specs.Verdicts.{EndsFound, judged_of}
 use Rattle.initd_command.proofs.check.tell_finding.Goals as goal
 
 pub returns-in-Torn : goal.returns-in-Torn
 returns-in-Torn g c =
-    let judged : Judged = record { within = option_map (λ (path : _). path.now) c.args.within; left = c.args.left; count = c.args.count } in
+    let judged : Judged = judged_of c.args.judged in
     (torn c.in-Torn.number, c.report_torn.ensures.status, subst (λ finding. EndsFound finding judged (torn c.in-Torn.number) (g.W.Write.contents c.args.out.now) (g.W.Write.contents c.args.out.now)) (sym c.in-Torn.is) (refl, Keeps-refl (g.W.Write.contents c.args.out.now)), c.report_torn.ensures.reported)

@@ -1,13 +1,13 @@
-use Rattle.std.proofs.Common.{◌≡◌, ◌∙◌, refl, sym, subst, option_map, Some}
+use Rattle.std.proofs.Common.{◌≡◌, ◌∙◌, refl, sym, subst, Some}
 use Rattle.std.proofs.KnownBytes.{Keeps-refl}
 use Rattle.initd_command.specs.Endings.{Judged, unfinished}
-use Rattle.initd_command.specs.Verdicts.{EndsTold, cut_at, verdict_of}
+use Rattle.initd_command.specs.Verdicts.{EndsTold, cut_at, judged_of, verdict_of}
 use Rattle.initd_command.proofs.check.tell_text.Goals as goal
 
 pub returns-in-Some : goal.returns-in-Some
 returns-in-Some g c =
-    let judged : Judged = record { within = option_map (λ (path : _). path.now) c.args.within; left = c.args.left; count = c.args.count } in
+    let judged : Judged = judged_of c.args.judged in
     let out = g.W.Write.contents c.args.out.now in
     let ending = unfinished c.in-Some.line (verdict_of c.args.finding.now) in
-    let cut : cut_at c.args.growing c.args.left ≡ Some c.in-Some.line = sym c.cut_at.ensures ∙ c.in-Some.is in
+    let cut : cut_at c.args.growing c.args.judged.left ≡ Some c.in-Some.line = sym c.cut_at.ensures ∙ c.in-Some.is in
     (ending, c.report_unfinished.ensures.status, subst (λ at. EndsTold at c.args.finding.now judged ending out out) (sym cut) (refl, refl, Keeps-refl out), c.report_unfinished.ensures.reported)

@@ -1,13 +1,14 @@
 use Rattle.initd_options.specs.Options.{run_of}
 use Rattle.initd_command.specs.Services.{Hinders}
 use Rattle.initd_command.proofs.Ended.{handed_on, read_taken}
-use Rattle.initd_command.proofs.run.open_over.Goals as goal
+use Rattle.initd_command.proofs.run.open_run.Goals as goal
 
 pub returns-in_err-trace-clause-err : goal.returns-in_err-trace-clause-err
-returns-in_err-trace-clause-err g c = λ text_at read.
+returns-in_err-trace-clause-err g c =
+    let text_at = g.T.Texts.text_at c.args.texts.now in
     let service = run_of c.args.said.now in
     handed_on c.from_residual-in_err-trace.result c.in_err-trace.field-0.0 (Hinders text_at service) c.from_residual-in_err-trace.ensures.1
-    (c.in_err-trace.ensures text_at (read_taken text_at service c.args.inittab read))
+    (c.in_err-trace.ensures text_at (read_taken text_at service c.in_ok-table.field-0 c.in_ok-table.ensures.ok))
 
 pub returns-in-Err-clause-err : goal.returns-in-Err-clause-err
-returns-in-Err-clause-err g c = λ text_at read reason. c.in-Err.ensures.err text_at reason
+returns-in-Err-clause-err g c = λ reason. c.in-Err.ensures.err (g.T.Texts.text_at c.args.texts.now) reason
