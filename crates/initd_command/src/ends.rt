@@ -183,17 +183,9 @@ fn report_running<E: Write>(alloc: Global, notes: &RunNotes, err: &mut E)
         (E.contents err.new) }
 {
     match notes.running() {
-        Some(numbers) => report_children(alloc, numbers, err),
+        Some(numbers) if numbers.is_empty() => {}
+        Some(numbers) => report_lines(running_text(alloc, numbers), err),
         None => report(UNNAMED, err),
-    }
-}
-
-/// Reports these children, where there are any.
-fn report_children<E: Write>(alloc: Global, numbers: &Numbers, err: &mut E)
-    ensures { ReportsRunning (Some numbers.now.entries) (E.contents err.old) (E.contents err.new) }
-{
-    if !numbers.is_empty() {
-        report_lines(running_text(alloc, numbers), err);
     }
 }
 

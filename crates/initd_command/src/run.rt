@@ -1,6 +1,6 @@
 //! `initd run`: what it stands on, and its turns.
 
-ghost use Rattle.std.specs.Prelude.{◌≡◌, ◌≤◌, ◌<◌, ◌∷◌, ◌&&◌, not, true, ℕ, List, Option, None, Some, [], option_map, unwrap_or, IfErr, IfOk, IfSome, OnErr, OnOk, ⊤};
+ghost use Rattle.std.specs.Prelude.{◌≡◌, ◌≤◌, ◌<◌, ◌∷◌, ◌&&◌, if◌then◌else◌, not, true, ℕ, List, Option, None, Some, [], option_map, unwrap_or, IfErr, IfOk, IfSome, OnErr, OnOk, ⊤};
 ghost use Rattle.program_io.specs.Known.{KnownTexts};
 ghost use Rattle.init_words.specs.Parts.{NamedText};
 ghost use Rattle.initd_command.specs.Endings.{Ending, Reports, ReportsObstacle, ReportsUnled, ReportsUntold, Spoken, obstacle_status, status_of, turned};
@@ -283,26 +283,6 @@ pub(crate) fn folder_of(said: &RunWords) -> Option<&str>
     }
 }
 
-/// The inittab's own file, and those of its folder, where it has one.
-fn add_folder<R: Files + Eprint>(
-    rt: &R,
-    alloc: Global,
-    said: &RunWords,
-    own: Part,
-) -> Result<Vec<Part>, RunFault>
-    ensures own { IfOk result (λ parts. (more : List NamedText) × (parts.items ≡ own ∷ more)) }
-    ensures alone { (run_of said.now).inittab_dir ≡ None
-        → IfOk result (λ parts. parts.items ≡ own ∷ []) }
-    ensures err { (text_at : KnownTexts) → IfErr result (Hinders text_at (run_of said.now)) }
-{
-    let mut passed = PassedNames::new(alloc, said.verbose);
-    match with_folder(rt, alloc, own, folder_of(said), &mut passed) {
-        Ok(parts) => Ok(parts),
-        Err(FolderFault::Unread(path, error)) => Err(RunFault::Folder(path, error)),
-        Err(FolderFault::Memory) => Err(RunFault::Memory),
-    }
-}
-
 /// The files of the inittab.
 fn files_of<R: Files + Eprint, T: Texts>(
     rt: &R,
@@ -319,7 +299,13 @@ fn files_of<R: Files + Eprint, T: Texts>(
         Err(error) => return Err(RunFault::Inittab(hinted(said, error))),
     };
     let name = String::from_str(alloc, said.inittab.as_str())?;
-    add_folder(rt, alloc, said, Part { name, bytes })
+    let own = Part { name, bytes };
+    let mut passed = PassedNames::new(alloc, said.verbose);
+    match with_folder(rt, alloc, own, folder_of(said), &mut passed) {
+        Ok(parts) => Ok(parts),
+        Err(FolderFault::Unread(path, error)) => Err(RunFault::Folder(path, error)),
+        Err(FolderFault::Memory) => Err(RunFault::Memory),
+    }
 }
 
 /// Why the inittab wasn't read, with what to do where a run was meant for the files of its folder alone.
@@ -505,6 +491,13 @@ where
     let stamped = StampedRuntime::new(rt, alloc, said.stamp);
     let (status, host) = make_traced(&stamped, alloc, said, opening, host, trace, err);
     let is_printed = hosts.close(host);
+    status_where(is_told, is_printed, status)
+}
+
+/// The exit status where all was told and printed, and where not.
+fn status_where(is_told: bool, is_printed: bool, status: u8) -> u8
+    ensures { result ≡ (if is_told && is_printed then status else DEVICE_FAULT) }
+{
     if is_told && is_printed {
         status
     } else {
