@@ -1,5 +1,5 @@
 -- How a command line of initd ends: its exit status, what was written, and what is reported of it.
-use Rattle.std.specs.Prelude.{◌≡◌, ◌&&◌, ℕ, Bool, true, false, if◌then◌else◌, List, [], ◌∷◌, ◌++◌, codes, decimal, Option, Some, None, unwrap_or}
+use Rattle.std.specs.Prelude.{◌≡◌, ◌&&◌, not, ℕ, Bool, true, false, if◌then◌else◌, List, [], ◌∷◌, ◌++◌, codes, decimal, Option, Some, None, unwrap_or}
 use Rattle.std.specs.Io.KnownBytes.{Keeps}
 use Rattle.std.specs.Str.{bytes_eq}
 use Rattle.program_io.specs.Writing.{AppendsPrefix}
@@ -156,15 +156,10 @@ unlisted_message id = codes "initd: no entry has the id " ++ (id ++ codes ": giv
 abbrev pub ReportsFlawed : List ℕ → Option (List ℕ) → Option (List ℕ) → Type 0
 ReportsFlawed told old new = (mid : Option (List ℕ)) × AppendsPrefix old mid told × AppendsPrefix mid new FLAWED.now
 
--- what is reported where the faults of an inittab could not be written
-abbrev pub ReportsUntold : Bool → Option (List ℕ) → Option (List ℕ) → Type 0
-ReportsUntold true old new = Keeps old new
-ReportsUntold false old new = AppendsPrefix old new UNTOLD.now
-
--- what is reported where nothing names a level
-abbrev pub ReportsUnled : Bool → Option (List ℕ) → Option (List ℕ) → Type 0
-ReportsUnled false old new = Keeps old new
-ReportsUnled true old new = AppendsPrefix old new UNLED.now
+-- a text is reported where that is so
+abbrev pub ReportsWhere : Bool → List ℕ → Option (List ℕ) → Option (List ℕ) → Type 0
+ReportsWhere true text old new = AppendsPrefix old new text
+ReportsWhere false text old new = Keeps old new
 
 -- what is told of a happening that isn't finished
 abbrev pub ReportsLeft : Option ℕ → Option (List ℕ) → Option (List ℕ) → Type 0
@@ -237,8 +232,8 @@ Reports (torn line) old new = ReportsText (torn_message line) old new
 Reports (unfinished line verdict) old new = ReportsText (unfinished_message line verdict) old new
 Reports unwritten old new = AppendsPrefix old new UNWRITTEN.now
 Reports (turned spoken end) old new =
-    (first : Option (List ℕ)) × ReportsUntold spoken.told old first
-    × (mid : Option (List ℕ)) × ReportsUnled spoken.unled first mid × ReportsEnd end mid new
+    (first : Option (List ℕ)) × ReportsWhere (not spoken.told) UNTOLD.now old first
+    × (mid : Option (List ℕ)) × ReportsWhere spoken.unled UNLED.now first mid × ReportsEnd end mid new
 Reports unversioned old new = AppendsPrefix old new UNVERSIONED.now
 
 -- the file of this path was not read, and nothing was written

@@ -70,23 +70,15 @@ impl PieceTaker for FileJudge {
     }
 }
 
-impl FileJudge {
-    /// A judge that has taken none.
-    fn new(alloc: Global) -> FileJudge
-        ensures { IsJudge result.judge result.first [] }
-    {
-        FileJudge {
-            judge: TextJudge::new(alloc),
-            first: None,
-        }
-    }
-}
-
-/// The same on the heap: a function that has one in its frame is dear to prove.
+/// A judge that has taken none, on the heap: a function that has one in its frame is dear to prove.
 fn file_judge(alloc: Global) -> Result<Box<FileJudge>, AllocError>
     ensures { IfOk result (λ file. IsJudge file.value.judge file.value.first []) }
 {
-    Ok(Box::new(alloc, FileJudge::new(alloc))?)
+    let judge = FileJudge {
+        judge: TextJudge::new(alloc),
+        first: None,
+    };
+    Ok(Box::new(alloc, judge)?)
 }
 
 /// Reads a trace, with the pieces that were put away before it where they are asked for, and judges it.

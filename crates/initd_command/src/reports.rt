@@ -3,7 +3,7 @@
 ghost use Rattle.std.specs.Prelude.{◌≡◌, true, ℕ, List, None, Some, OnOk, OnErr, string_bytes, IfOk, ◌++◌};
 ghost use Rattle.std.specs.Io.KnownBytes.{Appends};
 ghost use Rattle.program_io.specs.Writing.{AppendsPrefix};
-ghost use Rattle.initd_command.specs.Endings.{ReportsFlawed, busy_message, cannot_message, fault_message, fault_status, reason_message, shared_message, unlisted_message};
+ghost use Rattle.initd_command.specs.Endings.{ReportsFlawed, ReportsWhere, busy_message, cannot_message, fault_message, fault_status, reason_message, shared_message, unlisted_message};
 ghost use Rattle.initd_command.specs.Turned.{ReportsText};
 
 use crate::lines::{line_at, line_told};
@@ -176,6 +176,15 @@ pub(crate) fn report<E: Write>(text: &str, err: &mut E)
     ensures { AppendsPrefix (E.contents err.old) (E.contents err.new) text.now }
 {
     report_bytes(text.as_bytes(), err);
+}
+
+/// Writes a text as far as the writer takes it, where that is so.
+pub(crate) fn report_where<E: Write>(is_so: bool, text: &str, err: &mut E)
+    ensures { ReportsWhere is_so text.now (E.contents err.old) (E.contents err.new) }
+{
+    if is_so {
+        report(text, err);
+    }
 }
 
 /// Writes bytes as far as the writer takes them.

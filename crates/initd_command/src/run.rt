@@ -3,7 +3,7 @@
 ghost use Rattle.std.specs.Prelude.{◌≡◌, ◌≤◌, ◌<◌, ◌∷◌, ◌&&◌, if◌then◌else◌, not, true, ℕ, List, Option, None, Some, [], option_map, unwrap_or, IfErr, IfOk, IfSome, OnErr, OnOk, ⊤};
 ghost use Rattle.program_io.specs.Known.{KnownTexts};
 ghost use Rattle.init_words.specs.Parts.{NamedText};
-ghost use Rattle.initd_command.specs.Endings.{Ending, Reports, ReportsObstacle, ReportsUnled, ReportsUntold, Spoken, obstacle_status, status_of, turned};
+ghost use Rattle.initd_command.specs.Endings.{Ending, Reports, ReportsObstacle, Spoken, obstacle_status, status_of, turned};
 ghost use Rattle.initd_command.specs.Ran.{MakesLogged, MakesTurns, RanBy};
 ghost use Rattle.initd_command.specs.Turned.{End, ReportsEnd, end_status};
 ghost use Rattle.init_words.specs.declared.entries.Entry.{Entry};
@@ -20,8 +20,8 @@ use crate::hosts::Hosts;
 use crate::logs::{FileLog, NoLog, takes_lock};
 use crate::passed_over::AskedLog;
 use crate::reports::{
-    report, report_busy, report_cannot, report_fault, report_flawed, report_memory, report_shared,
-    report_too_many, report_unlisted, tell,
+    report_busy, report_cannot, report_fault, report_flawed, report_memory, report_shared,
+    report_too_many, report_unlisted, report_where, tell,
 };
 use crate::watchers::Watcher;
 use core_steps::Core;
@@ -485,8 +485,8 @@ where
         is_unled,
     } = run;
     let is_told = tell(&faults, out);
-    report_untold(is_told, err);
-    report_unled(is_unled, err);
+    report_where(!is_told, UNTOLD, err);
+    report_where(is_unled, UNLED, err);
     tell_endless(rt, said);
     let stamped = StampedRuntime::new(rt, alloc, said.stamp);
     let (status, host) = make_traced(&stamped, alloc, said, opening, host, trace, err);
@@ -568,24 +568,6 @@ where
     let log = AskedLog::new(rt, log);
     let (status, host, _) = make_turns(rt, alloc, said, opening, host, log, err);
     (status, host)
-}
-
-/// Reports that the faults of the inittab's lines could not be written, where that is so.
-fn report_untold<E: Write>(is_told: bool, err: &mut E)
-    ensures { ReportsUntold is_told (E.contents err.old) (E.contents err.new) }
-{
-    if !is_told {
-        report(UNTOLD, err);
-    }
-}
-
-/// Reports that nothing names a level, where that is so.
-fn report_unled<E: Write>(is_unled: bool, err: &mut E)
-    ensures { ReportsUnled is_unled (E.contents err.old) (E.contents err.new) }
-{
-    if is_unled {
-        report(UNLED, err);
-    }
 }
 
 /// Makes the turns of a run, from its opening on, ends its log, and reports how they ended: the exit status is 0, or that

@@ -25,6 +25,6 @@ returns-clause-ended g c =
         subst (λ text. Writes c.tell-is_told.result text (g.W.Write.contents c.args.out.now) (g.W.Write.contents c.tell-is_told.new.out)) c.deref.ensures.value
             (writes c.tell-is_told.result c.deref.result.now (g.W.Write.contents c.args.out.now) (g.W.Write.contents c.tell-is_told.new.out) c.tell-is_told.ensures.whole c.tell-is_told.ensures.part),
       ),
-      (g.E.Write.contents c.report_untold.new.err, c.report_untold.ensures, g.E.Write.contents c.report_unled.new.err, c.report_unled.ensures, reported),
+      (g.E.Write.contents c.report_where.new.err, c.report_where.ensures, g.E.Write.contents c.report_where-2.new.err, c.report_where-2.ensures, reported),
       λ table opens. subst (λ now. Since (g.H.Host.told c.args.run.host) now (MakesTurns ⊤ (run_of c.args.said.now) table end)) (sym c.close-is_printed.ensures.told) (made table opens),
     )
