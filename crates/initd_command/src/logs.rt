@@ -160,11 +160,6 @@ impl TraceFile {
             Err(error) => self.fault = Some(error),
         }
     }
-
-    /// Goes on in another file, first with what this one didn't take.
-    fn go_on_in(&mut self, file: File) {
-        self.piece = AnewFile::new(file, self.piece.count);
-    }
 }
 
 /// The log of a trace in a file. The pieces one behind the other are the trace: where the file is gone from its path when
@@ -268,13 +263,18 @@ impl<'a, R: Files<File = File> + Eprint> FileLog<'a, R> {
         };
     }
 
+    /// Goes on in another file, first with what this one didn't take.
+    fn go_on_in(&mut self, file: File) {
+        self.trace.piece = AnewFile::new(file, self.trace.piece.count);
+        self.put_away_at = self.step;
+    }
+
     /// Goes on in a new file, where there is none at the path.
     fn begin_anew(&mut self) {
         let path = self.path;
         let _ = match created(self.rt, path) {
             Ok(file) => {
-                self.trace.go_on_in(file);
-                self.put_away_at = self.step;
+                self.go_on_in(file);
                 Ok(())
             }
             Err(error) if error.kind() != ErrorKind::AlreadyExists => eprintln!(self.rt;
@@ -300,10 +300,7 @@ impl<'a, R: Files<File = File> + Eprint> FileLog<'a, R> {
         }
         let path = self.path;
         match self.next_file() {
-            Ok(file) => {
-                self.trace.go_on_in(file);
-                self.put_away_at = self.step;
-            }
+            Ok(file) => self.go_on_in(file),
             Err(error) => {
                 self.put_away_at = self.trace.piece.length.saturating_add(self.step);
                 let _ = eprintln!(self.rt;

@@ -334,20 +334,10 @@ fn taken(said: &RunWords, inittab: Inittab) -> Result<Inittab, RunFault>
     let Some(id) = said.result else {
         return Ok(inittab);
     };
-    if !has_entry(&inittab.table, &id) {
+    if inittab.table.get(&id).is_none() {
         return Err(RunFault::Unlisted(id));
     }
     Ok(inittab)
-}
-
-/// The table has an entry of the id.
-fn has_entry(table: &Table, id: &Id) -> bool
-    ensures { result ≡ has_result table.now (Some id.now) }
-{
-    match table.get(id) {
-        Some(_) => true,
-        None => false,
-    }
 }
 
 /// The table of the files of an inittab, and the lines that tell their faults.
