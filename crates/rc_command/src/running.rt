@@ -7,7 +7,7 @@ ghost use Rattle.command_words.specs.CommandLines.{asks_version};
 ghost use Rattle.command_words.specs.Faults.{ReportsUsage};
 ghost use Rattle.program_io.specs.Writing.{AppendsPrefix};
 ghost use Rattle.command_words.specs.VersionLine.{PrintsVersion};
-ghost use Rattle.rc_command.specs.CommandLine.{rc_read_of, said_at, said_of};
+ghost use Rattle.rc_command.specs.CommandLine.{rc_read_of, said_of};
 ghost use Rattle.rc_command.specs.Endings.{Asks, AsksFor, IsBefore, IsStatusOf, IsWhole, Keeps, Reports, ReportsFirst, ReportsNames, ReportsPart, RunsAsked, Says};
 ghost use Rattle.rc_command.specs.LevelFiles.{AreSame};
 ghost use Rattle.std.specs.Io.KnownBytes.{Appends};
@@ -160,12 +160,24 @@ fn run_asked<H: Host, F: Folders, L: LevelFiles, W: Write, E: Write>(
         new: said.new,
     };
     let options = entering(said.sysv, change, said.options);
-    let status = run(
-        host,
-        folders,
+    let dir = said.dir.as_str();
+    let Ok(path) = folder_of(alloc, dir, said.new) else {
+        return report_no_memory("rc", err);
+    };
+    let previous = match previous_names(folders, alloc, dir, before) {
+        Ok(previous) => previous,
+        Err(error) => return report_unlisted(dir, &error, err),
+    };
+    let names = match folders.names(alloc, path.as_str()) {
+        Ok(names) => names,
+        Err(error) => return report_unlisted(path.as_str(), &error, err),
+    };
+    let status = run_names(
         alloc,
-        said.dir.as_str(),
-        change,
+        host,
+        path.as_str(),
+        &previous,
+        &names,
         options,
         out,
         err,
@@ -266,51 +278,6 @@ fn report_unkept<E: Write>(path: &str, error: &io::Error, err: &mut E) -> u8
         Reason(error)
     );
     DEVICE_FAULT
-}
-
-/// Runs the scripts of the new level's folder.
-fn run<H: Host, F: Folders, W: Write, E: Write>(
-    host: &mut H,
-    folders: &F,
-    alloc: Global,
-    dir: &str,
-    change: LevelChange,
-    options: RunOptions,
-    out: &mut W,
-    err: &mut E,
-) -> u8
-    ensures statuses { IsWhole result ⊎ (result ≡ LIMIT_REACHED) ⊎ (result ≡ DEVICE_FAULT) }
-    ensures done { IsWhole result → Reports (F.names_at folders.now)
-        (said_at dir.now change options) (W.contents out.old) result (W.contents out.new) }
-    ensures part { (out.new ≡ out.old) ⊎ ReportsPart (F.names_at folders.now)
-        (said_at dir.now change options) (W.contents out.old) (W.contents out.new) }
-    ensures ran { ((result ≡ DEVICE_FAULT) × (out.new ≡ out.old)
-        × (H.told host.new ≡ H.told host.old))
-        ⊎ ((options.dry ≡ true → H.told host.new ≡ H.told host.old)
-        × (options.dry ≡ false → RunsSaid (F.names_at folders.now) (said_at dir.now change options)
-        (H.told host.old) (H.told host.new) (W.contents out.old) (E.contents err.old) result
-        (W.contents out.new) (E.contents err.new))) }
-{
-    let Ok(path) = folder_of(alloc, dir, change.new) else {
-        return report_no_memory("rc", err);
-    };
-    let previous = match previous_names(folders, alloc, dir, change.before) {
-        Ok(previous) => previous,
-        Err(error) => return report_unlisted(dir, &error, err),
-    };
-    match folders.names(alloc, path.as_str()) {
-        Ok(names) => run_names(
-            alloc,
-            host,
-            path.as_str(),
-            &previous,
-            &names,
-            options,
-            out,
-            err,
-        ),
-        Err(error) => report_unlisted(path.as_str(), &error, err),
-    }
 }
 
 /// Runs the scripts of the folder at `path` over a host, from the names in the folder of the previous level and in it,

@@ -1,26 +1,27 @@
-use Rattle.rc_command.proofs.CommonWords.{inl, inr, ap, said_of, ReportsPart}
-use Rattle.rc_command.proofs.Reported.{asks_for, fault_of, known_of, reports_asked, runs_asked}
+use Rattle.rc_command.proofs.CommonWords.{refl, ◌∙◌, ap, inl, inr, Global, List, String, map, string_bytes, ℕ, RcSaid, said_at, said_of}
+use Rattle.rc_command.proofs.Reported.{fault_of, reports_asked, runs_asked, said_reports, said_runs}
 use Rattle.rc_command.proofs.running.run_asked.Goals as goal
 
-pub returns-clause-statuses : goal.returns-clause-statuses
-returns-clause-statuses g c = known_of (said_of c.args.said.now).file c.run-status.result _ _ _ c.keep_level.ensures.status c.run-status.ensures.statuses
+abbrev texts : List (String Global) → List (List ℕ)
+texts names = map (λ (name : String Global). string_bytes name) names
 
 pub returns-clause-done : goal.returns-clause-done
 returns-clause-done g c =
-    reports_asked (g.L.LevelFiles.file_at c.args.levels.now) (g.F.Folders.names_at c.args.folders.now) (said_of c.args.said.now) c.in-Ok.before c.as_str.result.now c.entering-options.result c.run-status.result c.keep_level.result _ _ _ _ c.in-Ok.ensures.ok c.as_str.ensures.value c.entering-options.ensures c.keep_level.ensures.status c.run-status.ensures.done
-
-pub returns-clause-part : goal.returns-clause-part
-returns-clause-part g c = elim c.run-status.ensures.part [
-  | inl same ↦ inl same
-  | inr part ↦
-      inr (asks_for (g.L.LevelFiles.file_at c.args.levels.now) (said_of c.args.said.now) c.in-Ok.before c.as_str.result.now c.entering-options.result
-      (λ said. ReportsPart (g.F.Folders.names_at c.args.folders.now) said (g.W.Write.contents c.args.out.now) (g.W.Write.contents c.run-status.new.out))
-      c.in-Ok.ensures.ok c.as_str.ensures.value c.entering-options.ensures part)
-]
+    let names_at = g.F.Folders.names_at c.args.folders.now in
+    let run : RcSaid = said_at c.as_str-dir.result.now (record { before = c.in-Ok.before; new = c.args.said.now.new }) c.entering-options.result in
+    reports_asked (g.L.LevelFiles.file_at c.args.levels.now) names_at (said_of c.args.said.now) c.in-Ok.before c.as_str-dir.result.now c.entering-options.result c.run_names-status.result c.keep_level.result _ _ _ _ c.in-Ok.ensures.ok c.as_str-dir.ensures.value c.entering-options.ensures c.keep_level.ensures.status
+    (λ whole. said_reports names_at run c.as_str-dir.result.now c.as_str-2.result.now c.as_str.result.now (texts c.in-Ok-previous_names.previous.items) (texts c.in-Ok-names.names.items) _ _ _ refl (c.as_str-2.ensures.value ∙ c.in-Ok-folder_of.ensures) (c.as_str.ensures.value ∙ c.in-Ok-folder_of.ensures) c.in-Ok-previous_names.ensures c.in-Ok-names.ensures.names
+        (rw (c.deref.ensures.value, c.deref-2.ensures.value) at c.run_names-status.ensures.done whole))
 
 pub returns-clause-ran : goal.returns-clause-ran
-returns-clause-ran g c = elim c.run-status.ensures.ran [
-  | inl (fault, same, told) ↦ inl (fault_of (said_of c.args.said.now).file c.run-status.result _ _ _ c.keep_level.ensures.status fault, same, told)
-  | inr runs ↦
-      inr (runs_asked (g.L.LevelFiles.file_at c.args.levels.now) (g.F.Folders.names_at c.args.folders.now) (said_of c.args.said.now) c.in-Ok.before c.as_str.result.now c.entering-options.result c.run-status.result c.keep_level.result _ _ _ _ _ _ _ _ c.in-Ok.ensures.ok c.as_str.ensures.value c.entering-options.ensures c.keep_level.ensures.status (ap g.E.Write.contents c.in-Ok.ensures.silent) runs)
+returns-clause-ran g c = elim c.run_names-status.ensures.ran [
+  | inl (fault, same, host) ↦ inl (fault_of (said_of c.args.said.now).file c.run_names-status.result _ _ _ c.keep_level.ensures.status fault, same, ap g.H.Host.told host)
+  | inr some ↦
+      (let names_at = g.F.Folders.names_at c.args.folders.now in
+      let run : RcSaid = said_at c.as_str-dir.result.now (record { before = c.in-Ok.before; new = c.args.said.now.new }) c.entering-options.result in
+      inr (runs_asked (g.L.LevelFiles.file_at c.args.levels.now) names_at (said_of c.args.said.now) c.in-Ok.before c.as_str-dir.result.now c.entering-options.result c.run_names-status.result c.keep_level.result _ _ _ _ _ _ _ _ c.in-Ok.ensures.ok c.as_str-dir.ensures.value c.entering-options.ensures c.keep_level.ensures.status (ap g.E.Write.contents c.in-Ok.ensures.silent) (
+        (λ dry. ap g.H.Host.told (c.run_names-status.ensures.dry dry)),
+        (λ wet. said_runs names_at run c.as_str-dir.result.now c.as_str-2.result.now c.as_str.result.now (texts c.in-Ok-previous_names.previous.items) (texts c.in-Ok-names.names.items) _ _ _ _ _ _ _ refl (c.as_str-2.ensures.value ∙ c.in-Ok-folder_of.ensures) (c.as_str.ensures.value ∙ c.in-Ok-folder_of.ensures) c.in-Ok-previous_names.ensures c.in-Ok-names.ensures.names
+            (rw (c.deref.ensures.value, c.deref-2.ensures.value) at some wet)),
+      )))
 ]
