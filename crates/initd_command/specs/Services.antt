@@ -1,6 +1,6 @@
 -- How a run over the operating system ends. Its host tells nothing of what was asked of it, so this is what is written,
 -- and how the exit status follows from what ended the turns.
-use Rattle.std.specs.Prelude.{◌≡◌, ◌≤◌, ◌<◌, ◌⊎◌, ◌&&◌, ◌==◌, not, if◌then◌else◌, ℕ, Bool, true, false, List, [], ◌∷◌, ◌++◌, length, reverse, string_bytes, Option, Some, None, option_map, is_none, is_some, unwrap_or, IfSome, IsTrue, ⊤}
+use Rattle.std.specs.Prelude.{◌≡◌, ◌≤◌, ◌<◌, ◌⊎◌, ◌&&◌, ◌==◌, not, if◌then◌else◌, ℕ, Bool, true, false, List, [], ◌∷◌, ◌++◌, length, string_bytes, Option, Some, None, option_map, is_none, is_some, unwrap_or, IfSome, IsTrue, ⊤}
 use Rattle.std.specs.Io.KnownBytes.{Appends, Keeps}
 use Rattle.program_io.specs.Writing.{AppendsPrefix}
 use Rattle.program_io.specs.Known.{IsTextAt, KnownTexts}
@@ -28,7 +28,7 @@ use Rattle.initd_command.specs.declared.run.Inittab.{Inittab}
 use Rattle.initd_command.specs.declared.run.RunFault.{RunFault}
 use Rattle.initd_command.specs.declared.run.RunFault.TheVariants as why
 use Rattle.initd_command.specs.Endings.{Ending, Obstacle, Spoken, refused, no_memory, unread, too_many, too_long, flawed, unlisted, busy, shared, turned, uncreated, unlocked}
-use Rattle.initd_command.specs.Turned.{End, EntryEnd, ReportsEnd, drained, end_status, limited, unlogged}
+use Rattle.initd_command.specs.Turned.{End, EntryEnd, drained, limited, unlogged}
 use Rattle.host_files.specs.Folders.{IsWithin}
 use Rattle.host_messages.specs.LineFaults.{faults_text}
 use Rattle.initd_options.specs.Options.{RunSaid}

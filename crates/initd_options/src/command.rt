@@ -1,13 +1,11 @@
 //! The command lines of initd's commands.
 
 ghost use Rattle.std.specs.Prelude.{◌≡◌, map, string_bytes, IfErr, IfOk, IsSome, None, Some};
-ghost use Rattle.clap.specs.Words.{found_of, rows_of};
 ghost use Rattle.command_words.specs.Faults.{reason_of};
-ghost use Rattle.initd_options.specs.CommandLine.{check_of, check_read_of, command_said, initd_read_of, run_read_of, said_of, simulation_of, simulation_read_of, simulation_said};
+ghost use Rattle.initd_options.specs.CommandLine.{check_of, check_read_of, command_said, initd_read_of, run_read_of, said_of, simulation_of, simulation_read_of};
 ghost use Rattle.initd_options.specs.Options.{run_of};
 
 use crate::options::{OPTIONS, RunWords, read_level_option, read_matches};
-use clap::ArgMatches;
 use command_words::{Row, WordFault, is_set, is_version, meant_of, read_line, value_of};
 use init_words::Level;
 use std::alloc::{AllocError, Global};
@@ -109,20 +107,11 @@ fn read_simulate(alloc: Global, words: &[String]) -> Result<SimulateWords, WordF
         → simulation_read_of (map string_bytes words.now) ≡ None) }
 {
     let matches = read_line(alloc, "simulate", SIMULATE, words)?;
-    read_scenario(alloc, &matches)
-}
-
-fn read_scenario(alloc: Global, matches: &ArgMatches) -> Result<SimulateWords, WordFault>
-    ensures ok { IfOk result (λ said.
-        simulation_said (rows_of (found_of matches.now)) ≡ Some (simulation_of said)) }
-    ensures usage { IfErr result (λ fault. IsSome (reason_of fault)
-        → simulation_said (rows_of (found_of matches.now)) ≡ None) }
-{
-    let level = read_level_option(alloc, matches)?;
+    let level = read_level_option(alloc, &matches)?;
     Ok(SimulateWords {
         level,
-        table: String::from_str(alloc, value_of(matches, "TABLE"))?,
-        script: String::from_str(alloc, value_of(matches, "SCRIPT"))?,
+        table: String::from_str(alloc, value_of(&matches, "TABLE"))?,
+        script: String::from_str(alloc, value_of(&matches, "SCRIPT"))?,
     })
 }
 

@@ -3,7 +3,7 @@
 ghost use Rattle.std.specs.Prelude.{◌≡◌, ◌++◌, ◌⊎◌, string_bytes, IfOk, OnOk, OnErr};
 ghost use Rattle.program_io.specs.Writing.{AppendsPrefix};
 ghost use Rattle.telinit_command.specs.Channels.{AreSame, HasGained, HasGainedFront, IsWholeAt};
-ghost use Rattle.telinit_command.specs.Notes.{IsTold, Reading, made_note, reading_note, unknown_note};
+ghost use Rattle.telinit_command.specs.Notes.{IsTold, Reading, made_note, reading_note};
 
 use crate::channels::Channels;
 use initctl_frame::BLOCK;
@@ -111,13 +111,8 @@ fn reading_note(alloc: Global, path: &str, is_read: io::Result<bool>) -> Result<
         ),
         Err(error) => {
             let reason = format!(in alloc; "{}", Reason(&error))?;
-            unknown_note(alloc, path, reason.as_str())
+            let reason = reason.as_str();
+            format!(in alloc; "telinit: cannot tell whether an init reads {path}: {reason}\n")
         }
     }
-}
-
-fn unknown_note(alloc: Global, path: &str, reason: &str) -> Result<String, AllocError>
-    ensures { IfOk result (λ note. string_bytes note ≡ unknown_note path.now reason.now) }
-{
-    format!(in alloc; "telinit: cannot tell whether an init reads {path}: {reason}\n")
 }

@@ -1,7 +1,6 @@
-use Rattle.std.proofs.Common.{[], ap, ◌∙◌, string_bytes, subst}
+use Rattle.std.proofs.Common.{[]}
 use Rattle.initd_options.specs.Options.{run_of}
 use Rattle.initd_command.specs.declared.run.RunFault.TheVariants as why
-use Rattle.initd_command.specs.Endings.{ReportsFlawed}
 use Rattle.initd_command.proofs.Ended.{reported_as}
 use Rattle.initd_command.proofs.run.report_run_fault.Goals as goal
 
