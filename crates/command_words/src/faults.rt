@@ -73,8 +73,9 @@ fn refusal(alloc: Global, error: &Error) -> Result<String, AllocError> {
 
 /// The reason in a text of clap, of its kinds that a table of options and words has.
 fn reason_in(alloc: Global, text: &str) -> Result<String, AllocError> {
-    let (line, tip) = text.split_once('\n').unwrap_or((text, ""));
-    if let Some(word) = within("error: unexpected argument '", line, "' found") {
+    let (head, tip) = text.split_once("\n\n").unwrap_or((text, ""));
+    if let Some(word) = within("error: unexpected argument '", head, "' found") {
+        let word = first_line(word);
         return match guess_in(tip) {
             Some(guess) => format!(in alloc; "no such option: {word}: {guess}?"),
             None if word.starts_with('-') => format!(in alloc; "no such option: {word}"),
@@ -83,7 +84,7 @@ fn reason_in(alloc: Global, text: &str) -> Result<String, AllocError> {
     }
     if let Some(option) = within(
         "error: a value is required for '",
-        line,
+        head,
         "' but none was supplied",
     ) {
         let (name, _) = option.split_once(' ').unwrap_or((option, ""));
@@ -91,18 +92,27 @@ fn reason_in(alloc: Global, text: &str) -> Result<String, AllocError> {
     }
     if let Some(option) = within(
         "error: unexpected value '",
-        line,
+        head,
         "' found; no more were expected",
     ) {
         let (value, name) = option.rsplit_once("' for '").unwrap_or(("", option));
+        let value = first_line(value);
         return format!(in alloc; "{name} {value}: it takes no value");
     }
-    String::from_str(alloc, line)
+    let line = first_line(head);
+    String::from_str(alloc, line.strip_prefix("error: ").unwrap_or(line))
 }
 
 /// What stands between two texts.
-fn within<'a>(front: &str, line: &'a str, behind: &str) -> Option<&'a str> {
-    line.strip_prefix(front)?.strip_suffix(behind)
+fn within<'a>(front: &str, text: &'a str, behind: &str) -> Option<&'a str> {
+    text.strip_prefix(front)?.strip_suffix(behind)
+}
+
+fn first_line(text: &str) -> &str {
+    match text.split_once('\n') {
+        Some((line, _)) => line,
+        None => text,
+    }
 }
 
 /// The option that was probably meant, where a text of clap has one.
