@@ -237,7 +237,10 @@ impl<'a, R: Files<File = File> + Eprint> FileLog<'a, R> {
         match &self.trace.fault {
             Some(error) if !self.is_waiting => {
                 self.is_waiting = true;
-                tell_waiting(self.rt, path, error);
+                let _ = eprintln!(self.rt;
+                    "initd: cannot write the trace {path}: {}: up to 1,048,576 bytes of it are kept until there is room",
+                    Reason(error)
+                );
             }
             None if self.is_waiting => {
                 self.is_waiting = false;
@@ -355,14 +358,6 @@ fn created<R: Files<File = File>>(rt: &R, path: &str) -> io::Result<File> {
     Ok(file)
 }
 
-/// Says that bytes are kept since the file can't be written.
-fn tell_waiting(rt: &impl Eprint, path: &str, error: &io::Error) {
-    let _ = eprintln!(rt;
-        "initd: cannot write the trace {path}: {}: up to 1,048,576 bytes of it are kept until there is room",
-        Reason(error)
-    );
-}
-
 impl<R: Files<File = File> + Eprint> Log for FileLog<'_, R> {
     ghost use Rattle.std.specs.Prelude.{None, ⊤};
     ghost use Rattle.trace_log.specs.Logs.{LogState};
@@ -389,20 +384,12 @@ impl<R: Files<File = File> + Eprint> EndedLog for FileLog<'_, R> {
     ghost has_ended = { λ _ _ _. ⊤ };
 
     /// Whether the file took all of the trace, in pieces or in one.
-    fn end(self) -> ((), bool) {
-        let FileLog {
-            rt,
-            path,
-            mut trace,
-            is_waiting,
-            is_failed,
-            ..
-        } = self;
-        trace.catch_up();
-        match &trace.fault {
-            Some(error) if !is_waiting => tell_waiting(rt, path, error),
-            _ => {}
+    fn end(mut self) -> ((), bool) {
+        self.trace.catch_up();
+        let is_written = self.trace.fault.is_none();
+        if !is_written {
+            self.tell_waiting();
         }
-        ((), !is_failed && trace.fault.is_none())
+        ((), !self.is_failed && is_written)
     }
 }

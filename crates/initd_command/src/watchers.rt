@@ -30,7 +30,7 @@ pub(crate) struct Watcher<'a, R> {
     is_gone: bool,
 }
 
-impl<'a, R> Watcher<'a, R> {
+impl<'a, R: Files + Eprint> Watcher<'a, R> {
     /// One that looks for the folder of the channel at this path. Where all ends are told it tells no failure.
     pub(crate) fn new(
         rt: &'a R,
@@ -61,9 +61,7 @@ impl<'a, R> Watcher<'a, R> {
             }
         }
     }
-}
 
-impl<'a, R: Eprint> Watcher<'a, R> {
     /// Tells what a stage waits for that has gone on for a minute and is not announced settled; and again after each
     /// further minute.
     fn tell_waiting(&mut self, core: &Core) {
@@ -94,9 +92,7 @@ impl<'a, R: Eprint> Watcher<'a, R> {
             };
         }
     }
-}
 
-impl<'a, R: Files + Eprint> Watcher<'a, R> {
     /// Tells once that the folder of the channel is gone, and once that it is there again.
     fn tell_folder(&mut self) {
         let is_gone = match fs::metadata(self.rt, self.folder) {
