@@ -47,11 +47,11 @@ pub record Spoken : Type 0 where
   pub told : Bool
   pub printed : Bool
 
--- done; the words are no command line: the usage of the command that they begin with, if with one, and why; there is an obstacle; the run over this script ended before its end; the
--- writer could not be flushed; a trace is lawful, or unlawful, of which this is told, so far as it was judged; its line of
--- this number is none; its happening at this line isn't finished, and this is the verdict up to it; the verdict could not
--- be written; the turns of a run over the operating system ended so, of which this is said; the version could not be
--- written
+-- done; the words are no command line: the usage of the command that they begin with, if with one, and why; there is an
+-- obstacle; the run over this script ended before its end; the writer could not be flushed; a trace is lawful, or
+-- unlawful, of which this is told, so far as it was judged; its line of this number is none; its happening at this line
+-- isn't finished, and this is the verdict up to it; the verdict could not be written; the turns of a run over the
+-- operating system ended so, of which this is said; the version could not be written
 pub data Ending : Type 0 where
   done : Ending
   usage : Option (List ℕ) → List ℕ → Ending

@@ -44,7 +44,8 @@ EndsSaid text_at (judges check) ending old new = EndsCheck (judged_at text_at ch
 EndsSaid text_at (runs service) ending old new = EndsRun text_at service ending old new
 
 -- how words end that are no command line, and how they end by what they say
-abbrev pub EndsRead : KnownTexts → List (List ℕ) → Option InitdSaid → Ending → Option (List ℕ) → Option (List ℕ) → Type 0
+abbrev pub EndsRead : KnownTexts → List (List ℕ) → Option InitdSaid → Ending → Option (List ℕ) → Option (List ℕ)
+    → Type 0
 EndsRead text_at words None ending old new =
     (reason : List ℕ) × (ending ≡ usage (usage_named words) reason) × Keeps old new
 EndsRead text_at words (Some said) ending old new = EndsSaid text_at said ending old new

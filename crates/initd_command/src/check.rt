@@ -182,7 +182,8 @@ fn tell_text<W: Write, E: Write>(
     err: &mut E,
 ) -> u8
     ensures { (ending : Ending) × (result ≡ status_of ending)
-        × EndsTold (cut_at growing judged.entry.left) finding.now (judged_of judged.entry) ending (W.contents out.old) (W.contents out.new)
+        × EndsTold (cut_at growing judged.entry.left) finding.now (judged_of judged.entry) ending
+        (W.contents out.old) (W.contents out.new)
         × Reports ending (E.contents err.old) (E.contents err.new) }
 {
     match cut_at(growing, judged.left) {
@@ -200,7 +201,8 @@ fn tell_finding<W: Write, E: Write>(
     err: &mut E,
 ) -> u8
     ensures { (ending : Ending) × (result ≡ status_of ending)
-        × EndsFound finding.now (judged_of judged.entry) ending (W.contents out.old) (W.contents out.new)
+        × EndsFound finding.now (judged_of judged.entry) ending
+        (W.contents out.old) (W.contents out.new)
         × Reports ending (E.contents err.old) (E.contents err.new) }
 {
     match finding {
@@ -241,7 +243,8 @@ fn tell_breach<W: Write, E: Write>(
     err: &mut E,
 ) -> u8
     ensures { (ending : Ending) × (result ≡ status_of ending)
-        × EndsBreach breach.now (judged_of judged.entry) ending (W.contents out.old) (W.contents out.new)
+        × EndsBreach breach.now (judged_of judged.entry) ending
+        (W.contents out.old) (W.contents out.new)
         × Reports ending (E.contents err.old) (E.contents err.new) }
 {
     let Ok(verdict) = verdict_text(alloc, breach.place(), breach.law().number()) else {

@@ -38,8 +38,7 @@ power_read word =
     else if bytes_eq word (codes "ok") then Some power.Ok
     else None
 
--- the request of one character of the list in the place of CHAR, with these seconds, or of the power's word, of which one
--- is given
+-- the request of one character of the list in the place of CHAR, with these seconds, or of the power's word: one is given
 abbrev pub request_in : ℕ → Option Text → Option Text → Option Request
 request_in secs None None = None
 request_in secs (Some sign) None =
