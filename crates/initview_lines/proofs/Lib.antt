@@ -1,4 +1,3 @@
-pub mod Dates
 pub mod Entering
 pub mod Follows
 pub mod Paths

@@ -1,5 +1,4 @@
 pub mod Changes
-pub mod Days
 pub mod Following
 pub mod Happenings
 pub mod Json
@@ -10,4 +9,3 @@ pub mod Reloads
 pub mod Rows
 pub mod Saying
 pub mod Times
-pub mod Words

@@ -37,9 +37,10 @@ fn add_quoted_bytes(text: &mut Vec<u8>, bytes: &[u8]) -> Result<(), AllocError>
 pub(crate) fn add_quoted(text: &mut Vec<u8>, bytes: &[u8]) -> Result<(), AllocError>
     ensures { OnOk result (text.new.items ≡ text.old.items ++ quoted bytes.now) }
 {
-    put(text, b"\"")?;
+    text.push(b'"')?;
     add_quoted_bytes(text, bytes)?;
-    put(text, b"\"")
+    text.push(b'"')?;
+    Ok(())
 }
 
 fn act_of(act: Option<Act>) -> Option<&'static [u8]> {

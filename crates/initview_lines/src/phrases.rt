@@ -56,7 +56,7 @@ fn add_value(text: &mut Vec<u8>, value: Value) -> Result<(), AllocError> {
         Value::Stage(stage) => add_stage(text, stage),
         Value::Status(status) => add_status(text, status),
         Value::Wish(wish) => add_wish(text, wish),
-        Value::Clock(time) => add_clock(text, b"", time, b""),
+        Value::Clock(time) => add_clock(text, time),
         Value::Time(time) => add_time_of_day(text, time),
     }
 }

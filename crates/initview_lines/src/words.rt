@@ -1,69 +1,44 @@
-//! The words that timelines are made of, with what they write.
-
-ghost use Rattle.std.specs.Prelude.{◌≡◌, ◌++◌, replicate, OnOk};
-ghost use Rattle.initview_lines.specs.Words.{level_words, numbered, padded, stage_words, status_words};
+//! The words that lines are made of.
 
 use init_words::{Level, Stage, Status};
 use itoa::Buffer;
 use std::alloc::AllocError;
 
 /// Adds a text.
-pub fn put(text: &mut Vec<u8>, bytes: &[u8]) -> Result<(), AllocError>
-    ensures { OnOk result (text.new.items ≡ text.old.items ++ bytes.now) }
-{
-    text.extend_from_slice(bytes)?;
-    Ok(())
+pub(crate) fn put(text: &mut Vec<u8>, bytes: &[u8]) -> Result<(), AllocError> {
+    text.extend_from_slice(bytes)
 }
 
 /// Adds a number between two texts.
-pub fn add_number(
+pub(crate) fn add_number(
     text: &mut Vec<u8>,
     before: &[u8],
     number: u64,
     after: &[u8],
-) -> Result<(), AllocError>
-    ensures { OnOk result (text.new.items
-        ≡ text.old.items ++ numbered before.now number after.now) }
-{
+) -> Result<(), AllocError> {
     let mut digits = Buffer::new();
-    text.extend_from_slice(before)?;
-    text.extend_from_slice(digits.format(number).as_bytes())?;
-    text.extend_from_slice(after)?;
-    Ok(())
+    put(text, before)?;
+    put(text, digits.format(number).as_bytes())?;
+    put(text, after)
 }
 
-fn add_spaces(text: &mut Vec<u8>, count: usize) -> Result<(), AllocError>
-    ensures { OnOk result (text.new.items ≡ text.old.items ++ replicate count 32) }
-{
-    for _ in 0..count {
+/// Adds a word, and spaces behind it up to a width.
+pub(crate) fn add_padded(text: &mut Vec<u8>, width: usize, word: &[u8]) -> Result<(), AllocError> {
+    put(text, word)?;
+    for _ in word.len()..width {
         text.push(b' ')?;
     }
     Ok(())
 }
 
-/// Adds a word, and spaces behind it up to a width.
-pub fn add_padded(text: &mut Vec<u8>, width: usize, word: &[u8]) -> Result<(), AllocError>
-    ensures { OnOk result (text.new.items ≡ text.old.items ++ padded width word.now) }
-{
-    let room = width.saturating_sub(word.len());
-    text.extend_from_slice(word)?;
-    add_spaces(text, room)?;
-    Ok(())
-}
-
 /// Adds the words of a level.
-pub fn add_level(text: &mut Vec<u8>, level: Level) -> Result<(), AllocError>
-    ensures { OnOk result (text.new.items ≡ text.old.items ++ level_words level) }
-{
-    text.extend_from_slice(b"level ")?;
-    text.push(level.code())?;
-    Ok(())
+pub(crate) fn add_level(text: &mut Vec<u8>, level: Level) -> Result<(), AllocError> {
+    put(text, b"level ")?;
+    put(text, &[level.code()])
 }
 
 /// Adds the words of a stage.
-pub fn add_stage(text: &mut Vec<u8>, stage: Option<Stage>) -> Result<(), AllocError>
-    ensures { OnOk result (text.new.items ≡ text.old.items ++ stage_words stage) }
-{
+pub(crate) fn add_stage(text: &mut Vec<u8>, stage: Option<Stage>) -> Result<(), AllocError> {
     match stage {
         None => put(text, b"the opening"),
         Some(Stage::Sysinit) => put(text, b"stage sysinit"),
@@ -73,9 +48,7 @@ pub fn add_stage(text: &mut Vec<u8>, stage: Option<Stage>) -> Result<(), AllocEr
 }
 
 /// Adds the words of how an id ended.
-pub fn add_status(text: &mut Vec<u8>, status: Option<Status>) -> Result<(), AllocError>
-    ensures { OnOk result (text.new.items ≡ text.old.items ++ status_words status) }
-{
+pub(crate) fn add_status(text: &mut Vec<u8>, status: Option<Status>) -> Result<(), AllocError> {
     match status {
         None => put(text, b"its start failed"),
         Some(Status::Exit(code)) => add_number(text, b"exit ", u64::from(code), b""),
