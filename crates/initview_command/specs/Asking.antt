@@ -1,9 +1,10 @@
 -- What a command line asks: options with their values stand anywhere, and the first of the other words is the command.
-use Rattle.std.specs.Prelude.{Bool, true, false, not, ◌&&◌, ◌||◌, ◌==◌, if◌then◌else◌, List, [], ◌∷◌, codes, length, Option, Some, None, option_and_then, unwrap_or}
+use Rattle.std.specs.Prelude.{ℕ, suc, ◌+◌, Bool, true, false, not, ◌&&◌, ◌||◌, ◌==◌, if◌then◌else◌, List, [], ◌∷◌, codes, length, Option, Some, None, option_and_then, unwrap_or}
 use Rattle.std.specs.List.{list_all}
 use Rattle.std.specs.Option.{is_some, option_map}
 use Rattle.std.specs.Str.{bytes_eq}
 use Rattle.clap.specs.Words.{App, Row, Text, all_of, first_of}
+use Rattle.text_lines.specs.Numbers.{number_read}
 use Rattle.command_words.specs.CommandLines.{Line, given_by, is_set, line_of, value_said, written}
 use Rattle.init_words.specs.declared.levels.Level.{Level}
 use Rattle.init_words.specs.Ids.{id_read}
@@ -13,7 +14,7 @@ use Rattle.initview_lines.specs.declared.lines.RowFormat.TheVariants as shape
 use Rattle.initview_command.specs.declared.asking.TraceQuery.TheVariants as question
 use Rattle.initview_command.specs.declared.asking.TableQuestion.{TableQuestion}
 use Rattle.initview_command.specs.declared.asking.TableQuestion.TheVariants as table
-use Rattle.initview_command.specs.declared.asking.TheConstants.{OPTIONS}
+use Rattle.initview_command.specs.declared.asking.TheConstants.{LAST_LIMIT, OPTIONS}
 use Rattle.initview_command.specs.declared.asking.Command.{Command}
 use Rattle.initview_command.specs.declared.asking.Command.TheVariants.{Show, Draw, Follow, Explain, Reload, Timing, Tables}
 use Rattle.initview_command.specs.declared.charting.Form.{Form}
@@ -61,6 +62,21 @@ form_given true (Some width) = None
 
 abbrev pub form_said : List Row → Option Form
 form_said rows = form_given (is_set (codes "--svg") rows) (first_of (codes "--width") rows)
+
+-- [-n N]: 1 to 10,000 lines
+abbrev pub some_lines : Option ℕ → Option ℕ
+some_lines (Some (suc count)) = Some (suc count)
+some_lines _ = None
+
+abbrev pub last_of : Text → Option ℕ
+last_of word = some_lines (number_read (LAST_LIMIT + 1) word)
+
+abbrev pub last_given : Option Text → Option (Option ℕ)
+last_given None = Some None
+last_given (Some word) = option_map Some (last_of word)
+
+abbrev pub last_said : List Row → Option (Option ℕ)
+last_said rows = last_given (first_of (codes "-n") rows)
 
 -- status TRACE [ID]
 abbrev pub show_of : List Row → List Text → Option Command
@@ -110,11 +126,11 @@ tables_of rows verb words =
     else if bytes_eq verb (codes "lint") then lint_of rows words
     else None
 
--- left TRACE, follow TRACE
+-- left TRACE, follow [-n N] TRACE
 abbrev pub plain_of : List Row → Text → List Text → Option Command
 plain_of rows verb (trace ∷ []) =
     if bytes_eq verb (codes "left") then Some (Show (question.Left (shape_said rows)))
-    else if bytes_eq verb (codes "follow") then Some Follow
+    else if bytes_eq verb (codes "follow") then option_map Follow (last_said rows)
     else None
 plain_of rows verb _ = None
 
@@ -148,7 +164,7 @@ goes_by_level option =
 abbrev pub takes : Command → Text → Bool
 takes (Show question) option = bytes_eq option (codes "--json")
 takes (Draw form) option = bytes_eq option (codes "--svg") || bytes_eq option (codes "--width")
-takes Follow option = false
+takes (Follow last) option = bytes_eq option (codes "-n")
 takes (Explain id) option = bytes_eq option (codes "--inittab-dir")
 takes (Reload level) option = goes_by_level option
 takes (Timing level) option = goes_by_level option

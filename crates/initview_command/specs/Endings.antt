@@ -27,7 +27,7 @@ Does text_at growing_at writers path files folder (Show question) status old new
     Shows text_at writers path (answer_by question) status old new
 Does text_at growing_at writers path files folder (Draw form) status old new =
     Shows text_at writers path (λ writer stop past. (drawing form past ∷ [], stop_status stop)) status old new
-Does text_at growing_at writers path files folder Follow status old new = Follows (growing_at path) status old new
+Does text_at growing_at writers path files folder (Follow last) status old new = Follows last (growing_at path) status old new
 Does text_at growing_at writers path files folder (Explain id) status old new =
     ShowsWithFiles text_at writers path files folder (explained_with path id) AreNone status old new
 Does text_at growing_at writers path files folder (Reload level) status old new =

@@ -8,5 +8,6 @@ pub mod Refusals
 pub mod Reloading
 pub mod Showing
 pub mod Tables
+pub mod Taking
 pub mod WithFiles
 pub mod Writers

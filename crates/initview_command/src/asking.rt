@@ -6,7 +6,7 @@ ghost use Rattle.std.specs.List.{list_all};
 ghost use Rattle.clap.specs.Words.{found_of, rows_of};
 ghost use Rattle.command_words.specs.CommandLines.{given_by, text_of};
 ghost use Rattle.command_words.specs.Faults.{reason_of};
-ghost use Rattle.initview_command.specs.Asking.{asked, asked_by, behind_one, behind_three, belongs, command_line, diff_of, draw_of, explain_of, explained, files_of, form_said, is_given, level_in, level_said, lint_of, path_of, plain_of, plan_of, second_of, shape_said, show_of, table_takes, tables_of, takes, third_of, what_of};
+ghost use Rattle.initview_command.specs.Asking.{asked, asked_by, behind_one, behind_three, belongs, command_line, diff_of, draw_of, explain_of, explained, files_of, form_said, is_given, last_of, last_said, level_in, level_said, lint_of, path_of, plain_of, plan_of, second_of, shape_said, show_of, table_takes, tables_of, takes, third_of, what_of};
 
 use crate::charting::{Form, WIDTH, lines_of};
 use clap::ArgMatches;
@@ -14,6 +14,10 @@ use command_words::{Row, WordFault, is_set, read_line, value_of, word_of};
 use init_words::{Id, Level};
 use initview_lines::RowFormat;
 use std::alloc::Global;
+use text_lines::read_below;
+
+/// How many lines can be asked for.
+pub const LAST_LIMIT: u64 = 10_000;
 
 /// What is asked of a trace.
 #[derive(Clone, Copy)]
@@ -44,7 +48,8 @@ pub enum TableQuestion {
 pub enum Command {
     Show(TraceQuery),
     Draw(Form),
-    Follow,
+    /// What happens, from the last so many lines of what is there on.
+    Follow(Option<usize>),
     /// Why the id is not started, and what the files have of it.
     Explain(Id),
     /// What becomes of what runs, where init reads the second file and goes to the level.
@@ -59,6 +64,7 @@ pub(crate) const OPTIONS: &[Row] = &[
     ("--json", "", ""),
     ("--svg", "", ""),
     ("--width", "N", ""),
+    ("-n", "N", ""),
     ("--programs", "FOLDERS", ""),
     ("--trace", "TRACE", ""),
     ("--level", "LEVEL", ""),
@@ -107,7 +113,7 @@ fn takes(what: &Command, option: &str) -> bool
     match what {
         Command::Show(_) => option == "--json",
         Command::Draw(_) => option == "--svg" || option == "--width",
-        Command::Follow => false,
+        Command::Follow(_) => option == "-n",
         Command::Explain(_) => option == "--inittab-dir",
         Command::Reload(_) | Command::Timing(_) => {
             option == "--inittab-dir" || option == "--trace" || option == "--level"
@@ -168,6 +174,26 @@ fn form_said(matches: &ArgMatches) -> Option<Form>
         (false, Some(width)) => lines_of(width),
         (true, None) => Some(Form::Svg),
         (true, Some(_)) => None,
+    }
+}
+
+/// How many lines a word names.
+pub(crate) fn last_of(word: &str) -> Option<usize>
+    ensures { result ≡ last_of word.now }
+{
+    match read_below(word.as_bytes(), LAST_LIMIT + 1) {
+        Some(0) => None,
+        count => Some(count? as usize),
+    }
+}
+
+/// How many lines are named, if any are; nothing where it is no such number.
+fn last_said(matches: &ArgMatches) -> Option<Option<usize>>
+    ensures { result ≡ last_said (rows_of (found_of matches.now)) }
+{
+    match word_of(matches, "-n") {
+        None => Some(None),
+        Some(word) => Some(Some(last_of(word)?)),
     }
 }
 
@@ -272,7 +298,7 @@ fn plain_of(matches: &ArgMatches, verb: &str, words: &[&str]) -> Option<Command>
     match words {
         [_] => match verb {
             "left" => Some(Command::Show(TraceQuery::Left(shape_said(matches)))),
-            "follow" => Some(Command::Follow),
+            "follow" => Some(Command::Follow(last_said(matches)?)),
             _ => None,
         },
         _ => None,
@@ -372,7 +398,7 @@ pub(crate) fn path_of<'a>(what: &Command, matches: &ArgMatches<'a>, words: &[&'a
         Command::Explain(_) => third_of(words),
         Command::Show(_) => second_of(words),
         Command::Draw(_) => second_of(words),
-        Command::Follow => second_of(words),
+        Command::Follow(_) => second_of(words),
     }
 }
 

@@ -35,7 +35,7 @@ pub const USAGE: &str = "usage: initview why [--inittab-dir DIR] ID TRACE [TABLE
        initview status [--json] TRACE [ID]
        initview left [--json] TRACE
        initview timeline [--svg | --width N] TRACE
-       initview follow TRACE
+       initview follow [-n N] TRACE
        initview lint [--programs FOLDERS] [--inittab-dir DIR] TABLE [FILE..]
        initview diff [--trace TRACE] [--level LEVEL] [--inittab-dir DIR] OLD NEW
        initview plan [--trace TRACE] [--level LEVEL] [--inittab-dir DIR] TABLE [FILE..]
@@ -54,7 +54,9 @@ pub const USAGE: &str = "usage: initview why [--inittab-dir DIR] ID TRACE [TABLE
           over the time, in lines of N columns, 80 without it; or with --svg as
           a picture that a browser shows
   follow  print a line for each happening that an operator is told of, also
-          while the trace is written, until it is interrupted
+          while the trace is written, until it is interrupted; with -n from the
+          last N lines of what is there on, also where TRACE begins within a run
+          and what was before it is gone: it isn't judged then
   lint    list the faults of an inittab's lines, with what was probably meant,
           and warnings; the exit status is 1 with faults, 2 with warnings alone;
           with --programs also warnings of programs that aren't in FOLDERS, as
@@ -193,7 +195,7 @@ fn run_asked<T: Texts, G: GrowingTexts, S: Says, E: Write>(
     match what {
         Command::Show(question) => show_file(texts, growing, alloc, path, question, out, err),
         Command::Draw(form) => show_file(texts, growing, alloc, path, form, out, err),
-        Command::Follow => follow_file(growing, alloc, path, out, err),
+        Command::Follow(last) => follow_file(growing, alloc, path, *last, out, err),
         Command::Explain(id) => {
             let asked = ReasonOf { id: *id };
             show_with_files(texts, growing, alloc, path, files, folder, &asked, out, err)

@@ -1,22 +1,19 @@
 //! A trace in words, while it is written.
 
-ghost use Rattle.std.specs.Prelude.{◌≡◌, ◌^◌, ◌<◌, ◌++◌, [], List, ℕ, length, Option, Some, None, map, reverse, option_map, string_bytes, IfOk, OnOk, OnErr};
-ghost use Rattle.trace_events.specs.Event.{Event};
-ghost use Rattle.trace_events.specs.Lawful.{first_breach};
+ghost use Rattle.std.specs.Prelude.{◌≡◌, ◌^◌, ◌<◌, ◌≤◌, ◌-◌, ◌++◌, [], List, ℕ, length, Option, Some, None, option_map, IfOk, OnOk, OnErr, true, false};
 ghost use Rattle.program_io.specs.declared.statuses.TheConstants.{DEVICE_FAULT};
-ghost use Rattle.trace_view.specs.Shown.{IsShown};
-ghost use Rattle.trace_view.specs.Views.{HasShown, TextState};
-ghost use Rattle.initview_lines.specs.Following.{HasSaid};
-ghost use Rattle.initview_lines.specs.Saying.{Heard};
-ghost use Rattle.initview_command.specs.Following.{Follows, HasWritten, WritesAll, WritesPart};
+ghost use Rattle.program_io.specs.declared.takers.TheConstants.{PIECE_LIMIT};
+ghost use Rattle.initview_lines.specs.declared.lines.Line.{Line};
+ghost use Rattle.initview_command.specs.Following.{AreLinesOf, Follows, FollowsAll, FollowsPart, HasLines, HasWritten, IsAllOf, IsFor, Start, WritesAll, WritesPart, begins_run, judges};
+ghost use Rattle.initview_command.specs.Taking.{FirstReader, HasFollowed, HasKept, MayKeep, there_limit};
 
-use crate::growing::GrowingTexts;
+use crate::growing::{GrowingText, GrowingTexts};
 use crate::showing::{stop_status, tell_stop};
-use crate::telling::{report_memory, report_unread, report_unsaid};
+use crate::telling::{report_unread, report_unsaid};
 use init_words::Memory;
-use initview_lines::{SayFault, Says, take_lines};
+use initview_lines::{Line, PartView, SayFault, Says, take_lines};
 use program_io::{PIECE_LIMIT, PIECES_LIMIT};
-use std::alloc::{AllocError, Global};
+use std::alloc::Global;
 use std::io;
 use std::io::{ErrorKind, Read, Write};
 use trace_view::{TextView, ViewEnd};
@@ -59,83 +56,296 @@ fn report_fault<E: Write>(path: &str, fault: &FollowFault, err: &mut E) -> u8
     }
 }
 
-/// Why a view goes no further, and the number of the line at which a happening isn't finished.
+/// Why a trace is shown no further, and the number of the line at which a happening isn't finished.
 type End = (Option<ViewEnd>, Option<u64>);
 
-/// How a view that has taken a text stands.
-fn end_of(view: &TextView) -> End
-    ensures { (trace : List Event) (text : List ℕ) → length text < 2 ^ 64
-        → HasShown view.now trace text
-        → IsShown text result.0 result.1 trace × (first_breach (reverse trace) ≡ None) }
-{
-    let (_, stop, line) = view.answer();
-    (stop, line)
+/// What reads a trace that is followed: a run, which is judged; or a text that begins within one.
+#[derive(Drop)]
+enum Reader {
+    Run(TextView),
+    Part(PartView),
 }
 
-/// Shows a view the next piece of its text, and writes the lines of it.
+/// What reads a run, on the heap: a function that has one in its frame is dear to prove.
+fn run_reader(alloc: Global) -> Result<Box<Reader>, Memory>
+    ensures { IfOk result (λ reader. (judges reader.value ≡ true)
+        × HasLines reader.value [] []) }
+{
+    Ok(Box::new(alloc, Reader::Run(TextView::new(alloc)))?)
+}
+
+/// What reads a text that begins within a run.
+fn part_reader(alloc: Global) -> Result<Box<Reader>, Memory>
+    ensures { IfOk result (λ reader. (judges reader.value ≡ false)
+        × HasLines reader.value [] []) }
+{
+    Ok(Box::new(alloc, Reader::Part(PartView::new(alloc)))?)
+}
+
+/// The text begins a run.
+fn begins_run(text: &[u8]) -> bool
+    ensures { result ≡ begins_run text.now }
+{
+    match text {
+        [] => true,
+        [byte, ..] => *byte == b'u',
+    }
+}
+
+/// What reads a text that begins so.
+fn reader_of(alloc: Global, first: &[u8]) -> Result<Box<Reader>, Memory>
+    ensures { IfOk result (λ reader. (judges reader.value ≡ begins_run first.now)
+        × HasLines reader.value [] []) }
+{
+    if begins_run(first) {
+        run_reader(alloc)
+    } else {
+        part_reader(alloc)
+    }
+}
+
+/// Shows a reader the next piece of its text, and adds the lines of it.
+fn take_piece(reader: &mut Reader, piece: &[u8], lines: &mut Vec<Line>) -> Result<(), Memory>
+    ensures same { OnOk result (judges reader.new ≡ judges reader.old) }
+    ensures lines { OnOk result ((said : List Line) (text : List ℕ)
+        → length (text ++ piece.now) < 2 ^ 64
+        → HasLines reader.old (said ++ lines.old.items) text
+        → HasLines reader.new (said ++ lines.new.items) (text ++ piece.now)) }
+{
+    match reader {
+        Reader::Run(view) => take_lines(view, piece, lines),
+        Reader::Part(view) => view.take(piece, lines),
+    }
+}
+
+/// How a reader that has taken a text stands.
+fn end_of(reader: &Reader) -> End
+    ensures { (said : List Line) (text : List ℕ) → length text < 2 ^ 64
+        → HasLines reader.now said text
+        → AreLinesOf (judges reader.now) text result.0 result.1 said }
+{
+    match reader {
+        Reader::Run(view) => {
+            let (_, stop, line) = view.answer();
+            (stop, line)
+        }
+        Reader::Part(view) => view.end(),
+    }
+}
+
+/// Shows a reader the next piece of its text, and writes the lines of it.
 fn write_piece<S: Says>(
-    view: &mut TextView,
+    reader: &mut Reader,
     alloc: Global,
     piece: &[u8],
     out: &mut S,
 ) -> Result<(), FollowFault>
-    ensures ok { OnOk result ((text : List ℕ) (first : Heard)
+    ensures ok { OnOk result ((start : Start) (text : List ℕ)
         → length (text ++ piece.now) < 2 ^ 64
-        → HasWritten view.old text first (S.said out.old)
-        → HasWritten view.new (text ++ piece.now) first (S.said out.new)) }
-    ensures err { OnErr result ((text : List ℕ) (first : Heard)
+        → HasWritten start reader.old text (S.said out.old)
+        → HasWritten start reader.new (text ++ piece.now) (S.said out.new)) }
+    ensures err { OnErr result ((start : Start) (text : List ℕ)
         → length (text ++ piece.now) < 2 ^ 64
-        → HasWritten view.old text first (S.said out.old)
-        → WritesPart (Some (text ++ piece.now)) first (S.said out.new)) }
+        → HasWritten start reader.old text (S.said out.old)
+        → WritesPart start (Some (text ++ piece.now)) (S.said out.new)) }
 {
     let mut lines = Vec::new(alloc);
-    take_lines(view, piece, &mut lines)?;
+    take_piece(reader, piece, &mut lines)?;
     out.say(alloc, lines)?;
     Ok(())
 }
 
-/// Writes the lines of a text, each when it comes, up to its end, or up to where the view goes no further. More than
-/// 4,294,967,296 reads are an error, `FileTooLarge`.
+/// Writes the lines of what is left of a text, each when it comes, up to its end, or up to where the reader goes no
+/// further. More than 4,294,967,296 reads are an error, `FileTooLarge`.
 fn write_lines<R: Read, S: Says>(
     from: &mut R,
-    view: &mut TextView,
+    reader: &mut Reader,
     alloc: Global,
     out: &mut S,
 ) -> Result<End, FollowFault>
-    requires { HasWritten view.old [] (S.said out.old) (S.said out.old) }
-    ensures ok { IfOk result (λ end. WritesAll (R.remaining from.old) end.0 end.1
-        (S.said out.old) (S.said out.new)) }
-    ensures err { OnErr result
-        (WritesPart (R.remaining from.old) (S.said out.old) (S.said out.new)) }
+    ensures ok { IfOk result (λ end. (start : Start) (left : Option (List ℕ))
+        → HasFollowed start left reader.old (R.remaining from.old) (S.said out.old)
+        → WritesAll start left end.0 end.1 (S.said out.new)) }
+    ensures err { OnErr result ((start : Start) (left : Option (List ℕ))
+        → HasFollowed start left reader.old (R.remaining from.old) (S.said out.old)
+        → WritesPart start left (S.said out.new)) }
 {
     let mut piece = [0; PIECE_LIMIT];
     for _ in 0..PIECES_LIMIT {
-        let taken = from.read(&mut piece)?;
-        if taken == 0 {
-            return Ok(end_of(view));
-        }
-        write_piece(view, alloc, &piece[..taken], out)?;
-        let end = end_of(view);
+        let end = end_of(reader);
         if end.0.is_some() {
             return Ok(end);
         }
+        let taken = from.read(&mut piece)?;
+        if taken == 0 {
+            return Ok(end);
+        }
+        write_piece(reader, alloc, &piece[..taken], out)?;
     }
     Err(FollowFault::Unread(io::Error::from(ErrorKind::FileTooLarge)))
 }
 
-/// Writes the lines of a text, and gives the exit status.
-fn follow_text<R: Read, S: Says, E: Write>(
+/// Shows a reader the next piece of its text, and adds the lines of it behind others.
+fn add_piece(
+    reader: &mut Reader,
+    alloc: Global,
+    piece: &[u8],
+    lines: &mut Vec<Line>,
+) -> Result<(), Memory>
+    ensures same { OnOk result (judges reader.new ≡ judges reader.old) }
+    ensures lines { OnOk result ((more : List Line)
+        × (lines.new.items ≡ lines.old.items ++ more)
+        × ((said : List Line) (text : List ℕ) → length (text ++ piece.now) < 2 ^ 64
+        → HasLines reader.old said text → HasLines reader.new (said ++ more) (text ++ piece.now))) }
+{
+    let mut more = Vec::new(alloc);
+    take_piece(reader, piece, &mut more)?;
+    lines.append(&mut more)?;
+    Ok(())
+}
+
+/// Drops all lines but the last of them.
+fn keep_last(lines: &mut Vec<Line>, count: usize) -> Result<(), Memory>
+    ensures { OnOk result ((front : List Line) × (lines.old.items ≡ front ++ lines.new.items)
+        × (length front ≡ length lines.old.items - count)) }
+{
+    let before = lines.len().saturating_sub(count);
+    let last = lines.split_off(before)?;
+    *lines = last;
+    Ok(())
+}
+
+/// Takes what is there of a text already, and keeps the last of its lines.
+fn take_there<R: GrowingText>(
     from: &mut R,
-    view: &mut TextView,
+    reader: &mut Reader,
+    alloc: Global,
+    count: usize,
+    lines: &mut Vec<Line>,
+) -> Result<(), FollowFault>
+    ensures { OnOk result ((left : Option (List ℕ))
+        → MayKeep PIECE_LIMIT count left reader.old lines.old.items (R.remaining from.old)
+        → HasKept there_limit count left reader.new lines.new.items
+        (R.remaining from.new)) }
+{
+    let mut piece = [0; PIECE_LIMIT];
+    for _ in 0..PIECES_LIMIT {
+        keep_last(lines, count)?;
+        if end_of(reader).0.is_some() {
+            return Ok(());
+        }
+        let taken = from.read_there(&mut piece)?;
+        if taken == 0 {
+            return Ok(());
+        }
+        add_piece(reader, alloc, &piece[..taken], lines)?;
+    }
+    Err(FollowFault::Unread(io::Error::from(ErrorKind::FileTooLarge)))
+}
+
+/// What reads a text, with the lines of its first piece; None where the text is empty.
+fn first_reader<R: Read>(
+    from: &mut R,
+    alloc: Global,
+    lines: &mut Vec<Line>,
+) -> Result<Option<Box<Reader>>, FollowFault>
+    requires { lines.old.items ≡ [] }
+    ensures { IfOk result (λ reader. FirstReader
+        (option_map (λ reader. reader.value) reader) (R.remaining from.old) (R.remaining from.new)
+        lines.new.items) }
+{
+    let mut piece = [0; PIECE_LIMIT];
+    let taken = from.read(&mut piece)?;
+    if taken == 0 {
+        return Ok(None);
+    }
+    let first = &piece[..taken];
+    let mut reader = reader_of(alloc, first)?;
+    take_piece(&mut reader, first, lines)?;
+    Ok(Some(reader))
+}
+
+/// Tells that a text begins within a run.
+fn tell_part<E: Write>(path: &str, reader: &Reader, err: &mut E) {
+    if let Reader::Part(_) = reader {
+        let _ = writeln!(
+            err,
+            "initview: {path} begins within a run: it is shown, and not judged"
+        );
+    }
+}
+
+/// Writes the last lines of what is there of a text, and all that come.
+fn follow_last<R: GrowingText, S: Says, E: Write>(
+    from: &mut R,
     alloc: Global,
     path: &str,
+    count: usize,
+    out: &mut S,
+    err: &mut E,
+) -> Result<End, FollowFault>
+    ensures ok { IfOk result (λ end. FollowsAll (Some count) (R.remaining from.old) end.0 end.1
+        (S.said out.old) (S.said out.new)) }
+    ensures err { OnErr result (FollowsPart (Some count) (R.remaining from.old)
+        (S.said out.old) (S.said out.new)) }
+{
+    let mut lines = Vec::new(alloc);
+    let Some(mut reader) = first_reader(from, alloc, &mut lines)? else {
+        return Ok((None, None));
+    };
+    tell_part(path, &reader, err);
+    take_there(from, &mut reader, alloc, count, &mut lines)?;
+    out.say(alloc, lines)?;
+    write_lines(from, &mut reader, alloc, out)
+}
+
+/// Writes all lines of a text.
+fn follow_all<R: Read, S: Says>(
+    from: &mut R,
+    alloc: Global,
+    out: &mut S,
+) -> Result<End, FollowFault>
+    ensures ok { IfOk result (λ end. FollowsAll None (R.remaining from.old) end.0 end.1
+        (S.said out.old) (S.said out.new)) }
+    ensures err { OnErr result (FollowsPart None (R.remaining from.old)
+        (S.said out.old) (S.said out.new)) }
+{
+    let mut reader = run_reader(alloc)?;
+    write_lines(from, &mut reader, alloc, out)
+}
+
+/// Writes the lines of a text, or those from the last so many of what is there on.
+fn follow<R: GrowingText, S: Says, E: Write>(
+    from: &mut R,
+    alloc: Global,
+    path: &str,
+    last: Option<usize>,
+    out: &mut S,
+    err: &mut E,
+) -> Result<End, FollowFault>
+    ensures ok { IfOk result (λ end. FollowsAll last (R.remaining from.old) end.0 end.1
+        (S.said out.old) (S.said out.new)) }
+    ensures err { OnErr result (FollowsPart last (R.remaining from.old) (S.said out.old)
+        (S.said out.new)) }
+{
+    match last {
+        None => follow_all(from, alloc, out),
+        Some(count) => follow_last(from, alloc, path, count, out, err),
+    }
+}
+
+/// The same, with the exit status.
+fn follow_text<R: GrowingText, S: Says, E: Write>(
+    from: &mut R,
+    alloc: Global,
+    path: &str,
+    last: Option<usize>,
     out: &mut S,
     err: &mut E,
 ) -> u8
-    requires { HasWritten view.old [] (S.said out.old) (S.said out.old) }
-    ensures { Follows (R.remaining from.old) result (S.said out.old) (S.said out.new) }
+    ensures { Follows last (R.remaining from.old) result (S.said out.old) (S.said out.new) }
 {
-    match write_lines(from, view, alloc, out) {
+    match follow(from, alloc, path, last, out, err) {
         Ok((stop, line)) => {
             tell_stop(path, stop, line, err);
             stop_status(stop)
@@ -144,46 +354,21 @@ fn follow_text<R: Read, S: Says, E: Write>(
     }
 }
 
-/// A view that has taken nothing, on the heap: a function that has one in its frame is dear to prove.
-fn text_view(alloc: Global) -> Result<Box<TextView>, AllocError>
-    ensures shown { IfOk result (λ view. HasShown view.value [] []) }
-    ensures none { (state : TextState) × HasShown state [] [] }
-{
-    Ok(Box::new(alloc, TextView::new(alloc))?)
-}
-
-/// Follows the trace at a path with a view that has taken nothing.
-fn follow_over<G: GrowingTexts, S: Says, E: Write>(
-    growing: &G,
-    view: &mut TextView,
-    alloc: Global,
-    path: &str,
-    out: &mut S,
-    err: &mut E,
-) -> u8
-    requires { HasShown view.old [] [] }
-    ensures { Follows (G.text_at growing.now path.now) result (S.said out.old)
-        (S.said out.new) }
-{
-    match growing.open(alloc, path) {
-        Ok(mut text) => follow_text(&mut text, view, alloc, path, out, err),
-        Err(error) => report_unread(path, &error, err),
-    }
-}
-
-/// Follows the trace at a path, and gives the exit status.
+/// Follows the trace at a path, from the last so many lines of what is there on, where that is asked for, and gives the
+/// exit status.
 pub(crate) fn follow_file<G: GrowingTexts, S: Says, E: Write>(
     growing: &G,
     alloc: Global,
     path: &str,
+    last: Option<usize>,
     out: &mut S,
     err: &mut E,
 ) -> u8
-    ensures { Follows (G.text_at growing.now path.now) result (S.said out.old)
+    ensures { Follows last (G.text_at growing.now path.now) result (S.said out.old)
         (S.said out.new) }
 {
-    match text_view(alloc) {
-        Ok(mut view) => follow_over(growing, &mut view, alloc, path, out, err),
-        Err(_) => report_memory(err),
+    match growing.open(alloc, path) {
+        Ok(mut text) => follow_text(&mut text, alloc, path, last, out, err),
+        Err(error) => report_unread(path, &error, err),
     }
 }

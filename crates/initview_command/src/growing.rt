@@ -1,6 +1,8 @@
 //! Texts that may still grow while they are read, and who writes them.
 
-ghost use Rattle.std.specs.Prelude.{◌≡◌, ◌≤◌, ◌++◌, List, length, IfOk, OnOk};
+ghost use Rattle.std.specs.Prelude.{◌≡◌, ◌≤◌, ◌++◌, List, length, take, IfOk, OnOk};
+ghost use Rattle.std.specs.Io.{ReadsAtMost};
+ghost use Rattle.std.specs.Io.KnownBytes.{Consumes};
 ghost use Rattle.init_words.specs.Parts.{NamedText};
 ghost use Rattle.program_io.specs.Known.{KnownTexts};
 ghost use Rattle.initview_command.specs.Writers.{IsWriterAt, KnownWriters};
@@ -29,6 +31,15 @@ pub enum Writer {
     Init(u64),
 }
 
+/// A text that may grow while it is read.
+pub trait GrowingText: Read {
+    /// Reads of what is there already, and gives no byte where it has to wait for more.
+    fn read_there(&mut self, buf: &mut [u8]) -> io::Result<usize>
+        ensures bound { ReadsAtMost result buf.new }
+        ensures bytes { IfOk result (λ count. Consumes (Self.remaining self.old) (Self.remaining self.new)
+            (take count buf.new)) };
+}
+
 /// What opens a text to follow it while it grows, knows who writes it, and reads folders.
 ///
 /// A contract sees of it the text that stands at a path, all of it, which ends, and its writer, where they are known.
@@ -40,7 +51,7 @@ pub trait GrowingTexts {
     ghost writer_at: { Self → KnownWriters };
 
     /// A text that is followed. A read waits for more, and gives no byte where nothing more can come.
-    type Growing: Read + Drop;
+    type Growing: GrowingText + Drop;
 
     /// Opens the text at a path.
     fn open(&self, alloc: Global, path: &str) -> io::Result<Self::Growing>
@@ -215,6 +226,15 @@ impl<R: Files<File = File> + Eprint> Read for GrowingFile<'_, R> {
         match self {
             GrowingFile::Ends(file) => file.read(buf),
             GrowingFile::Grows(trace) => wait_for_bytes(trace, buf),
+        }
+    }
+}
+
+impl<R: Files<File = File> + Eprint> GrowingText for GrowingFile<'_, R> {
+    fn read_there(&mut self, buf: &mut [u8]) -> io::Result<usize> {
+        match self {
+            GrowingFile::Ends(file) => file.read(buf),
+            GrowingFile::Grows(trace) => trace.read(buf),
         }
     }
 }

@@ -18,8 +18,8 @@ mod tables;
 mod telling;
 mod with_files;
 
-pub use asking::{Command, TableQuestion, TraceQuery};
+pub use asking::{Command, LAST_LIMIT, TableQuestion, TraceQuery};
 pub use charting::{Form, WIDTH, WIDTH_LEAST, WIDTH_LIMIT};
 pub use command::{USAGE, run_words};
-pub use growing::{GrowingFile, GrowingFiles, GrowingTexts, Writer};
+pub use growing::{GrowingFile, GrowingFiles, GrowingText, GrowingTexts, Writer};
 pub use printing::Printed;

@@ -5,7 +5,7 @@ ghost use Rattle.command_words.specs.declared.faults.WordFault.TheVariants.{Memo
 ghost use Rattle.program_io.specs.declared.statuses.TheConstants.{DEVICE_FAULT};
 ghost use Rattle.initview_command.specs.Refusals.{ReportsRefusal, usage_line};
 
-use crate::asking::{Command, OPTIONS, asked, belongs, level_in};
+use crate::asking::{Command, OPTIONS, asked, belongs, last_of, level_in};
 use crate::charting::lines_of;
 use crate::command::USAGE;
 use crate::telling::report_memory;
@@ -72,12 +72,16 @@ fn usage_line(alloc: Global, usage: &str) -> Result<String, AllocError>
 
 /// Why the value of an option is refused, and which it is.
 fn value_reason<'a>(matches: &ArgMatches<'a>) -> Option<(&'static str, &'a str, &'static str)> {
-    match (word_of(matches, "--level"), word_of(matches, "--width")) {
-        (Some(level), _) if level_in(level).is_none() => {
+    let level = word_of(matches, "--level");
+    match (level, word_of(matches, "--width"), word_of(matches, "-n")) {
+        (Some(level), _, _) if level_in(level).is_none() => {
             Some(("--level", level, "a LEVEL is one of 0 to 9 and S"))
         }
-        (_, Some(width)) if lines_of(width).is_none() => {
+        (_, Some(width), _) if lines_of(width).is_none() => {
             Some(("--width", width, "a width N is 40 to 1000 columns"))
+        }
+        (_, _, Some(count)) if last_of(count).is_none() => {
+            Some(("-n", count, "N is 1 to 10000 lines"))
         }
         _ => None,
     }

@@ -82,24 +82,16 @@ fn unpacker(piece: &[u8]) -> Option<&'static str> {
     }
 }
 
-impl<S: Sees<Global> + Drop> FileText<S> {
-    /// A text of which nothing was taken, nor seen.
-    fn new(alloc: Global) -> FileText<S>
-        ensures { HasSeenText S.has_seen result.text [] }
-    {
-        FileText {
-            text: SeenText::new(alloc),
-            begun: false,
-            unpacker: None,
-        }
-    }
-}
-
-/// The same on the heap: a function that has one in its frame is dear to prove.
+/// A text of which nothing was taken, nor seen, on the heap: a function that has one in its frame is dear to prove.
 fn file_text<S: Sees<Global> + Drop>(alloc: Global) -> Result<Box<FileText<S>>, AllocError>
     ensures { IfOk result (λ file. HasSeenText S.has_seen file.value.text []) }
 {
-    Ok(Box::new(alloc, FileText::new(alloc))?)
+    let file = FileText {
+        text: SeenText::new(alloc),
+        begun: false,
+        unpacker: None,
+    };
+    Ok(Box::new(alloc, file)?)
 }
 
 impl<S: Sees<Global> + Drop> PieceTaker for FileText<S> {

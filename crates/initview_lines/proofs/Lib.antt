@@ -1,5 +1,6 @@
 pub mod Entering
 pub mod Follows
+pub mod Parts
 pub mod Paths
 pub mod ReloadLemmas
 pub mod SaidOf

@@ -3,6 +3,7 @@ pub mod Following
 pub mod Happenings
 pub mod Json
 pub mod Left
+pub mod Parts
 pub mod Plans
 pub mod Reasons
 pub mod Reloads

@@ -1,6 +1,6 @@
 //! What an operator is told of happenings.
 
-ghost use Rattle.std.specs.Prelude.{◌≡◌, ◌∷◌, ◌++◌, List, OnOk};
+ghost use Rattle.std.specs.Prelude.{◌≡◌, [], ◌∷◌, ◌++◌, List, OnOk};
 ghost use Rattle.trace_events.specs.Event.{Event};
 ghost use Rattle.trace_view.specs.Viewing.{Viewed};
 ghost use Rattle.initview_lines.specs.Happenings.{happening_lines, news_of};
@@ -34,14 +34,10 @@ pub enum News {
     Handed(Handed),
 }
 
-/// What an operator is told of the happening that the view has seen last. Of what he need not see there is none: an order,
-/// a death, a look that found its child alive, an answer that reached init, a reading of the clock, a round.
-fn news_of<A: Allocator, B: Allocator>(
-    view: &TraceView<A>,
-    happening: &HappeningIn<B>,
-) -> Option<News>
-    ensures { (past : List Event) → Viewed view.now (happening.now ∷ past)
-        → result ≡ news_of happening.now past }
+/// What a happening says by itself that an operator is told. Of what he need not see there is none: an order, a death, a
+/// look that found its child alive, an answer that reached init, a reading of the clock, a round.
+pub(crate) fn news_alone<B: Allocator>(happening: &HappeningIn<B>) -> Option<News>
+    ensures { result ≡ news_of happening.now [] }
 {
     match happening {
         Happening::NewTable(table) => Some(News::Table(table.len())),
@@ -55,6 +51,23 @@ fn news_of<A: Allocator, B: Allocator>(
         Happening::NoBirth(id) => Some(News::NotBorn(*id)),
         Happening::Reaped(id, number, status) => Some(News::Ended(*id, *number, *status)),
         Happening::NoLook(id) => Some(News::NotSeen(*id)),
+        Happening::Hit(id) => Some(News::Sent(*id, None, None)),
+        Happening::Miss(id) => Some(News::NotSent(*id, None, None)),
+        Happening::Got(request) => Some(News::Got(*request)),
+        Happening::Handed(how) => Some(News::Handed(*how)),
+        _ => None,
+    }
+}
+
+/// What an operator is told of the happening that the view has seen last.
+fn news_of<A: Allocator, B: Allocator>(
+    view: &TraceView<A>,
+    happening: &HappeningIn<B>,
+) -> Option<News>
+    ensures { (past : List Event) → Viewed view.now (happening.now ∷ past)
+        → result ≡ news_of happening.now past }
+{
+    match happening {
         Happening::Hit(id) => {
             let row = view.row(id);
             Some(News::Sent(*id, row.order, row.child))
@@ -63,9 +76,7 @@ fn news_of<A: Allocator, B: Allocator>(
             let row = view.row(id);
             Some(News::NotSent(*id, row.order, row.child))
         }
-        Happening::Got(request) => Some(News::Got(*request)),
-        Happening::Handed(how) => Some(News::Handed(*how)),
-        _ => None,
+        _ => news_alone(happening),
     }
 }
 

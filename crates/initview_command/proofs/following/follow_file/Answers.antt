@@ -1,8 +1,11 @@
-use Rattle.std.proofs.Common.{inr}
+use Rattle.std.proofs.Common.{inr, subst}
+use Rattle.initview_command.specs.Following.{Follows}
 use Rattle.initview_command.proofs.Followed.{none_part}
 use Rattle.initview_command.proofs.following.follow_file.Goals as goal
 
+pub returns-in-Ok : goal.returns-in-Ok
+returns-in-Ok g c =
+    subst (λ left. Follows c.args.last left c.follow_text.result (g.S.Says.said c.args.out.now) (g.S.Says.said c.follow_text.new.out)) c.in-Ok.ensures c.follow_text.ensures
+
 pub returns-in-Err : goal.returns-in-Err
-returns-in-Err g c =
-    let (state, shown) = c.in-Err.ensures.none in
-    inr (c.report_memory.ensures.status, none_part _ state (g.S.Says.said c.args.out.now) shown)
+returns-in-Err g c = inr (c.report_unread.ensures, none_part c.args.last _ (g.S.Says.said c.args.out.now))

@@ -1,51 +1,60 @@
-use Rattle.std.proofs.Common.{◌≡◌, sym, ◌∙◌, ◌+◌, ◌*◌, ◌<◌, ◌≤◌, true, is_some, ℕ, List, ◌++◌, take, length, length-append, arith}
+use Rattle.std.proofs.Common.{rules, subst, ◌≡◌, sym, ◌∙◌, ◌+◌, ◌*◌, ◌<◌, ◌≤◌, true, is_some, ℕ, List, ◌++◌, take, length, length-append, arith}
+use Rattle.std.specs.Io.KnownBytes.{Consumes}
 use Rattle.std.proofs.KnownBytes.{Consumes-trans}
 use Rattle.std.proofs.lemmas.Grind.{common_steps}
 use Rattle.std.proofs.lemmas.List.{length-take}
 use Rattle.program_io.specs.declared.takers.TheConstants.{PIECE_LIMIT, PIECES_LIMIT}
 use Rattle.program_io.proofs.WritingLemmas.{on_err}
-use Rattle.initview_command.proofs.Followed.{all_where_stopped, begins, part_of, written_part}
+use Rattle.initview_command.specs.Taking.{there_limit}
+use Rattle.initview_command.proofs.Followed.{all_read, all_stopped, begins, part_of, written_part}
 use Rattle.initview_command.proofs.following.write_lines.Goals as goal
 
 pub returns-in_err-taken-clause-err : goal.returns-in_err-taken-clause-err
 returns-in_err-taken-clause-err g c =
-    let (text, consumed, small, written) = c.loop.invariant in
+    on_err c.from_residual.result _ (λ start left has.
+    let (text, consumed, small, written) = c.loop.invariant start left has in
     let few : c.loop.counter < PIECES_LIMIT = c.loop-test.true in
-    on_err c.from_residual.result _ (written_part _ c.loop.view text _ _ (omega (arith, small, few)) (begins _ _ text consumed) written)
+    written_part start left c.loop.reader text _ (omega (arith, small, few)) (begins _ _ text consumed) written)
 
 pub returns-in_err-write_piece-clause-err : goal.returns-in_err-write_piece-clause-err
 returns-in_err-write_piece-clause-err g c =
-    let (text, consumed, small, written) = c.loop.invariant in
+    on_err c.from_residual-in_err-write_piece.result _ (λ start left has.
+    let (text, consumed, small, written) = c.loop.invariant start left has in
     let piece : List ℕ = take c.in_ok-taken.taken c.read.new.buf in
     let few : c.loop.counter < PIECES_LIMIT = c.loop-test.true in
     let short : length piece ≤ PIECE_LIMIT = grind (arith, common_steps, length-take) in
-    let bound : length (text ++ piece) ≤ PIECE_LIMIT * (c.loop.counter + 1) = omega (arith, length-append text piece, small, short) in
+    let bound : length (text ++ piece) ≤ there_limit + PIECE_LIMIT * (c.loop.counter + 1) = omega (arith, length-append text piece, small, short) in
     let joined = Consumes-trans _ _ _ _ _ consumed c.in_ok-taken.ensures.bytes.0 in
-    on_err c.from_residual-in_err-write_piece.result _ (part_of _ _ (text ++ piece) _ _ joined (c.in_err-write_piece.ensures.err text _ (omega (arith, bound, few)) written))
+    part_of start _ _ (text ++ piece) _ joined (c.in_err-write_piece.ensures.err start text (omega (arith, bound, few)) written))
 
 pub returns-then-is_some-clause-ok : goal.returns-then-is_some-clause-ok
-returns-then-is_some-clause-ok g c =
-    let (text, consumed, small, written) = c.loop.invariant in
-    let piece : List ℕ = take c.in_ok-taken.taken c.read.new.buf in
+returns-then-is_some-clause-ok g c = λ start left has.
+    let (text, consumed, small, written) = c.loop.invariant start left has in
     let few : c.loop.counter < PIECES_LIMIT = c.loop-test.true in
-    let short : length piece ≤ PIECE_LIMIT = grind (arith, common_steps, length-take) in
-    let bound : length (text ++ piece) ≤ PIECE_LIMIT * (c.loop.counter + 1) = omega (arith, length-append text piece, small, short) in
-    let joined = Consumes-trans _ _ _ _ _ consumed c.in_ok-taken.ensures.bytes.0 in
     let stopped : is_some c.end_of-end.result.0 ≡ true = sym c.is_some.ensures ∙ c.if-is_some.true in
-    all_where_stopped _ _ c.end_of-end.result.0 c.end_of-end.result.1 c.write_piece.new.view (text ++ piece) _ _ (omega (arith, bound, few)) stopped joined c.end_of-end.ensures
-    (c.in_ok-write_piece.ensures.ok text _ (omega (arith, bound, few)) written)
+    all_stopped start left _ c.end_of-end.result.0 c.end_of-end.result.1 c.loop.reader text _ stopped consumed (λ said so. c.end_of-end.ensures said text (omega (arith, small, few)) so) written
 
 pub loop-preserved : goal.loop-preserved
-loop-preserved g c =
-    let (text, consumed, small, written) = c.loop.invariant in
+loop-preserved g c = λ start left has.
+    let (text, consumed, small, written) = c.loop.invariant start left has in
     let piece : List ℕ = take c.in_ok-taken.taken c.read.new.buf in
     let few : c.loop.counter < PIECES_LIMIT = c.loop-test.true in
     let short : length piece ≤ PIECE_LIMIT = grind (arith, common_steps, length-take) in
-    let bound : length (text ++ piece) ≤ PIECE_LIMIT * (c.loop.counter + 1) = omega (arith, length-append text piece, small, short) in
-    (text ++ piece, Consumes-trans _ _ _ _ _ consumed c.in_ok-taken.ensures.bytes.0, bound, c.in_ok-write_piece.ensures.ok text _ (omega (arith, bound, few)) written)
+    let bound : length (text ++ piece) ≤ there_limit + PIECE_LIMIT * (c.loop.counter + 1) = omega (arith, length-append text piece, small, short) in
+    (text ++ piece, Consumes-trans _ _ _ _ _ consumed c.in_ok-taken.ensures.bytes.0, bound, c.in_ok-write_piece.ensures.ok start text (omega (arith, bound, few)) written)
 
 pub returns-clause-err : goal.returns-clause-err
-returns-clause-err g c =
-    let (text, consumed, small, written) = c.loop.invariant in
+returns-clause-err g c = λ start left has.
+    let (text, consumed, small, written) = c.loop.invariant start left has in
     let few : c.loop.counter ≤ PIECES_LIMIT = c.loop.auto.counter-end in
-    written_part _ c.loop.view text _ _ (omega (arith, small, few)) (begins _ _ text consumed) written
+    written_part start left c.loop.reader text _ (omega (arith, small, few)) (begins _ _ text consumed) written
+
+pub returns-then-taken-eq0-clause-ok : goal.returns-then-taken-eq0-clause-ok
+returns-then-taken-eq0-clause-ok g c = λ start left has.
+    let (text, consumed, small, written) = c.loop.invariant start left has in
+    let few : c.loop.counter < PIECES_LIMIT = c.loop-test.true in
+    let zero : c.in_ok-taken.taken ≡ 0 = first_of (search rules, grind (arith, common_steps)) in
+    let room : 0 < length c.read.new.buf = first_of (search rules, grind (arith, common_steps)) in
+    all_read start left _ _ c.end_of-end.result.0 c.end_of-end.result.1 c.loop.reader text _ consumed
+    (subst (λ n. Consumes (g.R.Read.remaining c.loop.from) (g.R.Read.remaining c.read.new.self) (take n c.read.new.buf)) zero c.in_ok-taken.ensures.bytes.0)
+    (c.in_ok-taken.ensures.bytes.1 zero room) (λ said so. c.end_of-end.ensures said text (omega (arith, small, few)) so) written

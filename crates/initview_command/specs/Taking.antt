@@ -1,0 +1,35 @@
+-- How far a trace that is followed was read.
+use Rattle.std.specs.Prelude.{◌≡◌, ◌≤◌, ℕ, ◌+◌, ◌*◌, ◌-◌, List, [], ◌++◌, length, Option, Some, None}
+use Rattle.std.specs.Io.KnownBytes.{Consumes}
+use Rattle.program_io.specs.declared.takers.TheConstants.{PIECE_LIMIT, PIECES_LIMIT}
+use Rattle.initview_lines.specs.declared.lines.Line.{Line}
+use Rattle.initview_lines.specs.Saying.{Heard}
+use Rattle.initview_command.specs.declared.following.Reader.{Reader}
+use Rattle.initview_command.specs.Following.{HasLines, HasWritten, IsAllOf, IsFor, Start}
+
+-- as many bytes as are read before lines are written as they come
+abbrev pub there_limit : ℕ
+there_limit = PIECE_LIMIT * (PIECES_LIMIT + 1)
+
+-- what was taken of what was left, and its lines were written
+abbrev pub HasFollowed : Start → Option (List ℕ) → Reader → Option (List ℕ) → Heard → Type 0
+HasFollowed start left reader remaining now =
+    (text : List ℕ) × Consumes left remaining text × (length text ≤ there_limit) × HasWritten start reader text now
+
+-- what was taken of what was left, so many bytes at most, of whose lines these are kept: the last so many, or more
+abbrev pub MayKeep : ℕ → ℕ → Option (List ℕ) → Reader → List Line → Option (List ℕ) → Type 0
+MayKeep limit count left reader lines remaining =
+    (text : List ℕ) × (hidden : List Line) × Consumes left remaining text × (length text ≤ limit)
+    × IsFor (Some count) reader text × HasLines reader (hidden ++ lines) text
+    × (length hidden ≤ length (hidden ++ lines) - count)
+
+abbrev pub HasKept : ℕ → ℕ → Option (List ℕ) → Reader → List Line → Option (List ℕ) → Type 0
+HasKept limit count left reader lines remaining =
+    (text : List ℕ) × (hidden : List Line) × Consumes left remaining text × (length text ≤ limit)
+    × IsFor (Some count) reader text × HasLines reader (hidden ++ lines) text
+    × (length hidden ≡ length (hidden ++ lines) - count)
+
+-- what has read the first piece, where there is one
+abbrev pub FirstReader : Option Reader → Option (List ℕ) → Option (List ℕ) → List Line → Type 0
+FirstReader None left remaining lines = IsAllOf left []
+FirstReader (Some reader) left remaining lines = (count : ℕ) → MayKeep PIECE_LIMIT count left reader lines remaining

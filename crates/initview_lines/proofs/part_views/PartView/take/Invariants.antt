@@ -1,0 +1,11 @@
+use Rattle.std.proofs.Common.{ℕ, List, ◌++◌, ◌^◌, ◌<◌, length}
+use Rattle.initview_lines.specs.declared.lines.Line.{Line}
+use Rattle.initview_lines.specs.Parts.{HasTold, IsTelling}
+use Rattle.initview_lines.proofs.part_views.PartView.take.Given as goal
+
+-- the text with the piece is being read
+abbrev pub invariant-loop : goal.invariant-loop
+invariant-loop g l = (said : List Line) (text : List ℕ) → length (text ++ l.piece) < 2 ^ 64 → HasTold l.fn.self (said ++ l.fn.lines.items) text → IsTelling l.self (said ++ l.lines.items) (text ++ l.piece)
+
+abbrev pub decreases-loop : goal.decreases-loop
+decreases-loop g l = length l.self.reading.over

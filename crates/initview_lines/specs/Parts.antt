@@ -1,0 +1,61 @@
+-- What is said of a text that begins within a run: what each of its happenings says by itself, with the time of the clock
+-- that the text has had. None is judged.
+use Rattle.std.specs.Prelude.{◌≡◌, ℕ, Bool, true, false, List, [], ◌∷◌, ◌++◌, reverse, Option, Some, None}
+use Rattle.text_lines.specs.Lines.{newlines}
+use Rattle.trace_events.specs.Event.{Event}
+use Rattle.trace_events.specs.Past.{time_of}
+use Rattle.trace_events.specs.Range.{are_in_range}
+use Rattle.trace_text.specs.Lines.{trace_text}
+use Rattle.trace_verdict.specs.Fronts.{is_open}
+use Rattle.trace_verdict.specs.Readers.{Reading}
+use Rattle.trace_view.specs.declared.text_views.ViewEnd.{ViewEnd}
+use Rattle.trace_view.specs.Shown.{ShownBy, StopsAt}
+use Rattle.initview_lines.specs.declared.lines.Line.{Line}
+use Rattle.initview_lines.specs.Happenings.{line_at, news_of}
+
+-- of happenings, the oldest first
+abbrev pub part_in : List Event → List Line
+part_in [] = []
+part_in (happening ∷ past) = part_in past ++ line_at (time_of (happening ∷ past)) (news_of happening [])
+
+-- these are the lines of all happenings of the text, as far as it has any
+abbrev pub IsToldOf : List ℕ → Option ViewEnd → Option ℕ → List Line → Type 0
+IsToldOf text stop left said =
+    (trace : List Event) × ShownBy stop left trace text × (said ≡ part_in (reverse trace))
+
+-- what is not read of a text that comes in pieces, and how many lines are; the time; and why it goes no further
+pub record PartState : Type 0 where
+  pub reading : Reading
+  pub time : ℕ
+  pub stop : Option ViewEnd
+
+-- the trace is what was read of the text
+pub record IsReadOf (reading : Reading) (trace : List Event) (text : List ℕ) : Type 0 where
+  pub are : are_in_range trace ≡ true
+  pub whole : trace_text trace ++ reading.over ≡ text
+  pub lines : reading.lines ≡ newlines (trace_text trace)
+
+abbrev pub ReadBy : Option ViewEnd → Reading → List Event → List ℕ → Type 0
+ReadBy None reading trace text = IsReadOf reading trace text
+ReadBy (Some stop) reading trace text = StopsAt stop trace text
+
+-- besides, what is not read ends within a happening
+abbrev pub TakenBy : Option ViewEnd → Reading → List Event → List ℕ → Type 0
+TakenBy None reading trace text = IsReadOf reading trace text × (is_open reading.over ≡ true)
+TakenBy (Some stop) reading trace text = StopsAt stop trace text
+
+-- the text is being read, or was taken: these are the lines of the trace that was read of it
+abbrev pub IsTelling : PartState → List Line → List ℕ → Type 0
+IsTelling state said text =
+    (trace : List Event) × ReadBy state.stop state.reading trace text × (state.time ≡ time_of (reverse trace))
+    × (said ≡ part_in (reverse trace))
+
+abbrev pub HasTold : PartState → List Line → List ℕ → Type 0
+HasTold state said text =
+    (trace : List Event) × TakenBy state.stop state.reading trace text × (state.time ≡ time_of (reverse trace))
+    × (said ≡ part_in (reverse trace))
+
+-- one happening more is told, or the text is taken
+abbrev pub TellsOn : Bool → PartState → List Line → PartState → List Line → List ℕ → Type 0
+TellsOn true old before new after text = IsTelling old before text → IsTelling new after text
+TellsOn false old before new after text = IsTelling old before text → HasTold new after text
