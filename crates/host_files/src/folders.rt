@@ -142,25 +142,6 @@ impl<A: Allocator + Copy> PassedNames<A> {
     }
 }
 
-/// The names in a list of names that are those of parts, in byte order. The others are passed over.
-fn part_names<R: Eprint, A: Allocator + Copy, B: Allocator + Copy>(
-    rt: &R,
-    alloc: A,
-    folder: &str,
-    list: &[u8],
-    passed: &mut PassedNames<B>,
-) -> Result<Vec<String<A>, A>, AllocError> {
-    let mut names = Vec::new(alloc);
-    for name in list.split(|byte| *byte == 0) {
-        match str::from_utf8(name) {
-            Ok(text) if is_part_name(name) => names.push(String::from_str(alloc, text)?)?,
-            _ => passed.tell(rt, folder, name),
-        }
-    }
-    names.sort_unstable();
-    Ok(names)
-}
-
 /// The part of a name in a folder.
 fn part_in<R: Files, A: Allocator + Copy>(
     rt: &R,
@@ -177,7 +158,7 @@ fn part_in<R: Files, A: Allocator + Copy>(
     }
 }
 
-/// The names of the parts in a folder.
+/// The names of the parts in a folder, in byte order. The others are passed over.
 fn names_in<R: Files + Eprint, A: Allocator + Copy, B: Allocator + Copy>(
     rt: &R,
     alloc: A,
@@ -186,10 +167,19 @@ fn names_in<R: Files + Eprint, A: Allocator + Copy, B: Allocator + Copy>(
 ) -> Result<Vec<String<A>, A>, FolderFault<A>>
     ensures { IfErr result (IsFaultIn folder.now) }
 {
-    match listed(rt, alloc, folder) {
-        Ok(list) => Ok(part_names(rt, alloc, folder, &list, passed)?),
-        Err(error) => Err(FolderFault::Unread(String::from_str(alloc, folder)?, error)),
+    let list = match listed(rt, alloc, folder) {
+        Ok(list) => list,
+        Err(error) => return Err(FolderFault::Unread(String::from_str(alloc, folder)?, error)),
+    };
+    let mut names = Vec::new(alloc);
+    for name in list.split(|byte| *byte == 0) {
+        match str::from_utf8(name) {
+            Ok(text) if is_part_name(name) => names.push(String::from_str(alloc, text)?)?,
+            _ => passed.tell(rt, folder, name),
+        }
     }
+    names.sort_unstable();
+    Ok(names)
 }
 
 /// The parts of an inittab: its own file, and after it the files of a folder, where there is one, by the order of

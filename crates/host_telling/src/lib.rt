@@ -3,7 +3,6 @@
 #![tactic(auto)]
 
 mod adding;
-mod made;
 mod noted;
 mod telling;
 

@@ -2,9 +2,8 @@
 
 ghost use Rattle.std.specs.Prelude.{◌≡◌};
 
-use crate::adding::{CallList, with};
-use crate::made::{
-    Announce, Carry, Clock, Late, Look, Pause, ReadTables, Signal, Start, TakeBytes,
+use crate::adding::{
+    Announce, CallList, Carry, Clock, Late, Look, Pause, ReadTables, Signal, Start, TakeBytes, with,
 };
 use crate::noted::Noted;
 use host_calls::{Host, HostFault, Reply};
