@@ -20,7 +20,7 @@ use std::rt::{Clock, Files};
 use std::time::{Duration, Instant};
 use std::{fs, io, thread};
 
-/// After how many microseconds of a pause the channel is looked at, and a write that added no byte is over.
+/// After how many microseconds of a pause the channel is looked at, and what was begun is taken for done.
 const LOOK: u64 = 40_000;
 
 /// The channel of requests.
@@ -39,7 +39,9 @@ pub struct Channel<A: Allocator> {
     owner: Option<u32>,
     /// When it was last written to, as it was found read to this end: seconds and nanoseconds.
     end: Option<(u64, i64, i64)>,
-    /// Since when each look has found it written to behind that, and no byte longer.
+    /// When its length was found to be another last.
+    resized: Option<Instant>,
+    /// Since when each look has found it written to behind its end, and as long as it was.
     changed: Option<Instant>,
     /// That file, open.
     open: Option<File>,
@@ -76,6 +78,7 @@ impl<A: Allocator + Copy> Channel<A> {
             file: None,
             owner: None,
             end: None,
+            resized: None,
             changed: None,
             open: None,
             missing: false,
@@ -195,6 +198,7 @@ impl<A: Allocator + Copy> Channel<A> {
         if self.is_anew(&found) {
             self.go_to(0);
             self.end = None;
+            self.resized = Instant::now(rt).ok();
             tell_made_anew(rt, self.path.as_str());
         }
         self.note_owner(rt, found.uid());
@@ -216,17 +220,20 @@ impl<A: Allocator + Copy> Channel<A> {
         }
     }
 
-    /// Notes a channel that was read to its end, and tells that it was written to since, where it has no byte more and
-    /// stays so: a file that is appended to has its new time for a moment before its new length.
+    /// Notes a channel that was read to its end, and tells that it was written to since, where it is as long as it was: for
+    /// some time before its time changed, and behind. For a file that is appended to has its new time for a moment before
+    /// its new length, and one that is cut behind it.
     fn note_end(&mut self, rt: &(impl Clock + Eprint), found: &Metadata) {
         let end = (found.len(), found.mtime(), found.mtime_nsec());
-        if matches!(&self.end, Some(before) if before.0 == end.0 && *before != end) {
-            let Some(changed) = self.changed else {
+        let before = self.end.unwrap_or(end);
+        if before.0 != end.0 {
+            self.resized = Instant::now(rt).ok();
+        } else if before != end && is_past(rt, self.resized) {
+            if self.changed.is_none() {
                 self.changed = Instant::now(rt).ok();
                 return;
-            };
-            let settled = Duration::from_micros(LOOK);
-            if !matches!(changed.elapsed(rt), Ok(passed) if passed >= settled) {
+            }
+            if !is_past(rt, self.changed) {
                 return;
             }
             tell_written_over(rt, self.path.as_str());
@@ -306,6 +313,14 @@ impl<A: Allocator + Copy> Channel<A> {
         }
         self.torn = length;
     }
+}
+
+/// It was some time ago, or never.
+fn is_past(rt: &impl Clock, since: Option<Instant>) -> bool {
+    let Some(since) = since else {
+        return true;
+    };
+    matches!(since.elapsed(rt), Ok(passed) if passed >= Duration::from_micros(LOOK))
 }
 
 /// The device and the number of a file.
