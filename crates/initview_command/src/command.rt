@@ -82,7 +82,7 @@ pub const USAGE: &str = "usage: initview why [--inittab-dir DIR] ID TRACE [TABLE
 /// on `out`, 1 where the words are refused or a line of the trace is none, 2 where a happening breaks a law, 4 where the
 /// trace can't be read, the output fails or memory runs out; of `status TRACE ID` 0, 3 or 4, as the LSB has them. What
 /// stands before a line that is none, or that breaks a law, is shown, and is the trace of `diff --trace` and `plan --trace`; of a text that
-/// begins within a run nothing is, and the status is 1. A trace that is
+/// begins within a run nothing is, and the status is 1, but for the last lines of one that is followed. A trace that is
 /// followed is read on in `growing` until it ends, and each of its lines is written when it comes. Of an inittab the
 /// status is 1 where it isn't read for its size, of `lint` also where it has faults, and 2 where it has warnings alone.
 /// Faults of files are told on `err`.

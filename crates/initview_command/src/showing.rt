@@ -365,15 +365,13 @@ pub(crate) fn tell_stop<E: Write>(
                 "initview: {path} begins within a run: show it with the pieces before it"
             );
         }
-        None => tell_left(path, left, err),
-    }
-}
-
-fn tell_left<E: Write>(path: &str, left: Option<u64>, err: &mut E) {
-    if let Some(line) = left {
-        let _ = writeln!(
-            err,
-            "initview: {path}:{line}: the happening is not finished: shown up to the line before it"
-        );
+        None => {
+            if let Some(line) = left {
+                let _ = writeln!(
+                    err,
+                    "initview: {path}:{line}: the happening is not finished: shown up to the line before it"
+                );
+            }
+        }
     }
 }

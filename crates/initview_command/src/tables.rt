@@ -4,7 +4,7 @@ ghost use Rattle.std.specs.Prelude.{◌≡◌, ◌++◌, ◌∷◌, [], map, opt
 ghost use Rattle.program_io.specs.Known.{IsTextAt};
 ghost use Rattle.init_words.specs.Parts.{NamedText};
 ghost use Rattle.initview_command.specs.declared.asking.TableQuestion.TheVariants as table_question;
-ghost use Rattle.initview_command.specs.Tables.{Answers, AnswersOf, AreFiles, AreFilesAt, AreNone, FailsBy, IsAnswer, IsFolderBehind, IsRefused, NoneOf, changes_by, fault_status, found_status, level_asked, lint_by, old_of, plan_by, table_in};
+ghost use Rattle.initview_command.specs.Tables.{Answers, AnswersOf, AreFiles, AreFilesAt, AreNone, FailsBy, IsAnswer, IsRefused, NoneOf, fault_status, found_status, level_asked, lint_by, old_of, plan_by, table_in};
 
 use crate::asking::TableQuestion;
 use crate::growing::GrowingTexts;
@@ -52,29 +52,6 @@ fn read_named<T: Texts, E: Write>(
     Some(parts)
 }
 
-/// The files, and behind them those of a folder, where one is named. One that can't be read is told, and none is given.
-fn with_those_of<G: GrowingTexts, E: Write>(
-    growing: &G,
-    alloc: Global,
-    mut parts: Vec<Part>,
-    folder: Option<&str>,
-    err: &mut E,
-) -> Option<Vec<Part>>
-    ensures { IfSome result (λ all.
-        IsFolderBehind (option_map (λ path. path.now) folder.entry) parts.items all.items) }
-{
-    match folder {
-        None => Some(parts),
-        Some(folder) => match growing.add_folder(alloc, folder, &mut parts) {
-            Ok(()) => Some(parts),
-            Err(fault) => {
-                let _ = writeln!(err, "initview: {fault}");
-                None
-            }
-        },
-    }
-}
-
 /// Reads the files of the paths, in their order, and behind them those of a folder, where one is named. One that can't be
 /// read is told, and none is given.
 pub(crate) fn read_files<T: Texts, G: GrowingTexts, E: Write>(
@@ -89,8 +66,17 @@ pub(crate) fn read_files<T: Texts, G: GrowingTexts, E: Write>(
         (map (λ path. path.now) paths.now) (option_map (λ path. path.now) folder.entry)
         parts.items) }
 {
-    let parts = read_named(texts, alloc, paths, err)?;
-    with_those_of(growing, alloc, parts, folder, err)
+    let mut parts = read_named(texts, alloc, paths, err)?;
+    match folder {
+        None => Some(parts),
+        Some(folder) => match growing.add_folder(alloc, folder, &mut parts) {
+            Ok(()) => Some(parts),
+            Err(fault) => {
+                let _ = writeln!(err, "initview: {fault}");
+                None
+            }
+        },
+    }
 }
 
 /// The exit status of what was found: 1 with faults, 2 with warnings alone.
@@ -210,18 +196,6 @@ fn old_of(parts: &mut [Part]) -> &[Part]
     behind_first(parts)
 }
 
-/// What becomes of the entries of one inittab where another is read in its place.
-fn diff_text(
-    alloc: Global,
-    level: Option<Level>,
-    old: &Table,
-    new: &Table,
-) -> Result<Vec<Line>, AllocError>
-    ensures { IfOk result (λ lines. lines.items ≡ changes_by level old.now new.now) }
-{
-    change_lines(alloc, level_asked(level, new), old, new)
-}
-
 /// What an inittab starts on the way to a level.
 pub(crate) fn plan_of(
     alloc: Global,
@@ -288,7 +262,7 @@ fn diff_answer<E: Write>(
         Ok(both) => both,
         Err(fault) => return Err(fault),
     };
-    match diff_text(alloc, level, &old, &new) {
+    match change_lines(alloc, level_asked(level, &new), &old, &new) {
         Ok(text) => Ok((text, DONE)),
         Err(_) => Err(TableFault::Memory),
     }

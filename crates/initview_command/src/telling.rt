@@ -15,7 +15,10 @@ pub(crate) fn report_unsaid<E: Write>(fault: SayFault, err: &mut E) -> u8
 {
     match fault {
         SayFault::Memory => report_memory(err),
-        SayFault::Unwritten => report_unwritten(err),
+        SayFault::Unwritten => {
+            let _ = write_text(err, b"initview: cannot write\n");
+            DEVICE_FAULT
+        }
     }
 }
 
@@ -24,13 +27,6 @@ pub(crate) fn report_memory<E: Write>(err: &mut E) -> u8
     ensures report { AppendsPrefix (E.contents err.old) (E.contents err.new) memory_line }
 {
     let _ = write_text(err, b"initview: out of memory\n");
-    DEVICE_FAULT
-}
-
-fn report_unwritten<E: Write>(err: &mut E) -> u8
-    ensures { result ≡ DEVICE_FAULT }
-{
-    let _ = write_text(err, b"initview: cannot write\n");
     DEVICE_FAULT
 }
 
