@@ -37,8 +37,8 @@ pub const USAGE: &str = "usage: initview why [--inittab-dir DIR] ID TRACE [TABLE
        initview timeline [--svg | --width N] TRACE
        initview follow [-n N] TRACE
        initview lint [--programs FOLDERS] [--inittab-dir DIR] TABLE [FILE..]
-       initview diff [--trace TRACE] [--level LEVEL] [--inittab-dir DIR] OLD NEW
-       initview plan [--trace TRACE] [--level LEVEL] [--inittab-dir DIR] TABLE [FILE..]
+       initview diff [--trace T] [--level L] [--inittab-dir DIR] OLD NEW
+       initview plan [--trace T] [--level L] [--inittab-dir DIR] TABLE [FILE..]
        initview --version
   why     say why the entry ID isn't started next, the line of TRACE at fault,
           and what to do; with TABLE also where the inittab has a line of ID,
@@ -71,10 +71,10 @@ pub const USAGE: &str = "usage: initview why [--inittab-dir DIR] ID TRACE [TABLE
   Options stand anywhere.
   ID      an id of the inittab, 1 to 8 characters
   TRACE   a trace of init, also one that is still being written; - is standard
-          input
+          input; so is T
   TABLE   an inittab; FILEs go on where it ends, and those of the folder DIR
           that init takes
-  LEVEL   0 to 9 or S; without it the default level of the inittab that is new,
+  L       0 to 9 or S; without it the default level of the inittab that is new,
           with --trace the stage in force at its end
 ";
 
