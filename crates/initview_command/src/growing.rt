@@ -36,8 +36,8 @@ pub trait GrowingText: Read {
     /// Reads of what is there already, and gives no byte where it has to wait for more.
     fn read_there(&mut self, buf: &mut [u8]) -> io::Result<usize>
         ensures bound { ReadsAtMost result buf.new }
-        ensures bytes { IfOk result (λ count. Consumes (Self.remaining self.old) (Self.remaining self.new)
-            (take count buf.new)) };
+        ensures bytes { IfOk result (λ count. Consumes (Self.remaining self.old)
+            (Self.remaining self.new) (take count buf.new)) };
 }
 
 /// What opens a text to follow it while it grows, knows who writes it, and reads folders.
