@@ -11,7 +11,7 @@ returns-clause-done g c =
     let run : RcSaid = said_at c.as_str-dir.result.now (record { before = c.in-Ok.before; new = c.args.said.now.new }) c.entering-options.result in
     reports_asked (g.L.LevelFiles.file_at c.args.levels.now) names_at (said_of c.args.said.now) c.in-Ok.before c.as_str-dir.result.now c.entering-options.result c.run_names-status.result c.keep_level.result _ _ _ _ c.in-Ok.ensures.ok c.as_str-dir.ensures.value c.entering-options.ensures c.keep_level.ensures.status
     (λ whole. said_reports names_at run c.as_str-dir.result.now c.as_str-2.result.now c.as_str.result.now (texts c.in-Ok-previous_names.previous.items) (texts c.in-Ok-names.names.items) _ _ _ refl (c.as_str-2.ensures.value ∙ c.in-Ok-folder_of.ensures) (c.as_str.ensures.value ∙ c.in-Ok-folder_of.ensures) c.in-Ok-previous_names.ensures c.in-Ok-names.ensures.names
-        (rw (c.deref.ensures.value, c.deref-2.ensures.value) at c.run_names-status.ensures.done whole))
+    (rw (c.deref.ensures.value, c.deref-2.ensures.value) at c.run_names-status.ensures.done whole))
 
 pub returns-clause-ran : goal.returns-clause-ran
 returns-clause-ran g c = elim c.run_names-status.ensures.ran [
