@@ -66,8 +66,8 @@ pub(crate) const OPTIONS: &[Row] = &[
     ("--width", "N", ""),
     ("-n", "N", ""),
     ("--programs", "FOLDERS", ""),
-    ("--trace", "TRACE", ""),
-    ("--level", "LEVEL", ""),
+    ("--trace", "T", ""),
+    ("--level", "L", ""),
     ("--inittab-dir", "DIR", ""),
     ("WORD", "..", ""),
 ];
