@@ -1,16 +1,7 @@
 -- No step and no request is a generation more.
-use Rattle.std.proofs.Common.{◌≡◌, refl, Bool, true, false, cond, Option, Some, None}
-use Rattle.init_words.specs.declared.stages.Stage.{Stage}
+use Rattle.core_handover.proofs.Words.{◌≡◌, refl, Bool, true, false, cond, Option, Some, None, Stage, same_level, HeardRequest, Goal, Step, Enter, Call, Power, Reread, Order, Hold, Settle, Reexec, Idle, CoreFields, CoreState, after_got, after_step, heard_in}
 use Rattle.init_words.specs.declared.stages.Stage.TheVariants as stage
-use Rattle.init_words.specs.Levels.{same_level}
-use Rattle.initctl_frame.specs.declared.requests.HeardRequest.{HeardRequest}
 use Rattle.initctl_frame.specs.declared.requests.HeardRequest.TheVariants as got
-use Rattle.trace_events.specs.declared.steps.Goal.{Goal}
-use Rattle.trace_events.specs.declared.steps.Step.{Step}
-use Rattle.trace_events.specs.declared.steps.Step.TheVariants.{Enter, Call, Power, Reread, Order, Hold, Settle, Reexec, Idle}
-use Rattle.core_model.specs.declared.parts.CoreFields.{CoreFields}
-use Rattle.core_model.specs.State.{CoreState}
-use Rattle.core_model.specs.Steps.{after_got, after_step, heard_in}
 
 pub step_same : (s : Step) (c : CoreState) → (after_step s c).fields.generation ≡ c.fields.generation
 step_same (Enter now grace) c = refl

@@ -1,17 +1,10 @@
 -- What is handed on can be said, and keeps the rules of what is taken over.
-use Rattle.std.proofs.Common.{◌≡◌, refl, sym, ap, ◌∙◌, subst, ℕ, ◌+◌, ◌^◌, ◌<◌, true, false, List, map, arith}
-use Rattle.std.specs.List.{list_all}
+use Rattle.core_handover.proofs.Words.{◌≡◌, refl, sym, ap, ◌∙◌, subst, ℕ, ◌+◌, ◌^◌, ◌<◌, true, false, List, map, arith, list_all, CoreFields, record_of, state_of, CoreState, after_handed_on, has_ranged_words, has_short_seconds, IsTextIn}
 use Rattle.inittab_text.specs.Written.{is_table}
-use Rattle.core_model.specs.declared.parts.CoreFields.{CoreFields}
-use Rattle.core_model.specs.Parts.{record_of, state_of}
 use Rattle.core_model.specs.Rules.{IsFit}
-use Rattle.core_model.specs.State.{CoreState}
-use Rattle.core_model.specs.Steps.{after_handed_on}
 use Rattle.core_model.proofs.RuledHeard.{handed_on_keeps}
 use Rattle.core_text.specs.declared.versions.Version.TheVariants.{V2}
 use Rattle.core_text.specs.Lines.{state_text}
-use Rattle.core_text.specs.Range.{has_ranged_words, has_short_seconds}
-use Rattle.core_text.specs.Refused.{IsTextIn}
 use Rattle.core_text.proofs.Ranged.{state_ranged}
 
 pub handed_says : (old new : CoreState) (next : CoreFields) (text : List ℕ) → new ≡ after_handed_on old → next ≡ record old.fields { generation = old.fields.generation + 1; reexec = false } → old.fields.generation + 1 < 2 ^ 64 → is_table old.table ≡ true → list_all has_ranged_words old.slots ≡ true → text ≡ state_text (record { fields = next; table = old.table; records = map record_of old.slots }) → IsFit old → has_short_seconds old ≡ true → IsTextIn V2 text (state_of new) × IsFit new

@@ -1,20 +1,11 @@
 -- The seconds that init keeps stay an hour at most: those of its steps are of its goal, or of a wish for a level.
-use Rattle.std.proofs.Common.{◌≡◌, refl, sym, ap, ◌∙◌, Bool, true, false, ◌&&◌, cond, Option, Some, None}
+use Rattle.core_handover.proofs.Words.{◌≡◌, refl, sym, ap, ◌∙◌, Bool, true, false, ◌&&◌, cond, Option, Some, None, Stage, same_level, HeardRequest, Goal, Step, Enter, Call, Power, Reread, Order, Hold, Settle, Reexec, Idle, CoreState, after_step, after_got, heard_in, wished, has_short_seconds, is_goal, is_seconds, is_stage, passes}
 use Rattle.std.proofs.lemmas.Bool.{and_parts, and_from}
-use Rattle.init_words.specs.declared.stages.Stage.{Stage}
 use Rattle.init_words.specs.declared.stages.Stage.TheVariants as stage
-use Rattle.init_words.specs.Levels.{same_level}
-use Rattle.initctl_frame.specs.declared.requests.HeardRequest.{HeardRequest}
 use Rattle.initctl_frame.specs.declared.requests.HeardRequest.TheVariants as got
-use Rattle.trace_events.specs.declared.steps.Goal.{Goal}
-use Rattle.trace_events.specs.declared.steps.Step.{Step}
-use Rattle.trace_events.specs.declared.steps.Step.TheVariants.{Enter, Call, Power, Reread, Order, Hold, Settle, Reexec, Idle}
 use Rattle.trace_events.specs.Range.{is_request}
-use Rattle.core_model.specs.State.{CoreState}
 use Rattle.core_model.specs.Decide.{decide}
-use Rattle.core_model.specs.Steps.{after_step, after_got, heard_in, wished}
 use Rattle.core_model.proofs.Decided.{EachPasses, decided}
-use Rattle.core_text.specs.Range.{has_short_seconds, is_goal, is_seconds, is_stage, passes}
 
 -- the seconds of a step
 abbrev is_short_step : Step → Bool

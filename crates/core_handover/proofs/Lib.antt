@@ -1,3 +1,4 @@
 pub mod Generations
 pub mod Handed
 pub mod Lasting
+pub mod Words

@@ -1,27 +1,9 @@
 -- The step that init takes, as a function of what it keeps (init(8)).
 use Rattle.std.specs.Prelude.{ℕ, Bool, false, not, ◌&&◌, ◌||◌, ◌+◌, if◌then◌else◌, List, [], ◌∷◌, zip, nat_le, Option, Some, None, is_some, is_none}
 use Rattle.std.specs.List.{list_any, list_all}
-use Rattle.init_words.specs.declared.entries.Entry.{Entry}
-use Rattle.init_words.specs.declared.levels.Level.{Level}
-use Rattle.init_words.specs.declared.levels.Level.TheVariants.{S}
-use Rattle.init_words.specs.declared.levels.Mark.TheVariants.{At}
-use Rattle.init_words.specs.declared.stages.Stage.{Stage}
+use Rattle.core_model.specs.Words.{Entry, Level, S, At, Stage, Start, Look, Term, Kill, wanted_by, is_limited, served_by, starts_of, waited_of, same_level, names, may_of, is_held, Step, Order, Settle, Reread, Reexec, Idle, Goal, is_order, in_run, Stop, Due, Termed, RecordState, allows, is_quiet}
 use Rattle.init_words.specs.declared.stages.Stage.TheVariants as stage
-use Rattle.init_words.specs.declared.orders.OrderKind.TheVariants.{Start, Look, Term, Kill}
-use Rattle.init_words.specs.Actions.{wanted_by, is_limited, served_by}
-use Rattle.init_words.specs.Entries.{starts_of, waited_of}
-use Rattle.init_words.specs.Levels.{same_level, names}
-use Rattle.respawn_limit.specs.Window.{may_of, is_held}
-use Rattle.trace_events.specs.declared.steps.Step.{Step}
-use Rattle.trace_events.specs.declared.steps.Step.TheVariants.{Enter, Order, Hold, Settle, Reread, Reexec, Idle}
-use Rattle.trace_events.specs.declared.steps.Goal.{Goal}
-use Rattle.trace_events.specs.Wanted.{is_order}
-use Rattle.trace_events.specs.Wishes.{in_run}
-use Rattle.core_records.specs.declared.children.Stop.{Stop}
-use Rattle.core_records.specs.declared.children.Stop.TheVariants.{Due, Termed}
-use Rattle.core_records.specs.State.{RecordState}
-use Rattle.core_records.specs.Changes.{allows}
-use Rattle.core_records.specs.Lists.{is_quiet}
+use Rattle.trace_events.specs.declared.steps.Step.TheVariants.{Enter, Hold}
 use Rattle.core_model.specs.PendingCalls.{has_news, first_news}
 use Rattle.core_model.specs.State.{CoreState}
 

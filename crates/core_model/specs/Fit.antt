@@ -2,36 +2,18 @@
 use Rattle.std.specs.Prelude.{◌≡◌, ℕ, Bool, true, false, ◌&&◌, ◌+◌, IsTrue, if◌then◌else◌, List, [], ◌∷◌, map, find, reverse, Option, Some, None}
 use Rattle.std.specs.List.{list_any}
 use Rattle.std.specs.Option.{option_map, option_map_or}
-use Rattle.respawn_limit.specs.declared.TheConstants.{HOLD}
-use Rattle.respawn_limit.specs.State.{LimiterState, unused}
-use Rattle.respawn_limit.specs.Window.{last_starts}
+use Rattle.core_model.specs.Words.{HOLD, LimiterState, unused, last_starts, Entry, Answer, Kill, is_limited, same_id, entry_of, act_of, Step, Goal, Event, Child, is_of, has_child, open_of, table_of, stage_of, grace_of, time_of, known_children, is_asked, is_called, is_order, in_run, goal_of, wants_reexec, wants_reread, level_wish, keeps_power, keeps_letter, was_booted, is_sound, KnownChild, Stop, Due, Termed, Killed, RecordState}
 use Rattle.init_words.specs.declared.children.Status.{Status}
-use Rattle.init_words.specs.declared.entries.Entry.{Entry}
 use Rattle.init_words.specs.declared.levels.Letter.TheVariants as letter
-use Rattle.init_words.specs.declared.orders.Answer.{Answer}
 use Rattle.init_words.specs.declared.orders.Answer.TheVariants.{Ended}
-use Rattle.init_words.specs.declared.orders.OrderKind.TheVariants.{Kill}
 use Rattle.init_words.specs.declared.orders.PowerKind.TheVariants as power
-use Rattle.init_words.specs.Actions.{is_limited}
-use Rattle.init_words.specs.Ids.{same_id}
-use Rattle.inittab_text.specs.Tables.{entry_of, act_of}
 use Rattle.trace_events.specs.declared.happenings.Happening.TheVariants as happened
-use Rattle.trace_events.specs.declared.steps.Step.{Step}
 use Rattle.trace_events.specs.declared.steps.Step.TheVariants as step
-use Rattle.trace_events.specs.declared.steps.Goal.{Goal}
-use Rattle.trace_events.specs.Event.{Event}
 use Rattle.trace_events.specs.Answered.{answered_of}
-use Rattle.trace_events.specs.Past.{Child, is_of, has_child, open_of, table_of, stage_of, grace_of, time_of, known_children}
-use Rattle.trace_events.specs.Wanted.{is_asked, is_called, is_excluded, is_order}
+use Rattle.trace_events.specs.Wanted.{is_excluded}
 use Rattle.trace_events.specs.Spells.{Signal, spell_hits, is_missed}
 use Rattle.trace_events.specs.Timing.{start_times, hold_times}
-use Rattle.trace_events.specs.Wishes.{in_run, goal_of, wants_reexec, wants_reread, level_wish, keeps_power, keeps_letter, was_booted}
 use Rattle.trace_events.specs.Due.{record_ids, wants_look, is_announced}
-use Rattle.trace_events.specs.Sound.{is_sound}
-use Rattle.core_records.specs.declared.children.KnownChild.{KnownChild}
-use Rattle.core_records.specs.declared.children.Stop.{Stop}
-use Rattle.core_records.specs.declared.children.Stop.TheVariants.{Due, Termed, Killed}
-use Rattle.core_records.specs.State.{RecordState}
 use Rattle.core_model.specs.declared.pending_calls.PendingCalls.{PendingCalls}
 use Rattle.core_model.specs.declared.parts.CoreFields.{CoreFields}
 use Rattle.core_model.specs.State.{CoreState}

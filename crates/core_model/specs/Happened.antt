@@ -2,22 +2,9 @@
 -- A trace is a list of happenings, the newest first: `since ++ happening ∷ before` is a trace in which it came.
 use Rattle.std.specs.Prelude.{◌≡◌, ◌<◌, ◌+◌, ◌⊎◌, ⊤, ℕ, Bool, true, false, not, ◌&&◌, IsTrue, List, [], ◌∷◌, ◌++◌, Option, Some}
 use Rattle.std.specs.List.{list_any}
-use Rattle.respawn_limit.specs.declared.TheConstants.{HOLD}
-use Rattle.init_words.specs.declared.entries.Entry.{Entry}
-use Rattle.init_words.specs.declared.actions.Act.{Act}
+use Rattle.core_model.specs.Words.{HOLD, Entry, Act, Level, Start, Stage, Run, same_id, starts_of, lives_of, waited_of, has_id, entry_of, act_of, NewTable, Asked, Birth, Told, Event, table_of, stage_of, time_of, same_acts, brings, is_steady, is_reaping_of}
 use Rattle.init_words.specs.declared.actions.Act.TheVariants as act
-use Rattle.init_words.specs.declared.levels.Level.{Level}
-use Rattle.init_words.specs.declared.orders.OrderKind.TheVariants.{Start}
-use Rattle.init_words.specs.declared.stages.Stage.{Stage}
-use Rattle.init_words.specs.declared.stages.Stage.TheVariants.{Run}
-use Rattle.init_words.specs.Ids.{same_id}
-use Rattle.init_words.specs.Entries.{starts_of, lives_of, waited_of}
-use Rattle.inittab_text.specs.Tables.{has_id, entry_of, act_of}
-use Rattle.trace_events.specs.declared.happenings.Happening.TheVariants.{NewTable, Enter, Asked, Hold, Birth, Told}
-use Rattle.trace_events.specs.Event.{Event}
-use Rattle.trace_events.specs.Past.{table_of, stage_of, time_of}
-use Rattle.trace_events.specs.Wanted.{same_acts, brings}
-use Rattle.trace_laws.specs.Stretches.{is_steady, is_reaping_of}
+use Rattle.trace_events.specs.declared.happenings.Happening.TheVariants.{Enter, Hold}
 
 -- a child of the id, born behind `before`, may live: the table in force has its entry, with the action that it had at
 -- the birth, and the entry lives in the stage in force

@@ -1,13 +1,7 @@
 -- The children of the system are the core's records, corrected by the answers under way.
 use Rattle.std.specs.Prelude.{ℕ, Bool, not, ◌&&◌, ◌||◌, List}
 use Rattle.std.specs.List.{list_any}
-use Rattle.init_words.specs.declared.entries.Entry.{Entry}
-use Rattle.inittab_text.specs.Tables.{has_id}
-use Rattle.trace_events.specs.Event.{Event}
-use Rattle.trace_events.specs.Past.{Child}
-use Rattle.trace_events.specs.Agreement.{has_untold_birth, has_untold_end}
-use Rattle.core_records.specs.State.{RecordState}
-use Rattle.core_records.specs.Lists.{is_record_of, is_numbered}
+use Rattle.core_model.specs.Words.{Entry, has_id, Event, Child, has_untold_birth, has_untold_end, RecordState, is_record_of, is_numbered}
 use Rattle.core_model.specs.State.{CoreState}
 
 -- a record of the core has the child of this id and number

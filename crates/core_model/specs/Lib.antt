@@ -2,10 +2,11 @@ pub mod Decide
 pub mod Fit
 pub mod Happened
 pub mod Headline
-pub mod PendingCalls
 pub mod Parts
+pub mod PendingCalls
 pub mod Rebuilding
 pub mod Rules
 pub mod State
 pub mod Steps
+pub mod Words
 pub mod Work

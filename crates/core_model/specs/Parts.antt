@@ -1,7 +1,6 @@
 -- What init keeps, as plain values: what its state text says (telinit(8), `u`).
 use Rattle.std.specs.Prelude.{List, map}
-use Rattle.init_words.specs.declared.entries.Entry.{Entry}
-use Rattle.core_records.specs.State.{RecordState, child_number, birth_act}
+use Rattle.core_model.specs.Words.{Entry, RecordState, child_number, birth_act}
 use Rattle.core_model.specs.declared.parts.CoreFields.{CoreFields}
 use Rattle.core_model.specs.declared.parts.PlainRecord.{PlainRecord}
 use Rattle.core_model.specs.State.{CoreState}

@@ -4,8 +4,7 @@ use Rattle.init_words.specs.declared.orders.PowerKind.{PowerKind}
 use Rattle.init_words.specs.declared.orders.PowerKind.TheVariants as power
 use Rattle.init_words.specs.declared.levels.Letter.{Letter}
 use Rattle.init_words.specs.declared.levels.Letter.TheVariants as letter
-use Rattle.trace_events.specs.declared.steps.Step.{Step}
-use Rattle.trace_events.specs.declared.steps.Step.TheVariants.{Call, Power}
+use Rattle.core_model.specs.Words.{Step, Call, Power}
 use Rattle.core_model.specs.declared.pending_calls.PendingCalls.{PendingCalls}
 
 abbrev pub no_news : PendingCalls

@@ -2,11 +2,7 @@
 use Rattle.std.specs.Prelude.{ℕ, Bool, true, false, ◌&&◌, if◌then◌else◌, List, [], ◌∷◌, map, Option, Some, None}
 use Rattle.std.specs.List.{list_all}
 use Rattle.std.specs.Option.{option_map}
-use Rattle.init_words.specs.declared.actions.Act.{Act}
-use Rattle.init_words.specs.declared.entries.Entry.{Entry}
-use Rattle.init_words.specs.Ids.{same_id}
-use Rattle.core_records.specs.declared.children.KnownChild.{KnownChild}
-use Rattle.core_records.specs.State.{RecordState}
+use Rattle.core_model.specs.Words.{Act, Entry, same_id, KnownChild, RecordState}
 use Rattle.core_model.specs.declared.parts.PlainRecord.{PlainRecord}
 use Rattle.core_model.specs.Parts.{SavedState}
 use Rattle.core_model.specs.Rules.{never_fall}

@@ -2,28 +2,11 @@
 -- the text of such a state is taken for no state of init's.
 use Rattle.std.specs.Prelude.{◌≡◌, ℕ, Bool, true, false, not, ◌&&◌, ◌||◌, ◌==◌, ◌+◌, if◌then◌else◌, List, [], ◌∷◌, length, zip, nat_le, Option, Some, None, is_some, is_none}
 use Rattle.std.specs.List.{list_all, list_any}
-use Rattle.init_words.specs.declared.actions.Act.{Act}
-use Rattle.init_words.specs.declared.entries.Entry.{Entry}
+use Rattle.core_model.specs.Words.{Act, Entry, Start, Look, Term, Kill, Stage, is_called_by, is_ondemand, starts_of, same_level, entry_of, CLOCK_LIMIT, HOLD, STARTS, LimiterState, Goal, is_order, in_run, KnownChild, Stop, Due, Termed, RecordState, is_limited_record, are_distinct}
 use Rattle.init_words.specs.declared.orders.OrderKind.{OrderKind}
-use Rattle.init_words.specs.declared.orders.OrderKind.TheVariants.{Start, Look, Term, Kill}
 use Rattle.init_words.specs.declared.orders.PowerKind.TheVariants as power
-use Rattle.init_words.specs.declared.stages.Stage.{Stage}
 use Rattle.init_words.specs.declared.stages.Stage.TheVariants as stage
-use Rattle.init_words.specs.Actions.{is_called_by, is_ondemand}
-use Rattle.init_words.specs.Entries.{starts_of}
-use Rattle.init_words.specs.Levels.{same_level}
-use Rattle.inittab_text.specs.Tables.{entry_of}
-use Rattle.respawn_limit.specs.declared.TheConstants.{CLOCK_LIMIT, HOLD, STARTS}
-use Rattle.respawn_limit.specs.State.{LimiterState}
-use Rattle.trace_events.specs.declared.steps.Goal.{Goal}
-use Rattle.trace_events.specs.Wanted.{is_order}
-use Rattle.trace_events.specs.Wishes.{in_run}
-use Rattle.core_records.specs.declared.children.KnownChild.{KnownChild}
-use Rattle.core_records.specs.declared.children.Stop.{Stop}
-use Rattle.core_records.specs.declared.children.Stop.TheVariants.{Due, Termed}
-use Rattle.core_records.specs.State.{RecordState, is_limited_record}
 use Rattle.core_records.specs.Judging.{is_excluded}
-use Rattle.core_records.specs.Lists.{are_distinct}
 use Rattle.core_records.specs.Order.{IsInOrder}
 use Rattle.core_records.specs.Times.{is_timely}
 use Rattle.core_model.specs.declared.parts.CoreFields.{CoreFields}

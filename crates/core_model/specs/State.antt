@@ -1,12 +1,7 @@
 -- What init keeps, and how it opens (init(8)).
 use Rattle.std.specs.Prelude.{false, List, map, Option, Some, None}
-use Rattle.init_words.specs.declared.entries.Entry.{Entry}
-use Rattle.init_words.specs.declared.levels.Level.{Level}
-use Rattle.init_words.specs.declared.levels.Level.TheVariants.{S}
+use Rattle.core_model.specs.Words.{Entry, Level, S, default_level_of, Goal, RecordState, new_record}
 use Rattle.init_words.specs.declared.limits.TheConstants.{GRACE}
-use Rattle.inittab_text.specs.Tables.{default_level_of}
-use Rattle.trace_events.specs.declared.steps.Goal.{Goal}
-use Rattle.core_records.specs.State.{RecordState, new_record}
 use Rattle.core_model.specs.declared.parts.CoreFields.{CoreFields}
 use Rattle.core_model.specs.PendingCalls.{no_news}
 

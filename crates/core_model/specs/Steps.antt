@@ -1,24 +1,11 @@
 -- What init keeps after each of its steps, and after each thing that it is told (init(8), telinit(8)).
 use Rattle.std.specs.Prelude.{ℕ, Bool, true, false, ◌&&◌, ◌||◌, ◌+◌, if◌then◌else◌, List, map, max, min, Option, Some, None}
 use Rattle.std.specs.List.{list_any}
-use Rattle.init_words.specs.declared.entries.Entry.{Entry}
-use Rattle.init_words.specs.declared.levels.Mark.TheVariants.{OnCall}
-use Rattle.init_words.specs.declared.stages.Stage.{Stage}
+use Rattle.core_model.specs.Words.{Entry, OnCall, Stage, Answer, is_called_by, is_ondemand, same_level, names, has_id, CLOCK_LIMIT, Step, Call, Power, Order, Settle, Goal, starts_in, RecordState, after_order, after_hold, after_call, after_enter, after_begin_round, after_judge}
 use Rattle.init_words.specs.declared.stages.Stage.TheVariants as stage
-use Rattle.init_words.specs.declared.orders.Answer.{Answer}
-use Rattle.init_words.specs.Actions.{is_called_by, is_ondemand}
-use Rattle.init_words.specs.Levels.{same_level, names}
-use Rattle.inittab_text.specs.Tables.{has_id}
 use Rattle.initctl_frame.specs.declared.requests.HeardRequest.{HeardRequest}
 use Rattle.initctl_frame.specs.declared.requests.HeardRequest.TheVariants as got
-use Rattle.respawn_limit.specs.declared.TheConstants.{CLOCK_LIMIT}
-use Rattle.trace_events.specs.declared.steps.Step.{Step}
-use Rattle.trace_events.specs.declared.steps.Step.TheVariants.{Enter, Call, Power, Order, Hold, Settle}
-use Rattle.trace_events.specs.declared.steps.Goal.{Goal}
-use Rattle.trace_events.specs.Wanted.{starts_in}
-use Rattle.core_records.specs.State.{RecordState}
-use Rattle.core_records.specs.Changes.{after_order, after_hold, after_call, after_enter, after_begin_round}
-use Rattle.core_records.specs.Judging.{after_judge}
+use Rattle.trace_events.specs.declared.steps.Step.TheVariants.{Enter, Hold}
 use Rattle.core_records.specs.Lists as lists
 use Rattle.core_records.specs.Adopting as adopting
 use Rattle.core_model.specs.declared.parts.CoreFields.{CoreFields}

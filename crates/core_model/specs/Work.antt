@@ -1,9 +1,6 @@
 -- How much init may still do before the world moves: it falls with each step, so its own steps end.
 use Rattle.std.specs.Prelude.{ℕ, Bool, not, ◌+◌, ◌*◌, if◌then◌else◌, length, filter, Option, Some, None, is_some, is_none}
-use Rattle.init_words.specs.declared.stages.Stage.{Stage}
-use Rattle.init_words.specs.declared.stages.Stage.TheVariants.{Sysinit, Boot, Run}
-use Rattle.respawn_limit.specs.Window.{is_held}
-use Rattle.core_records.specs.State.{RecordState}
+use Rattle.core_model.specs.Words.{Stage, Sysinit, Boot, Run, is_held, RecordState}
 use Rattle.core_model.specs.PendingCalls.{news_count}
 use Rattle.core_model.specs.State.{CoreState}
 

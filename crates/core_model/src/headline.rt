@@ -2,19 +2,12 @@
 
 ghost use Rattle.std.specs.Prelude.{◌≡◌, ◌≤◌, ◌+◌, ℕ, IsTrue, false, ◌&&◌, List, ◌∷◌, ◌++◌, filter, length};
 ghost use Rattle.std.specs.List.{list_any, list_all};
-ghost use Rattle.init_words.specs.declared.orders.OrderKind.TheVariants.{Start, Term, Kill};
-ghost use Rattle.respawn_limit.specs.declared.TheConstants.{WINDOW, STARTS, HOLD};
-ghost use Rattle.trace_events.specs.declared.happenings.Happening.TheVariants.{Asked, Hold, Hit};
-ghost use Rattle.trace_events.specs.declared.steps.Goal.{Goal};
-ghost use Rattle.trace_events.specs.Event.{Event};
-ghost use Rattle.trace_events.specs.Past.{table_of, time_of, is_of, has_child, unreaped_children, known_children};
-ghost use Rattle.trace_events.specs.Sound.{is_sound};
+ghost use Rattle.core_model.specs.Words.{Start, Term, Kill, WINDOW, STARTS, HOLD, Asked, Hit, Goal, Event, table_of, time_of, is_of, has_child, unreaped_children, known_children, is_sound, Agrees, is_unreaped, count_starts, is_order_of, is_reaping_of, is_stoppable};
+ghost use Rattle.trace_events.specs.declared.happenings.Happening.TheVariants.{Hold};
 ghost use Rattle.trace_events.specs.Lawful.{is_limited_id, is_lawful};
-ghost use Rattle.trace_events.specs.Agreement.{Agrees, is_unreaped};
 ghost use Rattle.trace_events.specs.Bounds.{keeps_pace, hits_its_own, kills_once};
 ghost use Rattle.trace_laws.specs.Belonging.{belongs};
 ghost use Rattle.trace_laws.specs.Moments.{AtEachMoment, AtEachBirth, AtEachSettle, AtEachOrder, AtEachHit, BetweenBirths, BetweenStarts, FromHoldToStart, FromOrderToHit};
-ghost use Rattle.trace_laws.specs.Stretches.{count_starts, is_order_of, is_reaping_of, is_stoppable};
 ghost use Rattle.trace_laws.specs.Warnings.{Warned};
 ghost use Rattle.core_model.specs.State.{CoreState};
 ghost use Rattle.core_model.specs.Fit.{OnEachTrace};

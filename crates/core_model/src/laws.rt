@@ -1,9 +1,7 @@
 //! Each act of a core is one that the rules of the trace allow.
 
 ghost use Rattle.std.specs.Prelude.{IsTrue, List, ◌∷◌};
-ghost use Rattle.trace_events.specs.declared.steps.Goal.{Goal};
-ghost use Rattle.trace_events.specs.Event.{Event};
-ghost use Rattle.trace_events.specs.Sound.{is_sound};
+ghost use Rattle.core_model.specs.Words.{Goal, Event, is_sound};
 ghost use Rattle.core_model.specs.State.{CoreState};
 ghost use Rattle.core_model.specs.Fit.{LastStatuses, Fits, StillFits, with_lasts, is_act};
 

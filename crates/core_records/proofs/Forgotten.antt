@@ -1,8 +1,6 @@
 -- One item of an id at most: without it is without that at its place.
-use Rattle.core_records.proofs.Words.{◌≡◌, refl, ◌∙◌, ap, subst, Bool, true, false, cond, List, [], ◌∷◌, ℕ, zero, suc, ◌+◌, ◌≤◌, ◌<◌, length, slice_get, Option, Some, None, arith, IfSome, sum_by-cons, passes, without_id, Keyed, same_id, is_record_of, are_distinct, record_by_id, RecordState, Vec}
-use Rattle.std.proofs.lemmas.Bool.{false≢true}
-use Rattle.std.specs.List.{remove}
-use Rattle.core_records.specs.Indexing.{AreKeysOf, IsIndex, count_for, is_for, keys_of}
+use Rattle.core_records.proofs.Words.{◌≡◌, refl, ◌∙◌, ap, subst, Bool, true, false, cond, List, [], ◌∷◌, ℕ, zero, suc, ◌+◌, ◌≤◌, ◌<◌, length, slice_get, Option, Some, None, arith, IfSome, sum_by-cons, passes, without_id, Keyed, same_id, is_record_of, are_distinct, record_by_id, RecordState, Vec, false≢true, remove, AreKeysOf, IsIndex, count_for, is_for}
+use Rattle.core_records.specs.Indexing.{keys_of}
 use Rattle.core_records.proofs.Found.{is_listed, others, rest_distinct}
 use Rattle.core_records.proofs.Indexes.{HasOwnIds, count-slot}
 

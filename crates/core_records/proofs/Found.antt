@@ -1,5 +1,7 @@
 -- A map whose keys are the ids of its records, against the list of its records: one is found, changed or taken out.
-use Rattle.core_records.proofs.Words.{◌≡◌, refl, sym, ◌∙◌, ap, subst, Bool, true, false, not, List, [], ◌∷◌, ◌++◌, ℕ, zero, suc, map, slice_get, Option, Some, None, Ok, arith, list_any, AllByRecursion, IfSome, option_copied, Bor, values_of, lookup, set_value, remove_entry, and_parts, and_from, or_from, not-true, not_from_false, same_id, Answer, same_id-is, lookup-find, values-push, keys-push, IndexMap, IsUnique, WritesThrough, insert_entry, insert_entry-new, RecordState, is_timely, are_timely, ids_of_records, is_record_of, are_distinct, record_by_id, order_of, refusal_of, with_changed, without}
+use Rattle.core_records.proofs.Words.{◌≡◌, refl, sym, ◌∙◌, ap, subst, Bool, true, false, not, List, [], ◌∷◌, ◌++◌, ℕ, zero, suc, map, slice_get, Option, Some, None, Ok, arith, list_any, AllByRecursion, IfSome, option_copied, values_of, lookup, set_value, remove_entry, and_parts, and_from, or_from, not-true, not_from_false, same_id, Answer, same_id-is, lookup-find, values-push, keys-push, IndexMap, IsUnique, WritesThrough, insert_entry, RecordState, is_timely, are_timely, ids_of_records, is_record_of, are_distinct, record_by_id, order_of, refusal_of, with_changed, without}
+use Rattle.std.specs.Borrow.{Bor}
+use Rattle.indexmap.proofs.CallerLemmas.{insert_entry-new}
 use Rattle.std.proofs.Common.{is_some}
 use Rattle.std.specs.List.{IsDistinct}
 use Rattle.std.specs.Map.{keys_of}

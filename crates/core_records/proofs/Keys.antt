@@ -1,10 +1,9 @@
 -- The keys of the records: the numbers of their children, and the times of the SIGTERMs to them.
-use Rattle.core_records.proofs.Words.{◌≡◌, refl, sym, ◌∙◌, ap, cond, Bool, true, false, not, ◌&&◌, ℕ, same_id, same_id-is, KnownChild, ◌+◌, List, [], ◌∷◌, nat_lt, Option, Some, None, ◌==◌, arith, list_any, count_by, and_parts, or_from, not-true, le-ltb, eq-eqb, sum_by-cons, Keyed, Stop, Due, Termed, Killed, RecordState, is_termed, is_termed_at, is_termed_before, IsFirstTermed, termed_at, termed_of, are_sorted, AreKeysOf, passes, first_key}
-use Rattle.std.proofs.Common.{find, ◌≤◌}
-use Rattle.std.specs.Option.{option_map}
+use Rattle.core_records.proofs.Words.{◌≡◌, refl, sym, ◌∙◌, ap, cond, Bool, true, false, not, ◌&&◌, ℕ, ◌+◌, List, [], ◌∷◌, nat_lt, Option, Some, None, ◌==◌, arith, same_id, same_id-is, KnownChild, list_any, count_by, and_parts, or_from, not-true, le-ltb, eq-eqb, sum_by-cons, Keyed, RecordState, is_termed, is_termed_at, is_termed_before, IsFirstTermed, termed_at, termed_of, are_sorted, AreKeysOf, passes, first_key, find, ◌≤◌, option_map, child_of, IsFound, is_numbered, id_of_child}
+use Rattle.core_records.specs.declared.children.Stop.{Stop}
+use Rattle.core_records.specs.declared.children.Stop.TheVariants.{Due, Termed, Killed}
 use Rattle.core_records.specs.declared.index.Found.TheVariants as found
-use Rattle.core_records.specs.Indexing.{keys_of, child_of, IsFound}
-use Rattle.core_records.specs.Lists.{is_numbered, id_of_child}
+use Rattle.core_records.specs.Indexing.{keys_of}
 use Rattle.core_records.proofs.Counted.{some_counted}
 use Rattle.core_records.proofs.Indexes.{count-slot, HasOwnIds}
 

@@ -1,5 +1,6 @@
 -- Records in record order: each change keeps it, and an adoption makes it.
-use Rattle.core_records.proofs.Words.{◌≡◌, refl, ◌∙◌, Bool, true, ℕ, List, [], ◌∷◌, ◌++◌, map, filter, Option, Some, None, is_none, arith, list_all, Entry, OrderKind, Answer, Stage, entry_of, KnownChild, RecordState, new_record, IsInOrder, after_order, after_answer, is_over, is_excluded, judged, judged_child, after_judge, record_by_id, changed, with_changed, without, after_told, adopted, left_over, is_left_over, entry_records, left_records, after_adopt}
+use Rattle.core_records.proofs.Words.{◌≡◌, refl, ◌∙◌, Bool, true, ℕ, List, [], ◌∷◌, ◌++◌, map, filter, Option, Some, None, is_none, arith, list_all, Entry, OrderKind, Answer, Stage, entry_of, KnownChild, RecordState, new_record, after_order, after_answer, is_over, is_excluded, judged, judged_child, after_judge, record_by_id, changed, with_changed, without, after_told, adopted, left_over, is_left_over, entry_records, left_records, after_adopt}
+use Rattle.core_records.specs.Order.{IsInOrder}
 use Rattle.core_records.proofs.Adopted.{id-adopted}
 use Rattle.core_records.proofs.Changed.{id-after_answer}
 

@@ -1,15 +1,9 @@
 -- Sorted items: they are put in and taken out, and those of a key are found by halving.
-use Rattle.core_records.proofs.Words.{◌≡◌, refl, Bool, true, false, not, ℕ, zero, suc, ◌≤◌, ◌<◌, List, [], ◌∷◌, filter, length, nat_lt, arith, list_any, insert, slice_index_or, IsPartitionedBy, IsPartitionPoint, and_parts, and_from, or_parts, or_from, not-true, not_from_false, ltb-true, ltb-false, lt-ltb, le-ltb, Keyed, are_sorted}
-use Rattle.std.proofs.Common.{sym, ◌∙◌, ap, subst, cond, ◌&&◌, ◌+◌, drop, slice_get, Option, Some, None, ◌==◌, get_or, add-one, length-drop}
-use Rattle.std.specs.List.{count_by, AllWithin}
-use Rattle.std.proofs.lemmas.Bool.{eqb-true, eq-eqb, both_ways}
-use Rattle.std.proofs.lemmas.List.Sums.{sum_by-cons}
-use Rattle.std.proofs.lemmas.List.{get_or-drop}
+use Rattle.core_records.proofs.Words.{◌≡◌, refl, Bool, true, false, not, ℕ, zero, suc, ◌≤◌, ◌<◌, List, [], ◌∷◌, filter, length, nat_lt, arith, list_any, insert, slice_index_or, and_parts, and_from, or_parts, or_from, not-true, not_from_false, ltb-true, ltb-false, lt-ltb, le-ltb, Keyed, are_sorted, sym, ◌∙◌, ap, subst, cond, ◌&&◌, ◌+◌, drop, slice_get, Option, Some, None, ◌==◌, get_or, add-one, length-drop, count_by, AllWithin, eqb-true, eq-eqb, sum_by-cons, get_or-drop, same_id, same_id-self, is_at, IsFound}
+use Rattle.std.specs.List.Sorted.{IsPartitionedBy, IsPartitionPoint}
+use Rattle.std.proofs.lemmas.Bool.{both_ways}
 use Rattle.std.proofs.lemmas.Option.{slice_get-get_or}
-use Rattle.init_words.specs.Ids.{same_id}
-use Rattle.init_words.proofs.Same.{same_id-self}
 use Rattle.core_records.specs.declared.index.Found.TheVariants as found
-use Rattle.core_records.specs.Indexing.{is_at, IsFound}
 
 abbrev pub is_below : ℕ → Keyed → Bool
 is_below n c = nat_lt c.key n

@@ -1,5 +1,7 @@
 -- No time that is kept is later than now, and each change keeps that.
-use Rattle.core_records.proofs.Words.{Bool, true, ◌≡◌, ◌≤◌, ◌-◌, ℕ, zero, suc, List, [], ◌∷◌, ◌++◌, map, filter, drop, length, slice_get, nat_le, refl, arith, cond, Some, list_all, and_parts, and_from, le-leb, STARTS, OrderKind, Answer, LimiterState, with_start, RecordState, is_stop_timely, is_timely, are_timely, after_order, after_answer, is_record_of, changed, with_changed, record_by_id, after_told}
+use Rattle.core_records.proofs.Words.{Bool, true, ◌≡◌, ◌≤◌, ◌-◌, ℕ, zero, suc, List, [], ◌∷◌, ◌++◌, map, filter, drop, length, slice_get, nat_le, refl, arith, cond, Some, list_all, and_parts, and_from, le-leb, STARTS, OrderKind, Answer, RecordState, is_stop_timely, is_timely, are_timely, after_order, after_answer, is_record_of, changed, with_changed, record_by_id, after_told}
+use Rattle.respawn_limit.specs.State.{LimiterState}
+use Rattle.respawn_limit.specs.Window.{with_start}
 
 -- starts that are no later than a limit
 abbrev pub are_past : ℕ → List ℕ → Bool

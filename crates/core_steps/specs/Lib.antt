@@ -1,3 +1,4 @@
 pub mod Between
 pub mod Places
 pub mod Signals
+pub mod Words

@@ -3,9 +3,7 @@ use Rattle.std.specs.Prelude.{◌≡◌, ◌≤◌, ◌<◌, ℕ, Bool, true, no
 use Rattle.std.specs.List.{list_all}
 use Rattle.std.specs.Option.{option_map_or}
 use Rattle.init_words.specs.declared.entries.Entry.{Entry}
-use Rattle.init_words.specs.declared.stages.Stage.{Stage}
-use Rattle.core_records.specs.State.{RecordState}
-use Rattle.core_model.specs.Decide.{is_wanted_record, is_owed_record}
+use Rattle.core_steps.specs.Words.{Stage, RecordState, is_wanted_record, is_owed_record}
 use Rattle.core_steps.specs.declared.walk_places.Places.{Places}
 use Rattle.core_steps.specs.Between.{AllBut}
 

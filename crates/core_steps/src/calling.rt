@@ -5,9 +5,7 @@
 
 ghost use Rattle.std.specs.Prelude.{◌≡◌, ◌<◌, length, slice_get, true, option_map, if◌then◌else◌, Some};
 ghost use Rattle.core_records.specs.Changes.{after_call};
-ghost use Rattle.core_records.specs.Lists.{has_record_of, with_changed};
-ghost use Rattle.core_records.specs.Order.{IsInOrder};
-ghost use Rattle.core_model.specs.Steps.{is_named, with_called, judged_in};
+ghost use Rattle.core_steps.specs.Words.{has_record_of, with_changed, IsInOrder, is_named, with_called, judged_in};
 
 use core_records::Records;
 use init_words::{Entry, Stage, starts};

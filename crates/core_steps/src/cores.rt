@@ -20,8 +20,7 @@ pub struct Core<A: Allocator = Global> {
 }
 
 impl<A: Allocator> Model for Core<A> {
-    ghost use Rattle.core_model.specs.State.{CoreState};
-    ghost use Rattle.core_model.specs.Rules.{IsFit};
+    ghost use Rattle.core_steps.specs.Words.{CoreState, IsFit};
 
     ghost Value = { CoreState };
 
@@ -33,11 +32,7 @@ impl<A: Allocator> Model for Core<A> {
 impl<A: Allocator + Copy> Core<A> {
     ghost use Rattle.std.specs.Prelude.{[], ◌∷◌, IfErr, Err, true, false, if◌then◌else◌};
     ghost use Rattle.init_words.specs.declared.refusals.Refusal.TheVariants as refusal;
-    ghost use Rattle.trace_events.specs.declared.happenings.Happening.TheVariants.{NewTable};
-    ghost use Rattle.core_records.specs.Lists.{is_quiet};
-    ghost use Rattle.core_model.specs.State.{opening_goal, opening_state};
-    ghost use Rattle.core_model.specs.Steps.{after_adopt};
-    ghost use Rattle.core_model.specs.Fit.{Fits, HasLasts, StillFits, OnEachTrace};
+    ghost use Rattle.core_steps.specs.Words.{NewTable, is_quiet, opening_goal, opening_state, after_adopt, Fits, HasLasts, StillFits, OnEachTrace};
 
     /// The core before its first stage, with the goal of the level that is given, else of the table's default level,
     /// else of S.
@@ -71,17 +66,7 @@ impl<A: Allocator + Copy> Core<A> {
 impl<A: Allocator> Core<A> {
     ghost use Rattle.std.specs.Prelude.{option_and_then, ◌^◌, ◌+◌, IsOk, ◌∷◌, ◌<◌, Some, false};
     ghost use Rattle.trace_events.specs.declared.happenings.Happening.TheVariants as happening;
-    ghost use Rattle.trace_events.specs.declared.happenings.Handed.{Handed};
-    ghost use Rattle.trace_events.specs.Answered.{answered_of};
-    ghost use Rattle.trace_events.specs.Due.{due, first};
-    ghost use Rattle.trace_events.specs.Run.{is_rest};
-    ghost use Rattle.core_records.specs.State.{RecordState};
-    ghost use Rattle.core_records.specs.Lists.{order_in, refusal_of, record_by_id};
-    ghost use Rattle.core_model.specs.Decide.{decide, is_drained};
-    ghost use Rattle.core_model.specs.Steps.{after_step, after_told, after_round, after_clock, after_got, after_not_read, after_handed, after_handed_on};
-    ghost use Rattle.core_model.specs.Fit.{StillFits, OnEachTrace, with_step};
-    ghost use Rattle.core_model.specs.Rules.{IsFit};
-    ghost use Rattle.core_model.specs.Work.{work_left};
+    ghost use Rattle.core_steps.specs.Words.{Handed, answered_of, due, first, is_rest, RecordState, order_in, refusal_of, record_by_id, decide, is_drained, after_step, after_told, after_round, after_clock, after_got, after_not_read, after_handed, after_handed_on, StillFits, OnEachTrace, with_step, IsFit, work_left};
 
     /// The core that keeps these.
     pub(crate) fn of(bare: BareCore<A>) -> Core<A>

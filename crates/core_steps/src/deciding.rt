@@ -1,9 +1,8 @@
 //! What is due for one record: its signal, its start, its look, and whether it holds up others.
 
 ghost use Rattle.std.specs.Prelude.{◌≡◌, ◌≤◌, ◌+◌, nat_le};
-ghost use Rattle.core_model.specs.Decide.{level_step, signal_step, stop_step, is_wanted_record, is_owed_record, limited_step, can_start_record, start_step, is_done_record, next_stage, is_served_record, can_look_record};
+ghost use Rattle.core_steps.specs.Words.{level_step, signal_step, stop_step, is_wanted_record, is_owed_record, limited_step, can_start_record, start_step, is_done_record, next_stage, is_served_record, can_look_record, CLOCK_LIMIT};
 ghost use Rattle.trace_events.specs.Wanted.{is_order};
-ghost use Rattle.respawn_limit.specs.declared.TheConstants.{CLOCK_LIMIT};
 ghost use Rattle.core_steps.specs.Places.{is_seen_record, is_passed_record};
 ghost use Rattle.core_steps.specs.Signals.{is_past};
 

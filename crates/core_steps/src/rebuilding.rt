@@ -3,8 +3,7 @@
 ghost use Rattle.std.specs.Prelude.{◌≡◌, ◌≢◌, Err, IfOk, OnOk, option_copied, true, false};
 ghost use Rattle.core_model.specs.Parts.{state_of};
 ghost use Rattle.core_model.specs.Rebuilding.{living_of, is_whole, is_for, record_read, records_along, are_whole};
-ghost use Rattle.core_model.specs.Rules.{IsFit};
-ghost use Rattle.core_model.specs.State.{CoreState};
+ghost use Rattle.core_steps.specs.Words.{IsFit, CoreState};
 ghost use Rattle.core_steps.specs.declared.rebuilding.Rebuild.TheVariants as rebuild;
 
 use crate::cores::Core;

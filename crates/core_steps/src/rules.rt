@@ -3,12 +3,8 @@
 ghost use Rattle.std.specs.Prelude.{◌≡◌, ◌≤◌, if◌then◌else◌, not, true, nat_le, Some};
 ghost use Rattle.std.specs.List.{list_all, list_any};
 ghost use Rattle.std.specs.List.Sorted.{IsNonDecreasing};
-ghost use Rattle.respawn_limit.specs.declared.TheConstants.{CLOCK_LIMIT};
-ghost use Rattle.core_records.specs.Lists.{are_distinct, is_record_of};
-ghost use Rattle.core_records.specs.Times.{is_stop_timely, is_timely};
-ghost use Rattle.core_model.specs.Decide.{has_excluded};
+ghost use Rattle.core_steps.specs.Words.{CLOCK_LIMIT, are_distinct, is_record_of, is_stop_timely, is_timely, has_excluded, has_cause, may_follow, is_order_allowed, is_started, is_start_allowed, are_starts_in, is_child_excluded, is_stop_judged, is_callable, may_be_signalled, are_marks_due, is_hold_of, is_limiter_kept, is_other_level, is_goal_reached, is_birth_known, are_fields_kept, is_record_kept, are_records_kept, is_kept};
 ghost use Rattle.core_model.specs.Rules as rules;
-ghost use Rattle.core_model.specs.Rules.{has_cause, may_follow, is_order_allowed, is_started, is_start_allowed, are_starts_in, is_child_excluded, is_stop_judged, is_callable, may_be_signalled, are_marks_due, is_hold_of, is_limiter_kept, is_other_level, is_goal_reached, is_birth_known, are_fields_kept, is_record_kept, are_records_kept, is_kept};
 
 use crate::deciding::{is_owed, is_starting};
 use core_model::CoreFields;

@@ -32,10 +32,7 @@ pub(crate) struct BareCore<A: Allocator> {
 
 impl<A: Allocator> Model for BareCore<A> {
     ghost use Rattle.std.specs.Prelude.{◌≡◌, ◌≤◌, true};
-    ghost use Rattle.respawn_limit.specs.declared.TheConstants.{CLOCK_LIMIT};
-    ghost use Rattle.core_records.specs.Times.{are_timely};
-    ghost use Rattle.core_records.specs.Order.{IsInOrder};
-    ghost use Rattle.core_model.specs.State.{CoreState};
+    ghost use Rattle.core_steps.specs.Words.{CLOCK_LIMIT, are_timely, IsInOrder, CoreState};
     ghost use Rattle.core_steps.specs.Places.{are_seen, ArePassed};
 
     ghost Value = { CoreState };
@@ -50,12 +47,8 @@ impl<A: Allocator> Model for BareCore<A> {
 impl<A: Allocator + Copy> BareCore<A> {
     ghost use Rattle.std.specs.Prelude.{[], ◌∷◌, IfErr, Err, true, false, if◌then◌else◌};
     ghost use Rattle.init_words.specs.declared.refusals.Refusal.TheVariants as refusal;
-    ghost use Rattle.trace_events.specs.declared.happenings.Happening.TheVariants.{NewTable};
+    ghost use Rattle.core_steps.specs.Words.{NewTable, is_quiet, opening_goal, opening_state, after_adopt, Fits, OnEachTrace};
     ghost use Rattle.inittab_text.specs.Tables.{is_distinct};
-    ghost use Rattle.core_records.specs.Lists.{is_quiet};
-    ghost use Rattle.core_model.specs.State.{opening_goal, opening_state};
-    ghost use Rattle.core_model.specs.Steps.{after_adopt};
-    ghost use Rattle.core_model.specs.Fit.{Fits, OnEachTrace};
 
     pub(crate) fn new_by_state(
         alloc: A,
@@ -104,22 +97,12 @@ impl<A: Allocator + Copy> BareCore<A> {
 
 impl<A: Allocator> BareCore<A> {
     ghost use Rattle.std.specs.Prelude.{◌≤◌, ◌^◌, ◌+◌, IsTrue, IsOk, List, ◌∷◌, ◌<◌, Some, true, false, ℕ};
-    ghost use Rattle.init_words.specs.declared.stages.Stage.{Stage};
+    ghost use Rattle.core_steps.specs.Words.{Stage};
     ghost use Rattle.trace_events.specs.declared.happenings.Happening.TheVariants as happening;
-    ghost use Rattle.trace_events.specs.Answered.{answered_of};
-    ghost use Rattle.trace_events.specs.Due.{due, first};
-    ghost use Rattle.trace_events.specs.Run.{is_rest};
-    ghost use Rattle.core_records.specs.Order.{IsInOrder};
-    ghost use Rattle.core_records.specs.Lists.{are_distinct, can_ask, order_in, refusal_of};
-    ghost use Rattle.core_model.specs.Decide.{decide, first_step, or_idle, wish_step, stands, stop_among, calm_step, work_step, is_drained};
+    ghost use Rattle.core_steps.specs.Words.{answered_of, due, first, is_rest, IsInOrder, are_distinct, can_ask, order_in, refusal_of, decide, first_step, or_idle, wish_step, stands, stop_among, calm_step, work_step, is_drained};
     ghost use Rattle.core_model.specs.Decide as core;
     ghost use Rattle.core_model.specs.Steps as steps;
-    ghost use Rattle.trace_events.specs.declared.happenings.Handed.{Handed};
-    ghost use Rattle.core_model.specs.Steps.{after_step, after_told, after_round, after_clock, after_got, after_not_read, after_handed, after_handed_on};
-    ghost use Rattle.core_model.specs.Fit.{Fits, OnEachTrace, with_step};
-    ghost use Rattle.core_model.specs.Work.{work_left};
-    ghost use Rattle.core_records.specs.Times.{are_timely};
-    ghost use Rattle.respawn_limit.specs.declared.TheConstants.{CLOCK_LIMIT};
+    ghost use Rattle.core_steps.specs.Words.{Handed, after_step, after_told, after_round, after_clock, after_got, after_not_read, after_handed, after_handed_on, Fits, OnEachTrace, with_step, work_left, are_timely, CLOCK_LIMIT};
 
     /// The core that keeps these, which stand in record order, and no time later than now.
     pub(crate) fn of(fields: CoreFields, table: Table<A>, slots: Records<A>) -> BareCore<A>

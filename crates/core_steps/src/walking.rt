@@ -2,8 +2,7 @@
 
 ghost use Rattle.std.specs.Prelude.{◌≡◌, ◌≤◌, ◌+◌, true, None, Some, IfSome, drop, zip};
 ghost use Rattle.std.specs.List.{list_any};
-ghost use Rattle.core_model.specs.Decide.{stop_among, start_along, start_among, all_done, all_served, look_among, is_busy_record};
-ghost use Rattle.respawn_limit.specs.declared.TheConstants.{CLOCK_LIMIT};
+ghost use Rattle.core_steps.specs.Words.{stop_among, start_along, start_among, all_done, all_served, look_among, is_busy_record, CLOCK_LIMIT};
 ghost use Rattle.core_steps.specs.Places.{are_seen, is_passed_at, ArePassed, ArePassedFrom};
 
 use crate::deciding::{

@@ -1,3 +1,4 @@
+pub mod CommonWords
 pub mod Lines
 pub mod Range
 pub mod Reading

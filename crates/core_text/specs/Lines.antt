@@ -1,19 +1,8 @@
 -- The text of a state (telinit(8)), by its version: its lines, and the words of each line, set apart by single blanks.
 use Rattle.std.specs.Prelude.{ℕ, Bool, if◌then◌else◌, List, [], ◌∷◌, ◌++◌, map, length, codes, decimal, Option, Some, None}
 use Rattle.std.specs.List.{flat_map, join_with_byte}
-use Rattle.init_words.specs.declared.children.Status.{Status}
-use Rattle.init_words.specs.declared.children.Status.TheVariants.{Exit, Killed as KilledBySignal}
-use Rattle.init_words.specs.declared.stages.Stage.{Stage}
-use Rattle.init_words.specs.Actions.{word_of}
-use Rattle.inittab_text.specs.Written.{fields_written}
-use Rattle.trace_events.specs.declared.steps.Goal.{Goal}
-use Rattle.trace_text.specs.Lines.{level_word, stage_word, order_word}
-use Rattle.core_records.specs.declared.children.Stop.{Stop}
-use Rattle.core_records.specs.declared.children.Stop.TheVariants.{Due, Termed, Killed}
-use Rattle.core_model.specs.declared.pending_calls.PendingCalls.{PendingCalls}
-use Rattle.core_model.specs.declared.parts.CoreFields.{CoreFields}
-use Rattle.core_model.specs.declared.parts.PlainRecord.{PlainRecord}
-use Rattle.core_model.specs.Parts.{SavedState}
+use Rattle.core_text.specs.CommonWords.{Status, Exit, Stage, word_of, fields_written, Goal, level_word, stage_word, order_word, Stop, Due, Termed, Killed, PendingCalls, CoreFields, PlainRecord, SavedState}
+use Rattle.init_words.specs.declared.children.Status.TheVariants.{Killed as KilledBySignal}
 use Rattle.core_text.specs.declared.versions.Version.{Version}
 use Rattle.core_text.specs.declared.versions.Version.TheVariants.{V1, V2}
 

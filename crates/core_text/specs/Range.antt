@@ -2,20 +2,10 @@
 -- least, no grace stands before the first stage, and no wish for another re-execution.
 use Rattle.std.specs.Prelude.{ℕ, Bool, true, not, ◌==◌, ◌^◌, ◌+◌, ◌&&◌, nat_le, nat_lt, List, length, Option, Some, None, is_none}
 use Rattle.std.specs.List.{list_all}
-use Rattle.init_words.specs.declared.children.Status.{Status}
+use Rattle.core_text.specs.CommonWords.{Status, Stage, is_id, is_table, Goal, STARTS, Stop, Due, Termed, Killed, CoreFields, PlainRecord, SavedState}
 use Rattle.init_words.specs.declared.limits.TheConstants.{GRACE_LIMIT}
-use Rattle.init_words.specs.declared.stages.Stage.{Stage}
-use Rattle.init_words.specs.Ids.{is_id}
-use Rattle.inittab_text.specs.Written.{is_table}
-use Rattle.trace_events.specs.declared.steps.Goal.{Goal}
 use Rattle.trace_events.specs.Range.{is_status}
-use Rattle.respawn_limit.specs.declared.TheConstants.{STARTS}
-use Rattle.core_records.specs.declared.children.Stop.{Stop}
-use Rattle.core_records.specs.declared.children.Stop.TheVariants.{Due, Termed, Killed}
-use Rattle.core_model.specs.declared.parts.CoreFields.{CoreFields}
-use Rattle.core_model.specs.declared.parts.PlainRecord.{PlainRecord}
 use Rattle.core_records.specs.State.{RecordState, child_number}
-use Rattle.core_model.specs.Parts.{SavedState}
 use Rattle.core_model.specs.State.{CoreState}
 use Rattle.core_text.specs.declared.versions.Version.{Version}
 use Rattle.core_text.specs.declared.versions.Version.TheVariants.{V1, V2}

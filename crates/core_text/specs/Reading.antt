@@ -3,28 +3,14 @@
 use Rattle.std.specs.Prelude.{◌≡◌, ℕ, Bool, true, false, not, ◌==◌, ◌-◌, ◌&&◌, ◌^◌, if◌then◌else◌, nat_le, List, [], ◌∷◌, length, take, codes, Option, Some, None, option_and_then}
 use Rattle.std.specs.Option.{option_map}
 use Rattle.std.specs.List.{starts_with}
-use Rattle.text_lines.specs.Lines.{cut, pieces_of, after_lines, newlines}
+use Rattle.core_text.specs.CommonWords.{cut, pieces_of, after_lines, newlines, Status, Entry, Stage, act_read, id_read, same_id, is_empty, table_begun, Goal, both, level_of_word, stage_of_word, order_of_word, seconds_of_word, child_of_word, code_of_word, STARTS, Stop, Due, Termed, Killed, PendingCalls, CoreFields, PlainRecord}
 use Rattle.text_lines.specs.Numbers.{number_read}
 use Rattle.init_words.specs.declared.actions.Act.{Act}
-use Rattle.init_words.specs.declared.children.Status.{Status}
 use Rattle.init_words.specs.declared.children.Status.TheVariants.{Killed as KilledBySignal}
-use Rattle.init_words.specs.declared.entries.Entry.{Entry}
 use Rattle.init_words.specs.declared.levels.Level.{Level}
 use Rattle.init_words.specs.declared.orders.OrderKind.{OrderKind}
-use Rattle.init_words.specs.declared.stages.Stage.{Stage}
-use Rattle.init_words.specs.Actions.{act_read}
-use Rattle.init_words.specs.Ids.{id_read, same_id}
-use Rattle.inittab_text.specs.Written.{is_empty, table_begun}
-use Rattle.trace_events.specs.declared.steps.Goal.{Goal}
-use Rattle.trace_text.specs.Reading.{both, level_of_word, stage_of_word, order_of_word, seconds_of_word, child_of_word, code_of_word}
-use Rattle.respawn_limit.specs.declared.TheConstants.{STARTS}
-use Rattle.core_records.specs.declared.children.Stop.{Stop}
-use Rattle.core_records.specs.declared.children.Stop.TheVariants.{Due, Termed, Killed}
-use Rattle.core_model.specs.declared.pending_calls.PendingCalls.{PendingCalls}
-use Rattle.core_model.specs.declared.parts.CoreFields.{CoreFields}
 use Rattle.core_text.specs.declared.state_fault.StateFault.{StateFault}
 use Rattle.core_text.specs.declared.state_fault.StateFault.TheVariants.{Line, Memory}
-use Rattle.core_model.specs.declared.parts.PlainRecord.{PlainRecord}
 use Rattle.core_text.specs.Lines.{version_line}
 use Rattle.core_text.specs.Range.{is_stage}
 use Rattle.core_text.specs.declared.versions.Version.{Version}

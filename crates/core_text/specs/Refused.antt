@@ -1,12 +1,10 @@
 -- Which texts are those of states, and why a text is refused.
 use Rattle.std.specs.Prelude.{◌≡◌, ◌≢◌, ◌==◌, ℕ, Bool, true, not, List, [], ◌∷◌, ◌++◌, map, codes, None}
 use Rattle.std.specs.List.{list_all, starts_with}
-use Rattle.text_lines.specs.Lines.{has_byte}
+use Rattle.core_text.specs.CommonWords.{has_byte, PlainRecord, SavedState}
 use Rattle.core_text.specs.declared.state_fault.StateFault.{StateFault}
 use Rattle.core_text.specs.declared.state_fault.StateFault.TheVariants.{Cut, Version as OtherVersion, Line, Generation}
 use Rattle.core_text.specs.declared.state_fault.StateFault.TheVariants.{Memory}
-use Rattle.core_model.specs.declared.parts.PlainRecord.{PlainRecord}
-use Rattle.core_model.specs.Parts.{SavedState}
 use Rattle.core_text.specs.declared.versions.Version.{Version}
 use Rattle.core_text.specs.Lines.{body_lines, slot_line, text_in, text_of_lines, version_line}
 use Rattle.core_text.specs.Range.{is_record, is_state}

@@ -1,7 +1,7 @@
 -- The versions of the text of a state, and how long their ids and tables are.
 use Rattle.std.specs.Prelude.{ℕ, Bool, ◌&&◌, nat_le, List, length}
 use Rattle.std.specs.List.{list_all}
-use Rattle.init_words.specs.declared.entries.Entry.{Entry}
+use Rattle.core_text.specs.CommonWords.{Entry}
 use Rattle.init_words.specs.declared.ids.TheConstants.{ID_LIMIT}
 use Rattle.inittab_text.specs.declared.tables.TheConstants.{ENTRY_LIMIT}
 use Rattle.core_text.specs.declared.versions.TheConstants.{OLD_ID_LIMIT, OLD_ENTRY_LIMIT}

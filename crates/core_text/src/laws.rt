@@ -1,7 +1,7 @@
 //! A law of state texts that were cut short.
 
 ghost use Rattle.std.specs.Prelude.{◌≡◌, ◌++◌, ℕ, List, []};
-ghost use Rattle.core_model.specs.Parts.{SavedState};
+ghost use Rattle.core_text.specs.CommonWords.{SavedState};
 ghost use Rattle.core_text.specs.Refused.{IsTextOf, Whole};
 
 /// No proper prefix of the text of a state is whole, as no line before the last begins with `end `; so none is the text

@@ -2,9 +2,7 @@
 
 ghost use Rattle.std.specs.Prelude.{◌≡◌, codes};
 ghost use Rattle.std.specs.Option.{option_map};
-ghost use Rattle.init_words.specs.Ids.{same_id};
-ghost use Rattle.trace_text.specs.Reading.{stage_of_word, order_of_word, child_of_word};
-ghost use Rattle.init_words.specs.Actions.{act_read};
+ghost use Rattle.core_text.specs.CommonWords.{same_id, stage_of_word, order_of_word, child_of_word, act_read};
 ghost use Rattle.core_text.specs.Reading.{dash_read, or_read, time_read, generation_read, bit_read, one_bit, two_bits, three_bits, four_bits, goal_read, signal_read, stop_read, starts_read, id_in_read, status_read, version_of_line};
 
 use crate::versions::Version;

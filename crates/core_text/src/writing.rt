@@ -2,10 +2,7 @@
 
 ghost use Rattle.std.specs.Prelude.{◌≡◌, ◌++◌, ◌∷◌, [], map, length, decimal, IfOk, OnOk};
 ghost use Rattle.std.specs.List.{flat_map};
-ghost use Rattle.init_words.specs.Actions.{word_of};
-ghost use Rattle.inittab_text.specs.Written.{text_of};
-ghost use Rattle.trace_text.specs.Lines.{level_word, order_word};
-ghost use Rattle.core_model.specs.Parts.{record_of};
+ghost use Rattle.core_text.specs.CommonWords.{word_of, text_of, level_word, order_word, record_of};
 ghost use Rattle.core_text.specs.declared.versions.Version.TheVariants.{V2};
 ghost use Rattle.core_text.specs.Lines.{bits, spaced, or_dash, goal_word, stop_word, stage_or_none, starts_word, status_word, stage_line, goal_line, flags_line, wish_line, head_lines, table_line, slot_line, slot_flags, power_bits, letter_bits, text_of_lines, state_text};
 

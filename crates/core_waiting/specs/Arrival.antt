@@ -1,23 +1,10 @@
 -- Undisturbed rounds, other rounds between them, and in how many undisturbed ones a level is settled.
 use Rattle.std.specs.Prelude.{ℕ, Bool, true, false, not, ◌&&◌, ◌||◌, ◌==◌, ◌+◌, ◌-◌, ◌++◌, IsTrue, if◌then◌else◌, nat_le, List, [], ◌∷◌, filter, length, max, Option, Some}
 use Rattle.std.specs.List.{list_any, list_all}
-use Rattle.init_words.specs.Ids.{same_id}
-use Rattle.init_words.specs.declared.entries.Entry.{Entry}
-use Rattle.init_words.specs.declared.levels.Level.{Level}
+use Rattle.core_waiting.specs.Words.{same_id, Entry, Level, Stage, wanted_by, starts_of, waited_of, same_level, NewTable, Reaped, Still, NoLook, Nudge, Got, Goal, Event, Child, is_idle, table_of, stage_of, grace_of, time_of, kept_children, is_excluded, spell_hits, is_missed, goal_of, keeps_news}
 use Rattle.init_words.specs.declared.levels.Level.TheVariants.{S}
-use Rattle.init_words.specs.declared.stages.Stage.{Stage}
 use Rattle.init_words.specs.declared.stages.Stage.TheVariants as stage
-use Rattle.init_words.specs.Actions.{wanted_by}
-use Rattle.init_words.specs.Entries.{starts_of, waited_of}
-use Rattle.init_words.specs.Levels.{same_level}
 use Rattle.initctl_frame.specs.declared.requests.HeardRequest.TheVariants as got
-use Rattle.trace_events.specs.declared.happenings.Happening.TheVariants.{NewTable, Reaped, Still, NoLook, Nudge, Got}
-use Rattle.trace_events.specs.declared.steps.Goal.{Goal}
-use Rattle.trace_events.specs.Event.{Event}
-use Rattle.trace_events.specs.Past.{Child, is_idle, table_of, stage_of, grace_of, time_of, kept_children}
-use Rattle.trace_events.specs.Wanted.{is_excluded}
-use Rattle.trace_events.specs.Spells.{spell_hits, is_missed}
-use Rattle.trace_events.specs.Wishes.{goal_of, keeps_news}
 use Rattle.core_waiting.specs.Rest.{AtRest, is_awaited, awaited_children, is_empty, is_gone, to_come, after_rounds}
 
 -- of the two signals that stop an excluded child, how many were not told to have reached it; none to any other child

@@ -2,17 +2,8 @@
 -- keeps.
 use Rattle.std.specs.Prelude.{Bool, false, if◌then◌else◌, List, filter, filter_map, find, Option, Some, None, is_some, option_and_then}
 use Rattle.std.specs.Option.{option_map}
-use Rattle.init_words.specs.declared.entries.Entry.{Entry}
-use Rattle.init_words.specs.declared.stages.Stage.{Stage}
-use Rattle.init_words.specs.Entries.{waited_of}
-use Rattle.inittab_text.specs.Tables.{entry_of}
-use Rattle.trace_events.specs.Event.{Event}
-use Rattle.trace_events.specs.Past.{Child, is_of, known_children}
-use Rattle.trace_events.specs.Due.{record_ids}
+use Rattle.core_waiting.specs.Words.{Entry, Stage, waited_of, entry_of, Event, Child, is_of, known_children, record_ids, RecordState, CoreState, is_wanted_record}
 use Rattle.core_records.specs.declared.children.KnownChild.{KnownChild}
-use Rattle.core_records.specs.State.{RecordState}
-use Rattle.core_model.specs.State.{CoreState}
-use Rattle.core_model.specs.Decide.{is_wanted_record}
 use Rattle.core_waiting.specs.declared.rests.Awaited.{Awaited}
 use Rattle.core_waiting.specs.declared.rests.WhyAwaited.{WhyAwaited}
 use Rattle.core_waiting.specs.declared.rests.WhyAwaited.TheVariants.{Excluded, WaitedFor, InTheWay}

@@ -1,13 +1,7 @@
 -- Init's own steps, one after another, until it rests.
 use Rattle.std.specs.Prelude.{ℕ, zero, suc, if◌then◌else◌, List}
-use Rattle.trace_events.specs.declared.steps.Goal.{Goal}
-use Rattle.trace_events.specs.Event.{Event}
-use Rattle.trace_events.specs.Due.{due, first}
-use Rattle.trace_events.specs.Run.{is_rest}
-use Rattle.core_model.specs.State.{CoreState}
-use Rattle.core_model.specs.Decide.{decide}
+use Rattle.core_waiting.specs.Words.{Goal, Event, due, first, is_rest, CoreState, decide, with_step}
 use Rattle.core_model.specs.Steps.{after_step}
-use Rattle.core_model.specs.Fit.{with_step}
 
 -- the trace with at most so many of init's own steps, each the first that is due: none behind where nothing is due,
 -- inittab is to be read, or init to be re-executed

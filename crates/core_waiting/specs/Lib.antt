@@ -4,3 +4,4 @@ pub mod Coming
 pub mod Lines
 pub mod Requests
 pub mod Rest
+pub mod Words

@@ -1,14 +1,9 @@
 -- What init waits for where no level is announced settled, a line each.
 use Rattle.std.specs.Prelude.{ℕ, ◌-◌, if◌then◌else◌, List, [], ◌∷◌, ◌++◌, codes, decimal, Option, Some, None, is_some, option_and_then}
-use Rattle.init_words.specs.declared.levels.Level.{Level}
-use Rattle.init_words.specs.declared.stages.Stage.{Stage}
-use Rattle.init_words.specs.declared.stages.Stage.TheVariants.{Sysinit, Boot, Run}
-use Rattle.init_words.specs.Levels.{level_code}
+use Rattle.core_waiting.specs.Words.{Level, Stage, Sysinit, Boot, Run, level_code, RecordState, CoreState}
 use Rattle.core_records.specs.declared.children.Stop.{Stop}
 use Rattle.core_records.specs.declared.children.Stop.TheVariants.{Due, Termed, Killed}
-use Rattle.core_records.specs.State.{RecordState}
 use Rattle.core_records.specs.Lists.{record_by_id}
-use Rattle.core_model.specs.State.{CoreState}
 use Rattle.core_waiting.specs.declared.rests.Awaited.{Awaited}
 use Rattle.core_waiting.specs.declared.rests.WhyAwaited.{WhyAwaited}
 use Rattle.core_waiting.specs.declared.rests.WhyAwaited.TheVariants.{Excluded, WaitedFor, InTheWay}

@@ -1,12 +1,7 @@
 -- Requests for a level, and what comes after them.
 use Rattle.std.specs.Prelude.{Bool, true, false, not, List, [], ◌∷◌, Option, Some}
-use Rattle.init_words.specs.declared.levels.Level.{Level}
-use Rattle.init_words.specs.declared.stages.Stage.{Stage}
-use Rattle.init_words.specs.declared.stages.Stage.TheVariants.{Run}
-use Rattle.init_words.specs.Levels.{same_level}
+use Rattle.core_waiting.specs.Words.{Level, Stage, Run, same_level, Enter, Got, Event}
 use Rattle.initctl_frame.specs.declared.requests.HeardRequest.TheVariants as got
-use Rattle.trace_events.specs.declared.happenings.Happening.TheVariants.{Enter, Got}
-use Rattle.trace_events.specs.Event.{Event}
 
 -- no level is asked for in the stretch
 abbrev pub is_no_level_asked : List Event → Bool

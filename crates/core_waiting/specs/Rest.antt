@@ -2,22 +2,9 @@
 use Rattle.std.specs.Prelude.{◌≡◌, ℕ, Bool, true, false, not, ◌&&◌, ◌||◌, ◌++◌, IsTrue, if◌then◌else◌, List, [], ◌∷◌, filter, length, Option, Some, None, is_some}
 use Rattle.std.specs.List.{list_any}
 use Rattle.std.specs.Option.{option_map_or}
-use Rattle.init_words.specs.declared.entries.Entry.{Entry}
+use Rattle.core_waiting.specs.Words.{Entry, is_called_by, waited_of, same_id, entry_of, NewTable, Enter, Call, Power, Asked, Goal, Event, Child, is_idle, has_child, open_of, table_of, stage_of, grace_of, time_of, kept_children, is_order, is_wanted, is_excluded, Signal, is_ripe, is_missed, spell_hits, in_run, powers, due, is_announced, wants_look, is_sound}
 use Rattle.init_words.specs.declared.actions.Act.{Act}
-use Rattle.init_words.specs.Actions.{is_called_by}
 use Rattle.init_words.specs.declared.orders.OrderKind.TheVariants.{Start, Term, Kill}
-use Rattle.init_words.specs.Entries.{waited_of}
-use Rattle.init_words.specs.Ids.{same_id}
-use Rattle.inittab_text.specs.Tables.{entry_of}
-use Rattle.trace_events.specs.declared.happenings.Happening.TheVariants.{NewTable, Enter, Call, Power, Asked}
-use Rattle.trace_events.specs.declared.steps.Goal.{Goal}
-use Rattle.trace_events.specs.Event.{Event}
-use Rattle.trace_events.specs.Past.{Child, is_idle, has_child, open_of, table_of, stage_of, grace_of, time_of, kept_children}
-use Rattle.trace_events.specs.Wanted.{is_order, is_wanted, is_excluded}
-use Rattle.trace_events.specs.Spells.{Signal, is_ripe, is_missed, spell_hits}
-use Rattle.trace_events.specs.Wishes.{in_run, powers}
-use Rattle.trace_events.specs.Due.{due, is_announced, wants_look}
-use Rattle.trace_events.specs.Sound.{is_sound}
 use Rattle.core_waiting.specs.declared.rests.WhyAwaited.{WhyAwaited}
 use Rattle.core_waiting.specs.declared.rests.WhyAwaited.TheVariants.{Excluded, WaitedFor, InTheWay}
 

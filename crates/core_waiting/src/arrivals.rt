@@ -10,13 +10,7 @@
 //! and each order is answered when the next round begins.
 
 ghost use Rattle.std.specs.Prelude.{◌≡◌, ◌<◌, ◌≤◌, ◌+◌, ℕ, IsTrue, false, List, ◌++◌, filter, length, Some};
-ghost use Rattle.init_words.specs.declared.stages.Stage.TheVariants.{Run};
-ghost use Rattle.init_words.specs.Entries.{waited_of};
-ghost use Rattle.trace_events.specs.declared.steps.Goal.{Goal};
-ghost use Rattle.trace_events.specs.Event.{Event};
-ghost use Rattle.trace_events.specs.Past.{table_of, stage_of, is_idle};
-ghost use Rattle.trace_events.specs.Wishes.{goal_of, keeps_news};
-ghost use Rattle.trace_events.specs.Sound.{is_sound};
+ghost use Rattle.core_waiting.specs.Words.{Run, waited_of, Goal, Event, table_of, stage_of, is_idle, goal_of, keeps_news, is_sound};
 ghost use Rattle.core_waiting.specs.Rest.{AtRest, is_level_announced, after_rounds};
 ghost use Rattle.core_waiting.specs.Arrival.{is_unasked, is_undisturbed, undisturbed_among, AreUnasked, destination, waits_to_come, rounds_to_come};
 

@@ -4,8 +4,7 @@
 //! says is compared with `awaited_children` of the past by `next`, whose clause is public: the helpers may change.
 
 ghost use Rattle.std.specs.Prelude.{◌≡◌, IsTrue};
-ghost use Rattle.trace_events.specs.Past.{is_quiet};
-ghost use Rattle.core_model.specs.Fit.{OnEachTrace};
+ghost use Rattle.core_waiting.specs.Words.{is_quiet, OnEachTrace};
 ghost use Rattle.core_waiting.specs.Rest.{awaited_children};
 ghost use Rattle.core_waiting.specs.Awaiting.{in_record_order, awaited_known, is_wanted_in, why_of_record, awaited_of_record, awaited_by};
 

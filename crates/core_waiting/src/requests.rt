@@ -1,17 +1,8 @@
 //! No request for a level is lost (telinit(8)).
 
 ghost use Rattle.std.specs.Prelude.{◌≡◌, ◌≤◌, ◌⊎◌, ℕ, IsTrue, false, List, ◌∷◌, ◌++◌, Some};
-ghost use Rattle.init_words.specs.declared.levels.Level.{Level};
-ghost use Rattle.init_words.specs.declared.stages.Stage.{Stage};
-ghost use Rattle.init_words.specs.declared.stages.Stage.TheVariants.{Boot, Run};
-ghost use Rattle.init_words.specs.Levels.{same_level};
+ghost use Rattle.core_waiting.specs.Words.{Level, Stage, Boot, Run, same_level, Enter, Got, Goal, Event, stage_of, is_idle, goal_of, is_sound};
 ghost use Rattle.initctl_frame.specs.declared.requests.HeardRequest.TheVariants.{Level as LevelAsked};
-ghost use Rattle.trace_events.specs.declared.happenings.Happening.TheVariants.{Enter, Got};
-ghost use Rattle.trace_events.specs.declared.steps.Goal.{Goal};
-ghost use Rattle.trace_events.specs.Event.{Event};
-ghost use Rattle.trace_events.specs.Past.{stage_of, is_idle};
-ghost use Rattle.trace_events.specs.Wishes.{goal_of};
-ghost use Rattle.trace_events.specs.Sound.{is_sound};
 ghost use Rattle.core_waiting.specs.Arrival.{AreUnasked, undisturbed_among, rounds_to_come};
 ghost use Rattle.core_waiting.specs.Rest.{AtRest, after_rounds, is_level_announced};
 ghost use Rattle.core_waiting.specs.Requests.{is_elsewhere, is_no_level_asked, is_stage_entered};

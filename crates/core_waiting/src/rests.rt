@@ -8,19 +8,9 @@
 
 ghost use Rattle.std.specs.Prelude.{◌≡◌, ℕ, Bool, IsTrue, false, not, ◌||◌, List, ◌++◌, filter_map};
 ghost use Rattle.std.specs.List.{list_any, list_all};
-ghost use Rattle.trace_events.specs.declared.steps.Goal.{Goal};
+ghost use Rattle.core_waiting.specs.Words.{Goal, Event, is_idle, is_quiet, stage_of, kept_children, known_children, is_excluded, in_run, wants_reexec, wants_reread, wish_stands, due, first, is_announced, is_rest, is_sound, CoreState, decide, StillFits, OnEachTrace};
 ghost use Rattle.trace_events.specs.declared.steps.Step.TheVariants.{Idle};
-ghost use Rattle.trace_events.specs.Event.{Event};
-ghost use Rattle.trace_events.specs.Past.{is_idle, is_quiet, stage_of, kept_children, known_children};
-ghost use Rattle.trace_events.specs.Wanted.{is_excluded};
-ghost use Rattle.trace_events.specs.Wishes.{in_run, wants_reexec, wants_reread, wish_stands};
-ghost use Rattle.trace_events.specs.Due.{due, first, is_announced};
-ghost use Rattle.trace_events.specs.Run.{is_rest};
-ghost use Rattle.trace_events.specs.Sound.{is_sound};
 ghost use Rattle.trace_laws.specs.Moments.{AtEachMoment};
-ghost use Rattle.core_model.specs.State.{CoreState};
-ghost use Rattle.core_model.specs.Decide.{decide};
-ghost use Rattle.core_model.specs.Fit.{StillFits, OnEachTrace};
 ghost use Rattle.core_model.specs.Work.{work_left};
 ghost use Rattle.core_waiting.specs.Awaiting.{with_why, in_record_order, awaited_known, awaited_by};
 ghost use Rattle.core_waiting.specs.Coming.{with_own_steps, after_own_steps};

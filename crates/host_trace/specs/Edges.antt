@@ -1,12 +1,7 @@
 -- What an edge tells: each call of its host, and what its log was at that moment. The newest calls stand first.
 use Rattle.std.specs.Prelude.{◌≡◌, IsTrue, List, [], ◌∷◌, Option, Some, IfSome}
 use Rattle.init_words.specs.declared.orders.OrderKind.TheVariants as ask
-use Rattle.trace_events.specs.declared.happenings.Happening.TheVariants.{Asked}
-use Rattle.trace_events.specs.declared.steps.Goal.{Goal}
-use Rattle.trace_events.specs.Event.{Event}
-use Rattle.trace_log.specs.Logs.{LogState}
-use Rattle.host_calls.specs.declared.calls.Call.TheVariants.{Start, Look, Signal, Announce}
-use Rattle.host_calls.specs.Calls.{HostCall}
+use Rattle.host_trace.specs.Words.{Asked, Goal, Event, LogState, Start, Look, Signal, Announce, HostCall}
 use Rattle.host_trace.specs.Point.{Point, announced, order_for, point_after}
 use Rattle.host_trace.specs.Leads.{Took, UpTo, are_seconds_short}
 

@@ -1,11 +1,6 @@
 -- What is so up to each call of a run, whatever is answered later (init(8)). The newest calls stand first.
 use Rattle.std.specs.Prelude.{◌≡◌, Bool, true, false, IsTrue, List, ◌∷◌, ◌++◌}
-use Rattle.trace_events.specs.declared.happenings.Happening.TheVariants.{NotRead, Handed}
-use Rattle.trace_events.specs.declared.steps.Goal.{Goal}
-use Rattle.trace_events.specs.Event.{Event}
-use Rattle.trace_log.specs.Logs.{LogState}
-use Rattle.host_calls.specs.declared.calls.Call.TheVariants.{ReadTables, Carry, Announce}
-use Rattle.host_calls.specs.Calls.{HostCall}
+use Rattle.host_trace.specs.Words.{NotRead, Handed, Goal, Event, LogState, ReadTables, Carry, Announce, HostCall}
 use Rattle.host_trace.specs.Point.{Point, point_after}
 use Rattle.host_trace.specs.Leads.{Takes, UpTo, WentWell, are_seconds_short}
 

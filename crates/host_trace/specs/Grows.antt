@@ -1,10 +1,7 @@
 -- A log only takes more: so it is whatever a host answers.
 use Rattle.std.specs.Prelude.{◌≡◌, ℕ, true, List, [], ◌++◌}
-use Rattle.initctl_frame.specs.Blocks.{Begun}
-use Rattle.trace_events.specs.Event.{Event}
-use Rattle.core_model.specs.State.{CoreState}
+use Rattle.host_trace.specs.Words.{Begun, Event, CoreState, LogState}
 use Rattle.core_text.specs.Range.{has_short_seconds}
-use Rattle.trace_log.specs.Logs.{LogState}
 use Rattle.host_trace.specs.Leads.{IsOver}
 
 -- the log has taken more behind what it took before; one that had failed took nothing, and has failed still

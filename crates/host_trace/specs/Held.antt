@@ -1,12 +1,7 @@
 -- The children that a host holds behind its calls, and those of the trace (waitpid(2)). Calls stand THE NEWEST FIRST.
 use Rattle.std.specs.Prelude.{◌≡◌, ℕ, false, List, ◌∷◌, ◌++◌, map, reverse}
 use Rattle.init_words.specs.declared.orders.Answer.TheVariants.{Born}
-use Rattle.trace_events.specs.Event.{Event}
-use Rattle.trace_events.specs.Past.{unreaped_children}
-use Rattle.host_calls.specs.declared.calls.Call.TheVariants.{Start}
-use Rattle.host_calls.specs.declared.calls.Reply.TheVariants.{Now}
-use Rattle.host_calls.specs.Calls.{HostCall}
-use Rattle.host_calls.specs.Held.{AreOwn, HeldChildren, holds_number}
+use Rattle.host_trace.specs.Words.{Event, unreaped_children, Start, Now, HostCall, AreOwn, HeldChildren, holds_number}
 
 -- no child was born with the number of one that was held then
 abbrev pub AreNew : List HostCall → Type 0

@@ -1,27 +1,15 @@
 -- What a part of init's work makes of its core and its log, as far as its host's answers were possible (init(8)).
 use Rattle.std.specs.Prelude.{◌≡◌, ◌⊎◌, ℕ, Bool, true, false, ◌&&◌, ◌||◌, ◌+◌, IsTrue, ◌==◌, not, List, [], ◌∷◌, ◌++◌, length, take, reverse, None, is_some, Ok, Err}
 use Rattle.std.specs.List.{starts_with}
-use Rattle.initctl_frame.specs.Blocks.{Begun}
+use Rattle.host_trace.specs.Words.{Begun, Handed, NewTable, Goal, Step, Event, due, first, are_short, is_seconds, step_in, is_sound, may_come, CoreState, LogState, Carry, HostCall, TextRead}
 use Rattle.trace_events.specs.declared.happenings.Handed.{Handed as HandOver}
-use Rattle.trace_events.specs.declared.happenings.Happening.TheVariants.{Handed, NewTable}
-use Rattle.trace_events.specs.declared.steps.Goal.{Goal}
-use Rattle.trace_events.specs.declared.steps.Step.{Step}
-use Rattle.trace_events.specs.Event.{Event}
-use Rattle.trace_events.specs.Due.{due, first}
 use Rattle.trace_events.specs.Lawful.{first_breach}
-use Rattle.trace_events.specs.Range.{are_short, is_seconds}
-use Rattle.trace_events.specs.Run.{step_in}
-use Rattle.trace_events.specs.Sound.{is_sound, may_come}
-use Rattle.core_model.specs.State.{CoreState}
 use Rattle.core_model.specs.Fit.{FitsAll, with_step}
 use Rattle.core_model.specs.Parts.{state_of}
 use Rattle.core_model.specs.Rules.{IsFit}
 use Rattle.core_text.specs.Range as range
 use Rattle.core_text.specs.declared.versions.Version.TheVariants.{V2}
 use Rattle.core_text.specs.Refused.{IsTextIn}
-use Rattle.trace_log.specs.Logs.{LogState}
-use Rattle.host_calls.specs.declared.calls.Call.TheVariants.{Carry}
-use Rattle.host_calls.specs.Calls.{HostCall, TextRead}
 use Rattle.host_trace.specs.Point.{Point, point_after, has_trace, is_of_generation}
 
 -- the happening is a step of init's own

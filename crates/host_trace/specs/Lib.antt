@@ -7,3 +7,4 @@ pub mod Point
 pub mod Requests
 pub mod Texts
 pub mod Turns
+pub mod Words

@@ -12,27 +12,16 @@ use Rattle.init_words.specs.declared.orders.SignalKind.TheVariants as signal
 use Rattle.init_words.specs.Entries.{command_of}
 use Rattle.init_words.specs.Ids.{same_id}
 use Rattle.init_words.specs.Orders.{answers}
-use Rattle.init_words.specs.Parts.{texts_of}
-use Rattle.inittab_text.specs.Parts.{are_readable, table_of_texts}
+use Rattle.host_trace.specs.Words.{texts_of, are_readable, table_of_texts, Goal, Step, Event, open_of, table_of, due, first, same_step, step_in, Start, Look, Signal, Late, Clock, TakeBytes, ReadTables, Carry, Announce, Pause, HostFault, Now, Later, HostCall, PartsRead, TextRead}
 use Rattle.inittab_text.specs.Tables.{entry_of}
 use Rattle.initctl_frame.specs.declared.frames.TheConstants.{BLOCK}
 use Rattle.initctl_frame.specs.Frames.{heard_of}
 use Rattle.trace_events.specs.declared.happenings.Handed.{Handed as HandOver}
 use Rattle.trace_events.specs.declared.happenings.Handed.TheVariants as handed
 use Rattle.trace_events.specs.declared.happenings.Happening.TheVariants as happened
-use Rattle.trace_events.specs.declared.steps.Goal.{Goal}
-use Rattle.trace_events.specs.declared.steps.Step.{Step}
 use Rattle.trace_events.specs.declared.steps.Step.TheVariants as step
-use Rattle.trace_events.specs.Event.{Event}
-use Rattle.trace_events.specs.Past.{open_of, table_of}
-use Rattle.trace_events.specs.Due.{due, first, same_step}
-use Rattle.trace_events.specs.Run.{step_in}
 use Rattle.core_text.specs.Reading.{generation_of}
-use Rattle.host_calls.specs.declared.calls.Call.TheVariants.{Start, Look, Signal, Late, Clock, TakeBytes, ReadTables, Carry, Announce, Pause}
-use Rattle.host_calls.specs.declared.calls.HostFault.{HostFault}
 use Rattle.host_calls.specs.declared.calls.Reply.{Reply}
-use Rattle.host_calls.specs.declared.calls.Reply.TheVariants.{Now, Later}
-use Rattle.host_calls.specs.Calls.{HostCall, PartsRead, TextRead}
 use Rattle.host_trace.specs.declared.TheConstants.{LATE_LIMIT}
 
 -- where a record stands: the bytes of a block under way, how many late answers were asked for since the clock was read,

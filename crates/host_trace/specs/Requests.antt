@@ -1,11 +1,7 @@
 -- Which requests calls bring into the trace: those of the blocks that the bytes taken fill (initreq.h).
 use Rattle.std.specs.Prelude.{◌≡◌, ℕ, List, [], ◌∷◌, ◌++◌, Ok}
 use Rattle.initctl_frame.specs.declared.requests.HeardRequest.{HeardRequest as Request}
-use Rattle.initctl_frame.specs.Blocks.{gots_of, over_of}
-use Rattle.trace_events.specs.declared.happenings.Happening.TheVariants.{Got}
-use Rattle.trace_events.specs.Event.{Event}
-use Rattle.host_calls.specs.declared.calls.Call.TheVariants.{TakeBytes}
-use Rattle.host_calls.specs.Calls.{HostCall}
+use Rattle.host_trace.specs.Words.{gots_of, over_of, Got, Event, TakeBytes, HostCall}
 use Rattle.host_trace.specs.Point.{Point, bytes_after, point_after}
 
 -- a trace with these requests, the first first

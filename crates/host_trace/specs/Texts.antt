@@ -1,8 +1,7 @@
 -- What comes back of the texts that a host was given to carry (telinit(8), `u`).
 use Rattle.std.specs.Prelude.{ℕ, Bool, true, ◌&&◌, ◌||◌, ◌==◌, List, [], ◌∷◌, Ok, Err}
 use Rattle.std.specs.List.{list_any, starts_with}
-use Rattle.host_calls.specs.declared.calls.Call.TheVariants.{Carry}
-use Rattle.host_calls.specs.Calls.{HostCall, TextRead}
+use Rattle.host_trace.specs.Words.{Carry, HostCall, TextRead}
 use Rattle.host_trace.specs.Point.{same_text}
 
 -- the texts that were carried, the newest first

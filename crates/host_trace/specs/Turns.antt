@@ -1,19 +1,9 @@
 -- What calls a turn of init makes of its host, and what calls many turns make (init(8)). The newest stand first.
 use Rattle.std.specs.Prelude.{◌≡◌, ◌≤◌, ◌⊎◌, ◌+◌, ℕ, zero, suc, Bool, true, false, ◌&&◌, ◌||◌, ◌==◌, not, nat_le, nat_lt, IsTrue, List, [], ◌∷◌, ◌++◌, drop, length, Option, Some, None, Result, Ok, Err}
 use Rattle.std.specs.List.{list_all}
-use Rattle.init_words.specs.Parts.{texts_of}
-use Rattle.inittab_text.specs.Parts.{are_readable, faults_of_parts}
-use Rattle.trace_events.specs.declared.happenings.Happening.TheVariants.{NotRead, Handed}
-use Rattle.trace_events.specs.declared.steps.Goal.{Goal}
+use Rattle.host_trace.specs.Words.{texts_of, are_readable, faults_of_parts, NotRead, Handed, Goal, due, first, Event, is_sound, CoreState, Start, Look, Signal, Late, Clock, TakeBytes, ReadTables, Carry, Announce, Pause, HostFault, HostCall, PartsRead, TextRead}
 use Rattle.trace_events.specs.declared.steps.Step.TheVariants.{Idle}
-use Rattle.trace_events.specs.Due.{due, first}
-use Rattle.trace_events.specs.Event.{Event}
-use Rattle.trace_events.specs.Sound.{is_sound}
-use Rattle.core_model.specs.State.{CoreState}
 use Rattle.core_model.specs.Decide.{is_drained}
-use Rattle.host_calls.specs.declared.calls.Call.TheVariants.{Start, Look, Signal, Late, Clock, TakeBytes, ReadTables, Carry, Announce, Pause}
-use Rattle.host_calls.specs.declared.calls.HostFault.{HostFault}
-use Rattle.host_calls.specs.Calls.{HostCall, PartsRead, TextRead}
 use Rattle.host_calls.specs.Record.{Since}
 use Rattle.host_trace.specs.declared.TheConstants.{BYTE_LIMIT, PIECE, LATE_LIMIT, STEP_LIMIT}
 use Rattle.host_trace.specs.Point.{Point, point_after}

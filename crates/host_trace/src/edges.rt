@@ -1,9 +1,7 @@
 //! The edge of init: its host and its log, so that what one sees stands in time with what the other sees.
 
 ghost use Rattle.std.specs.Prelude.{◌≡◌, ◌≤◌, List, Option, IfOk, OnOk, OnErr, length, is_err, true, false};
-ghost use Rattle.trace_events.specs.Range.{is_in_range};
-ghost use Rattle.trace_log.specs.Logs.{LogState, Gains, Stays};
-ghost use Rattle.host_calls.specs.Calls.{text_read, parts_read, front_read};
+ghost use Rattle.host_trace.specs.Words.{is_in_range, LogState, Gains, Stays, text_read, parts_read, front_read};
 ghost use Rattle.host_trace.specs.Edges.{AddsMade, Made};
 
 use host_calls::{Call, HostFault, Reply};

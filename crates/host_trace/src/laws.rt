@@ -1,11 +1,7 @@
 //! Laws of the requests that a host's calls bring into the trace.
 
 ghost use Rattle.std.specs.Prelude.{◌≡◌, ◌+◌, ◌++◌, ℕ, IsTrue, List, [], length};
-ghost use Rattle.initctl_frame.specs.Blocks.{over_of};
-ghost use Rattle.trace_events.specs.declared.steps.Goal.{Goal};
-ghost use Rattle.trace_events.specs.Past.{unreaped_children};
-ghost use Rattle.host_calls.specs.Calls.{HostCall};
-ghost use Rattle.host_calls.specs.Held.{AreOwn, HeldChildren};
+ghost use Rattle.host_trace.specs.Words.{over_of, Goal, unreaped_children, HostCall, AreOwn, HeldChildren};
 ghost use Rattle.host_trace.specs.Held.{AreNew, unreaped_in_order};
 ghost use Rattle.host_trace.specs.Point.{Point, point_after, has_trace};
 ghost use Rattle.host_trace.specs.Leads.{AreTexts, are_carried, is_allowed};

@@ -1,12 +1,8 @@
 -- Worked crashes: `refl` computes what is left of a run whose init is killed.
-use Rattle.std.proofs.Common.{◌≡◌, drop, refl, sym, ap, subst, inl, inr, ℕ, Bool, true, false, ◌&&◌, List, [], ◌∷◌, ◌++◌, codes, Some, None, Ok}
-use Rattle.std.specs.List.{list_all}
-use Rattle.std.proofs.lemmas.Bool.{false≢true, and_parts}
-use Rattle.std.proofs.lemmas.Option.{none-some}
+use Rattle.init_stamped.proofs.Words.{◌≡◌, drop, refl, sym, ap, subst, inl, inr, ℕ, Bool, true, false, ◌&&◌, List, [], ◌∷◌, ◌++◌, codes, Some, None, Ok, list_all, false≢true, and_parts, none-some, Entry, Goal, is_unreaped, Event, open_of, is_sound, lawful_unbroken, sound_lawful, opening_goal, Start, Look, Late, Clock, TakeBytes, Carry, Announce, Pause, Now, HostCall, trace_at, EachFront, AreTexts, UpTo, WentWell, are_carried, is_allowed, Point, has_trace, point_after, IsOpening, opening_point, Leaves, LeavesIn, is_of_idle_look}
 use Rattle.init_words.specs.declared.actions.Act.{Act}
 use Rattle.init_words.specs.declared.actions.Act.TheVariants as act
 use Rattle.init_words.specs.declared.children.Status.TheVariants.{Exit}
-use Rattle.init_words.specs.declared.entries.Entry.{Entry}
 use Rattle.init_words.specs.declared.levels.Level.TheVariants as level
 use Rattle.init_words.specs.declared.levels.Mark.{Mark}
 use Rattle.init_words.specs.declared.levels.Mark.TheVariants.{At}
@@ -14,22 +10,6 @@ use Rattle.init_words.specs.declared.orders.Answer.TheVariants.{Born, Ended}
 use Rattle.init_words.specs.declared.orders.OrderKind.TheVariants as ask
 use Rattle.init_words.specs.declared.stages.Stage.TheVariants as stage
 use Rattle.trace_events.specs.declared.happenings.Happening.TheVariants as past
-use Rattle.trace_events.specs.declared.steps.Goal.{Goal}
-use Rattle.trace_events.specs.Agreement.{is_unreaped}
-use Rattle.trace_events.specs.Event.{Event}
-use Rattle.trace_events.specs.Past.{open_of}
-use Rattle.trace_events.specs.Sound.{is_sound}
-use Rattle.trace_laws.proofs.Laws.{lawful_unbroken, sound_lawful}
-use Rattle.core_model.specs.State.{opening_goal}
-use Rattle.host_calls.specs.declared.calls.Call.TheVariants.{Start, Look, Late, Clock, TakeBytes, Carry, Announce, Pause}
-use Rattle.host_calls.specs.declared.calls.Reply.TheVariants.{Now}
-use Rattle.host_calls.specs.Calls.{HostCall}
-use Rattle.host_trace.specs.Edges.{trace_at}
-use Rattle.host_trace.specs.Fronts.{EachFront}
-use Rattle.host_trace.specs.Leads.{AreTexts, UpTo, WentWell, are_carried, is_allowed}
-use Rattle.host_trace.specs.Point.{Point, has_trace, point_after}
-use Rattle.init_turns.specs.Opening.{IsOpening, opening_point}
-use Rattle.init_stamped.specs.Crashes.{Leaves, LeavesIn, is_of_idle_look}
 use Rattle.init_stamped.proofs.Crashes.{leaves, leaves_in}
 
 abbrev entry : List ℕ → List Mark → Act → List ℕ → Entry

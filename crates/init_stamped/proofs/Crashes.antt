@@ -1,10 +1,5 @@
 -- What is left of a run whose init is killed at a call: the trace until then, and the children.
-use Rattle.std.proofs.Common.{arith, ◌≡◌, refl, sym, ◌∙◌, ap, subst, ◌⊎◌, inl, inr, ℕ, Bool, true, false, not, ◌==◌, cond, List, [], ◌∷◌, ◌++◌, append_assoc, Option, Some, None, Ok, Err}
-use Rattle.std.specs.List.{list_all, list_any}
-use Rattle.std.proofs.lemmas.Option.{none-some, same_Some}
-use Rattle.std.specs.Option.{option_map_or}
-use Rattle.std.proofs.lemmas.Bool.{false≢true, and_parts, or_right}
-use Rattle.init_words.specs.declared.entries.Entry.{Entry}
+use Rattle.init_stamped.proofs.Words.{arith, ◌≡◌, refl, sym, ◌∙◌, ap, subst, ◌⊎◌, inl, inr, ℕ, Bool, true, false, not, ◌==◌, cond, List, [], ◌∷◌, ◌++◌, append_assoc, Option, Some, None, Ok, Err, list_all, list_any, none-some, same_Some, option_map_or, false≢true, and_parts, or_right, Entry, Goal, Event, is_unreaped, Child, is_child, newborn, open_of, unreaped_children, is_sound, sound_lawful, opening_goal, Start, Look, Signal, Late, Clock, TakeBytes, ReadTables, Carry, Announce, Pause, Now, Later, HostCall, PartsRead, trace_at, EachFront, says_of, UpTo, WentWell, are_carried, is_allowed, Point, acted, after, announced, answered, byte_after, bytes_after, came_whole, handed_if, is_asked_for, is_last, last_birth, nudged_if, order_for, ordered, point_after, reading, calls_allowed, carried_parts, IsOpening, opening_point, IsUnderWay, Leaves, LeavesIn, is_of_idle_look, subject_of}
 use Rattle.init_words.specs.declared.levels.Level.{Level}
 use Rattle.init_words.specs.declared.orders.Answer.{Answer}
 use Rattle.init_words.specs.declared.orders.Answer.TheVariants as answer
@@ -18,26 +13,9 @@ use Rattle.init_words.proofs.Tests.{any_filtered, any_within, or_either}
 use Rattle.inittab_text.specs.Parts.{are_readable, table_of_texts}
 use Rattle.inittab_text.specs.Tables.{is_distinct}
 use Rattle.trace_events.specs.declared.happenings.Happening.TheVariants as past
-use Rattle.trace_events.specs.declared.steps.Goal.{Goal}
-use Rattle.trace_events.specs.Event.{Event}
-use Rattle.trace_events.specs.Agreement.{is_unreaped}
-use Rattle.trace_events.specs.Past.{Child, is_child, newborn, open_of, unreaped_children}
-use Rattle.trace_events.specs.Sound.{is_sound}
 use Rattle.trace_laws.proofs.Births.{sound_before}
-use Rattle.trace_laws.proofs.Laws.{sound_lawful}
-use Rattle.core_model.specs.State.{opening_goal}
-use Rattle.host_calls.specs.declared.calls.Call.TheVariants.{Start, Look, Signal, Late, Clock, TakeBytes, ReadTables, Carry, Announce, Pause}
 use Rattle.host_calls.specs.declared.calls.Reply.{Reply}
-use Rattle.host_calls.specs.declared.calls.Reply.TheVariants.{Now, Later}
-use Rattle.host_calls.specs.Calls.{HostCall, PartsRead}
-use Rattle.host_trace.specs.Edges.{trace_at}
-use Rattle.host_trace.specs.Fronts.{EachFront, says_of}
-use Rattle.host_trace.specs.Leads.{UpTo, WentWell, are_carried, is_allowed}
-use Rattle.host_trace.specs.Point.{Point, acted, after, announced, answered, byte_after, bytes_after, came_whole, handed_if, is_asked_for, is_last, last_birth, nudged_if, order_for, ordered, point_after, reading}
-use Rattle.host_trace.proofs.Leading.{calls_allowed, carried_parts}
-use Rattle.init_turns.specs.Opening.{IsOpening, opening_point}
 use Rattle.init_turns.proofs.Opened.{from_opening}
-use Rattle.init_stamped.specs.Crashes.{IsUnderWay, Leaves, LeavesIn, is_of_idle_look, subject_of}
 
 -- ---- the children
 

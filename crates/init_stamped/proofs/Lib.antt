@@ -1,3 +1,4 @@
 pub mod CrashRows
 pub mod Crashes
 pub mod Stamps
+pub mod Words

@@ -1,19 +1,9 @@
 -- A call more, and what was told since.
-use Rattle.std.proofs.Common.{arith, ◌≡◌, refl, sym, ◌∙◌, ap, subst, true, false, List, [], ◌∷◌, ◌++◌, append-nil, Option, Some, None, reverse}
-use Rattle.std.specs.Option.{option_map}
-use Rattle.trace_events.specs.Event.{Event}
+use Rattle.init_stamped.proofs.Words.{arith, ◌≡◌, refl, sym, ◌∙◌, ap, subst, true, false, List, [], ◌∷◌, ◌++◌, append-nil, Option, Some, None, reverse, option_map, Event, false≢true, none-some, same_Some, Goal, HostCall, Kept, KeptAt, Made, calls_of, trace_at, Took, are_seconds_short, Point, point_after, UpTo-map}
 use Rattle.std.specs.Prelude.{IfSome, IsSome}
-use Rattle.std.proofs.lemmas.Bool.{false≢true}
-use Rattle.std.proofs.lemmas.Option.{none-some, same_Some}
-use Rattle.trace_events.specs.declared.steps.Goal.{Goal}
 use Rattle.trace_log.specs.Logs.{LogState}
-use Rattle.host_calls.specs.Calls.{HostCall}
 use Rattle.host_calls.specs.Record.{AreTold, Since}
-use Rattle.host_trace.specs.Edges.{Kept, KeptAt, Made, calls_of, trace_at}
-use Rattle.host_trace.specs.Leads.{Took, are_seconds_short}
-use Rattle.host_trace.specs.Point.{Point, point_after}
 use Rattle.host_trace.proofs.Keeping.{calls_of-append}
-use Rattle.host_trace.proofs.Leading.{UpTo-map}
 use Rattle.init_stamped.specs.Stamps.{AreItsCalls, AreTimed, HadEach, HadTaken, Stamp, all_stamped, first_stamps, stamped_calls, StampedState, timed, timed_by}
 
 -- ---- an edge

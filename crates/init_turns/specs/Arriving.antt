@@ -1,21 +1,11 @@
 -- After which turns a level is settled. Calls stand THE NEWEST FIRST, those of a turn behind the pause after it.
 use Rattle.std.specs.Prelude.{◌≡◌, ◌≤◌, ◌<◌, ◌+◌, ◌-◌, ℕ, zero, suc, Bool, ◌&&◌, IsTrue, nat_lt, if◌then◌else◌, List, [], ◌∷◌, length, take, Option, Some}
-use Rattle.init_words.specs.declared.entries.Entry.{Entry}
-use Rattle.init_words.specs.declared.levels.Level.{Level}
+use Rattle.init_turns.specs.Words.{Entry, Level, Goal, Event, CoreState, opening_goal, Pause, HostCall, STEP_LIMIT, are_carried, is_allowed, Point, point_after, MadeTurns}
 use Rattle.init_words.specs.declared.stages.Stage.TheVariants.{Run}
-use Rattle.trace_events.specs.declared.steps.Goal.{Goal}
-use Rattle.trace_events.specs.Event.{Event}
 use Rattle.trace_events.specs.Past.{is_idle, stage_of}
 use Rattle.trace_events.specs.Wishes.{goal_of}
-use Rattle.core_model.specs.State.{CoreState, opening_goal}
 use Rattle.core_waiting.specs.Arrival.{destination, is_unasked, is_undisturbed, rounds_to_come}
 use Rattle.core_waiting.specs.Rest.{is_level_announced}
-use Rattle.host_calls.specs.declared.calls.Call.TheVariants.{Pause}
-use Rattle.host_calls.specs.Calls.{HostCall}
-use Rattle.host_trace.specs.declared.TheConstants.{STEP_LIMIT}
-use Rattle.host_trace.specs.Leads.{are_carried, is_allowed}
-use Rattle.host_trace.specs.Point.{Point, point_after}
-use Rattle.host_trace.specs.Turns.{MadeTurns}
 use Rattle.init_turns.specs.Opening.{IsOpening, opening_point}
 
 -- the calls up to the newest pause, with it

@@ -1,3 +1,4 @@
 pub mod Arriving
 pub mod Opening
 pub mod Parts
+pub mod Words

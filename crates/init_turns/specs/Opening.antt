@@ -1,16 +1,6 @@
 -- A run from its opening: the table that is in force then, and nothing before it (init(8)).
 use Rattle.std.specs.Prelude.{◌≡◌, true, List, [], ◌∷◌, Option}
-use Rattle.init_words.specs.declared.entries.Entry.{Entry}
-use Rattle.init_words.specs.declared.levels.Level.{Level}
-use Rattle.inittab_text.specs.Tables.{is_distinct}
-use Rattle.trace_events.specs.declared.happenings.Happening.TheVariants.{NewTable}
-use Rattle.trace_events.specs.declared.steps.Goal.{Goal}
-use Rattle.trace_events.specs.Event.{Event}
-use Rattle.core_model.specs.State.{CoreState, opening_goal, opening_state}
-use Rattle.trace_log.specs.Logs.{LogState}
-use Rattle.host_calls.specs.Calls.{HostCall}
-use Rattle.host_trace.specs.Edges.{Made}
-use Rattle.host_trace.specs.Point.{Point}
+use Rattle.init_turns.specs.Words.{Entry, Level, is_distinct, NewTable, Goal, Event, CoreState, opening_goal, opening_state, LogState, HostCall, Made, Point}
 use Rattle.init_turns.specs.Parts.{LeftBy, MakesFrom}
 
 -- a run begins with the table that is in force

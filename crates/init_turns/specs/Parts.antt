@@ -1,38 +1,18 @@
 -- What each part of a turn makes of init's host, log and core (init(8)).
 use Rattle.std.specs.Prelude.{◌≡◌, ◌≤◌, ◌⊎◌, ◌||◌, ℕ, Bool, true, false, IsTrue, List, [], ◌∷◌, Option, Result, is_some}
-use Rattle.init_words.specs.declared.entries.Entry.{Entry}
+use Rattle.init_turns.specs.Words.{Entry, Ended, entry_of, Handed, Goal, Step, Event, is_seconds, CoreState, with_step, state_of, IsTextOf, LogState, Late, Clock, TakeBytes, Announce, HostCall, TextRead, STEP_LIMIT, Point, is_last, is_outcome, is_announcement, may_announce, Since, AddsMade, Kept, Made, calls_of, At, Tracks, UpTo, Went, comes_back, past_of, AreSteps, bytes_in, is_reread, is_room, is_step}
 use Rattle.init_words.specs.declared.orders.Answer.{Answer}
-use Rattle.init_words.specs.declared.orders.Answer.TheVariants.{Ended}
 use Rattle.init_words.specs.declared.orders.OrderKind.TheVariants as ask
-use Rattle.inittab_text.specs.Tables.{entry_of}
 use Rattle.initctl_frame.specs.Blocks.{Begun}
 use Rattle.trace_events.specs.declared.happenings.Handed.{Handed as HandOver}
 use Rattle.trace_events.specs.declared.happenings.Handed.TheVariants as handed
-use Rattle.trace_events.specs.declared.happenings.Happening.TheVariants.{Handed}
-use Rattle.trace_events.specs.declared.steps.Goal.{Goal}
-use Rattle.trace_events.specs.declared.steps.Step.{Step}
 use Rattle.trace_events.specs.declared.steps.Step.TheVariants as step
 use Rattle.trace_events.specs.Agreement.{is_unreaped}
 use Rattle.trace_events.specs.Due.{due, first}
-use Rattle.trace_events.specs.Event.{Event}
-use Rattle.trace_events.specs.Range.{is_seconds}
-use Rattle.core_model.specs.State.{CoreState}
-use Rattle.core_model.specs.Fit.{with_step}
 use Rattle.core_model.specs.Headline.{is_recorded}
-use Rattle.core_model.specs.Parts.{state_of}
 use Rattle.core_model.specs.Rules.{IsFit}
-use Rattle.core_text.specs.Refused.{IsTextOf}
-use Rattle.trace_log.specs.Logs.{LogState}
-use Rattle.host_calls.specs.declared.calls.Call.TheVariants.{Late, Clock, TakeBytes, Announce}
 use Rattle.host_calls.specs.declared.calls.HostFault.{HostFault}
-use Rattle.host_calls.specs.Calls.{HostCall, TextRead}
-use Rattle.host_trace.specs.declared.TheConstants.{STEP_LIMIT}
-use Rattle.host_trace.specs.Point.{Point, is_last, is_outcome, is_announcement, may_announce}
-use Rattle.host_calls.specs.Record.{Since}
-use Rattle.host_trace.specs.Edges.{AddsMade, Kept, Made, calls_of}
 use Rattle.host_trace.specs.Fronts.{Fronts}
-use Rattle.host_trace.specs.Leads.{At, Tracks, UpTo, Went, comes_back, past_of}
-use Rattle.host_trace.specs.Turns.{AreSteps, bytes_in, is_reread, is_room, is_step}
 
 -- The calls made are of this shape, and lead from what is fitted to what fits; up to each of them all went well as far
 -- as the answers until then were possible, and when it was made, the log had taken all that had come since `from`.

@@ -2,15 +2,8 @@
 
 ghost use Rattle.std.specs.Prelude.{◌≡◌, ◌∷◌, true, List, Some};
 ghost use Rattle.std.specs.Option.{option_and_then};
-ghost use Rattle.init_words.specs.declared.orders.Answer.TheVariants.{Ended};
-ghost use Rattle.trace_events.specs.declared.happenings.Happening.TheVariants.{Told};
-ghost use Rattle.trace_events.specs.Event.{Event};
-ghost use Rattle.trace_events.specs.Range.{is_short};
-ghost use Rattle.core_records.specs.Lists.{record_by_id};
+ghost use Rattle.init_turns.specs.Words.{Ended, Told, Event, is_short, record_by_id, last_birth, acted, answered, replied, Grows, GrowsBy, Hears, Logs, Tracks};
 ghost use Rattle.core_records.specs.State.{child_number};
-ghost use Rattle.host_trace.specs.Point.{last_birth, acted, answered, replied};
-ghost use Rattle.host_trace.specs.Grows.{Grows, GrowsBy};
-ghost use Rattle.host_trace.specs.Leads.{Hears, Logs, Tracks};
 ghost use Rattle.init_turns.specs.Parts.{is_end};
 
 use core_steps::Core;

@@ -1,14 +1,8 @@
 //! What a turn hears at its beginning: the clock, requests, and answers that came late.
 
 ghost use Rattle.std.specs.Prelude.{◌≡◌, ◌<◌, ◌≤◌, ◌+◌, ◌∷◌, [], ℕ, IsTrue, true, false, length, take, Ok};
-ghost use Rattle.trace_events.specs.Range.{is_request};
+ghost use Rattle.init_turns.specs.Words.{is_request, TakeBytes, BYTE_LIMIT, LATE_LIMIT, PIECE, come, is_last, GrowsBy, GrowsReading, At, Counted, Hears, Leads, Tracks, are_lates, are_takes, is_room};
 ghost use Rattle.trace_events.specs.declared.happenings.Happening.TheVariants as happening;
-ghost use Rattle.host_calls.specs.declared.calls.Call.TheVariants.{TakeBytes};
-ghost use Rattle.host_trace.specs.declared.TheConstants.{BYTE_LIMIT, LATE_LIMIT, PIECE};
-ghost use Rattle.host_trace.specs.Point.{come, is_last};
-ghost use Rattle.host_trace.specs.Grows.{GrowsBy, GrowsReading};
-ghost use Rattle.host_trace.specs.Leads.{At, Counted, Hears, Leads, Tracks};
-ghost use Rattle.host_trace.specs.Turns.{are_lates, are_takes, is_room};
 ghost use Rattle.init_turns.specs.Parts.{IsLate, IsReading, IsTake, Makes};
 
 use crate::answering::{hear_answer, note};

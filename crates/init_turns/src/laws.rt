@@ -1,10 +1,7 @@
 //! A law of openings.
 
 ghost use Rattle.std.specs.Prelude.{◌≡◌, List, Option, true};
-ghost use Rattle.init_words.specs.declared.entries.Entry.{Entry};
-ghost use Rattle.init_words.specs.declared.levels.Level.{Level};
-ghost use Rattle.inittab_text.specs.Tables.{is_distinct};
-ghost use Rattle.core_model.specs.State.{opening_goal, opening_state};
+ghost use Rattle.init_turns.specs.Words.{Entry, Level, is_distinct, opening_goal, opening_state};
 ghost use Rattle.init_turns.specs.Opening.{opening_point};
 ghost use Rattle.init_turns.specs.Parts.{Fresh};
 

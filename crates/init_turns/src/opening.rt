@@ -1,10 +1,7 @@
 //! A run from its opening on.
 
 ghost use Rattle.std.specs.Prelude.{◌≡◌, ◌≤◌, ◌<◌, List, Option, not, true, IfOk};
-ghost use Rattle.core_model.specs.Decide.{is_drained};
-ghost use Rattle.core_model.specs.State.{opening_goal, opening_state};
-ghost use Rattle.init_words.specs.declared.entries.Entry.{Entry};
-ghost use Rattle.init_words.specs.declared.levels.Level.{Level};
+ghost use Rattle.init_turns.specs.Words.{is_drained, opening_goal, opening_state, Entry, Level};
 ghost use Rattle.init_turns.specs.Arriving.{ServesTurns};
 ghost use Rattle.init_turns.specs.Opening.{IsOpeningOf, Opens};
 

@@ -1,11 +1,8 @@
 //! Orders: starts, looks and signals that the host is given.
 
 ghost use Rattle.std.specs.Prelude.{◌≡◌, true, is_some};
-ghost use Rattle.inittab_text.specs.Tables.{entry_of};
+ghost use Rattle.init_turns.specs.Words.{entry_of, GrowsBy, Gave, Tracks, order_for};
 ghost use Rattle.trace_events.specs.declared.steps.Step.TheVariants as step;
-ghost use Rattle.host_trace.specs.Grows.{GrowsBy};
-ghost use Rattle.host_trace.specs.Leads.{Gave, Tracks};
-ghost use Rattle.host_trace.specs.Point.{order_for};
 ghost use Rattle.init_turns.specs.Parts.{IsStep, Makes, is_listed};
 
 use crate::answering::{hear_reply, note};

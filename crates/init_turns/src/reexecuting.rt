@@ -3,19 +3,11 @@
 ghost use Rattle.std.specs.Prelude.{◌≡◌, ◌∷◌, ℕ, IsTrue, true, List, Some, Ok};
 ghost use Rattle.trace_events.specs.declared.happenings.Happening.TheVariants as happening;
 ghost use Rattle.trace_events.specs.declared.steps.Step.TheVariants as step;
-ghost use Rattle.trace_events.specs.Event.{Event};
-ghost use Rattle.core_model.specs.Parts.{SavedState};
+ghost use Rattle.init_turns.specs.Words.{Event, SavedState, IsCut, IsOther, IsTextOf, TextRead, Carry, AddsMade, Grows, GrowsBy, Gave, Logs, Tracks, is_outcome};
 ghost use Rattle.core_text.specs.Range.{has_short_seconds};
 ghost use Rattle.core_text.specs.Reading.{generation_of};
 ghost use Rattle.core_text.specs.declared.state_fault.StateFault.TheVariants as fault;
-ghost use Rattle.core_text.specs.Refused.{IsCut, IsOther, IsTextOf};
 ghost use Rattle.core_handover.specs.Taken.{NotTaken};
-ghost use Rattle.host_calls.specs.Calls.{TextRead};
-ghost use Rattle.host_calls.specs.declared.calls.Call.TheVariants.{Carry};
-ghost use Rattle.host_trace.specs.Edges.{AddsMade};
-ghost use Rattle.host_trace.specs.Grows.{Grows, GrowsBy};
-ghost use Rattle.host_trace.specs.Leads.{Gave, Logs, Tracks};
-ghost use Rattle.host_trace.specs.Point.{is_outcome};
 ghost use Rattle.init_turns.specs.Parts.{ComesTo, IsStep, Makes, Saying};
 
 use crate::answering::write;

@@ -3,17 +3,8 @@
 ghost use Rattle.std.specs.Prelude.{◌≡◌, ◌∷◌, [], true, false, List, Ok};
 ghost use Rattle.init_words.specs.Parts.{texts_of};
 ghost use Rattle.inittab_text.specs.Parts.{table_of_texts};
-ghost use Rattle.trace_events.specs.declared.happenings.Happening.TheVariants.{NewTable};
+ghost use Rattle.init_turns.specs.Words.{NewTable, Event, is_quiet, ReadTables, PartsRead, StillFits, OnEachTrace, AddsMade, GrowsBy, Gave, Lasts, Logs, Tracks, may_take};
 ghost use Rattle.trace_events.specs.declared.steps.Step.TheVariants as step;
-ghost use Rattle.trace_events.specs.Event.{Event};
-ghost use Rattle.core_records.specs.Lists.{is_quiet};
-ghost use Rattle.host_calls.specs.declared.calls.Call.TheVariants.{ReadTables};
-ghost use Rattle.host_calls.specs.Calls.{PartsRead};
-ghost use Rattle.core_model.specs.Fit.{StillFits, OnEachTrace};
-ghost use Rattle.host_trace.specs.Edges.{AddsMade};
-ghost use Rattle.host_trace.specs.Grows.{GrowsBy};
-ghost use Rattle.host_trace.specs.Leads.{Gave, Lasts, Logs, Tracks};
-ghost use Rattle.host_trace.specs.Turns.{may_take};
 ghost use Rattle.init_turns.specs.Parts.{IsReread, Makes};
 
 use crate::answering::write;

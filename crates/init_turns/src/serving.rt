@@ -1,15 +1,8 @@
 //! Turns, one after another.
 
 ghost use Rattle.std.specs.Prelude.{◌≡◌, ◌∷◌, ◌&&◌, ◌≤◌, ◌<◌, List, Option, [], not, true, false};
-ghost use Rattle.core_model.specs.Decide.{is_drained};
-ghost use Rattle.core_model.specs.State.{CoreState};
-ghost use Rattle.host_trace.specs.Edges.{calls_of};
-ghost use Rattle.host_trace.specs.Grows.{GrowsBy, GrowsReading};
-ghost use Rattle.host_trace.specs.Leads.{At};
-ghost use Rattle.host_trace.specs.Point.{Point};
-ghost use Rattle.host_calls.specs.Record.{Since};
+ghost use Rattle.init_turns.specs.Words.{is_drained, CoreState, calls_of, GrowsBy, GrowsReading, At, Point, Since, IsTurn, MadeTurns};
 ghost use Rattle.host_trace.specs.Requests.{Brings};
-ghost use Rattle.host_trace.specs.Turns.{IsTurn, MadeTurns};
 ghost use Rattle.init_turns.specs.Parts.{Fresh, Left, LeftBy, Makes};
 
 use crate::hearing::{hear_clock, hear_lates, hear_requests};

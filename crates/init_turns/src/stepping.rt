@@ -1,11 +1,7 @@
 //! A step of init, carried out.
 
 ghost use Rattle.std.specs.Prelude.{◌≡◌, ◌≤◌, true, false};
-ghost use Rattle.trace_events.specs.Range.{is_short};
-ghost use Rattle.trace_events.specs.declared.steps.Step.{Step};
-ghost use Rattle.core_model.specs.State.{CoreState};
-ghost use Rattle.host_trace.specs.Grows.{Grows, GrowsBy};
-ghost use Rattle.host_trace.specs.Leads.{Gave, Tracks};
+ghost use Rattle.init_turns.specs.Words.{is_short, Step, CoreState, Grows, GrowsBy, Gave, Tracks};
 ghost use Rattle.init_turns.specs.Parts.{AndRests, AreAllSteps, IsStep, IsStepUnless, Makes, SaysStep, is_idle, is_listed, is_short_step};
 
 use crate::answering::write;

@@ -1,14 +1,9 @@
 -- The blocks of a byte list, as more bytes come.
-use Rattle.std.proofs.Common.{◌≡◌, ◌∙◌, ℕ, ℤ, zero, suc, ◌+◌, ◌-◌, ◌*◌, ◌/◌, ◌<◌, ◌≤◌, List, [], ◌∷◌, ◌++◌, length, take, drop, map, get_or, min, ap, ap₂, sym, refl, arith, append_assoc, append-nil, length-append, length-drop, length-take-le, ⊎_elim, take-append-drop, w32}
-use Rattle.std.specs.Prelude.{All, flat_map}
+use Rattle.initctl_frame.proofs.Words.{◌≡◌, ◌∙◌, ℕ, ℤ, zero, suc, ◌+◌, ◌-◌, ◌*◌, ◌/◌, ◌<◌, ◌≤◌, List, [], ◌∷◌, ◌++◌, length, take, drop, map, get_or, ap, ap₂, sym, refl, arith, append_assoc, append-nil, length-append, length-drop, length-take-le, ⊎_elim, take-append-drop, w32, All, flat_map, map-append, take-append-le, drop-append-le, drop-drop, take_all, take-take, get_or-drop, get_or-take, take-append-add, cast_signed, from_le_bytes, heard_of, heard_of_ints, int_at, blocks_of, gots_of, over_of, parts}
+use Rattle.std.proofs.Common.{min}
 use Rattle.std.proofs.lemmas.List.Concat.{flat_map-cons}
 use Rattle.std.proofs.lemmas.List.Elements.{All-nil, All-cons}
-use Rattle.std.proofs.lemmas.List.{map-append, take-append-le, drop-append-le, drop-drop, take_all, take-take, get_or-drop, get_or-take}
 use Rattle.std.proofs.lemmas.Bool.{cases_lt}
-use Rattle.std.proofs.Math.Seq.{take-append-add}
-use Rattle.std.specs.Int.{cast_signed, from_le_bytes}
-use Rattle.initctl_frame.specs.Frames.{heard_of, heard_of_ints, int_at}
-use Rattle.initctl_frame.specs.Blocks.{blocks_of, gots_of, over_of, parts}
 
 -- ---- parts of any size
 

@@ -1,11 +1,7 @@
 -- The ints of a block that was written.
-use Rattle.std.proofs.Common.{◌≡◌, ◌∙◌, ℕ, pos, ◌^◌, ◌<◌, ap, ap₂, arith, w32}
+use Rattle.initctl_frame.proofs.Words.{◌≡◌, ◌∙◌, ℕ, pos, ◌^◌, ◌<◌, ap, ap₂, arith, w32, to_z_pos, cast_signed, heard_of_sign, block_of_ints, heard_of, heard_of_runlevel, int_at, seconds_of}
 use Rattle.std.proofs.lemmas.Nat.{from_le_bytes-to_le_bytes_4}
-use Rattle.std.proofs.lemmas.Int.{to_z_pos}
-use Rattle.std.specs.Int.{cast_signed}
 use Rattle.std.specs.Prelude.{min}
-use Rattle.initctl_frame.specs.Signs.{heard_of_sign}
-use Rattle.initctl_frame.specs.Frames.{block_of_ints, heard_of, heard_of_runlevel, int_at, seconds_of}
 
 runlevel_of : (command runlevel sleeptime : ℕ) → runlevel < 2 ^ 31 → int_at 8 (block_of_ints command runlevel sleeptime) ≡ pos runlevel
 runlevel_of command runlevel sleeptime fits =

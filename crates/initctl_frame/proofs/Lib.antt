@@ -1,2 +1,3 @@
 pub mod BlockLemmas
 pub mod FrameLemmas
+pub mod Words

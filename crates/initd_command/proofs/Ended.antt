@@ -1,18 +1,10 @@
 -- What a run left, where its writer was only flushed since.
-use Rattle.std.proofs.Common.{◌≡◌, refl, sym, ap, subst, ◌∙◌, Result, Ok, Err, IfErr, OnOk, ◌⊎◌, inl, inr, List, [], ℕ, true, Option, Some, None}
-use Rattle.std.specs.Prelude.{IsSome, unwrap_or}
+use Rattle.initd_command.proofs.Words.{◌≡◌, refl, sym, ap, subst, ◌∙◌, Result, Ok, Err, IfErr, OnOk, ◌⊎◌, inl, inr, List, [], ℕ, true, Option, Some, None, IsSome, unwrap_or, Keeps, KnownTexts, Appends-kept, Keeps-trans, Done, Ends, Scenario, past_text, ReportsObstacle, obstacle_status, HasInittab, IsInittab, TakesParts, is_taken, obstacle_of, told_of, RunSaid}
 use Rattle.std.specs.Result.{IsErrAnd}
-use Rattle.std.specs.Io.KnownBytes.{Keeps}
-use Rattle.program_io.specs.Known.{KnownTexts}
-use Rattle.std.proofs.KnownBytes.{Appends-kept, Keeps-trans}
 use Rattle.simulator.specs.declared.running.SimFault.{SimFault}
 use Rattle.simulator.specs.declared.running.SimFault.TheVariants as fault
-use Rattle.simulator.specs.Simulation.{Done, Ends, Scenario, past_text}
 use Rattle.initd_command.specs.declared.run.RunFault.{RunFault}
-use Rattle.initd_command.specs.Endings.{ReportsObstacle, obstacle_status}
 use Rattle.initd_command.specs.declared.run.Inittab.{Inittab}
-use Rattle.initd_command.specs.Services.{HasInittab, IsInittab, TakesParts, is_taken, obstacle_of, told_of}
-use Rattle.initd_options.specs.Options.{RunSaid}
 
 pub done_kept : (s : Scenario) (old mid new : Option (List ℕ)) → Done s old mid → Keeps mid new → Done s old new
 done_kept s old mid new (past, rested, written) kept = (past, rested, Appends-kept old mid new (past_text past) written kept)

@@ -2,3 +2,4 @@ pub mod Ended
 pub mod Noted
 pub mod Ran
 pub mod Reported
+pub mod Words

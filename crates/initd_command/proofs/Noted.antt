@@ -1,28 +1,16 @@
 -- What turns noted over a host that tells its calls, what their judge found, and how their log ended.
-use Rattle.std.proofs.Common.{◌≡◌, refl, sym, ◌∙◌, ap, subst, ℕ, Bool, true, false, not, ◌&&◌, if◌then◌else◌, List, [], ◌++◌, reverse, Option, Some, None, is_some, IfSome}
+use Rattle.initd_command.proofs.Words.{◌≡◌, refl, sym, ◌∙◌, ap, subst, ℕ, Bool, true, false, not, ◌&&◌, if◌then◌else◌, List, [], ◌++◌, reverse, Option, Some, None, is_some, append-nil, reverse-append, reverse-reverse, Entry, Event, LogState, HostCall, IsRunning, Notes, NotesOf, is_wanted, Served, waiting_text, IsOpening, opening_point, RunSaid, Judgement, Finds, IsNoted, IsServed, LogEnds, TurnsFrom, judgement_for, noted_of}
+use Rattle.std.proofs.Common.{IfSome}
 use Rattle.std.proofs.lemmas.Bool.{and_parts, not-true}
-use Rattle.std.proofs.lemmas.List.{append-nil, reverse-append, reverse-reverse}
-use Rattle.init_words.specs.declared.entries.Entry.{Entry}
 use Rattle.init_words.specs.declared.levels.Level.{Level}
-use Rattle.trace_events.specs.Event.{Event}
-use Rattle.trace_log.specs.Logs.{LogState}
-use Rattle.host_calls.specs.Calls.{HostCall}
 use Rattle.host_trace.specs.Leads.{Takes, UpTo, Went}
 use Rattle.host_trace.specs.Point.{point_after}
-use Rattle.trace_log_wrappers.specs.Notes.{IsRunning, Notes, NotesOf, is_wanted}
-use Rattle.init_turns.specs.declared.serving.Served.{Served}
 use Rattle.trace_events.specs.declared.steps.Goal.{Goal}
 use Rattle.core_model.specs.State.{CoreState, opening_goal}
 use Rattle.core_model.specs.Fit.{FitsAll}
-use Rattle.core_waiting.specs.Lines.{waiting_text}
-use Rattle.init_turns.specs.Opening.{IsOpening, opening_point}
 use Rattle.init_turns.specs.Parts.{LeftBy}
 use Rattle.init_turns.proofs.Opened.{from_opening, opening_short}
 use Rattle.inittab_text.specs.Tables.{is_distinct}
-use Rattle.initd_options.specs.Options.{RunSaid}
-use Rattle.trace_log_wrappers.specs.declared.judgements.Judgement.{Judgement}
-use Rattle.trace_log_wrappers.specs.Judgements.{Finds}
-use Rattle.initd_command.specs.Services.{IsNoted, IsServed, LogEnds, TurnsFrom, judgement_for, noted_of}
 
 -- where a run is to be judged, what was found counts
 found_for : (service : RunSaid) (found : Judgement) (past : List Event) → Finds found past → IfSome (judgement_for service found) (λ judgement. Finds judgement past)

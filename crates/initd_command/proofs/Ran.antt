@@ -1,19 +1,7 @@
 -- Which calls a run made, by how it ended: none but where it came to its turns.
-use Rattle.std.proofs.Common.{◌≡◌, refl, Bool, List, [], ◌∷◌, Option, Some, None}
-use Rattle.std.specs.Prelude.{IfSome, ⊤}
-use Rattle.init_words.specs.declared.entries.Entry.{Entry}
-use Rattle.program_io.specs.Known.{KnownTexts}
-use Rattle.trace_events.specs.Event.{Event}
-use Rattle.trace_log.specs.Logs.{LogState}
-use Rattle.host_calls.specs.Calls.{HostCall}
-use Rattle.host_calls.specs.Record.{Since}
-use Rattle.initd_options.specs.CommandLine.{InitdSaid, judges, runs, simulates, version}
-use Rattle.initd_options.specs.Options.{RunSaid}
-use Rattle.init_turns.specs.Opening.{IsOpeningOf, OpeningState}
-use Rattle.initd_command.specs.Endings.{Spoken, no_memory, refused, turned}
-use Rattle.initd_command.specs.Turned.{End}
-use Rattle.initd_command.specs.Services.{EndsTold, HasInittab, TakesParts, is_unled, table_in, told_of}
-use Rattle.initd_command.specs.Ran.{AsksSaid, MakesLogged, MakesTurns, RanBy, RunTold}
+use Rattle.initd_command.proofs.Words.{◌≡◌, refl, Bool, List, [], ◌∷◌, Option, Some, None, ⊤, Entry, KnownTexts, Event, LogState, HostCall, Since, InitdSaid, judges, runs, simulates, version, RunSaid, IsOpeningOf, OpeningState, Spoken, no_memory, refused, turned, End, HasInittab, TakesParts, is_unled, table_in, told_of, AsksSaid, MakesLogged, MakesTurns, RanBy, RunTold}
+use Rattle.std.specs.Prelude.{IfSome}
+use Rattle.initd_command.specs.Services.{EndsTold}
 
 -- turns over a log that was fresh
 pub made_fresh : {L fresh : Type 0} (state : L → LogState) (told : Option (List HostCall)) (has_ended : Bool → List Event → Type 0) (service : RunSaid) (table : List Entry) (end : End) (calls : List HostCall)

@@ -1,14 +1,8 @@
 -- What is reported of an end, by what is reported of its turns and of what was found of them.
-use Rattle.std.proofs.Common.{◌≡◌, sym, subst, inl, inr, ◌&&◌, ℕ, Bool, true, false, List, [], Option, None, Result, Ok, Err, IfOk, OnErr}
-use Rattle.program_io.specs.Writing.{AppendsPrefix}
-use Rattle.trace_log_wrappers.specs.declared.judgements.Judgement.{Judgement}
-use Rattle.trace_log_wrappers.specs.Notes.{Notes}
-use Rattle.init_turns.specs.declared.serving.Served.{Served}
-use Rattle.initd_options.specs.Options.{RunSaid}
+use Rattle.initd_command.proofs.Words.{◌≡◌, sym, subst, inl, inr, ◌&&◌, ℕ, Bool, true, false, List, [], Option, None, Result, Ok, Err, IfOk, OnErr, AppendsPrefix, Judgement, Notes, Served, RunSaid, ReportsEnd, ReportsJudgement, ReportsText, ReportsTurns, end_at, end_of, noted_of}
 use Rattle.initd_command.specs.declared.ends.TheConstants.{UNLOGGED}
 use Rattle.initd_command.specs.declared.reports.TheConstants.{NO_MEMORY}
-use Rattle.initd_command.specs.Turned.{ReportsEnd, ReportsJudgement, ReportsText, ReportsTurns}
-use Rattle.initd_command.specs.Services.{Noted, end_at, end_of, noted_of}
+use Rattle.initd_command.specs.Services.{Noted}
 
 -- a message whose text says a reason is reported, or that there was no memory for it
 pub reported_why : {T E : Type 0} (message : Result T E) (bytes : T → List ℕ) (told : List ℕ → List ℕ) (old new : Option (List ℕ))

@@ -2,9 +2,7 @@
 use Rattle.std.specs.Prelude.{◌≡◌, ◌&&◌, not, ℕ, Bool, true, false, if◌then◌else◌, List, [], ◌∷◌, ◌++◌, codes, decimal, Option, Some, None, unwrap_or}
 use Rattle.std.specs.Io.KnownBytes.{Keeps}
 use Rattle.std.specs.Str.{bytes_eq}
-use Rattle.program_io.specs.Writing.{AppendsPrefix}
-use Rattle.program_io.specs.declared.statuses.TheConstants.{DONE, REFUSED, UNLAWFUL, DEVICE_FAULT}
-use Rattle.simulator.specs.declared.running.SimFault.{SimFault}
+use Rattle.initd_command.specs.Words.{AppendsPrefix, DONE, REFUSED, UNLAWFUL, DEVICE_FAULT, SimFault}
 use Rattle.simulator.specs.declared.running.SimFault.TheVariants as fault
 use Rattle.simulator.specs.Faults.{fault_text}
 use Rattle.simulator.specs.declared.objections.Objection.{Objection}

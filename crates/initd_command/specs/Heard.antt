@@ -3,10 +3,8 @@ use Rattle.std.specs.Prelude.{◌≡◌, ℕ, List, [], ◌∷◌, ◌++◌, Som
 use Rattle.initctl_frame.specs.declared.requests.HeardRequest.{HeardRequest}
 use Rattle.initctl_frame.specs.Blocks.{gots_of}
 use Rattle.initctl_frame.specs.Frames.{heard_of}
-use Rattle.host_calls.specs.Calls.{HostCall}
-use Rattle.host_trace.specs.Point.{Point, point_after}
+use Rattle.initd_command.specs.Words.{HostCall, Point, point_after, IsAsked, KnownBytes}
 use Rattle.host_trace.specs.Requests.{bytes_of, requests_in}
-use Rattle.telinit_command.specs.Channels.{IsAsked, KnownBytes}
 
 -- calls by which init took just these bytes, from where it stood within no block, bring the requests of those that stood
 -- there, and this one behind them

@@ -1,7 +1,7 @@
 -- Which host the words of a run name.
 use Rattle.std.specs.Prelude.{[]}
 use Rattle.host_system.specs.Hosts.{HostState}
-use Rattle.initd_options.specs.Options.{RunSaid}
+use Rattle.initd_command.specs.Words.{RunSaid}
 
 -- one that is strict, tells of its children and passes over the requests from before where the words say so; none of its
 -- calls failed, and it holds no child

@@ -7,3 +7,4 @@ pub mod Runs
 pub mod Services
 pub mod Turned
 pub mod Verdicts
+pub mod Words

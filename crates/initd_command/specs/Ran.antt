@@ -1,23 +1,8 @@
 -- Which calls a run of init makes of its host.
 use Rattle.std.specs.Prelude.{◌≡◌, ℕ, Bool, true, List, [], ◌∷◌, reverse, Option, Some, None, IfSome, ⊤}
-use Rattle.init_words.specs.declared.entries.Entry.{Entry}
-use Rattle.program_io.specs.Known.{KnownTexts}
-use Rattle.initd_options.specs.CommandLine.{InitdSaid, initd_read_of, runs}
-use Rattle.initd_options.specs.Options.{RunSaid}
-use Rattle.trace_events.specs.Event.{Event}
-use Rattle.trace_log.specs.Logs.{LogState}
-use Rattle.host_calls.specs.Calls.{HostCall}
-use Rattle.host_calls.specs.Record.{Since}
+use Rattle.initd_command.specs.Words.{Entry, KnownTexts, InitdSaid, initd_read_of, runs, RunSaid, Event, LogState, HostCall, Since, UpTo, WentWell, Level, CoreState, opening_goal, is_drained, FitsAll, ServesTurns, IsOpening, Served}
 use Rattle.host_trace.specs.Fronts.{EachFront}
-use Rattle.host_trace.specs.Leads.{UpTo, WentWell}
-use Rattle.init_words.specs.declared.levels.Level.{Level}
-use Rattle.core_model.specs.State.{CoreState, opening_goal}
-use Rattle.core_model.specs.Decide.{is_drained}
-use Rattle.core_model.specs.Fit.{FitsAll}
-use Rattle.init_turns.specs.Arriving.{ServesTurns}
-use Rattle.init_turns.specs.Opening.{IsOpening}
 use Rattle.init_stamped.specs.Stamps.{HadAll}
-use Rattle.init_turns.specs.declared.serving.Served.{Served}
 use Rattle.initd_command.specs.Turned.{End}
 use Rattle.initd_command.specs.Endings.{Ending, turned}
 use Rattle.initd_command.specs.Services.{HasInittab, IsJudged, IsNoted, IsServed, LogEnds, Noted, TakesParts, TurnsFrom, Writes, end_of, is_unled, table_in, told_of}

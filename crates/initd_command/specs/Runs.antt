@@ -2,12 +2,8 @@
 -- operating system.
 use Rattle.std.specs.Prelude.{◌≡◌, ◌⊎◌, ℕ, if◌then◌else◌, List, codes, Option, Some, None}
 use Rattle.std.specs.Io.KnownBytes.{Appends, Keeps}
-use Rattle.program_io.specs.Writing.{AppendsPrefix}
+use Rattle.initd_command.specs.Words.{AppendsPrefix, IsTextAt, KnownTexts, SimFault, Done, Ends, Scenario, scenario, CheckSaid, SimulateSaid, InitdSaid, judges, initd_read_of, simulates, runs, version}
 use Rattle.command_words.specs.VersionLine.{version_line}
-use Rattle.program_io.specs.Known.{IsTextAt, KnownTexts}
-use Rattle.simulator.specs.declared.running.SimFault.{SimFault}
-use Rattle.simulator.specs.Simulation.{Done, Ends, Scenario, scenario}
-use Rattle.initd_options.specs.CommandLine.{CheckSaid, SimulateSaid, InitdSaid, judges, initd_read_of, simulates, runs, version}
 use Rattle.initd_command.specs.Endings.{Ending, EndsUnread, done, usage, refused, no_memory, stopped, unflushed, unversioned, usage_named}
 use Rattle.initd_command.specs.Services.{EndsRun}
 use Rattle.initd_command.specs.Verdicts.{EndsCheck}

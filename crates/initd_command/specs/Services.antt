@@ -2,28 +2,13 @@
 -- and how the exit status follows from what ended the turns.
 use Rattle.std.specs.Prelude.{◌≡◌, ◌≤◌, ◌<◌, ◌⊎◌, ◌&&◌, ◌==◌, not, if◌then◌else◌, ℕ, Bool, true, false, List, [], ◌∷◌, ◌++◌, length, string_bytes, Option, Some, None, option_map, is_none, is_some, unwrap_or, IfSome, IsTrue, ⊤}
 use Rattle.std.specs.Io.KnownBytes.{Appends, Keeps}
-use Rattle.program_io.specs.Writing.{AppendsPrefix}
-use Rattle.program_io.specs.Known.{IsTextAt, KnownTexts}
-use Rattle.init_words.specs.Parts.{NamedText, texts_of}
+use Rattle.initd_command.specs.Words.{AppendsPrefix, IsTextAt, KnownTexts, NamedText, texts_of, Entry, Level, Judgement, Status, Event, CoreState, opening_goal, FitsAll, waiting_text, HostCall, are_carried, is_allowed, point_after, Served, opening_point, RunSaid}
 use Rattle.inittab_text.specs.Parts.{AreTooLong, AreTooMany, are_readable, faults_of_parts, table_of_texts}
 use Rattle.inittab_text.specs.Tables.{default_level_of, entry_of}
-use Rattle.init_words.specs.declared.entries.Entry.{Entry}
-use Rattle.init_words.specs.declared.levels.Level.{Level}
-use Rattle.trace_log_wrappers.specs.declared.judgements.Judgement.{Judgement}
 use Rattle.trace_log_wrappers.specs.Judgements.{Finds}
-use Rattle.init_words.specs.declared.children.Status.{Status}
 use Rattle.trace_log_wrappers.specs.Ends.{last_end}
 use Rattle.trace_log_wrappers.specs.Notes.{IsRunning, Notes, is_wanted}
-use Rattle.trace_events.specs.Event.{Event}
 use Rattle.trace_events.specs.declared.steps.Goal.{Goal}
-use Rattle.core_model.specs.State.{CoreState, opening_goal}
-use Rattle.core_model.specs.Fit.{FitsAll}
-use Rattle.core_waiting.specs.Lines.{waiting_text}
-use Rattle.host_calls.specs.Calls.{HostCall}
-use Rattle.host_trace.specs.Leads.{are_carried, is_allowed}
-use Rattle.host_trace.specs.Point.{point_after}
-use Rattle.init_turns.specs.declared.serving.Served.{Served}
-use Rattle.init_turns.specs.Opening.{opening_point}
 use Rattle.initd_command.specs.declared.run.Inittab.{Inittab}
 use Rattle.initd_command.specs.declared.run.RunFault.{RunFault}
 use Rattle.initd_command.specs.declared.run.RunFault.TheVariants as why
@@ -31,7 +16,6 @@ use Rattle.initd_command.specs.Endings.{Ending, Obstacle, Spoken, refused, no_me
 use Rattle.initd_command.specs.Turned.{End, EntryEnd, drained, limited, unlogged}
 use Rattle.host_files.specs.Folders.{IsWithin}
 use Rattle.host_messages.specs.LineFaults.{faults_text}
-use Rattle.initd_options.specs.Options.{RunSaid}
 
 -- nothing names the level that init goes to: neither the words nor the table
 abbrev pub is_unled : Option Level → List Entry → Bool

@@ -1,13 +1,9 @@
 -- How the turns of a run ended: its exit status, and what is reported.
 use Rattle.std.specs.Prelude.{◌⊎◌, ◌||◌, ◌==◌, if◌then◌else◌, unwrap_or, ℕ, Bool, true, false, List, [], ◌∷◌, ◌++◌, codes, decimal, Option, Some, None}
 use Rattle.std.specs.Io.KnownBytes.{Keeps}
-use Rattle.program_io.specs.Writing.{AppendsPrefix}
-use Rattle.program_io.specs.declared.statuses.TheConstants.{DONE, UNLAWFUL, LIMIT_REACHED, DEVICE_FAULT}
+use Rattle.initd_command.specs.Words.{AppendsPrefix, DONE, UNLAWFUL, LIMIT_REACHED, DEVICE_FAULT, Judgement, Status, law_words}
 use Rattle.init_words.specs.declared.children.Status.TheVariants.{Exit, Killed}
-use Rattle.trace_log_wrappers.specs.declared.judgements.Judgement.{Judgement}
 use Rattle.trace_log_wrappers.specs.declared.judgements.Judgement.TheVariants.{Lawful, Breach, Unjudged}
-use Rattle.init_words.specs.declared.children.Status.{Status}
-use Rattle.trace_check.specs.Laws.{law_words}
 use Rattle.initd_command.specs.declared.ends.TheConstants.{KILLED, LIMITED, UNJUDGED, UNLOGGED, UNNAMED}
 use Rattle.initd_command.specs.declared.reports.TheConstants.{NO_MEMORY}
 

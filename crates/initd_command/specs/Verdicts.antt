@@ -1,14 +1,11 @@
 -- How a trace is judged: the verdict that is written, and what is told of a breach.
 use Rattle.std.specs.Prelude.{◌≡◌, ◌⊎◌, ◌==◌, ◌&&◌, if◌then◌else◌, not, nat_lt, ℕ, Bool, true, false, List, [], ◌∷◌, ◌++◌, codes, decimal, Option, Some, None, option_map}
 use Rattle.std.specs.Io.KnownBytes.{Appends, Keeps}
-use Rattle.program_io.specs.Writing.{AppendsPrefix}
-use Rattle.program_io.specs.Known.{IsTextAt, KnownTexts}
-use Rattle.trace_check.specs.Laws.{law_number, law_words}
+use Rattle.initd_command.specs.Words.{AppendsPrefix, IsTextAt, KnownTexts, law_number, law_words, CheckSaid}
 use Rattle.trace_verdict.specs.declared.findings.Finding.{Finding}
 use Rattle.trace_verdict.specs.declared.findings.Finding.TheVariants.{Lawful, Breach, Torn}
 use Rattle.trace_verdict.specs.Answers.{Named, Answers}
 use Rattle.trace_verdict.specs.Judges.{HasTaken, TextState}
-use Rattle.initd_options.specs.CommandLine.{CheckSaid}
 use Rattle.initd_command.specs.declared.check.JudgedTrace.{JudgedTrace}
 use Rattle.initd_command.specs.Lines.{front_line}
 use Rattle.initd_command.specs.Endings.{Ending, EndsUnread, Judged, refused, no_memory, lawful, unlawful, torn, unfinished, unwritten}

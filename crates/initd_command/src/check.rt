@@ -1,7 +1,7 @@
 //! `initd check`: a trace file, judged.
 
 ghost use Rattle.std.specs.Prelude.{◌≡◌, ◌++◌, ℕ, List, Some, [], option_map, string_bytes, IfOk};
-ghost use Rattle.initd_options.specs.CommandLine.{check_of};
+ghost use Rattle.initd_command.specs.Words.{check_of};
 ghost use Rattle.initd_command.specs.Endings.{Ending, Reports, ReportsJudged, ReportsLeft, ReportsWithin, status_of, left_message, torn_message, unfinished_message, within_message};
 ghost use Rattle.initd_command.specs.Runs.{judged_at};
 ghost use Rattle.initd_command.specs.Turned.{ReportsText};

@@ -1,9 +1,8 @@
 //! How the turns of a run ended, as it is reported, and the exit status.
 
 ghost use Rattle.std.specs.Prelude.{◌≡◌, ◌++◌, ◌&&◌, [], None, Some, true, string_bytes, IfOk, OnOk};
-ghost use Rattle.initd_options.specs.Options.{run_of};
+ghost use Rattle.initd_command.specs.Words.{run_of, waiting_text};
 ghost use Rattle.initd_command.specs.Services.{end_at, end_of, entry_end, noted_of};
-ghost use Rattle.core_waiting.specs.Lines.{waiting_text};
 ghost use Rattle.initd_command.specs.Turned.{ReportsEnd, ReportsJudgement, ReportsResult, ReportsRunning, ReportsText, ReportsTurns, breach_text, child_text, drained_status, end_status, judged_status, judgement_text, lawful_text, result_status, result_text, running_text, turns_status};
 
 use crate::reports::{report, report_lines, report_made};

@@ -1,9 +1,7 @@
 //! Where the host of a run comes from.
 
 ghost use Rattle.std.specs.Prelude.{◌≡◌, ◌∷◌, [], List, Option, IfOk, IfSome, OnErr, OnOk};
-ghost use Rattle.host_calls.specs.Calls.{HostCall};
-ghost use Rattle.host_calls.specs.Record.{Since};
-ghost use Rattle.initd_options.specs.Options.{RunSaid, run_of};
+ghost use Rattle.initd_command.specs.Words.{HostCall, Since, RunSaid, run_of};
 
 use host_calls::Host;
 use init_words::Memory;

@@ -2,7 +2,7 @@
 
 ghost use Rattle.std.specs.Prelude.{ℕ, List};
 ghost use Rattle.initd_command.specs.Heard.{IsNext};
-ghost use Rattle.telinit_command.specs.Channels.{Asks, KnownBytes};
+ghost use Rattle.initd_command.specs.Words.{Asks, KnownBytes};
 
 /// What telinit(8) appended to a channel of whole requests is the next request of init, behind those that stood there,
 /// where init takes all bytes of the channel. It does nothing: its contract is the law.

@@ -19,7 +19,7 @@ pub(crate) struct NoLog {}
 
 impl Log for NoLog {
     ghost use Rattle.std.specs.Prelude.{false, None, ⊤};
-    ghost use Rattle.trace_log.specs.Logs.{LogState};
+    ghost use Rattle.initd_command.specs.Words.{LogState};
 
     ghost state = { λ _.
         let nothing : LogState = record { taken = λ _. ⊤; failed = false; noted = None } in nothing };
@@ -360,7 +360,7 @@ fn created<R: Files<File = File>>(rt: &R, path: &str) -> io::Result<File> {
 
 impl<R: Files<File = File> + Eprint> Log for FileLog<'_, R> {
     ghost use Rattle.std.specs.Prelude.{None, ⊤};
-    ghost use Rattle.trace_log.specs.Logs.{LogState};
+    ghost use Rattle.initd_command.specs.Words.{LogState};
 
     ghost state = { λ log.
         let files : LogState = record { taken = λ _. ⊤; failed = log.is_failed; noted = None } in files };

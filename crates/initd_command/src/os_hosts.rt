@@ -1,7 +1,7 @@
 //! The hosts over the operating system.
 
 ghost use Rattle.std.specs.Prelude.{◌≡◌, [], IfOk};
-ghost use Rattle.initd_options.specs.Options.{run_of};
+ghost use Rattle.initd_command.specs.Words.{run_of};
 ghost use Rattle.initd_command.specs.Hosts.{host_said};
 
 use crate::hosts::Hosts;
@@ -32,7 +32,7 @@ pub struct OsHosts<R: Processes + Files<File = File> + Clock + Print + Eprint + 
 impl<R: Processes + Files<File = File> + Clock + Print + Eprint + Clone + Drop> Model
     for OsHosts<R> {
     ghost use Rattle.std.specs.Prelude.{◌≡◌, List, [], IsSome};
-    ghost use Rattle.host_calls.specs.Calls.{HostCall};
+    ghost use Rattle.initd_command.specs.Words.{HostCall};
 
     ghost Value = { List HostCall };
 
@@ -58,7 +58,7 @@ impl<R: Processes + Files<File = File> + Clock + Print + Eprint + Clone + Drop> 
 > for OsHosts<R> {
     ghost use Rattle.std.specs.Prelude.{◌≡◌, Some, None, IfOk};
     ghost use Rattle.host_calls.specs.Held.{AreOwn, HeldChildren};
-    ghost use Rattle.initd_options.specs.Options.{run_of};
+    ghost use Rattle.initd_command.specs.Words.{run_of};
     ghost use Rattle.initd_command.specs.Hosts.{host_said};
 
     ghost told = { λ hosts. Some hosts };

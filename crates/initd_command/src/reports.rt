@@ -2,7 +2,7 @@
 
 ghost use Rattle.std.specs.Prelude.{◌≡◌, true, ℕ, List, None, Some, OnOk, OnErr, string_bytes, IfOk, ◌++◌};
 ghost use Rattle.std.specs.Io.KnownBytes.{Appends};
-ghost use Rattle.program_io.specs.Writing.{AppendsPrefix};
+ghost use Rattle.initd_command.specs.Words.{AppendsPrefix};
 ghost use Rattle.initd_command.specs.Endings.{ReportsFlawed, ReportsWhere, busy_message, cannot_message, fault_message, fault_status, reason_message, shared_message, unlisted_message};
 ghost use Rattle.initd_command.specs.Turned.{ReportsText};
 

@@ -1,18 +1,10 @@
 //! `initd run`: what it stands on, and its turns.
 
 ghost use Rattle.std.specs.Prelude.{◌≡◌, ◌≤◌, ◌<◌, ◌∷◌, ◌&&◌, if◌then◌else◌, not, true, ℕ, List, Option, None, Some, [], option_map, unwrap_or, IfErr, IfOk, IfSome, OnErr, OnOk, ⊤};
-ghost use Rattle.program_io.specs.Known.{KnownTexts};
-ghost use Rattle.init_words.specs.Parts.{NamedText};
+ghost use Rattle.initd_command.specs.Words.{KnownTexts, NamedText, Entry, Level, is_drained, Since, ServesTurns, IsOpeningOf, Opens, RunSaid, run_of};
 ghost use Rattle.initd_command.specs.Endings.{Ending, Reports, ReportsObstacle, Spoken, obstacle_status, status_of, turned};
 ghost use Rattle.initd_command.specs.Ran.{MakesLogged, MakesTurns, RanBy};
 ghost use Rattle.initd_command.specs.Turned.{End, ReportsEnd, end_status};
-ghost use Rattle.init_words.specs.declared.entries.Entry.{Entry};
-ghost use Rattle.init_words.specs.declared.levels.Level.{Level};
-ghost use Rattle.core_model.specs.Decide.{is_drained};
-ghost use Rattle.host_calls.specs.Record.{Since};
-ghost use Rattle.init_turns.specs.Arriving.{ServesTurns};
-ghost use Rattle.init_turns.specs.Opening.{IsOpeningOf, Opens};
-ghost use Rattle.initd_options.specs.Options.{RunSaid, run_of};
 ghost use Rattle.initd_command.specs.Services.{AreFiles, EndsRun, EndsServed, EndsTold, HasInittab, Hinders, IsInittab, IsReadOf, StandBy, TakesParts, has_result, is_taken, is_unled, judgement_for, obstacle_of, own_paths, table_in, told_of};
 
 use crate::ends::report_end;

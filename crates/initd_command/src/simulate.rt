@@ -1,10 +1,9 @@
 //! `initd simulate`: init over a script.
 
 ghost use Rattle.std.specs.Prelude.{◌≡◌};
-ghost use Rattle.initd_options.specs.CommandLine.{simulation_of};
+ghost use Rattle.initd_command.specs.Words.{simulation_of, scenario};
 ghost use Rattle.initd_command.specs.Endings.{Ending, Reports, status_of};
 ghost use Rattle.initd_command.specs.Runs.{EndsSimulate, EndsSimulation};
-ghost use Rattle.simulator.specs.Simulation.{scenario};
 
 use crate::reports::{report_cannot, report_fault};
 use init_words::Level;

@@ -1,6 +1,5 @@
 -- A process read on from one byte to the next.
-use Rattle.std.proofs.Common.{◌≡◌, refl, ap, sym, ◌∙◌, ℕ, true, false, List, ◌∷◌, Option, None}
-use Rattle.inittab_lint.specs.Shell.{is_pair, operator_at, operator_in, part_behind}
+use Rattle.inittab_lint.proofs.Words.{◌≡◌, refl, ap, sym, ◌∙◌, ℕ, true, false, List, ◌∷◌, Option, None, is_pair, operator_at, operator_in, part_behind}
 
 pair_here : (part : Option ℕ) (b c : ℕ) (more : List ℕ) → is_pair part b c ≡ true → operator_in part (b ∷ c ∷ more) ≡ operator_in part more
 pair_here part b c more is = rw is refl

@@ -1,7 +1,6 @@
 -- Processes whose operators count, and such as stand in quotes: `refl` computes them.
-use Rattle.std.proofs.Common.{◌≡◌, refl, codes, None, Some}
+use Rattle.inittab_lint.proofs.Words.{◌≡◌, refl, codes, None, Some, operator_in}
 use Rattle.inittab_lint.specs.declared.shell.Operator.TheVariants.{Chain, Unclosed}
-use Rattle.inittab_lint.specs.Shell.{operator_in}
 
 -- a backslash takes the quote that follows with it
 quoted : operator_in None (codes "sh -c \"echo \\\"hi\\\"; exec sleep 9\"") ≡ None

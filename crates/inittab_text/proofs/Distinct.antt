@@ -1,12 +1,5 @@
 -- What is read has each id once.
-use Rattle.std.proofs.Common.{arith, ◌≡◌, true, List, [], ◌∷◌, Option, Some, None, Result, Ok, refl, ℕ}
-use Rattle.init_words.specs.declared.entries.Entry.{Entry}
-use Rattle.inittab_text.specs.declared.faults.LineKind.{LineKind}
-use Rattle.inittab_text.specs.Tables.{entry_of, is_distinct}
-use Rattle.text_lines.specs.Lines.{lines_of}
-use Rattle.inittab_text.specs.Checks.{verdict_of}
-use Rattle.inittab_text.specs.Reading.{entries_after, entries_from, table_of_text}
-use Rattle.inittab_text.specs.Parts.{entries_of_texts, table_of_texts}
+use Rattle.inittab_text.proofs.Words.{arith, ◌≡◌, true, List, [], ◌∷◌, Option, Some, None, Result, Ok, refl, ℕ, Entry, LineKind, entry_of, is_distinct, lines_of, verdict_of, entries_after, entries_from, table_of_text, entries_of_texts, table_of_texts}
 use Rattle.inittab_text.proofs.Entries.{is_distinct-push}
 use Rattle.inittab_text.proofs.ReadLemmas.{passed}
 

@@ -1,17 +1,8 @@
 -- Lists of entries: one more behind them, and what is left of them from a place on.
-use Rattle.std.proofs.Common.{◌≡◌, refl, sym, ◌∙◌, ap, cond, zero, suc, ◌+◌, ◌<◌, ◌≤◌, Bool, true, false, not, List, [], ◌∷◌, ◌++◌, length, drop, slice_get, length-append, ℕ, map, Option, Some, None, find, option_map, append_assoc, subst, arith}
-use Rattle.std.specs.Map.{keys_of, values_of, lookup}
-use Rattle.std.specs.List.{list_any, list_all}
-use Rattle.std.specs.Option.{option_or}
+use Rattle.inittab_text.proofs.Words.{◌≡◌, refl, sym, ◌∙◌, ap, cond, zero, suc, ◌+◌, ◌<◌, ◌≤◌, Bool, true, false, not, List, [], ◌∷◌, ◌++◌, length, drop, slice_get, length-append, ℕ, map, Option, Some, None, find, subst, arith, keys_of, values_of, lookup, list_any, list_all, option_or, and_parts, and_from, or_parts, or_from, not-true, not_from_false, length_push, ENTRY_LIMIT, Entry, same_id, entry_of, has_id, is_distinct, default_level_of, default_of, is_written, is_table, text_of, line_of}
+use Rattle.std.proofs.Common.{option_map, append_assoc}
 use Rattle.std.specs.Cmp.Lexicographic.{nat_list_eq_equiv}
-use Rattle.std.proofs.lemmas.Bool.{and_parts, and_from, or_parts, or_from, not-true, not_from_false}
-use Rattle.std.proofs.lemmas.List.{length_push}
 use Rattle.std.proofs.lemmas.List.Folds.{list_any-append, list_all-append}
-use Rattle.inittab_text.specs.declared.tables.TheConstants.{ENTRY_LIMIT}
-use Rattle.init_words.specs.declared.entries.Entry.{Entry}
-use Rattle.init_words.specs.Ids.{same_id}
-use Rattle.inittab_text.specs.Tables.{entry_of, has_id, is_distinct, default_level_of, default_of}
-use Rattle.inittab_text.specs.Written.{is_written, is_table, text_of, line_of}
 
 -- A map whose keys are the ids of its values is read as the list of the values.
 pub lookup-find : {K X : Type 0} (key : X → K) (test : K → Bool) (es : List (K × X)) → keys_of es ≡ map key (values_of es) → lookup test es ≡ find (λ x. test (key x)) (values_of es)

@@ -5,4 +5,5 @@ pub mod MarkLemmas
 pub mod PartLemmas
 pub mod ReadLemmas
 pub mod SizeLemmas
+pub mod Words
 pub mod WriteLemmas

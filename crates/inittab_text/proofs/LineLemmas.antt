@@ -1,19 +1,7 @@
 -- The lines of a written table: one an entry; and what is read is a table.
-use Rattle.std.proofs.Common.{◌≡◌, ℕ, Bool, true, false, cond, not, ◌==◌, ◌-◌, List, [], ◌∷◌, ◌++◌, length, take, Option, Some, None, Result, refl, sym, ap, ◌∙◌, arith}
-use Rattle.std.specs.List.{list_all}
-use Rattle.std.specs.Str.{bytes_eq}
-use Rattle.std.proofs.lemmas.Bool.{and_parts, and_from, not-true, not_from_false, or_parts, or_from}
+use Rattle.inittab_text.proofs.Words.{◌≡◌, ℕ, Bool, true, false, cond, not, ◌==◌, ◌-◌, List, [], ◌∷◌, ◌++◌, length, take, Option, Some, None, Result, refl, sym, ap, ◌∙◌, arith, list_all, bytes_eq, and_parts, and_from, not-true, not_from_false, or_parts, or_from, option_and_then_some, some_pair_parts, Entry, LineKind, has_byte, newlines, after_lines, lines_of, onto_first_line, cut-append, after_lines-front, newlines-append, newlines-line, take-front, verdict_of, entries_after, entries_from, table_of_text, fields_written, text_of, is_written, is_table, table_begun, table_written}
 use Rattle.std.proofs.lemmas.List.{append_assoc}
-use Rattle.std.proofs.lemmas.Option.{option_and_then_some, some_pair_parts}
 use Rattle.std.specs.Option.{option_map}
-use Rattle.init_words.specs.declared.entries.Entry.{Entry}
-use Rattle.inittab_text.specs.declared.faults.LineKind.{LineKind}
-use Rattle.text_lines.specs.Lines.{has_byte, newlines, after_lines, lines_of, onto_first_line}
-use Rattle.text_lines.proofs.CutLemmas.{cut-append}
-use Rattle.text_lines.proofs.PieceLemmas.{after_lines-front, newlines-append, newlines-line, take-front}
-use Rattle.inittab_text.specs.Checks.{verdict_of}
-use Rattle.inittab_text.specs.Reading.{entries_after, entries_from, table_of_text}
-use Rattle.inittab_text.specs.Written.{fields_written, text_of, is_written, is_table, table_begun, table_written}
 use Rattle.inittab_text.proofs.Entries.{table_parts, is_table-push}
 use Rattle.inittab_text.proofs.ReadLemmas.{kept_entry, option_map_some}
 use Rattle.inittab_text.proofs.WriteLemmas.{one_line, parts, table_written-text, text_of-table_written}

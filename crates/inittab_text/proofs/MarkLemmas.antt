@@ -1,15 +1,8 @@
 -- The marks of a runlevels field, and their characters.
-use Rattle.std.proofs.Common.{◌≡◌, ℕ, ◌+◌, ◌<◌, ◌≤◌, Bool, true, false, cond, not, List, [], ◌∷◌, ◌++◌, length, take, map, get_or, filter, Option, Some, None, refl, ap, ◌∙◌, arith}
-use Rattle.std.specs.List.{filter_map, cons_option}
-use Rattle.std.proofs.lemmas.Bool.{or_parts, and_parts, not-true, not_from_false, not_from_true}
-use Rattle.std.proofs.lemmas.List.{take_more}
+use Rattle.inittab_text.proofs.Words.{◌≡◌, ℕ, ◌+◌, ◌<◌, ◌≤◌, Bool, true, false, cond, not, List, [], ◌∷◌, ◌++◌, length, take, map, get_or, filter, Option, Some, None, refl, ap, ◌∙◌, arith, filter_map, cons_option, or_parts, and_parts, not-true, not_from_false, not_from_true, take_more, Mark, mark_code, mark_read, same_mark, names, without_repeats, marks_of, with_mark, has_no_repeat}
 use Rattle.std.proofs.lemmas.List.Elements.{filter_map-append, filter-append}
 use Rattle.std.proofs.lemmas.Map.Views.{any-filter_same}
-use Rattle.init_words.specs.declared.levels.Mark.{Mark}
-use Rattle.init_words.specs.Levels.{mark_code, mark_read, same_mark, names}
 use Rattle.init_words.proofs.Same.{mark_read-code, same_mark-is, same_mark-flip, same_mark-apart}
-use Rattle.inittab_text.specs.Kept.{without_repeats, marks_of, with_mark}
-use Rattle.inittab_text.specs.Written.{has_no_repeat}
 
 -- the marks other than this one
 others : Mark → List Mark → List Mark

@@ -1,8 +1,7 @@
 -- Texts of several parts, one after the other.
-use Rattle.std.proofs.Common.{◌≡◌, ℕ, true, List, Result, Ok, IsErrOf, ◌↔◌, arith}
+use Rattle.inittab_text.proofs.Words.{◌≡◌, ℕ, true, List, Result, Ok, IsErrOf, ◌↔◌, arith, AreTooLong, AreTooMany, are_readable}
 use Rattle.inittab_text.specs.declared.faults.TableFault.{TableFault}
 use Rattle.inittab_text.specs.declared.faults.TableFault.TheVariants as table
-use Rattle.inittab_text.specs.Parts.{AreTooLong, AreTooMany, are_readable}
 
 -- what is neither too many nor too long is read
 pub readable : (texts : List (List ℕ)) → (AreTooMany texts → ⊥) → (AreTooLong texts → ⊥) → are_readable texts ≡ true

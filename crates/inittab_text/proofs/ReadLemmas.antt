@@ -1,27 +1,10 @@
 -- What the checks of a line say of the entry that is kept.
-use Rattle.std.proofs.Common.{◌≡◌, ℕ, ◌+◌, ◌<◌, ◌≤◌, Bool, true, false, cond, not, ◌==◌, nat_lt, nat_le, List, [], ◌∷◌, ◌++◌, length, drop, Option, Some, None, is_some, Result, Ok, Err, refl, sym, ap, ◌∙◌, arith, subst, length-append, get_or}
+use Rattle.inittab_text.proofs.Words.{◌≡◌, ℕ, ◌+◌, ◌<◌, ◌≤◌, Bool, true, false, cond, not, ◌==◌, nat_lt, nat_le, List, [], ◌∷◌, ◌++◌, length, drop, Option, Some, None, is_some, Result, Ok, Err, refl, sym, ap, ◌∙◌, arith, subst, length-append, get_or, IsUtf8, is_utf8, or_parts, and_parts, and_from, not-true, not-false, not_from_false, ltb-false, leb-false, le-leb, drop_at, get_or_at, length_push, option_and_then_some, is_utf8-from_IsUtf8, IsUtf8-from_is_utf8, IsUtf8-nil, IsUtf8-drop, IsCharBoundary-after_ascii, ENTRY_LIMIT, MARK_LIMIT, Entry, Act, Mark, is_id, LineKind, has_byte, skip_blanks, act_read, ignores_levels, has_process, needs_process, FieldBytes, fields_of, is_ignored, levels_meant, levels_kept, kept_of, is_too_long, is_missing, is_text, checked_with, checked, cut-parts, has_byte-parts, has_byte-skip_blanks, entry_of, has_no_repeat, is_levels, is_process}
 use Rattle.std.specs.Option.{option_map}
-use Rattle.std.specs.Str.{IsUtf8, is_utf8}
-use Rattle.std.proofs.lemmas.Bool.{or_parts, and_parts, and_from, not-true, not-false, not_from_false, ltb-false, leb-false, le-leb}
-use Rattle.std.proofs.lemmas.List.{drop_at, get_or_at, length_push, append_assoc}
-use Rattle.std.proofs.lemmas.Option.{option_and_then_some}
-use Rattle.std.proofs.lemmas.Str.{is_utf8-from_IsUtf8, IsUtf8-from_is_utf8, IsUtf8-nil, IsUtf8-drop, IsCharBoundary-after_ascii}
-use Rattle.inittab_text.specs.declared.tables.TheConstants.{ENTRY_LIMIT}
-use Rattle.init_words.specs.declared.entries.TheConstants.{MARK_LIMIT}
-use Rattle.init_words.specs.declared.entries.Entry.{Entry}
-use Rattle.init_words.specs.declared.actions.Act.{Act}
-use Rattle.init_words.specs.declared.levels.Mark.{Mark}
-use Rattle.init_words.specs.Ids.{is_id}
-use Rattle.inittab_text.specs.declared.faults.LineKind.{LineKind}
+use Rattle.std.proofs.lemmas.List.{append_assoc}
 use Rattle.inittab_text.specs.declared.faults.LineKind.TheVariants as fault
-use Rattle.text_lines.specs.Lines.{has_byte, skip_blanks}
-use Rattle.init_words.specs.Actions.{act_read, ignores_levels, has_process, needs_process}
-use Rattle.inittab_text.specs.Lines.{FieldBytes, fields_of, is_ignored}
-use Rattle.inittab_text.specs.Kept.{levels_meant, levels_kept, kept_of}
-use Rattle.inittab_text.specs.Checks.{is_too_long, is_missing, is_text, checked_as, checked_with, checked, verdict_of}
-use Rattle.text_lines.proofs.CutLemmas.{cut-parts, has_byte-parts, has_byte-skip_blanks}
-use Rattle.inittab_text.specs.Tables.{entry_of}
-use Rattle.inittab_text.specs.Written.{has_no_repeat, is_levels, is_process, is_written}
+use Rattle.inittab_text.specs.Checks.{checked_as, verdict_of}
+use Rattle.inittab_text.specs.Written.{is_written}
 use Rattle.inittab_text.proofs.MarkLemmas.{length-marks_of, has_no_repeat-without_repeats}
 
 -- a line of these fields

@@ -1,18 +1,8 @@
 -- The written text of a table is no longer than a text may be.
-use Rattle.std.proofs.Common.{◌≡◌, ℕ, suc, ◌+◌, ◌*◌, ◌≤◌, Bool, true, false, cond, ◌&&◌, nat_lt, List, [], ◌∷◌, ◌++◌, length, length-append, arith, lit≤}
-use Rattle.std.specs.List.{list_all}
+use Rattle.inittab_text.proofs.Words.{◌≡◌, ℕ, suc, ◌+◌, ◌*◌, ◌≤◌, Bool, true, false, cond, ◌&&◌, nat_lt, List, [], ◌∷◌, ◌++◌, length, length-append, arith, lit≤, list_all, false≢true, and_parts, ltb-false, MARK_LIMIT, PROCESS_LIMIT, Entry, Act, word_of, has_process, id_parts, TEXT_LIMIT, ENTRY_LIMIT, levels_written, line_of, text_of, is_empty, is_written, is_table}
 use Rattle.std.proofs.Math.Nat.{suc-mul, mul-le-mul_right}
-use Rattle.std.proofs.lemmas.Bool.{false≢true, and_parts, ltb-false}
 use Rattle.init_words.specs.declared.ids.TheConstants.{ID_LIMIT}
-use Rattle.init_words.specs.declared.entries.TheConstants.{MARK_LIMIT, PROCESS_LIMIT}
-use Rattle.init_words.specs.declared.entries.Entry.{Entry}
-use Rattle.init_words.specs.declared.actions.Act.{Act}
 use Rattle.init_words.specs.declared.actions.Act.TheVariants as act
-use Rattle.init_words.specs.Actions.{word_of, has_process}
-use Rattle.init_words.proofs.IdParts.{id_parts}
-use Rattle.inittab_text.specs.declared.reading.TheConstants.{TEXT_LIMIT}
-use Rattle.inittab_text.specs.declared.tables.TheConstants.{ENTRY_LIMIT}
-use Rattle.inittab_text.specs.Written.{levels_written, line_of, text_of, is_empty, is_written, is_table}
 use Rattle.inittab_text.proofs.Entries.{table_parts}
 use Rattle.inittab_text.proofs.WriteLemmas.{parts, length-levels_written}
 

@@ -1,34 +1,14 @@
 -- What is written is read as it was.
-use Rattle.std.proofs.Common.{◌≡◌, ◌≢◌, ℕ, zero, suc, ◌+◌, ◌<◌, ◌≤◌, Bool, true, false, cond, not, ◌==◌, ◌&&◌, nat_lt, nat_le, List, [], ◌∷◌, ◌++◌, map, Option, length, Some, None, Ok, refl, sym, ap, ◌∙◌, arith, subst, append-nil, codes, lit<}
-use Rattle.std.specs.List.{list_all}
-use Rattle.std.specs.Option.{IfSome, IfNone}
-use Rattle.std.specs.Str.{IsUtf8, is_utf8, IsAscii, bytes_eq}
-use Rattle.std.proofs.lemmas.Option.{none-some}
+use Rattle.inittab_text.proofs.Words.{◌≡◌, ◌≢◌, ℕ, zero, suc, ◌+◌, ◌<◌, ◌≤◌, Bool, true, false, cond, not, ◌==◌, ◌&&◌, nat_lt, nat_le, List, [], ◌∷◌, ◌++◌, map, Option, length, Some, None, Ok, refl, sym, ap, ◌∙◌, arith, subst, append-nil, codes, lit<, list_all, IfSome, IfNone, IsUtf8, is_utf8, IsAscii, bytes_eq, none-some, false≢true, or_from, and_parts, and_from, not-true, not_from_false, ltb-true, lt-ltb, leb-true, le-ltb, lt-leb, ne_eqb, eqb-false, length-map, is_utf8-from_IsUtf8, IsUtf8-from_is_utf8, IsUtf8-append, IsUtf8-from_ascii, ENTRY_LIMIT, MARK_LIMIT, Entry, Act, Mark, word_of, ignores_levels, has_process, is_id, is_id_byte, id_parts, mark_code, has_byte, skip_blanks, lines_of, FieldBytes, fields_of, is_ignored, levels_kept, kept_of, is_too_long, is_missing, is_text, checked, entry_of, entries_after, faults_at, entries_from, faults_from, table_of_text, cut-append, lines_of-append, has_byte-append, levels_written, fields_written, text_of, is_empty, has_no_repeat, is_levels, is_process, is_table, table_written}
 use Rattle.std.proofs.lemmas.Slice.Eq.{bytes_eq-Decides}
-use Rattle.std.proofs.lemmas.Bool.{false≢true, or_from, and_parts, and_from, not-true, not_from_false, ltb-true, lt-ltb, leb-true, le-ltb, lt-leb, ne_eqb, eqb-false}
-use Rattle.std.proofs.lemmas.List.{append_assoc, length-map}
-use Rattle.std.proofs.lemmas.Str.{is_utf8-from_IsUtf8, IsUtf8-from_is_utf8, IsUtf8-append, IsUtf8-from_ascii}
-use Rattle.inittab_text.specs.declared.tables.TheConstants.{ENTRY_LIMIT}
-use Rattle.init_words.specs.declared.entries.TheConstants.{MARK_LIMIT}
-use Rattle.init_words.specs.declared.entries.Entry.{Entry}
-use Rattle.init_words.specs.declared.actions.Act.{Act}
+use Rattle.std.proofs.lemmas.List.{append_assoc}
 use Rattle.init_words.specs.declared.actions.Act.TheVariants as act
 use Rattle.init_words.specs.declared.levels.Level.TheVariants.{L0, L1, L2, L3, L4, L5, L6, L7, L8, L9, S}
 use Rattle.init_words.specs.declared.levels.Letter.TheVariants.{A, B, C}
-use Rattle.init_words.specs.declared.levels.Mark.{Mark}
 use Rattle.init_words.specs.declared.levels.Mark.TheVariants.{At, OnCall}
-use Rattle.init_words.specs.Actions.{word_of, act_read, ignores_levels, has_process}
-use Rattle.init_words.specs.Ids.{is_id, is_id_byte}
-use Rattle.init_words.proofs.IdParts.{id_parts}
-use Rattle.init_words.specs.Levels.{mark_code}
-use Rattle.text_lines.specs.Lines.{has_byte, skip_blanks, lines_of}
-use Rattle.inittab_text.specs.Lines.{FieldBytes, fields_of, is_ignored}
-use Rattle.inittab_text.specs.Kept.{levels_kept, kept_of}
-use Rattle.inittab_text.specs.Checks.{is_too_long, is_missing, is_text, checked_as, checked, verdict_of}
-use Rattle.inittab_text.specs.Tables.{entry_of}
-use Rattle.inittab_text.specs.Reading.{entries_after, faults_at, entries_from, faults_from, table_of_text}
-use Rattle.text_lines.proofs.CutLemmas.{cut-append, lines_of-append, has_byte-append}
-use Rattle.inittab_text.specs.Written.{levels_written, fields_written, text_of, is_empty, has_no_repeat, is_levels, is_process, is_written, is_table, table_written}
+use Rattle.init_words.specs.Actions.{act_read}
+use Rattle.inittab_text.specs.Checks.{checked_as, verdict_of}
+use Rattle.inittab_text.specs.Written.{is_written}
 use Rattle.inittab_text.proofs.MarkLemmas.{marks_of-codes}
 use Rattle.inittab_text.proofs.Entries.{known}
 

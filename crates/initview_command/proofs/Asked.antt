@@ -1,23 +1,13 @@
 -- The command line, and what its words ask is done.
-use Rattle.std.proofs.Common.{◌≡◌, ◌∙◌, [], ◌∷◌, ap, inl, inr, refl, sym, true, false, ℕ, Bool, codes, List, Option, Some, None, subst, unwrap_or, IsSome, option_and_then}
-use Rattle.clap.specs.Words.{Row, all_of, is_simple_and_free}
+use Rattle.initview_command.proofs.Words.{◌≡◌, ◌∙◌, [], ◌∷◌, ap, inl, inr, refl, sym, true, false, ℕ, Bool, codes, List, Option, Some, None, subst, unwrap_or, IsSome, option_and_then, Row, all_of, is_simple_and_free, DONE, DEVICE_FAULT, KnownTexts, reason_of, Heard, says_nothing, asked_of, command_line, files_of, folder_of, path_of, what_of, words_said, Writes, KnownWriters, Does, EndsAs, EndsFor, EndsGiven, EndsOf, EndsOn, EndsWhere, Refuses}
 use Rattle.clap.proofs.OnLiterals.{clap_on_literals}
-use Rattle.program_io.specs.declared.statuses.TheConstants.{DONE, DEVICE_FAULT}
-use Rattle.program_io.specs.Known.{KnownTexts}
 use Rattle.command_words.specs.CommandLines.{bare_line, given_by, line_of}
-use Rattle.command_words.specs.Faults.{reason_of}
 use Rattle.command_words.specs.declared.faults.WordFault.{WordFault}
 use Rattle.command_words.specs.declared.faults.WordFault.TheVariants.{Usage, Memory}
 use Rattle.command_words.specs.VersionLine.{version_line}
 use Rattle.initview_lines.specs.declared.lines.Line.TheVariants as line
-use Rattle.initview_lines.specs.Saying.{Heard}
 use Rattle.initview_command.specs.declared.asking.Command.{Command}
-use Rattle.initview_lines.proofs.SayingLemmas.{says_nothing}
-use Rattle.initview_command.specs.Asking.{asked_of, command_line, files_of, folder_of, path_of, what_of, words_said}
-use Rattle.initview_command.specs.Showing.{Writes}
-use Rattle.initview_command.specs.Writers.{KnownWriters}
 use Rattle.initview_command.specs.Refusals.{ReportsRefusal}
-use Rattle.initview_command.specs.Endings.{Does, EndsAs, EndsFor, EndsGiven, EndsOf, EndsOn, EndsWhere, Refuses}
 
 -- the command line uses no more of clap than what is known of it
 pub is_free_line : is_simple_and_free command_line ≡ true

@@ -1,10 +1,6 @@
 -- The files of paths, one more after the others.
-use Rattle.std.proofs.Common.{◌≡◌, refl, ℕ, ◌+◌, ◌<◌, ◌≤◌, List, [], ◌∷◌, ◌++◌, Bor, drop, get_or, length, map, append_assoc, arith}
-use Rattle.std.proofs.lemmas.List.{drop_more}
+use Rattle.initview_command.proofs.Words.{◌≡◌, refl, ℕ, ◌+◌, ◌<◌, ◌≤◌, List, [], ◌∷◌, ◌++◌, Bor, drop, get_or, length, map, append_assoc, arith, drop_more, IsTextAt, KnownTexts, NamedText, AreFilesAt, old_of}
 use Rattle.std.specs.Prelude.{swap}
-use Rattle.program_io.specs.Known.{IsTextAt, KnownTexts}
-use Rattle.init_words.specs.Parts.{NamedText}
-use Rattle.initview_command.specs.Tables.{AreFilesAt, old_of}
 
 abbrev pub file_of : List ℕ → List ℕ → NamedText
 file_of path text = record { name = path; bytes = text }

@@ -1,24 +1,17 @@
 -- What is written of a trace that is followed.
-use Rattle.std.proofs.Common.{◌≡◌, refl, sym, ap, ◌∙◌, subst, ℕ, ◌+◌, ◌-◌, ◌^◌, ◌<◌, ◌≤◌, Bool, true, false, is_some, List, [], ◌∷◌, ◌++◌, length, length-append, append-nil, append_assoc, arith, Option, Some, None, option_map, Result, Ok, Err, IfOk, OnErr}
-use Rattle.std.specs.Io.KnownBytes.{Consumes, IsAtEnd}
-use Rattle.std.proofs.KnownBytes.{Consumes-trans}
-use Rattle.program_io.specs.declared.takers.TheConstants.{PIECE_LIMIT}
+use Rattle.initview_command.proofs.Words.{◌≡◌, refl, sym, ap, ◌∙◌, subst, ℕ, ◌+◌, ◌-◌, ◌^◌, ◌<◌, ◌≤◌, Bool, true, false, is_some, List, [], ◌∷◌, ◌++◌, length, length-append, append_assoc, arith, Option, Some, None, option_map, Result, Ok, Err, IfOk, OnErr, Consumes, IsAtEnd, Consumes-trans, PIECE_LIMIT, ViewEnd, Line, Heard, Says, SaysFront, front_none, front_then, front_whole, says_nothing, says_then, AreLinesOf, BeginsAllOf, FollowsAll, FollowsPart, HasLines, HasWritten, IsAllOf, IsFor, IsHidden, Start, WritesAll, WritesPart, begins_run, is_judged, judges, HasFollowed, HasKept, MayKeep, there_limit}
+use Rattle.std.proofs.Common.{append-nil}
 use Rattle.trace_verdict.specs.Fronts.{line_left}
 use Rattle.trace_verdict.specs.Readers.{capped}
-use Rattle.trace_view.specs.declared.text_views.ViewEnd.{ViewEnd}
 use Rattle.trace_view.specs.Views.{left_of}
 use Rattle.trace_view.proofs.SeenTexts.{stops_more}
-use Rattle.initview_lines.specs.declared.lines.Line.{Line}
 use Rattle.initview_lines.specs.Following.{IsSaidOf}
 use Rattle.initview_lines.specs.Parts.{IsToldOf}
-use Rattle.initview_lines.specs.Saying.{Heard, Says, SaysFront}
 use Rattle.initview_lines.proofs.Parts.{told_of}
-use Rattle.initview_lines.proofs.SayingLemmas.{front_none, front_then, front_whole, says_nothing, says_then}
 use Rattle.initview_lines.proofs.SaidOf.{said_of, said_more}
 use Rattle.initview_command.specs.declared.following.Reader.{Reader}
 use Rattle.initview_command.specs.declared.following.Reader.TheVariants.{Run, Part}
-use Rattle.initview_command.specs.Following.{AreLinesOf, BeginsAllOf, FollowsAll, FollowsPart, HasLines, HasWritten, IsAllOf, IsFor, IsHidden, Start, WritesAll, WritesPart, begins_run, is_judged, judges, start_of}
-use Rattle.initview_command.specs.Taking.{HasFollowed, HasKept, MayKeep, there_limit}
+use Rattle.initview_command.specs.Following.{start_of}
 
 -- the lines of what a reader has taken, and of a text that goes on behind the line at which it stopped
 pub lines_of : (reader : Reader) (said : List Line) (text : List ℕ) → length text < 2 ^ 64 → HasLines reader said text → (stop : Option ViewEnd) × (line : Option ℕ) × AreLinesOf (judges reader) text stop line said

@@ -3,3 +3,4 @@ pub mod Files
 pub mod Followed
 pub mod Reloads
 pub mod Shown
+pub mod Words

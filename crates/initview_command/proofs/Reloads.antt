@@ -1,9 +1,7 @@
 -- What the view of a trace sees of an inittab that init reads behind it.
-use Rattle.std.proofs.Common.{◌≡◌, List, ◌∷◌, Option, Some, None, option_map}
-use Rattle.trace_events.specs.Event.{Event}
+use Rattle.initview_command.proofs.Words.{◌≡◌, List, ◌∷◌, Option, Some, None, option_map, Event, SeesNext, ViewState, Viewed}
 use Rattle.trace_check.specs.declared.laws.Law.{Law}
 use Rattle.trace_check.specs.Laws.{law_number}
-use Rattle.trace_view.specs.Viewing.{SeesNext, ViewState, Viewed}
 
 -- what breaks no law is seen
 pub seen : (law : Option Law) (old new : ViewState) (happening : Event) (past : List Event) → option_map law_number law ≡ None

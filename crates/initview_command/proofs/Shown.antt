@@ -1,20 +1,8 @@
 -- What is written of a trace, and where nothing is.
-use Rattle.std.proofs.Common.{◌≡◌, ◌⊎◌, Bool, true, false, inl, inr, subst, ℕ, List, reverse, Option}
-use Rattle.initview_lines.specs.Saying.{Heard, SaysNothing}
-use Rattle.initview_lines.proofs.SayingLemmas.{front_none, says_nothing}
-use Rattle.program_io.specs.declared.statuses.TheConstants.{REFUSED, DEVICE_FAULT}
-use Rattle.program_io.specs.Known.{IsTextAt, KnownTexts}
+use Rattle.initview_command.proofs.Words.{◌≡◌, ◌⊎◌, Bool, true, false, inl, inr, subst, ℕ, List, reverse, Option, Heard, SaysNothing, front_none, says_nothing, REFUSED, DEVICE_FAULT, IsTextAt, KnownTexts, Event, ViewState, Viewed, ViewEnd, Line, Shows, ShowsBy, ShowsOf, Writes, is_within, FailsBy, fault_status, IsWriterAt, KnownWriters, Writer}
 use Rattle.inittab_text.specs.declared.faults.TableFault.{TableFault}
 use Rattle.inittab_text.specs.declared.faults.TableFault.TheVariants as fault
-use Rattle.trace_events.specs.Event.{Event}
 use Rattle.trace_view.specs.SeenTexts.{IsSeen}
-use Rattle.trace_view.specs.Viewing.{ViewState, Viewed}
-use Rattle.trace_view.specs.declared.text_views.ViewEnd.{ViewEnd}
-use Rattle.initview_lines.specs.declared.lines.Line.{Line}
-use Rattle.initview_command.specs.Showing.{Shows, ShowsBy, ShowsOf, Writes, is_within}
-use Rattle.initview_command.specs.Tables.{FailsBy, fault_status}
-use Rattle.initview_command.specs.Writers.{IsWriterAt, KnownWriters}
-use Rattle.initview_command.specs.declared.growing.Writer.{Writer}
 
 -- what was written of a text is what is said of it
 pub writes_as : (text said : List Line) (given ends status : ℕ) (old new : Heard) → text ≡ said → given ≡ ends → Writes text given status old new → Writes said ends status old new

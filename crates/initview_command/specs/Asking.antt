@@ -3,10 +3,9 @@ use Rattle.std.specs.Prelude.{ℕ, suc, ◌+◌, Bool, true, false, not, ◌&&�
 use Rattle.std.specs.List.{list_all}
 use Rattle.std.specs.Option.{is_some, option_map}
 use Rattle.std.specs.Str.{bytes_eq}
-use Rattle.clap.specs.Words.{App, Row, Text, all_of, first_of}
-use Rattle.text_lines.specs.Numbers.{number_read}
-use Rattle.command_words.specs.CommandLines.{Line, given_by, is_set, line_of, value_said, written}
-use Rattle.init_words.specs.declared.levels.Level.{Level}
+use Rattle.initview_command.specs.Words.{App, Text, all_of, first_of, number_read, given_by, is_set, line_of, value_said, written, Level}
+use Rattle.clap.specs.Words.{Row}
+use Rattle.command_words.specs.CommandLines.{Line}
 use Rattle.init_words.specs.Ids.{id_read}
 use Rattle.init_words.specs.Levels.{level_read}
 use Rattle.initview_lines.specs.declared.lines.RowFormat.{RowFormat}

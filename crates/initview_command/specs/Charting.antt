@@ -1,10 +1,8 @@
 -- What is drawn of the timeline of a trace.
 use Rattle.std.specs.Prelude.{ℕ, ◌+◌, nat_le, if◌then◌else◌, List, Option, Some, None}
-use Rattle.text_lines.specs.Numbers.{number_read}
-use Rattle.trace_events.specs.Event.{Event}
+use Rattle.initview_command.specs.Words.{number_read, Event, drawn_of, timeline_of}
 use Rattle.initview_lines.specs.declared.lines.Line.{Line}
 use Rattle.initview_lines.specs.declared.lines.Line.TheVariants as line
-use Rattle.initview_timeline.specs.Rows.{drawn_of, timeline_of}
 use Rattle.initview_command.specs.declared.charting.Form.{Form}
 use Rattle.initview_command.specs.declared.charting.Form.TheVariants.{Lines, Svg}
 use Rattle.initview_command.specs.declared.charting.TheConstants.{WIDTH_LEAST, WIDTH_LIMIT}

@@ -1,12 +1,8 @@
 -- How initview ends on its words, and what it wrote.
 use Rattle.std.specs.Prelude.{◌≡◌, ◌⊎◌, ℕ, Bool, true, false, List, [], ◌∷◌, codes, Option, Some, None}
-use Rattle.program_io.specs.declared.statuses.TheConstants.{DONE, REFUSED, DEVICE_FAULT}
-use Rattle.program_io.specs.Known.{KnownTexts}
+use Rattle.initview_command.specs.Words.{DONE, REFUSED, DEVICE_FAULT, KnownTexts, asks_version, given_by, version_line, Heard, SaysNothing}
 use Rattle.clap.specs.Words.{Row}
-use Rattle.command_words.specs.CommandLines.{asks_version, given_by}
-use Rattle.command_words.specs.VersionLine.{version_line}
 use Rattle.initview_lines.specs.declared.lines.Line.TheVariants as line
-use Rattle.initview_lines.specs.Saying.{Heard, SaysNothing}
 use Rattle.initview_command.specs.declared.asking.Command.{Command}
 use Rattle.initview_command.specs.declared.asking.Command.TheVariants.{Show, Draw, Follow, Explain, Reload, Timing, Tables}
 use Rattle.initview_command.specs.Asking.{command_line, files_of, folder_of, path_of, what_of, words_said}

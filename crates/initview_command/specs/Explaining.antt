@@ -1,9 +1,7 @@
 -- What is written of the reason that keeps an entry from its start.
 use Rattle.std.specs.Prelude.{ℕ, List, [], ◌∷◌, ◌++◌, Option}
-use Rattle.init_words.specs.Parts.{NamedText}
-use Rattle.trace_events.specs.Event.{Event}
+use Rattle.initview_command.specs.Words.{NamedText, Event, ViewEnd}
 use Rattle.inittab_lint.specs.IdLines.{id_text}
-use Rattle.trace_view.specs.declared.text_views.ViewEnd.{ViewEnd}
 use Rattle.initview_lines.specs.declared.lines.Line.{Line}
 use Rattle.initview_lines.specs.declared.lines.Line.TheVariants as line
 use Rattle.initview_lines.specs.declared.reasons.Chain.{Chain}

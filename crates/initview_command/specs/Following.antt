@@ -1,11 +1,9 @@
 -- What is written of a trace that is followed, and the exit status.
 use Rattle.std.specs.Prelude.{◌≡◌, ◌⊎◌, ℕ, ◌-◌, ◌==◌, Bool, true, false, List, [], ◌∷◌, ◌++◌, length, Option, Some, None, IfSome}
-use Rattle.program_io.specs.declared.statuses.TheConstants.{DEVICE_FAULT}
-use Rattle.trace_view.specs.declared.text_views.ViewEnd.{ViewEnd}
+use Rattle.initview_command.specs.Words.{DEVICE_FAULT, ViewEnd, Heard, Says, SaysFront}
 use Rattle.initview_lines.specs.declared.lines.Line.{Line}
 use Rattle.initview_lines.specs.Following.{HasSaid, IsSaidOf}
 use Rattle.initview_lines.specs.Parts.{HasTold, IsToldOf}
-use Rattle.initview_lines.specs.Saying.{Heard, Says, SaysFront}
 use Rattle.initview_command.specs.declared.following.Reader.{Reader}
 use Rattle.initview_command.specs.declared.following.Reader.TheVariants.{Run, Part}
 use Rattle.initview_command.specs.Showing.{stop_status}

@@ -10,4 +10,5 @@ pub mod Showing
 pub mod Tables
 pub mod Taking
 pub mod WithFiles
+pub mod Words
 pub mod Writers

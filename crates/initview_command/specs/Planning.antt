@@ -1,12 +1,7 @@
 -- What is written of the plan of an inittab, and of how long what init waits for took in a trace.
 use Rattle.std.specs.Prelude.{ℕ, List, ◌++◌, Option}
-use Rattle.init_words.specs.Parts.{NamedText}
-use Rattle.init_words.specs.declared.entries.Entry.{Entry}
-use Rattle.init_words.specs.declared.levels.Level.{Level}
-use Rattle.trace_events.specs.Event.{Event}
-use Rattle.trace_view.specs.declared.text_views.ViewEnd.{ViewEnd}
+use Rattle.initview_command.specs.Words.{NamedText, Entry, Level, Event, ViewEnd, marks_of}
 use Rattle.initview_lines.specs.declared.lines.Line.{Line}
-use Rattle.initview_timeline.specs.Marks.{marks_of}
 use Rattle.initview_lines.specs.Times.{times_in}
 use Rattle.initview_command.specs.Showing.{stop_status}
 use Rattle.initview_command.specs.Tables.{level_asked, plan_by, table_in}

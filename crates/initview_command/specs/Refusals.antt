@@ -1,9 +1,6 @@
 -- What initview reports of words that it refuses.
 use Rattle.std.specs.Prelude.{◌≡◌, ◌⊎◌, ◌++◌, ℕ, codes, Option}
-use Rattle.clap.specs.Words.{Text}
-use Rattle.command_words.specs.Faults.{ReportsUsage}
-use Rattle.program_io.specs.declared.statuses.TheConstants.{REFUSED, DEVICE_FAULT}
-use Rattle.program_io.specs.Writing.{AppendsPrefix}
+use Rattle.initview_command.specs.Words.{Text, ReportsUsage, REFUSED, DEVICE_FAULT, AppendsPrefix}
 use Rattle.initview_command.specs.declared.command.TheConstants.{USAGE}
 
 -- the line of a command's usage

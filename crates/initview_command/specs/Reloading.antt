@@ -1,14 +1,9 @@
 -- What is written of an inittab that init reads behind a trace.
 use Rattle.std.specs.Prelude.{ℕ, List, drop, Option}
-use Rattle.init_words.specs.Parts.{NamedText}
-use Rattle.init_words.specs.declared.entries.Entry.{Entry}
-use Rattle.init_words.specs.declared.levels.Level.{Level}
-use Rattle.trace_events.specs.Event.{Event}
+use Rattle.initview_command.specs.Words.{NamedText, Entry, Level, Event, reload_in, reloaded, ViewEnd}
 use Rattle.initview_lines.specs.declared.lines.Line.{Line}
-use Rattle.initview_lines.specs.Reloads.{reload_in, reloaded}
 use Rattle.initview_command.specs.Showing.{stop_status}
 use Rattle.initview_command.specs.Tables.{old_of, table_in}
-use Rattle.trace_view.specs.declared.text_views.ViewEnd.{ViewEnd}
 
 -- what is written, by the inittabs, the level and the past of the trace
 abbrev pub reload_said : List Entry → List Entry → Option Level → List Event → List Line

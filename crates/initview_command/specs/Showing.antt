@@ -1,18 +1,14 @@
 -- What is written of a trace, and the exit status.
 use Rattle.std.specs.Prelude.{◌≡◌, ◌⊎◌, ℕ, Bool, true, false, if◌then◌else◌, List, [], ◌∷◌, reverse, Option, Some, None, is_some}
-use Rattle.program_io.specs.declared.statuses.TheConstants.{DONE, REFUSED, UNLAWFUL, DEVICE_FAULT}
-use Rattle.program_io.specs.Known.{IsTextAt, KnownTexts}
-use Rattle.trace_events.specs.Event.{Event}
+use Rattle.initview_command.specs.Words.{DONE, REFUSED, UNLAWFUL, DEVICE_FAULT, IsTextAt, KnownTexts, Event, ViewEnd, Heard, Says, SaysFront, SaysNothing}
 use Rattle.trace_events.specs.Lawful.{first_breach}
 use Rattle.trace_view.specs.declared.rows.Row.{Row}
 use Rattle.trace_view.specs.Rows.{row_of}
-use Rattle.trace_view.specs.declared.text_views.ViewEnd.{ViewEnd}
 use Rattle.trace_view.specs.declared.text_views.ViewEnd.TheVariants.{Breach, Torn, Within}
 use Rattle.trace_view.specs.Shown.{IsShown}
 use Rattle.initview_lines.specs.declared.lines.Line.{Line}
 use Rattle.initview_lines.specs.Left.{left_in}
 use Rattle.initview_lines.specs.Rows.{row_at, status_in}
-use Rattle.initview_lines.specs.Saying.{Heard, Says, SaysFront, SaysNothing}
 use Rattle.initview_command.specs.declared.asking.TraceQuery.{TraceQuery}
 use Rattle.initview_command.specs.declared.asking.TraceQuery.TheVariants as question
 use Rattle.initview_command.specs.declared.growing.Writer.{Writer}

@@ -1,12 +1,8 @@
 -- What is written of inittabs, and the exit status.
 use Rattle.std.specs.Prelude.{◌≡◌, ◌⊎◌, ℕ, true, List, [], ◌∷◌, ◌++◌, take, drop, Option, Some, None, unwrap_or}
 use Rattle.std.specs.List.{list_all}
-use Rattle.program_io.specs.declared.statuses.TheConstants.{DONE, REFUSED, DEVICE_FAULT}
-use Rattle.program_io.specs.Known.{IsTextAt, KnownTexts}
-use Rattle.init_words.specs.declared.entries.Entry.{Entry}
-use Rattle.init_words.specs.declared.levels.Level.{Level}
+use Rattle.initview_command.specs.Words.{DONE, REFUSED, DEVICE_FAULT, IsTextAt, KnownTexts, Entry, Level, NamedText, texts_of, is_missing, Heard, SaysNothing}
 use Rattle.init_words.specs.declared.levels.Level.TheVariants.{S}
-use Rattle.init_words.specs.Parts.{NamedText, texts_of}
 use Rattle.inittab_text.specs.declared.faults.TableFault.{TableFault}
 use Rattle.inittab_text.specs.declared.faults.TableFault.TheVariants as fault
 use Rattle.inittab_text.specs.Parts.{AreTooLong, AreTooMany, table_of_texts}
@@ -15,12 +11,10 @@ use Rattle.inittab_lint.specs.declared.linting.Findings.{Findings}
 use Rattle.inittab_lint.specs.declared.linting.Findings.TheVariants as found
 use Rattle.inittab_lint.specs.declared.traps.LineWarning.{LineWarning}
 use Rattle.inittab_lint.specs.Linting.{lint_in}
-use Rattle.inittab_lint.specs.Programs.{is_missing}
 use Rattle.initview_lines.specs.declared.lines.Line.{Line}
 use Rattle.initview_lines.specs.declared.lines.Line.TheVariants as line
 use Rattle.initview_lines.specs.Changes.{changes_in}
 use Rattle.initview_lines.specs.Plans.{plan_in}
-use Rattle.initview_lines.specs.Saying.{Heard, SaysNothing}
 use Rattle.initview_command.specs.Showing.{Writes}
 use Rattle.initview_command.specs.declared.asking.TableQuestion.{TableQuestion}
 use Rattle.initview_command.specs.declared.asking.TableQuestion.TheVariants as table

@@ -1,9 +1,8 @@
 -- How far a trace that is followed was read.
 use Rattle.std.specs.Prelude.{◌≡◌, ◌≤◌, ℕ, ◌+◌, ◌*◌, ◌-◌, List, [], ◌++◌, length, Option, Some, None}
 use Rattle.std.specs.Io.KnownBytes.{Consumes}
-use Rattle.program_io.specs.declared.takers.TheConstants.{PIECE_LIMIT, PIECES_LIMIT}
+use Rattle.initview_command.specs.Words.{PIECE_LIMIT, PIECES_LIMIT, Heard}
 use Rattle.initview_lines.specs.declared.lines.Line.{Line}
-use Rattle.initview_lines.specs.Saying.{Heard}
 use Rattle.initview_command.specs.declared.following.Reader.{Reader}
 use Rattle.initview_command.specs.Following.{HasLines, HasWritten, IsAllOf, IsFor, Start}
 

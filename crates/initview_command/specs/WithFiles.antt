@@ -1,13 +1,8 @@
 -- What is written of a trace where files of inittabs belong to the question.
 use Rattle.std.specs.Prelude.{◌≡◌, ◌⊎◌, ℕ, List, Option}
-use Rattle.program_io.specs.declared.statuses.TheConstants.{REFUSED, DEVICE_FAULT}
-use Rattle.program_io.specs.Known.{KnownTexts}
-use Rattle.init_words.specs.Parts.{NamedText}
-use Rattle.trace_events.specs.Event.{Event}
-use Rattle.trace_view.specs.declared.text_views.ViewEnd.{ViewEnd}
+use Rattle.initview_command.specs.Words.{REFUSED, DEVICE_FAULT, KnownTexts, NamedText, Event, ViewEnd, Heard, SaysNothing}
 use Rattle.initview_command.specs.declared.growing.Writer.{Writer}
 use Rattle.initview_lines.specs.declared.lines.Line.{Line}
-use Rattle.initview_lines.specs.Saying.{Heard, SaysNothing}
 use Rattle.initview_command.specs.Showing.{Shows}
 use Rattle.initview_command.specs.Tables.{AreFiles}
 use Rattle.initview_command.specs.Writers.{KnownWriters}

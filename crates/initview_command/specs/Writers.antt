@@ -1,9 +1,6 @@
 -- Who writes a trace, and how it stands by now.
 use Rattle.std.specs.Prelude.{◌≡◌, ℕ, ◌+◌, ◌-◌, ◌^◌, min, List, ◌∷◌, Option, None, IfSome}
-use Rattle.trace_events.specs.declared.happenings.Happening.TheVariants.{Clock}
-use Rattle.trace_events.specs.Event.{Event}
-use Rattle.trace_events.specs.Past.{time_of}
-use Rattle.trace_view.specs.declared.text_views.ViewEnd.{ViewEnd}
+use Rattle.initview_command.specs.Words.{Clock, Event, time_of, ViewEnd}
 use Rattle.initview_command.specs.declared.growing.Writer.{Writer}
 use Rattle.initview_command.specs.declared.growing.Writer.TheVariants.{Init}
 

@@ -3,9 +3,7 @@
 
 ghost use Rattle.std.specs.Prelude.{◌≡◌, map, string_bytes, IfErr, IfOk, IsSome, None, Some};
 ghost use Rattle.std.specs.List.{list_all};
-ghost use Rattle.clap.specs.Words.{found_of, rows_of};
-ghost use Rattle.command_words.specs.CommandLines.{given_by, text_of};
-ghost use Rattle.command_words.specs.Faults.{reason_of};
+ghost use Rattle.initview_command.specs.Words.{found_of, rows_of, given_by, text_of, reason_of};
 ghost use Rattle.initview_command.specs.Asking.{asked, asked_by, behind_one, behind_three, belongs, command_line, diff_of, draw_of, explain_of, explained, files_of, form_said, is_given, last_of, last_said, level_in, level_said, lint_of, path_of, plain_of, plan_of, second_of, shape_said, show_of, table_takes, tables_of, takes, third_of, what_of};
 
 use crate::charting::{Form, WIDTH, lines_of};

@@ -1,10 +1,7 @@
 //! The timeline of a trace, asked for.
 
 ghost use Rattle.std.specs.Prelude.{◌≡◌, List, IfOk};
-ghost use Rattle.trace_events.specs.Event.{Event};
-ghost use Rattle.trace_view.specs.Viewing.{Viewed};
-ghost use Rattle.initview_timeline.specs.Marks.{seen_of};
-ghost use Rattle.initview_timeline.specs.Rows.{drawn_of, scene_of};
+ghost use Rattle.initview_command.specs.Words.{Event, Viewed, seen_of, drawn_of, scene_of};
 ghost use Rattle.initview_command.specs.Charting.{drawing, lines_of};
 
 use crate::showing::{Answer, Query, TraceOutcome, stop_status};

@@ -1,10 +1,7 @@
 //! The words of `initview`, and what it does for them.
 
 ghost use Rattle.std.specs.Prelude.{◌≡◌, ◌∷◌, [], codes, false, map, option_map, string_bytes, None};
-ghost use Rattle.command_words.specs.CommandLines.{asks_version};
-ghost use Rattle.clap.specs.Words.{found_of, rows_of};
-ghost use Rattle.command_words.specs.VersionLine.{version_line};
-ghost use Rattle.program_io.specs.declared.statuses.TheConstants.{DONE};
+ghost use Rattle.initview_command.specs.Words.{asks_version, found_of, rows_of, version_line, DONE};
 ghost use Rattle.initview_lines.specs.declared.lines.Line.TheVariants as line;
 ghost use Rattle.initview_command.specs.Asking.{asked_of, what_of, words_said};
 ghost use Rattle.initview_command.specs.Refusals.{ReportsRefusal};

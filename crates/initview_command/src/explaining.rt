@@ -1,8 +1,7 @@
 //! Why an entry isn't started next, asked for.
 
 ghost use Rattle.std.specs.Prelude.{◌≡◌, List, IfOk, IfErr};
-ghost use Rattle.trace_events.specs.Event.{Event};
-ghost use Rattle.trace_view.specs.Viewing.{Viewed};
+ghost use Rattle.initview_command.specs.Words.{Event, Viewed};
 ghost use Rattle.initview_command.specs.Explaining.{explanation, files_text};
 ghost use Rattle.initview_command.specs.Tables.{AreNone, FailsBy};
 

@@ -1,8 +1,7 @@
 //! A trace in words, while it is written.
 
 ghost use Rattle.std.specs.Prelude.{◌≡◌, ◌^◌, ◌<◌, ◌≤◌, ◌-◌, ◌++◌, [], List, ℕ, length, Option, Some, None, option_map, IfOk, OnOk, OnErr, true, false};
-ghost use Rattle.program_io.specs.declared.statuses.TheConstants.{DEVICE_FAULT};
-ghost use Rattle.program_io.specs.declared.takers.TheConstants.{PIECE_LIMIT};
+ghost use Rattle.initview_command.specs.Words.{DEVICE_FAULT, PIECE_LIMIT};
 ghost use Rattle.initview_lines.specs.declared.lines.Line.{Line};
 ghost use Rattle.initview_command.specs.Following.{AreLinesOf, Follows, FollowsAll, FollowsPart, HasLines, HasWritten, IsAllOf, IsFor, Start, WritesAll, WritesPart, begins_run, judges};
 ghost use Rattle.initview_command.specs.Taking.{FirstReader, HasFollowed, HasKept, MayKeep, there_limit};

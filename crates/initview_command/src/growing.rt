@@ -3,8 +3,7 @@
 ghost use Rattle.std.specs.Prelude.{◌≡◌, ◌≤◌, ◌++◌, List, length, take, IfOk, OnOk};
 ghost use Rattle.std.specs.Io.{ReadsAtMost};
 ghost use Rattle.std.specs.Io.KnownBytes.{Consumes};
-ghost use Rattle.init_words.specs.Parts.{NamedText};
-ghost use Rattle.program_io.specs.Known.{KnownTexts};
+ghost use Rattle.initview_command.specs.Words.{NamedText, KnownTexts};
 ghost use Rattle.initview_command.specs.Writers.{IsWriterAt, KnownWriters};
 
 use host_files::{FolderFault, PassedNames, with_folder};

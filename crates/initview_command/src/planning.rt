@@ -1,8 +1,7 @@
 //! The plan of an inittab, and how long what init waits for took in a trace, asked for.
 
 ghost use Rattle.std.specs.Prelude.{◌≡◌, List, IfOk};
-ghost use Rattle.trace_events.specs.Event.{Event};
-ghost use Rattle.initview_timeline.specs.Marks.{marks_of};
+ghost use Rattle.initview_command.specs.Words.{Event, marks_of};
 ghost use Rattle.initview_command.specs.Planning.{timing_said};
 
 use crate::showing::{Answer, Query, TraceOutcome, stop_status};

@@ -1,10 +1,7 @@
 //! How a trace stands by now.
 
 ghost use Rattle.std.specs.Prelude.{◌≡◌, ◌∷◌, ◌+◌, ◌-◌, ◌^◌, min, List, OnOk};
-ghost use Rattle.trace_events.specs.declared.happenings.Happening.TheVariants.{Clock};
-ghost use Rattle.trace_events.specs.Event.{Event};
-ghost use Rattle.trace_events.specs.Past.{time_of};
-ghost use Rattle.trace_view.specs.Viewing.{Viewed};
+ghost use Rattle.initview_command.specs.Words.{Clock, Event, time_of, Viewed};
 ghost use Rattle.initview_command.specs.Writers.{present};
 
 use crate::growing::Writer;

@@ -2,7 +2,7 @@
 
 ghost use Rattle.std.specs.Prelude.{◌≡◌, true, IfOk, OnOk};
 ghost use Rattle.std.specs.List.{list_all};
-ghost use Rattle.inittab_lint.specs.Programs.{is_missing};
+ghost use Rattle.initview_command.specs.Words.{is_missing};
 
 use crate::growing::GrowingTexts;
 use init_words::Part;

@@ -2,7 +2,7 @@
 
 ghost use Rattle.std.specs.Prelude.{◌≡◌, string_bytes, IfOk};
 ghost use Rattle.command_words.specs.declared.faults.WordFault.TheVariants.{Memory};
-ghost use Rattle.program_io.specs.declared.statuses.TheConstants.{DEVICE_FAULT};
+ghost use Rattle.initview_command.specs.Words.{DEVICE_FAULT};
 ghost use Rattle.initview_command.specs.Refusals.{ReportsRefusal, usage_line};
 
 use crate::asking::{Command, OPTIONS, asked, belongs, last_of, level_in};

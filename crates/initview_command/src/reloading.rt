@@ -1,10 +1,7 @@
 //! What becomes of what runs where init reads another inittab, asked for.
 
 ghost use Rattle.std.specs.Prelude.{◌≡◌, ◌∷◌, List, OnOk};
-ghost use Rattle.trace_events.specs.declared.happenings.Happening.TheVariants.{NewTable};
-ghost use Rattle.trace_events.specs.Event.{Event};
-ghost use Rattle.trace_view.specs.Viewing.{Viewed};
-ghost use Rattle.initview_lines.specs.Reloads.{gone_on, reloaded, with_request};
+ghost use Rattle.initview_command.specs.Words.{NewTable, Event, Viewed, gone_on, reloaded, with_request};
 
 use crate::showing::{Answer, Query, TraceOutcome, stop_status};
 use crate::tables::old_and_new;

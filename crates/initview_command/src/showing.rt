@@ -1,10 +1,8 @@
 //! What is asked of a trace, answered and written.
 
 ghost use Rattle.std.specs.Prelude.{◌≡◌, List, ℕ, [], Option, IfOk};
-ghost use Rattle.trace_events.specs.Event.{Event};
+ghost use Rattle.initview_command.specs.Words.{Event, Viewed, ViewEnd};
 ghost use Rattle.trace_view.specs.SeenTexts.{HasSeenText};
-ghost use Rattle.trace_view.specs.Viewing.{Viewed};
-ghost use Rattle.trace_view.specs.declared.text_views.ViewEnd.{ViewEnd};
 ghost use Rattle.initview_lines.specs.declared.lines.Line.{Line};
 ghost use Rattle.initview_command.specs.declared.growing.Writer.{Writer};
 ghost use Rattle.initview_command.specs.Showing.{Shows, ShowsOf, Writes, is_within, lsb_status, row_status, running_status, said, status_by, stop_status};

@@ -1,8 +1,7 @@
 //! What is asked of inittabs, written.
 
 ghost use Rattle.std.specs.Prelude.{◌≡◌, ◌++◌, ◌∷◌, [], map, option_map, drop, ℕ, List, IfSome, IfOk, IfErr, OnOk};
-ghost use Rattle.program_io.specs.Known.{IsTextAt};
-ghost use Rattle.init_words.specs.Parts.{NamedText};
+ghost use Rattle.initview_command.specs.Words.{IsTextAt, NamedText};
 ghost use Rattle.initview_command.specs.declared.asking.TableQuestion.TheVariants as table_question;
 ghost use Rattle.initview_command.specs.Tables.{Answers, AnswersOf, AreFiles, AreFilesAt, AreNone, FailsBy, IsAnswer, IsRefused, NoneOf, fault_status, found_status, level_asked, lint_by, old_of, plan_by, table_in};
 

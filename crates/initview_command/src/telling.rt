@@ -1,7 +1,7 @@
 //! Why nothing is said.
 
 ghost use Rattle.std.specs.Prelude.{◌≡◌};
-ghost use Rattle.program_io.specs.Writing.{AppendsPrefix};
+ghost use Rattle.initview_command.specs.Words.{AppendsPrefix};
 ghost use Rattle.initview_command.specs.Refusals.{memory_line};
 
 use initview_lines::SayFault;

@@ -1,9 +1,7 @@
 //! What is asked of a trace with files of inittabs, answered and written.
 
 ghost use Rattle.std.specs.Prelude.{◌≡◌, List, ℕ, Option, map, option_map, IfOk, IfErr};
-ghost use Rattle.init_words.specs.Parts.{NamedText};
-ghost use Rattle.trace_events.specs.Event.{Event};
-ghost use Rattle.trace_view.specs.declared.text_views.ViewEnd.{ViewEnd};
+ghost use Rattle.initview_command.specs.Words.{NamedText, Event, ViewEnd};
 ghost use Rattle.initview_lines.specs.declared.lines.Line.{Line};
 ghost use Rattle.initview_command.specs.declared.growing.Writer.{Writer};
 ghost use Rattle.initview_command.specs.Tables.{FailsBy};

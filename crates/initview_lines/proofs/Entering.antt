@@ -1,16 +1,9 @@
 -- Behind an inittab that is read, the stage of a level that is asked for is entered first.
-use Rattle.std.proofs.Common.{◌≡◌, refl, ap, ℕ, true, false, List, [], Option, Some, None}
-use Rattle.init_words.specs.declared.levels.Level.{Level}
-use Rattle.init_words.specs.declared.entries.Entry.{Entry}
-use Rattle.init_words.specs.declared.stages.Stage.{Stage}
+use Rattle.initview_lines.proofs.CommonWords.{◌≡◌, refl, ap, ℕ, true, false, List, [], Option, Some, None, Level, Entry, Stage, Event, is_quiet, stage_of, entered_by, next_stage, read_again}
 use Rattle.trace_events.specs.declared.steps.Goal.{Goal}
 use Rattle.trace_events.specs.declared.steps.Step.TheVariants.{Enter}
-use Rattle.trace_events.specs.Event.{Event}
 use Rattle.trace_events.specs.Due.{due, due_first, first, enter_level}
-use Rattle.trace_events.specs.Past.{is_quiet, stage_of}
 use Rattle.trace_events.specs.Wishes.{level_wish, wants_reexec, wants_reread}
-use Rattle.trace_view.specs.Wishes.{entered_by, next_stage}
-use Rattle.initview_lines.specs.Reloads.{read_again}
 
 same_enter : (k l : Stage) (m n : ℕ) → ◌≡◌ {A = Option (Stage × ℕ)} (Some (k, m)) (Some (l, n)) → Enter k m ≡ Enter l n
 same_enter k l m n is =

@@ -1,13 +1,6 @@
 -- One happening more is said, or all is taken.
-use Rattle.std.proofs.Common.{◌≡◌, refl, ℕ, Bool, true, false, cond, List, [], ◌∷◌, ◌++◌, reverse, Option, Some, None, sym, ap, ◌∙◌, subst, append_assoc}
-use Rattle.trace_events.specs.Event.{Event}
-use Rattle.trace_verdict.proofs.Judging.{past_push}
-use Rattle.trace_view.specs.Viewing.{Viewed}
-use Rattle.trace_view.specs.Views.{TextState, ViewGoesOn, IsAt}
-use Rattle.trace_view.proofs.SeenTexts.{seen_at}
-use Rattle.initview_lines.specs.declared.lines.Line.{Line}
-use Rattle.initview_lines.specs.Happenings.{follow_in, happening_lines}
-use Rattle.initview_lines.specs.Following.{IsSaying, HasSaid, SaysOn}
+use Rattle.initview_lines.proofs.CommonWords.{◌≡◌, refl, ℕ, Bool, true, false, cond, List, [], ◌∷◌, ◌++◌, reverse, Option, Some, None, sym, ap, ◌∙◌, subst, Event, past_push, Viewed, TextState, ViewGoesOn, IsAt, seen_at, Line, follow_in, happening_lines, IsSaying, HasSaid, SaysOn}
+use Rattle.std.proofs.Common.{append_assoc}
 
 pub some_said : (next : Option Event) (h : Event) (old new : TextState) (said before after : List Line) (text : List ℕ) → next ≡ Some h → ((trace : List Event) → ViewGoesOn next old new trace text) → ((past : List Event) → Viewed new.viewing (h ∷ past) → after ≡ before ++ happening_lines h past) → IsSaying old (said ++ before) text → IsSaying new (said ++ after) text
 some_said next h old new said before after text is goes lines at =

@@ -1,3 +1,4 @@
+pub mod CommonWords
 pub mod Entering
 pub mod Follows
 pub mod Parts

@@ -1,24 +1,13 @@
 -- A text that begins within a run: one happening more, and a piece more.
-use Rattle.std.proofs.Common.{◌≡◌, refl, sym, ap, ◌∙◌, ℕ, ◌+◌, ◌^◌, ◌<◌, ◌≤◌, Bool, true, false, List, [], ◌∷◌, ◌++◌, length, reverse, append-nil, append_assoc, Option, Some, None, arith}
-use Rattle.std.specs.Option.{option_map}
+use Rattle.initview_lines.proofs.CommonWords.{◌≡◌, refl, sym, ap, ◌∙◌, ℕ, ◌+◌, ◌^◌, ◌<◌, ◌≤◌, Bool, true, false, List, [], ◌∷◌, ◌++◌, length, reverse, Option, Some, None, arith, option_map, Event, time_of, BeginsNever, line_left, Reading, capped, ReadsNext, capped_is, lines_push, lines_within, past_push, ViewEnd, ShownBy, StopsAt, left_of, stops_more, Line, line_at, news_of, HasTold, IsReadOf, IsTelling, IsToldOf, PartState, ReadBy, TakenBy, TellsOn, part_in}
+use Rattle.std.proofs.Common.{append-nil, append_assoc}
 use Rattle.text_lines.specs.Lines.{newlines}
-use Rattle.trace_events.specs.Event.{Event}
-use Rattle.trace_events.specs.Past.{time_of}
 use Rattle.trace_text.specs.Lines.{event_text, trace_text}
 use Rattle.trace_text.specs.Texts.{line_count}
 use Rattle.trace_text.proofs.ReadTexts.{trace_text-push, are_in_range-push}
-use Rattle.trace_verdict.specs.Fronts.{BeginsNever, is_open, line_left}
-use Rattle.trace_verdict.specs.Readers.{Reading, capped, ReadsNext}
-use Rattle.trace_verdict.proofs.Judging.{capped_is, lines_push, lines_within, past_push}
+use Rattle.trace_verdict.specs.Fronts.{is_open}
 use Rattle.trace_verdict.proofs.Fronts.{never_some}
-use Rattle.trace_view.specs.declared.text_views.ViewEnd.{ViewEnd}
 use Rattle.trace_view.specs.declared.text_views.ViewEnd.TheVariants.{Torn}
-use Rattle.trace_view.specs.Shown.{ShownBy, StopsAt}
-use Rattle.trace_view.specs.Views.{left_of}
-use Rattle.trace_view.proofs.SeenTexts.{stops_more}
-use Rattle.initview_lines.specs.declared.lines.Line.{Line}
-use Rattle.initview_lines.specs.Happenings.{line_at, news_of}
-use Rattle.initview_lines.specs.Parts.{HasTold, IsReadOf, IsTelling, IsToldOf, PartState, ReadBy, TakenBy, TellsOn, part_in}
 
 -- the number of the line of what is not read
 line_next : (reading : Reading) (trace : List Event) (text : List ℕ) → length text < 2 ^ 64 → IsReadOf reading trace text → 1 ≤ length reading.over → capped (reading.lines + 1) ≡ newlines (trace_text trace) + 1

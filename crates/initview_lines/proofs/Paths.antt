@@ -1,15 +1,9 @@
 -- Stages on the way to a level, and paths one behind the other.
-use Rattle.std.proofs.Common.{◌≡◌, refl, sym, ◌∙◌, ap, ℕ, Bool, true, false, cond, List, [], ◌∷◌, ◌++◌, filter, Option, Some, None}
+use Rattle.initview_lines.proofs.CommonWords.{◌≡◌, refl, sym, ◌∙◌, ap, ℕ, Bool, true, false, cond, List, [], ◌∷◌, ◌++◌, filter, Option, Some, None, Entry, Level, Sysinit, Boot, Run, boot_before, is_on_path, path_along, stages_to, critical_path, Line, last_of, path_in, path_line, path_lines, stage_lines, stages_lines}
 use Rattle.std.proofs.lemmas.List.{append-nil, append_assoc}
-use Rattle.init_words.specs.declared.entries.Entry.{Entry}
-use Rattle.init_words.specs.declared.levels.Level.{Level}
 use Rattle.init_words.specs.declared.levels.Level.TheVariants.{S}
-use Rattle.init_words.specs.declared.stages.Stage.TheVariants.{Sysinit, Boot, Run}
 use Rattle.init_words.specs.Levels.{same_level}
-use Rattle.trace_laws.specs.Plans.{boot_before, is_on_path, path_along, stages_to, critical_path}
-use Rattle.initview_lines.specs.declared.lines.Line.{Line}
 use Rattle.initview_lines.specs.declared.lines.Line.TheVariants as line
-use Rattle.initview_lines.specs.Plans.{last_of, path_in, path_line, path_lines, stage_lines, stages_lines}
 
 pub three_lines : (text first second third one two three : List Line) → one ≡ text ++ first → two ≡ one ++ second → three ≡ two ++ third → three ≡ text ++ (first ++ (second ++ third))
 three_lines text first second third one two three is so then =

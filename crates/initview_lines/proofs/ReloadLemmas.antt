@@ -1,20 +1,11 @@
 -- What becomes of an id behind a reading of inittab, by what a view says of it.
-use Rattle.std.proofs.Common.{◌≡◌, refl, sym, ◌∙◌, ap, ℕ, Bool, false, List, cond, Option, Some, None}
-use Rattle.std.specs.Option.{option_map, option_map_or}
-use Rattle.init_words.specs.declared.entries.Entry.{Entry}
-use Rattle.inittab_text.specs.Tables.{entry_of, act_of}
-use Rattle.trace_events.specs.Event.{Event}
-use Rattle.trace_events.specs.Past.{table_of, Child}
+use Rattle.initview_lines.proofs.CommonWords.{◌≡◌, refl, sym, ◌∙◌, ap, ℕ, Bool, false, List, cond, Option, Some, None, option_map, option_map_or, Entry, entry_of, act_of, Event, table_of, Child, Row, row_of, same_process, idle_entry, idle_change, stopped_change, kept_change, change_by, line_now}
 use Rattle.trace_events.specs.Wanted.{is_excluded}
 use Rattle.trace_check.specs.Reading.{child_of}
-use Rattle.trace_view.specs.declared.rows.Row.{Row}
-use Rattle.trace_view.specs.Rows.{row_of}
 use Rattle.trace_view.specs.Why.{number_of}
 use Rattle.initview_lines.specs.declared.changes.Change.{Change}
 use Rattle.initview_lines.specs.declared.changes.Change.TheVariants.{NotHere}
 use Rattle.initview_lines.specs.declared.lines.Line.TheVariants as line
-use Rattle.initview_lines.specs.Changes.{same_process}
-use Rattle.initview_lines.specs.Reloads.{idle_entry, idle_change, stopped_change, kept_change, change_by, line_now}
 
 -- an entry that is found
 pub idle_found : (id : List ℕ) (past : List Event) (o : Option Entry) → entry_of id (table_of past) ≡ o → option_map_or (idle_entry past) o NotHere ≡ idle_change past id

@@ -1,15 +1,5 @@
 -- What is said of a text that was taken, and of one that goes on behind the line at which the view stopped.
-use Rattle.std.proofs.Common.{◌≡◌, refl, ℕ, ◌^◌, ◌<◌, true, is_some, List, ◌++◌, length, Option, Some, None}
-use Rattle.std.specs.Option.{option_map}
-use Rattle.trace_events.specs.Event.{Event}
-use Rattle.trace_verdict.specs.Fronts.{line_left}
-use Rattle.trace_verdict.specs.Readers.{capped}
-use Rattle.trace_view.specs.declared.text_views.ViewEnd.{ViewEnd}
-use Rattle.trace_view.specs.Shown.{IsShown}
-use Rattle.trace_view.specs.Views.{TextState, left_of}
-use Rattle.trace_view.proofs.SeenTexts.{shown, stops_more}
-use Rattle.initview_lines.specs.declared.lines.Line.{Line}
-use Rattle.initview_lines.specs.Following.{HasSaid, IsSaidOf}
+use Rattle.initview_lines.proofs.CommonWords.{◌≡◌, refl, ℕ, ◌^◌, ◌<◌, true, is_some, List, ◌++◌, length, Option, Some, None, option_map, Event, line_left, capped, ViewEnd, IsShown, TextState, left_of, shown, stops_more, Line, HasSaid, IsSaidOf}
 
 -- the lines of a view that has taken the text are said of it
 pub said_of : (state : TextState) (said : List Line) (text : List ℕ) → length text < 2 ^ 64 → HasSaid state said text → (stop : Option ViewEnd) × (left : Option ℕ) × IsSaidOf text stop left said

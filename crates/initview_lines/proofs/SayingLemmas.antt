@@ -1,6 +1,6 @@
 -- What is said, one after the other.
-use Rattle.std.proofs.Common.{◌≡◌, refl, sym, ap, ◌∙◌, List, [], ◌++◌, append-nil, append_assoc, Option, Some, None}
-use Rattle.initview_lines.specs.declared.lines.Line.{Line}
+use Rattle.initview_lines.proofs.CommonWords.{◌≡◌, refl, sym, ap, ◌∙◌, List, [], ◌++◌, Option, Some, None, Line}
+use Rattle.std.proofs.Common.{append-nil, append_assoc}
 use Rattle.initview_lines.specs.Saying.{Heard, Says, SaysFront, SaysNothing}
 
 pub says_nothing : (a : Heard) → SaysNothing a a

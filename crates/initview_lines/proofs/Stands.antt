@@ -1,16 +1,7 @@
 -- What a view says of a past.
-use Rattle.std.proofs.Common.{◌≡◌, refl, ap, ◌∙◌, ℕ, Bool, List, [], ◌∷◌, ◌++◌, Option}
+use Rattle.initview_lines.proofs.CommonWords.{◌≡◌, refl, ap, ◌∙◌, ℕ, Bool, List, [], ◌∷◌, ◌++◌, Option, Level, Stage, Event, stage_of, grace_of, time_of, Row, row_of, is_settled_now, asked_level, first_wish, Line, head_of, id_row, row_by}
 use Rattle.std.proofs.lemmas.List.{append_assoc}
-use Rattle.init_words.specs.declared.levels.Level.{Level}
-use Rattle.init_words.specs.declared.stages.Stage.{Stage}
-use Rattle.trace_events.specs.Event.{Event}
-use Rattle.trace_events.specs.Past.{stage_of, grace_of, time_of}
-use Rattle.trace_view.specs.declared.rows.Row.{Row}
 use Rattle.trace_view.specs.declared.wishes.Wish.{Wish}
-use Rattle.trace_view.specs.Rows.{row_of, is_settled_now}
-use Rattle.trace_view.specs.Wishes.{asked_level, first_wish}
-use Rattle.initview_lines.specs.declared.lines.Line.{Line}
-use Rattle.initview_lines.specs.Rows.{head_of, id_row, row_by}
 
 -- a line, and two lists of lines behind it
 pub whole : (head : Line) (entries ids zero one two three : List Line) → zero ≡ [] → one ≡ zero ++ head ∷ [] → two ≡ one ++ entries → three ≡ two ++ ids → three ≡ head ∷ (entries ++ ids)

@@ -3,16 +3,11 @@ use Rattle.std.specs.Prelude.{ℕ, Bool, false, ◌&&◌, if◌then◌else◌, L
 use Rattle.std.specs.List.{list_any}
 use Rattle.std.specs.Option.{option_map}
 use Rattle.std.specs.Str.{bytes_eq}
-use Rattle.init_words.specs.declared.actions.Act.{Act}
-use Rattle.init_words.specs.declared.entries.Entry.{Entry}
-use Rattle.init_words.specs.declared.levels.Level.{Level}
+use Rattle.initview_lines.specs.CommonWords.{Act, Entry, Level, entry_of, may_live, is_started, stages_to}
 use Rattle.init_words.specs.declared.stages.Stage.TheVariants.{Run}
 use Rattle.init_words.specs.Entries.{lives_of}
-use Rattle.inittab_text.specs.Tables.{entry_of}
-use Rattle.trace_events.specs.Wanted.{may_live}
 use Rattle.initview_lines.specs.declared.changes.Change.{Change}
 use Rattle.initview_lines.specs.declared.changes.Change.TheVariants.{Keep, NextStart, Stop, StopStart, Start, NotAgain, NotHere}
-use Rattle.trace_laws.specs.Plans.{is_started, stages_to}
 use Rattle.initview_lines.specs.declared.lines.Line.{Line}
 use Rattle.initview_lines.specs.declared.lines.Line.TheVariants as line
 

@@ -1,10 +1,7 @@
 -- What is said of a text that comes in pieces, by a view of it.
 use Rattle.std.specs.Prelude.{◌≡◌, ℕ, Bool, true, false, List, reverse, Option, None}
-use Rattle.trace_events.specs.Event.{Event}
+use Rattle.initview_lines.specs.CommonWords.{Event, ViewEnd, IsShown, TextState, HasShown, IsAt}
 use Rattle.trace_events.specs.Lawful.{first_breach}
-use Rattle.trace_view.specs.declared.text_views.ViewEnd.{ViewEnd}
-use Rattle.trace_view.specs.Shown.{IsShown}
-use Rattle.trace_view.specs.Views.{TextState, HasShown, IsAt}
 use Rattle.initview_lines.specs.declared.lines.Line.{Line}
 use Rattle.initview_lines.specs.Happenings.{follow_in}
 

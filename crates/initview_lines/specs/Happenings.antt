@@ -1,11 +1,7 @@
 -- What an operator is told of the happenings of a trace, as they come.
 use Rattle.std.specs.Prelude.{ℕ, List, [], ◌∷◌, ◌++◌, length, Option, Some, None}
 use Rattle.std.specs.Option.{option_map}
-use Rattle.trace_events.specs.declared.happenings.Happening.TheVariants.{NewTable, NotRead, Enter, Call, Power, Hold, Settle, Birth, NoBirth, Reaped, NoLook, Hit, Miss, Got, Handed}
-use Rattle.trace_events.specs.Event.{Event}
-use Rattle.trace_events.specs.Past.{open_of, time_of}
-use Rattle.trace_check.specs.Reading.{child_of}
-use Rattle.trace_view.specs.Why.{number_of}
+use Rattle.initview_lines.specs.CommonWords.{NewTable, NotRead, Enter, Call, Power, Hold, Settle, Birth, NoBirth, Reaped, NoLook, Hit, Miss, Got, Handed, Event, open_of, time_of, child_of, number_of}
 use Rattle.initview_lines.specs.declared.happenings.News.{News}
 use Rattle.initview_lines.specs.declared.happenings.News.TheVariants as news
 use Rattle.initview_lines.specs.declared.lines.Line.{Line}

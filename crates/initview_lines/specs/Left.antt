@@ -1,12 +1,8 @@
 -- What a run leaves: the children that were born and not reaped, and the entries whose start is open.
 use Rattle.std.specs.Prelude.{Bool, true, false, List, ◌++◌, filter, map, ℕ, Option, Some, None}
-use Rattle.init_words.specs.declared.entries.Entry.{Entry}
+use Rattle.initview_lines.specs.CommonWords.{Entry, Event, Child, table_of, unreaped_children, Row, row_of}
 use Rattle.init_words.specs.declared.orders.OrderKind.{OrderKind}
 use Rattle.init_words.specs.declared.orders.OrderKind.TheVariants.{Start}
-use Rattle.trace_events.specs.Event.{Event}
-use Rattle.trace_events.specs.Past.{Child, table_of, unreaped_children}
-use Rattle.trace_view.specs.declared.rows.Row.{Row}
-use Rattle.trace_view.specs.Rows.{row_of}
 use Rattle.initview_lines.specs.declared.lines.Line.{Line}
 use Rattle.initview_lines.specs.declared.lines.Line.TheVariants as line
 use Rattle.initview_lines.specs.declared.lines.RowFormat.{RowFormat}

@@ -1,4 +1,5 @@
 pub mod Changes
+pub mod CommonWords
 pub mod Following
 pub mod Happenings
 pub mod Json

@@ -2,14 +2,10 @@
 -- that the text has had. None is judged.
 use Rattle.std.specs.Prelude.{◌≡◌, ℕ, Bool, true, false, List, [], ◌∷◌, ◌++◌, reverse, Option, Some, None}
 use Rattle.text_lines.specs.Lines.{newlines}
-use Rattle.trace_events.specs.Event.{Event}
-use Rattle.trace_events.specs.Past.{time_of}
+use Rattle.initview_lines.specs.CommonWords.{Event, time_of, Reading, ViewEnd, ShownBy, StopsAt}
 use Rattle.trace_events.specs.Range.{are_in_range}
 use Rattle.trace_text.specs.Lines.{trace_text}
 use Rattle.trace_verdict.specs.Fronts.{is_open}
-use Rattle.trace_verdict.specs.Readers.{Reading}
-use Rattle.trace_view.specs.declared.text_views.ViewEnd.{ViewEnd}
-use Rattle.trace_view.specs.Shown.{ShownBy, StopsAt}
 use Rattle.initview_lines.specs.declared.lines.Line.{Line}
 use Rattle.initview_lines.specs.Happenings.{line_at, news_of}
 

@@ -1,10 +1,6 @@
 -- Which entries init starts of itself on its way to a level, in their order, and its critical path (inittab(5), init(8)).
 use Rattle.std.specs.Prelude.{ℕ, List, [], ◌∷◌, ◌++◌, map, Option, Some, None}
-use Rattle.init_words.specs.declared.entries.Entry.{Entry}
-use Rattle.init_words.specs.declared.levels.Level.{Level}
-use Rattle.init_words.specs.declared.stages.Stage.{Stage}
-use Rattle.init_words.specs.Entries.{waited_of}
-use Rattle.trace_laws.specs.Plans.{critical_path, started_in, stages_to}
+use Rattle.initview_lines.specs.CommonWords.{Entry, Level, Stage, waited_of, critical_path, started_in, stages_to}
 use Rattle.initview_lines.specs.declared.lines.Line.{Line}
 use Rattle.initview_lines.specs.declared.lines.Line.TheVariants as line
 

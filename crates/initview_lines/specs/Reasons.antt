@@ -1,12 +1,8 @@
 -- Why an id isn't started next, and what to do.
 use Rattle.std.specs.Prelude.{ℕ, if◌then◌else◌, List, [], ◌∷◌, ◌++◌, Option, None}
 use Rattle.init_words.specs.Ids.{same_id}
-use Rattle.trace_events.specs.Event.{Event}
-use Rattle.trace_events.specs.Past.{stage_of}
-use Rattle.trace_view.specs.declared.whys.Why.{Why}
+use Rattle.initview_lines.specs.CommonWords.{Event, stage_of, Why, line_at_fault, row_of}
 use Rattle.trace_view.specs.declared.whys.Why.TheVariants as why
-use Rattle.trace_view.specs.LastLines.{line_at_fault}
-use Rattle.trace_view.specs.Rows.{row_of}
 use Rattle.trace_view.specs.Why.{why as why_of}
 use Rattle.initview_lines.specs.declared.lines.Line.{Line}
 use Rattle.initview_lines.specs.declared.lines.Line.TheVariants as line

@@ -1,21 +1,9 @@
 -- What becomes of each id where init, as a past left it, reads another inittab now (inittab(5), init(8), telinit(8)).
 use Rattle.std.specs.Prelude.{ℕ, Bool, true, false, not, ◌&&◌, ◌||◌, if◌then◌else◌, List, ◌∷◌, ◌++◌, filter, map, Option, Some, None, is_none}
 use Rattle.std.specs.Option.{option_map, option_map_or}
-use Rattle.init_words.specs.declared.actions.Act.{Act}
-use Rattle.init_words.specs.declared.entries.Entry.{Entry}
-use Rattle.init_words.specs.declared.levels.Level.{Level}
-use Rattle.init_words.specs.declared.stages.Stage.{Stage}
+use Rattle.initview_lines.specs.CommonWords.{Act, Entry, Level, Stage, entry_of, act_of, NewTable, Enter, Got, Event, table_of, stage_of, grace_of, Child, unreaped_children, starts_now, is_asked, is_excluded, child_of, gone_ids, number_of, next_stage}
 use Rattle.initctl_frame.specs.declared.requests.HeardRequest.TheVariants as got
 use Rattle.init_words.specs.Actions.{is_limited, wanted_by}
-use Rattle.inittab_text.specs.Tables.{entry_of, act_of}
-use Rattle.trace_events.specs.declared.happenings.Happening.TheVariants.{NewTable, Enter, Got}
-use Rattle.trace_events.specs.Event.{Event}
-use Rattle.trace_events.specs.Past.{table_of, stage_of, grace_of, Child, unreaped_children}
-use Rattle.trace_events.specs.Wanted.{starts_now, is_asked, is_excluded}
-use Rattle.trace_check.specs.Reading.{child_of}
-use Rattle.trace_view.specs.Rows.{gone_ids}
-use Rattle.trace_view.specs.Why.{number_of}
-use Rattle.trace_view.specs.Wishes.{next_stage}
 use Rattle.initview_lines.specs.declared.changes.Change.{Change}
 use Rattle.initview_lines.specs.declared.changes.Change.TheVariants.{Keep, NextStart, Stop, StopStart, Start, NotAgain, NotHere}
 use Rattle.initview_lines.specs.declared.lines.Line.{Line}

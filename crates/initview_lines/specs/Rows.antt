@@ -2,16 +2,9 @@
 use Rattle.std.specs.Prelude.{ℕ, ◌-◌, List, ◌∷◌, ◌++◌, map, Option, Some, None}
 use Rattle.std.specs.Option.{option_map}
 use Rattle.respawn_limit.specs.declared.TheConstants.{HOLD}
-use Rattle.init_words.specs.declared.entries.Entry.{Entry}
-use Rattle.trace_events.specs.Event.{Event}
-use Rattle.trace_events.specs.Past.{table_of, stage_of, grace_of, time_of, unreaped_children}
+use Rattle.initview_lines.specs.CommonWords.{Entry, Event, table_of, stage_of, grace_of, time_of, unreaped_children, Ending, Row, Why, row_of, gone_ids, is_settled_now, asked_level, first_wish}
 use Rattle.trace_view.specs.declared.rows.Births.{Births}
-use Rattle.trace_view.specs.declared.rows.Ending.{Ending}
-use Rattle.trace_view.specs.declared.rows.Row.{Row}
-use Rattle.trace_view.specs.declared.whys.Why.{Why}
 use Rattle.trace_view.specs.declared.whys.Why.TheVariants as why
-use Rattle.trace_view.specs.Rows.{row_of, gone_ids, is_settled_now}
-use Rattle.trace_view.specs.Wishes.{asked_level, first_wish}
 use Rattle.initview_lines.specs.declared.lines.Head.{Head}
 use Rattle.initview_lines.specs.declared.lines.IdRow.{IdRow}
 use Rattle.initview_lines.specs.declared.lines.Line.{Line}

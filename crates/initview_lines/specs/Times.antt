@@ -1,9 +1,6 @@
 -- How long what init waits for took in a trace, on the critical path to a level: each from its first birth to its end.
 use Rattle.std.specs.Prelude.{ℕ, ◌-◌, ◌&&◌, ◌==◌, max, nat_lt, if◌then◌else◌, List, [], ◌∷◌, ◌++◌, map, Option, Some, None}
-use Rattle.init_words.specs.declared.entries.Entry.{Entry}
-use Rattle.init_words.specs.declared.levels.Level.{Level}
-use Rattle.trace_laws.specs.Plans.{critical_path}
-use Rattle.trace_view.specs.declared.rows.Ending.{Ending}
+use Rattle.initview_lines.specs.CommonWords.{Entry, Level, critical_path, Ending}
 use Rattle.initview_lines.specs.declared.lines.Line.{Line}
 use Rattle.initview_lines.specs.declared.lines.Line.TheVariants as line
 use Rattle.initview_timeline.specs.declared.lives.Life.{Life}

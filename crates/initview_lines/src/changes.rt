@@ -1,9 +1,8 @@
 //! What becomes of the entries of an inittab in a level, where init reads another one in its place.
 
 ghost use Rattle.std.specs.Prelude.{◌≡◌, ◌++◌, Some, filter, map, option_copied, IfOk, OnOk};
-ghost use Rattle.trace_events.specs.Wanted.{may_live};
+ghost use Rattle.initview_lines.specs.CommonWords.{may_live, is_started, stages_to};
 ghost use Rattle.std.specs.List.{list_any};
-ghost use Rattle.trace_laws.specs.Plans.{is_started, stages_to};
 ghost use Rattle.initview_lines.specs.Changes.{act_there, change_in, change_line, changes_in, entry_change, is_gone, is_there, same_process, starts_there};
 
 use crate::lines::Line;

@@ -1,8 +1,7 @@
 //! What an operator is told of happenings.
 
 ghost use Rattle.std.specs.Prelude.{◌≡◌, [], ◌∷◌, ◌++◌, List, OnOk};
-ghost use Rattle.trace_events.specs.Event.{Event};
-ghost use Rattle.trace_view.specs.Viewing.{Viewed};
+ghost use Rattle.initview_lines.specs.CommonWords.{Event, Viewed};
 ghost use Rattle.initview_lines.specs.Happenings.{happening_lines, news_of};
 
 use crate::lines::Line;

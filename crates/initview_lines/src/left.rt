@@ -1,8 +1,7 @@
 //! What a run leaves: the children that were born and not reaped, and the entries whose start is open.
 
 ghost use Rattle.std.specs.Prelude.{◌≡◌, ◌++◌, List, filter, map, IfOk, OnOk};
-ghost use Rattle.trace_events.specs.Event.{Event};
-ghost use Rattle.trace_view.specs.Viewing.{Viewed};
+ghost use Rattle.initview_lines.specs.CommonWords.{Event, Viewed};
 ghost use Rattle.initview_lines.specs.Left.{child_line, is_open, is_starting, left_in, start_line};
 
 use crate::lines::{Line, RowFormat};

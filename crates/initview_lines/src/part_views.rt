@@ -2,11 +2,7 @@
 //! from before it, so that nothing is judged.
 
 ghost use Rattle.std.specs.Prelude.{◌≡◌, ◌^◌, ◌<◌, ◌∷◌, ◌++◌, [], List, ℕ, length, true, option_map, IfOk, OnOk};
-ghost use Rattle.trace_events.specs.Event.{Event};
-ghost use Rattle.trace_events.specs.Past.{time_of};
-ghost use Rattle.trace_verdict.specs.Fronts.{line_left};
-ghost use Rattle.trace_verdict.specs.Readers.{capped};
-ghost use Rattle.trace_view.specs.Views.{left_of};
+ghost use Rattle.initview_lines.specs.CommonWords.{Event, time_of, line_left, capped, left_of};
 ghost use Rattle.initview_lines.specs.Happenings.{line_at, news_of};
 ghost use Rattle.initview_lines.specs.Parts.{HasTold, IsTelling, IsToldOf, TellsOn};
 ghost use Rattle.initview_lines.specs.declared.lines.Line.{Line};

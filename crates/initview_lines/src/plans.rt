@@ -1,7 +1,7 @@
 //! Which entries init starts of itself on its way to a level, and its critical path.
 
 ghost use Rattle.std.specs.Prelude.{◌≡◌, ◌++◌, filter, map, IfOk, OnOk};
-ghost use Rattle.trace_laws.specs.Plans.{boot_before, critical_path, is_on_path, path_along, started_in, stages_to};
+ghost use Rattle.initview_lines.specs.CommonWords.{boot_before, critical_path, is_on_path, path_along, started_in, stages_to};
 ghost use Rattle.initview_lines.specs.Plans.{last_of, path_in, path_lines, plan_in, stage_lines, stages_lines, start_line};
 
 use crate::changes::is_started;

@@ -1,9 +1,7 @@
 //! Why an id isn't started next, and what to do.
 
 ghost use Rattle.std.specs.Prelude.{◌≡◌, List, IfOk};
-ghost use Rattle.trace_events.specs.Event.{Event};
-ghost use Rattle.trace_view.specs.LastLines.{Lined};
-ghost use Rattle.trace_view.specs.Viewing.{Viewed};
+ghost use Rattle.initview_lines.specs.CommonWords.{Event, Lined, Viewed};
 ghost use Rattle.initview_lines.specs.Reasons.{advice_line, chain_of, fault_line, link_of, reason_line, root_of, stopped_of, why_in};
 
 use crate::lines::{Line, Reason};

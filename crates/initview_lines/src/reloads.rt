@@ -1,18 +1,11 @@
 //! What becomes of each id where init, as a trace left it, reads another inittab now.
 
 ghost use Rattle.std.specs.Prelude.{◌≡◌, ◌++◌, ℕ, IsTrue, List, Option, Some, false, filter, map, option_copied, IfOk, OnOk};
-ghost use Rattle.init_words.specs.declared.entries.Entry.{Entry};
-ghost use Rattle.trace_events.specs.Event.{Event};
-ghost use Rattle.trace_events.specs.Past.{is_quiet, stage_of, table_of};
+ghost use Rattle.initview_lines.specs.CommonWords.{Entry, Event, is_quiet, stage_of, table_of, Level, Stage, entry_of, Viewed, next_stage};
 ghost use Rattle.trace_events.specs.declared.steps.Goal.{Goal};
 ghost use Rattle.trace_events.specs.declared.steps.Step.TheVariants as step;
 ghost use Rattle.trace_events.specs.Due.{due, first};
 ghost use Rattle.trace_events.specs.Wishes.{wants_reexec};
-ghost use Rattle.init_words.specs.declared.levels.Level.{Level};
-ghost use Rattle.init_words.specs.declared.stages.Stage.{Stage};
-ghost use Rattle.inittab_text.specs.Tables.{entry_of};
-ghost use Rattle.trace_view.specs.Viewing.{Viewed};
-ghost use Rattle.trace_view.specs.Wishes.{next_stage};
 ghost use Rattle.initview_lines.specs.Changes.{is_gone};
 ghost use Rattle.initview_lines.specs.Reloads.{change_by, entry_now, idle_by, idle_change, idle_entry, is_new, kept_change, line_now, read_again, reload_in, stopped_change};
 

@@ -1,8 +1,7 @@
 //! How init and its entries stand.
 
 ghost use Rattle.std.specs.Prelude.{◌≡◌, ◌++◌, ◌∷◌, [], List, map, IfOk, OnOk};
-ghost use Rattle.trace_events.specs.Event.{Event};
-ghost use Rattle.trace_view.specs.Viewing.{Viewed};
+ghost use Rattle.initview_lines.specs.CommonWords.{Event, Viewed};
 ghost use Rattle.initview_lines.specs.Rows.{ended_at, entry_row, head_of, held_at, id_row, row_at, row_by, runs_at, status_in, stopping_at};
 
 use crate::lines::{Head, IdRow, Line, RowFormat, Stopping};

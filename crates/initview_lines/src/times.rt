@@ -1,7 +1,7 @@
 //! How long what init waits for on its way to a level took in a trace.
 
 ghost use Rattle.std.specs.Prelude.{◌≡◌, ◌∷◌, ◌++◌, [], filter, map, IfOk, OnOk};
-ghost use Rattle.trace_laws.specs.Plans.{boot_before, critical_path, is_on_path, path_along};
+ghost use Rattle.initview_lines.specs.CommonWords.{boot_before, critical_path, is_on_path, path_along};
 ghost use Rattle.initview_lines.specs.Times.{end_took, first_of, longest_from, seconds_of, seconds_to, sum_from, time_line, timed_of, times_by, times_in, took_of};
 
 use crate::lines::Line;

@@ -1,9 +1,6 @@
 -- Walks among places, and the cycle that a long one holds.
-use Rattle.std.proofs.Common.{◌≡◌, ℕ, zero, suc, ◌+◌, ◌-◌, ◌<◌, ◌≤◌, Bool, true, false, cond, ◌==◌, ◌&&◌, List, [], ◌∷◌, ◌++◌, length, get_or, take, drop, set, replicate, refl, sym, ap, ◌∙◌, subst, arith, append-nil, inl, inr}
-use Rattle.std.proofs.lemmas.Bool.{and_parts, eqb-true, eq-eqb, true≢false}
+use Rattle.rc_numbers.proofs.Words.{◌≡◌, ℕ, zero, suc, ◌+◌, ◌-◌, ◌<◌, ◌≤◌, Bool, true, false, cond, ◌==◌, ◌&&◌, List, [], ◌∷◌, ◌++◌, length, get_or, take, drop, set, replicate, refl, sym, ap, ◌∙◌, subst, arith, append-nil, inl, inr, and_parts, eqb-true, eq-eqb, true≢false, AllBelow, Earliest, IsCycle, IsNumbering, IsRing, Needs, Walk, IsStuck, need_from}
 use Rattle.rc_numbers.proofs.PassLemmas.{get_or-zeros}
-use Rattle.rc_numbers.specs.Numbering.{AllBelow, Earliest, IsCycle, IsNumbering, IsRing, Needs, Walk}
-use Rattle.rc_numbers.specs.Passes.{IsStuck, need_from}
 
 -- each place of a path leads on to a place
 abbrev pub Trail : List (ℕ × ℕ) → List ℕ → ℕ → Type 0

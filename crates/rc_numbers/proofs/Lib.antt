@@ -1,3 +1,4 @@
 pub mod CycleLemmas
 pub mod PassLemmas
 pub mod StepLemmas
+pub mod Words

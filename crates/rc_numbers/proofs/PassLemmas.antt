@@ -1,10 +1,6 @@
 -- The passes that give numbers: what a height says of the needs, and how many places are left.
-use Rattle.std.proofs.Common.{◌≡◌, ◌⊎◌, ℕ, zero, suc, ◌+◌, ◌-◌, ◌<◌, ◌≤◌, Bool, true, false, cond, ◌==◌, ◌||◌, max, List, [], ◌∷◌, length, get_or, drop, set, replicate, refl, sym, ap, ◌∙◌, subst, arith, inl, inr}
-use Rattle.std.specs.Str.{bytes_eq}
+use Rattle.rc_numbers.proofs.Words.{◌≡◌, ◌⊎◌, ℕ, zero, suc, ◌+◌, ◌-◌, ◌<◌, ◌≤◌, Bool, true, false, cond, ◌==◌, ◌||◌, max, List, [], ◌∷◌, length, get_or, drop, set, replicate, refl, sym, ap, ◌∙◌, subst, arith, inl, inr, bytes_eq, false_from_ne_true, true≢false, eqb-true, eq-eqb, InRange, IsLeast, IsNumbering, Needs, AreHeights, IsPartial, IsStuck, height_from, raised, settled, zeros}
 use Rattle.std.proofs.lemmas.Slice.Eq.{bytes_eq-Decides}
-use Rattle.std.proofs.lemmas.Bool.{false_from_ne_true, true≢false, eqb-true, eq-eqb}
-use Rattle.rc_numbers.specs.Numbering.{InRange, IsLeast, IsNumbering, Needs}
-use Rattle.rc_numbers.specs.Passes.{AreHeights, IsPartial, IsStuck, height_from, raised, settled, zeros}
 
 -- a number that is not 0
 pub not_zero : (n : ℕ) → 0 < n → (n == 0) ≡ false

@@ -1,13 +1,10 @@
 -- Needs in another order, and the steps along which a search leads.
-use Rattle.std.proofs.Common.{◌≡◌, ℕ, zero, suc, ◌+◌, ◌-◌, ◌<◌, Bool, true, false, cond, ◌==◌, List, [], ◌∷◌, ◌++◌, Option, Some, None, is_some, length, get_or, take, drop, set, replicate, refl, sym, ap, ◌∙◌, subst, arith, inl, inr}
+use Rattle.rc_numbers.proofs.Words.{◌≡◌, ℕ, zero, suc, ◌+◌, ◌-◌, ◌<◌, Bool, true, false, cond, ◌==◌, List, [], ◌∷◌, ◌++◌, Option, Some, None, is_some, length, get_or, take, drop, set, replicate, refl, sym, ap, ◌∙◌, subst, arith, inl, inr, true≢false, eqb-true, eq-eqb, take_rest, get_or-drop, AreSteps, InRange, IsRing, Needs, Walk}
 use Rattle.std.specs.List.{All}
 use Rattle.std.specs.List.Sorted.{IsPermutation}
 use Rattle.std.proofs.lemmas.List.Sorted.{All-permutation}
-use Rattle.std.proofs.lemmas.Bool.{true≢false, eqb-true, eq-eqb}
-use Rattle.std.proofs.lemmas.List.{take_rest, get_or-drop}
 use Rattle.rc_numbers.proofs.PassLemmas.{Needs-range}
 use Rattle.rc_numbers.proofs.CycleLemmas.{Trail, Trail-push, Trail-ring}
-use Rattle.rc_numbers.specs.Numbering.{AreSteps, InRange, IsRing, Needs, Walk}
 
 -- each of the needs is one of them
 pub need_at : (edges : List (ℕ × ℕ)) (k : ℕ) (d : ℕ × ℕ) → k < length edges → Needs edges (get_or edges k d).0 (get_or edges k d).1

@@ -1,2 +1,3 @@
 pub mod PastLemmas
 pub mod WindowLemmas
+pub mod Words

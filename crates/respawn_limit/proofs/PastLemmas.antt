@@ -1,16 +1,5 @@
 -- The laws of whole runs.
-use Rattle.std.proofs.Common.{◌≡◌, ℕ, ◌+◌, ◌<◌, ◌≤◌, Bool, true, false, inl, inr, List, [], ◌∷◌, ◌++◌, length, refl, sym, ◌∙◌, ap, arith, nat_le, Option, Some, append_assoc}
-use Rattle.std.specs.Prelude.{All}
-use Rattle.std.specs.List.{list_all}
-use Rattle.std.proofs.lemmas.Bool.{and_parts, cases_lt, le-leb, leb-true}
-use Rattle.std.proofs.lemmas.Bool.Decides.{nat_tests}
-use Rattle.std.proofs.lemmas.List.{append-nil}
-use Rattle.std.proofs.lemmas.List.Elements.{All-nil, All-push, All-weaker}
-use Rattle.std.proofs.lemmas.List.Sums.{sum_by-append, sum_by_push}
-use Rattle.respawn_limit.specs.declared.TheConstants.{HOLD, STARTS, WINDOW}
-use Rattle.respawn_limit.specs.declared.May.TheVariants.{Yes}
-use Rattle.respawn_limit.specs.State.{LimiterState}
-use Rattle.respawn_limit.specs.Window.{is_full, answer, may_of, last_starts, with_start, Remembers}
+use Rattle.respawn_limit.proofs.Words.{◌≡◌, ℕ, ◌+◌, ◌<◌, ◌≤◌, Bool, true, false, inl, inr, List, [], ◌∷◌, ◌++◌, length, refl, sym, ◌∙◌, ap, arith, nat_le, Option, Some, append_assoc, All, list_all, and_parts, cases_lt, le-leb, leb-true, nat_tests, append-nil, All-nil, All-push, All-weaker, sum_by-append, sum_by_push, HOLD, STARTS, WINDOW, Yes, LimiterState, is_full, answer, may_of, last_starts, with_start, Remembers}
 use Rattle.respawn_limit.specs.Past.{Event, Noted, HeldAt, Cleared, times_noted, hold_end, last_reading, is_yes, may_follow, is_run, is_no_clear, StandsAfter, StartsKeepPace, NoStartWhileHeld}
 use Rattle.respawn_limit.proofs.WindowLemmas.{count_all, answer-last_starts, Remembers-push}
 

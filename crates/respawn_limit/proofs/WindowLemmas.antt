@@ -1,16 +1,6 @@
 -- Why ten starts are enough: the window is full by the last ten of the times noted where it is full by all of them.
-use Rattle.std.proofs.Common.{◌≡◌, ℕ, ◌+◌, ◌-◌, ◌<◌, ◌≤◌, Bool, true, false, cond, inl, inr, List, [], ◌∷◌, ◌++◌, length, get_or, take, drop, refl, ◌∙◌, ap, arith, length-append, length-drop, nat_le, Option, Some, None}
-use Rattle.std.specs.Prelude.{All, count_by}
-use Rattle.std.specs.List.{AllPass}
-use Rattle.std.specs.List.Sorted.{IsNonDecreasing}
-use Rattle.std.proofs.lemmas.Bool.{cases_Bool, cases_lt}
-use Rattle.std.proofs.lemmas.Bool.Decides.{nat_tests}
-use Rattle.std.proofs.lemmas.List.{get_or-drop, get_or-take, length-take-le, drop-append-le, drop-drop}
-use Rattle.std.proofs.lemmas.List.Elements.{All-head, All-tail, All-from_get_or}
-use Rattle.std.proofs.lemmas.List.Sums.{sum_by-cons, sum_by-take-drop, count_by-le-length}
+use Rattle.respawn_limit.proofs.Words.{◌≡◌, ℕ, ◌+◌, ◌-◌, ◌<◌, ◌≤◌, Bool, true, false, cond, inl, inr, List, [], ◌∷◌, ◌++◌, length, get_or, take, drop, refl, ◌∙◌, ap, arith, length-append, length-drop, nat_le, Option, Some, None, All, count_by, AllPass, IsNonDecreasing, cases_Bool, cases_lt, nat_tests, get_or-drop, get_or-take, length-take-le, drop-append-le, drop-drop, All-head, All-tail, All-from_get_or, sum_by-cons, sum_by-take-drop, count_by-le-length, STARTS, is_recent, is_full, last_starts, answer, window_answer, Remembers}
 use Rattle.std.proofs.lemmas.List.Sorted.{IsNonDecreasingBy-push, IsNonDecreasingBy-drop}
-use Rattle.respawn_limit.specs.declared.TheConstants.{STARTS}
-use Rattle.respawn_limit.specs.Window.{is_recent, is_full, last_starts, answer, window_answer, Remembers}
 
 -- all pass a test
 pub count_all : (p : ℕ → Bool) (xs : List ℕ) → AllPass p xs → count_by p xs ≡ length xs

@@ -1,6 +1,6 @@
 -- Why a run ended before its script did: what is reported of it, and what it leaves of a text that was being written.
 use Rattle.std.specs.Prelude.{ℕ, List, ◌++◌, codes, decimal, Option}
-use Rattle.program_io.specs.Writing.{AppendsFront, AppendsPrefix}
+use Rattle.simulator.specs.Words.{AppendsFront, AppendsPrefix}
 use Rattle.simulator.specs.declared.running.SimFault.{SimFault}
 use Rattle.simulator.specs.declared.running.SimFault.TheVariants.{Table, Script, Forbidden, Write, Memory}
 

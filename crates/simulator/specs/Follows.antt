@@ -1,9 +1,7 @@
 -- The state says what the trace says.
 use Rattle.std.specs.Prelude.{◌≡◌, ℕ, List, Option, find}
 use Rattle.std.specs.Option.{option_map}
-use Rattle.trace_events.specs.Event.{Event}
-use Rattle.trace_events.specs.Past.{Child, has_number, is_dead, undone_of, unreaped_children}
-use Rattle.trace_events.specs.Answered.{answered_of}
+use Rattle.simulator.specs.Words.{Event, Child, has_number, is_dead, undone_of, unreaped_children, answered_of}
 use Rattle.simulator.specs.declared.simulated.SimulatedChild.{SimulatedChild}
 use Rattle.simulator.specs.State.{SystemState, order_in, answer_in, child_in}
 

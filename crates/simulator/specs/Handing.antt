@@ -1,17 +1,11 @@
 -- Hand-overs of init's state in a run: what init keeps, the text that is made of it, and which may come.
 use Rattle.std.specs.Prelude.{ℕ, Bool, true, ◌&&◌, ◌+◌, ◌-◌, ◌^◌, if◌then◌else◌, nat_le, nat_lt, List, [], ◌∷◌, ◌++◌, get_or, length, take, Option, Some, None}
 use Rattle.initctl_frame.specs.declared.requests.HeardRequest.TheVariants as got
-use Rattle.trace_events.specs.declared.happenings.Happening.TheVariants.{Enter, Got, Handed}
+use Rattle.simulator.specs.Words.{Enter, Got, Goal, Event, stage_of, lasts_of, core_read, state_of, CoreState, wished, after_handed, after_handed_on}
+use Rattle.trace_events.specs.declared.happenings.Happening.TheVariants.{Handed}
 use Rattle.trace_events.specs.declared.happenings.Handed.{Handed as HandOver}
 use Rattle.trace_events.specs.declared.happenings.Handed.TheVariants as handed
-use Rattle.trace_events.specs.declared.steps.Goal.{Goal}
-use Rattle.trace_events.specs.Event.{Event}
-use Rattle.trace_events.specs.Past.{stage_of}
 use Rattle.trace_events.specs.Wishes.{in_run, level_wish}
-use Rattle.core_model.specs.Fit.{lasts_of, core_read}
-use Rattle.core_model.specs.Parts.{state_of}
-use Rattle.core_model.specs.State.{CoreState}
-use Rattle.core_model.specs.Steps.{wished, after_handed, after_handed_on}
 use Rattle.core_text.specs.Lines.{state_text}
 use Rattle.simulator.specs.declared.objections.Objection.{Objection}
 use Rattle.simulator.specs.declared.objections.Objection.TheVariants as objection

@@ -8,3 +8,4 @@ pub mod Simulation
 pub mod State
 pub mod Steps
 pub mod Texts
+pub mod Words

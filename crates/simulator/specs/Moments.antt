@@ -1,19 +1,8 @@
 -- A moment of a simulated run, and what init's own steps make of it.
 use Rattle.std.specs.Prelude.{◌≡◌, ◌⊎◌, ℕ, Bool, true, false, ◌+◌, List, [], ◌∷◌, ◌++◌, Option}
 use Rattle.std.specs.Io.KnownBytes.{Appends, Keeps}
-use Rattle.trace_events.specs.declared.steps.Goal.{Goal}
-use Rattle.trace_events.specs.Event.{Event}
-use Rattle.inittab_text.specs.Reading.{table_of_text}
-use Rattle.trace_events.specs.declared.happenings.Happening.TheVariants.{NewTable, Handed}
-use Rattle.trace_text.specs.Lines.{event_text}
-use Rattle.trace_events.specs.Range.{are_in_range}
-use Rattle.text_lines.specs.Lines.{newlines}
-use Rattle.trace_events.specs.Due.{due, first}
-use Rattle.trace_events.specs.Run.{is_run, is_rest, is_reread}
-use Rattle.core_records.specs.Lists.{is_quiet}
-use Rattle.core_model.specs.State.{CoreState}
-use Rattle.core_model.specs.Fit.{FitsAll}
-use Rattle.core_text.specs.Range.{has_short_seconds}
+use Rattle.simulator.specs.Words.{Goal, Event, table_of_text, NewTable, event_text, are_in_range, newlines, due, first, is_run, is_rest, is_reread, is_quiet, CoreState, FitsAll, has_short_seconds}
+use Rattle.trace_events.specs.declared.happenings.Happening.TheVariants.{Handed}
 use Rattle.simulator.specs.State.{SystemState}
 use Rattle.simulator.specs.Follows.{Follows}
 use Rattle.simulator.specs.declared.running.SimFault.{SimFault}

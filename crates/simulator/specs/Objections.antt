@@ -1,9 +1,8 @@
 -- Why the state does not allow a happening.
 use Rattle.std.specs.Prelude.{ℕ, Bool, ◌||◌, if◌then◌else◌, List, ◌++◌, codes, decimal, Option, Some, None, is_none, is_some}
 use Rattle.init_words.specs.declared.orders.OrderKind.TheVariants.{Start, Look, Term, Kill}
-use Rattle.trace_events.specs.declared.happenings.Happening.TheVariants.{NewTable, NotRead, Birth, NoBirth, Death, Reaped, Still, NoLook, Hit, Miss, Told, Clock, Nudge, Got, Handed}
-use Rattle.trace_events.specs.Event.{Event}
-use Rattle.trace_events.specs.Wanted.{is_order}
+use Rattle.simulator.specs.Words.{NewTable, NotRead, Birth, NoBirth, Death, Reaped, Still, NoLook, Hit, Miss, Told, Clock, Nudge, Got, Event, is_order}
+use Rattle.trace_events.specs.declared.happenings.Happening.TheVariants.{Handed}
 use Rattle.simulator.specs.declared.objections.Objection.{Objection}
 use Rattle.simulator.specs.declared.objections.Objection.TheVariants as objection
 use Rattle.simulator.specs.State.{SystemState, order_in, answer_in, child_in, is_living_in, is_dead_in}

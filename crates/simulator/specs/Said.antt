@@ -1,12 +1,7 @@
 -- What a script may say where, and what was heard of it.
 use Rattle.std.specs.Prelude.{◌≡◌, ℕ, Bool, true, ◌&&◌, if◌then◌else◌, List, [], ◌∷◌, length, Option, Some}
-use Rattle.init_words.specs.declared.entries.Entry.{Entry}
-use Rattle.trace_events.specs.declared.happenings.Happening.TheVariants.{NewTable, NotRead, Handed}
-use Rattle.trace_events.specs.declared.steps.Goal.{Goal}
-use Rattle.trace_events.specs.Event.{Event}
-use Rattle.trace_events.specs.Due.{due, first}
-use Rattle.trace_events.specs.Run.{is_next, is_reread}
-use Rattle.trace_events.specs.Sound.{may_come}
+use Rattle.simulator.specs.Words.{Entry, NewTable, NotRead, Goal, Event, due, first, is_next, is_reread, may_come}
+use Rattle.trace_events.specs.declared.happenings.Happening.TheVariants.{Handed}
 use Rattle.simulator.specs.declared.objections.Objection.{Objection}
 use Rattle.simulator.specs.declared.objections.Objection.TheVariants as objection
 use Rattle.simulator.specs.State.{SystemState}

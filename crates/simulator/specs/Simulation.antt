@@ -1,19 +1,9 @@
 -- A run of init over a script: what is written, and where it ends.
 use Rattle.std.specs.Prelude.{◌≡◌, ◌≢◌, ℕ, true, false, ◌+◌, ◌<◌, List, [], ◌++◌, reverse, length, Option}
 use Rattle.std.specs.Io.KnownBytes.{Appends, Keeps}
-use Rattle.init_words.specs.declared.entries.Entry.{Entry}
-use Rattle.init_words.specs.declared.levels.Level.{Level}
-use Rattle.text_lines.specs.Lines.{ended, newlines}
-use Rattle.inittab_text.specs.Reading.{table_of_text}
+use Rattle.simulator.specs.Words.{Entry, Level, ended, newlines, table_of_text, Goal, Event, due, first, event_text, trace_text, is_in_range, are_in_range, is_run, is_rest, opening_goal}
 use Rattle.inittab_text.specs.declared.reading.TheConstants.{TEXT_LIMIT}
-use Rattle.trace_events.specs.declared.steps.Goal.{Goal}
-use Rattle.trace_events.specs.Event.{Event}
-use Rattle.trace_events.specs.Due.{due, first}
-use Rattle.trace_text.specs.Lines.{event_text, trace_text}
-use Rattle.trace_events.specs.Range.{is_in_range, are_in_range}
 use Rattle.trace_text.specs.Texts.{BeginsNone}
-use Rattle.trace_events.specs.Run.{is_run, is_rest}
-use Rattle.core_model.specs.State.{opening_goal}
 use Rattle.simulator.specs.declared.objections.Objection.{Objection}
 use Rattle.simulator.specs.declared.running.SimFault.{SimFault}
 use Rattle.simulator.specs.declared.running.SimFault.TheVariants as fault

@@ -2,8 +2,7 @@
 use Rattle.std.specs.Prelude.{◌≡◌, ℕ, Bool, true, false, not, ◌&&◌, ◌==◌, if◌then◌else◌, nat_eq, List, [], Option, Some, None}
 use Rattle.std.specs.Map.{lookup}
 use Rattle.std.specs.Option.{option_map, option_map_or}
-use Rattle.init_words.specs.declared.orders.OrderKind.{OrderKind}
-use Rattle.init_words.specs.declared.orders.Answer.{Answer}
+use Rattle.simulator.specs.Words.{OrderKind, Answer}
 use Rattle.init_words.specs.Ids.{same_id}
 use Rattle.simulator.specs.declared.simulated.SimulatedChild.{SimulatedChild}
 

@@ -1,11 +1,7 @@
 -- The state texts that were made in a run, and what the core must be for another.
 use Rattle.std.specs.Prelude.{◌≡◌, ◌≢◌, ℕ, true, ◌+◌, ◌<◌, List, [], get_or, length, Option, Some, None}
 use Rattle.trace_events.specs.declared.happenings.Handed.{Handed as HandOver}
-use Rattle.core_model.specs.Parts.{SavedState, state_of}
-use Rattle.core_model.specs.Rules.{IsFit}
-use Rattle.core_model.specs.State.{CoreState}
-use Rattle.core_text.specs.Range.{has_short_seconds}
-use Rattle.core_text.specs.Refused.{IsTextOf}
+use Rattle.simulator.specs.Words.{SavedState, state_of, IsFit, CoreState, has_short_seconds, IsTextOf}
 use Rattle.simulator.specs.Handing.{text_made, objection_handed}
 
 -- the text is that of a state of the generation

@@ -3,12 +3,7 @@
 ghost use Rattle.std.specs.Prelude.{◌≡◌, ◌+◌, ◌∷◌, length, map, true, IfOk, IfSome, None, OnOk, unwrap_or};
 ghost use Rattle.trace_events.specs.declared.happenings.Happening.TheVariants as happening;
 ghost use Rattle.trace_events.specs.declared.happenings.Handed.{Handed};
-ghost use Rattle.core_model.specs.Fit.{StillFits, OnEachTrace};
-ghost use Rattle.core_model.specs.Parts.{state_of};
-ghost use Rattle.core_model.specs.Rules.{IsFit};
-ghost use Rattle.core_model.specs.Steps.{after_handed_on};
-ghost use Rattle.core_text.specs.Range.{has_short_seconds};
-ghost use Rattle.core_text.specs.Refused.{IsTextOf};
+ghost use Rattle.simulator.specs.Words.{StillFits, OnEachTrace, state_of, IsFit, after_handed_on, has_short_seconds, IsTextOf};
 ghost use Rattle.simulator.specs.Handing.{after_hand, comes_back, has_next, is_made, kept_texts};
 ghost use Rattle.simulator.specs.Handing.{objection_handed, taken_of, text_made};
 ghost use Rattle.simulator.specs.Texts.{AreMade, CanHand, HasTexts, IsTakenOver};

@@ -1,7 +1,7 @@
 //! Laws of simulated runs.
 
 ghost use Rattle.std.specs.Prelude.{◌≡◌, ℕ, List, None};
-ghost use Rattle.trace_events.specs.Event.{Event};
+ghost use Rattle.simulator.specs.Words.{Event};
 ghost use Rattle.trace_events.specs.Lawful.{first_breach};
 ghost use Rattle.simulator.specs.Simulation.{Rested, RunOver, Scenario};
 

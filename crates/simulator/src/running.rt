@@ -2,17 +2,7 @@
 
 ghost use Rattle.std.specs.Prelude.{◌≡◌, ◌<◌, length, map, List, [], ◌∷◌, false, true, IfOk, IfSome, IfNone, IfErr, OnOk};
 ghost use Rattle.std.specs.Io.KnownBytes.{Appends};
-ghost use Rattle.trace_events.specs.Event.{Event};
-ghost use Rattle.trace_text.specs.Lines.{event_text};
-ghost use Rattle.trace_events.specs.Range.{is_in_range};
-ghost use Rattle.trace_events.specs.Run.{is_rest, is_reread};
-ghost use Rattle.trace_events.specs.declared.happenings.Happening.TheVariants.{NewTable};
-ghost use Rattle.init_words.specs.declared.levels.Level.{Level};
-ghost use Rattle.inittab_text.specs.Reading.{table_of_text};
-ghost use Rattle.core_records.specs.Lists.{is_quiet};
-ghost use Rattle.core_model.specs.State.{opening_goal};
-ghost use Rattle.core_model.specs.Fit.{FitsAll, StillFits, OnEachTrace, with_step};
-ghost use Rattle.core_model.specs.Steps.{after_adopt};
+ghost use Rattle.simulator.specs.Words.{Event, event_text, is_in_range, is_rest, is_reread, NewTable, Level, table_of_text, is_quiet, opening_goal, FitsAll, StillFits, OnEachTrace, with_step, after_adopt};
 ghost use Rattle.simulator.specs.Faults.{Leaves};
 ghost use Rattle.simulator.specs.Handing.{text_made};
 ghost use Rattle.simulator.specs.Texts.{HasTexts};

@@ -41,8 +41,7 @@ impl<A: Allocator> Model for SimulatedSystem<A> {
 
 impl<A: Allocator + Copy> SimulatedSystem<A> {
     ghost use Rattle.std.specs.Prelude.{List, [], ◌∷◌};
-    ghost use Rattle.init_words.specs.declared.entries.Entry.{Entry};
-    ghost use Rattle.trace_events.specs.declared.happenings.Happening.TheVariants.{NewTable};
+    ghost use Rattle.simulator.specs.Words.{Entry, NewTable};
     ghost use Rattle.simulator.specs.State.{SystemState, empty};
     ghost use Rattle.simulator.specs.Follows.{Follows};
 
@@ -66,11 +65,7 @@ impl<A: Allocator + Copy> SimulatedSystem<A> {
 
 impl<A: Allocator> SimulatedSystem<A> {
     ghost use Rattle.std.specs.Prelude.{ℕ, List, ◌∷◌, false, true, ◌&&◌, IsTrue, IsOk, is_none, is_some};
-    ghost use Rattle.trace_events.specs.declared.steps.Goal.{Goal};
-    ghost use Rattle.trace_events.specs.Event.{Event};
-    ghost use Rattle.trace_events.specs.Answered.{answered_of};
-    ghost use Rattle.trace_events.specs.Sound.{may_come, is_sound};
-    ghost use Rattle.trace_events.specs.Wanted.{is_order};
+    ghost use Rattle.simulator.specs.Words.{Goal, Event, answered_of, may_come, is_sound, is_order};
     ghost use Rattle.init_words.specs.declared.orders.Answer.TheVariants.{Born};
     ghost use Rattle.simulator.specs.State.{order_in, answer_in, OrdersBy, AnswersBy, ChildrenBy, is_living_in, is_dead_in, without, with, with_child, with_death};
     ghost use Rattle.simulator.specs.Steps.{is_script, needs_memory, order_after, answer_after, child_after};

@@ -2,7 +2,7 @@
 
 ghost use Rattle.std.specs.Prelude.{◌≡◌, Bool, true, OnOk, OnErr};
 ghost use Rattle.std.specs.Io.KnownBytes.{Appends};
-ghost use Rattle.program_io.specs.Writing.{AppendsFront};
+ghost use Rattle.simulator.specs.Words.{AppendsFront};
 
 use program_io::write_text;
 use std::io;

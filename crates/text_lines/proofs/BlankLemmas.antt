@@ -1,7 +1,6 @@
 -- Blanks at the ends of a text, and the words of a line.
-use Rattle.std.proofs.Common.{◌≡◌, ◌⊎◌, ℕ, suc, ◌+◌, ◌<◌, ◌≤◌, Bool, true, false, cond, List, [], ◌∷◌, ◌++◌, length, take, drop, get_or, reverse, refl, sym, ap, ◌∙◌, arith, inl, inr}
-use Rattle.std.proofs.lemmas.List.{reverse-append, reverse-reverse}
-use Rattle.text_lines.specs.Lines.{skip_blanks, is_blank, trim_end, word_length, words_of}
+use Rattle.text_lines.proofs.CommonWords.{◌≡◌, ◌⊎◌, ℕ, suc, ◌+◌, ◌<◌, ◌≤◌, Bool, true, false, cond, List, [], ◌∷◌, ◌++◌, length, take, drop, get_or, reverse, refl, sym, ap, ◌∙◌, arith, inl, inr, reverse-append, reverse-reverse, skip_blanks, is_blank, word_length, words_of}
+use Rattle.text_lines.specs.Lines.{trim_end}
 
 -- one byte at the end of a text
 trim_end-blank : (text : List ℕ) (b : ℕ) → is_blank b ≡ true → trim_end (text ++ b ∷ []) ≡ trim_end text

@@ -1,9 +1,7 @@
 -- A text, cut at the first byte of a kind, and its lines.
-use Rattle.std.proofs.Common.{◌≡◌, ◌⊎◌, ℕ, suc, ◌+◌, ◌<◌, Bool, true, false, cond, ◌==◌, List, [], ◌∷◌, ◌++◌, length, take, drop, slice_index, Option, Some, None, refl, sym, ◌∙◌, arith, inl, inr}
+use Rattle.text_lines.proofs.CommonWords.{◌≡◌, ◌⊎◌, ℕ, suc, ◌+◌, ◌<◌, Bool, true, false, cond, ◌==◌, List, [], ◌∷◌, ◌++◌, length, take, drop, slice_index, Option, Some, None, refl, sym, ◌∙◌, arith, inl, inr, false_from_ne_true, or_parts, eqb-true, onto_first, cut, has_byte, lines_of, skip_blanks}
 use Rattle.std.specs.Option.{option_map}
-use Rattle.std.proofs.lemmas.Bool.{false_from_ne_true, or_parts, eqb-true}
 use Rattle.std.proofs.lemmas.List.Folds.{list_any-append}
-use Rattle.text_lines.specs.Lines.{onto_first, cut, has_byte, lines_of, skip_blanks}
 
 pub cut-none : (mark : ℕ) (text : List ℕ) → ((k : ℕ) → k < length text → (slice_index text k == mark) ≡ true → ⊥) → cut mark text ≡ None
 cut-none mark [] h = refl

@@ -1,4 +1,5 @@
 pub mod BlankLemmas
+pub mod CommonWords
 pub mod CutLemmas
 pub mod NumberLemmas
 pub mod PieceLemmas

@@ -1,13 +1,9 @@
 -- A text is no number where it is not UTF-8, or parses as none.
-use Rattle.std.proofs.Common.{Bool, true, false, ◌≡◌, ◌&&◌, ◌<◌, ◌^◌, ℕ, List, [], ◌∷◌, arith, Some, None, Result, Ok, Err, refl, ap, ◌∙◌, cond, nat_lt, is_ok, MatchResult, decimal, IsUtf8, Bor}
-use Rattle.std.specs.Result.{result_ok}
+use Rattle.text_lines.proofs.CommonWords.{Bool, true, false, ◌≡◌, ◌&&◌, ◌<◌, ◌^◌, ℕ, List, [], ◌∷◌, arith, Some, None, Result, Ok, Err, refl, ap, ◌∙◌, cond, nat_lt, decimal, Bor, result_ok, false≢true, ltb-true, IsUtf8-from_ascii, bytes_eq, has_byte}
+use Rattle.std.proofs.Common.{is_ok, MatchResult, IsUtf8}
 use Rattle.std.specs.Str.Parse.{AllDigits, ParsesUnsigned, without_leading_plus}
-use Rattle.std.proofs.lemmas.Bool.{false≢true, ltb-true}
 use Rattle.std.proofs.lemmas.Fmt.{parse-decimal, IsAscii-decimal, decimal_is_IsNumeral}
 use Rattle.std.proofs.lemmas.Slice.Eq.{bytes_eq-Decides}
-use Rattle.std.proofs.lemmas.Str.{IsUtf8-from_ascii}
-use Rattle.std.specs.Str.{bytes_eq}
-use Rattle.text_lines.specs.Lines.{has_byte}
 use Rattle.text_lines.specs.Numbers.{number_read}
 
 -- no number, where a number whose decimal form it is makes it none

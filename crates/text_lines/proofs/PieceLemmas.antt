@@ -1,10 +1,7 @@
 -- A text in pieces, and a text by its lines: what is cut off and what is left make the whole.
-use Rattle.std.proofs.Common.{◌≡◌, ℕ, zero, suc, ◌+◌, ◌-◌, ◌<◌, Bool, true, false, cond, not, ◌==◌, List, [], ◌∷◌, ◌++◌, length, take, filter, slice_get, Option, Some, None, refl, sym, ap, ◌∙◌, arith, length-append}
+use Rattle.text_lines.proofs.CommonWords.{◌≡◌, ℕ, zero, suc, ◌+◌, ◌-◌, ◌<◌, Bool, true, false, cond, not, ◌==◌, List, [], ◌∷◌, ◌++◌, length, take, filter, slice_get, Option, Some, None, refl, sym, ap, ◌∙◌, arith, length-append, not-true, append_assoc, cut, ended, has_byte, newlines, after_lines, pieces_of}
 use Rattle.std.specs.List.{join_with_byte, list_all}
-use Rattle.std.proofs.lemmas.Bool.{not-true}
-use Rattle.std.proofs.lemmas.List.{append_assoc}
 use Rattle.std.proofs.lemmas.Option.{option_and_then_some, same_Some}
-use Rattle.text_lines.specs.Lines.{cut, ended, has_byte, newlines, after_lines, pieces_of}
 use Rattle.text_lines.proofs.CutLemmas.{cut-parts, cut-lacks}
 
 -- the first piece, and those of what stands behind it

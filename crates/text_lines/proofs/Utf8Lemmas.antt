@@ -1,9 +1,6 @@
 -- Parts of a text that is UTF-8 are UTF-8 where they are cut at bytes of ASCII, as blanks and tabs.
-use Rattle.std.proofs.Common.{◌≡◌, ℕ, zero, suc, ◌+◌, ◌<◌, ◌≤◌, Bool, true, false, cond, ◌||◌, ◌==◌, List, [], ◌∷◌, ◌++◌, length, take, drop, get_or, refl, ap, subst, arith}
-use Rattle.std.specs.Str.{IsCharBoundary, IsUtf8}
-use Rattle.std.proofs.lemmas.Bool.{eqb-true}
-use Rattle.std.proofs.lemmas.Str.{IsCharBoundary-after_ascii, IsUtf8-drop, IsUtf8-take, IsUtf8-nil}
-use Rattle.text_lines.specs.Lines.{is_blank, skip_blanks, trim, trim_end, word_length}
+use Rattle.text_lines.proofs.CommonWords.{◌≡◌, ℕ, zero, suc, ◌+◌, ◌<◌, ◌≤◌, Bool, true, false, cond, ◌||◌, ◌==◌, List, [], ◌∷◌, ◌++◌, length, take, drop, get_or, refl, ap, subst, arith, IsCharBoundary, eqb-true, IsCharBoundary-after_ascii, IsUtf8-drop, IsUtf8-take, IsUtf8-nil, is_blank, skip_blanks, trim, trim_end, word_length}
+use Rattle.std.specs.Str.{IsUtf8}
 use Rattle.text_lines.proofs.BlankLemmas.{trim_end-done, trim_end-nil, trim_end-shorter}
 
 -- a blank is one byte of ASCII

@@ -1,26 +1,9 @@
 -- The children and the spells after a happening, as long as no birth gave an id a second child.
-use Rattle.std.proofs.Common.{◌≡◌, refl, sym, ◌∙◌, ap, ℕ, Bool, true, false, not, ◌&&◌, ◌==◌, cond, List, [], ◌∷◌, ◌++◌, map, Option, Some, None}
-use Rattle.std.specs.Option.{option_map, option_map_or}
-use Rattle.init_words.specs.declared.entries.Entry.{Entry}
-use Rattle.init_words.specs.declared.stages.Stage.{Stage}
+use Rattle.trace_check.proofs.Words.{◌≡◌, refl, sym, ◌∙◌, ap, ℕ, Bool, true, false, not, ◌&&◌, ◌==◌, cond, List, [], ◌∷◌, ◌++◌, map, Option, Some, None, option_map, option_map_or, Entry, Stage, same_id, entry_of, act_of, NewTable, Enter, Birth, Reaped, Told, Nudge, Event, table_of, stage_of, time_of, Child, is_of, is_child, has_child, newborn, unreaped_children, is_excluded, may_live, Signal, untold_hits, spell_hits, told_at, broken, same_id-is, same_id-self, same_id-sym, not_from, and_true, and_false, is_lone, lone_filter, UnreapedChild, is_numbered, child_after, spares, excludes, earliest, term_after, child_of, has_sent, living_of, least_term, term_of}
 use Rattle.init_words.specs.declared.children.Status.{Status}
-use Rattle.init_words.specs.Ids.{same_id}
-use Rattle.inittab_text.specs.Tables.{entry_of, act_of}
-use Rattle.trace_events.specs.declared.happenings.Happening.TheVariants.{NewTable, Enter, Birth, Reaped, Told, Nudge}
-use Rattle.trace_events.specs.Event.{Event}
-use Rattle.trace_events.specs.Past.{table_of, stage_of, time_of, Child, is_of, is_child, has_child, newborn, unreaped_children}
-use Rattle.trace_events.specs.Wanted.{is_excluded, may_live}
-use Rattle.trace_events.specs.Spells.{Signal, untold_hits, spell_hits, told_at}
-use Rattle.trace_events.specs.Lawful.{broken}
-use Rattle.init_words.proofs.Same.{same_id-is, same_id-self, same_id-sym}
-use Rattle.init_words.proofs.Tests.{not_from, and_true, and_false}
 use Rattle.trace_laws.proofs.Spells.{is_still, spell_still, spell_nudge, spell_enter, spell_table, spell_birth, spell_told}
-use Rattle.trace_laws.proofs.Lone.{is_lone, lone_filter}
-use Rattle.trace_check.specs.declared.children.UnreapedChild.{UnreapedChild}
-use Rattle.trace_check.specs.After.{is_numbered, child_after, spares, excludes, earliest, term_after}
 use Rattle.trace_check.proofs.Lookups.{none_both}
 use Rattle.trace_check.proofs.Lone.{by_child, left_if, lone_left}
-use Rattle.trace_check.specs.Reading.{child_of, has_sent, living_of, least_term, term_of}
 use Rattle.trace_check.proofs.Terms.{told_terms}
 
 -- at most one child of an id is unreaped, as long as each birth is of an id with none

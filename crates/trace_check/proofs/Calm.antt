@@ -1,25 +1,5 @@
 -- Where no child is excluded: what is known of it, and how it stays known.
-use Rattle.std.proofs.Common.{◌≡◌, refl, sym, ◌∙◌, ap, ℕ, Bool, true, false, not, ◌&&◌, cond, List, [], ◌∷◌, Option, Some, None, is_some, arith}
-use Rattle.std.specs.List.{list_any, list_all}
-use Rattle.std.specs.Map.{keys_of}
-use Rattle.std.specs.Option.{option_map, option_map_or}
-use Rattle.std.proofs.lemmas.Bool.{and_parts, false≢true, not-true}
-use Rattle.std.proofs.lemmas.Map.Made.{is_some-lookup}
-use Rattle.init_words.specs.declared.entries.Entry.{Entry}
-use Rattle.init_words.specs.declared.stages.Stage.{Stage}
-use Rattle.init_words.specs.declared.levels.Level.{Level}
-use Rattle.init_words.specs.Ids.{same_id}
-use Rattle.init_words.proofs.Same.{same_id-is}
-use Rattle.init_words.proofs.Tests.{any_less, falsely, not_from}
-use Rattle.inittab_text.specs.Tables.{entry_of, act_of}
-use Rattle.trace_events.specs.declared.happenings.Happening.TheVariants.{NewTable, Enter, Settle, Birth, Reaped}
-use Rattle.trace_events.specs.Event.{Event}
-use Rattle.trace_events.specs.Wanted.{starts_in, may_live}
-use Rattle.trace_events.specs.Wishes.{is_level}
-use Rattle.trace_check.specs.declared.children.UnreapedChild.{UnreapedChild}
-use Rattle.trace_check.specs.State.{JudgeState, at}
-use Rattle.trace_check.specs.After.{TakesIn, table_after, is_numbered}
-use Rattle.trace_check.specs.Flaws.{is_alive, is_excluded_in, none_excluded_in, IsCalm, calm_after, is_placed_in, is_in_turn_in, is_served_in, is_settled_in, flaw_in}
+use Rattle.trace_check.proofs.Words.{◌≡◌, refl, sym, ◌∙◌, ap, ℕ, Bool, true, false, not, ◌&&◌, cond, List, [], ◌∷◌, Option, Some, None, is_some, arith, list_any, list_all, keys_of, option_map, option_map_or, and_parts, false≢true, not-true, is_some-lookup, Entry, Stage, Level, same_id, same_id-is, any_less, falsely, not_from, entry_of, act_of, NewTable, Enter, Settle, Birth, Reaped, Event, starts_in, may_live, is_level, UnreapedChild, JudgeState, at, TakesIn, table_after, is_numbered, is_alive, is_excluded_in, none_excluded_in, IsCalm, calm_after, is_placed_in, is_in_turn_in, is_served_in, is_settled_in, flaw_in}
 
 -- none is excluded where none of the children is
 none_among : (p : List ℕ → Bool) → ((id : List ℕ) → p id ≡ false) → (ids : List (List ℕ)) → list_any p ids ≡ false

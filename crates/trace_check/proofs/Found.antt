@@ -1,15 +1,5 @@
 -- The entries of a table in which no id stands twice, each found by its id.
-use Rattle.std.proofs.Common.{arith, ◌≡◌, refl, sym, ◌∙◌, ap, ℕ, Bool, true, false, not, ◌&&◌, ◌||◌, cond, List, [], ◌∷◌, find, Some}
-use Rattle.std.specs.List.{list_any, list_all}
-use Rattle.std.specs.Option.{option_map_or}
-use Rattle.std.proofs.lemmas.Bool.{and_parts, or_parts, not-true}
-use Rattle.init_words.specs.declared.entries.Entry.{Entry}
-use Rattle.init_words.specs.Ids.{same_id}
-use Rattle.inittab_text.specs.Tables.{has_id, entry_of, is_distinct}
-use Rattle.trace_events.specs.Wanted.{entries_before}
-use Rattle.init_words.proofs.Same.{same_id-is, same_id-self, same_id-sym}
-use Rattle.init_words.proofs.Tests.{falsely, any_less}
-use Rattle.init_words.proofs.Tests.{or_none}
+use Rattle.trace_check.proofs.Words.{arith, ◌≡◌, refl, sym, ◌∙◌, ap, ℕ, Bool, true, false, not, ◌&&◌, ◌||◌, cond, List, [], ◌∷◌, find, Some, list_any, list_all, option_map_or, and_parts, or_parts, not-true, Entry, same_id, has_id, entry_of, is_distinct, entries_before, same_id-is, same_id-self, same_id-sym, falsely, any_less, or_none}
 
 -- what holds of each entry
 abbrev Each : (Entry → Type 0) → List Entry → Type 0

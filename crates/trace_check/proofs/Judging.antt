@@ -1,32 +1,8 @@
 -- The law that a happening breaks by the state is the one that it breaks by the past.
-use Rattle.std.proofs.Common.{arith, ◌≡◌, ◌-◌, refl, sym, ◌∙◌, ap, ℕ, Bool, true, false, not, ◌&&◌, ◌||◌, cond, nat_lt, List, slice_get, take, find, Option, Some, is_some}
-use Rattle.std.specs.List.{list_any, list_all}
-use Rattle.std.specs.Map.{keys_of}
-use Rattle.std.specs.Option.{option_map, option_map_or}
-use Rattle.std.proofs.lemmas.Bool.{and_from}
-use Rattle.std.proofs.lemmas.Map.Made.{is_some-lookup}
-use Rattle.respawn_limit.specs.declared.TheConstants.{HOLD, STARTS, WINDOW}
-use Rattle.init_words.specs.declared.entries.Entry.{Entry}
-use Rattle.init_words.specs.declared.levels.Level.{Level}
-use Rattle.init_words.specs.Ids.{same_id}
-use Rattle.inittab_text.specs.Tables.{entry_of, is_distinct}
-use Rattle.trace_events.specs.Event.{Event}
-use Rattle.trace_events.specs.Past.{table_of, stage_of, grace_of, time_of, Child, is_of, has_child, unreaped_children}
-use Rattle.trace_events.specs.Wanted.{starts_in, is_called, is_wanted, is_owed, is_excluded, may_live, entries_before}
-use Rattle.trace_events.specs.Wishes.{is_level}
-use Rattle.trace_events.specs.Spells.{is_ripe, spell_hits}
-use Rattle.trace_events.specs.Timing.{start_times, hold_times, is_held, is_full}
+use Rattle.trace_check.proofs.Words.{arith, ◌≡◌, ◌-◌, refl, sym, ◌∙◌, ap, ℕ, Bool, true, false, not, ◌&&◌, ◌||◌, cond, nat_lt, List, slice_get, take, find, Option, Some, is_some, list_any, list_all, keys_of, option_map, option_map_or, and_from, is_some-lookup, HOLD, STARTS, WINDOW, Entry, Level, same_id, entry_of, is_distinct, Event, table_of, stage_of, grace_of, time_of, Child, is_of, has_child, unreaped_children, starts_in, is_called, is_wanted, is_owed, is_excluded, may_live, entries_before, is_level, is_ripe, spell_hits, start_times, hold_times, is_held, is_full, is_placed, is_in_turn, is_limited_id, is_free, is_due_hold, may_term, may_kill, broken, same_id-is, same_id-self, same_tests, any_less, any_same, Passing, passing, found_any, and_three, is_lone, lone_any, UnreapedChild, JudgeState, at, among, is_alive, is_excluded_in, none_excluded_in, is_placed_in, is_wanted_in, is_owed_in, is_in_turn_in, is_held_in, is_full_in, is_free_in, is_due_hold_in, is_served_in, is_settled_in, is_over_in, may_kill_in, flaw_in, child_of, living_of, newest, Reads}
 use Rattle.trace_events.specs.Due.{is_served, is_settled}
-use Rattle.trace_events.specs.Lawful.{is_placed, is_in_turn, is_limited_id, is_free, is_due_hold, may_term, may_kill, broken}
-use Rattle.init_words.proofs.Same.{same_id-is, same_id-self}
-use Rattle.init_words.proofs.Tests.{same_tests, any_less, any_same, Passing, passing, found_any, and_three}
-use Rattle.trace_laws.proofs.Lone.{is_lone, lone_any}
-use Rattle.trace_check.specs.declared.children.UnreapedChild.{UnreapedChild}
-use Rattle.trace_check.specs.State.{JudgeState, at, among}
-use Rattle.trace_check.specs.Flaws.{is_alive, is_excluded_in, none_excluded_in, is_placed_in, is_wanted_in, is_owed_in, is_in_turn_in, is_held_in, is_full_in, is_free_in, is_due_hold_in, is_served_in, is_settled_in, is_over_in, may_kill_in, flaw_in}
 use Rattle.trace_check.proofs.Lone.{found_test, by_child}
 use Rattle.trace_check.proofs.Found.{found_all, found_before, first_before}
-use Rattle.trace_check.specs.Reading.{child_of, living_of, newest, Reads}
 use Rattle.trace_check.proofs.Windows.{full_by_last, held_by_last}
 use Rattle.trace_check.proofs.Terms.{over_age, ripe_least}
 

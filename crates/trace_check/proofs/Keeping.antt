@@ -1,29 +1,9 @@
 -- What a happening makes of each part of the state is what the longer past says.
-use Rattle.std.proofs.Common.{arith, ◌≡◌, refl, sym, ◌∙◌, ap, ℕ, ◌-◌, Bool, true, false, not, ◌&&◌, ◌||◌, cond, List, [], ◌∷◌, ◌++◌, filter, take, Option, Some, None}
-use Rattle.std.specs.List.{list_any}
-use Rattle.std.specs.Option.{option_map, option_map_or}
-use Rattle.std.proofs.lemmas.Bool.{not_from_true}
-use Rattle.std.proofs.lemmas.List.Folds.{list_any-append}
-use Rattle.respawn_limit.specs.declared.TheConstants.{STARTS}
-use Rattle.init_words.specs.declared.entries.Entry.{Entry}
-use Rattle.init_words.specs.declared.orders.OrderKind.{OrderKind}
-use Rattle.init_words.specs.declared.orders.OrderKind.TheVariants.{Start, Term}
-use Rattle.init_words.specs.Ids.{same_id}
+use Rattle.trace_check.proofs.Words.{arith, ◌≡◌, refl, sym, ◌∙◌, ap, ℕ, ◌-◌, Bool, true, false, not, ◌&&◌, ◌||◌, cond, List, [], ◌∷◌, ◌++◌, filter, take, Option, Some, None, list_any, option_map, option_map_or, not_from_true, list_any-append, STARTS, Entry, OrderKind, Start, Term, same_id, has_id, entry_of, is_distinct, NewTable, Enter, Call, Power, Asked, Hit, Told, Event, table_of, stage_of, grace_of, time_of, Child, is_of, has_child, open_of, unreaped_children, kept_children, is_order, is_asked, is_called, starts_in, untold_hits, start_times, hold_times, same_id-is, same_id-apart, not_from, or_false, and_false, any_within, any_without, table_after, stage_after, grace_after, time_after, order_after, kept_after, is_changed, asked_after, is_named, stays_called_in, called_after, sent_after, starts_after, hold_after, calls_of, has_sent, newest}
 use Rattle.init_words.specs.Actions.{stays_called}
-use Rattle.inittab_text.specs.Tables.{has_id, entry_of, is_distinct}
-use Rattle.trace_events.specs.declared.happenings.Happening.TheVariants.{NewTable, Enter, Call, Power, Asked, Hit, Told}
-use Rattle.trace_events.specs.Event.{Event}
-use Rattle.trace_events.specs.Past.{table_of, stage_of, grace_of, time_of, Child, is_of, has_child, open_of, unreaped_children, kept_children}
-use Rattle.trace_events.specs.Wanted.{is_order, is_asked, is_called, starts_in}
-use Rattle.trace_events.specs.Spells.{untold_hits}
-use Rattle.trace_events.specs.Timing.{start_times, hold_times}
-use Rattle.init_words.proofs.Same.{same_id-is, same_id-apart}
-use Rattle.init_words.proofs.Tests.{not_from, or_false, and_false, any_within, any_without}
 use Rattle.trace_laws.proofs.Tests.{never}
-use Rattle.trace_check.specs.After.{table_after, stage_after, grace_after, time_after, order_after, kept_after, is_changed, asked_after, is_named, stays_called_in, called_after, sent_after, starts_after, hold_after}
 use Rattle.trace_check.proofs.Lone.{found_passes}
 use Rattle.trace_check.proofs.Found.{entry_any, id_any}
-use Rattle.trace_check.specs.Reading.{calls_of, has_sent, newest}
 
 pub table_step : (happening : Event) (past : List Event) → table_after happening (table_of past) ≡ table_of (happening ∷ past)
 table_step happening past = grind arith

@@ -10,3 +10,4 @@ pub mod Rows
 pub mod Terms
 pub mod Walks
 pub mod Windows
+pub mod Words

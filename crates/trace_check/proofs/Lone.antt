@@ -1,14 +1,5 @@
 -- The child of an id among children of which at most one has the id.
-use Rattle.std.proofs.Common.{arith, ◌≡◌, refl, sym, subst, ℕ, Bool, true, false, cond, List, [], ◌∷◌, filter, find, Option, Some, None}
-use Rattle.std.specs.List.{list_any}
-use Rattle.std.specs.Option.{option_map_or}
-use Rattle.std.proofs.lemmas.Option.{none-some}
-use Rattle.trace_events.specs.Event.{Event}
-use Rattle.trace_events.specs.Past.{Child, is_of, unreaped_children}
-use Rattle.init_words.proofs.Same.{same_id-is}
-use Rattle.init_words.proofs.Tests.{find_none}
-use Rattle.trace_laws.proofs.Lone.{none_filtered, is_lone}
-use Rattle.trace_check.specs.Reading.{child_of}
+use Rattle.trace_check.proofs.Words.{arith, ◌≡◌, refl, sym, subst, ℕ, Bool, true, false, cond, List, [], ◌∷◌, filter, find, Option, Some, None, list_any, option_map_or, none-some, Event, Child, is_of, unreaped_children, same_id-is, find_none, none_filtered, is_lone, child_of}
 
 -- what is found passes
 pub found_passes : {X : Type 0} (p : X → Bool) (xs : List X) (x : X) → find p xs ≡ Some x → p x ≡ true

@@ -1,8 +1,5 @@
 -- What is read of lists by id.
-use Rattle.std.proofs.Common.{arith, ◌≡◌, refl, sym, ℕ, Bool, true, false, not, cond, List, [], ◌∷◌, filter, Option, Some, None}
-use Rattle.init_words.specs.Ids.{same_id}
-use Rattle.init_words.proofs.Same.{same_id-is}
-use Rattle.trace_check.specs.State.{at}
+use Rattle.trace_check.proofs.Words.{arith, ◌≡◌, refl, sym, ℕ, Bool, true, false, not, cond, List, [], ◌∷◌, filter, Option, Some, None, same_id, same_id-is, at}
 
 pub none_both : {X : Type 0} (b : Bool) → cond {A = Option X} b None None ≡ None
 none_both true = refl

@@ -1,16 +1,6 @@
 -- One happening after another: the state goes on reading the past, and the first breach stays the first.
-use Rattle.std.proofs.Common.{◌≡◌, ◌<◌, ◌≤◌, sym, ◌∙◌, ap, subst, ℕ, ◌+◌, true, List, [], ◌∷◌, ◌++◌, length, reverse, take, take_all, drop, get_or, is_some, arith, Some, None}
+use Rattle.trace_check.proofs.Words.{◌≡◌, ◌<◌, ◌≤◌, sym, ◌∙◌, ap, subst, ℕ, ◌+◌, true, List, [], ◌∷◌, ◌++◌, length, reverse, take, take_all, drop, get_or, is_some, arith, Some, None, is_distinct, Event, table_of, stage_of, time_of, is_of, unreaped_children, broken, Fault, breach_at, earlier, first_breach, is_lone, JudgeState, at, among, times_at, TakesIn, table_after, stage_after, grace_after, time_after, order_after, kept_after, asked_after, called_after, sent_after, starts_after, hold_after, term_after, flaw_in, Reads, Judging, Judged}
 use Rattle.std.proofs.lemmas.List.{take_more, reverse-append, length-reverse, length-take-le, take-append-drop}
-use Rattle.inittab_text.specs.Tables.{is_distinct}
-use Rattle.trace_events.specs.Event.{Event}
-use Rattle.trace_events.specs.Past.{table_of, stage_of, time_of, is_of, unreaped_children}
-use Rattle.trace_events.specs.Lawful.{broken, Fault, breach_at, earlier, first_breach}
-use Rattle.trace_laws.proofs.Lone.{is_lone}
-use Rattle.trace_check.specs.State.{JudgeState, at, among, times_at}
-use Rattle.trace_check.specs.After.{TakesIn, table_after, stage_after, grace_after, time_after, order_after, kept_after, asked_after, called_after, sent_after, starts_after, hold_after, term_after}
-use Rattle.trace_check.specs.Flaws.{flaw_in}
-use Rattle.trace_check.specs.Reading.{Reads}
-use Rattle.trace_check.specs.Judging.{Judging, Judged}
 use Rattle.trace_check.proofs.Keeping.{table_step, stage_step, grace_step, time_step, order_step, kept_step, asked_step, called_step, sent_step, starts_step, hold_step}
 use Rattle.trace_check.proofs.Bearing.{lone_step, child_step, term_step}
 use Rattle.trace_check.proofs.Judging.{alive, flaw_reads}

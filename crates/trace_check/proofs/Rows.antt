@@ -1,17 +1,11 @@
 -- Traces, the oldest happening first, each with its first breach: `refl` computes them.
-use Rattle.std.proofs.Common.{◌≡◌, refl, ℕ, List, [], ◌∷◌, ◌++◌, reverse, replicate, codes, Option, Some, None}
-use Rattle.init_words.specs.declared.entries.Entry.{Entry}
+use Rattle.trace_check.proofs.Words.{◌≡◌, refl, ℕ, List, [], ◌∷◌, ◌++◌, reverse, replicate, codes, Option, Some, None, Entry, Level, Start, Term, Kill, NewTable, Enter, Call, Asked, Hold, Settle, Birth, Hit, Told, Clock, Event, Fault, first_breach}
 use Rattle.init_words.specs.declared.actions.Act.{Act}
 use Rattle.init_words.specs.declared.actions.Act.TheVariants as act
-use Rattle.init_words.specs.declared.levels.Level.{Level}
 use Rattle.init_words.specs.declared.levels.Level.TheVariants as level
 use Rattle.init_words.specs.declared.levels.Letter.TheVariants as letter
 use Rattle.init_words.specs.declared.levels.Mark.TheVariants.{At, OnCall}
 use Rattle.init_words.specs.declared.stages.Stage.TheVariants.{Run}
-use Rattle.init_words.specs.declared.orders.OrderKind.TheVariants.{Start, Term, Kill}
-use Rattle.trace_events.specs.declared.happenings.Happening.TheVariants.{NewTable, Enter, Call, Asked, Hold, Settle, Birth, Hit, Told, Clock}
-use Rattle.trace_events.specs.Event.{Event}
-use Rattle.trace_events.specs.Lawful.{Fault, first_breach}
 
 abbrev entry : List ℕ → Level → Act → Entry
 entry id at action = record { id = id; levels = record { items = At at ∷ [] }; act = action; process = record { items = codes "x" } }

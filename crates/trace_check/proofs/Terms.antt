@@ -1,15 +1,5 @@
 -- The least time of a TERM in a spell tells all that the laws ask of its signals.
-use Rattle.std.proofs.Common.{◌≡◌, ◌+◌, ◌-◌, refl, ◌∙◌, ap, ℕ, Bool, true, false, ◌&&◌, ◌||◌, cond, min, nat_le, List, [], ◌∷◌, ◌++◌, map, arith, Option, Some, None}
-use Rattle.std.specs.List.{list_any}
-use Rattle.std.specs.Option.{option_map_or}
-use Rattle.std.proofs.lemmas.Bool.Decides.{nat_tests}
-use Rattle.init_words.specs.declared.orders.OrderKind.{OrderKind}
-use Rattle.init_words.specs.declared.orders.OrderKind.TheVariants.{Term}
-use Rattle.trace_events.specs.Wanted.{is_order}
-use Rattle.trace_events.specs.Spells.{Signal, told_at, is_ripe}
-use Rattle.init_words.proofs.Tests.{or_false}
-use Rattle.trace_check.specs.After.{earliest}
-use Rattle.trace_check.specs.Reading.{least_term}
+use Rattle.trace_check.proofs.Words.{◌≡◌, ◌+◌, ◌-◌, refl, ◌∙◌, ap, ℕ, Bool, true, false, ◌&&◌, ◌||◌, cond, min, nat_le, List, [], ◌∷◌, ◌++◌, map, arith, Option, Some, None, list_any, option_map_or, nat_tests, OrderKind, Term, is_order, Signal, told_at, is_ripe, or_false, earliest, least_term}
 
 earliest_twice : (time : ℕ) (o : Option ℕ) → earliest time (Some (earliest time o)) ≡ earliest time o
 earliest_twice time None = omega arith

@@ -1,17 +1,5 @@
 -- The last ten starts and the last hold tell all that the limit asks of the past, since the time never falls.
-use Rattle.std.proofs.Common.{◌≡◌, ◌≤◌, ◌+◌, ◌-◌, refl, sym, ◌∙◌, ap, ℕ, Bool, true, false, cond, max, min, nat_lt, nat_le, List, [], ◌∷◌, take, filter, length, slice_get, suc, zero, arith, le_refl}
-use Rattle.std.specs.List.{list_any}
-use Rattle.std.specs.Option.{option_map_or}
-use Rattle.std.proofs.lemmas.Bool.{ltb-true, lt-ltb, or_left}
-use Rattle.std.proofs.lemmas.Bool.Decides.{nat_tests}
-use Rattle.respawn_limit.specs.declared.TheConstants.{HOLD, STARTS, WINDOW, CLOCK_LIMIT}
-use Rattle.init_words.specs.Ids.{same_id}
-use Rattle.trace_events.specs.declared.happenings.Happening.TheVariants.{NewTable, Enter, Hold, Clock}
-use Rattle.trace_events.specs.Event.{Event}
-use Rattle.trace_events.specs.Past.{time_of}
-use Rattle.trace_events.specs.Timing.{start_times, hold_times, is_held, is_full}
-use Rattle.init_words.proofs.Tests.{same_tests, or_either}
-use Rattle.trace_check.specs.Reading.{newest}
+use Rattle.trace_check.proofs.Words.{◌≡◌, ◌≤◌, ◌+◌, ◌-◌, refl, sym, ◌∙◌, ap, ℕ, Bool, true, false, cond, max, min, nat_lt, nat_le, List, [], ◌∷◌, take, filter, length, slice_get, suc, zero, arith, le_refl, list_any, option_map_or, ltb-true, lt-ltb, or_left, nat_tests, HOLD, STARTS, WINDOW, CLOCK_LIMIT, same_id, NewTable, Enter, Hold, Clock, Event, time_of, start_times, hold_times, is_held, is_full, same_tests, or_either, newest}
 use Rattle.trace_laws.proofs.Pace.{Falling, falls_below, starts_fall, is_young, old_later}
 
 one_more : (b : Bool) (now : ℕ) (ts : List ℕ) → Falling now ts → Falling now (cond b (now ∷ ts) ts)

@@ -2,19 +2,7 @@
 use Rattle.std.specs.Prelude.{◌≡◌, is_some, ℕ, Bool, false, not, ◌&&◌, ◌||◌, ◌-◌, ◌==◌, if◌then◌else◌, max, min, List, [], ◌∷◌, take, Option, Some, None}
 use Rattle.std.specs.Option.{option_map_or}
 use Rattle.std.specs.List.{list_any}
-use Rattle.respawn_limit.specs.declared.TheConstants.{CLOCK_LIMIT, STARTS}
-use Rattle.init_words.specs.declared.entries.Entry.{Entry}
-use Rattle.init_words.specs.declared.levels.Mark.TheVariants.{OnCall}
-use Rattle.init_words.specs.declared.stages.Stage.{Stage}
-use Rattle.init_words.specs.declared.orders.OrderKind.{OrderKind}
-use Rattle.init_words.specs.declared.orders.OrderKind.TheVariants.{Start, Term}
-use Rattle.init_words.specs.Ids.{same_id}
-use Rattle.init_words.specs.Levels.{names}
-use Rattle.init_words.specs.Actions.{is_called_by, is_ondemand, stays_called}
-use Rattle.inittab_text.specs.Tables.{has_id, entry_of, act_of}
-use Rattle.trace_events.specs.declared.happenings.Happening.TheVariants.{NewTable, Enter, Call, Power, Asked, Hold, Birth, Reaped, Hit, Told, Clock}
-use Rattle.trace_events.specs.Event.{Event}
-use Rattle.trace_events.specs.Wanted.{starts_in, is_order, same_acts, may_live}
+use Rattle.trace_check.specs.Words.{CLOCK_LIMIT, STARTS, Entry, OnCall, Stage, OrderKind, Start, Term, same_id, names, is_called_by, is_ondemand, stays_called, has_id, entry_of, act_of, NewTable, Enter, Call, Power, Asked, Hold, Birth, Reaped, Hit, Told, Clock, Event, starts_in, is_order, same_acts, may_live}
 use Rattle.trace_check.specs.declared.children.UnreapedChild.{UnreapedChild}
 use Rattle.trace_check.specs.State.{JudgeState, at, among, times_at}
 

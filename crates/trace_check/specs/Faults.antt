@@ -1,6 +1,6 @@
 -- A breach, as the laws have it.
 use Rattle.std.specs.Prelude.{ℕ}
-use Rattle.trace_events.specs.Lawful.{Fault}
+use Rattle.trace_check.specs.Words.{Fault}
 use Rattle.trace_check.specs.declared.laws.Law.{Law}
 use Rattle.trace_check.specs.Laws.{law_number}
 

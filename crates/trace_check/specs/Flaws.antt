@@ -3,18 +3,9 @@ use Rattle.std.specs.Prelude.{◌≡◌, IsTrue, ℕ, Bool, true, false, not, �
 use Rattle.std.specs.Map.{keys_of}
 use Rattle.std.specs.Option.{option_map_or}
 use Rattle.std.specs.List.{list_any, list_all}
-use Rattle.respawn_limit.specs.declared.TheConstants.{HOLD, STARTS, WINDOW}
-use Rattle.init_words.specs.declared.entries.Entry.{Entry}
+use Rattle.trace_check.specs.Words.{HOLD, STARTS, WINDOW, Entry, At, Start, Term, Kill, names, wanted_by, is_limited, served_by, entry_of, act_of, NewTable, Enter, Asked, Hold, Settle, Birth, Event, starts_in, is_order, entries_before}
 use Rattle.init_words.specs.declared.levels.Level.{Level}
-use Rattle.init_words.specs.declared.levels.Mark.TheVariants.{At}
-use Rattle.init_words.specs.declared.orders.OrderKind.TheVariants.{Start, Term, Kill}
-use Rattle.init_words.specs.Levels.{names}
-use Rattle.init_words.specs.Actions.{wanted_by, is_limited, served_by}
 use Rattle.init_words.specs.Entries.{waited_of}
-use Rattle.inittab_text.specs.Tables.{entry_of, act_of}
-use Rattle.trace_events.specs.declared.happenings.Happening.TheVariants.{NewTable, Enter, Asked, Hold, Settle, Birth}
-use Rattle.trace_events.specs.Event.{Event}
-use Rattle.trace_events.specs.Wanted.{starts_in, is_order, entries_before}
 use Rattle.trace_events.specs.Wishes.{is_level}
 use Rattle.trace_check.specs.State.{JudgeState, at, among, times_at}
 use Rattle.trace_check.specs.After.{excludes}

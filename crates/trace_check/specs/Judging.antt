@@ -1,9 +1,6 @@
 -- A judge of traces: what it keeps, and which traces it has judged.
 use Rattle.std.specs.Prelude.{◌≡◌, List, [], ◌∷◌, Option, Some, None}
-use Rattle.init_words.specs.declared.entries.Entry.{Entry}
-use Rattle.trace_events.specs.Event.{Event}
-use Rattle.trace_events.specs.Past.{table_of}
-use Rattle.trace_events.specs.Lawful.{first_breach}
+use Rattle.trace_check.specs.Words.{Entry, Event, table_of, first_breach}
 use Rattle.trace_check.specs.declared.laws.Law.{Law}
 use Rattle.trace_check.specs.State.{JudgeState, opening}
 use Rattle.trace_check.specs.Reading.{Reads}

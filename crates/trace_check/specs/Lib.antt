@@ -5,3 +5,4 @@ pub mod Judging
 pub mod Laws
 pub mod Reading
 pub mod State
+pub mod Words

@@ -2,9 +2,7 @@
 use Rattle.std.specs.Prelude.{ℕ, Bool, List, [], Option, Some, None}
 use Rattle.std.specs.Map.{lookup}
 use Rattle.std.specs.List.{list_any}
-use Rattle.init_words.specs.declared.stages.Stage.{Stage}
-use Rattle.init_words.specs.declared.orders.OrderKind.{OrderKind}
-use Rattle.init_words.specs.Ids.{same_id}
+use Rattle.trace_check.specs.Words.{Stage, OrderKind, same_id}
 use Rattle.trace_check.specs.declared.children.UnreapedChild.{UnreapedChild}
 
 -- what is kept of an id

@@ -1,7 +1,7 @@
 //! The unreaped children, as the judge keeps them.
 
 ghost use Rattle.std.specs.Prelude.{◌≡◌, ◌<◌, ℕ, List, option_copied};
-ghost use Rattle.indexmap.specs.IndexMap.{spare};
+ghost use Rattle.trace_check.specs.Words.{spare};
 ghost use Rattle.trace_check.specs.State.{at};
 ghost use Rattle.trace_check.specs.After.{is_numbered, child_after};
 

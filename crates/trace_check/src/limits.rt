@@ -2,9 +2,7 @@
 
 ghost use Rattle.std.specs.Prelude.{◌≡◌, ℕ, ◌-◌, if◌then◌else◌, List, ◌∷◌, [], take, slice_get, nat_lt, false, ◌<◌};
 ghost use Rattle.std.specs.Option.{option_map_or};
-ghost use Rattle.respawn_limit.specs.declared.TheConstants.{STARTS, WINDOW};
-ghost use Rattle.indexmap.specs.IndexMap.{spare};
-ghost use Rattle.init_words.specs.Ids.{same_id};
+ghost use Rattle.trace_check.specs.Words.{STARTS, WINDOW, spare, same_id};
 ghost use Rattle.trace_check.specs.State.{at, times_at};
 ghost use Rattle.trace_check.specs.After.{starts_after, hold_after};
 

@@ -1,9 +1,8 @@
 //! Maps and sets by id.
 
 ghost use Rattle.std.specs.Prelude.{◌≡◌, ◌<◌, ◌≤◌, ◌+◌, ℕ, not, ◌&&◌, ◌||◌, if◌then◌else◌, List, [], Some, OnOk};
-ghost use Rattle.indexmap.specs.IndexMap.{spare};
+ghost use Rattle.trace_check.specs.Words.{spare, same_id};
 ghost use Rattle.indexmap.specs.IndexSet.{spare as set_spare};
-ghost use Rattle.init_words.specs.Ids.{same_id};
 ghost use Rattle.trace_check.specs.State.{at, among};
 
 use indexmap::{IndexMap, IndexSet};

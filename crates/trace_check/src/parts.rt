@@ -1,11 +1,9 @@
 //! What each single value that the judge keeps becomes by a happening.
 
 ghost use Rattle.std.specs.Prelude.{◌≡◌, ℕ, not, ◌&&◌, ◌||◌, List, is_some, ◌<◌, ◌≤◌, length, OnOk, OnErr};
-ghost use Rattle.indexmap.specs.IndexMap.{spare};
+ghost use Rattle.trace_check.specs.Words.{spare, has_id, is_order, starts_in};
 ghost use Rattle.indexmap.specs.IndexSet.{spare as set_spare};
-ghost use Rattle.inittab_text.specs.Tables.{has_id};
 ghost use Rattle.std.specs.List.{list_any};
-ghost use Rattle.trace_events.specs.Wanted.{is_order, starts_in};
 ghost use Rattle.trace_check.specs.State.{at, among};
 ghost use Rattle.trace_check.specs.After.{stage_after, grace_after, time_after, order_after, kept_after, is_changed, asked_after, is_named, is_named_at, stays_called_in, called_after, sent_after};
 

@@ -1,12 +1,8 @@
 //! What the judge reads off the past that it has judged.
 
 ghost use Rattle.std.specs.Prelude.{◌≡◌, true, List, find, option_copied, Some};
-ghost use Rattle.trace_events.specs.Event.{Event};
-ghost use Rattle.trace_events.specs.Past.{table_of, stage_of, grace_of, time_of, open_of, unreaped_children};
+ghost use Rattle.trace_check.specs.Words.{Event, table_of, stage_of, grace_of, time_of, open_of, unreaped_children, hold_times, is_held, is_full, is_wanted, is_owed, entries_before, entry_of, is_distinct};
 ghost use Rattle.trace_events.specs.Due.{is_settled};
-ghost use Rattle.trace_events.specs.Timing.{hold_times, is_held, is_full};
-ghost use Rattle.trace_events.specs.Wanted.{is_wanted, is_owed, entries_before};
-ghost use Rattle.inittab_text.specs.Tables.{entry_of, is_distinct};
 ghost use Rattle.trace_check.specs.Judging.{Judged};
 ghost use Rattle.trace_check.specs.Reading.{newest, child_of, term_of};
 

@@ -1,8 +1,7 @@
 //! The signals to children that are being stopped, as the judge keeps them.
 
 ghost use Rattle.std.specs.Prelude.{◌≡◌, ℕ, ◌<◌, if◌then◌else◌, List};
-ghost use Rattle.indexmap.specs.IndexMap.{spare};
-ghost use Rattle.init_words.specs.Ids.{same_id};
+ghost use Rattle.trace_check.specs.Words.{spare, same_id};
 ghost use Rattle.trace_check.specs.State.{at, among};
 ghost use Rattle.trace_check.specs.After.{spares, excludes, earliest, term_after};
 

@@ -2,9 +2,7 @@
 
 ghost use Rattle.std.specs.Prelude.{◌≡◌, ◌<◌, length, slice_get, option_copied, Some, List, IfOk};
 ghost use Rattle.std.specs.Option.{option_map_or};
-ghost use Rattle.init_words.specs.declared.entries.Entry.{Entry};
-ghost use Rattle.inittab_text.specs.Tables.{act_of};
-ghost use Rattle.trace_events.specs.Wanted.{same_acts, starts_in, may_live};
+ghost use Rattle.trace_check.specs.Words.{Entry, act_of, same_acts, starts_in, may_live};
 ghost use Rattle.trace_check.specs.After.{table_after, is_changed};
 
 use init_words::{Act, Entry, Id, Memory, Stage, lives, starts};

@@ -1,8 +1,7 @@
 //! The judge of a trace that comes one happening after another.
 
 ghost use Rattle.std.specs.Prelude.{◌≡◌, List, option_map, IfOk, OnErr};
-ghost use Rattle.trace_events.specs.Event.{Event};
-ghost use Rattle.trace_events.specs.Lawful.{broken};
+ghost use Rattle.trace_check.specs.Words.{Event, broken};
 ghost use Rattle.trace_check.specs.Laws.{law_number};
 ghost use Rattle.trace_check.specs.Judging.{unjudged, Judged, TakesNext};
 

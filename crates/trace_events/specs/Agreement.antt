@@ -2,7 +2,7 @@
 -- told.
 use Rattle.std.specs.Prelude.{ℕ, Bool, false, not, ◌&&◌, ◌||◌, ◌==◌, ◌≡◌, List, [], ◌∷◌}
 use Rattle.std.specs.List.{list_any}
-use Rattle.init_words.specs.Ids.{same_id}
+use Rattle.trace_events.specs.Words.{same_id}
 use Rattle.trace_events.specs.declared.happenings.Happening.TheVariants.{Birth, Reaped, Told}
 use Rattle.trace_events.specs.Event.{Event}
 use Rattle.trace_events.specs.Past.{is_child, unreaped_children, known_children}

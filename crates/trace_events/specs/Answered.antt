@@ -1,8 +1,7 @@
 -- What the system did for an id and init was not told of yet, as the answer that tells it.
 use Rattle.std.specs.Prelude.{ℕ, if◌then◌else◌, List, [], ◌∷◌, Option, Some, None}
-use Rattle.init_words.specs.declared.orders.Answer.{Answer}
+use Rattle.trace_events.specs.Words.{Answer, same_id}
 use Rattle.init_words.specs.declared.orders.Answer.TheVariants as answer
-use Rattle.init_words.specs.Ids.{same_id}
 use Rattle.trace_events.specs.declared.happenings.Happening.TheVariants.{Told}
 use Rattle.trace_events.specs.Event.{Event, SystemAct, act_in}
 use Rattle.trace_events.specs.Past.{Child, newborn}

@@ -1,9 +1,7 @@
 -- Three bounds on whole runs.
 use Rattle.std.specs.Prelude.{ℕ, Bool, true, not, ◌&&◌, ◌||◌, ◌+◌, ◌-◌, ◌==◌, if◌then◌else◌, nat_le, List, [], ◌∷◌, filter, length, drop}
 use Rattle.std.specs.List.{list_any, list_all}
-use Rattle.respawn_limit.specs.declared.TheConstants.{HOLD, STARTS, WINDOW}
-use Rattle.init_words.specs.declared.orders.OrderKind.TheVariants.{Start, Kill}
-use Rattle.init_words.specs.Ids.{same_id}
+use Rattle.trace_events.specs.Words.{HOLD, STARTS, WINDOW, Start, Kill, same_id}
 use Rattle.trace_events.specs.declared.happenings.Happening.TheVariants.{Asked, Hit}
 use Rattle.trace_events.specs.Event.{Event}
 use Rattle.trace_events.specs.Past.{time_of, Child, is_of, is_child, unreaped_children, known_children}

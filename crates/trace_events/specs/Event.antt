@@ -1,7 +1,6 @@
 -- One happening, in whichever memory its table lies, and what of it is an act of the system on an order.
 use Rattle.std.specs.Prelude.{ℕ, List, Option, Some, None}
-use Rattle.init_words.specs.declared.entries.Entry.{Entry}
-use Rattle.init_words.specs.declared.orders.Answer.{Answer}
+use Rattle.trace_events.specs.Words.{Entry, Answer}
 use Rattle.init_words.specs.declared.orders.Answer.TheVariants as answer
 use Rattle.trace_events.specs.declared.happenings.Happening.{Happening}
 use Rattle.trace_events.specs.declared.happenings.Happening.TheVariants.{Birth, NoBirth, Reaped, Still, NoLook, Hit, Miss}

@@ -2,16 +2,13 @@
 use Rattle.std.specs.Prelude.{ℕ, Bool, true, false, not, ◌&&◌, ◌||◌, if◌then◌else◌, List, [], ◌∷◌, length, Option, Some, None, is_none}
 use Rattle.std.specs.Option.{option_map_or}
 use Rattle.std.specs.List.{list_any}
-use Rattle.init_words.specs.declared.entries.Entry.{Entry}
-use Rattle.init_words.specs.declared.orders.OrderKind.TheVariants.{Start, Term, Kill}
-use Rattle.inittab_text.specs.Tables.{entry_of, act_of}
+use Rattle.trace_events.specs.Words.{Entry, Start, Term, Kill, entry_of, act_of, is_limited}
 use Rattle.trace_events.specs.declared.happenings.Happening.TheVariants.{Asked, Hold, Settle, Birth}
 use Rattle.trace_events.specs.Event.{Event}
 use Rattle.trace_events.specs.Past.{table_of, grace_of, time_of, is_of, has_child, unreaped_children}
 use Rattle.trace_events.specs.Wanted.{starts_now, is_owed_before, is_excluded}
 use Rattle.trace_events.specs.Spells.{is_ripe, spell_hits}
 use Rattle.trace_events.specs.Timing.{is_held, is_full}
-use Rattle.init_words.specs.Actions.{is_limited}
 use Rattle.trace_events.specs.Due.{is_settled}
 
 -- 1: no unreaped child has the id

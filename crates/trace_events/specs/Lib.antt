@@ -12,3 +12,4 @@ pub mod Spells
 pub mod Timing
 pub mod Wanted
 pub mod Wishes
+pub mod Words

@@ -2,15 +2,7 @@
 -- A trace is a list of happenings, THE NEWEST FIRST, so the last of a kind is the first that is found.
 use Rattle.std.specs.Prelude.{ℕ, Bool, true, false, not, ◌&&◌, ◌||◌, ◌==◌, if◌then◌else◌, max, min, List, [], ◌∷◌, ◌++◌, filter, Option, Some, None}
 use Rattle.std.specs.List.{list_any}
-use Rattle.respawn_limit.specs.declared.TheConstants.{CLOCK_LIMIT}
-use Rattle.init_words.specs.declared.entries.Entry.{Entry}
-use Rattle.init_words.specs.declared.actions.Act.{Act}
-use Rattle.init_words.specs.declared.stages.Stage.{Stage}
-use Rattle.init_words.specs.declared.orders.OrderKind.{OrderKind}
-use Rattle.init_words.specs.declared.orders.OrderKind.TheVariants.{Look}
-use Rattle.init_words.specs.Ids.{same_id}
-use Rattle.init_words.specs.Orders.{same_ask}
-use Rattle.inittab_text.specs.Tables.{act_of}
+use Rattle.trace_events.specs.Words.{CLOCK_LIMIT, Entry, Act, Stage, OrderKind, Look, same_id, same_ask, act_of}
 use Rattle.trace_events.specs.declared.happenings.Happening.TheVariants.{NewTable, Enter, Asked, Birth, Death, Reaped, Told, Clock}
 use Rattle.trace_events.specs.Event.{Event, SystemAct, act_in}
 

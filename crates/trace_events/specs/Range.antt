@@ -4,7 +4,7 @@ use Rattle.std.specs.List.{list_all}
 use Rattle.init_words.specs.declared.children.Status.{Status}
 use Rattle.init_words.specs.declared.children.Status.TheVariants.{Exit, Killed}
 use Rattle.init_words.specs.declared.limits.TheConstants.{GRACE_LIMIT}
-use Rattle.init_words.specs.Ids.{is_id}
+use Rattle.trace_events.specs.Words.{is_id}
 use Rattle.initctl_frame.specs.declared.requests.HeardRequest.{HeardRequest as Request}
 use Rattle.initctl_frame.specs.declared.requests.HeardRequest.TheVariants as got
 use Rattle.inittab_text.specs.Written.{is_table}

@@ -1,8 +1,7 @@
 -- Which traces are sound: what init may do, what the system and the edge may do.
 use Rattle.std.specs.Prelude.{Bool, true, false, not, ◌&&◌, ◌||◌, List, [], ◌∷◌}
 use Rattle.std.specs.List.{list_any}
-use Rattle.init_words.specs.declared.orders.OrderKind.TheVariants.{Start, Look, Term, Kill}
-use Rattle.inittab_text.specs.Tables.{is_distinct}
+use Rattle.trace_events.specs.Words.{Start, Look, Term, Kill, is_distinct}
 use Rattle.trace_events.specs.declared.happenings.Happening.TheVariants.{NewTable, NotRead, Enter, Call, Power, Asked, Hold, Settle, Birth, NoBirth, Death, Reaped, Still, NoLook, Hit, Miss, Told, Clock, Nudge, Got, Handed}
 use Rattle.trace_events.specs.declared.steps.Step.TheVariants as step
 use Rattle.trace_events.specs.declared.steps.Goal.{Goal}

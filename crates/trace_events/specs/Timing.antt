@@ -1,9 +1,7 @@
 -- The respawn limit, read off the past: an entry started ten times in two minutes is held for five (init(8)).
 use Rattle.std.specs.Prelude.{ℕ, Bool, ◌-◌, ◌+◌, if◌then◌else◌, nat_lt, nat_le, List, [], ◌∷◌, filter, length}
 use Rattle.std.specs.List.{list_any}
-use Rattle.respawn_limit.specs.declared.TheConstants.{HOLD, STARTS, WINDOW}
-use Rattle.init_words.specs.declared.orders.OrderKind.TheVariants.{Start}
-use Rattle.init_words.specs.Ids.{same_id}
+use Rattle.trace_events.specs.Words.{HOLD, STARTS, WINDOW, Start, same_id}
 use Rattle.trace_events.specs.declared.happenings.Happening.TheVariants.{NewTable, Enter, Asked, Hold}
 use Rattle.trace_events.specs.Event.{Event}
 use Rattle.trace_events.specs.Past.{time_of}

@@ -1,18 +1,7 @@
 -- Which entries were asked, called, are wanted, owed; which children are excluded (inittab(5), init(8)).
 use Rattle.std.specs.Prelude.{ℕ, Bool, false, not, ◌&&◌, ◌||◌, if◌then◌else◌, List, [], ◌∷◌, Option, Some, None}
 use Rattle.std.specs.List.{list_any}
-use Rattle.init_words.specs.declared.entries.Entry.{Entry}
-use Rattle.init_words.specs.declared.actions.Act.{Act}
-use Rattle.init_words.specs.declared.levels.Mark.TheVariants.{OnCall}
-use Rattle.init_words.specs.declared.stages.Stage.{Stage}
-use Rattle.init_words.specs.declared.orders.OrderKind.{OrderKind}
-use Rattle.init_words.specs.declared.orders.OrderKind.TheVariants.{Start}
-use Rattle.init_words.specs.Ids.{same_id}
-use Rattle.init_words.specs.Actions.{same_act, is_called_by, is_ondemand, stays_called, wanted_by}
-use Rattle.init_words.specs.Levels.{names}
-use Rattle.init_words.specs.Orders.{same_ask}
-use Rattle.init_words.specs.Entries.{starts_of, lives_of, waited_of}
-use Rattle.inittab_text.specs.Tables.{has_id, entry_of, act_of}
+use Rattle.trace_events.specs.Words.{Entry, Act, OnCall, Stage, OrderKind, Start, same_id, same_act, is_called_by, is_ondemand, stays_called, wanted_by, names, same_ask, starts_of, lives_of, waited_of, has_id, entry_of, act_of}
 use Rattle.trace_events.specs.declared.happenings.Happening.TheVariants.{NewTable, Enter, Call, Power, Asked}
 use Rattle.trace_events.specs.Event.{Event}
 use Rattle.trace_events.specs.Past.{table_of, stage_of, Child, has_child, open_of, kept_children}

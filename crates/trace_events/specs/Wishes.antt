@@ -1,15 +1,9 @@
 -- What was wished and is not yet done, and the goal (telinit(8), initreq.h).
 use Rattle.std.specs.Prelude.{Bool, true, false, not, ◌&&◌, ◌||◌, if◌then◌else◌, List, [], ◌∷◌, Option, Some, None, is_some}
 use Rattle.std.specs.List.{list_any}
-use Rattle.init_words.specs.declared.levels.Level.{Level}
-use Rattle.init_words.specs.declared.levels.Letter.{Letter}
+use Rattle.trace_events.specs.Words.{Level, Letter, Stage, Boot, Run, PowerKind, same_level, same_letter, same_power}
 use Rattle.init_words.specs.declared.levels.Letter.TheVariants as letter
-use Rattle.init_words.specs.declared.stages.Stage.{Stage}
-use Rattle.init_words.specs.declared.stages.Stage.TheVariants.{Boot, Run}
-use Rattle.init_words.specs.declared.orders.PowerKind.{PowerKind}
 use Rattle.init_words.specs.declared.orders.PowerKind.TheVariants as power
-use Rattle.init_words.specs.Levels.{same_level, same_letter}
-use Rattle.init_words.specs.Orders.{same_power}
 use Rattle.initctl_frame.specs.declared.requests.HeardRequest.TheVariants as got
 use Rattle.trace_events.specs.declared.happenings.Happening.TheVariants.{NewTable, NotRead, Enter, Call, Power, Got, Handed}
 use Rattle.trace_events.specs.declared.steps.Goal.{Goal}

@@ -1,7 +1,7 @@
 //! The numbers that a happening can have: ids, child numbers, statuses.
 
 ghost use Rattle.std.specs.Prelude.{◌≡◌, ◌+◌, ◌^◌, ◌<◌, true};
-ghost use Rattle.init_words.specs.Ids.{is_id};
+ghost use Rattle.trace_events.specs.Words.{is_id};
 ghost use Rattle.trace_events.specs.Range.{is_in_range, is_short, is_status, is_hand_over};
 
 use crate::happenings::{Handed, Happening, HappeningIn};

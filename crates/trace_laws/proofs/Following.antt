@@ -1,5 +1,6 @@
 -- The law of plans: behind the steps so far stand the starts that are coming in the stage, and the stages after it.
-use Rattle.trace_laws.proofs.Words.{◌≡◌, refl, sym, ◌∙◌, ap, subst, ℕ, Bool, true, false, not, ◌&&◌, ◌||◌, List, [], ◌∷◌, ◌++◌, map, filter, Option, Some, None, append_assoc, arith, list_any, list_all, false≢true, and_parts, not-true, or_from, append-nil, Entry, Act, Level, Mark, At, Start, Stage, starts_by, wanted_by, served_by, waited_of, names, same_level-is, falsely, NewTable, Asked, Step, Goal, Event, table_of, stage_of, is_of, has_child, is_quiet, kept_children, known_children, is_asked, is_wanted, is_owed, is_owed_before, is_excluded, is_held, is_level, wish_stands, none_excluded, steps_if, starts_among, due_starts, is_over, due, first, is_announced, is_served, keeps_order, is_orderly, may_come, is_started, started_in, start_of, boot_before, steps_along, plan_of, BeginsWith, is_undisturbed, taken}
+use Rattle.trace_laws.proofs.Words.{◌≡◌, refl, sym, ◌∙◌, ap, subst, ℕ, Bool, true, false, not, ◌&&◌, ◌||◌, List, [], ◌∷◌, ◌++◌, map, filter, Option, Some, None, append_assoc, arith, list_any, list_all, false≢true, and_parts, not-true, or_from, append-nil, Entry, Act, Level, Mark, At, Start, Stage, starts_by, wanted_by, served_by, waited_of, same_level-is, falsely, NewTable, Asked, Step, Goal, Event, table_of, stage_of, is_of, has_child, is_quiet, kept_children, known_children, is_asked, is_wanted, is_owed, is_owed_before, is_excluded, is_held, is_level, wish_stands, none_excluded, steps_if, starts_among, due_starts, is_over, due, first, is_announced, is_served, keeps_order, is_orderly, may_come, is_started, started_in, start_of, boot_before, steps_along, plan_of, BeginsWith, is_undisturbed, taken}
+use Rattle.init_words.specs.Levels.{names}
 use Rattle.init_words.specs.declared.stages.Stage.TheVariants as stage
 use Rattle.trace_events.specs.declared.happenings.Happening.TheVariants.{Enter, Settle}
 use Rattle.trace_events.specs.declared.steps.Step.TheVariants as step

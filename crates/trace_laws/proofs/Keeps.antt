@@ -1,5 +1,6 @@
 -- What every sound trace keeps at each of its moments.
-use Rattle.trace_laws.proofs.Words.{◌≡◌, refl, sym, ◌∙◌, ap, subst, inl, inr, ℕ, ◌==◌, Bool, true, false, not, ◌&&◌, ◌||◌, cond, List, [], ◌∷◌, Option, Some, None, is_some, arith, list_any, false≢true, and_parts, and_from, and_left, and_right, or_left, or_right, or_from, not-true, none-some, same_Some, Entry, Act, Status, OrderKind, Start, Look, Term, Kill, same_id, same_ask, waited_by, wanted_by, has_id, entry_of, is_distinct, NewTable, Asked, Birth, NoBirth, Reaped, Still, NoLook, Hit, Miss, Told, Goal, Event, table_of, stage_of, Child, is_of, is_child, has_number, has_child, open_of, undone_of, is_untold, is_quiet, newborn, unreaped_children, kept_children, known_children, starts_in, is_order, is_asked, is_called, is_wanted, is_owed, entries_before, is_owed_before, is_excluded, stop_due, is_placed, may_term, is_due, same_id-is, same_id-self, same_id-apart, both_ways, falsely, or_either, not_from, any_less, any_within, may_come, is_sound}
+use Rattle.trace_laws.proofs.Words.{◌≡◌, refl, sym, ◌∙◌, ap, subst, inl, inr, ℕ, ◌==◌, Bool, true, false, not, ◌&&◌, ◌||◌, cond, List, [], ◌∷◌, Option, Some, None, is_some, arith, list_any, false≢true, and_parts, and_from, and_left, and_right, or_left, or_right, or_from, not-true, none-some, same_Some, Entry, Act, OrderKind, Start, Look, Term, Kill, same_id, same_ask, waited_by, wanted_by, has_id, entry_of, is_distinct, NewTable, Asked, Birth, NoBirth, Reaped, Still, NoLook, Hit, Miss, Told, Goal, Event, table_of, stage_of, Child, is_of, is_child, has_number, has_child, open_of, undone_of, is_untold, is_quiet, newborn, unreaped_children, kept_children, known_children, starts_in, is_order, is_asked, is_called, is_wanted, is_owed, entries_before, is_owed_before, is_excluded, stop_due, is_placed, may_term, is_due, same_id-is, same_id-self, same_id-apart, both_ways, falsely, or_either, not_from, any_less, any_within, may_come, is_sound}
+use Rattle.init_words.specs.declared.children.Status.{Status}
 use Rattle.trace_events.specs.declared.happenings.Happening.TheVariants.{Enter, Call, Power}
 use Rattle.trace_events.specs.declared.steps.Step.TheVariants as step
 use Rattle.trace_laws.proofs.Tests.{is_order-is}

@@ -1,5 +1,6 @@
 -- The laws of two happenings of a sound trace, by what comes between them.
-use Rattle.trace_laws.proofs.Words.{◌≡◌, ◌≤◌, ◌+◌, ◌-◌, refl, ◌∙◌, ap, ℕ, Bool, true, false, not, ◌&&◌, ◌||◌, ◌==◌, cond, nat_le, List, [], ◌∷◌, ◌++◌, filter, drop, zero, suc, arith, append_assoc, list_any, list_all, option_map_or, false≢true, and_parts, and_from, or_left, or_right, leb-true, not-true, HOLD, STARTS, WINDOW, Entry, OrderKind, Start, same_id, act_of, NewTable, Asked, Birth, Reaped, Hit, Goal, Event, table_of, time_of, is_of, is_child, has_child, newborn, unreaped_children, known_children, is_excluded, start_times, hold_times, is_held, is_full, is_limited, is_sound, is_limited_id, targets, is_spaced, is_steady, count_starts, is_order_of, is_reaping_of, same_id-self, both_ways, any_less, filter_none}
+use Rattle.trace_laws.proofs.Words.{◌≡◌, ◌≤◌, ◌+◌, ◌-◌, refl, ◌∙◌, ap, ℕ, Bool, true, false, not, ◌&&◌, ◌||◌, ◌==◌, cond, nat_le, List, [], ◌∷◌, ◌++◌, filter, drop, zero, suc, arith, append_assoc, list_any, list_all, option_map_or, false≢true, and_parts, and_from, or_left, or_right, leb-true, not-true, HOLD, STARTS, WINDOW, Entry, OrderKind, Start, same_id, act_of, NewTable, Asked, Birth, Reaped, Hit, Goal, Event, table_of, time_of, is_of, is_child, has_child, newborn, unreaped_children, known_children, is_excluded, start_times, hold_times, is_held, is_full, is_limited, is_sound, is_limited_id, targets, is_spaced, same_id-self, both_ways, any_less, filter_none}
+use Rattle.trace_laws.specs.Stretches.{is_steady, count_starts, is_order_of, is_reaping_of}
 use Rattle.std.proofs.Common.{eq-eqb}
 use Rattle.trace_events.specs.declared.happenings.Happening.TheVariants.{Enter, Hold}
 use Rattle.trace_laws.proofs.Births.{birth_alone}

@@ -1,23 +1,11 @@
 -- A trace as `initd run` writes it: an orderly one, that nothing disturbs, up to the announcement. In it the system acts
 -- while steps are due, so it is no run of `initd simulate`.
-use Rattle.std.proofs.Common.{◌≡◌, refl, ℕ, true, false, List, [], ◌∷◌, codes, Option, Some}
-use Rattle.init_words.specs.declared.entries.Entry.{Entry}
-use Rattle.init_words.specs.declared.actions.Act.{Act}
+use Rattle.trace_laws.proofs.Words.{◌≡◌, refl, ℕ, true, false, List, [], ◌∷◌, codes, Option, Some, Entry, Act, Mark, At, Start, Look, NewTable, Asked, Birth, Death, Reaped, Told, Clock, Nudge, Goal, Event, is_announced, is_sound, is_run, is_orderly, is_undisturbed}
 use Rattle.init_words.specs.declared.actions.Act.TheVariants as act
 use Rattle.init_words.specs.declared.levels.Level.TheVariants as level
-use Rattle.init_words.specs.declared.levels.Mark.{Mark}
-use Rattle.init_words.specs.declared.levels.Mark.TheVariants.{At}
 use Rattle.init_words.specs.declared.stages.Stage.TheVariants as stage
-use Rattle.init_words.specs.declared.orders.OrderKind.TheVariants.{Start, Look}
 use Rattle.init_words.specs.declared.children.Status.TheVariants.{Exit}
-use Rattle.trace_events.specs.declared.happenings.Happening.TheVariants.{NewTable, Enter, Asked, Settle, Birth, Death, Reaped, Told, Clock, Nudge}
-use Rattle.trace_events.specs.declared.steps.Goal.{Goal}
-use Rattle.trace_events.specs.Event.{Event}
-use Rattle.trace_events.specs.Due.{is_announced}
-use Rattle.trace_events.specs.Sound.{is_sound}
-use Rattle.trace_events.specs.Run.{is_run}
-use Rattle.trace_laws.specs.Orderly.{is_orderly}
-use Rattle.trace_laws.specs.Runs.{is_undisturbed}
+use Rattle.trace_events.specs.declared.happenings.Happening.TheVariants.{Enter, Settle}
 
 abbrev entry : List ℕ → List Mark → Act → Entry
 entry id levels action = record { id = id; levels = record { items = levels }; act = action; process = record { items = codes "x" } }

@@ -1,5 +1,6 @@
 -- The seconds between the two signals: a sound trace names those of its opening goal and of its requests alone.
-use Rattle.trace_laws.proofs.Words.{◌≡◌, refl, ℕ, Bool, true, not, ◌&&◌, cond, List, [], ◌∷◌, ◌++◌, Option, Some, None, arith, list_any, list_all, false≢true, and_parts, and_from, eqb-true, Entry, Letter, Stage, OrderKind, Start, Look, PowerKind, is_limited, Step, Reread, Order, Reexec, Goal, Event, table_of, stage_of, Child, is_of, is_quiet, is_idle, is_seconds, is_request, are_short, stop_due, is_sound, may_come, is_held, is_full, is_owed, goal_of, heard_level, other_than, level_wish, wants_reexec, wants_reread, powers, letters, wish_stands, in_run, step_if, steps_if, none_excluded, due_first, due_reexec, enter_level, power_steps, letter_steps, record_ids, stop_step, stops_of, stops_among, can_start, start_steps, starts_among, is_over, next_stage, is_announced, settle_step, can_look, looks_among, due, same_step}
+use Rattle.trace_laws.proofs.Words.{◌≡◌, refl, ℕ, Bool, true, not, ◌&&◌, cond, List, [], ◌∷◌, ◌++◌, Option, Some, None, arith, list_any, list_all, false≢true, and_parts, and_from, eqb-true, Entry, Letter, Stage, OrderKind, Start, Look, PowerKind, is_limited, Step, Reread, Order, Reexec, Goal, Event, table_of, stage_of, Child, is_of, is_quiet, is_idle, stop_due, is_sound, may_come, is_held, is_full, is_owed, goal_of, heard_level, other_than, level_wish, wants_reexec, wants_reread, powers, letters, wish_stands, in_run, step_if, steps_if, none_excluded, due_first, due_reexec, enter_level, power_steps, letter_steps, record_ids, stop_step, stops_of, stops_among, can_start, start_steps, starts_among, is_over, next_stage, is_announced, settle_step, can_look, looks_among, due, same_step}
+use Rattle.trace_events.specs.Range.{is_seconds, is_request, are_short}
 use Rattle.initctl_frame.specs.declared.requests.HeardRequest.TheVariants as got
 use Rattle.trace_events.specs.declared.happenings.Happening.TheVariants as past
 use Rattle.trace_events.specs.declared.steps.Step.TheVariants.{Enter, Call, Power, Hold}

@@ -1,5 +1,6 @@
 -- Where a level is announced settled, it is settled by the unreaped children.
-use Rattle.trace_laws.proofs.Words.{◌≡◌, refl, sym, ◌∙◌, ap, ℕ, Bool, true, not, ◌&&◌, List, ◌∷◌, ◌++◌, filter, Option, Some, arith, list_any, list_all, and_parts, and_from, not-true, Entry, Level, Stage, entry_of, Goal, Event, table_of, stage_of, Child, is_of, is_idle, unreaped_children, known_children, may_live, is_excluded, is_level, is_served, is_settled, may_come, is_sound, same_id-self, Passing, passing, falsely, not_from, any_less, all_less, all_fail, belongs}
+use Rattle.trace_laws.proofs.Words.{◌≡◌, refl, sym, ◌∙◌, ap, ℕ, Bool, true, not, ◌&&◌, List, ◌∷◌, ◌++◌, filter, Option, Some, arith, list_any, list_all, and_parts, and_from, not-true, Entry, Level, Stage, entry_of, Goal, Event, table_of, stage_of, Child, is_of, is_idle, unreaped_children, known_children, may_live, is_excluded, is_level, is_served, is_settled, may_come, is_sound, same_id-self, Passing, passing, falsely, not_from, any_less, all_less, all_fail}
+use Rattle.trace_laws.specs.Belonging.{belongs}
 use Rattle.init_words.specs.declared.stages.Stage.TheVariants as stage
 use Rattle.trace_events.specs.declared.happenings.Happening.TheVariants.{Settle}
 use Rattle.trace_events.specs.declared.steps.Step.TheVariants as step

@@ -1,5 +1,6 @@
 -- Before a KILL of a sound trace a TERM was told to the child in its spell, at least the grace ago.
-use Rattle.trace_laws.proofs.Words.{◌≡◌, ◌≤◌, ◌+◌, refl, sym, ◌∙◌, ap, subst, ℕ, Bool, true, false, ◌&&◌, ◌||◌, ◌==◌, cond, nat_le, List, [], ◌∷◌, ◌++◌, map, Option, append_assoc, arith, list_any, false≢true, and_parts, and_from, leb-true, list_any-append, OrderKind, Term, Kill, same_id, Asked, Told, Goal, Event, Child, grace_of, time_of, is_of, is_child, unreaped_children, is_order, is_excluded, Signal, untold_hits, told_at, tells_hits, in_spell, spell_hits, is_ripe, is_unreaped, is_sound, stays_excluded, Warned, same_id-is, same_id-self, Passing, passing, or_either}
+use Rattle.trace_laws.proofs.Words.{◌≡◌, ◌≤◌, ◌+◌, refl, sym, ◌∙◌, ap, subst, ℕ, Bool, true, false, ◌&&◌, ◌||◌, ◌==◌, cond, nat_le, List, [], ◌∷◌, ◌++◌, map, Option, append_assoc, arith, list_any, false≢true, and_parts, and_from, leb-true, list_any-append, OrderKind, Term, Kill, same_id, Asked, Told, Goal, Event, Child, grace_of, time_of, is_of, is_child, unreaped_children, is_order, is_excluded, Signal, untold_hits, told_at, tells_hits, in_spell, spell_hits, is_ripe, is_unreaped, is_sound, same_id-is, same_id-self, Passing, passing, or_either}
+use Rattle.trace_laws.specs.Warnings.{stays_excluded, Warned}
 use Rattle.std.proofs.Common.{eq-eqb}
 use Rattle.trace_laws.proofs.Signals.{kill_may}
 

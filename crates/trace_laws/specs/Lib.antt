@@ -5,3 +5,4 @@ pub mod Plans
 pub mod Runs
 pub mod Stretches
 pub mod Warnings
+pub mod Words

@@ -1,13 +1,8 @@
 -- At which moments of sound traces a law holds. A trace is a list of happenings, the newest first: `later ++ past` is a
 -- trace, looked at in the moment after `past`.
 use Rattle.std.specs.Prelude.{ℕ, IsTrue, List, ◌∷◌, ◌++◌}
-use Rattle.init_words.specs.declared.levels.Level.{Level}
+use Rattle.trace_laws.specs.Words.{Level, Start, Asked, Hold, Settle, Birth, Hit, Goal, Event, is_sound}
 use Rattle.init_words.specs.declared.orders.OrderKind.{OrderKind}
-use Rattle.init_words.specs.declared.orders.OrderKind.TheVariants.{Start}
-use Rattle.trace_events.specs.declared.happenings.Happening.TheVariants.{Asked, Hold, Settle, Birth, Hit}
-use Rattle.trace_events.specs.declared.steps.Goal.{Goal}
-use Rattle.trace_events.specs.Event.{Event}
-use Rattle.trace_events.specs.Sound.{is_sound}
 use Rattle.trace_laws.specs.Stretches.{is_steady}
 
 -- at each moment of each sound trace

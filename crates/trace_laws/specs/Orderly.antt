@@ -1,13 +1,7 @@
 -- Traces in which each step of init is the first that is due, whatever the system does meanwhile.
 use Rattle.std.specs.Prelude.{Bool, true, false, ◌&&◌, List, [], ◌∷◌, Option, Some, None}
-use Rattle.inittab_text.specs.Tables.{is_distinct}
-use Rattle.trace_events.specs.declared.happenings.Happening.TheVariants.{NewTable}
-use Rattle.trace_events.specs.declared.steps.Step.{Step}
-use Rattle.trace_events.specs.declared.steps.Goal.{Goal}
-use Rattle.trace_events.specs.Event.{Event}
-use Rattle.trace_events.specs.Due.{due, first, same_step}
+use Rattle.trace_laws.specs.Words.{is_distinct, NewTable, Step, Goal, Event, due, first, same_step, may_come}
 use Rattle.trace_events.specs.Run.{step_in}
-use Rattle.trace_events.specs.Sound.{may_come}
 
 -- the happening is no step of init's own, or it is this one
 abbrev pub is_own_step : Step → Option Step → Bool

@@ -1,17 +1,12 @@
 -- What init starts of itself on its way to a level, in its order (inittab(5), init(8)).
 use Rattle.std.specs.Prelude.{ℕ, Bool, true, false, ◌&&◌, if◌then◌else◌, List, [], ◌∷◌, ◌++◌, map, filter}
 use Rattle.init_words.specs.declared.entries.Entry.{Entry}
-use Rattle.init_words.specs.declared.levels.Level.{Level}
+use Rattle.trace_laws.specs.Words.{Level, Start, Sysinit, Boot, Run, starts_of, waited_of, Goal, Step, Order}
 use Rattle.init_words.specs.declared.levels.Level.TheVariants.{S}
-use Rattle.init_words.specs.declared.orders.OrderKind.TheVariants.{Start}
 use Rattle.init_words.specs.declared.stages.Stage.{Stage}
-use Rattle.init_words.specs.declared.stages.Stage.TheVariants.{Sysinit, Boot, Run}
 use Rattle.init_words.specs.Actions.{wanted_by}
-use Rattle.init_words.specs.Entries.{starts_of, waited_of}
 use Rattle.init_words.specs.Levels.{same_level}
-use Rattle.trace_events.specs.declared.steps.Goal.{Goal}
-use Rattle.trace_events.specs.declared.steps.Step.{Step}
-use Rattle.trace_events.specs.declared.steps.Step.TheVariants.{Enter, Order}
+use Rattle.trace_events.specs.declared.steps.Step.TheVariants.{Enter}
 
 -- a stage starts the entry of itself: it starts there, and is wanted where nothing of it was started or called
 abbrev pub is_started : Stage → Entry → Bool

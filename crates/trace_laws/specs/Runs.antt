@@ -2,14 +2,9 @@
 use Rattle.std.specs.Prelude.{◌≡◌, Bool, true, false, not, ◌&&◌, ◌||◌, List, [], ◌∷◌, ◌++◌}
 use Rattle.std.specs.List.{list_all}
 use Rattle.std.specs.Option.{option_map_or}
-use Rattle.init_words.specs.declared.orders.OrderKind.TheVariants.{Start}
-use Rattle.init_words.specs.Entries.{waited_of}
-use Rattle.inittab_text.specs.Tables.{entry_of}
+use Rattle.trace_laws.specs.Words.{Start, waited_of, entry_of, Step, Order, Event, Child, has_number, table_of, unreaped_children}
 use Rattle.trace_events.specs.declared.happenings.Happening.TheVariants as happened
-use Rattle.trace_events.specs.declared.steps.Step.{Step}
-use Rattle.trace_events.specs.declared.steps.Step.TheVariants.{Enter, Order}
-use Rattle.trace_events.specs.Event.{Event}
-use Rattle.trace_events.specs.Past.{Child, has_number, table_of, unreaped_children}
+use Rattle.trace_events.specs.declared.steps.Step.TheVariants.{Enter}
 
 -- init waits for the child's end: the table has its id with an action that is waited for
 abbrev pub is_awaited : List Event → Child → Bool

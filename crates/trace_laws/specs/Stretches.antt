@@ -1,12 +1,8 @@
 -- Stretches of a trace, between one happening and a later one.
 use Rattle.std.specs.Prelude.{ℕ, Bool, true, false, ◌&&◌, ◌==◌, ◌+◌, if◌then◌else◌, List, [], ◌∷◌}
-use Rattle.init_words.specs.declared.orders.OrderKind.TheVariants.{Start}
+use Rattle.trace_laws.specs.Words.{Start, NewTable, Asked, Reaped, Event, Child, is_excluded, is_unreaped}
 use Rattle.init_words.specs.Ids.{same_id}
-use Rattle.trace_events.specs.declared.happenings.Happening.TheVariants.{NewTable, Enter, Asked, Reaped}
-use Rattle.trace_events.specs.Event.{Event}
-use Rattle.trace_events.specs.Past.{Child}
-use Rattle.trace_events.specs.Wanted.{is_excluded}
-use Rattle.trace_events.specs.Agreement.{is_unreaped}
+use Rattle.trace_events.specs.declared.happenings.Happening.TheVariants.{Enter}
 
 -- no stage begins and no table comes in the stretch
 abbrev pub is_steady : List Event → Bool

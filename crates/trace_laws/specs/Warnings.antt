@@ -1,13 +1,8 @@
 -- What comes before a KILL: a TERM that was sent to the child, told in its spell, and the grace.
 use Rattle.std.specs.Prelude.{◌≡◌, ◌≤◌, ◌+◌, ℕ, Bool, true, IsTrue, ◌&&◌, List, [], ◌∷◌, ◌++◌}
 use Rattle.std.specs.List.{list_any}
-use Rattle.init_words.specs.declared.orders.OrderKind.TheVariants.{Term}
-use Rattle.trace_events.specs.declared.happenings.Happening.TheVariants.{Told}
-use Rattle.trace_events.specs.Event.{Event}
-use Rattle.trace_events.specs.Past.{Child, grace_of, time_of, is_of}
-use Rattle.trace_events.specs.Wanted.{is_order}
+use Rattle.trace_laws.specs.Words.{Term, Told, Event, Child, grace_of, time_of, is_of, is_order, is_unreaped}
 use Rattle.trace_events.specs.Spells.{untold_hits, in_spell}
-use Rattle.trace_events.specs.Agreement.{is_unreaped}
 
 -- each happening of a stretch belongs to the spell of the child
 abbrev pub stays_excluded : Child → List Event → List Event → Bool

@@ -9,10 +9,8 @@
 mod plans;
 
 ghost use Rattle.std.specs.Prelude.{IsTrue, List};
-ghost use Rattle.trace_events.specs.declared.steps.Goal.{Goal};
-ghost use Rattle.trace_events.specs.Event.{Event};
+ghost use Rattle.trace_laws.specs.Words.{Goal, Event, is_sound};
 ghost use Rattle.trace_events.specs.Lawful.{is_lawful};
-ghost use Rattle.trace_events.specs.Sound.{is_sound};
 
 pub use plans::law_of_plans;
 

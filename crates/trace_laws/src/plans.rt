@@ -4,13 +4,7 @@
 //! children disturbs a run, init enters the stages and starts the entries of the plan, in its order, and no others.
 
 ghost use Rattle.std.specs.Prelude.{◌≡◌, IsTrue, false, ℕ, List, ◌∷◌};
-ghost use Rattle.init_words.specs.declared.orders.OrderKind.TheVariants.{Start};
-ghost use Rattle.trace_events.specs.declared.happenings.Happening.TheVariants.{Asked};
-ghost use Rattle.trace_events.specs.declared.steps.Goal.{Goal};
-ghost use Rattle.trace_events.specs.Event.{Event};
-ghost use Rattle.trace_events.specs.Past.{table_of};
-ghost use Rattle.trace_events.specs.Wanted.{is_owed_before};
-ghost use Rattle.trace_events.specs.Due.{is_announced};
+ghost use Rattle.trace_laws.specs.Words.{Start, Asked, Goal, Event, table_of, is_owed_before, is_announced};
 ghost use Rattle.trace_laws.specs.Orderly.{is_orderly};
 ghost use Rattle.trace_laws.specs.Plans.{plan_of};
 ghost use Rattle.trace_laws.specs.Runs.{BeginsWith, is_undisturbed, taken};

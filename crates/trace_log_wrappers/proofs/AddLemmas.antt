@@ -1,10 +1,5 @@
 -- What a log gains in two parts.
-use Rattle.std.proofs.Common.{sym, ◌∙◌, ap, subst, List, ◌++◌, Ok, Err, OnOk, OnErr, append_assoc}
-use Rattle.std.specs.declared.result.Result.{Result}
-use Rattle.trace_events.specs.Event.{Event}
-use Rattle.trace_log.specs.Logs.{LogState}
-use Rattle.trace_log_wrappers.specs.Adding.{AddsHappenings, AddsFront}
-use Rattle.trace_log_wrappers.specs.Keeping.{Grows}
+use Rattle.trace_log_wrappers.proofs.Words.{sym, ◌∙◌, ap, subst, List, ◌++◌, Ok, Err, OnOk, OnErr, append_assoc, Result, Event, LogState, AddsHappenings, AddsFront, Grows}
 
 pub adds_two : (old one two : LogState) (xs ys : List Event) → AddsHappenings old one xs → AddsHappenings one two ys → AddsHappenings old two (xs ++ ys)
 adds_two old one two xs ys first second = λ before took.

@@ -1,14 +1,6 @@
 -- What a brief log has written and holds behind a happening that it took or refused, and at its end.
-use Rattle.std.proofs.Common.{◌≡◌, refl, sym, ◌∙◌, ap, subst, Bool, true, false, List, [], ◌∷◌, ◌++◌, append-nil, reverse, Ok, Err, OnOk, OnErr, is_ok, is_err, ◌&&◌, arith}
-use Rattle.std.proofs.lemmas.List.{reverse-append}
-use Rattle.std.specs.declared.result.Result.{Result}
-use Rattle.trace_events.specs.Event.{Event}
-use Rattle.trace_brief.specs.declared.held.HeldBack.{HeldBack}
-use Rattle.trace_brief.specs.Brief.{brief_of}
-use Rattle.trace_brief.specs.Holding.{Holds, held_events, next_held}
-use Rattle.trace_log.specs.Logs.{LogState}
-use Rattle.trace_log_wrappers.specs.Adding.{AddsHappenings, AddsFront, held_first, newly_first}
-use Rattle.trace_log_wrappers.specs.Keeping.{EndsBrief, HandsOn, TookBy, Writes}
+use Rattle.trace_log_wrappers.proofs.Words.{◌≡◌, refl, sym, ◌∙◌, ap, subst, Bool, true, false, List, [], ◌∷◌, ◌++◌, append-nil, reverse, Ok, Err, OnOk, OnErr, is_ok, ◌&&◌, arith, reverse-append, Result, Event, HeldBack, brief_of, Holds, held_events, next_held, LogState, AddsHappenings, AddsFront, held_first, newly_first, EndsBrief, HandsOn, TookBy, Writes}
+use Rattle.std.proofs.Common.{is_err}
 use Rattle.trace_log_wrappers.proofs.Writing.{kept_end, kept_front, kept_next, kept_part}
 
 -- a trace with a happening behind it, turned

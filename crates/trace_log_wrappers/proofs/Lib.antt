@@ -1,3 +1,4 @@
 pub mod AddLemmas
 pub mod KeepLemmas
+pub mod Words
 pub mod Writing

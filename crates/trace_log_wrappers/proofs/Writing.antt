@@ -1,15 +1,9 @@
 -- What a brief log has written, behind each happening, and at its end.
-use Rattle.std.proofs.Common.{◌≡◌, refl, sym, ◌∙◌, ap, ap₂, subst, ℕ, Bool, true, false, List, ◌∷◌, ◌++◌, reverse, Option, Some, None, append_assoc}
-use Rattle.std.proofs.lemmas.List.{reverse-append, reverse-reverse}
+use Rattle.trace_log_wrappers.proofs.Words.{◌≡◌, refl, sym, ◌∙◌, ap, ap₂, subst, ℕ, Bool, true, false, List, ◌∷◌, ◌++◌, reverse, Option, Some, None, append_assoc, reverse-append, reverse-reverse, Event, HeldBack, brief_of, look_events, round_events, reading_events, held_events, held_back, written_of, Holds, next_held, newly_by, newly_written, held_first, newly_first_by, newly_first}
 use Rattle.trace_events.specs.declared.happenings.Happening.TheVariants.{Clock, Nudge}
-use Rattle.trace_events.specs.Event.{Event}
-use Rattle.trace_brief.specs.declared.held.HeldBack.{HeldBack}
 use Rattle.trace_brief.specs.declared.held.HeldLook.{HeldLook}
 use Rattle.trace_brief.specs.declared.held.HeldLook.TheVariants.{Ordered, FoundNothing}
-use Rattle.trace_brief.specs.Brief.{brief_of}
-use Rattle.trace_brief.specs.Holding.{look_events, round_events, reading_events, held_events, held_back, written_of, Holds, next_held, newly_by, newly_written}
 use Rattle.trace_brief.proofs.HoldLemmas.{holds_next}
-use Rattle.trace_log_wrappers.specs.Adding.{held_first, newly_first_by, newly_first}
 
 turned : (reading : Option ℕ) (round : Bool) (look : Option HeldLook) → reverse (reading_events reading ++ round_events round ++ reverse (look_events look)) ≡ look_events look ++ round_events round ++ reading_events reading
 turned None false None = refl

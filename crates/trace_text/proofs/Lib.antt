@@ -1,3 +1,4 @@
+pub mod CommonWords
 pub mod LineFronts
 pub mod LineTexts
 pub mod LineWords

@@ -1,10 +1,5 @@
 -- Whole lines at the front of a text stay the same when more of it comes.
-use Rattle.std.proofs.Common.{◌≡◌, ℕ, zero, suc, ◌+◌, ◌≤◌, List, [], ◌∷◌, ◌++◌, Option, Some, None, option_and_then, refl, ap, ◌∙◌, arith}
-use Rattle.std.proofs.lemmas.List.{append_assoc}
-use Rattle.std.proofs.lemmas.Option.{none-some}
-use Rattle.text_lines.specs.Lines.{cut, newlines, after_lines}
-use Rattle.text_lines.proofs.CutLemmas.{cut-parts, cut-lacks, cut-append}
-use Rattle.text_lines.proofs.PieceLemmas.{newlines-append, newlines-none}
+use Rattle.trace_text.proofs.CommonWords.{◌≡◌, ℕ, zero, suc, ◌+◌, ◌≤◌, List, [], ◌∷◌, ◌++◌, Option, Some, None, option_and_then, refl, ap, ◌∙◌, arith, append_assoc, none-some, cut, newlines, after_lines, cut-parts, cut-lacks, cut-append, newlines-append, newlines-none}
 
 -- the first line of a longer text
 pub cut-more : (text more line rest : List ℕ) → cut 10 text ≡ Some (line, rest) → cut 10 (text ++ more) ≡ Some (line, rest ++ more)

@@ -1,53 +1,24 @@
 -- The text of a happening is read as the happening, and what is read has this text.
-use Rattle.std.proofs.Common.{◌≡◌, ℕ, ◌+◌, ◌*◌, ◌-◌, ◌<◌, ◌≤◌, ◌^◌, Bool, true, false, cond, not, ◌&&◌, nat_lt, nat_le, List, [], ◌∷◌, ◌++◌, length, Option, Some, None, refl, sym, ap, ◌∙◌, arith, codes, decimal, subst, append-nil, length-append, lit<}
-use Rattle.std.specs.Option.{option_map, option_map_or}
+use Rattle.trace_text.proofs.CommonWords.{◌≡◌, ℕ, ◌+◌, ◌*◌, ◌-◌, ◌<◌, ◌≤◌, ◌^◌, Bool, true, false, cond, not, ◌&&◌, nat_lt, nat_le, List, [], ◌∷◌, ◌++◌, length, Option, Some, None, refl, sym, ap, ◌∙◌, arith, codes, decimal, subst, append-nil, length-append, lit<, option_map, option_map_or, and_parts, and_from, ltb-true, leb-true, le-leb, lt-ltb, not-true, decimal_digit, length-decimal-le, append_assoc, option_and_then_some, some_pair_parts, cut, has_byte, newlines, cut-parts, cut-append, has_byte-append, pieces_of-joined, newlines-append, newlines-line, number_read-decimal, decimal-number_read, decimal-lacks, Status, Exit, Killed, Level, Letter, Stage, OrderKind, Start, Look, Term, Kill, PowerKind, GRACE_LIMIT, is_id, is_id_byte, same_id, same_id-is, number_read, Cause, option_map_some, NewTable, NotRead, Enter, Call, Power, Asked, Hold, Settle, Birth, NoBirth, Death, Reaped, Still, NoLook, Hit, Miss, Told, Clock, Nudge, Got, Handed, Event, words_of, words_behind, line_of_words, table_lines, event_text, level_word, letter_word, stage_word, order_word, power_word, cause_number, status_words, got_words, handed_words, is_in_range, is_number, is_status, is_request, is_hand_over, Begun, line_count, level_of_word, letter_of_word, stage_of_word, order_of_word, power_of_word, cause_of_word, words_read, words_in, entries_brought, use_begun, begun_by, begun}
 use Rattle.std.specs.List.{list_all, join_with_byte}
-use Rattle.std.proofs.lemmas.Bool.{and_parts, and_from, ltb-true, leb-true, le-leb, lt-ltb, not-true}
-use Rattle.std.proofs.lemmas.Fmt.{decimal_digit, length-decimal-le}
-use Rattle.std.proofs.lemmas.List.{append_assoc}
 use Rattle.std.proofs.lemmas.List.Splits.{join_with_byte-slice_split}
-use Rattle.std.proofs.lemmas.Option.{option_and_then_some, some_pair_parts}
-use Rattle.text_lines.specs.Lines.{cut, has_byte, newlines}
-use Rattle.text_lines.proofs.CutLemmas.{cut-parts, cut-append, has_byte-append}
-use Rattle.text_lines.proofs.PieceLemmas.{pieces_of-joined, newlines-append, newlines-line}
-use Rattle.text_lines.proofs.NumberLemmas.{number_read-decimal, decimal-number_read, decimal-lacks}
 use Rattle.init_words.specs.declared.entries.Entry.{Entry}
 use Rattle.init_words.proofs.IdParts.{id_parts}
-use Rattle.init_words.specs.declared.children.Status.{Status}
-use Rattle.init_words.specs.declared.children.Status.TheVariants.{Exit, Killed}
-use Rattle.init_words.specs.declared.levels.Level.{Level}
 use Rattle.init_words.specs.declared.levels.Level.TheVariants.{L0, L1, L2, L3, L4, L5, L6, L7, L8, L9, S}
-use Rattle.init_words.specs.declared.levels.Letter.{Letter}
 use Rattle.init_words.specs.declared.levels.Letter.TheVariants.{A, B, C}
-use Rattle.init_words.specs.declared.stages.Stage.{Stage}
 use Rattle.init_words.specs.declared.stages.Stage.TheVariants as stage
-use Rattle.init_words.specs.declared.orders.OrderKind.{OrderKind}
-use Rattle.init_words.specs.declared.orders.OrderKind.TheVariants.{Start, Look, Term, Kill}
-use Rattle.init_words.specs.declared.orders.PowerKind.{PowerKind}
 use Rattle.init_words.specs.declared.orders.PowerKind.TheVariants as power
-use Rattle.init_words.specs.declared.limits.TheConstants.{GRACE_LIMIT}
-use Rattle.init_words.specs.Ids.{is_id, is_id_byte, same_id}
-use Rattle.init_words.proofs.Same.{same_id-is}
-use Rattle.text_lines.specs.Numbers.{number_read}
 use Rattle.initctl_frame.specs.declared.requests.HeardRequest.{HeardRequest as Request}
 use Rattle.initctl_frame.specs.declared.requests.HeardRequest.TheVariants as got
-use Rattle.initctl_frame.specs.declared.requests.Cause.{Cause}
 use Rattle.inittab_text.specs.declared.reading.TheConstants.{TEXT_LIMIT}
 use Rattle.inittab_text.specs.declared.tables.TheConstants.{ENTRY_LIMIT}
 use Rattle.inittab_text.specs.Written.{is_table, table_begun, text_of}
 use Rattle.inittab_text.proofs.Entries.{table_parts}
-use Rattle.inittab_text.proofs.ReadLemmas.{option_map_some}
 use Rattle.inittab_text.proofs.LineLemmas.{begun_back, begun_own, newlines-text}
 use Rattle.inittab_text.proofs.SizeLemmas.{text_short}
-use Rattle.trace_events.specs.declared.happenings.Happening.TheVariants.{NewTable, NotRead, Enter, Call, Power, Asked, Hold, Settle, Birth, NoBirth, Death, Reaped, Still, NoLook, Hit, Miss, Told, Clock, Nudge, Got, Handed}
 use Rattle.trace_events.specs.declared.happenings.Handed.{Handed as HandOver}
 use Rattle.trace_events.specs.declared.happenings.Handed.TheVariants as handed
-use Rattle.trace_events.specs.Event.{Event}
-use Rattle.trace_text.specs.Lines.{words_of, words_behind, line_of_words, table_lines, event_text, level_word, letter_word, stage_word, order_word, power_word, cause_number, status_words, got_words, handed_words}
-use Rattle.trace_events.specs.Range.{is_in_range, is_number, is_status, is_request, is_hand_over}
-use Rattle.trace_text.specs.Texts.{Begun, line_count}
 use Rattle.trace_text.specs.declared.reading.TheConstants.{LINE_LIMIT}
-use Rattle.trace_text.specs.Reading.{level_of_word, letter_of_word, stage_of_word, order_of_word, power_of_word, cause_of_word, words_read, words_in, entries_brought, use_begun, begun_by, begun}
 use Rattle.trace_text.proofs.LineWords.{words_read-of}
 
 -- THE WORDS OF A HAPPENING ARE WORDS

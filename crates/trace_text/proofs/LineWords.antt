@@ -1,38 +1,13 @@
 -- The words of a happening's line are read as the happening, and what is read has these words.
-use Rattle.std.proofs.Common.{arith, ◌≡◌, ℕ, ◌+◌, ◌^◌, Bool, true, false, cond, ◌&&◌, List, [], ◌∷◌, Option, Some, None, refl, sym, ◌∙◌, codes, decimal, subst, lit<}
-use Rattle.std.proofs.lemmas.Bool.{and_parts, and_from}
-use Rattle.std.proofs.lemmas.Fmt.{decimal_digit}
-use Rattle.std.proofs.lemmas.Option.{option_and_then_some, same_Some}
-use Rattle.inittab_text.proofs.ReadLemmas.{option_map_some}
-use Rattle.text_lines.specs.Lines.{cut}
-use Rattle.text_lines.proofs.PieceLemmas.{pieces_of-cut, pieces_of-whole}
-use Rattle.text_lines.specs.Numbers.{number_read}
-use Rattle.text_lines.proofs.NumberLemmas.{decimal-number_read}
-use Rattle.init_words.specs.declared.children.Status.{Status}
-use Rattle.init_words.specs.declared.children.Status.TheVariants.{Exit, Killed}
-use Rattle.init_words.specs.declared.levels.Level.{Level}
-use Rattle.init_words.specs.declared.levels.Letter.{Letter}
-use Rattle.init_words.specs.declared.stages.Stage.{Stage}
+use Rattle.trace_text.proofs.CommonWords.{arith, ◌≡◌, ℕ, ◌+◌, ◌^◌, Bool, true, false, cond, ◌&&◌, List, [], ◌∷◌, Option, Some, None, refl, sym, ◌∙◌, codes, decimal, subst, lit<, and_parts, and_from, decimal_digit, option_and_then_some, same_Some, option_map_some, cut, pieces_of-cut, pieces_of-whole, number_read, decimal-number_read, Status, Exit, Killed, Level, Letter, Stage, OrderKind, Start, Look, Term, Kill, PowerKind, GRACE_LIMIT, is_id, id_read, same_id, same_id-is, Cause, NotRead, Enter, Call, Power, Asked, Hold, Settle, Birth, NoBirth, Death, Reaped, Still, NoLook, Hit, Miss, Told, Clock, Nudge, Got, Handed, Event, words_of, level_word, letter_word, stage_word, order_word, power_word, cause_number, status_words, got_words, handed_words, is_in_range, is_number, is_status, is_request, is_hand_over, both, all_three, own_level, level_of_word, letter_of_word, stage_of_word, order_of_word, power_of_word, cause_of_word, seconds_of_word, child_of_word, code_of_word, one_read, about_read, request_read, request_pair_read, handed_read, handed_pair_read, two_read, three_read, level_wanted, four_read, five_read, words_read, words_in, entries_brought}
 use Rattle.init_words.specs.declared.stages.Stage.TheVariants as stage
-use Rattle.init_words.specs.declared.orders.OrderKind.{OrderKind}
-use Rattle.init_words.specs.declared.orders.OrderKind.TheVariants.{Start, Look, Term, Kill}
-use Rattle.init_words.specs.declared.orders.PowerKind.{PowerKind}
 use Rattle.init_words.specs.declared.orders.PowerKind.TheVariants as power
-use Rattle.init_words.specs.declared.limits.TheConstants.{GRACE_LIMIT}
-use Rattle.init_words.specs.Ids.{is_id, id_read, same_id}
 use Rattle.init_words.specs.Levels.{level_code}
-use Rattle.init_words.proofs.Same.{same_id-is}
 use Rattle.initctl_frame.specs.declared.requests.HeardRequest.{HeardRequest as Request}
 use Rattle.initctl_frame.specs.declared.requests.HeardRequest.TheVariants as got
-use Rattle.initctl_frame.specs.declared.requests.Cause.{Cause}
 use Rattle.initctl_frame.specs.declared.requests.Cause.TheVariants as cause
-use Rattle.trace_events.specs.declared.happenings.Happening.TheVariants.{NotRead, Enter, Call, Power, Asked, Hold, Settle, Birth, NoBirth, Death, Reaped, Still, NoLook, Hit, Miss, Told, Clock, Nudge, Got, Handed}
 use Rattle.trace_events.specs.declared.happenings.Handed.{Handed as HandOver}
 use Rattle.trace_events.specs.declared.happenings.Handed.TheVariants as handed
-use Rattle.trace_events.specs.Event.{Event}
-use Rattle.trace_text.specs.Lines.{words_of, level_word, letter_word, stage_word, order_word, power_word, cause_number, status_words, got_words, handed_words}
-use Rattle.trace_events.specs.Range.{is_in_range, is_number, is_status, is_request, is_hand_over}
-use Rattle.trace_text.specs.Reading.{both, all_three, own_level, level_of_word, letter_of_word, stage_of_word, order_of_word, power_of_word, cause_of_word, seconds_of_word, child_of_word, code_of_word, one_read, about_read, request_read, request_pair_read, handed_read, handed_pair_read, two_read, three_read, level_wanted, four_read, five_read, words_read, words_in, entries_brought}
 
 -- FROM WHAT IS READ TO ITS WORDS
 

@@ -1,17 +1,6 @@
 -- A text is read as one trace at most, and as none where a line begins no happening.
-use Rattle.std.proofs.Common.{◌≡◌, ◌≢◌, ℕ, suc, ◌+◌, ◌<◌, ◌≤◌, Bool, true, false, cond, ◌==◌, ◌&&◌, List, [], ◌∷◌, ◌++◌, length, filter, append-nil, Option, Some, None, refl, sym, ap, ◌∙◌, arith, length-append}
-use Rattle.std.specs.Option.{option_map, IfSome, IfNone}
-use Rattle.std.proofs.lemmas.Bool.{and_parts, and_from}
-use Rattle.std.proofs.lemmas.List.{append_assoc}
+use Rattle.trace_text.proofs.CommonWords.{◌≡◌, ◌≢◌, ℕ, suc, ◌+◌, ◌<◌, ◌≤◌, Bool, true, false, cond, ◌==◌, ◌&&◌, List, [], ◌∷◌, ◌++◌, length, filter, append-nil, Option, Some, None, refl, sym, ap, ◌∙◌, arith, length-append, option_map, IfSome, IfNone, and_parts, and_from, append_assoc, some_pair_parts, none-some, newlines, newlines-append, Event, event_text, trace_text, is_in_range, are_in_range, Begun, line_count, BeginsNone, begun}
 use Rattle.std.proofs.lemmas.List.Folds.{list_all-append}
-use Rattle.std.proofs.lemmas.Option.{some_pair_parts, none-some}
-use Rattle.text_lines.specs.Lines.{newlines}
-use Rattle.text_lines.proofs.PieceLemmas.{newlines-append}
-use Rattle.trace_events.specs.Event.{Event}
-use Rattle.trace_text.specs.Lines.{event_text, trace_text}
-use Rattle.trace_events.specs.Range.{is_in_range, are_in_range}
-use Rattle.trace_text.specs.Texts.{Begun, line_count, BeginsNone}
-use Rattle.trace_text.specs.Reading.{begun}
 use Rattle.trace_text.proofs.LineTexts.{begun-text, text-begun, newlines-event}
 
 -- one happening at most begins a text

@@ -1,26 +1,17 @@
 -- What stays so when more of a text comes.
-use Rattle.std.proofs.Common.{◌≡◌, ℕ, zero, suc, ◌+◌, ◌-◌, ◌<◌, ◌≤◌, true, false, ◌&&◌, nat_lt, nat_le, List, [], ◌∷◌, ◌++◌, length, take, drop, Option, Some, None, option_and_then, refl, sym, ap, ◌∙◌, subst, arith, length-append}
-use Rattle.std.specs.Option.{option_map, option_map_or}
+use Rattle.trace_verdict.proofs.Words.{◌≡◌, ℕ, zero, suc, ◌+◌, ◌-◌, ◌<◌, ◌≤◌, true, false, ◌&&◌, nat_lt, nat_le, List, [], ◌∷◌, ◌++◌, length, take, drop, Option, Some, None, option_and_then, refl, sym, ap, ◌∙◌, subst, arith, length-append, option_map_or, append_assoc, take-append-drop, cut, has_byte, newlines, after_lines, newlines-append, newlines-line, Front, after_lines-front, take-front, Event, event_text, table_lines, is_in_range, Begun, line_count, BeginsNone, FirstLine, line_first, begun-text, text-begun, newlines-event, lines_of, lines_due, is_unfinished, size_limit, BeginsNever}
+use Rattle.std.specs.Option.{option_map}
 use Rattle.std.proofs.lemmas.Bool.{ltb-true}
 use Rattle.std.proofs.lemmas.Bool.Decides.{nat_tests}
-use Rattle.std.proofs.lemmas.List.{append_assoc, take-append-drop}
 use Rattle.std.proofs.lemmas.Option.{none-some, some_pair_parts}
 use Rattle.init_words.specs.declared.entries.Entry.{Entry}
-use Rattle.text_lines.specs.Lines.{cut, has_byte, newlines, after_lines}
 use Rattle.text_lines.proofs.CutLemmas.{cut-parts}
-use Rattle.text_lines.proofs.PieceLemmas.{newlines-append, newlines-line, Front, after_lines-front, take-front}
 use Rattle.inittab_text.specs.declared.reading.TheConstants.{TEXT_LIMIT}
 use Rattle.inittab_text.specs.Written.{table_written, table_begun}
 use Rattle.trace_events.specs.declared.happenings.Happening.TheVariants.{NewTable}
-use Rattle.trace_events.specs.Event.{Event}
 use Rattle.trace_text.specs.declared.reading.TheConstants.{LINE_LIMIT}
-use Rattle.trace_text.specs.Lines.{event_text, table_lines}
-use Rattle.trace_events.specs.Range.{is_in_range}
-use Rattle.trace_text.specs.Texts.{Begun, line_count, BeginsNone}
 use Rattle.trace_text.specs.Reading.{entries_brought, words_in, begun_by, begun}
-use Rattle.trace_text.proofs.LineTexts.{FirstLine, line_first, begun-text, text-begun, newlines-event}
 use Rattle.trace_text.proofs.LineFronts.{cut-more, newlines-cut, newlines-uncut, after_lines-some, after_lines-more}
-use Rattle.trace_verdict.specs.Fronts.{lines_of, lines_due, is_unfinished, size_limit, BeginsNever}
 
 pub due_some : (text : List ℕ) → 1 ≤ lines_due text
 due_some text = grind arith

@@ -1,28 +1,12 @@
 -- One happening more, and a piece more.
-use Rattle.std.proofs.Common.{◌≡◌, ℕ, zero, suc, ◌+◌, ◌^◌, ◌<◌, ◌≤◌, true, List, [], ◌∷◌, ◌++◌, length, reverse, slice_get, Option, Some, append-nil, refl, sym, ap, ◌∙◌, subst, arith, length-append}
-use Rattle.std.specs.Option.{option_map, option_map_or}
-use Rattle.std.proofs.lemmas.List.{append_assoc, reverse-append, length-reverse, take-append-le}
+use Rattle.trace_verdict.proofs.Words.{◌≡◌, ℕ, zero, suc, ◌+◌, ◌^◌, ◌<◌, ◌≤◌, true, List, [], ◌∷◌, ◌++◌, length, reverse, slice_get, Option, Some, append-nil, refl, sym, ap, ◌∙◌, subst, arith, length-append, option_map_or, append_assoc, reverse-append, length-reverse, take-append-le, newlines, newlines-append, Event, broken, breach_at, earlier, first_breach, event_text, trace_text, is_in_range, are_in_range, line_count, newlines-event, trace_text-push, are_in_range-push, newlines-few, shorter, law_number, Judging, Judged, is_open, BeginsNever, line_left, IsFront, IsTorn, Named, IsFirst, Answers, Reading, capped, ReadsNext, TextState, IsFound, HasRead, AtBy, TakenBy, left_of}
+use Rattle.std.specs.Option.{option_map}
 use Rattle.std.proofs.Math.Nat.{min-eq_left}
 use Rattle.std.proofs.Math.Seq.{take-append_seam}
-use Rattle.text_lines.specs.Lines.{newlines}
-use Rattle.text_lines.proofs.PieceLemmas.{newlines-append}
-use Rattle.trace_events.specs.Event.{Event}
-use Rattle.trace_events.specs.Lawful.{broken, breach_at, earlier, first_breach}
-use Rattle.trace_text.specs.Lines.{event_text, trace_text}
-use Rattle.trace_events.specs.Range.{is_in_range, are_in_range}
-use Rattle.trace_text.specs.Texts.{line_count}
-use Rattle.trace_text.proofs.LineTexts.{newlines-event}
-use Rattle.trace_text.proofs.ReadTexts.{trace_text-push, are_in_range-push, newlines-few, shorter}
 use Rattle.trace_check.specs.declared.laws.Law.{Law}
-use Rattle.trace_check.specs.Laws.{law_number}
-use Rattle.trace_check.specs.Judging.{Judging, Judged}
 use Rattle.trace_check.proofs.Passing.{breach_here}
 use Rattle.trace_verdict.specs.declared.findings.Finding.{Finding}
 use Rattle.trace_verdict.specs.declared.findings.Finding.TheVariants.{Lawful, Breach, Torn}
-use Rattle.trace_verdict.specs.Fronts.{is_open, BeginsNever, line_left, IsFront, IsTorn}
-use Rattle.trace_verdict.specs.Answers.{Named, IsFirst, Answers}
-use Rattle.trace_verdict.specs.Readers.{Reading, capped, ReadsNext}
-use Rattle.trace_verdict.specs.Judges.{TextState, IsFound, HasRead, AtBy, TakenBy, left_of}
 use Rattle.trace_verdict.proofs.Fronts.{never_some}
 
 pub capped_is : (n : ℕ) → n < 2 ^ 64 → capped n ≡ n

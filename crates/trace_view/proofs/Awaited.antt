@@ -1,18 +1,6 @@
 -- The first entry of all that init waits for.
-use Rattle.std.proofs.Common.{◌≡◌, refl, sym, ◌∙◌, ap, ℕ, Bool, true, ◌&&◌, ◌||◌, cond, List, [], ◌∷◌, ◌++◌, find, Option, Some, None, length, arith}
-use Rattle.std.specs.List.{list_any}
-use Rattle.std.specs.Option.{option_map, option_or}
-use Rattle.std.proofs.lemmas.List.Folds.{find-append}
-use Rattle.init_words.specs.declared.entries.Entry.{Entry}
-use Rattle.init_words.specs.declared.orders.OrderKind.TheVariants.{Start}
-use Rattle.init_words.specs.Actions.{waited_by}
-use Rattle.init_words.specs.Ids.{same_id}
-use Rattle.init_words.proofs.Same.{same_id-self, same_id-flip}
-use Rattle.inittab_text.specs.Tables.{entry_of, has_id, is_distinct}
-use Rattle.trace_events.specs.Event.{Event}
-use Rattle.trace_events.specs.Past.{has_child, kept_children, open_of, table_of}
-use Rattle.trace_events.specs.Wanted.{entries_before, is_order, is_owed, is_wanted}
-use Rattle.trace_view.specs.Why.{entry_id, first_awaited}
+use Rattle.trace_view.proofs.Words.{◌≡◌, refl, sym, ◌∙◌, ap, ℕ, Bool, true, ◌&&◌, ◌||◌, cond, List, [], ◌∷◌, ◌++◌, find, Option, Some, None, length, arith, list_any, option_or, find-append, Entry, Start, waited_by, same_id, same_id-self, same_id-flip, entry_of, has_id, is_distinct, Event, has_child, kept_children, open_of, table_of, entries_before, is_order, is_owed, is_wanted, entry_id, first_awaited}
+use Rattle.std.specs.Option.{option_map}
 
 pub owed_is : (e : Entry) (past : List Event) (waited kept starting wanted : Bool) → waited ≡ waited_by e.act → kept ≡ has_child e.id (kept_children past) → starting ≡ is_order Start (open_of e.id past) → wanted ≡ is_wanted e past → (waited && (kept || starting || wanted)) ≡ is_owed e past
 owed_is e past waited kept starting wanted e1 e2 e3 e4 = rw (e1, e2, e3, e4) refl

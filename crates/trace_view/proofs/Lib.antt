@@ -6,3 +6,4 @@ pub mod SeenTexts
 pub mod Sights
 pub mod Stands
 pub mod WhyRows
+pub mod Words

@@ -1,16 +1,6 @@
 -- One happening more: its line, and what is kept of the lines.
-use Rattle.std.proofs.Common.{◌≡◌, ℕ, ◌+◌, ◌^◌, ◌<◌, ◌≤◌, List, ◌∷◌, length, reverse, Option, None, refl, sym, ap, ◌∙◌, arith}
-use Rattle.std.proofs.lemmas.List.{reverse-reverse}
-use Rattle.text_lines.specs.Lines.{newlines}
-use Rattle.init_words.specs.declared.stages.Stage.{Stage}
-use Rattle.trace_events.specs.Event.{Event}
-use Rattle.init_words.specs.declared.entries.Entry.{Entry}
-use Rattle.trace_events.specs.Past.{table_of, stage_of}
-use Rattle.trace_text.specs.Lines.{trace_text}
-use Rattle.trace_check.specs.State.{at}
-use Rattle.trace_verdict.specs.Readers.{capped}
-use Rattle.trace_view.specs.LastLines.{LinesState, Lined, line_after, line_behind, kinds_after, kinds_of, names, born_in, early_in, early_line, unborn_in, reaped_in, ordered_in, held_in, last_of}
-use Rattle.trace_view.specs.Views.{TextState, IsAt}
+use Rattle.trace_view.proofs.Words.{◌≡◌, ℕ, ◌+◌, ◌^◌, ◌<◌, ◌≤◌, List, ◌∷◌, length, reverse, Option, None, refl, sym, ap, ◌∙◌, arith, reverse-reverse, newlines, Stage, Event, Entry, table_of, stage_of, trace_text, at, capped, LinesState, Lined, line_after, kinds_after, kinds_of, names, born_in, early_in, early_line, unborn_in, reaped_in, ordered_in, held_in, last_of, TextState, IsAt}
+use Rattle.trace_view.specs.LastLines.{line_behind}
 use Rattle.trace_view.proofs.SeenTexts.{at_none, next_line}
 
 -- what is kept, with one happening more

@@ -1,36 +1,8 @@
 -- Nothing keeps an entry back exactly where its start is due.
-use Rattle.std.proofs.Common.{arith, ◌≡◌, refl, sym, ◌∙◌, ap, ℕ, Bool, true, false, not, ◌&&◌, ◌||◌, cond, List, [], ◌∷◌, Option, Some, None, is_none, is_some}
-use Rattle.std.specs.List.{list_any}
-use Rattle.std.specs.Option.{option_map_or}
-use Rattle.std.proofs.lemmas.Bool.{and_parts, not-true}
-use Rattle.std.proofs.lemmas.List.Folds.{list_any-append}
-use Rattle.init_words.specs.declared.actions.Act.{Act}
-use Rattle.init_words.specs.declared.entries.Entry.{Entry}
-use Rattle.init_words.specs.declared.orders.OrderKind.{OrderKind}
-use Rattle.init_words.specs.declared.orders.OrderKind.TheVariants.{Start}
-use Rattle.init_words.specs.declared.stages.Stage.{Stage}
-use Rattle.init_words.specs.Actions.{wanted_by, is_limited}
-use Rattle.init_words.specs.Ids.{same_id}
-use Rattle.init_words.proofs.Same.{same_id-is}
-use Rattle.init_words.proofs.Tests.{and_false, find_none, none_found}
-use Rattle.inittab_text.specs.Tables.{entry_of, has_id, is_distinct}
+use Rattle.trace_view.proofs.Words.{arith, ◌≡◌, refl, sym, ◌∙◌, ap, ℕ, Bool, true, false, not, ◌&&◌, ◌||◌, cond, List, [], ◌∷◌, Option, Some, None, is_none, is_some, list_any, option_map_or, and_parts, not-true, list_any-append, Act, Entry, OrderKind, Start, Stage, wanted_by, is_limited, same_id, same_id-is, and_false, find_none, none_found, entry_of, has_id, is_distinct, Goal, Event, table_of, stage_of, has_child, open_of, kept_children, starts_now, nothing_runs, is_asked, is_called, is_owed, entries_before, hold_times, is_held, is_full, wants_reexec, wants_reread, level_wish, in_run, keeps_news, wish_stands, newest, found_passes, Excluded, Standing, Wish, NoEntry, WindowFull, Nothing, first_of, first_wish, standing_of, not_here, not_wanted, why_by, why_entry, why, is_nothing}
 use Rattle.trace_events.specs.declared.steps.Step.{Step}
 use Rattle.trace_events.specs.declared.steps.Step.TheVariants.{Order, Hold}
-use Rattle.trace_events.specs.declared.steps.Goal.{Goal}
-use Rattle.trace_events.specs.Event.{Event}
-use Rattle.trace_events.specs.Past.{table_of, stage_of, has_child, open_of, kept_children}
-use Rattle.trace_events.specs.Wanted.{starts_now, nothing_runs, is_asked, is_called, is_owed, entries_before}
-use Rattle.trace_events.specs.Timing.{hold_times, is_held, is_full}
-use Rattle.trace_events.specs.Wishes.{wants_reexec, wants_reread, level_wish, in_run, keeps_news, wish_stands}
 use Rattle.trace_events.specs.Due.{steps_if, none_excluded, can_start, start_steps, starts_among, due_starts, same_step}
-use Rattle.trace_check.specs.Reading.{newest}
-use Rattle.trace_check.proofs.Lone.{found_passes}
-use Rattle.trace_view.specs.declared.standings.Excluded.{Excluded}
-use Rattle.trace_view.specs.declared.standings.Standing.{Standing}
-use Rattle.trace_view.specs.declared.wishes.Wish.{Wish}
-use Rattle.trace_view.specs.declared.whys.Why.TheVariants.{NoEntry, WindowFull, Nothing}
-use Rattle.trace_view.specs.Wishes.{first_of, first_wish}
-use Rattle.trace_view.specs.Why.{standing_of, not_here, not_wanted, why_by, why_entry, why, is_nothing}
 
 module _ (id : List ℕ) (past : List Event) where
   abbrev start : Step

@@ -1,16 +1,5 @@
 -- One more happening: what a view keeps goes on being what the past says.
-use Rattle.std.proofs.Common.{arith, ◌≡◌, ◌∙◌, ap, ℕ, List, ◌∷◌, Option}
-use Rattle.init_words.specs.declared.entries.Entry.{Entry}
-use Rattle.init_words.specs.declared.stages.Stage.{Stage}
-use Rattle.trace_events.specs.Event.{Event}
-use Rattle.trace_events.specs.Past.{table_of, stage_of, time_of, unreaped_children, kept_children}
-use Rattle.trace_check.specs.Judging.{Judged}
-use Rattle.trace_view.specs.Wishes.{wishes_of, wishes_after}
-use Rattle.trace_check.specs.State.{at}
-use Rattle.trace_view.specs.Births.{births_of, early_children}
-use Rattle.trace_view.specs.Calls.{calls_of, calls_after}
-use Rattle.trace_view.specs.Rows.{ended_of, born_after, ended_after}
-use Rattle.trace_view.specs.Viewing.{ViewState, Viewed, unreaped_after, early_after, kept_after}
+use Rattle.trace_view.proofs.Words.{arith, ◌≡◌, ◌∙◌, ap, ℕ, List, ◌∷◌, Option, Entry, Stage, Event, table_of, stage_of, time_of, unreaped_children, kept_children, Judged, wishes_of, wishes_after, at, births_of, early_children, calls_of, calls_after, ended_of, born_after, ended_after, ViewState, Viewed, unreaped_after, early_after, kept_after}
 
 wishes_step : (happening : Event) (past : List Event) → wishes_after (stage_of (happening ∷ past)) happening (wishes_of past) ≡ wishes_of (happening ∷ past)
 wishes_step happening past = grind arith

@@ -1,29 +1,15 @@
 -- One happening more, and a piece more.
-use Rattle.std.proofs.Common.{◌≡◌, ◌==◌, ◌||◌, not, ℕ, ◌+◌, ◌^◌, ◌<◌, ◌≤◌, Bool, true, false, List, [], ◌∷◌, ◌++◌, length, reverse, Option, Some, None, append-nil, refl, sym, ap, ◌∙◌, subst, arith}
+use Rattle.trace_view.proofs.Words.{◌≡◌, ◌==◌, ◌||◌, not, ℕ, ◌+◌, ◌^◌, ◌<◌, ◌≤◌, Bool, true, false, List, [], ◌∷◌, ◌++◌, length, reverse, Option, Some, None, append-nil, refl, sym, ap, ◌∙◌, subst, arith, eqb-true, append_assoc, newlines, Event, event_text, trace_text, trace_text-push, are_in_range-push, shorter, law_number, BeginsNever, line_left, Reading, capped, ReadsNext, capped_is, lines_push, lines_within, one_line, past_push, ViewState, Viewed, is_table, IsBefore, IsShown, StopsAt, begins_run, TextState, HasSeen, StopsBy, AtBy, TakenBy, ViewGoesOn, SeesStop, left_of, may_be, seen_by}
 use Rattle.std.specs.Option.{option_map}
-use Rattle.std.proofs.lemmas.Bool.{eqb-true}
-use Rattle.std.proofs.lemmas.List.{append_assoc}
-use Rattle.text_lines.specs.Lines.{newlines}
 use Rattle.text_lines.proofs.PieceLemmas.{newlines-append}
-use Rattle.trace_events.specs.Event.{Event}
 use Rattle.trace_events.specs.Lawful.{broken}
 use Rattle.trace_events.specs.Range.{are_in_range}
-use Rattle.trace_text.specs.Lines.{event_text, trace_text}
 use Rattle.trace_text.specs.Texts.{line_count}
 use Rattle.trace_text.proofs.LineTexts.{newlines-event}
-use Rattle.trace_text.proofs.ReadTexts.{trace_text-push, are_in_range-push, shorter}
 use Rattle.trace_check.specs.declared.laws.Law.{Law}
-use Rattle.trace_check.specs.Laws.{law_number}
-use Rattle.trace_verdict.specs.Fronts.{BeginsNever, line_left}
-use Rattle.trace_verdict.specs.Readers.{Reading, capped, ReadsNext}
-use Rattle.trace_verdict.proofs.Judging.{capped_is, lines_push, lines_within, one_line, past_push}
 use Rattle.trace_verdict.proofs.Fronts.{never_some}
-use Rattle.trace_view.specs.Viewing.{ViewState, Viewed}
 use Rattle.trace_view.specs.declared.text_views.ViewEnd.{ViewEnd}
 use Rattle.trace_view.specs.declared.text_views.ViewEnd.TheVariants.{Breach, Torn, Within}
-use Rattle.trace_view.specs.LastLines.{is_table}
-use Rattle.trace_view.specs.Shown.{IsBefore, IsShown, StopsAt, begins_run}
-use Rattle.trace_view.specs.Views.{TextState, HasSeen, StopsBy, AtBy, TakenBy, ViewGoesOn, SeesStop, left_of, may_be, seen_by}
 
 -- the text of a trace with one happening more
 whole_next : (reading new : Reading) (viewing : ViewState) (trace : List Event) (text : List ℕ) (h : Event) → HasSeen reading viewing trace text → ReadsNext reading new (Some h) → trace_text (trace ++ h ∷ []) ++ new.over ≡ text

@@ -1,14 +1,5 @@
 -- One happening more is seen by the view and by what else sees it, or all is taken.
-use Rattle.std.proofs.Common.{◌≡◌, ℕ, ◌+◌, ◌^◌, ◌<◌, ◌≤◌, List, [], ◌∷◌, ◌++◌, length, reverse, Option, Some, None, sym, subst, arith}
-use Rattle.init_words.specs.declared.stages.Stage.{Stage}
-use Rattle.trace_events.specs.Event.{Event}
-use Rattle.trace_events.specs.Past.{stage_of}
-use Rattle.trace_verdict.specs.Readers.{capped}
-use Rattle.trace_verdict.proofs.Judging.{past_push}
-use Rattle.trace_view.specs.LastLines.{line_behind}
-use Rattle.trace_view.specs.SeenTexts.{HasSeenText, IsSeeing}
-use Rattle.trace_view.specs.Viewing.{Viewed}
-use Rattle.trace_view.specs.Views.{TextState, ViewGoesOn, IsAt}
+use Rattle.trace_view.proofs.Words.{◌≡◌, ℕ, ◌+◌, ◌^◌, ◌<◌, ◌≤◌, List, [], ◌∷◌, ◌++◌, length, reverse, Option, Some, None, sym, subst, arith, Stage, Event, stage_of, capped, past_push, line_behind, HasSeenText, IsSeeing, Viewed, TextState, ViewGoesOn, IsAt}
 use Rattle.trace_view.proofs.Lining.{line_here}
 use Rattle.trace_view.proofs.SeenTexts.{seen_at}
 

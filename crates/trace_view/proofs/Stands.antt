@@ -1,34 +1,9 @@
 -- What a view says of an entry is what the past says.
-use Rattle.std.proofs.Common.{arith, ◌≡◌, refl, sym, ◌∙◌, ap, ℕ, Bool, true, false, ◌||◌, ◌&&◌, cond, List, find, Option, Some, None}
-use Rattle.std.specs.Option.{option_map, option_map_or}
-use Rattle.init_words.specs.declared.actions.Act.{Act}
-use Rattle.init_words.specs.declared.entries.Entry.{Entry}
-use Rattle.init_words.specs.declared.orders.OrderKind.{OrderKind}
-use Rattle.init_words.specs.declared.stages.Stage.{Stage}
-use Rattle.init_words.specs.Actions.{is_limited}
-use Rattle.inittab_text.specs.Tables.{entry_of, has_id, act_of}
-use Rattle.init_words.proofs.Same.{same_id-is}
-use Rattle.trace_events.specs.Event.{Event}
-use Rattle.trace_events.specs.Past.{table_of, stage_of, Child, is_of, kept_children, open_of}
-use Rattle.trace_events.specs.Wanted.{starts_now, is_wanted, is_excluded}
-use Rattle.trace_events.specs.Wishes.{was_booted}
-use Rattle.trace_events.specs.Timing.{hold_times, is_held, is_full}
-use Rattle.trace_check.specs.Reading.{newest, child_of, term_of}
-use Rattle.trace_check.proofs.Lone.{found_passes}
+use Rattle.trace_view.proofs.Words.{arith, ◌≡◌, refl, sym, ◌∙◌, ap, ℕ, Bool, true, false, ◌||◌, ◌&&◌, cond, List, find, Option, Some, None, option_map_or, Act, Entry, OrderKind, Stage, is_limited, entry_of, has_id, act_of, same_id-is, Event, table_of, stage_of, Child, is_of, kept_children, open_of, starts_now, is_wanted, is_excluded, was_booted, hold_times, is_held, is_full, newest, child_of, term_of, found_passes, Excluded, Standing, NoEntry, births_of, ran_early, was_named, ended_of, row_of, Wish, Wishes, is_excluded_by, number_of, entry_id, excluded_as, first_awaited, first_owed, standing_of, stops_now, why_by, why_entry, why, wishes_of, first_wish, first_wish_in}
+use Rattle.std.specs.Option.{option_map}
 use Rattle.trace_view.specs.declared.rows.Births.{Births}
 use Rattle.trace_view.specs.declared.rows.Ending.{Ending}
-use Rattle.trace_view.specs.declared.standings.Excluded.{Excluded}
-use Rattle.trace_view.specs.declared.standings.Standing.{Standing}
 use Rattle.trace_view.specs.declared.whys.Why.{Why}
-use Rattle.trace_view.specs.declared.whys.Why.TheVariants.{NoEntry}
-use Rattle.trace_view.specs.Births.{births_of, ran_early}
-use Rattle.trace_view.specs.Calls.{was_named}
-use Rattle.trace_view.specs.Rows.{ended_of, row_of}
-use Rattle.trace_view.specs.declared.wishes.Wish.{Wish}
-use Rattle.trace_view.specs.declared.wishes.Wishes.{Wishes}
-use Rattle.trace_view.specs.Viewing.{is_excluded_by}
-use Rattle.trace_view.specs.Why.{number_of, entry_id, excluded_as, first_awaited, first_owed, standing_of, stops_now, why_by, why_entry, why}
-use Rattle.trace_view.specs.Wishes.{wishes_of, first_wish, first_wish_in}
 
 -- six tests in a row
 six : (fail fail_now ok a b c : Bool) → (fail || fail_now || ok || a || b || c) ≡ ((fail || (fail_now || (ok || false))) || (a || (b || (c || false))))

@@ -1,24 +1,16 @@
 -- Entries of sound pasts and why each isn't started next, worked: `refl` computes them.
-use Rattle.std.proofs.Common.{◌≡◌, refl, ℕ, true, List, [], ◌∷◌, ◌++◌, codes, Some}
-use Rattle.init_words.specs.declared.entries.Entry.{Entry}
-use Rattle.init_words.specs.declared.actions.Act.{Act}
+use Rattle.trace_view.proofs.Words.{◌≡◌, refl, ℕ, true, List, [], ◌∷◌, ◌++◌, codes, Some, Entry, Act, Start, Look, Term, Goal, Event, RanBefore, StageOver, OtherStage, ChildKept, NotCalled, WasStarted, line_at_fault, line_behind, why}
 use Rattle.init_words.specs.declared.actions.Act.TheVariants as act
 use Rattle.init_words.specs.declared.children.Status.TheVariants.{Exit}
 use Rattle.init_words.specs.declared.levels.Level.{Level}
 use Rattle.init_words.specs.declared.levels.Level.TheVariants as level
 use Rattle.init_words.specs.declared.levels.Mark.{Mark}
 use Rattle.init_words.specs.declared.levels.Mark.TheVariants.{At}
-use Rattle.init_words.specs.declared.orders.OrderKind.TheVariants.{Start, Look, Term}
 use Rattle.init_words.specs.declared.orders.PowerKind.TheVariants.{Fail}
 use Rattle.init_words.specs.declared.stages.Stage.TheVariants.{Sysinit, Boot, Run}
 use Rattle.initctl_frame.specs.declared.requests.HeardRequest.TheVariants as got
 use Rattle.trace_events.specs.declared.happenings.Happening.TheVariants.{NewTable, Enter, Power, Asked, Birth, Death, Reaped, Hit, Told, Nudge, Got}
-use Rattle.trace_events.specs.declared.steps.Goal.{Goal}
-use Rattle.trace_events.specs.Event.{Event}
 use Rattle.trace_events.specs.Sound.{is_sound}
-use Rattle.trace_view.specs.declared.whys.Why.TheVariants.{RanBefore, StageOver, OtherStage, ChildKept, NotCalled, WasStarted}
-use Rattle.trace_view.specs.LastLines.{line_at_fault, line_behind}
-use Rattle.trace_view.specs.Why.{why}
 
 abbrev entry : List ℕ → List Mark → Act → Entry
 entry id levels action = record { id = id; levels = record { items = levels }; act = action; process = record { items = codes "x" } }

@@ -2,13 +2,7 @@
 use Rattle.std.specs.Prelude.{ℕ, Bool, false, ◌&&◌, ◌+◌, ◌-◌, ◌^◌, min, if◌then◌else◌, List, [], ◌∷◌, ◌++◌, Option, Some, None}
 use Rattle.std.specs.List.{list_any}
 use Rattle.std.specs.Option.{option_map_or}
-use Rattle.init_words.specs.declared.entries.Entry.{Entry}
-use Rattle.init_words.specs.Actions.{ignores_levels}
-use Rattle.init_words.specs.Ids.{same_id}
-use Rattle.trace_events.specs.declared.happenings.Happening.TheVariants.{Birth}
-use Rattle.trace_events.specs.Event.{Event}
-use Rattle.trace_events.specs.Past.{time_of, Child, is_of, newborn}
-use Rattle.trace_events.specs.Wanted.{same_acts}
+use Rattle.trace_view.specs.Words.{Entry, ignores_levels, same_id, Birth, Event, time_of, Child, is_of, newborn, same_acts}
 use Rattle.trace_view.specs.declared.rows.Births.{Births}
 
 -- one birth more at this time, counted as far as numbers go

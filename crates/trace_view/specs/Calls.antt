@@ -1,16 +1,10 @@
 -- Which entries news of the power or a letter named since the last Enter and the last table (init(8), telinit(8)).
 use Rattle.std.specs.Prelude.{Bool, false, ◌&&◌, ◌||◌, List, [], ◌∷◌}
-use Rattle.init_words.specs.declared.entries.Entry.{Entry}
-use Rattle.init_words.specs.declared.levels.Letter.{Letter}
+use Rattle.trace_view.specs.Words.{Entry, Letter, PowerKind, is_called_by, is_ondemand, same_letter, same_power, NewTable, Enter, Call, Power, Event}
 use Rattle.init_words.specs.declared.levels.Letter.TheVariants as letter
 use Rattle.init_words.specs.declared.levels.Mark.TheVariants.{OnCall}
-use Rattle.init_words.specs.declared.orders.PowerKind.{PowerKind}
 use Rattle.init_words.specs.declared.orders.PowerKind.TheVariants as power
-use Rattle.init_words.specs.Actions.{is_called_by, is_ondemand}
-use Rattle.init_words.specs.Levels.{names, same_letter}
-use Rattle.init_words.specs.Orders.{same_power}
-use Rattle.trace_events.specs.declared.happenings.Happening.TheVariants.{NewTable, Enter, Call, Power}
-use Rattle.trace_events.specs.Event.{Event}
+use Rattle.init_words.specs.Levels.{names}
 use Rattle.trace_view.specs.declared.calls.Calls.{Calls}
 
 -- entries were called for this news

@@ -1,17 +1,8 @@
 -- The lines of a trace's text at which its last happenings of each kind begin, and the line at fault where an entry isn't
 -- started. A line is counted from 1, and a happening is one line, but for a table, whose entries have one each behind it.
 use Rattle.std.specs.Prelude.{◌≡◌, ℕ, ◌+◌, Bool, true, false, not, max, if◌then◌else◌, List, [], ◌∷◌, reverse, Option, Some, None}
-use Rattle.text_lines.specs.Lines.{newlines}
-use Rattle.init_words.specs.declared.entries.Entry.{Entry}
-use Rattle.init_words.specs.declared.stages.Stage.{Stage}
-use Rattle.init_words.specs.Ids.{same_id}
+use Rattle.trace_view.specs.Words.{newlines, Entry, Stage, same_id, NewTable, Enter, Asked, Hold, Birth, NoBirth, Reaped, Got, Event, table_of, stage_of, is_level, trace_text, at}
 use Rattle.initctl_frame.specs.declared.requests.HeardRequest.TheVariants as got
-use Rattle.trace_events.specs.declared.happenings.Happening.TheVariants.{NewTable, Enter, Asked, Hold, Birth, NoBirth, Reaped, Got}
-use Rattle.trace_events.specs.Event.{Event}
-use Rattle.trace_events.specs.Past.{table_of, stage_of}
-use Rattle.trace_events.specs.Wishes.{is_level}
-use Rattle.trace_text.specs.Lines.{trace_text}
-use Rattle.trace_check.specs.State.{at}
 use Rattle.trace_view.specs.declared.whys.Why.{Why}
 use Rattle.trace_view.specs.declared.whys.Why.TheVariants as why
 use Rattle.trace_view.specs.declared.wishes.Wish.{Wish}

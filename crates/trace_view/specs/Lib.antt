@@ -8,3 +8,4 @@ pub mod Viewing
 pub mod Views
 pub mod Why
 pub mod Wishes
+pub mod Words

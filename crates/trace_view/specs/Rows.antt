@@ -1,18 +1,8 @@
 -- What is told of an id: its action, why it isn't started next, its child, and how it last ended.
 use Rattle.std.specs.Prelude.{ℕ, Bool, if◌then◌else◌, false, List, [], ◌∷◌, map, filter, Option, Some, None, is_none}
 use Rattle.std.specs.Option.{option_map, option_map_or}
-use Rattle.init_words.specs.declared.entries.Entry.{Entry}
+use Rattle.trace_view.specs.Words.{Entry, Stage, Run, same_id, entry_of, act_of, Birth, NoBirth, Reaped, Event, table_of, stage_of, time_of, Child, open_of, unreaped_children, is_excluded, is_settled, child_of, term_of}
 use Rattle.init_words.specs.declared.children.Status.{Status}
-use Rattle.init_words.specs.declared.stages.Stage.{Stage}
-use Rattle.init_words.specs.declared.stages.Stage.TheVariants.{Run}
-use Rattle.init_words.specs.Ids.{same_id}
-use Rattle.inittab_text.specs.Tables.{entry_of, act_of}
-use Rattle.trace_events.specs.declared.happenings.Happening.TheVariants.{Birth, NoBirth, Reaped}
-use Rattle.trace_events.specs.Event.{Event}
-use Rattle.trace_events.specs.Past.{table_of, stage_of, time_of, Child, open_of, unreaped_children}
-use Rattle.trace_events.specs.Wanted.{is_excluded}
-use Rattle.trace_events.specs.Due.{is_settled}
-use Rattle.trace_check.specs.Reading.{child_of, term_of}
 use Rattle.trace_view.specs.declared.rows.Births.{Births}
 use Rattle.trace_view.specs.Births.{births_of, one_more}
 use Rattle.trace_view.specs.declared.rows.Ending.{Ending}

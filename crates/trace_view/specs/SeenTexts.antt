@@ -1,6 +1,6 @@
 -- The text of a trace that comes in pieces, beside what else sees its happenings, and the texts that they have taken.
 use Rattle.std.specs.Prelude.{ℕ, Bool, true, false, List, reverse, Option}
-use Rattle.trace_events.specs.Event.{Event}
+use Rattle.trace_view.specs.Words.{Event}
 use Rattle.trace_view.specs.Viewing.{ViewState, Viewed}
 use Rattle.trace_view.specs.declared.text_views.ViewEnd.{ViewEnd}
 use Rattle.trace_view.specs.Shown.{IsShown}

@@ -1,19 +1,11 @@
 -- A view of a trace: what it keeps, and which pasts it has seen.
 use Rattle.std.specs.Prelude.{◌≡◌, ℕ, Bool, not, List, [], ◌∷◌, ◌++◌, filter, Option, Some, None}
-use Rattle.init_words.specs.declared.entries.Entry.{Entry}
-use Rattle.init_words.specs.declared.stages.Stage.{Stage}
-use Rattle.inittab_text.specs.Tables.{entry_of, act_of}
-use Rattle.trace_events.specs.declared.happenings.Happening.TheVariants.{Birth, Reaped, Told}
-use Rattle.trace_events.specs.Event.{Event}
-use Rattle.trace_events.specs.Past.{Child, is_of, is_child, unreaped_children, kept_children}
-use Rattle.trace_events.specs.Wanted.{may_live}
-use Rattle.trace_check.specs.declared.laws.Law.{Law}
+use Rattle.trace_view.specs.Words.{Entry, Stage, entry_of, act_of, Birth, Reaped, Told, Event, Child, is_of, is_child, unreaped_children, kept_children, may_live, Law, at}
 use Rattle.trace_check.specs.Judging.{Judging, Judged, unjudged}
 use Rattle.trace_view.specs.declared.calls.Calls.{Calls}
 use Rattle.trace_view.specs.declared.wishes.Wishes.{Wishes}
 use Rattle.trace_view.specs.declared.rows.Births.{Births}
 use Rattle.trace_view.specs.declared.rows.Ending.{Ending}
-use Rattle.trace_check.specs.State.{at}
 use Rattle.trace_view.specs.Births.{births_of, early_children, or_early}
 use Rattle.trace_view.specs.Calls.{calls_of, no_calls}
 use Rattle.trace_view.specs.Rows.{ended_of}

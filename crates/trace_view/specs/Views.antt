@@ -1,13 +1,6 @@
 -- A view of a text that comes in pieces, and the texts that it has taken.
 use Rattle.std.specs.Prelude.{◌≡◌, ◌==◌, ◌||◌, ℕ, Bool, true, false, not, List, [], ◌∷◌, ◌++◌, reverse, Option, Some, None}
-use Rattle.text_lines.specs.Lines.{newlines}
-use Rattle.trace_events.specs.Event.{Event}
-use Rattle.trace_events.specs.Lawful.{broken}
-use Rattle.trace_events.specs.Range.{are_in_range}
-use Rattle.trace_check.specs.Laws.{law_number}
-use Rattle.trace_text.specs.Lines.{trace_text}
-use Rattle.trace_verdict.specs.Fronts.{is_open}
-use Rattle.trace_verdict.specs.Readers.{Reading}
+use Rattle.trace_view.specs.Words.{newlines, Event, broken, are_in_range, law_number, trace_text, is_open, Reading}
 use Rattle.trace_view.specs.Viewing.{ViewState, Viewed}
 use Rattle.trace_view.specs.declared.text_views.ViewEnd.{ViewEnd}
 use Rattle.trace_view.specs.declared.text_views.ViewEnd.TheVariants.{Breach, Torn, Within}

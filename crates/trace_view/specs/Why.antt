@@ -3,18 +3,9 @@ use Rattle.std.specs.Prelude.{ℕ, Bool, true, false, not, ◌&&◌, ◌||◌, i
 use Rattle.std.specs.Option.{option_map, option_map_or}
 use Rattle.init_words.specs.declared.actions.Act.{Act}
 use Rattle.init_words.specs.declared.actions.Act.TheVariants as act
-use Rattle.init_words.specs.declared.entries.Entry.{Entry}
+use Rattle.trace_view.specs.Words.{Entry, Stage, Sysinit, Boot, Run, wanted_by, ignores_levels, is_limited, entry_of, Event, table_of, stage_of, Child, is_of, kept_children, open_of, starts_now, is_wanted, is_owed, entries_before, is_excluded, was_booted, newest}
 use Rattle.init_words.specs.declared.orders.OrderKind.{OrderKind}
-use Rattle.init_words.specs.declared.stages.Stage.{Stage}
-use Rattle.init_words.specs.declared.stages.Stage.TheVariants.{Sysinit, Boot, Run}
-use Rattle.init_words.specs.Actions.{wanted_by, ignores_levels, is_limited}
-use Rattle.inittab_text.specs.Tables.{entry_of}
-use Rattle.trace_events.specs.Event.{Event}
-use Rattle.trace_events.specs.Past.{table_of, stage_of, Child, is_of, kept_children, open_of}
-use Rattle.trace_events.specs.Wanted.{starts_now, is_wanted, is_owed, entries_before, is_excluded}
-use Rattle.trace_events.specs.Wishes.{was_booted}
 use Rattle.trace_events.specs.Timing.{hold_times, is_held, is_full}
-use Rattle.trace_check.specs.Reading.{newest}
 use Rattle.trace_view.specs.declared.standings.Excluded.{Excluded}
 use Rattle.trace_view.specs.declared.standings.Standing.{Standing}
 use Rattle.trace_view.specs.declared.wishes.Wish.{Wish}

@@ -1,24 +1,14 @@
 -- The wishes, as a view keeps them, and which of them is carried out first (telinit(8), initreq.h).
 use Rattle.std.specs.Prelude.{ℕ, Bool, true, false, not, ◌&&◌, ◌||◌, if◌then◌else◌, List, ◌∷◌, Option, Some, None}
-use Rattle.init_words.specs.declared.levels.Letter.{Letter}
+use Rattle.trace_view.specs.Words.{Letter, PowerKind, Stage, Boot, Run, same_letter, same_level, same_power, NewTable, NotRead, Enter, Call, Power, Got, Handed, Event, stage_of, enter_level, is_level, in_run, other_than, wants_reexec, wants_reread, heard_level, level_wish, was_booted, keeps_power, keeps_letter, keeps_news}
 use Rattle.init_words.specs.declared.levels.Level.{Level}
 use Rattle.init_words.specs.declared.levels.Letter.TheVariants as letter
-use Rattle.init_words.specs.declared.orders.PowerKind.{PowerKind}
 use Rattle.init_words.specs.declared.orders.PowerKind.TheVariants as power
 use Rattle.init_words.specs.declared.levels.Level.TheVariants.{S}
-use Rattle.init_words.specs.declared.stages.Stage.{Stage}
-use Rattle.init_words.specs.declared.stages.Stage.TheVariants.{Boot, Run}
-use Rattle.init_words.specs.Levels.{same_letter, same_level}
-use Rattle.init_words.specs.Orders.{same_power}
 use Rattle.initctl_frame.specs.declared.requests.HeardRequest.TheVariants as got
-use Rattle.trace_events.specs.declared.happenings.Happening.TheVariants.{NewTable, NotRead, Enter, Call, Power, Got, Handed}
 use Rattle.trace_events.specs.declared.steps.Goal.{Goal}
 use Rattle.trace_events.specs.declared.steps.Step.{Step}
 use Rattle.trace_events.specs.declared.steps.Step.TheVariants as step
-use Rattle.trace_events.specs.Event.{Event}
-use Rattle.trace_events.specs.Past.{stage_of}
-use Rattle.trace_events.specs.Due.{enter_level}
-use Rattle.trace_events.specs.Wishes.{is_level, in_run, other_than, wants_reexec, wants_reread, heard_level, level_wish, was_booted, keeps_power, keeps_letter, keeps_news}
 use Rattle.trace_view.specs.declared.wishes.Wish.{Wish}
 use Rattle.trace_view.specs.declared.wishes.Wish.TheVariants as wish
 use Rattle.trace_view.specs.declared.wishes.Wishes.{Wishes}

@@ -3,7 +3,7 @@
 ghost use Rattle.std.specs.Prelude.{◌≡◌, not, find, filter, false, option_map, option_copied, OnOk, IfOk};
 ghost use Rattle.std.specs.List.{list_any};
 ghost use Rattle.std.specs.Option.{option_map_or};
-ghost use Rattle.trace_events.specs.Past.{Child, is_of, is_child};
+ghost use Rattle.trace_view.specs.Words.{Child, is_of, is_child};
 ghost use Rattle.trace_view.specs.Births.{is_born_as, is_early};
 ghost use Rattle.trace_view.specs.Viewing.{early_after, newborn_in, unreaped_after, kept_after, is_excluded_by};
 ghost use Rattle.trace_view.specs.Why.{number_of, excluded_as};
@@ -25,7 +25,7 @@ pub struct BornChild {
 }
 
 impl Model for BornChild {
-    ghost use Rattle.trace_events.specs.Past.{Child};
+    ghost use Rattle.trace_view.specs.Words.{Child};
 
     ghost Value = { Child };
 

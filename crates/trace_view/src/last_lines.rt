@@ -1,9 +1,7 @@
 //! The lines at which the last happenings of each kind begin.
 
 ghost use Rattle.std.specs.Prelude.{◌≡◌, ℕ, List, [], ◌∷◌, OnOk};
-ghost use Rattle.trace_events.specs.Event.{Event};
-ghost use Rattle.trace_events.specs.Past.{stage_of};
-ghost use Rattle.trace_check.specs.State.{at};
+ghost use Rattle.trace_view.specs.Words.{Event, stage_of, at};
 ghost use Rattle.trace_view.specs.LastLines.{Lined, born_in, early_in, early_line, held_in, is_entering, is_goal, is_news, is_reexec, is_reread, is_table, kinds_after, last_line, last_of, later, line_after, line_at_fault, line_behind, names, no_kinds, ordered_in, reaped_in, unborn_in, wish_line};
 
 use crate::children::{is_early, newborn};

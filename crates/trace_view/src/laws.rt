@@ -2,12 +2,8 @@
 
 ghost use Rattle.std.specs.Prelude.{◌≡◌, IsTrue, List, ℕ};
 ghost use Rattle.std.specs.List.{list_any};
-ghost use Rattle.inittab_text.specs.Tables.{is_distinct};
-ghost use Rattle.init_words.specs.declared.orders.OrderKind.TheVariants.{Start};
+ghost use Rattle.trace_view.specs.Words.{is_distinct, Start, Event, table_of, due_starts, same_step};
 ghost use Rattle.trace_events.specs.declared.steps.Step.TheVariants.{Order};
-ghost use Rattle.trace_events.specs.Event.{Event};
-ghost use Rattle.trace_events.specs.Past.{table_of};
-ghost use Rattle.trace_events.specs.Due.{due_starts, same_step};
 ghost use Rattle.trace_view.specs.Why.{why, is_nothing};
 
 /// Nothing keeps an id back exactly where its start is due. It does nothing: its contract is the law.

@@ -1,7 +1,7 @@
 //! What is told of an id.
 
 ghost use Rattle.std.specs.Prelude.{◌≡◌, ℕ, List, [], OnOk};
-ghost use Rattle.trace_check.specs.State.{at};
+ghost use Rattle.trace_view.specs.Words.{at};
 ghost use Rattle.trace_view.specs.Births.{one_more};
 ghost use Rattle.trace_view.specs.Rows.{born_after, ended_after};
 

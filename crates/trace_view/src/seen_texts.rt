@@ -1,10 +1,7 @@
 //! The text of a trace that comes in pieces, seen by a view and by whatever else is to see its happenings.
 
 ghost use Rattle.std.specs.Prelude.{◌≡◌, ◌^◌, ◌<◌, ◌∷◌, List, ℕ, ◌++◌, [], length, true, option_map, IfOk, OnOk};
-ghost use Rattle.trace_events.specs.Event.{Event};
-ghost use Rattle.trace_events.specs.Lawful.{broken};
-ghost use Rattle.trace_events.specs.Past.{stage_of};
-ghost use Rattle.trace_check.specs.Laws.{law_number};
+ghost use Rattle.trace_view.specs.Words.{Event, broken, stage_of, law_number};
 ghost use Rattle.trace_view.specs.LastLines.{line_behind};
 ghost use Rattle.trace_view.specs.SeenTexts.{HasSeenText, IsSeeing, IsSeen, SeesOn};
 ghost use Rattle.trace_view.specs.Viewing.{SeesNext, Viewed};

@@ -1,11 +1,7 @@
 //! The view of the text of a trace that comes in pieces.
 
 ghost use Rattle.std.specs.Prelude.{◌≡◌, ◌^◌, ◌<◌, List, ℕ, ◌++◌, [], length, true, None, is_some, option_map, reverse, IfOk, OnOk};
-ghost use Rattle.trace_events.specs.Event.{Event};
-ghost use Rattle.trace_events.specs.Lawful.{broken};
-ghost use Rattle.trace_verdict.specs.Fronts.{line_left};
-ghost use Rattle.trace_verdict.specs.Readers.{capped};
-ghost use Rattle.trace_check.specs.Laws.{law_number};
+ghost use Rattle.trace_view.specs.Words.{Event, broken, line_left, capped, law_number};
 ghost use Rattle.trace_view.specs.Viewing.{SeesNext, Viewed};
 ghost use Rattle.trace_view.specs.Shown.{IsShown};
 ghost use Rattle.trace_view.specs.Views.{ViewGoesOn, HasShown, IsAt, SeesStop, left_of, may_be, seen_by};

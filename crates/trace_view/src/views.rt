@@ -2,14 +2,7 @@
 
 ghost use Rattle.std.specs.Prelude.{◌≡◌, ◌&&◌, ◌||◌, if◌then◌else◌, true, List, Some, None, option_map, option_copied, IfOk};
 ghost use Rattle.std.specs.Option.{option_or};
-ghost use Rattle.init_words.specs.declared.orders.OrderKind.TheVariants.{Start};
-ghost use Rattle.init_words.specs.declared.entries.Entry.{Entry};
-ghost use Rattle.trace_events.specs.Event.{Event};
-ghost use Rattle.trace_events.specs.Past.{table_of, stage_of, grace_of, time_of, unreaped_children};
-ghost use Rattle.trace_events.specs.Lawful.{broken};
-ghost use Rattle.trace_events.specs.Wanted.{is_order, is_owed, starts_in};
-ghost use Rattle.inittab_text.specs.Tables.{entry_of, is_distinct};
-ghost use Rattle.trace_check.specs.Laws.{law_number};
+ghost use Rattle.trace_view.specs.Words.{Start, Entry, Event, table_of, stage_of, grace_of, time_of, unreaped_children, broken, is_order, is_owed, starts_in, entry_of, is_distinct, law_number};
 ghost use Rattle.trace_view.specs.Viewing.{unviewed, Viewed, SeesNext};
 ghost use Rattle.trace_view.specs.Why.{entry_id, first_awaited, standing_of, stops_now, why};
 ghost use Rattle.trace_view.specs.Rows.{row_of, gone_ids, is_settled_now, settled_in};

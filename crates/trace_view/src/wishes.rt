@@ -1,7 +1,7 @@
 //! The wishes that stand.
 
 ghost use Rattle.std.specs.Prelude.{◌≡◌};
-ghost use Rattle.trace_events.specs.Wishes.{other_than};
+ghost use Rattle.trace_view.specs.Words.{other_than};
 ghost use Rattle.trace_view.specs.Wishes.{reexec_after, reread_after, heard_after, power_after, letter_after, no_wishes, wishes_after, has_news, first_wish_in, unless_here, booted_after, next_stage_in};
 
 use init_words::{Letter, Level, PowerKind, Stage};

@@ -1,4 +1,4 @@
-use Rattle.std.proofs.Common.{rules}
+use Rattle.core_handover.proofs.Words.{rules}
 use Rattle.core_handover.proofs.Handed.{handed_says, handed_text}
 use Rattle.core_handover.proofs.handing.hand_over.Goals as goal
 

@@ -1,6 +1,4 @@
-use Rattle.std.proofs.Common.{◌≡◌, drop}
-use Rattle.std.specs.List.{list_all}
-use Rattle.core_text.specs.Range.{has_ranged_words}
+use Rattle.core_handover.proofs.Words.{◌≡◌, drop, list_all, has_ranged_words}
 use Rattle.core_handover.proofs.handing.law_of_records.Given as goal
 
 -- those that are left decide

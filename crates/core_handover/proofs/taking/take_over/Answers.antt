@@ -1,10 +1,8 @@
-use Rattle.std.proofs.Common.{◌≡◌, Err, sym, ◌∙◌, ap, subst, rules}
+use Rattle.core_handover.proofs.Words.{◌≡◌, Err, sym, ◌∙◌, ap, subst, rules, state_of, IsTextOf}
 use Rattle.std.specs.Result.{MatchResult}
-use Rattle.core_model.specs.Parts.{state_of}
 use Rattle.core_model.specs.Rebuilding.{core_of}
 use Rattle.core_model.proofs.Rebuilt.{core_is}
 use Rattle.core_text.specs.declared.state_fault.StateFault.TheVariants as fault
-use Rattle.core_text.specs.Refused.{IsTextOf}
 use Rattle.core_handover.proofs.taking.take_over.Goals as goal
 
 pub returns-in_err-parts-clause-only : goal.returns-in_err-parts-clause-only

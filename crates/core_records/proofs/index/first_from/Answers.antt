@@ -1,4 +1,5 @@
-use Rattle.core_records.proofs.Words.{nat_lt, rules, IsPartitionPoint-from_clause, Keyed}
+use Rattle.core_records.proofs.Words.{nat_lt, rules, Keyed}
+use Rattle.std.proofs.lemmas.List.Sorted.{IsPartitionPoint-from_clause}
 use Rattle.core_records.proofs.Sorted.{sorted_parts}
 use Rattle.core_records.proofs.index.first_from.Goals as goal
 

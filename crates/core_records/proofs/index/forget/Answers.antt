@@ -1,5 +1,5 @@
-use Rattle.core_records.proofs.Words.{not, rules, filter_same, same_id, slice_get, Keyed, ap, sym, ◌∙◌}
-use Rattle.core_records.specs.Indexing.{is_for}
+use Rattle.core_records.proofs.Words.{not, rules, slice_get, ap, sym, ◌∙◌, same_id, Keyed, is_for}
+use Rattle.std.proofs.lemmas.Fn.{filter_same}
 use Rattle.core_records.proofs.Forgotten.{none_for, removed_at}
 use Rattle.core_records.proofs.Sorted.{sorted_filter}
 use Rattle.core_records.proofs.index.forget.Goals as goal

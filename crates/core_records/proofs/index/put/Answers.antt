@@ -1,4 +1,5 @@
-use Rattle.core_records.proofs.Words.{◌≡◌, ◌≤◌, true, length, rules, is_ok}
+use Rattle.core_records.proofs.Words.{◌≡◌, ◌≤◌, true, length, rules}
+use Rattle.std.specs.Result.{is_ok}
 use Rattle.core_records.proofs.Sorted.{sorted_insert}
 use Rattle.core_records.proofs.index.put.Goals as goal
 

@@ -1,7 +1,5 @@
-use Rattle.std.proofs.Common.{sym, subst, ◌∙◌}
-use Rattle.core_records.specs.declared.index.Keyed.{Keyed}
+use Rattle.core_records.proofs.Words.{sym, subst, ◌∙◌, Keyed, IsFound}
 use Rattle.core_records.specs.declared.index.Found.TheVariants as found
-use Rattle.core_records.specs.Indexing.{IsFound}
 use Rattle.core_records.proofs.Sorted.{at_within, found_none, found_one}
 use Rattle.core_records.proofs.index.with_key.Goals as goal
 

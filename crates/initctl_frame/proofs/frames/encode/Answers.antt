@@ -1,8 +1,6 @@
-use Rattle.std.proofs.Common.{rules, sym, ◌∙◌, ap, ◌^◌, ◌<◌, ℕ}
+use Rattle.initctl_frame.proofs.Words.{rules, sym, ◌∙◌, ap, ◌^◌, ◌<◌, ℕ, heard_of_sign, heard_of, meaning_of}
 use Rattle.std.specs.Prelude.{min}
 use Rattle.init_words.specs.declared.limits.TheConstants.{GRACE_LIMIT}
-use Rattle.initctl_frame.specs.Signs.{heard_of_sign}
-use Rattle.initctl_frame.specs.Frames.{heard_of, meaning_of}
 use Rattle.initctl_frame.proofs.FrameLemmas.{level_read_back}
 use Rattle.initctl_frame.proofs.frames.encode.Goals as goal
 

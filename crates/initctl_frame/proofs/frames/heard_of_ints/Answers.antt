@@ -1,6 +1,4 @@
-use Rattle.std.proofs.Common.{arith, ◌≡◌, ◌∙◌, ap, sym, ℤ, pos}
-use Rattle.std.proofs.lemmas.Int.{ints, to_z-of_z}
-use Rattle.initctl_frame.specs.Frames.{heard_of_ints}
+use Rattle.initctl_frame.proofs.Words.{arith, ◌≡◌, ◌∙◌, ap, sym, ℤ, pos, ints, to_z-of_z, heard_of_ints}
 use Rattle.initctl_frame.proofs.frames.heard_of_ints.Goals as goal
 
 pub returns : goal.returns

@@ -1,10 +1,5 @@
-use Rattle.std.proofs.Common.{◌≡◌, ◌∙◌, ℕ, ◌+◌, ◌<◌, List, [], ◌∷◌, ◌++◌, length, take, drop, get_or, suc, ap, ap₂, subst, sym, arith, Option, append_assoc, length-append, length-drop}
-use Rattle.std.proofs.lemmas.List.{length-take, take_all}
-use Rattle.std.proofs.Math.Seq.{drop-cons, set-append_seam}
-use Rattle.std.specs.Prelude.{slice_set}
+use Rattle.initctl_frame.proofs.Words.{◌≡◌, ◌∙◌, ℕ, ◌+◌, ◌<◌, List, [], ◌∷◌, ◌++◌, length, take, drop, get_or, suc, ap, ap₂, subst, sym, arith, Option, append_assoc, length-append, length-drop, length-take, take_all, drop-cons, set-append_seam, slice_set, HeardRequest, Fills, filled}
 use Rattle.std.specs.Option.{option_to_list}
-use Rattle.initctl_frame.specs.declared.requests.HeardRequest.{HeardRequest}
-use Rattle.initctl_frame.specs.Pieces.{Fills, filled}
 use Rattle.initctl_frame.proofs.pieces.put.Goals as goal
 
 -- the next place takes the request

@@ -1,9 +1,4 @@
-use Rattle.std.proofs.Common.{◌≡◌, ◌∙◌, ℕ, ◌+◌, List, ◌++◌, length, take, drop, ap, sym, subst, arith, append_assoc, length-drop}
-use Rattle.std.proofs.Math.Seq.{take-add}
-use Rattle.std.proofs.lemmas.List.{take_rest, take_all}
-use Rattle.initctl_frame.specs.declared.requests.HeardRequest.{HeardRequest}
-use Rattle.initctl_frame.specs.Blocks.{Stands, gots_of}
-use Rattle.initctl_frame.specs.Pieces.{Fills}
+use Rattle.initctl_frame.proofs.Words.{◌≡◌, ◌∙◌, ℕ, ◌+◌, List, ◌++◌, length, take, drop, ap, sym, subst, arith, append_assoc, length-drop, take-add, take_rest, take_all, HeardRequest, Stands, gots_of, Fills}
 use Rattle.initctl_frame.proofs.pieces.read_piece.Goals as goal
 
 -- the bytes up to the end of what was taken now

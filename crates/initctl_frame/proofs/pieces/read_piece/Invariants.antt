@@ -1,7 +1,4 @@
-use Rattle.std.proofs.Common.{◌≤◌, ◌-◌, ◌++◌, ℕ, List, length, take}
-use Rattle.initctl_frame.specs.declared.requests.HeardRequest.{HeardRequest}
-use Rattle.initctl_frame.specs.Blocks.{Stands, gots_of}
-use Rattle.initctl_frame.specs.Pieces.{Fills}
+use Rattle.initctl_frame.proofs.Words.{◌≤◌, ◌-◌, ◌++◌, ℕ, List, length, take, HeardRequest, Stands, gots_of, Fills}
 use Rattle.initctl_frame.proofs.pieces.read_piece.Given as goal
 
 abbrev pub invariant-loop-done : goal.invariant-loop-done

@@ -1,7 +1,4 @@
-use Rattle.std.proofs.Common.{◌≤◌, length, take}
-use Rattle.std.specs.Prelude.{flat_map}
-use Rattle.initctl_frame.specs.Blocks.{Stands, gots_of}
-use Rattle.initctl_frame.specs.Pieces.{Fills}
+use Rattle.initctl_frame.proofs.Words.{◌≤◌, length, take, flat_map, Stands, gots_of, Fills}
 use Rattle.initctl_frame.proofs.pieces.read_pieces.Given as goal
 
 abbrev pub invariant-loop-piece : goal.invariant-loop-piece

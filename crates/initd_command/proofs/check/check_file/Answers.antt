@@ -1,6 +1,4 @@
-use Rattle.std.proofs.Common.{ap, inl}
-use Rattle.std.proofs.KnownBytes.{Keeps-refl}
-use Rattle.initd_command.specs.Endings.{refused, unread}
+use Rattle.initd_command.proofs.Words.{ap, inl, Keeps-refl, refused, unread}
 use Rattle.initd_command.proofs.check.check_file.Goals as goal
 
 pub returns-in-Err : goal.returns-in-Err

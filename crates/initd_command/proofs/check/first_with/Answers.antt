@@ -1,5 +1,4 @@
-use Rattle.std.proofs.Common.{◌≡◌, refl, ℕ, List, [], ◌∷◌, ◌++◌, Some, None}
-use Rattle.initd_command.specs.Verdicts.{first_byte}
+use Rattle.initd_command.proofs.Words.{◌≡◌, refl, ℕ, List, [], ◌∷◌, ◌++◌, Some, None, first_byte}
 
 some_first : (byte : ℕ) (text piece : List ℕ) → Some byte ≡ first_byte text → Some byte ≡ first_byte (text ++ piece)
 some_first byte [] piece is = cc

@@ -1,9 +1,5 @@
-use Rattle.std.proofs.Common.{◌∙◌, ap, inl, inr, subst}
-use Rattle.std.proofs.KnownBytes.{Keeps-refl}
-use Rattle.program_io.specs.Known.{IsTextAt}
-use Rattle.initd_options.specs.CommandLine.{CheckSaid, check_of}
-use Rattle.initd_command.specs.Endings.{refused, unread}
-use Rattle.initd_command.specs.Verdicts.{EndsTold, cut_at, within_of}
+use Rattle.initd_command.proofs.Words.{◌∙◌, ap, inl, inr, subst, Keeps-refl, IsTextAt, CheckSaid, check_of, refused, unread, cut_at, within_of}
+use Rattle.initd_command.specs.Verdicts.{EndsTold}
 use Rattle.initd_command.proofs.check.judge_text.Goals as goal
 
 pub returns-in-Ok : goal.returns-in-Ok

@@ -1,5 +1,4 @@
-use Rattle.std.proofs.Common.{string_bytes}
-use Rattle.initd_command.specs.Endings.{count_message}
+use Rattle.initd_command.proofs.Words.{string_bytes, count_message}
 use Rattle.initd_command.proofs.Reported.{reported_text}
 use Rattle.initd_command.proofs.check.report_judged.Goals as goal
 

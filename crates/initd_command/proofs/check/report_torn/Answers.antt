@@ -1,4 +1,4 @@
-use Rattle.std.proofs.Common.{string_bytes}
+use Rattle.initd_command.proofs.Words.{string_bytes}
 use Rattle.initd_command.proofs.Reported.{reported_text}
 use Rattle.initd_command.proofs.check.report_torn.Goals as goal
 

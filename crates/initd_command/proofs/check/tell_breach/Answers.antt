@@ -1,9 +1,4 @@
-use Rattle.std.proofs.Common.{rules, ◌≡◌, refl, subst}
-use Rattle.std.specs.Io.KnownBytes.{Appends}
-use Rattle.program_io.specs.Writing.{AppendsPrefix}
-use Rattle.std.proofs.KnownBytes.{Keeps-refl}
-use Rattle.initd_command.specs.Endings.{no_memory, refused, unlawful, unwritten}
-use Rattle.initd_command.specs.Verdicts.{breach_message, unlawful_text}
+use Rattle.initd_command.proofs.Words.{rules, ◌≡◌, refl, subst, Appends, AppendsPrefix, Keeps-refl, no_memory, refused, unlawful, unwritten, breach_message, unlawful_text}
 use Rattle.initd_command.proofs.check.tell_breach.Goals as goal
 
 pub returns-in_default : goal.returns-in_default

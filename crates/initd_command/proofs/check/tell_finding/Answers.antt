@@ -1,7 +1,4 @@
-use Rattle.std.proofs.Common.{refl, sym, subst}
-use Rattle.std.proofs.KnownBytes.{Keeps-refl}
-use Rattle.initd_command.specs.Endings.{Judged, torn}
-use Rattle.initd_command.specs.Verdicts.{EndsFound, judged_of}
+use Rattle.initd_command.proofs.Words.{refl, sym, subst, Keeps-refl, Judged, torn, EndsFound, judged_of}
 use Rattle.initd_command.proofs.check.tell_finding.Goals as goal
 
 pub returns-in-Torn : goal.returns-in-Torn

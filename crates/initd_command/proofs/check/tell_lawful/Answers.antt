@@ -1,5 +1,4 @@
-use Rattle.std.proofs.Common.{rules, refl}
-use Rattle.initd_command.specs.Endings.{lawful, unwritten}
+use Rattle.initd_command.proofs.Words.{rules, refl, lawful, unwritten}
 use Rattle.initd_command.proofs.check.tell_lawful.Goals as goal
 
 pub returns-then-not-tell : goal.returns-then-not-tell

@@ -1,7 +1,5 @@
-use Rattle.std.proofs.Common.{◌≡◌, ◌∙◌, refl, sym, subst, Some}
-use Rattle.std.proofs.KnownBytes.{Keeps-refl}
-use Rattle.initd_command.specs.Endings.{Judged, unfinished}
-use Rattle.initd_command.specs.Verdicts.{EndsTold, cut_at, judged_of, verdict_of}
+use Rattle.initd_command.proofs.Words.{◌≡◌, ◌∙◌, refl, sym, subst, Some, Keeps-refl, Judged, unfinished, cut_at, judged_of, verdict_of}
+use Rattle.initd_command.specs.Verdicts.{EndsTold}
 use Rattle.initd_command.proofs.check.tell_text.Goals as goal
 
 pub returns-in-Some : goal.returns-in-Some

@@ -1,11 +1,4 @@
-use Rattle.std.proofs.Common.{◌≡◌, refl, sym, subst, rules, inl, inr, List, ℕ, Option, Some, None, map, string_bytes}
-use Rattle.std.proofs.KnownBytes.{Keeps-refl}
-use Rattle.program_io.specs.Known.{KnownTexts}
-use Rattle.initd_options.specs.CommandLine.{InitdSaid, check_of, judges, initd_read_of, simulation_of, simulates, runs, version}
-use Rattle.initd_options.specs.Options.{RunSaid, run_of}
-use Rattle.host_calls.specs.Calls.{HostCall}
-use Rattle.initd_command.specs.Endings.{Ending, no_memory, refused, usage, usage_named}
-use Rattle.initd_command.specs.Ran.{AsksBy, AsksSaid, RunTold}
+use Rattle.initd_command.proofs.Words.{◌≡◌, refl, sym, subst, rules, inl, inr, List, ℕ, Option, Some, None, map, string_bytes, Keeps-refl, KnownTexts, InitdSaid, check_of, judges, initd_read_of, simulation_of, simulates, runs, version, RunSaid, run_of, HostCall, Ending, no_memory, refused, usage, usage_named, AsksBy, AsksSaid, RunTold}
 use Rattle.initd_command.specs.Runs.{EndsBy, EndsRead}
 use Rattle.initd_command.proofs.Ran.{none_asked}
 use Rattle.initd_command.proofs.command.run_words.Goals as goal

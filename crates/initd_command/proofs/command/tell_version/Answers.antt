@@ -1,6 +1,4 @@
-use Rattle.std.proofs.Common.{refl}
-use Rattle.std.proofs.KnownBytes.{Keeps-refl}
-use Rattle.initd_command.specs.Endings.{done, unversioned}
+use Rattle.initd_command.proofs.Words.{refl, Keeps-refl, done, unversioned}
 use Rattle.initd_command.proofs.command.tell_version.Goals as goal
 
 pub returns-then-write_version : goal.returns-then-write_version

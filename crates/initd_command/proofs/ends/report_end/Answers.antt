@@ -1,7 +1,4 @@
-use Rattle.std.proofs.Common.{◌≡◌, true, false, rules}
-use Rattle.initd_options.specs.Options.{run_of}
-use Rattle.core_waiting.specs.Lines.{waiting_text}
-use Rattle.initd_command.specs.Services.{noted_of}
+use Rattle.initd_command.proofs.Words.{◌≡◌, true, false, rules, run_of, waiting_text, noted_of}
 use Rattle.initd_command.proofs.Reported.{reported_logged, reported_unlogged}
 use Rattle.initd_command.proofs.ends.report_end.Goals as goal
 

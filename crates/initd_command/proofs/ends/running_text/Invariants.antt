@@ -1,5 +1,4 @@
-use Rattle.std.proofs.Common.{◌≡◌, ◌++◌, codes}
-use Rattle.initd_command.specs.Turned.{listed_after}
+use Rattle.initd_command.proofs.Words.{◌≡◌, ◌++◌, codes, listed_after}
 use Rattle.initd_command.proofs.ends.running_text.Given as goal
 
 -- the text so far, and behind it the children that are left, is the text of all

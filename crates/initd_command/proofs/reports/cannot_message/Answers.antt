@@ -1,4 +1,4 @@
-use Rattle.std.proofs.lemmas.Result.{IfOk-weaker}
+use Rattle.initd_command.proofs.Words.{IfOk-weaker}
 use Rattle.initd_command.proofs.reports.cannot_message.Goals as goal
 
 pub returns : goal.returns

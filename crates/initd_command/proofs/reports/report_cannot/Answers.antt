@@ -1,5 +1,4 @@
-use Rattle.std.proofs.Common.{string_bytes}
-use Rattle.initd_command.specs.Endings.{cannot_message}
+use Rattle.initd_command.proofs.Words.{string_bytes, cannot_message}
 use Rattle.initd_command.proofs.Reported.{reported_why}
 use Rattle.initd_command.proofs.reports.report_cannot.Goals as goal
 

@@ -1,4 +1,4 @@
-use Rattle.initd_options.specs.Options.{run_of}
+use Rattle.initd_command.proofs.Words.{run_of}
 use Rattle.host_calls.proofs.Record.{Since-map}
 use Rattle.initd_command.proofs.Ran.{made_fresh}
 use Rattle.initd_command.proofs.run.make_over.Goals as goal

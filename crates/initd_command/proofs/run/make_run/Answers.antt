@@ -1,11 +1,4 @@
-use Rattle.std.proofs.Common.{◌≡◌, refl, sym, ◌∙◌, ap, subst, ◌&&◌, if◌then◌else◌, Bool, true, false, List, ℕ, Option}
-use Rattle.std.specs.Prelude.{⊤}
-use Rattle.std.specs.Io.KnownBytes.{Appends}
-use Rattle.program_io.specs.Writing.{AppendsPrefix}
-use Rattle.host_calls.specs.Record.{Since}
-use Rattle.initd_options.specs.Options.{run_of}
-use Rattle.initd_command.specs.Ran.{MakesTurns}
-use Rattle.initd_command.specs.Services.{Writes}
+use Rattle.initd_command.proofs.Words.{◌≡◌, refl, sym, ◌∙◌, ap, subst, ◌&&◌, if◌then◌else◌, Bool, true, false, List, ℕ, Option, ⊤, Appends, AppendsPrefix, Since, run_of, MakesTurns, Writes}
 use Rattle.initd_command.proofs.run.make_run.Goals as goal
 
 -- a text that was told was written, any other in part

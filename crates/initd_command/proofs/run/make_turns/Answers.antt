@@ -1,10 +1,5 @@
-use Rattle.std.proofs.Common.{◌≡◌, ℕ, Bool, true, not, refl, sym, ◌∙◌, ap, subst, reverse, [], None}
-use Rattle.init_turns.specs.declared.serving.Served.{Served}
-use Rattle.trace_log_wrappers.specs.Judgements.{FindsBy, JudgedBy, judged_state}
-use Rattle.trace_log_wrappers.specs.Notes.{Noted, Notes, NotesOf, noted_state}
-use Rattle.initd_options.specs.Options.{run_of}
-use Rattle.core_waiting.specs.Lines.{waiting_text}
-use Rattle.initd_command.specs.Services.{IsNoted, LogEnds, TurnsFrom, end_of, noted_of}
+use Rattle.initd_command.proofs.Words.{◌≡◌, ℕ, Bool, true, not, refl, sym, ◌∙◌, ap, subst, reverse, [], None, Served, FindsBy, JudgedBy, judged_state, Notes, NotesOf, noted_state, run_of, waiting_text, IsNoted, LogEnds, TurnsFrom, end_of, noted_of}
+use Rattle.trace_log_wrappers.specs.Notes.{Noted}
 use Rattle.host_trace.specs.Edges.{calls_of}
 use Rattle.init_stamped.specs.Stamps.{StampedState}
 use Rattle.init_stamped.proofs.Stamps.{Since-stamped, had_each, with_logs, with_logs-calls, with_logs-had, with_logs-timed}

@@ -1,5 +1,4 @@
-use Rattle.initd_options.specs.Options.{run_of}
-use Rattle.initd_command.specs.Services.{Hinders}
+use Rattle.initd_command.proofs.Words.{run_of, Hinders}
 use Rattle.initd_command.proofs.Ended.{handed_on, read_taken}
 use Rattle.initd_command.proofs.run.open_run.Goals as goal
 

@@ -1,7 +1,4 @@
-use Rattle.std.proofs.Common.{sym, subst}
-use Rattle.std.proofs.lemmas.Result.{IfOk-weaker}
-use Rattle.initd_options.specs.Options.{run_of}
-use Rattle.initd_command.specs.Services.{AreFiles, IsInittab}
+use Rattle.initd_command.proofs.Words.{sym, subst, IfOk-weaker, run_of, AreFiles, IsInittab}
 use Rattle.initd_command.proofs.run.read_inittab.Goals as goal
 
 pub returns-clause-ok : goal.returns-clause-ok

@@ -1,7 +1,4 @@
-use Rattle.std.proofs.Common.{◌≡◌, refl, sym, subst, List, [], ◌∷◌, ℕ}
-use Rattle.std.specs.Prelude.{unwrap_or}
-use Rattle.initd_options.specs.Options.{RunSaid, run_of}
-use Rattle.initd_command.specs.Services.{Hinders, StandBy, own_paths}
+use Rattle.initd_command.proofs.Words.{◌≡◌, refl, sym, subst, List, [], ◌∷◌, ℕ, unwrap_or, RunSaid, run_of, Hinders, StandBy, own_paths}
 use Rattle.initd_command.proofs.Ended.{handed_on}
 use Rattle.initd_command.proofs.run.refuse_shared.Goals as goal
 

@@ -1,5 +1,4 @@
-use Rattle.std.proofs.Common.{[]}
-use Rattle.initd_options.specs.Options.{run_of}
+use Rattle.initd_command.proofs.Words.{[], run_of}
 use Rattle.initd_command.specs.declared.run.RunFault.TheVariants as why
 use Rattle.initd_command.proofs.Ended.{reported_as}
 use Rattle.initd_command.proofs.run.report_run_fault.Goals as goal

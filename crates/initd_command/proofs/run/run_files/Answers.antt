@@ -1,11 +1,5 @@
-use Rattle.std.proofs.Common.{◌≡◌, ◌∙◌, refl, sym, subst, [], ◌∷◌, inl, inr}
-use Rattle.std.specs.Prelude.{⊤}
-use Rattle.std.proofs.KnownBytes.{Keeps-refl}
-use Rattle.host_calls.specs.Record.{Since}
-use Rattle.initd_options.specs.Options.{run_of}
-use Rattle.initd_command.specs.Endings.{refused, turned}
-use Rattle.initd_command.specs.Ran.{MakesTurns}
-use Rattle.initd_command.specs.Services.{EndsTold, obstacle_of}
+use Rattle.initd_command.proofs.Words.{◌≡◌, ◌∙◌, refl, sym, subst, [], ◌∷◌, inl, inr, ⊤, Keeps-refl, Since, run_of, refused, turned, MakesTurns, obstacle_of}
+use Rattle.initd_command.specs.Services.{EndsTold}
 use Rattle.initd_command.proofs.Ran.{ran_to}
 use Rattle.initd_command.proofs.run.run_files.Goals as goal
 

@@ -1,6 +1,4 @@
-use Rattle.std.proofs.Common.{◌≡◌, ap, string_bytes, rules, inl, inr}
-use Rattle.std.proofs.KnownBytes.{Keeps-refl}
-use Rattle.initd_command.specs.Endings.{refused, unread}
+use Rattle.initd_command.proofs.Words.{◌≡◌, ap, string_bytes, rules, inl, inr, Keeps-refl, refused, unread}
 use Rattle.initd_command.proofs.simulate.simulate_files.Goals as goal
 
 -- the inittab was not read

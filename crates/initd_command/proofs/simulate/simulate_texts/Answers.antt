@@ -1,7 +1,4 @@
-use Rattle.std.proofs.Common.{refl}
-use Rattle.std.proofs.KnownBytes.{Keeps-refl}
-use Rattle.simulator.specs.Simulation.{Done, Ends, scenario}
-use Rattle.initd_command.specs.Endings.{done, stopped, unflushed}
+use Rattle.initd_command.proofs.Words.{refl, Keeps-refl, Done, Ends, scenario, done, stopped, unflushed}
 use Rattle.initd_command.proofs.Ended.{done_kept, either_end, either_kept, ends_kept}
 use Rattle.initd_command.proofs.simulate.simulate_texts.Goals as goal
 

@@ -1,6 +1,4 @@
-use Rattle.std.proofs.Common.{◌≡◌, ◌++◌, ◌+◌, ◌≤◌, length}
-use Rattle.text_lines.specs.Lines.{lines_of}
-use Rattle.inittab_lint.specs.Warnings.{warnings_of_lines}
+use Rattle.inittab_lint.proofs.Words.{◌≡◌, ◌++◌, ◌+◌, ◌≤◌, length, lines_of, warnings_of_lines}
 use Rattle.inittab_lint.proofs.linting.add_text.Given as goal
 
 -- the warnings so far, and behind them those of the lines that are left, are those of all

@@ -1,6 +1,5 @@
-use Rattle.std.proofs.Common.{◌≡◌, ◌++◌, ◌+◌, ◌≤◌, length}
+use Rattle.inittab_lint.proofs.Words.{◌≡◌, ◌++◌, ◌+◌, ◌≤◌, length, warnings_of, warnings_of_texts}
 use Rattle.init_words.specs.Parts.{texts_of}
-use Rattle.inittab_lint.specs.Warnings.{warnings_of, warnings_of_texts}
 use Rattle.inittab_lint.proofs.linting.warnings.Given as goal
 
 -- the warnings so far, and behind them those of the files that are left, are those of all

@@ -1,6 +1,4 @@
-use Rattle.std.proofs.Common.{◌≡◌, ◌++◌, ◌+◌, ◌≤◌, length}
-use Rattle.text_lines.specs.Lines.{lines_of}
-use Rattle.inittab_lint.specs.IdLines.{own_lines}
+use Rattle.inittab_lint.proofs.Words.{◌≡◌, ◌++◌, ◌+◌, ◌≤◌, length, lines_of, own_lines}
 use Rattle.inittab_lint.proofs.own_lines.add_file.Given as goal
 
 -- the text so far, and behind it what is told of the lines that are left, is the text and what is told of all

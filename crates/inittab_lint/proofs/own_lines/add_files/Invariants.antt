@@ -1,5 +1,4 @@
-use Rattle.std.proofs.Common.{◌≡◌, ◌++◌, ◌+◌, ◌≤◌, length}
-use Rattle.inittab_lint.specs.IdLines.{lines_from}
+use Rattle.inittab_lint.proofs.Words.{◌≡◌, ◌++◌, ◌+◌, ◌≤◌, length, lines_from}
 use Rattle.inittab_lint.proofs.own_lines.add_files.Given as goal
 
 -- the text so far, and behind it what is told of the files that are left, is the text and what is told of all

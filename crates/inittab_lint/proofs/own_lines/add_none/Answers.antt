@@ -1,7 +1,6 @@
-use Rattle.std.proofs.Common.{rules, arith, ◌≡◌, ◌∙◌, ap, sym, [], ◌++◌, length}
+use Rattle.inittab_lint.proofs.Words.{rules, arith, ◌≡◌, ◌∙◌, ap, sym, [], ◌++◌, length, none_told, or_none}
 use Rattle.std.proofs.lemmas.Grind.{common_steps}
 use Rattle.std.proofs.lemmas.List.{nil_from_length}
-use Rattle.inittab_lint.specs.IdLines.{none_told, or_none}
 use Rattle.inittab_lint.proofs.own_lines.add_none.Goals as goal
 
 pub returns : goal.returns

@@ -1,5 +1,4 @@
-use Rattle.std.proofs.Common.{codes}
-use Rattle.init_words.proofs.Behind.{four_more}
+use Rattle.inittab_lint.proofs.Words.{codes, four_more}
 use Rattle.inittab_lint.proofs.own_lines.tell_none.Goals as goal
 
 pub returns : goal.returns

@@ -1,6 +1,4 @@
-use Rattle.std.proofs.Common.{rules, ◌≡◌, ◌∙◌, ap, sym, ◌∷◌, ◌++◌, option_copied, slice_get}
-use Rattle.inittab_lint.specs.Linting.{told_fault, fault_lines}
-use Rattle.init_words.proofs.Behind.{one_more}
+use Rattle.inittab_lint.proofs.Words.{rules, ◌≡◌, ◌∙◌, ap, sym, ◌∷◌, ◌++◌, option_copied, slice_get, told_fault, fault_lines, one_more}
 use Rattle.inittab_lint.proofs.printing.add_faults.Goals as goal
 
 pub loop-fault-preserved : goal.loop-fault-preserved

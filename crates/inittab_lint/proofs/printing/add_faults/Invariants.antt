@@ -1,5 +1,4 @@
-use Rattle.std.proofs.Common.{◌≡◌, ◌++◌, length}
-use Rattle.inittab_lint.specs.Linting.{fault_lines}
+use Rattle.inittab_lint.proofs.Words.{◌≡◌, ◌++◌, length, fault_lines}
 use Rattle.inittab_lint.proofs.printing.add_faults.Given as goal
 
 -- the text so far, and behind it the lines of the faults that are left, is the text and the lines of all

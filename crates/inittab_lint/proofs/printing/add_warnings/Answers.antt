@@ -1,6 +1,4 @@
-use Rattle.std.proofs.Common.{rules, ◌≡◌, ◌∙◌, ap, sym, ◌∷◌, ◌++◌, option_copied, slice_get}
-use Rattle.inittab_lint.specs.Linting.{warning_line, warning_lines}
-use Rattle.init_words.proofs.Behind.{one_more}
+use Rattle.inittab_lint.proofs.Words.{rules, ◌≡◌, ◌∙◌, ap, sym, ◌∷◌, ◌++◌, option_copied, slice_get, warning_line, warning_lines, one_more}
 use Rattle.inittab_lint.proofs.printing.add_warnings.Goals as goal
 
 pub loop-found-preserved : goal.loop-found-preserved

@@ -1,5 +1,4 @@
-use Rattle.std.proofs.Common.{◌≡◌, ◌++◌, length}
-use Rattle.inittab_lint.specs.Linting.{warning_lines}
+use Rattle.inittab_lint.proofs.Words.{◌≡◌, ◌++◌, length, warning_lines}
 use Rattle.inittab_lint.proofs.printing.add_warnings.Given as goal
 
 -- the text so far, and behind it the lines of the warnings that are left, is the text and the lines of all

@@ -1,5 +1,4 @@
-use Rattle.std.proofs.Common.{◌≡◌, ◌++◌, length}
-use Rattle.inittab_lint.specs.Linting.{shown}
+use Rattle.inittab_lint.proofs.Words.{◌≡◌, ◌++◌, length, shown}
 use Rattle.inittab_lint.proofs.printing.put_shown.Given as goal
 
 -- the text so far, and behind it the bytes that are left, is the text and all bytes

@@ -1,5 +1,4 @@
-use Rattle.std.proofs.Common.{◌≡◌, true, length}
-use Rattle.inittab_lint.specs.Shell.{has_hash}
+use Rattle.inittab_lint.proofs.Words.{◌≡◌, true, length, has_hash}
 use Rattle.inittab_lint.proofs.shell.has_hash.Given as goal
 
 -- what is left says what the whole process does

@@ -1,5 +1,4 @@
-use Rattle.std.proofs.Common.{rules, ◌≡◌, ◌∷◌, None}
-use Rattle.inittab_lint.specs.Shell.{operator_at}
+use Rattle.inittab_lint.proofs.Words.{rules, ◌≡◌, ◌∷◌, None, operator_at}
 use Rattle.inittab_lint.proofs.Parts.{pair, other}
 use Rattle.inittab_lint.proofs.shell.operator_of.Goals as goal
 

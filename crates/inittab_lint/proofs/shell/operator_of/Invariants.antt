@@ -1,5 +1,4 @@
-use Rattle.std.proofs.Common.{◌≡◌, None, length}
-use Rattle.inittab_lint.specs.Shell.{operator_in}
+use Rattle.inittab_lint.proofs.Words.{◌≡◌, None, length, operator_in}
 use Rattle.inittab_lint.proofs.shell.operator_of.Given as goal
 
 -- what is left says what the whole process does

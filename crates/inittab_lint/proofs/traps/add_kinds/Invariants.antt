@@ -1,6 +1,5 @@
-use Rattle.std.proofs.Common.{◌≡◌, ◌++◌, map, filter, length}
+use Rattle.inittab_lint.proofs.Words.{◌≡◌, ◌++◌, map, filter, length, at_line, holds, warnings_by}
 use Rattle.inittab_text.specs.Lines.{fields_at}
-use Rattle.inittab_lint.specs.Warnings.{at_line, holds, warnings_by}
 use Rattle.inittab_lint.proofs.traps.add_kinds.Given as goal
 
 -- what was found so far, and behind it what holds of those that are left, is what was found before and all that holds

@@ -1,6 +1,4 @@
-use Rattle.std.proofs.Common.{◌∙◌, ap, sym, arith, length, get_or}
-use Rattle.init_words.specs.Levels.{mark_read}
-use Rattle.inittab_text.specs.Kept.{with_mark}
+use Rattle.inittab_text.proofs.Words.{◌∙◌, ap, sym, arith, length, get_or, mark_read, with_mark}
 use Rattle.inittab_text.proofs.MarkLemmas.{marks_more, length-with_mark}
 use Rattle.inittab_text.proofs.kept.marks_of.Goals as goal
 

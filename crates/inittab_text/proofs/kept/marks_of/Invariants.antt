@@ -1,5 +1,4 @@
-use Rattle.std.proofs.Common.{◌≡◌, ◌≤◌, length, take}
-use Rattle.inittab_text.specs.Kept.{marks_of}
+use Rattle.inittab_text.proofs.Words.{◌≡◌, ◌≤◌, length, take, marks_of}
 use Rattle.inittab_text.proofs.kept.marks_of.Given as goal
 
 abbrev pub invariant-loop-code : goal.invariant-loop-code

@@ -1,5 +1,4 @@
-use Rattle.std.proofs.Common.{◌≡◌, ◌++◌, map, drop}
-use Rattle.inittab_text.specs.Parts.{in_part}
+use Rattle.inittab_text.proofs.Words.{◌≡◌, ◌++◌, map, drop, in_part}
 use Rattle.inittab_text.proofs.parts.add_faults.Given as goal
 
 abbrev pub invariant-loop-fault : goal.invariant-loop-fault

@@ -1,7 +1,4 @@
-use Rattle.std.proofs.Common.{◌≡◌, ◌+◌, ◌≤◌, drop}
-use Rattle.init_words.specs.Parts.{texts_of}
-use Rattle.inittab_text.specs.declared.reading.TheConstants.{TEXT_LIMIT}
-use Rattle.inittab_text.specs.Parts.{size_of_texts}
+use Rattle.inittab_text.proofs.Words.{◌≡◌, ◌+◌, ◌≤◌, drop, texts_of, TEXT_LIMIT, size_of_texts}
 use Rattle.inittab_text.proofs.parts.are_too_long.Given as goal
 
 -- what there is room for and what was passed are the limit

@@ -1,8 +1,5 @@
-use Rattle.std.proofs.Common.{◌≡◌, ◌++◌, ◌≤◌, length, drop}
-use Rattle.init_words.specs.Parts.{texts_of}
-use Rattle.inittab_text.specs.declared.reading.TheConstants.{TEXT_LIMIT}
+use Rattle.inittab_text.proofs.Words.{◌≡◌, ◌++◌, ◌≤◌, length, drop, texts_of, TEXT_LIMIT, entries_of_texts, faults_of_texts, faults_of_parts, size_of_texts, table_of_texts}
 use Rattle.inittab_text.specs.declared.parts.TheConstants.{PART_LIMIT}
-use Rattle.inittab_text.specs.Parts.{entries_of_texts, faults_of_texts, faults_of_parts, size_of_texts, table_of_texts}
 use Rattle.inittab_text.proofs.parts.read_fitting.Given as goal
 
 abbrev pub invariant-loop-part : goal.invariant-loop-part

@@ -1,7 +1,4 @@
-use Rattle.std.proofs.Common.{◌≡◌, ◌++◌, ◌+◌, ◌≤◌, length}
-use Rattle.inittab_text.specs.declared.reading.TheConstants.{TEXT_LIMIT}
-use Rattle.text_lines.specs.Lines.{lines_of}
-use Rattle.inittab_text.specs.Reading.{entries_from, faults_from}
+use Rattle.inittab_text.proofs.Words.{◌≡◌, ◌++◌, ◌+◌, ◌≤◌, length, TEXT_LIMIT, lines_of, entries_from, faults_from}
 use Rattle.inittab_text.proofs.reading.take_text.Given as goal
 
 abbrev pub invariant-loop-rest : goal.invariant-loop-rest

@@ -1,5 +1,4 @@
-use Rattle.std.proofs.Common.{◌≡◌, drop}
-use Rattle.inittab_text.specs.Tables.{first_level}
+use Rattle.inittab_text.proofs.Words.{◌≡◌, drop, first_level}
 use Rattle.inittab_text.proofs.tables.first_level.Given as goal
 
 abbrev pub invariant-loop-mark : goal.invariant-loop-mark

@@ -1,5 +1,4 @@
-use Rattle.std.proofs.Common.{◌≡◌, map, take}
-use Rattle.init_words.specs.Levels.{mark_code}
+use Rattle.inittab_text.proofs.Words.{◌≡◌, map, take, mark_code}
 use Rattle.inittab_text.proofs.writing.codes_of.Given as goal
 
 abbrev pub invariant-loop-mark : goal.invariant-loop-mark

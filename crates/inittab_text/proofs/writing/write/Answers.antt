@@ -1,9 +1,6 @@
-use Rattle.std.proofs.Common.{◌≡◌, ◌≤◌, ◌∙◌, ◌+◌, ap, sym, subst, arith, [], ◌++◌, length, drop, append-nil}
-use Rattle.std.proofs.lemmas.List.{append_assoc, at_drop_all}
-use Rattle.inittab_text.specs.Reading.{table_of_text, faults_of_text}
-use Rattle.inittab_text.specs.Written.{line_of, text_of}
+use Rattle.inittab_text.proofs.Words.{◌≡◌, ◌≤◌, ◌∙◌, ◌+◌, ap, sym, subst, arith, [], ◌++◌, length, drop, append-nil, at_drop_all, table_of_text, faults_of_text, line_of, text_of, TEXT_LIMIT}
+use Rattle.std.proofs.lemmas.List.{append_assoc}
 use Rattle.inittab_text.proofs.Entries.{text_of-drop}
-use Rattle.inittab_text.specs.declared.reading.TheConstants.{TEXT_LIMIT}
 use Rattle.inittab_text.proofs.SizeLemmas.{text_short}
 use Rattle.inittab_text.proofs.WriteLemmas.{entries_from-text, faults_from-text}
 use Rattle.inittab_text.proofs.writing.write.Goals as goal

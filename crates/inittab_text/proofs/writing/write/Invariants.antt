@@ -1,5 +1,4 @@
-use Rattle.std.proofs.Common.{◌≡◌, ◌++◌, drop}
-use Rattle.inittab_text.specs.Written.{text_of}
+use Rattle.inittab_text.proofs.Words.{◌≡◌, ◌++◌, drop, text_of}
 use Rattle.inittab_text.proofs.writing.write.Given as goal
 
 abbrev pub invariant-loop-place : goal.invariant-loop-place

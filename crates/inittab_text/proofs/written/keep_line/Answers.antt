@@ -1,4 +1,4 @@
-use Rattle.std.proofs.Common.{◌∙◌, ap, sym, Ok}
+use Rattle.inittab_text.proofs.Words.{◌∙◌, ap, sym, Ok}
 use Rattle.inittab_text.proofs.ReadLemmas.{kept_entry}
 use Rattle.inittab_text.proofs.written.keep_line.Goals as goal
 

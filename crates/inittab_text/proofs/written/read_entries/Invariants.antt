@@ -1,6 +1,4 @@
-use Rattle.std.proofs.Common.{◌≡◌, length}
-use Rattle.text_lines.specs.Lines.{lines_of}
-use Rattle.inittab_text.specs.Reading.{entries_from, table_of_text}
+use Rattle.inittab_text.proofs.Words.{◌≡◌, length, lines_of, entries_from, table_of_text}
 use Rattle.inittab_text.proofs.written.read_entries.Given as goal
 
 abbrev pub invariant-loop-rest : goal.invariant-loop-rest

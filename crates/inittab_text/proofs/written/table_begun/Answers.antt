@@ -1,6 +1,4 @@
-use Rattle.std.proofs.Common.{rules, ◌≡◌, Some, arith, length, length-append, ap}
-use Rattle.text_lines.specs.Lines.{after_lines}
-use Rattle.text_lines.proofs.PieceLemmas.{after_lines-front}
+use Rattle.inittab_text.proofs.Words.{rules, ◌≡◌, Some, arith, length, length-append, ap, after_lines, after_lines-front}
 use Rattle.inittab_text.proofs.written.table_begun.Goals as goal
 
 pub slice_bounds-read_written-count : goal.slice_bounds-read_written-count

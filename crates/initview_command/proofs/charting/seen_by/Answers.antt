@@ -1,11 +1,10 @@
-use Rattle.std.proofs.Common.{◌≡◌, ◌∙◌, ap, ℕ, Bool, List, Option}
+use Rattle.initview_command.proofs.Words.{◌≡◌, ◌∙◌, ap, ℕ, Bool, List, Option, Event, SeenMarks, marks_of}
 use Rattle.init_words.specs.declared.entries.Entry.{Entry}
 use Rattle.init_words.specs.declared.stages.Stage.{Stage}
-use Rattle.trace_events.specs.Event.{Event}
 use Rattle.trace_events.specs.Past.{stage_of, table_of, time_of}
 use Rattle.trace_view.specs.Rows.{is_settled_now}
 use Rattle.initview_timeline.specs.declared.marks.TimelineMark.{TimelineMark}
-use Rattle.initview_timeline.specs.Marks.{SeenMarks, marks_of, start_of}
+use Rattle.initview_timeline.specs.Marks.{start_of}
 use Rattle.initview_timeline.specs.Rows.{Scene, drawn_of}
 use Rattle.initview_command.proofs.charting.seen_by.Goals as goal
 

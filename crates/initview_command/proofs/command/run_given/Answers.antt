@@ -1,8 +1,5 @@
-use Rattle.std.proofs.Common.{◌∙◌, map, subst, sym}
+use Rattle.initview_command.proofs.Words.{◌∙◌, map, subst, sym, found_of, rows_of, what_of, EndsFor}
 use Rattle.std.proofs.lemmas.Option.{none-some}
-use Rattle.clap.specs.Words.{found_of, rows_of}
-use Rattle.initview_command.specs.Asking.{what_of}
-use Rattle.initview_command.specs.Endings.{EndsFor}
 use Rattle.initview_command.proofs.Asked.{refuses, so_done}
 use Rattle.initview_command.proofs.command.run_given.Goals as goal
 

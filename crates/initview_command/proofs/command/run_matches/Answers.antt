@@ -1,5 +1,4 @@
-use Rattle.std.proofs.Common.{map, refl}
-use Rattle.clap.specs.Words.{found_of, rows_of}
+use Rattle.initview_command.proofs.Words.{map, refl, found_of, rows_of}
 use Rattle.initview_command.proofs.Asked.{words_given, words_none}
 use Rattle.initview_command.proofs.command.run_matches.Goals as goal
 

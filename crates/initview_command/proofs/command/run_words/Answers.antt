@@ -1,5 +1,4 @@
-use Rattle.std.proofs.Common.{◌∙◌, map, string_bytes, sym}
-use Rattle.clap.specs.Words.{found_of, rows_of}
+use Rattle.initview_command.proofs.Words.{◌∙◌, map, string_bytes, sym, found_of, rows_of}
 use Rattle.initview_command.proofs.Asked.{asked_none, fault_done, given_done, version_done, words_done}
 use Rattle.initview_command.proofs.command.run_words.Goals as goal
 

@@ -1,4 +1,4 @@
-use Rattle.std.proofs.Common.{rules, ◌≡◌, ◌∙◌, ap, [], ◌∷◌, ◌++◌}
+use Rattle.initview_command.proofs.Words.{rules, ◌≡◌, ◌∙◌, ap, [], ◌∷◌, ◌++◌}
 use Rattle.initview_lines.specs.declared.lines.Line.TheVariants as line
 use Rattle.initview_lines.specs.Reasons.{why_in}
 use Rattle.initview_command.proofs.explaining.explanation.Goals as goal

@@ -1,8 +1,4 @@
-use Rattle.std.proofs.Common.{◌∙◌, ◌<◌, ◌≤◌, ap, sym, subst, ℕ, List, [], length, take, arith}
-use Rattle.std.proofs.lemmas.Grind.{common_steps}
-use Rattle.std.proofs.lemmas.List.{length-take}
-use Rattle.program_io.specs.declared.takers.TheConstants.{PIECE_LIMIT}
-use Rattle.initview_command.specs.Following.{HasLines, judges}
+use Rattle.initview_command.proofs.Words.{◌∙◌, ◌<◌, ◌≤◌, ap, sym, subst, ℕ, List, [], length, take, arith, common_steps, length-take, PIECE_LIMIT, HasLines, judges}
 use Rattle.initview_command.proofs.Followed.{first_kept}
 use Rattle.initview_command.proofs.following.first_reader.Goals as goal
 

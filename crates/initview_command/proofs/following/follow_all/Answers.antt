@@ -1,6 +1,5 @@
-use Rattle.std.proofs.Common.{◌∙◌, ap, refl, sym, subst, [], None}
-use Rattle.program_io.proofs.WritingLemmas.{on_err}
-use Rattle.initview_command.specs.Following.{HasLines, judges, start_of}
+use Rattle.initview_command.proofs.Words.{◌∙◌, ap, refl, sym, subst, [], None, on_err, HasLines, judges}
+use Rattle.initview_command.specs.Following.{start_of}
 use Rattle.initview_command.proofs.Followed.{from_first, if_err, if_ok, none_part}
 use Rattle.initview_command.proofs.following.follow_all.Goals as goal
 

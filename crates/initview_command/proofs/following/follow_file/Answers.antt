@@ -1,5 +1,4 @@
-use Rattle.std.proofs.Common.{inr, subst}
-use Rattle.initview_command.specs.Following.{Follows}
+use Rattle.initview_command.proofs.Words.{inr, subst, Follows}
 use Rattle.initview_command.proofs.Followed.{none_part}
 use Rattle.initview_command.proofs.following.follow_file.Goals as goal
 

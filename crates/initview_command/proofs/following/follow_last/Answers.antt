@@ -1,8 +1,5 @@
-use Rattle.std.proofs.Common.{sym, subst, Some, option_map}
-use Rattle.program_io.proofs.WritingLemmas.{on_err}
-use Rattle.program_io.specs.declared.takers.TheConstants.{PIECE_LIMIT}
+use Rattle.initview_command.proofs.Words.{sym, subst, Some, option_map, on_err, PIECE_LIMIT, FirstReader, HasFollowed, MayKeep}
 use Rattle.initview_command.specs.Following.{start_of}
-use Rattle.initview_command.specs.Taking.{FirstReader, HasFollowed, MayKeep}
 use Rattle.initview_command.proofs.Followed.{if_err, if_ok, kept_hidden, kept_part, kept_said, none_all, none_part}
 use Rattle.initview_command.proofs.following.follow_last.Goals as goal
 

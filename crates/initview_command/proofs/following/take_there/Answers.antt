@@ -1,9 +1,4 @@
-use Rattle.std.proofs.Common.{rules, ◌≡◌, ◌+◌, ◌*◌, ◌<◌, ◌≤◌, ℕ, List, length, take, subst, arith}
-use Rattle.std.specs.Io.KnownBytes.{Consumes}
-use Rattle.std.proofs.lemmas.Grind.{common_steps}
-use Rattle.std.proofs.lemmas.List.{length-take}
-use Rattle.program_io.specs.declared.takers.TheConstants.{PIECE_LIMIT, PIECES_LIMIT}
-use Rattle.initview_command.specs.Taking.{there_limit}
+use Rattle.initview_command.proofs.Words.{rules, ◌≡◌, ◌+◌, ◌*◌, ◌<◌, ◌≤◌, ℕ, List, length, take, subst, arith, Consumes, common_steps, length-take, PIECE_LIMIT, PIECES_LIMIT, there_limit}
 use Rattle.initview_command.proofs.Followed.{kept_last, kept_more, kept_none, kept_there}
 use Rattle.initview_command.proofs.following.take_there.Goals as goal
 

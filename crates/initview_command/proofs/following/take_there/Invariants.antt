@@ -1,6 +1,4 @@
-use Rattle.std.proofs.Common.{ℕ, List, ◌*◌, ◌+◌, Option}
-use Rattle.program_io.specs.declared.takers.TheConstants.{PIECE_LIMIT}
-use Rattle.initview_command.specs.Taking.{MayKeep}
+use Rattle.initview_command.proofs.Words.{ℕ, List, ◌*◌, ◌+◌, Option, PIECE_LIMIT, MayKeep}
 use Rattle.initview_command.proofs.following.take_there.Given as goal
 
 -- of what was read so far the last lines are kept

@@ -1,11 +1,4 @@
-use Rattle.std.proofs.Common.{rules, subst, ◌≡◌, sym, ◌∙◌, ◌+◌, ◌*◌, ◌<◌, ◌≤◌, true, is_some, ℕ, List, ◌++◌, take, length, length-append, arith}
-use Rattle.std.specs.Io.KnownBytes.{Consumes}
-use Rattle.std.proofs.KnownBytes.{Consumes-trans}
-use Rattle.std.proofs.lemmas.Grind.{common_steps}
-use Rattle.std.proofs.lemmas.List.{length-take}
-use Rattle.program_io.specs.declared.takers.TheConstants.{PIECE_LIMIT, PIECES_LIMIT}
-use Rattle.program_io.proofs.WritingLemmas.{on_err}
-use Rattle.initview_command.specs.Taking.{there_limit}
+use Rattle.initview_command.proofs.Words.{rules, subst, ◌≡◌, sym, ◌∙◌, ◌+◌, ◌*◌, ◌<◌, ◌≤◌, true, is_some, ℕ, List, ◌++◌, take, length, length-append, arith, Consumes, Consumes-trans, common_steps, length-take, PIECE_LIMIT, PIECES_LIMIT, on_err, there_limit}
 use Rattle.initview_command.proofs.Followed.{all_read, all_stopped, begins, part_of, written_part}
 use Rattle.initview_command.proofs.following.write_lines.Goals as goal
 

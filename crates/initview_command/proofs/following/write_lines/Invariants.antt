@@ -1,8 +1,4 @@
-use Rattle.std.proofs.Common.{ℕ, List, ◌≤◌, ◌*◌, ◌+◌, length, Option}
-use Rattle.std.specs.Io.KnownBytes.{Consumes}
-use Rattle.program_io.specs.declared.takers.TheConstants.{PIECE_LIMIT}
-use Rattle.initview_command.specs.Following.{HasWritten, Start}
-use Rattle.initview_command.specs.Taking.{HasFollowed, there_limit}
+use Rattle.initview_command.proofs.Words.{ℕ, List, ◌≤◌, ◌*◌, ◌+◌, length, Option, Consumes, PIECE_LIMIT, HasWritten, Start, HasFollowed, there_limit}
 use Rattle.initview_command.proofs.following.write_lines.Given as goal
 
 -- the lines of what was read so far were written

@@ -1,4 +1,4 @@
-use Rattle.program_io.proofs.WritingLemmas.{on_err}
+use Rattle.initview_command.proofs.Words.{on_err}
 use Rattle.initview_command.proofs.Followed.{piece_part, piece_unseen, piece_written}
 use Rattle.initview_command.proofs.following.write_piece.Goals as goal
 

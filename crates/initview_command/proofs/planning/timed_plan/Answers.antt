@@ -1,6 +1,5 @@
-use Rattle.std.proofs.Common.{◌∙◌, ap, ◌++◌}
+use Rattle.initview_command.proofs.Words.{◌∙◌, ap, ◌++◌, level_asked, plan_by}
 use Rattle.initview_lines.specs.Times.{times_in}
-use Rattle.initview_command.specs.Tables.{level_asked, plan_by}
 use Rattle.initview_command.proofs.planning.timed_plan.Goals as goal
 
 pub returns : goal.returns

@@ -1,6 +1,4 @@
-use Rattle.std.proofs.Common.{◌∷◌, ◌∙◌, ◌+◌, ◌-◌, ◌^◌, ap, min, sym, subst}
-use Rattle.trace_events.specs.declared.happenings.Happening.TheVariants.{Clock}
-use Rattle.trace_view.specs.Viewing.{Viewed}
+use Rattle.initview_command.proofs.Words.{◌∷◌, ◌∙◌, ◌+◌, ◌-◌, ◌^◌, ap, min, sym, subst, Clock, Viewed}
 use Rattle.initview_command.proofs.Reloads.{seen}
 use Rattle.initview_command.proofs.presence.show_clock.Goals as goal
 

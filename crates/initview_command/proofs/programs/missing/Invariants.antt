@@ -1,6 +1,4 @@
-use Rattle.std.proofs.Common.{◌≡◌, true, length}
-use Rattle.std.specs.List.{list_all}
-use Rattle.inittab_lint.specs.Programs.{is_missing}
+use Rattle.initview_command.proofs.Words.{◌≡◌, true, length, list_all, is_missing}
 use Rattle.initview_command.proofs.programs.missing.Given as goal
 
 -- each warning so far is of a program

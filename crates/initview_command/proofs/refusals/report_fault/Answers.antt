@@ -1,4 +1,4 @@
-use Rattle.std.proofs.Common.{inr}
+use Rattle.initview_command.proofs.Words.{inr}
 use Rattle.initview_command.proofs.refusals.report_fault.Goals as goal
 
 pub returns-in-Memory-clause-report : goal.returns-in-Memory-clause-report

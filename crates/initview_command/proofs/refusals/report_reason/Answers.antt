@@ -1,7 +1,5 @@
-use Rattle.std.proofs.Common.{◌∙◌, inl, inr, subst}
+use Rattle.initview_command.proofs.Words.{◌∙◌, inl, inr, subst, codes, ReportsUsage}
 use Rattle.initview_command.specs.declared.command.TheConstants.{USAGE}
-use Rattle.std.proofs.Common.{codes}
-use Rattle.command_words.specs.Faults.{ReportsUsage}
 use Rattle.initview_command.proofs.refusals.report_reason.Goals as goal
 
 pub returns-in-Ok : goal.returns-in-Ok

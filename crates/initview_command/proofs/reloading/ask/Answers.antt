@@ -1,8 +1,5 @@
-use Rattle.std.proofs.Common.{◌∷◌, subst, sym}
+use Rattle.initview_command.proofs.Words.{◌∷◌, subst, sym, Got, ViewState, Viewed, with_request}
 use Rattle.initctl_frame.specs.declared.requests.HeardRequest.TheVariants as got
-use Rattle.trace_events.specs.declared.happenings.Happening.TheVariants.{Got}
-use Rattle.trace_view.specs.Viewing.{ViewState, Viewed}
-use Rattle.initview_lines.specs.Reloads.{with_request}
 use Rattle.initview_command.proofs.Reloads.{seen}
 use Rattle.initview_command.proofs.reloading.ask.Goals as goal
 

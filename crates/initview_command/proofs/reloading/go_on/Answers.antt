@@ -1,7 +1,5 @@
-use Rattle.std.proofs.Common.{◌≡◌, ◌∙◌, Some, subst, sym}
-use Rattle.trace_view.specs.Viewing.{ViewState, Viewed}
+use Rattle.initview_command.proofs.Words.{◌≡◌, ◌∙◌, Some, subst, sym, ViewState, Viewed, entered}
 use Rattle.trace_view.specs.Wishes.{next_stage}
-use Rattle.initview_lines.specs.Reloads.{entered}
 use Rattle.initview_command.proofs.Reloads.{seen}
 use Rattle.initview_command.proofs.reloading.go_on.Goals as goal
 

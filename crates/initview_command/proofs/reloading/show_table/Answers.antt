@@ -1,6 +1,4 @@
-use Rattle.std.proofs.Common.{◌∷◌, subst}
-use Rattle.trace_view.specs.Viewing.{Viewed}
-use Rattle.trace_events.specs.declared.happenings.Happening.TheVariants.{NewTable}
+use Rattle.initview_command.proofs.Words.{◌∷◌, subst, Viewed, NewTable}
 use Rattle.initview_command.proofs.Reloads.{seen}
 use Rattle.initview_command.proofs.reloading.show_table.Goals as goal
 

@@ -1,5 +1,4 @@
-use Rattle.std.proofs.Common.{inr}
-use Rattle.initview_lines.proofs.SayingLemmas.{says_nothing}
+use Rattle.initview_command.proofs.Words.{inr, says_nothing}
 use Rattle.initview_command.proofs.showing.show_file.Goals as goal
 
 pub returns-in-Err : goal.returns-in-Err

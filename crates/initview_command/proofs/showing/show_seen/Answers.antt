@@ -1,5 +1,4 @@
-use Rattle.std.proofs.Common.{◌∙◌, inr, refl, sym, []}
-use Rattle.initview_lines.proofs.SayingLemmas.{says_nothing}
+use Rattle.initview_command.proofs.Words.{◌∙◌, inr, refl, sym, [], says_nothing}
 use Rattle.initview_command.proofs.Shown.{answered, refused, writes_as}
 use Rattle.initview_command.proofs.showing.show_seen.Goals as goal
 

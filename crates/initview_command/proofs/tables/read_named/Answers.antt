@@ -1,7 +1,5 @@
-use Rattle.std.proofs.Common.{[], map, refl, subst}
+use Rattle.initview_command.proofs.Words.{[], map, refl, subst, drop_all, AreFilesAt}
 use Rattle.std.proofs.lemmas.List.{append-nil}
-use Rattle.std.proofs.lemmas.List.{drop_all}
-use Rattle.initview_command.specs.Tables.{AreFilesAt}
 use Rattle.initview_command.proofs.Files.{next_file}
 use Rattle.initview_command.proofs.tables.read_named.Goals as goal
 

@@ -1,6 +1,4 @@
-use Rattle.std.proofs.Common.{◌++◌, List, drop, map}
-use Rattle.init_words.specs.Parts.{NamedText}
-use Rattle.initview_command.specs.Tables.{AreFilesAt}
+use Rattle.initview_command.proofs.Words.{◌++◌, List, drop, map, NamedText, AreFilesAt}
 use Rattle.initview_command.proofs.tables.read_named.Given as goal
 
 -- with the files of the later paths, these are the files of all paths

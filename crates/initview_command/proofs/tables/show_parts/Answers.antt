@@ -1,8 +1,6 @@
-use Rattle.std.proofs.Common.{inl, inr, refl, []}
-use Rattle.initview_lines.proofs.SayingLemmas.{says_nothing}
+use Rattle.initview_command.proofs.Words.{inl, inr, refl, [], says_nothing, AreMissing, answer_of}
 use Rattle.initview_command.specs.declared.asking.TableQuestion.{TableQuestion}
 use Rattle.initview_command.specs.declared.asking.TableQuestion.TheVariants as table
-use Rattle.initview_command.specs.Tables.{AreMissing, answer_of}
 use Rattle.initview_command.proofs.Shown.{fails_by, writes_as}
 use Rattle.initview_command.proofs.tables.show_parts.Goals as goal
 

@@ -1,5 +1,4 @@
-use Rattle.std.proofs.Common.{inl, inr, subst}
-use Rattle.initview_command.specs.Showing.{Shows}
+use Rattle.initview_command.proofs.Words.{inl, inr, subst, Shows}
 use Rattle.initview_command.proofs.Shown.{fails_by}
 use Rattle.initview_command.proofs.with_files.show_with.Goals as goal
 

@@ -1,4 +1,4 @@
-use Rattle.std.proofs.Common.{inl, subst}
+use Rattle.initview_command.proofs.Words.{inl, subst}
 use Rattle.initview_command.specs.WithFiles.{ShowsWith}
 use Rattle.initview_command.proofs.with_files.show_with_files.Goals as goal
 

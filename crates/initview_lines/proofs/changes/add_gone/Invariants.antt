@@ -1,5 +1,4 @@
-use Rattle.std.proofs.Common.{◌≡◌, ◌++◌, filter, length, map}
-use Rattle.initview_lines.specs.Changes.{entry_change, is_gone}
+use Rattle.initview_lines.proofs.CommonWords.{◌≡◌, ◌++◌, filter, length, map, entry_change, is_gone}
 use Rattle.initview_lines.proofs.changes.add_gone.Given as goal
 
 -- the lines so far, and behind them those of the entries that are left, are the lines of all

@@ -1,5 +1,4 @@
-use Rattle.std.proofs.Common.{◌≡◌, ◌++◌, length, map}
-use Rattle.initview_lines.specs.Changes.{entry_change}
+use Rattle.initview_lines.proofs.CommonWords.{◌≡◌, ◌++◌, length, map, entry_change}
 use Rattle.initview_lines.proofs.changes.add_new.Given as goal
 
 -- the lines so far, and behind them those of the entries that are left, are the lines of all

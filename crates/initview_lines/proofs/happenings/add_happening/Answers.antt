@@ -1,5 +1,4 @@
-use Rattle.std.proofs.Common.{◌∙◌, sym, ap, ◌∷◌, ◌++◌}
-use Rattle.initview_lines.specs.Happenings.{line_at, news_of}
+use Rattle.initview_lines.proofs.CommonWords.{◌∙◌, sym, ap, ◌∷◌, ◌++◌, line_at, news_of}
 use Rattle.initview_lines.proofs.happenings.add_happening.Goals as goal
 
 pub returns-in_ok-push : goal.returns-in_ok-push

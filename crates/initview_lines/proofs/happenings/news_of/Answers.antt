@@ -1,6 +1,5 @@
-use Rattle.std.proofs.Common.{◌∷◌, ap, Some}
+use Rattle.initview_lines.proofs.CommonWords.{◌∷◌, ap, Some, Row}
 use Rattle.trace_events.specs.declared.happenings.Happening.TheVariants.{Hit, Miss}
-use Rattle.trace_view.specs.declared.rows.Row.{Row}
 use Rattle.initview_lines.specs.declared.happenings.News.TheVariants as news
 use Rattle.initview_lines.proofs.happenings.news_of.Goals as goal
 

@@ -1,4 +1,4 @@
-use Rattle.std.proofs.Common.{◌≡◌, ◌++◌, length}
+use Rattle.initview_lines.proofs.CommonWords.{◌≡◌, ◌++◌, length}
 use Rattle.initview_lines.specs.Json.{quoted_bytes}
 use Rattle.initview_lines.proofs.json.add_quoted_bytes.Given as goal
 

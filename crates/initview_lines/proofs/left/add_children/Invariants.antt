@@ -1,5 +1,4 @@
-use Rattle.std.proofs.Common.{◌≡◌, ◌++◌, length, map}
-use Rattle.initview_lines.specs.Left.{child_line}
+use Rattle.initview_lines.proofs.CommonWords.{◌≡◌, ◌++◌, length, map, child_line}
 use Rattle.initview_lines.proofs.left.add_children.Given as goal
 
 -- the lines so far, and behind them those of the children that are left, are the lines of all

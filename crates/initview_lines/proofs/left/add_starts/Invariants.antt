@@ -1,6 +1,4 @@
-use Rattle.std.proofs.Common.{◌≡◌, ◌++◌, List, filter, length, map}
-use Rattle.trace_events.specs.Event.{Event}
-use Rattle.trace_view.specs.Viewing.{Viewed}
+use Rattle.initview_lines.proofs.CommonWords.{◌≡◌, ◌++◌, List, filter, length, map, Event, Viewed}
 use Rattle.initview_lines.specs.Left.{is_open, start_line}
 use Rattle.initview_lines.proofs.left.add_starts.Given as goal
 

@@ -1,6 +1,5 @@
-use Rattle.std.proofs.Common.{◌≡◌, ◌∙◌, ◌++◌, [], ap, filter, map, rules}
-use Rattle.trace_events.specs.Past.{table_of}
-use Rattle.initview_lines.specs.Left.{child_line, is_open, start_line}
+use Rattle.initview_lines.proofs.CommonWords.{◌≡◌, ◌∙◌, ◌++◌, [], ap, filter, map, rules, table_of, child_line}
+use Rattle.initview_lines.specs.Left.{is_open, start_line}
 use Rattle.initview_lines.proofs.left.left_lines.Goals as goal
 
 pub returns : goal.returns

@@ -1,5 +1,4 @@
-use Rattle.std.proofs.Common.{◌∷◌, sym, subst}
-use Rattle.trace_view.specs.Viewing.{ViewState, Viewed}
+use Rattle.initview_lines.proofs.CommonWords.{◌∷◌, sym, subst, ViewState, Viewed}
 use Rattle.initview_lines.proofs.Follows.{some_said, none_said}
 use Rattle.initview_lines.proofs.pieces.next_line.Goals as goal
 

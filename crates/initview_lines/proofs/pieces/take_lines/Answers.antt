@@ -1,4 +1,4 @@
-use Rattle.std.proofs.Common.{◌++◌}
+use Rattle.initview_lines.proofs.CommonWords.{◌++◌}
 use Rattle.initview_lines.proofs.Follows.{more_said, all_said}
 use Rattle.initview_lines.proofs.pieces.take_lines.Goals as goal
 

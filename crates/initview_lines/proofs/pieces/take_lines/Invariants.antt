@@ -1,6 +1,4 @@
-use Rattle.std.proofs.Common.{ℕ, List, ◌++◌, ◌^◌, ◌<◌, length}
-use Rattle.initview_lines.specs.declared.lines.Line.{Line}
-use Rattle.initview_lines.specs.Following.{HasSaid, IsSaying}
+use Rattle.initview_lines.proofs.CommonWords.{ℕ, List, ◌++◌, ◌^◌, ◌<◌, length, Line, HasSaid, IsSaying}
 use Rattle.initview_lines.proofs.pieces.take_lines.Given as goal
 
 -- the view is at work on the text with the piece

@@ -1,6 +1,4 @@
-use Rattle.std.proofs.Common.{◌≡◌, ◌++◌, filter, length}
-use Rattle.trace_laws.specs.Plans.{is_on_path}
-use Rattle.initview_lines.specs.Plans.{last_of, path_lines}
+use Rattle.initview_lines.proofs.CommonWords.{◌≡◌, ◌++◌, filter, length, is_on_path, last_of, path_lines}
 use Rattle.initview_lines.proofs.plans.add_path.Given as goal
 
 -- the lines and the last entry so far, and behind them the path of the entries that are left, are those of all

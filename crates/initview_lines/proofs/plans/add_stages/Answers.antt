@@ -1,7 +1,4 @@
-use Rattle.std.proofs.Common.{◌∙◌, ap, ◌++◌}
-use Rattle.init_words.specs.declared.stages.Stage.TheVariants.{Sysinit, Run}
-use Rattle.trace_laws.specs.Plans.{boot_before}
-use Rattle.initview_lines.specs.Plans.{stage_lines, stages_lines}
+use Rattle.initview_lines.proofs.CommonWords.{◌∙◌, ap, ◌++◌, Sysinit, Run, boot_before, stage_lines, stages_lines}
 use Rattle.initview_lines.proofs.Paths.{stages_are, three_lines}
 use Rattle.initview_lines.proofs.plans.add_stages.Goals as goal
 

@@ -1,5 +1,4 @@
-use Rattle.std.proofs.Common.{◌≡◌, ◌++◌, length, map}
-use Rattle.trace_laws.specs.Plans.{started_in}
+use Rattle.initview_lines.proofs.CommonWords.{◌≡◌, ◌++◌, length, map, started_in}
 use Rattle.initview_lines.specs.Plans.{start_line}
 use Rattle.initview_lines.proofs.plans.add_starts.Given as goal
 

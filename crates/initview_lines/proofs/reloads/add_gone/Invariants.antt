@@ -1,9 +1,4 @@
-use Rattle.std.proofs.Common.{◌≡◌, ◌++◌, List, filter, length, map}
-use Rattle.trace_events.specs.Event.{Event}
-use Rattle.trace_events.specs.Past.{table_of}
-use Rattle.trace_view.specs.Viewing.{Viewed}
-use Rattle.initview_lines.specs.Changes.{is_gone}
-use Rattle.initview_lines.specs.Reloads.{entry_now}
+use Rattle.initview_lines.proofs.CommonWords.{◌≡◌, ◌++◌, List, filter, length, map, Event, table_of, Viewed, is_gone, entry_now}
 use Rattle.initview_lines.proofs.reloads.add_gone.Given as goal
 
 -- the lines so far, and behind them those of what is left, are the lines of all

@@ -1,7 +1,4 @@
-use Rattle.std.proofs.Common.{◌≡◌, ◌++◌, List, filter, length, map}
-use Rattle.trace_events.specs.Event.{Event}
-use Rattle.trace_view.specs.Viewing.{Viewed}
-use Rattle.initview_lines.specs.Reloads.{is_new, line_now}
+use Rattle.initview_lines.proofs.CommonWords.{◌≡◌, ◌++◌, List, filter, length, map, Event, Viewed, is_new, line_now}
 use Rattle.initview_lines.proofs.reloads.add_left.Given as goal
 
 -- the lines so far, and behind them those of what is left, are the lines of all

@@ -1,6 +1,4 @@
-use Rattle.std.proofs.Common.{◌≡◌, ◌∙◌, sym, ap, option_copied, Some}
-use Rattle.inittab_text.specs.Tables.{entry_of}
-use Rattle.trace_events.specs.Past.{table_of}
+use Rattle.initview_lines.proofs.CommonWords.{◌≡◌, ◌∙◌, sym, ap, option_copied, Some, entry_of, table_of}
 use Rattle.trace_view.proofs.Stands.{found_own}
 use Rattle.initview_lines.proofs.ReloadLemmas.{idle_found}
 use Rattle.initview_lines.proofs.reloads.idle_change.Goals as goal

@@ -1,4 +1,4 @@
-use Rattle.std.proofs.Common.{option_copied}
+use Rattle.initview_lines.proofs.CommonWords.{option_copied}
 use Rattle.initview_lines.proofs.ReloadLemmas.{line_is}
 use Rattle.initview_lines.proofs.reloads.line_now.Goals as goal
 

@@ -1,7 +1,4 @@
-use Rattle.std.proofs.Common.{◌≡◌, ◌++◌, List, length, map}
-use Rattle.trace_events.specs.Event.{Event}
-use Rattle.trace_view.specs.Viewing.{Viewed}
-use Rattle.initview_lines.specs.Rows.{entry_row}
+use Rattle.initview_lines.proofs.CommonWords.{◌≡◌, ◌++◌, List, length, map, Event, Viewed, entry_row}
 use Rattle.initview_lines.proofs.rows.add_entries.Given as goal
 
 -- the lines so far, and behind them those of the entries that are left, are the lines of all

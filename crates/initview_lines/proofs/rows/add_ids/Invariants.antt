@@ -1,7 +1,4 @@
-use Rattle.std.proofs.Common.{◌≡◌, ◌++◌, List, length, map}
-use Rattle.trace_events.specs.Event.{Event}
-use Rattle.trace_view.specs.Viewing.{Viewed}
-use Rattle.initview_lines.specs.Rows.{row_at}
+use Rattle.initview_lines.proofs.CommonWords.{◌≡◌, ◌++◌, List, length, map, Event, Viewed, row_at}
 use Rattle.initview_lines.proofs.rows.add_ids.Given as goal
 
 -- the lines so far, and behind them those of the ids that are left, are the lines of all

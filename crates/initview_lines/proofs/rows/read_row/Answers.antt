@@ -1,4 +1,4 @@
-use Rattle.std.proofs.Common.{◌∙◌}
+use Rattle.initview_lines.proofs.CommonWords.{◌∙◌}
 use Rattle.initview_lines.proofs.Stands.{row_is}
 use Rattle.initview_lines.proofs.rows.read_row.Goals as goal
 

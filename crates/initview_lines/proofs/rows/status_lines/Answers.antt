@@ -1,8 +1,5 @@
-use Rattle.std.proofs.Common.{◌≡◌, ◌∙◌, ap, ◌++◌, ◌∷◌, [], map, rules}
-use Rattle.trace_events.specs.Past.{table_of, unreaped_children}
-use Rattle.trace_view.specs.Rows.{gone_ids}
+use Rattle.initview_lines.proofs.CommonWords.{◌≡◌, ◌∙◌, ap, ◌++◌, ◌∷◌, [], map, rules, table_of, unreaped_children, gone_ids, entry_row, head_of, row_at}
 use Rattle.initview_lines.specs.declared.lines.Line.TheVariants as line
-use Rattle.initview_lines.specs.Rows.{entry_row, head_of, row_at}
 use Rattle.initview_lines.proofs.Stands.{whole}
 use Rattle.initview_lines.proofs.rows.status_lines.Goals as goal
 

@@ -1,5 +1,4 @@
-use Rattle.std.proofs.Common.{◌≡◌, ◌++◌, length, map}
-use Rattle.initview_lines.specs.Times.{time_line}
+use Rattle.initview_lines.proofs.CommonWords.{◌≡◌, ◌++◌, length, map, time_line}
 use Rattle.initview_lines.proofs.times.add_entries.Given as goal
 
 -- the lines so far, and behind it the lines of those that are left, are the lines of all

@@ -1,6 +1,4 @@
-use Rattle.std.proofs.Common.{◌≡◌, ◌++◌, filter, length, map}
-use Rattle.trace_laws.specs.Plans.{is_on_path}
-use Rattle.initview_lines.specs.Times.{timed_of}
+use Rattle.initview_lines.proofs.CommonWords.{◌≡◌, ◌++◌, filter, length, map, is_on_path, timed_of}
 use Rattle.initview_lines.proofs.times.add_path.Given as goal
 
 -- what is found so far, and behind it the path of the entries that are left, is the path of all

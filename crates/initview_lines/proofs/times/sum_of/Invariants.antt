@@ -1,5 +1,4 @@
-use Rattle.std.proofs.Common.{◌≡◌, length}
-use Rattle.initview_lines.specs.Times.{sum_from}
+use Rattle.initview_lines.proofs.CommonWords.{◌≡◌, length, sum_from}
 use Rattle.initview_lines.proofs.times.sum_of.Given as goal
 
 -- with those that are left, it is that of all

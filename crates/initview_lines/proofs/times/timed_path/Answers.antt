@@ -1,10 +1,6 @@
-use Rattle.std.proofs.Common.{◌≡◌, ◌∙◌, sym, ap, List, ◌++◌, filter, map, append_assoc}
-use Rattle.std.proofs.lemmas.List.{map-append}
-use Rattle.init_words.specs.declared.entries.Entry.{Entry}
-use Rattle.init_words.specs.declared.stages.Stage.TheVariants.{Sysinit, Run}
-use Rattle.trace_laws.specs.Plans.{boot_before, is_on_path, path_along}
+use Rattle.initview_lines.proofs.CommonWords.{◌≡◌, ◌∙◌, sym, ap, List, ◌++◌, filter, map, map-append, Entry, Sysinit, Run, boot_before, is_on_path, path_along, timed_of}
+use Rattle.std.proofs.Common.{append_assoc}
 use Rattle.initview_lines.proofs.Paths.{path_is}
-use Rattle.initview_lines.specs.Times.{timed_of}
 use Rattle.initview_lines.specs.declared.times.Timed.{Timed}
 use Rattle.initview_lines.proofs.times.timed_path.Goals as goal
 

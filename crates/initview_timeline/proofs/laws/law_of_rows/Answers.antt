@@ -1,17 +1,9 @@
-use Rattle.std.proofs.Common.{◌≡◌, ◌∙◌, refl, sym, ap, ℕ, ◌+◌, Bool, true, false, if◌then◌else◌, List, [], ◌∷◌, ◌++◌, Option, Some, None, append_assoc, arith, filter, length, map, length-append}
+use Rattle.initview_timeline.proofs.Words.{◌≡◌, ◌∙◌, refl, sym, ap, ℕ, ◌+◌, Bool, true, false, if◌then◌else◌, List, [], ◌∷◌, ◌++◌, Option, Some, None, append_assoc, arith, filter, length, map, length-append, Life, Shown, TimelineMark, Piece, State, is_for, last_after, life_after, lives_after, lives_from, lives_of, marks_for, bars_of, has_failed, life_bars, life_signs, mark_bars, mark_signs, marks_bars, marks_signs, next_begin, or_last, signs_of, stop_bar, Scene, due_bars, due_from, is_waited, of_stage, state_of}
 use Rattle.std.proofs.lemmas.List.{append-nil, map-append}
 use Rattle.init_words.specs.declared.orders.SignalKind.TheVariants as sig
-use Rattle.initview_timeline.specs.declared.lives.Life.{Life}
-use Rattle.initview_timeline.specs.declared.marks.Shown.{Shown}
 use Rattle.initview_timeline.specs.declared.marks.Shown.TheVariants.{Read, Entered, Settled, Born, NotBorn, Ended, Sent, Held}
-use Rattle.initview_timeline.specs.declared.marks.TimelineMark.{TimelineMark}
-use Rattle.initview_timeline.specs.declared.pieces.Piece.{Piece}
-use Rattle.initview_timeline.specs.declared.rows.State.{State}
 use Rattle.initview_timeline.specs.declared.rows.State.TheVariants as state
 use Rattle.initview_timeline.specs.Laws.{birth_at, births, is_fault, life_from, lives_drawn, own, says_fault}
-use Rattle.initview_timeline.specs.Lives.{is_for, last_after, life_after, lives_after, lives_from, lives_of, marks_for}
-use Rattle.initview_timeline.specs.Pieces.{bars_of, has_failed, life_bars, life_signs, mark_bars, mark_signs, marks_bars, marks_signs, next_begin, or_last, signs_of, stop_bar}
-use Rattle.initview_timeline.specs.Rows.{Scene, due_bars, due_from, is_waited, of_stage, state_of}
 use Rattle.initview_timeline.proofs.laws.law_of_rows.Goals as goal
 
 abbrev key : Life → ℕ × ℕ

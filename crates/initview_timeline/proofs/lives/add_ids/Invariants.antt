@@ -1,5 +1,4 @@
-use Rattle.std.proofs.Common.{◌≡◌, length}
-use Rattle.initview_timeline.specs.Lives.{ids_from}
+use Rattle.initview_timeline.proofs.Words.{◌≡◌, length, ids_from}
 use Rattle.initview_timeline.proofs.lives.add_ids.Given as goal
 
 -- the ids so far, with those of the marks that are left, are those of all

@@ -1,7 +1,4 @@
-use Rattle.std.proofs.Common.{◌≡◌, ◌∙◌, refl, sym, ap, ℕ, List, [], ◌∷◌, ◌++◌}
-use Rattle.initview_timeline.specs.declared.lives.Life.{Life}
-use Rattle.initview_timeline.specs.declared.marks.Shown.{Shown}
-use Rattle.initview_timeline.specs.Lives.{last_after, life_after}
+use Rattle.initview_timeline.proofs.Words.{◌≡◌, ◌∙◌, refl, sym, ap, ℕ, List, [], ◌∷◌, ◌++◌, Life, Shown, last_after, life_after}
 use Rattle.initview_timeline.proofs.lives.change_last.Goals as goal
 
 last_behind : (ls : List Life) (l : Life) (time : ℕ) (what : Shown) → last_after (ls ++ l ∷ []) time what ≡ ls ++ life_after l time what ∷ []

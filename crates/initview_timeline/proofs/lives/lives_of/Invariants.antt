@@ -1,5 +1,4 @@
-use Rattle.std.proofs.Common.{◌≡◌, [], length}
-use Rattle.initview_timeline.specs.Lives.{lives_from}
+use Rattle.initview_timeline.proofs.Words.{◌≡◌, [], length, lives_from}
 use Rattle.initview_timeline.proofs.lives.lives_of.Given as goal
 
 -- the lives so far, with the marks that are left, are those of all

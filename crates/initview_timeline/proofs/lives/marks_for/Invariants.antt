@@ -1,5 +1,4 @@
-use Rattle.std.proofs.Common.{◌≡◌, ◌++◌, length}
-use Rattle.initview_timeline.specs.Lives.{marks_for}
+use Rattle.initview_timeline.proofs.Words.{◌≡◌, ◌++◌, length, marks_for}
 use Rattle.initview_timeline.proofs.lives.marks_for.Given as goal
 
 -- what is kept so far, and behind it the marks of those that are left

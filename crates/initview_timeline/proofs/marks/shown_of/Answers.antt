@@ -1,7 +1,6 @@
-use Rattle.std.proofs.Common.{◌∙◌, ap, ◌∷◌}
+use Rattle.initview_timeline.proofs.Words.{◌∙◌, ap, ◌∷◌, sent_for}
 use Rattle.trace_events.specs.declared.happenings.Happening.TheVariants.{Hit}
 use Rattle.trace_view.specs.declared.rows.Row.{Row}
-use Rattle.initview_timeline.specs.Marks.{sent_for}
 use Rattle.initview_timeline.proofs.marks.shown_of.Goals as goal
 
 pub returns-in-Hit : goal.returns-in-Hit

@@ -1,7 +1,4 @@
-use Rattle.std.proofs.Common.{◌∙◌, ap, ◌∷◌, ◌++◌, Option, ℕ}
-use Rattle.trace_events.specs.Past.{time_of}
-use Rattle.initview_timeline.specs.declared.marks.Shown.{Shown}
-use Rattle.initview_timeline.specs.Marks.{mark_at}
+use Rattle.initview_timeline.proofs.Words.{◌∙◌, ap, ◌∷◌, ◌++◌, Option, ℕ, time_of, Shown, mark_at}
 use Rattle.initview_timeline.proofs.marks.take_mark.Goals as goal
 
 pub returns : goal.returns

@@ -1,5 +1,4 @@
-use Rattle.std.proofs.Common.{◌≡◌, length}
-use Rattle.initview_timeline.specs.Pieces.{next_begin}
+use Rattle.initview_timeline.proofs.Words.{◌≡◌, length, next_begin}
 use Rattle.initview_timeline.proofs.pieces.next_begin.Given as goal
 
 -- none of those before begins

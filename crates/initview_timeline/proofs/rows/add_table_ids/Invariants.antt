@@ -1,5 +1,4 @@
-use Rattle.std.proofs.Common.{◌≡◌, length}
-use Rattle.initview_timeline.specs.Rows.{table_ids, scene_of}
+use Rattle.initview_timeline.proofs.Words.{◌≡◌, length, table_ids, scene_of}
 use Rattle.initview_timeline.proofs.rows.add_table_ids.Given as goal
 
 -- the ids so far, with those of the entries that are left, are those of all

@@ -1,5 +1,4 @@
-use Rattle.std.proofs.Common.{◌≡◌, length}
-use Rattle.initview_timeline.specs.Rows.{is_held}
+use Rattle.initview_timeline.proofs.Words.{◌≡◌, length, is_held}
 use Rattle.initview_timeline.proofs.rows.is_held.Given as goal
 
 -- no hold before is in force

@@ -1,5 +1,4 @@
-use Rattle.std.proofs.Common.{◌≡◌, length}
-use Rattle.initview_timeline.specs.Rows.{of_stage}
+use Rattle.initview_timeline.proofs.Words.{◌≡◌, length, of_stage}
 use Rattle.initview_timeline.proofs.rows.of_stage.Given as goal
 
 -- with the marks that are left, they are those of all

@@ -1,12 +1,5 @@
-use Rattle.std.proofs.Common.{◌≡◌, ◌∙◌, ap, ℕ, Bool, List, [], ◌∷◌, ◌++◌, Some, append_assoc}
-use Rattle.initview_timeline.specs.declared.lives.Life.{Life}
-use Rattle.initview_timeline.specs.declared.marks.TimelineMark.{TimelineMark}
-use Rattle.initview_timeline.specs.declared.pieces.Piece.{Piece}
+use Rattle.initview_timeline.proofs.Words.{◌≡◌, ◌∙◌, ap, ℕ, Bool, List, [], ◌∷◌, ◌++◌, Some, append_assoc, Life, TimelineMark, Piece, State, lives_of, marks_for, Drawing, bars_of, marks_bars, marks_signs, signs_of, Scene, due_bars, is_waited, row_of, scene_of, state_of}
 use Rattle.initview_timeline.specs.declared.rows.Row.{Row}
-use Rattle.initview_timeline.specs.declared.rows.State.{State}
-use Rattle.initview_timeline.specs.Lives.{lives_of, marks_for}
-use Rattle.initview_timeline.specs.Pieces.{Drawing, bars_of, marks_bars, marks_signs, signs_of}
-use Rattle.initview_timeline.specs.Rows.{Scene, due_bars, is_waited, row_of, scene_of, state_of}
 use Rattle.initview_timeline.proofs.rows.row_of.Goals as goal
 
 behind : (xs ys zs one two three : List Piece) → one ≡ xs → two ≡ one ++ ys → three ≡ two ++ zs → three ≡ xs ++ (ys ++ zs)

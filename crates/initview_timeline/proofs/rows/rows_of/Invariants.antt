@@ -1,5 +1,4 @@
-use Rattle.std.proofs.Common.{◌≡◌, ◌++◌, length, map}
-use Rattle.initview_timeline.specs.Rows.{row_of, rows_of, scene_of}
+use Rattle.initview_timeline.proofs.Words.{◌≡◌, ◌++◌, length, map, row_of, rows_of, scene_of}
 use Rattle.initview_timeline.proofs.rows.rows_of.Given as goal
 
 -- the rows so far, and behind them those of the ids that are left

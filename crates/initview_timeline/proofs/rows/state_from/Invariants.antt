@@ -1,5 +1,4 @@
-use Rattle.std.proofs.Common.{◌≡◌, length}
-use Rattle.initview_timeline.specs.Rows.{state_from}
+use Rattle.initview_timeline.proofs.Words.{◌≡◌, length, state_from}
 use Rattle.initview_timeline.specs.declared.rows.State.TheVariants.{Due}
 use Rattle.initview_timeline.proofs.rows.state_from.Given as goal
 

@@ -1,5 +1,4 @@
-use Rattle.std.proofs.Common.{◌≡◌, ℕ, ◌<◌, length, get_or, drop}
-use Rattle.rc_numbers.specs.Passes.{need_from}
+use Rattle.rc_numbers.proofs.Words.{◌≡◌, ℕ, ◌<◌, length, get_or, drop, need_from}
 use Rattle.rc_numbers.proofs.cycles.blockers.Given as goal
 
 abbrev pub invariant-loop-place : goal.invariant-loop-place

@@ -1,6 +1,4 @@
-use Rattle.std.proofs.Common.{◌≡◌, ◌∙◌, ◌<◌, ◌≤◌, length, subst, List, ℕ, sym, get_or}
-use Rattle.std.proofs.lemmas.Result.{IfOk-weaker}
-use Rattle.rc_numbers.specs.Numbering.{AllBelow, IsCycle, IsRing}
+use Rattle.rc_numbers.proofs.Words.{◌≡◌, ◌∙◌, ◌<◌, ◌≤◌, length, subst, List, ℕ, sym, get_or, IfOk-weaker, AllBelow, IsCycle, IsRing}
 use Rattle.rc_numbers.proofs.CycleLemmas.{IsCycle-turned, AllBelow-append, AllBelow-drop, AllBelow-take, ring_some}
 use Rattle.rc_numbers.proofs.cycles.cycle.Goals as goal
 

@@ -1,5 +1,4 @@
-use Rattle.std.proofs.Common.{ℕ, List, length, subst, sym}
-use Rattle.rc_numbers.specs.Numbering.{InRange, IsRing}
+use Rattle.rc_numbers.proofs.Words.{ℕ, List, length, subst, sym, InRange, IsRing}
 use Rattle.rc_numbers.proofs.StepLemmas.{AreNeeds-permutation, InRange-needs, IsRing-weaken}
 use Rattle.rc_numbers.proofs.cycles.earliest_ring.Goals as goal
 

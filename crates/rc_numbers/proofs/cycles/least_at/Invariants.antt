@@ -1,4 +1,4 @@
-use Rattle.std.proofs.Common.{ℕ, ◌<◌, ◌≤◌, length, get_or}
+use Rattle.rc_numbers.proofs.Words.{ℕ, ◌<◌, ◌≤◌, length, get_or}
 use Rattle.rc_numbers.proofs.cycles.least_at.Given as goal
 
 abbrev pub invariant-loop-place : goal.invariant-loop-place

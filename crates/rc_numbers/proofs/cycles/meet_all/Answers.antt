@@ -1,6 +1,4 @@
-use Rattle.std.proofs.Common.{◌<◌, ◌+◌, ◌-◌, arith, length, get_or, drop, take}
-use Rattle.std.proofs.lemmas.Grind.{common_steps}
-use Rattle.rc_numbers.specs.Numbering.{Needs}
+use Rattle.rc_numbers.proofs.Words.{◌<◌, ◌+◌, ◌-◌, arith, length, get_or, drop, take, common_steps, Needs}
 use Rattle.rc_numbers.proofs.StepLemmas.{AreSteps-met, need_at, rest_at}
 use Rattle.rc_numbers.proofs.cycles.meet_all.Goals as goal
 

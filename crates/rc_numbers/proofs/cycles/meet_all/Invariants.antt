@@ -1,5 +1,4 @@
-use Rattle.std.proofs.Common.{◌≡◌, length}
-use Rattle.rc_numbers.specs.Numbering.{AreSteps}
+use Rattle.rc_numbers.proofs.Words.{◌≡◌, length, AreSteps}
 use Rattle.rc_numbers.proofs.cycles.meet_all.Given as goal
 
 abbrev pub invariant-loop-other : goal.invariant-loop-other

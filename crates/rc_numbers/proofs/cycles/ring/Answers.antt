@@ -1,8 +1,4 @@
-use Rattle.std.proofs.Common.{◌≡◌, ◌<◌, ◌+◌, ◌-◌, ◌++◌, ◌∷◌, [], arith, length, subst, List, ℕ, sym, get_or, replicate, set}
-use Rattle.std.proofs.lemmas.Grind.{common_steps}
-use Rattle.std.proofs.lemmas.Result.{IfOk-weaker}
-use Rattle.rc_numbers.specs.Numbering.{AllBelow, IsRing}
-use Rattle.rc_numbers.specs.Passes.{need_from}
+use Rattle.rc_numbers.proofs.Words.{◌≡◌, ◌<◌, ◌+◌, ◌-◌, ◌++◌, ◌∷◌, [], arith, length, subst, List, ℕ, sym, get_or, replicate, set, common_steps, IfOk-weaker, AllBelow, IsRing, need_from}
 use Rattle.rc_numbers.proofs.PassLemmas.{Needs-range, zeros-set}
 use Rattle.rc_numbers.proofs.CycleLemmas.{AllBelow-append, AllBelow-one, Marked, Marked-push, Marked-start, Trail, Trail-push, Trail-ring, marked_at, need-good}
 use Rattle.rc_numbers.proofs.cycles.ring.Goals as goal

@@ -1,6 +1,4 @@
-use Rattle.std.proofs.Common.{◌≡◌, ℕ, suc, ◌<◌, length, get_or}
-use Rattle.rc_numbers.specs.Numbering.{AllBelow}
-use Rattle.rc_numbers.specs.Passes.{zeros}
+use Rattle.rc_numbers.proofs.Words.{◌≡◌, ℕ, suc, ◌<◌, length, get_or, AllBelow, zeros}
 use Rattle.rc_numbers.proofs.CycleLemmas.{Trail}
 use Rattle.rc_numbers.proofs.cycles.ring.Given as goal
 

@@ -1,6 +1,4 @@
-use Rattle.std.proofs.Common.{◌≡◌, ◌++◌, ◌∷◌, ◌∙◌, [], ℕ, List, arith, length, subst, sym}
-use Rattle.std.proofs.lemmas.Grind.{common_steps}
-use Rattle.rc_numbers.specs.Numbering.{AllBelow, IsRing}
+use Rattle.rc_numbers.proofs.Words.{◌≡◌, ◌++◌, ◌∷◌, ◌∙◌, [], ℕ, List, arith, length, subst, sym, common_steps, AllBelow, IsRing}
 use Rattle.rc_numbers.proofs.CycleLemmas.{AllBelow-append, AllBelow-one, Trail, Trail-push}
 use Rattle.rc_numbers.proofs.StepLemmas.{first_kept, path_closed}
 use Rattle.rc_numbers.proofs.cycles.ring_along.Goals as goal

@@ -1,5 +1,4 @@
-use Rattle.std.proofs.Common.{◌≡◌, ℕ, ◌<◌, List, [], ◌∷◌, ◌++◌, length, get_or}
-use Rattle.rc_numbers.specs.Numbering.{AllBelow, AreSteps}
+use Rattle.rc_numbers.proofs.Words.{◌≡◌, ℕ, ◌<◌, List, [], ◌∷◌, ◌++◌, length, get_or, AllBelow, AreSteps}
 use Rattle.rc_numbers.proofs.CycleLemmas.{Trail}
 use Rattle.rc_numbers.proofs.cycles.ring_along.Given as goal
 

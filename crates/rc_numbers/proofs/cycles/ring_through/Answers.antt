@@ -1,4 +1,4 @@
-use Rattle.std.proofs.Common.{◌≡◌, ◌<◌, ℕ, List, Option, Some, None, arith, length, get_or, subst, sym}
+use Rattle.rc_numbers.proofs.Words.{◌≡◌, ◌<◌, ℕ, List, Option, Some, None, arith, length, get_or, subst, sym}
 use Rattle.rc_numbers.proofs.PassLemmas.{Needs-range}
 use Rattle.rc_numbers.proofs.cycles.ring_through.Goals as goal
 

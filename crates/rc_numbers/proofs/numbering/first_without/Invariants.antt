@@ -1,4 +1,4 @@
-use Rattle.std.proofs.Common.{ℕ, ◌<◌, get_or}
+use Rattle.rc_numbers.proofs.Words.{ℕ, ◌<◌, get_or}
 use Rattle.rc_numbers.proofs.numbering.first_without.Given as goal
 
 abbrev pub invariant-loop-place : goal.invariant-loop-place

@@ -1,4 +1,4 @@
-use Rattle.std.proofs.Common.{◌<◌, arith, length, subst, List, ℕ, get_or}
+use Rattle.rc_numbers.proofs.Words.{◌<◌, arith, length, subst, List, ℕ, get_or}
 use Rattle.rc_numbers.proofs.CycleLemmas.{IsCycle-none}
 use Rattle.rc_numbers.proofs.PassLemmas.{IsLeast-whole}
 use Rattle.rc_numbers.proofs.numbering.ordered.Goals as goal

@@ -1,8 +1,4 @@
-use Rattle.std.proofs.Common.{◌≡◌, arith, sym, ◌∙◌, false, length, replicate, inl, inr}
-use Rattle.std.specs.Str.{bytes_eq}
-use Rattle.std.proofs.lemmas.Grind.{common_steps}
-use Rattle.std.proofs.lemmas.Bool.{true≢false}
-use Rattle.rc_numbers.specs.Passes.{AreHeights, settled}
+use Rattle.rc_numbers.proofs.Words.{◌≡◌, arith, sym, ◌∙◌, false, length, replicate, inl, inr, bytes_eq, common_steps, true≢false, AreHeights, settled}
 use Rattle.rc_numbers.proofs.PassLemmas.{IsPartial-next, IsPartial-start, IsStuck-same, fewer, same_lists, same_self}
 use Rattle.rc_numbers.proofs.passes.numbers.Goals as goal
 

@@ -1,4 +1,4 @@
-use Rattle.rc_numbers.specs.Passes.{IsPartial, zeros}
+use Rattle.rc_numbers.proofs.Words.{IsPartial, zeros}
 use Rattle.rc_numbers.proofs.passes.numbers.Given as goal
 
 abbrev pub invariant-passes : goal.invariant-passes

@@ -1,5 +1,4 @@
-use Rattle.std.proofs.Common.{arith}
-use Rattle.std.proofs.lemmas.Grind.{common_steps}
+use Rattle.rc_numbers.proofs.Words.{arith, common_steps}
 use Rattle.rc_numbers.proofs.PassLemmas.{settled-drop}
 use Rattle.rc_numbers.proofs.passes.settled.Goals as goal
 

@@ -1,5 +1,4 @@
-use Rattle.std.proofs.Common.{◌≡◌, ◌++◌, drop}
-use Rattle.rc_numbers.specs.Passes.{settled}
+use Rattle.rc_numbers.proofs.Words.{◌≡◌, ◌++◌, drop, settled}
 use Rattle.rc_numbers.proofs.passes.settled.Given as goal
 
 abbrev pub invariant-loop-place : goal.invariant-loop-place

@@ -1,6 +1,4 @@
-use Rattle.std.proofs.Common.{◌≡◌, ◌-◌, sym, ◌∙◌, ap, arith, get_or, length, nat_lt}
-use Rattle.std.proofs.lemmas.Bool.{eqb-true}
-use Rattle.respawn_limit.specs.declared.TheConstants.{STARTS, WINDOW}
+use Rattle.respawn_limit.proofs.Words.{◌≡◌, ◌-◌, sym, ◌∙◌, ap, arith, get_or, length, nat_lt, eqb-true, STARTS, WINDOW}
 use Rattle.respawn_limit.proofs.WindowLemmas.{full_by_first}
 use Rattle.respawn_limit.proofs.Limiter.is_full.Goals as goal
 

@@ -1,7 +1,4 @@
-use Rattle.std.proofs.Common.{◌≡◌, ◌+◌, ◌∙◌, rules}
-use Rattle.respawn_limit.specs.declared.TheConstants.{HOLD}
-use Rattle.respawn_limit.specs.declared.May.TheVariants.{Yes, HoldUntil}
-use Rattle.respawn_limit.specs.Window.{may_of}
+use Rattle.respawn_limit.proofs.Words.{◌≡◌, ◌+◌, ◌∙◌, rules, HOLD, Yes, HoldUntil, may_of}
 use Rattle.respawn_limit.proofs.WindowLemmas.{answer-Remembers}
 use Rattle.respawn_limit.proofs.PastLemmas.{may_of-StandsAfter}
 use Rattle.respawn_limit.proofs.Limiter.may.Goals as goal

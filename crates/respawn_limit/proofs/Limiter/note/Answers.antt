@@ -1,7 +1,4 @@
-use Rattle.std.proofs.Common.{◌≡◌, ◌++◌, ◌∷◌, [], rules, subst}
-use Rattle.std.specs.List.Sorted.{IsNonDecreasing}
-use Rattle.respawn_limit.specs.State.{LimiterState}
-use Rattle.respawn_limit.specs.Window.{last_starts}
+use Rattle.respawn_limit.proofs.Words.{◌≡◌, ◌++◌, ◌∷◌, [], rules, subst, IsNonDecreasing, LimiterState, last_starts}
 use Rattle.respawn_limit.proofs.WindowLemmas.{length-last_starts, IsNonDecreasing-last_starts, IsNonDecreasing-push, Remembers-push}
 use Rattle.respawn_limit.proofs.PastLemmas.{StandsAfter-Noted, is_run-Noted}
 use Rattle.respawn_limit.proofs.Limiter.note.Goals as goal

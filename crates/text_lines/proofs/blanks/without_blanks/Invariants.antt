@@ -1,5 +1,4 @@
-use Rattle.std.proofs.Common.{◌≡◌, length}
-use Rattle.text_lines.specs.Lines.{skip_blanks}
+use Rattle.text_lines.proofs.CommonWords.{◌≡◌, length, skip_blanks}
 use Rattle.text_lines.proofs.blanks.without_blanks.Given as goal
 
 abbrev pub invariant-loop-rest : goal.invariant-loop-rest

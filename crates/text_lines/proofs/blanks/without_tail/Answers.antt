@@ -1,5 +1,4 @@
-use Rattle.std.proofs.Common.{◌≡◌, ◌∙◌, ◌+◌, ◌-◌, ap, sym, arith, take}
-use Rattle.text_lines.specs.Lines.{trim_end}
+use Rattle.text_lines.proofs.CommonWords.{◌≡◌, ◌∙◌, ◌+◌, ◌-◌, ap, sym, arith, take, trim_end}
 use Rattle.text_lines.proofs.BlankLemmas.{trim_end-shorter, trim_end-done, trim_end-nil}
 use Rattle.text_lines.proofs.blanks.without_tail.Goals.{then-loop-end-test+else-is_blank, else-loop-end-test}
 use Rattle.text_lines.proofs.blanks.without_tail.Goals as goal

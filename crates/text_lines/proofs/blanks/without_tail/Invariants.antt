@@ -1,5 +1,4 @@
-use Rattle.std.proofs.Common.{◌≡◌, ◌≤◌, length, take}
-use Rattle.text_lines.specs.Lines.{trim_end}
+use Rattle.text_lines.proofs.CommonWords.{◌≡◌, ◌≤◌, length, take, trim_end}
 use Rattle.text_lines.proofs.blanks.without_tail.Given as goal
 
 abbrev pub invariant-loop-end : goal.invariant-loop-end

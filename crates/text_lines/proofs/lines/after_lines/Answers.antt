@@ -1,5 +1,4 @@
-use Rattle.std.proofs.Common.{rules, ◌≡◌, ◌+◌, ◌-◌, Some, None, sym, ap, ◌∙◌, arith}
-use Rattle.text_lines.specs.Lines.{cut, after_lines}
+use Rattle.text_lines.proofs.CommonWords.{rules, ◌≡◌, ◌+◌, ◌-◌, Some, None, sym, ap, ◌∙◌, arith, cut, after_lines}
 use Rattle.text_lines.proofs.PieceLemmas.{after_lines-step, after_lines-short}
 use Rattle.text_lines.proofs.lines.after_lines.Goals as goal
 

@@ -1,5 +1,4 @@
-use Rattle.std.proofs.Common.{◌≡◌, ◌-◌}
-use Rattle.text_lines.specs.Lines.{after_lines}
+use Rattle.text_lines.proofs.CommonWords.{◌≡◌, ◌-◌, after_lines}
 use Rattle.text_lines.proofs.lines.after_lines.Given as goal
 
 -- what stands after the lines that are left is what is wanted

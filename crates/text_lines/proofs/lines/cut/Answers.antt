@@ -1,5 +1,4 @@
-use Rattle.std.proofs.Common.{sym, arith}
-use Rattle.std.proofs.lemmas.List.{take_rest}
+use Rattle.text_lines.proofs.CommonWords.{sym, arith, take_rest}
 use Rattle.text_lines.proofs.CutLemmas.{cut-none, cut-first}
 use Rattle.text_lines.proofs.lines.cut.Goals as goal
 

@@ -1,4 +1,4 @@
-use Rattle.std.proofs.Common.{sym, ap, length, arith, length-append}
+use Rattle.text_lines.proofs.CommonWords.{sym, ap, length, arith, length-append}
 use Rattle.text_lines.proofs.CutLemmas.{cut-parts, cut-lacks, lines_of-cut, lines_of-last}
 use Rattle.text_lines.proofs.lines.first_line.Goals as goal
 

@@ -1,5 +1,4 @@
-use Rattle.std.proofs.Common.{rules, ◌≡◌, ◌==◌, ◌-◌, true, false, length, slice_get, Some, ap, ◌∙◌, sym}
-use Rattle.std.proofs.lemmas.Bool.{not-true, not-false, eqb-true}
+use Rattle.text_lines.proofs.CommonWords.{rules, ◌≡◌, ◌==◌, ◌-◌, true, false, length, slice_get, Some, ap, ◌∙◌, sym, not-true, not-false, eqb-true}
 use Rattle.text_lines.proofs.PieceLemmas.{ended-open, ended-closed}
 use Rattle.text_lines.proofs.lines.is_open.Goals as goal
 

@@ -1,8 +1,6 @@
-use Rattle.std.proofs.Common.{◌≡◌, sym, ◌∙◌, Result, Ok, Err}
+use Rattle.text_lines.proofs.CommonWords.{◌≡◌, sym, ◌∙◌, Result, Ok, Err, is_utf8, false_from_ne_true, is_utf8-from_IsUtf8, IsUtf8-from_is_utf8}
 use Rattle.std.specs.Result.{MatchResult, is_ok}
-use Rattle.std.specs.Str.{IsUtf8, is_utf8}
-use Rattle.std.proofs.lemmas.Bool.{false_from_ne_true}
-use Rattle.std.proofs.lemmas.Str.{is_utf8-from_IsUtf8, IsUtf8-from_is_utf8}
+use Rattle.std.specs.Str.{IsUtf8}
 use Rattle.text_lines.proofs.lines.is_utf8.Goals as goal
 
 -- a call that answers Ok exactly for UTF-8

@@ -1,5 +1,4 @@
-use Rattle.std.proofs.Common.{◌≡◌, ◌≤◌, ◌+◌, drop}
-use Rattle.text_lines.specs.Lines.{newlines}
+use Rattle.text_lines.proofs.CommonWords.{◌≡◌, ◌≤◌, ◌+◌, drop, newlines}
 use Rattle.text_lines.proofs.lines.newlines.Given as goal
 
 -- the newlines so far and those that are left are all

@@ -1,4 +1,4 @@
-use Rattle.std.proofs.Common.{◌∙◌}
+use Rattle.text_lines.proofs.CommonWords.{◌∙◌}
 use Rattle.text_lines.proofs.NumberLemmas.{no_text, no_number, same_text}
 use Rattle.text_lines.proofs.numbers.read_number.Goals as goal
 

@@ -1,7 +1,5 @@
-use Rattle.std.proofs.Common.{◌<◌, ◌≤◌, arith, length, length-drop}
+use Rattle.text_lines.proofs.CommonWords.{◌<◌, ◌≤◌, arith, length, length-drop, take_rest, skip_blanks}
 use Rattle.std.proofs.lemmas.Grind.{common_steps}
-use Rattle.std.proofs.lemmas.List.{take_rest}
-use Rattle.text_lines.specs.Lines.{skip_blanks}
 use Rattle.text_lines.proofs.BlankLemmas.{words_of-none, words_of-next, word_length-some, length-skip_blanks}
 use Rattle.text_lines.proofs.Utf8Lemmas.{skip_blanks-utf8, word-utf8}
 use Rattle.text_lines.proofs.words.next_word.Goals as goal

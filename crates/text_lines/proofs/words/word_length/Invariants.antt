@@ -1,5 +1,4 @@
-use Rattle.std.proofs.Common.{◌≡◌, ◌+◌, ◌-◌, ◌≤◌, length, drop}
-use Rattle.text_lines.specs.Lines.{word_length}
+use Rattle.text_lines.proofs.CommonWords.{◌≡◌, ◌+◌, ◌-◌, ◌≤◌, length, drop, word_length}
 use Rattle.text_lines.proofs.words.word_length.Given as goal
 
 abbrev pub invariant-loop-end : goal.invariant-loop-end

@@ -1,9 +1,4 @@
-use Rattle.std.proofs.Common.{◌&&◌, arith}
-use Rattle.init_words.specs.declared.entries.Entry.{Entry}
-use Rattle.inittab_text.specs.Tables.{has_id}
-use Rattle.trace_events.specs.Wanted.{starts_in}
-use Rattle.trace_check.specs.State.{among}
-use Rattle.trace_check.specs.After.{is_named}
+use Rattle.trace_check.proofs.Words.{◌&&◌, arith, Entry, has_id, starts_in, among, is_named}
 use Rattle.trace_check.proofs.Walks.{one_added}
 use Rattle.trace_check.proofs.parts.add_named.Goals as goal
 

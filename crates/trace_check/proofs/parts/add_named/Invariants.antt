@@ -1,9 +1,4 @@
-use Rattle.std.proofs.Common.{◌≡◌, ◌≤◌, ◌+◌, ℕ, ◌&&◌, ◌||◌, List, length, take}
-use Rattle.std.specs.List.{list_any}
-use Rattle.inittab_text.specs.Tables.{has_id}
-use Rattle.trace_events.specs.Wanted.{starts_in}
-use Rattle.trace_check.specs.State.{among}
-use Rattle.trace_check.specs.After.{is_named}
+use Rattle.trace_check.proofs.Words.{◌≡◌, ◌≤◌, ◌+◌, ℕ, ◌&&◌, ◌||◌, List, length, take, list_any, has_id, starts_in, among, is_named}
 use Rattle.indexmap.specs.IndexSet.{spare as set_spare}
 use Rattle.trace_check.proofs.parts.add_named.Given as goal
 

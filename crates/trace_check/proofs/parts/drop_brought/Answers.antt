@@ -1,7 +1,4 @@
-use Rattle.init_words.specs.declared.entries.Entry.{Entry}
-use Rattle.inittab_text.specs.Tables.{has_id}
-use Rattle.trace_check.specs.State.{among}
-use Rattle.trace_check.specs.After.{is_changed}
+use Rattle.trace_check.proofs.Words.{Entry, has_id, among, is_changed}
 use Rattle.trace_check.proofs.Walks.{one_dropped}
 use Rattle.trace_check.proofs.parts.drop_brought.Goals as goal
 

@@ -1,8 +1,4 @@
-use Rattle.std.proofs.Common.{◌≡◌, ℕ, not, ◌&&◌, List, take}
-use Rattle.std.specs.List.{list_any}
-use Rattle.inittab_text.specs.Tables.{has_id}
-use Rattle.trace_check.specs.State.{among}
-use Rattle.trace_check.specs.After.{is_changed}
+use Rattle.trace_check.proofs.Words.{◌≡◌, ℕ, not, ◌&&◌, List, take, list_any, has_id, among, is_changed}
 use Rattle.trace_check.proofs.parts.drop_brought.Given as goal
 
 -- what was asked before and is brought by no entry so far

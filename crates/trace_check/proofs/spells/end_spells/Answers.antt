@@ -1,7 +1,4 @@
-use Rattle.std.proofs.Common.{◌∙◌, ap, not, rules}
-use Rattle.std.proofs.lemmas.Map.Made.{filter_same_pairs}
-use Rattle.trace_check.specs.State.{at}
-use Rattle.trace_check.specs.After.{spares}
+use Rattle.trace_check.proofs.Words.{◌∙◌, ap, not, rules, filter_same_pairs, at, spares}
 use Rattle.trace_check.proofs.Lookups.{filtered_at, unless}
 use Rattle.trace_check.proofs.spells.end_spells.Goals as goal
 

@@ -1,4 +1,4 @@
-use Rattle.std.proofs.Common.{rules}
+use Rattle.trace_log_wrappers.proofs.Words.{rules}
 use Rattle.trace_log_wrappers.proofs.KeepLemmas.{hands_failed, hands_held}
 use Rattle.trace_log_wrappers.proofs.brief_logs.hand_on.Goals as goal
 

@@ -1,8 +1,5 @@
 -- What was held is written, and then the happening.
-use Rattle.std.proofs.Common.{◌≡◌, true}
-use Rattle.trace_events.specs.Range.{is_in_range}
-use Rattle.trace_brief.specs.Holding.{written_of}
-use Rattle.trace_log_wrappers.specs.Adding.{held_first}
+use Rattle.trace_log_wrappers.proofs.Words.{◌≡◌, true, is_in_range, written_of, held_first}
 use Rattle.trace_log_wrappers.proofs.AddLemmas.{ranged_ok, ranged_err, early_err}
 use Rattle.trace_log_wrappers.proofs.brief_logs.write_all.Goals as goal
 

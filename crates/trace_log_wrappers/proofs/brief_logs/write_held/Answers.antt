@@ -1,6 +1,5 @@
 -- What was held is written in three parts: where the last fails, the first two stay.
-use Rattle.std.proofs.Common.{◌++◌, reverse}
-use Rattle.trace_brief.specs.Holding.{look_events, round_events, reading_events}
+use Rattle.trace_log_wrappers.proofs.Words.{◌++◌, reverse, look_events, round_events, reading_events}
 use Rattle.trace_log_wrappers.proofs.AddLemmas.{adds_two, front_err}
 use Rattle.trace_log_wrappers.proofs.brief_logs.write_held.Goals as goal
 

@@ -1,5 +1,4 @@
-use Rattle.std.proofs.Common.{◌≡◌, ◌++◌, drop}
-use Rattle.trace_text.specs.Lines.{trace_text}
+use Rattle.trace_text.proofs.CommonWords.{◌≡◌, ◌++◌, drop, trace_text}
 use Rattle.trace_text.proofs.printing.print.Given as goal
 
 -- what is printed, and what is left to print, make the whole

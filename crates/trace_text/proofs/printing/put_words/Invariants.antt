@@ -1,5 +1,4 @@
-use Rattle.std.proofs.Common.{◌≡◌, ◌++◌, map, drop}
-use Rattle.trace_text.specs.Lines.{words_behind}
+use Rattle.trace_text.proofs.CommonWords.{◌≡◌, ◌++◌, map, drop, words_behind}
 use Rattle.trace_text.proofs.printing.put_words.Given as goal
 
 -- what is there, and the words that are left, make the whole

@@ -1,9 +1,5 @@
-use Rattle.std.proofs.Common.{rules, ◌≡◌, ◌≢◌, ◌+◌, ◌++◌, ◌<◌, ◌≤◌, true, [], ◌∷◌, length, arith, sym, ap, ◌∙◌}
+use Rattle.trace_text.proofs.CommonWords.{rules, ◌≡◌, ◌≢◌, ◌+◌, ◌++◌, ◌<◌, ◌≤◌, true, [], ◌∷◌, length, arith, sym, ap, ◌∙◌, append_assoc, nil_from_length, event_text, trace_text, is_in_range, BeginsNone}
 use Rattle.std.proofs.lemmas.Grind.{common_steps}
-use Rattle.std.proofs.lemmas.List.{append_assoc, nil_from_length}
-use Rattle.trace_text.specs.Lines.{event_text, trace_text}
-use Rattle.trace_events.specs.Range.{is_in_range}
-use Rattle.trace_text.specs.Texts.{BeginsNone}
 use Rattle.trace_text.proofs.ReadTexts.{trace_text-push, are_in_range-push, shorter, one_trace, no_trace, counted_on, none_left}
 use Rattle.trace_text.proofs.reading.read.Goals as goal
 

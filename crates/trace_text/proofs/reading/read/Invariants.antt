@@ -1,7 +1,4 @@
-use Rattle.std.proofs.Common.{◌≡◌, ◌+◌, ◌++◌, true, length}
-use Rattle.text_lines.specs.Lines.{newlines}
-use Rattle.trace_text.specs.Lines.{trace_text}
-use Rattle.trace_events.specs.Range.{are_in_range}
+use Rattle.trace_text.proofs.CommonWords.{◌≡◌, ◌+◌, ◌++◌, true, length, newlines, trace_text, are_in_range}
 use Rattle.trace_text.proofs.reading.read.Given as goal
 
 -- the text is that of the trace so far and what is left, whose first line has the number

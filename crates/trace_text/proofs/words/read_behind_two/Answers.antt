@@ -1,5 +1,4 @@
-use Rattle.std.proofs.Common.{sym}
-use Rattle.text_lines.proofs.PieceLemmas.{pieces_of-cut, pieces_of-whole}
+use Rattle.trace_text.proofs.CommonWords.{sym, pieces_of-cut, pieces_of-whole}
 use Rattle.trace_text.proofs.words.read_behind_two.Goals as goal
 
 pub returns-in-Some : goal.returns-in-Some

@@ -1,5 +1,4 @@
-use Rattle.std.proofs.Common.{sym}
-use Rattle.text_lines.proofs.PieceLemmas.{pieces_of-cut, pieces_of-whole}
+use Rattle.trace_text.proofs.CommonWords.{sym, pieces_of-cut, pieces_of-whole}
 use Rattle.trace_text.proofs.LineWords.{two_at_most}
 use Rattle.trace_text.proofs.words.read_count.Goals as goal
 

@@ -1,11 +1,5 @@
-use Rattle.std.proofs.Common.{◌≡◌, ◌∙◌, ◌+◌, sym, ap, subst, refl, Some, option_map, reverse, length}
-use Rattle.trace_events.specs.Lawful.{broken}
-use Rattle.text_lines.specs.Lines.{newlines}
-use Rattle.trace_text.specs.Lines.{event_text, trace_text}
-use Rattle.trace_check.specs.Laws.{law_number}
-use Rattle.trace_check.specs.Judging.{Judged}
-use Rattle.trace_verdict.specs.Answers.{Named}
-use Rattle.trace_verdict.specs.Judges.{IsFound}
+use Rattle.trace_verdict.proofs.Words.{◌≡◌, ◌∙◌, ◌+◌, sym, ap, subst, refl, Some, reverse, length, broken, newlines, event_text, trace_text, law_number, Judged, Named, IsFound}
+use Rattle.std.proofs.Common.{option_map}
 use Rattle.trace_verdict.proofs.Judging.{found_kept, found_breach}
 use Rattle.trace_verdict.proofs.text_judges.judge_next.Goals as goal
 

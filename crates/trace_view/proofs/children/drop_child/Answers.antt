@@ -1,6 +1,4 @@
-use Rattle.std.proofs.Common.{not, rules}
-use Rattle.std.proofs.lemmas.Fn.{filter_same}
-use Rattle.trace_events.specs.Past.{Child, is_child}
+use Rattle.trace_view.proofs.Words.{not, rules, filter_same, Child, is_child}
 use Rattle.trace_view.proofs.children.drop_child.Goals as goal
 
 pub returns : goal.returns

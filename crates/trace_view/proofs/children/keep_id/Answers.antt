@@ -1,6 +1,4 @@
-use Rattle.std.proofs.Common.{rules}
-use Rattle.std.proofs.lemmas.Fn.{filter_same}
-use Rattle.trace_events.specs.Past.{Child, is_of}
+use Rattle.trace_view.proofs.Words.{rules, filter_same, Child, is_of}
 use Rattle.trace_view.proofs.children.keep_id.Goals as goal
 
 pub returns : goal.returns

@@ -1,4 +1,4 @@
-use Rattle.std.proofs.Common.{refl}
+use Rattle.trace_view.proofs.Words.{refl}
 use Rattle.trace_view.proofs.children.take_kept.Goals as goal
 
 pub returns-in_ok-extend_from_slice-in-Told : goal.returns-in_ok-extend_from_slice-in-Told

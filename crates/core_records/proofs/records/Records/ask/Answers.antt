@@ -1,4 +1,5 @@
-use Rattle.core_records.proofs.Words.{◌≡◌, ap, subst, true, sym, ◌∙◌, option_copied_mut, both_ways, CLOCK_LIMIT, can_ask, can_ask_of, after_order, counts_of, child_of, termed_of}
+use Rattle.core_records.proofs.Words.{◌≡◌, ap, subst, true, sym, ◌∙◌, option_copied_mut, CLOCK_LIMIT, can_ask, can_ask_of, after_order, counts_of, child_of, termed_of}
+use Rattle.init_words.proofs.Tests.{both_ways}
 use Rattle.core_records.proofs.Changed.{child-after_order, id-after_order, termed-after_order}
 use Rattle.core_records.proofs.Counted.{found_within, recount}
 use Rattle.core_records.proofs.Found.{absent_in, found_in, written}

@@ -1,4 +1,4 @@
-use Rattle.std.proofs.Common.{sym}
+use Rattle.core_records.proofs.Words.{sym}
 use Rattle.core_records.proofs.Keys.{found_id, found_no_id}
 use Rattle.core_records.proofs.records.Records.by_child.Goals as goal
 

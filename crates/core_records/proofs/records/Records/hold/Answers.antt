@@ -1,4 +1,5 @@
-use Rattle.core_records.proofs.Words.{ap, refl, sym, ◌∙◌, option_copied_mut, both_ways, CLOCK_LIMIT, has_record_of, after_hold, counts_of, child_of, termed_of}
+use Rattle.core_records.proofs.Words.{ap, refl, sym, ◌∙◌, option_copied_mut, CLOCK_LIMIT, has_record_of, after_hold, counts_of, child_of, termed_of}
+use Rattle.init_words.proofs.Tests.{both_ways}
 use Rattle.std.specs.Option.{is_some}
 use Rattle.core_records.proofs.Counted.{same_changed}
 use Rattle.core_records.proofs.Found.{absent_in, written}

@@ -1,4 +1,5 @@
-use Rattle.core_records.proofs.Words.{ap, sym, ◌∙◌, option_copied_mut, both_ways, CLOCK_LIMIT, has_record_of, after_answer, counts_of, child_of, termed_of}
+use Rattle.core_records.proofs.Words.{ap, sym, ◌∙◌, option_copied_mut, CLOCK_LIMIT, has_record_of, after_answer, counts_of, child_of, termed_of}
+use Rattle.init_words.proofs.Tests.{both_ways}
 use Rattle.std.specs.Option.{is_some}
 use Rattle.core_records.proofs.Changed.{child-after_answer, id-after_answer, termed-after_answer}
 use Rattle.core_records.proofs.Counted.{found_within, recount}

@@ -1,4 +1,5 @@
-use Rattle.core_records.proofs.Words.{◌≡◌, length, ap, sym, ◌∙◌, arith, length-values_of, CLOCK_LIMIT, counts_of, child_of, termed_of}
+use Rattle.core_records.proofs.Words.{◌≡◌, length, ap, sym, ◌∙◌, arith, CLOCK_LIMIT, counts_of, child_of, termed_of}
+use Rattle.std.proofs.lemmas.Map.Entries.{length-values_of}
 use Rattle.core_records.proofs.Counted.{pushed_count}
 use Rattle.core_records.proofs.Found.{pushed}
 use Rattle.core_records.proofs.Indexes.{push_room, pushed_index}

@@ -1,7 +1,5 @@
-use Rattle.std.proofs.Common.{rules, arith, ◌≡◌, ◌∙◌, ap, sym, ◌+◌, ◌-◌, ◌<◌, ◌≤◌, ◌++◌, ℕ, [], ◌∷◌, length, take, min, lit≤, length-take-le, append-nil}
-use Rattle.initctl_frame.specs.declared.requests.HeardRequest.{HeardRequest}
-use Rattle.initctl_frame.specs.Frames.{heard_of}
-use Rattle.initctl_frame.specs.Blocks.{Begun, gots_of, over_of}
+use Rattle.initctl_frame.proofs.Words.{rules, arith, ◌≡◌, ◌∙◌, ap, sym, ◌+◌, ◌-◌, ◌<◌, ◌≤◌, ◌++◌, ℕ, [], ◌∷◌, length, take, lit≤, length-take-le, append-nil, HeardRequest, heard_of, Begun, gots_of, over_of}
+use Rattle.std.proofs.Common.{min}
 use Rattle.initctl_frame.proofs.BlockLemmas.{count_feeds, front_joins, heard_of_front, gots_grow, gots_stay, over_feeds}
 use Rattle.initctl_frame.proofs.stream.Blocks.feed.Goals as goal
 

@@ -1,4 +1,4 @@
-use Rattle.std.proofs.Common.{◌∙◌, ◌+◌, ◌++◌, ◌∷◌, [], ap, sym, Some, drop}
+use Rattle.inittab_text.proofs.Words.{◌∙◌, ◌+◌, ◌++◌, ◌∷◌, [], ap, sym, Some, drop}
 use Rattle.std.proofs.lemmas.List.{append_assoc}
 use Rattle.inittab_text.proofs.Entries.{copied, copied_known}
 use Rattle.inittab_text.proofs.tables.Table.copy.Goals as goal

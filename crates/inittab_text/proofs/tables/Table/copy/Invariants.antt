@@ -1,4 +1,4 @@
-use Rattle.std.proofs.Common.{◌≡◌, ◌++◌, drop}
+use Rattle.inittab_text.proofs.Words.{◌≡◌, ◌++◌, drop}
 use Rattle.inittab_text.proofs.tables.Table.copy.Given as goal
 
 abbrev pub invariant-loop-place : goal.invariant-loop-place

@@ -1,6 +1,4 @@
-use Rattle.std.proofs.Common.{◌∙◌, ◌+◌, ap, sym, drop}
-use Rattle.std.specs.Option.{option_or}
-use Rattle.inittab_text.specs.Tables.{default_level_of}
+use Rattle.inittab_text.proofs.Words.{◌∙◌, ◌+◌, ap, sym, drop, option_or, default_level_of}
 use Rattle.inittab_text.proofs.Entries.{default_level_of-drop}
 use Rattle.inittab_text.proofs.tables.Table.default_level.Goals as goal
 

@@ -1,5 +1,4 @@
-use Rattle.std.proofs.Common.{◌≡◌, drop}
-use Rattle.inittab_text.specs.Tables.{default_level_of}
+use Rattle.inittab_text.proofs.Words.{◌≡◌, drop, default_level_of}
 use Rattle.inittab_text.proofs.tables.Table.default_level.Given as goal
 
 abbrev pub invariant-loop-place : goal.invariant-loop-place

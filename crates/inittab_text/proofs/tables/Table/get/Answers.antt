@@ -1,6 +1,4 @@
-use Rattle.std.proofs.Common.{◌∙◌}
-use Rattle.init_words.specs.declared.entries.Entry.{Entry}
-use Rattle.init_words.specs.Ids.{same_id}
+use Rattle.inittab_text.proofs.Words.{◌∙◌, Entry, same_id}
 use Rattle.inittab_text.proofs.Entries.{lookup-find}
 use Rattle.inittab_text.proofs.tables.Table.get.Goals as goal
 

@@ -1,9 +1,4 @@
-use Rattle.std.proofs.Common.{◌≡◌, ◌∙◌, ap, sym, subst, true, ◌++◌, ◌∷◌, []}
-use Rattle.std.specs.Map.{values_of, keys_of}
-use Rattle.init_words.specs.declared.entries.Entry.{Entry}
-use Rattle.init_words.specs.Ids.{same_id}
-use Rattle.inittab_text.specs.Tables.{entry_of, ids_of}
-use Rattle.inittab_text.specs.Written.{is_table}
+use Rattle.inittab_text.proofs.Words.{◌≡◌, ◌∙◌, ap, sym, subst, true, ◌++◌, ◌∷◌, [], values_of, keys_of, Entry, same_id, entry_of, ids_of, is_table}
 use Rattle.inittab_text.proofs.Entries.{lookup-find, values-push, keys-push, is_table-push}
 use Rattle.indexmap.proofs.CallerLemmas.{insert_entry-new}
 use Rattle.inittab_text.proofs.tables.Table.push.Goals as goal

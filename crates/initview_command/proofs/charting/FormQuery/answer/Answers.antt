@@ -1,5 +1,4 @@
-use Rattle.std.proofs.Common.{sym, subst, ap, [], ◌∷◌, ◌++◌, ◌∙◌}
-use Rattle.trace_view.specs.Viewing.{ViewState, Viewed}
+use Rattle.initview_command.proofs.Words.{sym, subst, ap, [], ◌∷◌, ◌++◌, ◌∙◌, ViewState, Viewed}
 use Rattle.initview_command.proofs.charting.FormQuery.answer.Goals as goal
 
 pub returns : goal.returns

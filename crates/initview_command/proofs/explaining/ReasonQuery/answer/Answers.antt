@@ -1,8 +1,6 @@
-use Rattle.std.proofs.Common.{◌∙◌, ap, sym, subst}
-use Rattle.trace_view.specs.Viewing.{ViewState, Viewed}
+use Rattle.initview_command.proofs.Words.{◌∙◌, ap, sym, subst, ViewState, Viewed, present}
 use Rattle.trace_view.specs.LastLines.{LinesState, Lined}
 use Rattle.initview_command.specs.Explaining.{explanation}
-use Rattle.initview_command.specs.Writers.{present}
 use Rattle.initview_command.proofs.explaining.ReasonQuery.answer.Goals as goal
 
 pub returns : goal.returns

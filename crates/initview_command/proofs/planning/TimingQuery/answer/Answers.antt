@@ -1,5 +1,4 @@
-use Rattle.std.proofs.Common.{◌∙◌, ap}
-use Rattle.initview_timeline.specs.Marks.{SeenMarks}
+use Rattle.initview_command.proofs.Words.{◌∙◌, ap, SeenMarks}
 use Rattle.initview_command.proofs.planning.TimingQuery.answer.Goals as goal
 
 pub returns : goal.returns

@@ -1,5 +1,4 @@
-use Rattle.std.proofs.Common.{ap}
-use Rattle.initview_command.specs.declared.growing.Writer.{Writer}
+use Rattle.initview_command.proofs.Words.{ap, Writer}
 use Rattle.initview_command.specs.Planning.{timing_answer}
 use Rattle.initview_command.proofs.planning.TimingToNeedsFiles.with_files.Goals as goal
 

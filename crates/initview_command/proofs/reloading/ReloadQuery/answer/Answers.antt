@@ -1,6 +1,4 @@
-use Rattle.std.proofs.Common.{sym, subst}
-use Rattle.trace_view.specs.Viewing.{ViewState, Viewed}
-use Rattle.initview_lines.specs.Reloads.{reloaded}
+use Rattle.initview_command.proofs.Words.{sym, subst, ViewState, Viewed, reloaded}
 use Rattle.initview_command.proofs.reloading.ReloadQuery.answer.Goals as goal
 
 pub returns : goal.returns

@@ -1,7 +1,5 @@
-use Rattle.std.proofs.Common.{ap, drop, ◌∙◌}
-use Rattle.initview_command.specs.declared.growing.Writer.{Writer}
+use Rattle.initview_command.proofs.Words.{ap, drop, ◌∙◌, Writer, old_of, table_in}
 use Rattle.initview_command.specs.Reloading.{reload_answer}
-use Rattle.initview_command.specs.Tables.{old_of, table_in}
 use Rattle.initview_command.proofs.reloading.ReloadToNeedsFiles.with_files.Goals as goal
 
 pub returns-in-Ok-clause-asked : goal.returns-in-Ok-clause-asked

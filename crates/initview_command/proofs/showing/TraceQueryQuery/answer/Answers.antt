@@ -1,6 +1,4 @@
-use Rattle.std.proofs.Common.{sym, subst}
-use Rattle.trace_view.specs.Viewing.{ViewState, Viewed}
-use Rattle.initview_command.specs.Writers.{present}
+use Rattle.initview_command.proofs.Words.{sym, subst, ViewState, Viewed, present}
 use Rattle.initview_command.proofs.showing.TraceQueryQuery.answer.Goals as goal
 
 pub returns : goal.returns

@@ -1,5 +1,4 @@
-use Rattle.std.proofs.Common.{sym, subst}
-use Rattle.initview_lines.specs.Parts.{IsToldOf, PartState}
+use Rattle.initview_lines.proofs.CommonWords.{sym, subst, IsToldOf, PartState}
 use Rattle.initview_lines.proofs.Parts.{told_of}
 use Rattle.initview_lines.proofs.part_views.PartView.end.Goals as goal
 

@@ -1,5 +1,4 @@
-use Rattle.std.proofs.Common.{◌∙◌, sym, ap}
-use Rattle.initview_lines.specs.Parts.{PartState}
+use Rattle.initview_lines.proofs.CommonWords.{◌∙◌, sym, ap, PartState}
 use Rattle.initview_lines.proofs.Parts.{fed_stopped, fed_more}
 use Rattle.initview_lines.proofs.part_views.PartView.feed.Goals as goal
 

@@ -1,4 +1,4 @@
-use Rattle.std.proofs.Common.{◌++◌}
+use Rattle.initview_lines.proofs.CommonWords.{◌++◌}
 use Rattle.initview_lines.proofs.Parts.{more_told, all_told}
 use Rattle.initview_lines.proofs.part_views.PartView.take.Goals as goal
 

@@ -1,6 +1,4 @@
-use Rattle.std.proofs.Common.{ℕ, List, ◌++◌, ◌^◌, ◌<◌, length}
-use Rattle.initview_lines.specs.declared.lines.Line.{Line}
-use Rattle.initview_lines.specs.Parts.{HasTold, IsTelling}
+use Rattle.initview_lines.proofs.CommonWords.{ℕ, List, ◌++◌, ◌^◌, ◌<◌, length, Line, HasTold, IsTelling}
 use Rattle.initview_lines.proofs.part_views.PartView.take.Given as goal
 
 -- the text with the piece is being read

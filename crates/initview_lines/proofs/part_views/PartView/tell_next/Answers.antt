@@ -1,7 +1,4 @@
-use Rattle.std.proofs.Common.{rules, ◌≡◌, ◌+◌, ◌++◌, Some}
-use Rattle.trace_verdict.specs.Fronts.{BeginsNever}
-use Rattle.trace_verdict.specs.Readers.{capped, ReadsNext}
-use Rattle.initview_lines.specs.Parts.{PartState}
+use Rattle.initview_lines.proofs.CommonWords.{rules, ◌≡◌, ◌+◌, ◌++◌, Some, BeginsNever, capped, ReadsNext, PartState}
 use Rattle.initview_lines.proofs.Parts.{one_told, torn_told}
 use Rattle.initview_lines.proofs.part_views.PartView.tell_next.Goals as goal
 

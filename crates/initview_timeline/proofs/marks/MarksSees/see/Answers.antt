@@ -1,7 +1,4 @@
-use Rattle.std.proofs.Common.{◌≡◌, ◌∙◌, ap, ◌∷◌, ◌++◌, ℕ, List, Option}
-use Rattle.trace_events.specs.Past.{time_of}
-use Rattle.initview_timeline.specs.declared.marks.TimelineMark.{TimelineMark}
-use Rattle.initview_timeline.specs.Marks.{SeenMarks, mark_at, shown_of, start_after}
+use Rattle.initview_timeline.proofs.Words.{◌≡◌, ◌∙◌, ap, ◌∷◌, ◌++◌, ℕ, List, Option, time_of, TimelineMark, SeenMarks, mark_at, shown_of, start_after}
 use Rattle.initview_timeline.proofs.marks.MarksSees.see.Goals as goal
 
 joined : (m n : List TimelineMark) (s t : Option ℕ) → m ≡ n → s ≡ t → ◌≡◌ {A = SeenMarks} (record { marks = m; start = s }) (record { marks = n; start = t })

@@ -1,5 +1,4 @@
-use Rattle.std.proofs.Common.{◌≡◌, ◌++◌, length}
-use Rattle.initview_timeline.specs.Pieces.{bars_of, signs_of}
+use Rattle.initview_timeline.proofs.Words.{◌≡◌, ◌++◌, length, bars_of, signs_of}
 use Rattle.initview_timeline.proofs.pieces.Pieces.add_lives.Given as goal
 
 -- what is drawn so far, and behind it the lives that are left

@@ -1,5 +1,4 @@
-use Rattle.std.proofs.Common.{◌≡◌, ◌++◌, length}
-use Rattle.initview_timeline.specs.Pieces.{marks_bars, marks_signs}
+use Rattle.initview_timeline.proofs.Words.{◌≡◌, ◌++◌, length, marks_bars, marks_signs}
 use Rattle.initview_timeline.proofs.pieces.Pieces.add_marks.Given as goal
 
 -- what is drawn so far, and behind it the marks that are left

@@ -1,5 +1,4 @@
-use Rattle.std.proofs.Common.{sym, ◌∙◌}
-use Rattle.trace_check.specs.Flaws.{is_served_in}
+use Rattle.trace_check.proofs.Words.{sym, ◌∙◌, is_served_in}
 use Rattle.trace_check.proofs.Walks.{all_next, all_stop}
 use Rattle.trace_check.proofs.judge.Judge.all_served.Goals as goal
 

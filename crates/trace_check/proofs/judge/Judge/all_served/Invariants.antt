@@ -1,6 +1,4 @@
-use Rattle.std.proofs.Common.{◌≡◌, drop}
-use Rattle.std.specs.List.{list_all}
-use Rattle.trace_check.specs.Flaws.{is_served_in}
+use Rattle.trace_check.proofs.Words.{◌≡◌, drop, list_all, is_served_in}
 use Rattle.trace_check.proofs.judge.Judge.all_served.Given as goal
 
 -- the answer is that of what is left

@@ -1,5 +1,4 @@
-use Rattle.std.proofs.Common.{sym, ◌∙◌}
-use Rattle.trace_check.specs.Flaws.{is_owed_in}
+use Rattle.trace_check.proofs.Words.{sym, ◌∙◌, is_owed_in}
 use Rattle.trace_check.proofs.Walks.{first_next, first_end, first_found}
 use Rattle.trace_check.proofs.judge.Judge.first_owed.Goals as goal
 

@@ -1,6 +1,4 @@
-use Rattle.std.proofs.Common.{◌≡◌, drop, find}
-use Rattle.trace_events.specs.Wanted.{entries_before}
-use Rattle.trace_check.specs.Flaws.{is_owed_in}
+use Rattle.trace_check.proofs.Words.{◌≡◌, drop, find, entries_before, is_owed_in}
 use Rattle.trace_check.proofs.judge.Judge.first_owed.Given as goal
 
 -- the answer is that of what is left

@@ -1,5 +1,4 @@
-use Rattle.std.proofs.Common.{sym, ◌∙◌}
-use Rattle.trace_check.specs.Flaws.{is_owed_in}
+use Rattle.trace_check.proofs.Words.{sym, ◌∙◌, is_owed_in}
 use Rattle.trace_check.proofs.Walks.{before_next, before_end, before_found}
 use Rattle.trace_check.proofs.judge.Judge.is_in_turn.Goals as goal
 

@@ -1,7 +1,4 @@
-use Rattle.std.proofs.Common.{◌≡◌, drop}
-use Rattle.std.specs.List.{list_any}
-use Rattle.trace_events.specs.Wanted.{entries_before}
-use Rattle.trace_check.specs.Flaws.{is_owed_in}
+use Rattle.trace_check.proofs.Words.{◌≡◌, drop, list_any, entries_before, is_owed_in}
 use Rattle.trace_check.proofs.judge.Judge.is_in_turn.Given as goal
 
 -- the answer is that of what is left

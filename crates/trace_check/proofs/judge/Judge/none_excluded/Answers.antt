@@ -1,4 +1,4 @@
-use Rattle.std.proofs.Common.{sym, ◌∙◌}
+use Rattle.trace_check.proofs.Words.{sym, ◌∙◌}
 use Rattle.trace_check.proofs.Calm.{calm_none}
 use Rattle.trace_check.proofs.judge.Judge.none_excluded.Goals as goal
 

@@ -1,6 +1,4 @@
-use Rattle.std.proofs.Common.{◌≡◌, subst}
-use Rattle.trace_check.specs.State.{JudgeState}
-use Rattle.trace_check.specs.After.{TakesIn}
+use Rattle.trace_check.proofs.Words.{◌≡◌, subst, JudgeState, TakesIn}
 use Rattle.trace_check.proofs.judge.Judge.take.Goals as goal
 
 pub returns-clause-ok : goal.returns-clause-ok

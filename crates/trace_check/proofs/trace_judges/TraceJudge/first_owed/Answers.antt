@@ -1,4 +1,4 @@
-use Rattle.std.proofs.Common.{◌∙◌}
+use Rattle.trace_check.proofs.Words.{◌∙◌}
 use Rattle.trace_check.proofs.Judging.{first_owed_is}
 use Rattle.trace_check.proofs.trace_judges.TraceJudge.first_owed.Goals as goal
 

@@ -1,6 +1,4 @@
-use Rattle.std.proofs.Common.{sym, ◌∙◌, ap}
-use Rattle.inittab_text.specs.Tables.{is_distinct}
-use Rattle.trace_check.specs.Flaws.{is_settled_in}
+use Rattle.trace_check.proofs.Words.{sym, ◌∙◌, ap, is_distinct, is_settled_in}
 use Rattle.trace_check.proofs.Judging.{settled}
 use Rattle.trace_check.proofs.Passing.{lone_lawful}
 use Rattle.trace_check.proofs.trace_judges.TraceJudge.is_settled.Goals as goal

@@ -1,4 +1,4 @@
-use Rattle.std.proofs.Common.{◌∙◌}
+use Rattle.trace_check.proofs.Words.{◌∙◌}
 use Rattle.trace_check.proofs.Judging.{wanted}
 use Rattle.trace_check.proofs.trace_judges.TraceJudge.is_wanted.Goals as goal
 

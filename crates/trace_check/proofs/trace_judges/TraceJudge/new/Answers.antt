@@ -1,4 +1,4 @@
-use Rattle.std.proofs.lemmas.Bool.{false≢true}
+use Rattle.trace_check.proofs.Words.{false≢true}
 use Rattle.trace_check.proofs.trace_judges.TraceJudge.new.Goals as goal
 
 pub invariant_of-result : goal.invariant_of-result

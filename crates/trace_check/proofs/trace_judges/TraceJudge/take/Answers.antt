@@ -1,6 +1,4 @@
-use Rattle.std.proofs.Common.{sym, ◌∙◌, subst}
-use Rattle.trace_check.specs.Flaws.{flaw_in}
-use Rattle.trace_check.specs.Judging.{Judging, Judged}
+use Rattle.trace_check.proofs.Words.{sym, ◌∙◌, subst, flaw_in, Judging, Judged}
 use Rattle.trace_check.proofs.Calm.{calm_next}
 use Rattle.trace_check.proofs.Passing.{flaw_is, judged_more}
 use Rattle.trace_check.proofs.trace_judges.TraceJudge.take.Goals as goal

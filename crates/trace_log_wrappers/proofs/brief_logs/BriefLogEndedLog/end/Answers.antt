@@ -1,4 +1,4 @@
-use Rattle.std.proofs.Common.{rules, ◌≡◌, ◌&&◌}
+use Rattle.trace_log_wrappers.proofs.Words.{rules, ◌≡◌, ◌&&◌}
 use Rattle.trace_log_wrappers.proofs.KeepLemmas.{ends}
 use Rattle.trace_log_wrappers.proofs.brief_logs.BriefLogEndedLog.end.Goals as goal
 

@@ -1,7 +1,5 @@
 -- What is written and held behind a happening follows from the step.
-use Rattle.std.proofs.Common.{◌≡◌, true}
-use Rattle.trace_events.specs.Range.{is_in_range}
-use Rattle.trace_log_wrappers.specs.Adding.{newly_first}
+use Rattle.trace_log_wrappers.proofs.Words.{◌≡◌, true, is_in_range, newly_first}
 use Rattle.trace_log_wrappers.proofs.AddLemmas.{grows}
 use Rattle.trace_log_wrappers.proofs.KeepLemmas.{took_ok, took_err}
 use Rattle.trace_log_wrappers.proofs.brief_logs.BriefLogLog.take.Goals as goal

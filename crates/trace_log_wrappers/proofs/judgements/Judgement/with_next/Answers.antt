@@ -1,5 +1,5 @@
 -- One more happening that breaks no law is one more that is judged.
-use Rattle.std.proofs.Common.{◌∷◌, ap, subst, sym, suc, None}
+use Rattle.trace_log_wrappers.proofs.Words.{◌∷◌, ap, subst, sym, suc, None}
 use native.Mathlib.Numerals.{unary_clauses}
 use Rattle.trace_check.specs.Judging.{TakesNext}
 use Rattle.trace_log_wrappers.specs.Judgements.{FindsBy}

@@ -1,7 +1,4 @@
-use Rattle.std.proofs.Common.{◌∷◌, [], rules, sym, subst, List, reverse, ◌++◌}
-use Rattle.std.proofs.lemmas.List.{reverse-append}
-use Rattle.trace_events.specs.Event.{Event}
-use Rattle.trace_log_wrappers.specs.Notes.{NotesOf}
+use Rattle.trace_log_wrappers.proofs.Words.{◌∷◌, [], rules, sym, subst, List, reverse, ◌++◌, reverse-append, Event, NotesOf}
 use Rattle.trace_log_wrappers.proofs.run_notes.NotedLogLog.take.Goals as goal
 
 pub returns-clause-ok : goal.returns-clause-ok

@@ -1,8 +1,5 @@
-use Rattle.std.proofs.Common.{rules, ◌≡◌, ◌∷◌, true, false, sym, subst, List, Ok, Err, OnOk}
+use Rattle.trace_log_wrappers.proofs.Words.{rules, ◌≡◌, ◌∷◌, true, false, sym, subst, List, Ok, Err, OnOk, Result, Event, IsRunning, NotesOf}
 use Rattle.std.specs.Result.{is_err}
-use Rattle.std.specs.declared.result.Result.{Result}
-use Rattle.trace_events.specs.Event.{Event}
-use Rattle.trace_log_wrappers.specs.Notes.{IsRunning, NotesOf}
 use Rattle.trace_log_wrappers.proofs.run_notes.RunNotes.note.Goals as goal
 
 was_ok : {T E : Type 0} (r : Result T E) (P : Type 0) → is_err r ≡ false → OnOk r P → P

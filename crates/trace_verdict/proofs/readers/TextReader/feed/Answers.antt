@@ -1,8 +1,5 @@
-use Rattle.std.proofs.Common.{rules, ◌≡◌, ◌+◌, ◌≤◌, ℕ, List, ◌++◌, drop, length, ap, arith}
+use Rattle.trace_verdict.proofs.Words.{rules, ◌≡◌, ◌+◌, ◌≤◌, ℕ, List, ◌++◌, drop, length, ap, arith, newlines, newlines-append, newlines-few}
 use Rattle.std.proofs.lemmas.Grind.{common_steps}
-use Rattle.text_lines.specs.Lines.{newlines}
-use Rattle.text_lines.proofs.PieceLemmas.{newlines-append}
-use Rattle.trace_text.proofs.ReadTexts.{newlines-few}
 use Rattle.trace_verdict.proofs.Fronts.{due_more}
 use Rattle.trace_verdict.proofs.readers.TextReader.feed.Goals as goal
 

@@ -1,6 +1,4 @@
-use Rattle.std.proofs.Common.{rules, ◌≡◌, ◌≤◌, ℕ, List, drop, arith}
-use Rattle.trace_text.specs.Texts.{BeginsNone}
-use Rattle.trace_verdict.specs.Fronts.{lines_due}
+use Rattle.trace_verdict.proofs.Words.{rules, ◌≡◌, ◌≤◌, ℕ, List, drop, arith, BeginsNone, lines_due}
 use Rattle.trace_verdict.proofs.Fronts.{finished_by, finished_never}
 use Rattle.trace_verdict.proofs.readers.TextReader.peek.Goals as goal
 

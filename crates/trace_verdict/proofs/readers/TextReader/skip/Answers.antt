@@ -1,7 +1,4 @@
-use Rattle.std.proofs.Common.{◌≡◌, ◌+◌, ◌≤◌, ℕ, List, ◌++◌, Some, true, drop, length, sym, subst, arith, drop-drop, length-drop}
-use Rattle.trace_text.specs.Lines.{event_text}
-use Rattle.trace_events.specs.Range.{is_in_range}
-use Rattle.trace_verdict.specs.Readers.{IsNext}
+use Rattle.trace_verdict.proofs.Words.{◌≡◌, ◌+◌, ◌≤◌, ℕ, List, ◌++◌, Some, true, drop, length, sym, subst, arith, drop-drop, length-drop, event_text, is_in_range, IsNext}
 use Rattle.trace_verdict.proofs.Fronts.{due_some, lines_off}
 use Rattle.trace_verdict.proofs.readers.TextReader.skip.Goals as goal
 

@@ -1,7 +1,4 @@
-use Rattle.std.proofs.Common.{rules, ◌≡◌, ◌<◌, ◌∙◌, ℕ, List, true, drop, length, sym, ap, subst, arith, length-drop}
-use Rattle.text_lines.specs.Lines.{newlines}
-use Rattle.trace_verdict.specs.Fronts.{is_unfinished, size_limit}
-use Rattle.trace_verdict.specs.Readers.{Reading}
+use Rattle.trace_verdict.proofs.Words.{rules, ◌≡◌, ◌<◌, ◌∙◌, ℕ, List, true, drop, length, sym, ap, subst, arith, length-drop, newlines, is_unfinished, size_limit, Reading}
 use Rattle.trace_verdict.proofs.Fronts.{long_never}
 use Rattle.trace_verdict.proofs.readers.TextReader.wait.Goals as goal
 

@@ -1,6 +1,4 @@
-use Rattle.std.proofs.Common.{refl, sym, subst}
-use Rattle.trace_verdict.specs.Answers.{Answers}
-use Rattle.trace_verdict.specs.Judges.{TextState}
+use Rattle.trace_verdict.proofs.Words.{refl, sym, subst, Answers, TextState}
 use Rattle.trace_verdict.proofs.Judging.{told}
 use Rattle.trace_verdict.proofs.text_judges.TextJudge.answer.Goals as goal
 

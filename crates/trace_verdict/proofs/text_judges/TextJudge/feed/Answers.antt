@@ -1,5 +1,4 @@
-use Rattle.std.proofs.Common.{◌∙◌, sym, ap}
-use Rattle.trace_verdict.specs.Judges.{TextState}
+use Rattle.trace_verdict.proofs.Words.{◌∙◌, sym, ap, TextState}
 use Rattle.trace_verdict.proofs.Judging.{still_torn}
 use Rattle.trace_verdict.proofs.text_judges.TextJudge.feed.Goals as goal
 

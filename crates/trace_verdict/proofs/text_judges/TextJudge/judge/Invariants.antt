@@ -1,5 +1,4 @@
-use Rattle.std.proofs.Common.{ℕ, List, ◌^◌, ◌<◌, length}
-use Rattle.trace_verdict.specs.Judges.{IsAt}
+use Rattle.trace_verdict.proofs.Words.{ℕ, List, ◌^◌, ◌<◌, length, IsAt}
 use Rattle.trace_verdict.proofs.text_judges.TextJudge.judge.Given as goal
 
 -- it is at work on the same text

@@ -1,4 +1,4 @@
-use Rattle.std.proofs.Common.{refl, []}
+use Rattle.trace_verdict.proofs.Words.{refl, []}
 use Rattle.trace_verdict.proofs.text_judges.TextJudge.new.Goals as goal
 
 pub returns : goal.returns

@@ -1,10 +1,4 @@
-use Rattle.std.proofs.Common.{rules, ◌≡◌, ◌+◌, Some, ◌++◌, ◌∷◌, [], refl, subst}
-use Rattle.text_lines.specs.Lines.{newlines}
-use Rattle.trace_text.specs.Lines.{trace_text}
-use Rattle.trace_text.proofs.ReadTexts.{shorter}
-use Rattle.trace_verdict.specs.Fronts.{BeginsNever}
-use Rattle.trace_verdict.specs.Readers.{capped, ReadsNext}
-use Rattle.trace_verdict.specs.Judges.{TextState, IsFound}
+use Rattle.trace_verdict.proofs.Words.{rules, ◌≡◌, ◌+◌, Some, ◌++◌, ◌∷◌, [], refl, subst, newlines, trace_text, shorter, BeginsNever, capped, ReadsNext, TextState, IsFound}
 use Rattle.trace_verdict.proofs.Judging.{trace_at, at_trace, read_next, line_of, torn_here}
 use Rattle.trace_verdict.proofs.text_judges.TextJudge.take_next.Goals.{in-NewTable-2, in-NotRead-2}
 use Rattle.trace_verdict.proofs.text_judges.TextJudge.take_next.Goals as goal

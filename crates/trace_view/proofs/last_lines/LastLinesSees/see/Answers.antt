@@ -1,6 +1,4 @@
-use Rattle.std.proofs.Common.{◌∙◌, ◌∷◌, sym, ap, subst}
-use Rattle.trace_check.specs.State.{at}
-use Rattle.trace_view.specs.LastLines.{LinesState, Lined, line_after, names}
+use Rattle.trace_view.proofs.Words.{◌∙◌, ◌∷◌, sym, ap, subst, at, LinesState, Lined, line_after, names}
 use Rattle.trace_view.proofs.Lining.{lined_more}
 use Rattle.trace_view.proofs.last_lines.LastLinesSees.see.Goals as goal
 

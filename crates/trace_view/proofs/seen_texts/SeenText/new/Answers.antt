@@ -1,4 +1,4 @@
-use Rattle.std.proofs.Common.{[]}
+use Rattle.trace_view.proofs.Words.{[]}
 use Rattle.trace_view.proofs.seen_texts.SeenText.new.Goals as goal
 
 pub returns : goal.returns

@@ -1,6 +1,4 @@
-use Rattle.std.proofs.Common.{rules, ◌≡◌, ◌+◌, ◌∷◌, ap, is_some, true, sym, subst}
-use Rattle.trace_verdict.specs.Readers.{capped}
-use Rattle.trace_view.specs.Viewing.{ViewState, Viewed}
+use Rattle.trace_view.proofs.Words.{rules, ◌≡◌, ◌+◌, ◌∷◌, ap, is_some, true, sym, subst, capped, ViewState, Viewed}
 use Rattle.trace_view.proofs.Sights.{some_seen, none_seen}
 use Rattle.trace_view.proofs.seen_texts.SeenText.see_next.Goals.{in-NewTable-2, in-NotRead-2}
 use Rattle.trace_view.proofs.seen_texts.SeenText.see_next.Goals as goal

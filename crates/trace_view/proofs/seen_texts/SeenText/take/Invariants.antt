@@ -1,5 +1,4 @@
-use Rattle.std.proofs.Common.{ℕ, List, ◌++◌, ◌^◌, ◌<◌, length}
-use Rattle.trace_view.specs.SeenTexts.{HasSeenText, IsSeeing}
+use Rattle.trace_view.proofs.Words.{ℕ, List, ◌++◌, ◌^◌, ◌<◌, length, HasSeenText, IsSeeing}
 use Rattle.trace_view.proofs.seen_texts.SeenText.take.Given as goal
 
 -- the view is at work on the text with the piece

@@ -1,7 +1,4 @@
-use Rattle.std.proofs.Common.{sym, subst, reverse}
-use Rattle.trace_view.specs.Viewing.{Viewed}
-use Rattle.trace_view.specs.Shown.{IsShown}
-use Rattle.trace_view.specs.Views.{TextState}
+use Rattle.trace_view.proofs.Words.{sym, subst, reverse, Viewed, IsShown, TextState}
 use Rattle.trace_view.proofs.SeenTexts.{shown}
 use Rattle.trace_view.proofs.text_views.TextView.answer.Goals as goal
 

@@ -1,5 +1,4 @@
-use Rattle.std.proofs.Common.{◌∙◌, sym, ap}
-use Rattle.trace_view.specs.Views.{TextState}
+use Rattle.trace_view.proofs.Words.{◌∙◌, sym, ap, TextState}
 use Rattle.trace_view.proofs.SeenTexts.{still_stopped}
 use Rattle.trace_view.proofs.text_views.TextView.feed.Goals as goal
 

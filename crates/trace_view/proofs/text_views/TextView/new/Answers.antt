@@ -1,4 +1,4 @@
-use Rattle.std.proofs.Common.{refl}
+use Rattle.trace_view.proofs.Words.{refl}
 use Rattle.trace_view.proofs.text_views.TextView.new.Goals as goal
 
 pub returns : goal.returns

@@ -1,8 +1,4 @@
-use Rattle.std.proofs.Common.{rules, ◌≡◌, ◌+◌, Some}
-use Rattle.trace_text.proofs.ReadTexts.{shorter}
-use Rattle.trace_verdict.specs.Fronts.{BeginsNever}
-use Rattle.trace_verdict.specs.Readers.{capped, ReadsNext}
-use Rattle.trace_view.specs.Views.{TextState}
+use Rattle.trace_view.proofs.Words.{rules, ◌≡◌, ◌+◌, Some, shorter, BeginsNever, capped, ReadsNext, TextState}
 use Rattle.trace_view.proofs.SeenTexts.{at_none, goes_next, torn_here}
 use Rattle.trace_view.proofs.text_views.TextView.next.Goals as goal
 

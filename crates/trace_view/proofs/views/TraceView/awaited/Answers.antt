@@ -1,7 +1,5 @@
-use Rattle.std.proofs.Common.{◌≡◌, ◌∙◌, ◌∷◌, ◌++◌, [], ap, option_map, subst, sym, true}
-use Rattle.inittab_text.specs.Tables.{entry_of, is_distinct}
-use Rattle.trace_view.specs.Viewing.{Viewed}
-use Rattle.trace_view.specs.Why.{entry_id}
+use Rattle.trace_view.proofs.Words.{◌≡◌, ◌∙◌, ◌∷◌, ◌++◌, [], ap, subst, sym, true, entry_of, is_distinct, Viewed, entry_id}
+use Rattle.std.proofs.Common.{option_map}
 use Rattle.trace_view.proofs.Awaited.{awaited_is, empty_is, found_last, none_awaited}
 use Rattle.trace_view.proofs.views.TraceView.awaited.Goals as goal
 

@@ -1,6 +1,4 @@
-use Rattle.std.proofs.Common.{◌∙◌, sym, ap, subst}
-use Rattle.trace_view.specs.Rows.{settled_in}
-use Rattle.trace_view.specs.Viewing.{Viewed}
+use Rattle.trace_view.proofs.Words.{◌∙◌, sym, ap, subst, settled_in, Viewed}
 use Rattle.trace_view.proofs.views.TraceView.is_settled.Goals as goal
 
 pub returns-in-Some : goal.returns-in-Some

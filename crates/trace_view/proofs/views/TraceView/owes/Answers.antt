@@ -1,9 +1,5 @@
-use Rattle.std.proofs.Common.{◌∙◌, ap, is_some, option_map, find}
-use Rattle.trace_events.specs.Past.{is_of}
-use Rattle.trace_events.specs.Wanted.{is_order}
-use Rattle.init_words.specs.declared.orders.OrderKind.TheVariants.{Start}
-use Rattle.trace_view.specs.Why.{number_of}
-use Rattle.init_words.proofs.Tests.{found_any}
+use Rattle.trace_view.proofs.Words.{◌∙◌, ap, is_some, find, is_of, is_order, Start, number_of, found_any}
+use Rattle.std.proofs.Common.{option_map}
 use Rattle.trace_view.proofs.Awaited.{owed_is}
 use Rattle.trace_view.proofs.views.TraceView.owes.Goals as goal
 

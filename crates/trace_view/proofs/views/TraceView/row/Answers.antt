@@ -1,10 +1,5 @@
-use Rattle.std.proofs.Common.{◌∙◌, sym, ap, subst, false, option_map, find}
-use Rattle.std.specs.Option.{option_map_or}
-use Rattle.init_words.specs.declared.entries.Entry.{Entry}
-use Rattle.inittab_text.specs.Tables.{entry_of}
-use Rattle.trace_events.specs.Past.{is_of}
-use Rattle.trace_view.specs.Viewing.{Viewed, is_excluded_by}
-use Rattle.trace_view.specs.Why.{number_of}
+use Rattle.trace_view.proofs.Words.{◌∙◌, sym, ap, subst, false, find, option_map_or, Entry, entry_of, is_of, Viewed, is_excluded_by, number_of}
+use Rattle.std.proofs.Common.{option_map}
 use Rattle.trace_view.proofs.Stands.{rows, lives_not}
 use Rattle.trace_view.proofs.views.TraceView.row.Goals as goal
 

@@ -1,6 +1,4 @@
-use Rattle.std.proofs.Common.{◌∙◌, sym, ap, subst, Some}
-use Rattle.trace_view.specs.Rows.{settled_in}
-use Rattle.trace_view.specs.Viewing.{Viewed}
+use Rattle.trace_view.proofs.Words.{◌∙◌, sym, ap, subst, Some, settled_in, Viewed}
 use Rattle.trace_view.proofs.views.TraceView.settles.Goals as goal
 
 pub returns-in-Run : goal.returns-in-Run

@@ -1,15 +1,5 @@
-use Rattle.std.proofs.Common.{◌∙◌, ap, cond, false, option_map, find, subst, None}
-use Rattle.std.specs.List.{list_any}
-use Rattle.std.specs.Option.{option_map_or}
-use Rattle.trace_events.specs.Past.{is_of}
-use Rattle.trace_events.specs.Wanted.{starts_in}
-use Rattle.trace_view.specs.Births.{is_born_as}
-use Rattle.trace_view.specs.Calls.{is_named_by}
-use Rattle.trace_view.specs.Viewing.{Viewed}
-use Rattle.trace_view.specs.declared.wishes.Wishes.{Wishes}
-use Rattle.trace_view.specs.Why.{number_of}
-use Rattle.trace_view.specs.Viewing.{is_excluded_by}
-use Rattle.trace_view.specs.Why.{entry_id}
+use Rattle.trace_view.proofs.Words.{◌∙◌, ap, cond, false, find, subst, None, list_any, option_map_or, is_of, starts_in, is_born_as, is_named_by, Viewed, Wishes, number_of, is_excluded_by, entry_id}
+use Rattle.std.proofs.Common.{option_map}
 use Rattle.trace_view.proofs.Stands.{stands, excluded_is, lives_not, wish_is, held_is, full_is}
 use Rattle.trace_view.proofs.views.TraceView.standing.Goals as goal
 

@@ -1,7 +1,5 @@
-use Rattle.std.proofs.Common.{◌∙◌, sym, ap, subst, option_map, None}
-use Rattle.trace_check.specs.Judging.{TakesNext}
-use Rattle.trace_check.specs.Laws.{law_number}
-use Rattle.trace_view.specs.Viewing.{ViewState, Viewed, kept_after}
+use Rattle.trace_view.proofs.Words.{◌∙◌, sym, ap, subst, None, TakesNext, law_number, ViewState, Viewed, kept_after}
+use Rattle.std.proofs.Common.{option_map}
 use Rattle.trace_view.proofs.Seeing.{seen_more}
 use Rattle.trace_view.proofs.views.TraceView.take.Goals as goal
 

@@ -1,7 +1,4 @@
-use Rattle.std.proofs.Common.{◌∙◌, ◌≡◌, sym, ap, subst, option_copied, Some}
-use Rattle.inittab_text.specs.Tables.{entry_of}
-use Rattle.trace_events.specs.Past.{table_of}
-use Rattle.trace_view.specs.Viewing.{Viewed}
+use Rattle.trace_view.proofs.Words.{◌∙◌, ◌≡◌, sym, ap, subst, option_copied, Some, entry_of, table_of, Viewed}
 use Rattle.trace_view.proofs.Stands.{found_own, why_found, why_none}
 use Rattle.trace_view.proofs.views.TraceView.why.Goals as goal
 

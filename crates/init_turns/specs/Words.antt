@@ -1,0 +1,26 @@
+-- The words of the definitions and clauses of this crate that come from others.
+pub use Rattle.init_words.specs.declared.entries.Entry.{Entry}
+pub use Rattle.init_words.specs.declared.levels.Level.{Level}
+pub use Rattle.trace_events.specs.declared.steps.Goal.{Goal}
+pub use Rattle.trace_events.specs.Event.{Event}
+pub use Rattle.core_model.specs.State.{CoreState, opening_goal, opening_state}
+pub use Rattle.host_calls.specs.declared.calls.Call.TheVariants.{Pause, Late, Clock, TakeBytes, Announce, Carry, ReadTables}
+pub use Rattle.host_calls.specs.Calls.{HostCall, TextRead, PartsRead}
+pub use Rattle.host_trace.specs.declared.TheConstants.{STEP_LIMIT, BYTE_LIMIT, LATE_LIMIT, PIECE}
+pub use Rattle.host_trace.specs.Leads.{are_carried, is_allowed, At, Tracks, UpTo, Went, comes_back, past_of, Hears, Logs, Counted, Leads, Gave, Lasts}
+pub use Rattle.host_trace.specs.Point.{Point, point_after, is_last, is_outcome, is_announcement, may_announce, last_birth, acted, answered, replied, come, order_for}
+pub use Rattle.host_trace.specs.Turns.{MadeTurns, AreSteps, bytes_in, is_reread, is_room, is_step, are_lates, are_takes, may_take, IsTurn}
+pub use Rattle.inittab_text.specs.Tables.{is_distinct, entry_of}
+pub use Rattle.trace_events.specs.declared.happenings.Happening.TheVariants.{NewTable, Handed, Told}
+pub use Rattle.trace_log.specs.Logs.{LogState}
+pub use Rattle.host_trace.specs.Edges.{Made, AddsMade, Kept, calls_of}
+pub use Rattle.init_words.specs.declared.orders.Answer.TheVariants.{Ended}
+pub use Rattle.trace_events.specs.declared.steps.Step.{Step}
+pub use Rattle.trace_events.specs.Range.{is_seconds, is_short, is_request}
+pub use Rattle.core_model.specs.Fit.{with_step, StillFits, OnEachTrace}
+pub use Rattle.core_model.specs.Parts.{state_of, SavedState}
+pub use Rattle.core_text.specs.Refused.{IsTextOf, IsCut, IsOther}
+pub use Rattle.host_calls.specs.Record.{Since}
+pub use Rattle.core_records.specs.Lists.{record_by_id, is_quiet}
+pub use Rattle.host_trace.specs.Grows.{Grows, GrowsBy, GrowsReading}
+pub use Rattle.core_model.specs.Decide.{is_drained}
