@@ -206,6 +206,8 @@ pub fn checked<T>(
 ) -> Result<T, WordFault>
     ensures ok { IfOk result (λ value. read ≡ Some value) }
     ensures err { OnErr result (read ≡ None) }
+    ensures refused { IfErr result (λ fault. IfSome (reason_of fault) (λ reason.
+        reason ≡ refusal_text id.now word.now why.now)) }
 {
     match read {
         Some(value) => Ok(value),

@@ -25,7 +25,11 @@ impl<H: Host, L: Log> Model for Stamped<H, L> {
 
     ghost Value = { StampedState H L };
 
-    ghost view = { λ edge. record { host = edge.host; log = edge.log; stamps = edge.stamps.value } };
+    ghost view = { λ edge. record {
+      host = edge.host;
+      log = edge.log;
+      stamps = edge.stamps.value;
+    } };
 
     ghost invariant = { λ edge. AreItsCalls (H.told edge.host) edge.stamps.value };
 }
@@ -36,7 +40,8 @@ impl<H: Host, L: Log> Stamped<H, L> {
 
     /// An edge of a host and a log. Calls that were made before it count as made with the log as it is.
     pub fn new(host: H, log: L) -> Stamped<H, L>
-        ensures { result ≡ record { host = host; log = log; stamps = first_stamps (H.told host) log } }
+        ensures { result
+            ≡ record { host = host; log = log; stamps = first_stamps (H.told host) log } }
     {
         let stamps = stamps_of(&host, &log);
         Stamped { host, log, stamps }
