@@ -1,8 +1,11 @@
 -- Folders at each moment of their changes: those of other folders pass one by, what is neither ours nor planned stays,
 -- and a script whose link is planned and held has one throughout.
-use Rattle.rc_links.proofs.Words.{arith, or-false, or_assoc, append_assoc, ◌≡◌, ℕ, zero, suc, Bool, true, false, not, ◌&&◌, ◌||◌, cond, List, [], ◌∷◌, ◌++◌, map, take, refl, sym, ap, ◌∙◌, AllByRecursion, filter, list_any, byte, bytes_eq, true≢false, and_parts, false_from_ne_true, or_from, or_left, or_parts, or_right, append-nil, Level, ChangeText, changes_of, is_in_way, is_left_over, is_missing, is_ours, is_stale, making, removal, settled, same_entry, EntryText, FolderText, change_of, is_link_of, kept_script, levels_in, with_levels, AreApart, HoldSame, IsMended, Stays, StaysIn, behind, changed, held_behind, PlannedText}
+use Rattle.rc_links.proofs.Words.{arith, or-false, append_assoc, ◌≡◌, ℕ, zero, suc, Bool, true, false, not, ◌&&◌, ◌||◌, cond, List, [], ◌∷◌, ◌++◌, map, take, refl, sym, ap, ◌∙◌, AllByRecursion, filter, list_any, byte, bytes_eq, true≢false, and_parts, false_from_ne_true, or_from, or_left, or_parts, or_right, append-nil, Level, ChangeText, changes_of, is_in_way, is_left_over, is_missing, is_ours, is_stale, making, removal, settled, same_entry, EntryText, FolderText, change_of, is_link_of, kept_script, levels_in, with_levels, AreApart, HoldSame, IsMended, Stays, StaysIn, behind, changed, held_behind, PlannedText}
 use Rattle.std.proofs.Common.{flat_map}
+use Rattle.std.proofs.lemmas.List.Folds.{list_any-append}
+use Rattle.std.proofs.lemmas.Map.Views.{any-filter_same}
 use Rattle.init_words.specs.Levels.{same_level}
+use Rattle.init_words.proofs.Tests.{any_filtered, any_less, falsely, passing}
 use Rattle.init_words.proofs.Same.{same_level-is, same_level-self}
 use Rattle.rc_links.specs.Entries.{has_name}
 use Rattle.rc_links.specs.declared.folders.LinkAction.{LinkAction}
@@ -30,12 +33,8 @@ entry_other q a b fails passes =
     false_from_ne_true (same_entry a b) (λ is. true≢false (sym passes ∙ sym (ap q (one_entry a b is)) ∙ fails))
 
 -- tests of lists
-any-append : {X : Type 0} (p : X → Bool) (xs ys : List X) → list_any p (xs ++ ys) ≡ (list_any p xs || list_any p ys)
-any-append p [] ys = refl
-any-append p (x ∷ xs) ys = ap (λ b. p x || b) (any-append p xs ys) ∙ sym (or_assoc (p x) (list_any p xs) (list_any p ys))
-
 none-append : {X : Type 0} (p : X → Bool) (xs ys : List X) → list_any p xs ≡ false → list_any p ys ≡ false → list_any p (xs ++ ys) ≡ false
-none-append p xs ys none also = any-append p xs ys ∙ or_from (list_any p xs) (list_any p ys) none also
+none-append p xs ys none also = list_any-append p xs ys ∙ or_from (list_any p xs) (list_any p ys) none also
 
 none-take : {X : Type 0} (p : X → Bool) (xs : List X) (n : ℕ) → list_any p xs ≡ false → list_any p (take n xs) ≡ false
 none-take p xs zero none = refl
@@ -84,62 +83,28 @@ all_among (x ∷ es) all among = (
   all_among es all (λ e is. among e (or_right (same_entry e x) (has e es) is)),
 )
 
-has_filter_by : (p : EntryText → Bool) (x e : EntryText) (kept all : Bool) (b c : Bool) → p x ≡ b → same_entry e x ≡ c → kept ≡ (p e && all)
-    → cond b (c || kept) kept ≡ (p e && (c || all))
-has_filter_by p x e kept all true true at is rest = sym (ap (λ d. d && true) (ap p (one_entry e x is) ∙ at))
-has_filter_by p x e kept all true false at is rest = rest
-has_filter_by p x e kept all false true at is rest =
-    let differs : p e ≡ false = ap p (one_entry e x is) ∙ at in
-    rest ∙ ap (λ d. d && all) differs ∙ sym (ap (λ d. d && true) differs)
-has_filter_by p x e kept all false false at is rest = rest
-
-has_cond : (e x : EntryText) (xs : List EntryText) (b : Bool) → has e (cond b (x ∷ xs) xs) ≡ cond b (same_entry e x || has e xs) (has e xs)
-has_cond e x xs true = refl
-has_cond e x xs false = refl
-
-none_and : (b : Bool) → false ≡ (b && false)
-none_and true = refl
-none_and false = refl
-
 -- those that pass a test have the entry where it passes and is among them
 has_filter : (p : EntryText → Bool) (e : EntryText) (es : List EntryText) → has e (filter p es) ≡ (p e && has e es)
-has_filter p e [] = none_and (p e)
-has_filter p e (x ∷ es) =
-    has_cond e x (filter p es) (p x)
-    ∙ has_filter_by p x e (has e (filter p es)) (has e es) (p x) (same_entry e x) refl refl (has_filter p e es)
-
-any_from_by : (p : EntryText → Bool) (e x : EntryText) (any rest : Bool) (b : Bool) → same_entry e x ≡ b → p e ≡ true → (rest ≡ true → any ≡ true) → (b || rest) ≡ true → (p x || any) ≡ true
-any_from_by p e x any rest true is passes more there = or_left (p x) any (sym (ap p (one_entry e x is)) ∙ passes)
-any_from_by p e x any rest false is passes more there = or_right (p x) any (more there)
+has_filter p e es = any-filter_same (same_entry e) p (p e) (λ x is. sym (ap p (one_entry e x is))) es
 
 -- an entry that is there and passes
 any_from : (p : EntryText → Bool) (e : EntryText) (es : List EntryText) → p e ≡ true → has e es ≡ true → list_any p es ≡ true
-any_from p e [] passes there = there
-any_from p e (x ∷ es) passes there =
-    any_from_by p e x (list_any p es) (has e es) (same_entry e x) refl passes (any_from p e es passes) there
-
-found_by : (p : EntryText → Bool) (x : EntryText) (es : List EntryText) (b : Bool) → p x ≡ b → ((list_any p es ≡ true) → (e : EntryText) × (p e ≡ true) × (has e es ≡ true)) → (b || list_any p es) ≡ true
-    → (e : EntryText) × (p e ≡ true) × (has e (x ∷ es) ≡ true)
-found_by p x es true at rest there = (x, at, or_left (same_entry x x) (has x es) (entry_itself x))
-found_by p x es false at rest there =
-    let more = rest there in
-    (more.0, more.1, or_right (same_entry more.0 x) (has more.0 es) more.2)
+any_from p e es passes there = any_less (same_entry e) p (λ x is. sym (ap p (one_entry e x is)) ∙ passes) es there
 
 -- where some entry passes, one is there
 found : (p : EntryText → Bool) (es : List EntryText) → list_any p es ≡ true → (e : EntryText) × (p e ≡ true) × (has e es ≡ true)
-found p [] there = absurd (true≢false (sym there))
-found p (x ∷ es) there = found_by p x es (p x) refl (found p es) there
+found p es there = let one = passing p es there in (one.item, one.passes, one.within (same_entry one.item) (entry_itself one.item))
 
 -- changes of one runlevel's folder
 abbrev pub at_level : Level → ChangeText → Bool
 at_level level c = same_level c.level level
 
-behind_more : (a b : List ChangeText) (level : Level) (es : List EntryText) → held_behind (a ++ b) level es ≡ held_behind b level (held_behind a level es)
+pub behind_more : (a b : List ChangeText) (level : Level) (es : List EntryText) → held_behind (a ++ b) level es ≡ held_behind b level (held_behind a level es)
 behind_more [] b level es = refl
 behind_more (c ∷ a) b level es = behind_more a b level (cond (same_level c.level level) (changed c.act c.entry es) es)
 
 -- those of others change nothing
-elsewhere : (changes : List ChangeText) (level : Level) (es : List EntryText) → list_any (at_level level) changes ≡ false → held_behind changes level es ≡ es
+pub elsewhere : (changes : List ChangeText) (level : Level) (es : List EntryText) → list_any (at_level level) changes ≡ false → held_behind changes level es ≡ es
 elsewhere [] level es none = refl
 elsewhere (c ∷ changes) level es none =
     let both = or_parts (same_level c.level level) (list_any (at_level level) changes) none in
@@ -169,7 +134,7 @@ none_mapped act k level [] differs = refl
 none_mapped act k level (e ∷ es) differs =
     or_from (same_level k level) (list_any (at_level level) (map (λ e. change_of act k e) es)) differs (none_mapped act k level es differs)
 
-none_of_folder : (targets : List (List ℕ)) (f : FolderText) (level : Level) → same_level f.level level ≡ false → list_any (at_level level) (changes_of targets f) ≡ false
+pub none_of_folder : (targets : List (List ℕ)) (f : FolderText) (level : Level) → same_level f.level level ≡ false → list_any (at_level level) (changes_of targets f) ≡ false
 none_of_folder targets f level differs =
     let ways = map (removal f.level) (filter (is_in_way targets f.planned) f.held) in
     let makings = map (making f.level) (filter (is_missing f.held) f.planned) in
@@ -179,7 +144,7 @@ none_of_folder targets f level differs =
     (none_mapped Make f.level level (filter (is_missing f.held) f.planned) differs))
     (none_mapped Remove f.level level (filter (is_left_over targets f.planned) f.held) differs)
 
-none_of_folders : (targets : List (List ℕ)) (level : Level) (folders : List FolderText) → list_any (λ (g : FolderText). same_level g.level level) folders ≡ false
+pub none_of_folders : (targets : List (List ℕ)) (level : Level) (folders : List FolderText) → list_any (λ (g : FolderText). same_level g.level level) folders ≡ false
     → list_any (at_level level) (flat_map (changes_of targets) folders) ≡ false
 none_of_folders targets level [] none = refl
 none_of_folders targets level (g ∷ folders) none =
@@ -245,7 +210,7 @@ change_of_other q e x es act false fails passes = refl
 change_of_other q e x es Remove true fails passes =
     has_filter (λ other. not (same_entry x other)) e es ∙ ap (λ b. not b && has e es) (other_entry q x e passes fails)
 change_of_other q e x es Make true fails passes =
-    any-append (same_entry e) es (x ∷ []) ∙ ap (λ b. has e es || (b || false)) (entry_other q e x fails passes) ∙ or-false (has e es)
+    list_any-append (same_entry e) es (x ∷ []) ∙ ap (λ b. has e es || (b || false)) (entry_other q e x fails passes) ∙ or-false (has e es)
 
 others_stay : (q : EntryText → Bool) (e : EntryText) (changes : List ChangeText) (level : Level) (es : List EntryText) → q e ≡ false → AllByRecursion (Each (Passes q)) changes
     → has e (held_behind changes level es) ≡ has e es
@@ -260,7 +225,7 @@ settled_by o p h = grind arith
 -- a settled folder holds what is planned, and what it held of others
 has_settled : (targets : List (List ℕ)) (planned es : List EntryText) (e : EntryText) → has e (settled targets planned es) ≡ (has e planned || (not (is_ours targets e) && has e es))
 has_settled targets planned es e =
-    any-append (same_entry e) (filter (λ x. not (is_stale targets planned x)) es) (filter (is_missing es) planned)
+    list_any-append (same_entry e) (filter (λ x. not (is_stale targets planned x)) es) (filter (is_missing es) planned)
     ∙ ap (λ b. b || has e (filter (is_missing es) planned)) (has_filter (λ x. not (is_stale targets planned x)) e es)
     ∙ ap (λ b. (not (is_stale targets planned e) && has e es) || b) (has_filter (is_missing es) e planned)
     ∙ settled_by (is_ours targets e) (has e planned) (has e es)
@@ -299,15 +264,8 @@ abbrev MakesNone : (EntryText → Bool) → LinkAction → EntryText → Type 0
 MakesNone p Remove e = Unit {0}
 MakesNone p Make e = p e ≡ false
 
-none_cond : {X : Type 0} (p : X → Bool) (x : X) (ys : List X) (b : Bool) → p x ≡ false → list_any p ys ≡ false → list_any p (cond b (x ∷ ys) ys) ≡ false
-none_cond p x ys true fails none = or_from (p x) (list_any p ys) fails none
-none_cond p x ys false fails none = none
-
 none-filter : {X : Type 0} (p q : X → Bool) (xs : List X) → list_any p xs ≡ false → list_any p (filter q xs) ≡ false
-none-filter p q [] none = refl
-none-filter p q (x ∷ xs) none =
-    let both = or_parts (p x) (list_any p xs) none in
-    none_cond p x (filter q xs) (q x) both.0 (none-filter p q xs both.1)
+none-filter p q xs none = falsely (list_any p (filter q xs)) (list_any p xs) (any_filtered p q xs) none
 
 change_makes_none : (p : EntryText → Bool) (x : EntryText) (es : List EntryText) (act : LinkAction) (b : Bool) → list_any p es ≡ false → MakesNone p act x → list_any p (cond b (changed act x es) es) ≡ false
 change_makes_none p x es act false none makes = none
@@ -329,7 +287,7 @@ change_leaves l x es act false there leaves = there
 change_leaves l x es Remove true there leaves =
     has_filter (λ other. not (same_entry x other)) l es ∙ ap (λ b. not b && has l es) leaves ∙ there
 change_leaves l x es Make true there leaves =
-    any-append (same_entry l) es (x ∷ []) ∙ or_left (has l es) (has l (x ∷ [])) there
+    list_any-append (same_entry l) es (x ∷ []) ∙ or_left (has l es) (has l (x ∷ [])) there
 
 stays_there : (l : EntryText) (changes : List ChangeText) (level : Level) (es : List EntryText) → has l es ≡ true → AllByRecursion (Each (Leaves l)) changes → has l (held_behind changes level es) ≡ true
 stays_there l [] level es there all = there
@@ -345,7 +303,7 @@ in_turn p x l [] b level es (suc m) passes also there leaves then leave =
 in_turn p x l (c ∷ a) b level es (suc m) passes also there leaves then leave =
     in_turn p x l a b level (cond (same_level c.level level) (changed c.act c.entry es) es) m passes also (change_leaves x c.entry es c.act (same_level c.level level) there leaves.0) leaves.1 then leave
 
-made : (k : Level) (xs es : List EntryText) → held_behind (map (making k) xs) k es ≡ es ++ xs
+pub made : (k : Level) (xs es : List EntryText) → held_behind (map (making k) xs) k es ≡ es ++ xs
 made k [] es = sym (append-nil es)
 made k (x ∷ xs) es =
     ap (λ b. held_behind (map (making k) xs) k (cond b (es ++ x ∷ []) es)) (same_level-self k)
@@ -379,7 +337,7 @@ stays_missing targets f m p x l passes there clear also planned missing =
     let among : has l missings ≡ true = has_filter (is_missing f.held) l f.planned ∙ ap (λ b. not b && has l f.planned) missing ∙ planned in
     let then : has l (held_behind (ways ++ makings) f.level f.held) ≡ true =
     ap (has l) (behind_more ways makings f.level f.held ∙ made f.level missings (held_behind ways f.level f.held))
-    ∙ any-append (same_entry l) (held_behind ways f.level f.held) missings ∙ or_right (has l (held_behind ways f.level f.held)) (has l missings) among in
+    ∙ list_any-append (same_entry l) (held_behind ways f.level f.held) missings ∙ or_right (has l (held_behind ways f.level f.held)) (has l missings) among in
     in_turn p x l (ways ++ makings) rest f.level f.held m passes also there front then back
   where
     all_free : (es : List EntryText) → AllByRecursion (Leaves x Make) es

@@ -1,5 +1,5 @@
 -- Plans: their fields, their names, and the faults that a step gives on.
-use Rattle.rc_links.proofs.Words.{Result, Ok, Err, IfOk, string_bytes, ◌≡◌, ℕ, zero, suc, ◌+◌, ◌<◌, List, [], ◌∷◌, ◌++◌, length, map, get_or, drop, refl, sym, ap, ◌∙◌, subst, arith, append_assoc, inl, inr, AllByRecursion, Phase, Wrong, Round, IsAnyDeep, IsRound, IsTooDeep, Says, HasNoNumbering, IsCycle, IsLeast, ScriptText, PlannedText, AreLeast, IsCycleOf, IsPlan, IsProvided, IsRefused, IsShort, names_at, planned, planned_all, needs_of}
+use Rattle.rc_links.proofs.Words.{string_bytes, ◌≡◌, ℕ, zero, suc, ◌+◌, ◌<◌, List, [], ◌∷◌, ◌++◌, length, map, get_or, drop, refl, sym, ap, ◌∙◌, subst, arith, append_assoc, inl, inr, AllByRecursion, Phase, Wrong, Round, IsAnyDeep, IsRound, IsTooDeep, Says, HasNoNumbering, IsCycle, ScriptText, PlannedText, AreLeast, IsCycleOf, IsPlan, IsProvided, IsRefused, IsShort, names_at, planned, planned_all, needs_of}
 use Rattle.rc_links.specs.declared.needs.Phase.TheVariants as phase
 use Rattle.rc_links.specs.declared.faults.PlanFault.{PlanFault}
 use Rattle.rc_links.specs.declared.faults.PlanFault.TheVariants as fault
@@ -45,32 +45,21 @@ any_deep starts stops place wrong deep = elim deep.1 [
 ]
 
 -- the fields of a plan
-pub names-planned : (scripts : List ScriptText) (starts stops : List ℕ) → length starts ≡ length scripts → length stops ≡ length scripts → map (λ s. s.name) (planned_all scripts starts stops) ≡ map (λ s. s.name) scripts
-names-planned [] starts stops first second = refl
-names-planned (s ∷ scripts) [] stops first second = absurd (omega arith)
-names-planned (s ∷ scripts) (a ∷ starts) [] first second = absurd (omega arith)
-names-planned (s ∷ scripts) (a ∷ starts) (b ∷ stops) first second = ap (λ names. s.name ∷ names) (names-planned scripts starts stops (omega arith) (omega arith))
+planned-by : {X : Type 0} (f : PlannedText → X) (h : ScriptText → X) → ((s : ScriptText) (a b : ℕ) → f (planned s a b) ≡ h s)
+    → (scripts : List ScriptText) (starts stops : List ℕ) → length starts ≡ length scripts → length stops ≡ length scripts → map f (planned_all scripts starts stops) ≡ map h scripts
+planned-by f h is [] starts stops first second = refl
+planned-by f h is (s ∷ scripts) [] stops first second = absurd (omega arith)
+planned-by f h is (s ∷ scripts) (a ∷ starts) [] first second = absurd (omega arith)
+planned-by f h is (s ∷ scripts) (a ∷ starts) (b ∷ stops) first second = λ i. is s a b i ∷ planned-by f h is scripts starts stops (omega arith) (omega arith) i
 
-pub starts-planned : (scripts : List ScriptText) (starts stops : List ℕ) → length starts ≡ length scripts → length stops ≡ length scripts → map (λ s. s.starts) (planned_all scripts starts stops) ≡ map (λ s. s.header.default_start) scripts
-starts-planned [] starts stops first second = refl
-starts-planned (s ∷ scripts) [] stops first second = absurd (omega arith)
-starts-planned (s ∷ scripts) (a ∷ starts) [] first second = absurd (omega arith)
-starts-planned (s ∷ scripts) (a ∷ starts) (b ∷ stops) first second = ap (λ levels. s.header.default_start ∷ levels) (starts-planned scripts starts stops (omega arith) (omega arith))
-
-pub stops-planned : (scripts : List ScriptText) (starts stops : List ℕ) → length starts ≡ length scripts → length stops ≡ length scripts → map (λ s. s.stops) (planned_all scripts starts stops) ≡ map (λ s. s.header.default_stop) scripts
-stops-planned [] starts stops first second = refl
-stops-planned (s ∷ scripts) [] stops first second = absurd (omega arith)
-stops-planned (s ∷ scripts) (a ∷ starts) [] first second = absurd (omega arith)
-stops-planned (s ∷ scripts) (a ∷ starts) (b ∷ stops) first second = ap (λ levels. s.header.default_stop ∷ levels) (stops-planned scripts starts stops (omega arith) (omega arith))
-
-pub start-planned : (scripts : List ScriptText) (starts stops : List ℕ) → length starts ≡ length scripts → length stops ≡ length scripts → map (λ s. s.start) (planned_all scripts starts stops) ≡ starts
+start-planned : (scripts : List ScriptText) (starts stops : List ℕ) → length starts ≡ length scripts → length stops ≡ length scripts → map (λ s. s.start) (planned_all scripts starts stops) ≡ starts
 start-planned [] [] stops first second = refl
 start-planned [] (a ∷ starts) stops first second = absurd (omega arith)
 start-planned (s ∷ scripts) [] stops first second = refl
 start-planned (s ∷ scripts) (a ∷ starts) [] first second = absurd (omega arith)
 start-planned (s ∷ scripts) (a ∷ starts) (b ∷ stops) first second = ap (λ numbers. a ∷ numbers) (start-planned scripts starts stops (omega arith) (omega arith))
 
-pub stop-planned : (scripts : List ScriptText) (starts stops : List ℕ) → length starts ≡ length scripts → length stops ≡ length scripts → map (λ s. s.stop) (planned_all scripts starts stops) ≡ stops
+stop-planned : (scripts : List ScriptText) (starts stops : List ℕ) → length starts ≡ length scripts → length stops ≡ length scripts → map (λ s. s.stop) (planned_all scripts starts stops) ≡ stops
 stop-planned [] starts [] first second = refl
 stop-planned [] starts (b ∷ stops) first second = absurd (omega arith)
 stop-planned (s ∷ scripts) [] stops first second = absurd (omega arith)
@@ -81,9 +70,9 @@ stop-planned (s ∷ scripts) (a ∷ starts) (b ∷ stops) first second = ap (λ 
 pub plan_made : (scripts : List ScriptText) (starts stops : List ℕ) (plan : List PlannedText) → IsProvided scripts → AreLeast phase.Start scripts starts → AreLeast phase.Stop scripts stops → plan ≡ planned_all scripts starts stops → AllByRecursion IsShort plan → IsPlan scripts plan
 plan_made scripts starts stops plan provided first second is short = record {
   provided = provided;
-  names = rw is (names-planned scripts starts stops first.size second.size);
-  starts = rw is (starts-planned scripts starts stops first.size second.size);
-  stops = rw is (stops-planned scripts starts stops first.size second.size);
+  names = rw is (planned-by (λ s. s.name) (λ s. s.name) (λ _ _ _. refl) scripts starts stops first.size second.size);
+  starts = rw is (planned-by (λ s. s.starts) (λ s. s.header.default_start) (λ _ _ _. refl) scripts starts stops first.size second.size);
+  stops = rw is (planned-by (λ s. s.stops) (λ s. s.header.default_stop) (λ _ _ _. refl) scripts starts stops first.size second.size);
   least_starts = rw (is, start-planned scripts starts stops first.size second.size) first;
   least_stops = rw (is, stop-planned scripts starts stops first.size second.size) second;
   short = short;
@@ -96,12 +85,6 @@ round turn scripts places wrong cycle none is =
 
 same_round : (x y : List (List ℕ)) → Round x ≡ Round y → x ≡ y
 same_round x y e = cc
-
--- numbers, of the right count, that are least
-pub AreLeast-order : {X Y E : Type 0} (items : X → List ℕ) (turn : Phase) (scripts : List ScriptText) (r : Result (Result X Y) E) → IfOk r (λ order. IfOk order (λ ns. length (items ns) ≡ length scripts)) → IfOk r (λ order. IfOk order (λ ns. IsLeast (length scripts) (needs_of turn scripts) (items ns))) → IfOk r (λ order. IfOk order (λ ns. AreLeast turn scripts (items ns)))
-AreLeast-order items turn scripts (Ok (Ok ns)) size least = record { size = size; least = least }
-AreLeast-order items turn scripts (Ok (Err cycle)) size least = tt
-AreLeast-order items turn scripts (Err e) size least = tt
 
 pub refused-start : {A : Type 0} (scripts : List ScriptText) (f : PlanFault A) → IsProvided scripts → Says (IsRound phase.Start scripts) f → IsRefused scripts f
 refused-start scripts (fault.DoubleProvide name) provided is = absurd (let e = is.1 in cc)

@@ -1,5 +1,5 @@
 -- The words of the proofs of this crate.
-pub use Rattle.std.proofs.Common.{◌≡◌, ℕ, zero, suc, ◌+◌, ◌<◌, ◌≤◌, Bool, true, false, cond, List, [], ◌∷◌, ◌++◌, length, get_or, drop, map, refl, sym, ap, ◌∙◌, subst, arith, append_assoc, not, ◌&&◌, ◌||◌, take, codes, if◌then◌else◌, find, Option, Some, None, is_some, Result, Ok, Err, IfErr, OnOk, IfOk, string_bytes, inl, inr}
+pub use Rattle.std.proofs.Common.{◌≡◌, ℕ, zero, suc, ◌+◌, ◌<◌, ◌≤◌, Bool, true, false, cond, List, [], ◌∷◌, ◌++◌, length, get_or, drop, map, refl, sym, ap, ◌∙◌, subst, arith, append_assoc, not, ◌&&◌, ◌||◌, take, codes, if◌then◌else◌, find, Option, Some, None, is_some, Result, Ok, Err, IfErr, OnOk, string_bytes, inl, inr}
 pub use Rattle.std.specs.List.{AllByRecursion, filter, sum_by, list_any, filter_map, cons_option}
 pub use Rattle.std.specs.Str.{bytes_eq, byte}
 pub use Rattle.std.proofs.lemmas.Bool.{false_from_ne_true, true≢false, and_parts, or_from, or_left, or_parts, or_right}
@@ -22,8 +22,8 @@ pub use Rattle.std.specs.Option.{option_or, unwrap_or}
 pub use Rattle.rc_links.specs.ScriptText.{ScriptText}
 pub use Rattle.rc_links.specs.Scripts.{place_from, place_of, has_script, is_system, doubled, double_from, missing_of, missing_from, named, need, needs_from, needs_of, places_of}
 pub use Rattle.rc_links.specs.declared.needs.Phase.{Phase}
-pub use Rattle.rc_numbers.specs.Numbering.{InRange, HasNoNumbering, IsCycle, IsLeast}
+pub use Rattle.rc_numbers.specs.Numbering.{InRange, HasNoNumbering, IsCycle}
 pub use Rattle.rc_links.specs.Faults.{Wrong, Round, IsAnyDeep, IsRound, IsTooDeep, Says, IsDouble}
 pub use Rattle.rc_links.specs.Plans.{AreLeast, IsCycleOf, IsPlan, IsProvided, IsRefused, IsShort, names_at, planned, planned_all}
-pub use Rattle.rc_links.specs.AllLast.{names_all, other_names}
+pub use Rattle.rc_links.specs.AllLast.{other_names}
 pub use Rattle.rc_links.specs.Tables.{place_in, known_again, HasPlaces, is_known, is_unknown}

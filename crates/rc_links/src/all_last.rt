@@ -46,12 +46,7 @@ fn names_all<A: Allocator>(phase: Phase, script: &Script<A>) -> bool
 fn is_named<A: Allocator>(phase: Phase, scripts: &[Script<A>]) -> bool
     ensures { result ≡ list_any (names_all phase) scripts.now }
 {
-    for script in scripts {
-        if names_all(phase, script) {
-            return true;
-        }
-    }
-    false
+    scripts.iter().any(|script| names_all(phase, script))
 }
 
 /// Adds names.

@@ -67,22 +67,12 @@ pub fn is_same<A: Allocator>(one: &FolderEntry<A>, other: &FolderEntry<A>) -> bo
 pub(crate) fn has_entry<A: Allocator>(entries: &[FolderEntry<A>], entry: &FolderEntry<A>) -> bool
     ensures { result ≡ list_any (same_entry entry.now) entries.now }
 {
-    for other in entries {
-        if is_same(entry, other) {
-            return true;
-        }
-    }
-    false
+    entries.iter().any(|other| is_same(entry, other))
 }
 
 /// One of the entries has the name.
 pub(crate) fn has_name<A: Allocator>(entries: &[FolderEntry<A>], name: &[u8]) -> bool
     ensures { result ≡ has_name name.now entries.now }
 {
-    for entry in entries {
-        if name == entry.name() {
-            return true;
-        }
-    }
-    false
+    entries.iter().any(|entry| name == entry.name())
 }

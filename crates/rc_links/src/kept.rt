@@ -42,12 +42,8 @@ fn is_link_of<A: Allocator>(letter: u8, name: &[u8], entry: &FolderEntry<A>) -> 
 fn has_link_of<A: Allocator>(letter: u8, name: &[u8], folder: &Folder<A>) -> bool
     ensures { result ≡ list_any (is_link_of letter name.now) folder.now.held }
 {
-    for entry in folder.held() {
-        if is_link_of(letter, name, entry) {
-            return true;
-        }
-    }
-    false
+    let held = folder.held();
+    held.iter().any(|entry| is_link_of(letter, name, entry))
 }
 
 /// The runlevels of the folders that hold such a link.
@@ -83,13 +79,18 @@ fn kept_script<A: Allocator + Copy>(
 ) -> Result<Planned<A>, Memory>
     ensures { IfOk result (λ kept. kept ≡ kept_script folders.now script.now) }
 {
-    let starts = levels_in(alloc, b'S', script.name().as_bytes(), folders)?;
-    let stops = levels_in(alloc, b'K', script.name().as_bytes(), folders)?;
+    let starts = levels_in(alloc, b'S', script.name.as_bytes(), folders)?;
+    let stops = levels_in(alloc, b'K', script.name.as_bytes(), folders)?;
     if is_nowhere(starts.as_slice(), stops.as_slice()) {
         return Ok(script.copy(alloc)?);
     }
-    let name = String::from_str(alloc, script.name())?;
-    Ok(Planned::new(name, script.start(), script.stop(), starts, stops))
+    Ok(Planned {
+        name: String::from_str(alloc, script.name.as_str())?,
+        start: script.start,
+        stop: script.stop,
+        starts,
+        stops,
+    })
 }
 
 impl<A: Allocator + Copy> Plan<A> {
@@ -99,10 +100,10 @@ impl<A: Allocator + Copy> Plan<A> {
         ensures { IfOk result (λ plan. plan ≡ kept_plan folders.now self.now) }
     {
         let mut scripts = Vec::new(alloc);
-        for script in self.scripts() {
+        for script in &self.scripts {
             scripts.push(kept_script(alloc, folders, script)?)?;
         }
-        Ok(Plan::new(scripts))
+        Ok(Plan { scripts })
     }
 }
 

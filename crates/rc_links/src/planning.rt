@@ -1,11 +1,10 @@
 //! The number of each script, or why there is none.
 
-ghost use Rattle.std.specs.Prelude.{◌≡◌, ◌≤◌, ◌<◌, ◌++◌, ◌∷◌, [], IfOk, IfErr, IfSome, IfNone, None, OnOk, length, map, string_bytes};
+ghost use Rattle.std.specs.Prelude.{◌≡◌, ◌≤◌, ◌<◌, IfOk, IfErr, IfSome, IfNone, None, length, map, string_bytes};
 ghost use Rattle.std.specs.List.{AllByRecursion};
-ghost use Rattle.rc_numbers.specs.Numbering.{AllBelow, HasNoNumbering, IsCycle};
-ghost use Rattle.rc_links.specs.Faults.{IsAnyDeep, IsRound, IsTooDeep, Round, Says};
+ghost use Rattle.rc_numbers.specs.Numbering.{AllBelow};
+ghost use Rattle.rc_links.specs.Faults.{IsAnyDeep, IsRound, IsTooDeep, Says};
 ghost use Rattle.rc_links.specs.Plans.{AreLeast, IsPlan, IsRefused, IsShort, names_at, planned, planned_all};
-ghost use Rattle.rc_links.specs.Scripts.{double_from, needs_of};
 ghost use Rattle.rc_links.specs.Tables.{HasPlaces};
 
 use crate::faults::PlanFault;
@@ -20,19 +19,6 @@ use std::alloc::Allocator;
 /// The greatest number of a link.
 const NUMBER_LIMIT: usize = 99;
 
-/// Adds the name of a script.
-fn add_name<A: Allocator + Copy>(
-    alloc: A,
-    names: &mut Vec<String<A>, A>,
-    script: &Script<A>,
-) -> Result<(), Memory>
-    ensures { OnOk result (map string_bytes names.new.items ≡
-        map string_bytes names.old.items ++ script.now.name ∷ []) }
-{
-    names.push(String::from_str(alloc, script.name())?)?;
-    Ok(())
-}
-
 /// The names of the scripts at these places.
 fn names_at<A: Allocator + Copy>(
     alloc: A,
@@ -45,44 +31,9 @@ fn names_at<A: Allocator + Copy>(
 {
     let mut names = Vec::new(alloc);
     for place in places {
-        add_name(alloc, &mut names, &scripts[*place])?;
+        names.push(String::from_str(alloc, scripts[*place].name())?)?;
     }
     Ok(names)
-}
-
-/// The fault of a cycle of the scripts at these places.
-fn cycle_told<A: Allocator + Copy>(
-    alloc: A,
-    scripts: &[Script<A>],
-    places: &[usize],
-) -> PlanFault<A>
-    requires { AllBelow (length scripts.now) places.now }
-    ensures { Says (λ wrong. wrong ≡ Round (names_at scripts.now places.now)) result }
-{
-    match names_at(alloc, scripts, places) {
-        Ok(names) => PlanFault::Cycle(names),
-        Err(_) => PlanFault::Memory,
-    }
-}
-
-/// The least numbers of the scripts, or the places of a cycle.
-fn order_of<A: Allocator + Copy>(
-    alloc: A,
-    phase: Phase,
-    scripts: &[Script<A>],
-    table: &Providers<'_, A>,
-) -> Result<Result<Vec<usize, A>, Vec<usize, A>>, Memory>
-    requires { HasPlaces scripts.now table.now }
-    ensures least { IfOk result (λ order. IfOk order (λ ns. AreLeast phase scripts.now ns.items)) }
-    ensures below { IfOk result (λ order.
-        IfErr order (λ cycle. AllBelow (length scripts.now) cycle.items)) }
-    ensures cycle { IfOk result (λ order.
-        IfErr order (λ cycle. IsCycle (needs_of phase scripts.now) cycle.items)) }
-    ensures none { IfOk result (λ order.
-        IfErr order (λ _. HasNoNumbering (needs_of phase scripts.now))) }
-{
-    let edges = needs(alloc, phase, scripts, table)?;
-    ordered(alloc, scripts.len(), edges.as_slice())
 }
 
 /// The least numbers of the scripts, or the fault of a cycle.
@@ -96,9 +47,10 @@ fn numbered<A: Allocator + Copy>(
     ensures least { IfOk result (λ numbers. AreLeast phase scripts.now numbers.items) }
     ensures round { IfErr result (Says (IsRound phase scripts.now)) }
 {
-    match order_of(alloc, phase, scripts, table)? {
+    let edges = needs(alloc, phase, scripts, table)?;
+    match ordered(alloc, scripts.len(), edges.as_slice())? {
         Ok(numbers) => Ok(numbers),
-        Err(cycle) => Err(cycle_told(alloc, scripts, cycle.as_slice())),
+        Err(cycle) => Err(PlanFault::Cycle(names_at(alloc, scripts, cycle.as_slice())?)),
     }
 }
 
@@ -123,10 +75,13 @@ fn planned<A: Allocator + Copy>(
     ensures { IfOk result (λ s. s ≡ planned script.now start stop) }
 {
     let header = script.header();
-    let name = String::from_str(alloc, script.name())?;
-    let starts = Vec::from_slice(alloc, header.default_start())?;
-    let stops = Vec::from_slice(alloc, header.default_stop())?;
-    Ok(Planned::new(name, start, stop, starts, stops))
+    Ok(Planned {
+        name: String::from_str(alloc, script.name())?,
+        start,
+        stop,
+        starts: Vec::from_slice(alloc, header.default_start())?,
+        stops: Vec::from_slice(alloc, header.default_stop())?,
+    })
 }
 
 /// A script with these numbers, where they are not too great.
@@ -168,29 +123,15 @@ fn planned_all<A: Allocator + Copy>(
     Ok(plan)
 }
 
-/// Gives each script its least numbers, where no name is provided twice.
-fn plan_by<A: Allocator + Copy>(
-    alloc: A,
-    scripts: &[Script<A>],
-    table: &Providers<'_, A>,
-) -> Result<Plan<A>, PlanFault<A>>
-    requires places { HasPlaces scripts.now table.now }
-    requires single { double_from [] scripts.now ≡ None }
-    ensures planned { IfOk result (λ plan. IsPlan scripts.now plan) }
-    ensures refused { IfErr result (λ fault. IsRefused scripts.now fault) }
-{
-    check_missing(alloc, scripts, table)?;
-    let starts = numbered(alloc, Phase::Start, scripts, table)?;
-    let stops = numbered(alloc, Phase::Stop, scripts, table)?;
-    let plan = planned_all(alloc, scripts, starts.as_slice(), stops.as_slice())?;
-    Ok(Plan::new(plan))
-}
-
 /// Gives each script its least numbers, or says which check fails first.
 pub fn plan<A: Allocator + Copy>(alloc: A, scripts: &[Script<A>]) -> Result<Plan<A>, PlanFault<A>>
     ensures planned { IfOk result (λ plan. IsPlan scripts.now plan) }
     ensures refused { IfErr result (λ fault. IsRefused scripts.now fault) }
 {
     let table = table_of(alloc, scripts)?;
-    plan_by(alloc, scripts, &table)
+    check_missing(alloc, scripts, &table)?;
+    let starts = numbered(alloc, Phase::Start, scripts, &table)?;
+    let stops = numbered(alloc, Phase::Stop, scripts, &table)?;
+    let plan = planned_all(alloc, scripts, starts.as_slice(), stops.as_slice())?;
+    Ok(Plan { scripts: plan })
 }

@@ -57,8 +57,8 @@ fn stop_links<A: Allocator + Copy>(
 {
     let mut links = Vec::new(alloc);
     for script in scripts {
-        if has_level(script.stops(), level) {
-            links.push(link_of(alloc, b'K', script.stop(), script.name().as_bytes())?)?;
+        if has_level(script.stops.as_slice(), level) {
+            links.push(link_of(alloc, b'K', script.stop, script.name.as_bytes())?)?;
         }
     }
     Ok(links)
@@ -75,8 +75,8 @@ fn start_links<A: Allocator + Copy>(
 {
     let mut links = Vec::new(alloc);
     for script in scripts {
-        if has_level(script.starts(), level) {
-            links.push(link_of(alloc, b'S', script.start(), script.name().as_bytes())?)?;
+        if has_level(script.starts.as_slice(), level) {
+            links.push(link_of(alloc, b'S', script.start, script.name.as_bytes())?)?;
         }
     }
     Ok(links)
@@ -146,8 +146,14 @@ impl<A: Allocator + Copy> Plan<A> {
             map (λ link. link.items) links.items ≡ links_at self.now level) }
     {
         let mut links = Vec::new(alloc);
-        add_sorted(&mut links, stop_links(alloc, self.scripts(), level)?)?;
-        add_sorted(&mut links, start_links(alloc, self.scripts(), level)?)?;
+        add_sorted(
+            &mut links,
+            stop_links(alloc, self.scripts.as_slice(), level)?,
+        )?;
+        add_sorted(
+            &mut links,
+            start_links(alloc, self.scripts.as_slice(), level)?,
+        )?;
         Ok(links)
     }
 
@@ -157,8 +163,8 @@ impl<A: Allocator + Copy> Plan<A> {
             map (λ name. name.items) names.items ≡ map (λ s. s.name) self.now) }
     {
         let mut names = Vec::new(alloc);
-        for script in self.scripts() {
-            names.push(Vec::from_slice(alloc, script.name().as_bytes())?)?;
+        for script in &self.scripts {
+            names.push(Vec::from_slice(alloc, script.name.as_bytes())?)?;
         }
         Ok(names)
     }
