@@ -1,10 +1,11 @@
 -- Of a folder that holds the links of a plan just these are run.
-use Rattle.rc_runs.proofs.Words.{◌≡◌, ℕ, Bool, true, not, ◌&&◌, List, [], ◌∷◌, ◌++◌, refl, ap, ◌∙◌, arith, dedup, filter, byte, bytes_eq, in_byte_order-moves, one_order, is_link, is_skipped, is_started, rc_run, with_arg}
+use Rattle.rc_runs.proofs.Words.{◌≡◌, ℕ, Bool, true, not, List, [], ◌∷◌, ◌++◌, refl, sym, ap, ◌∙◌, arith, dedup, filter, byte, bytes_eq, in_byte_order-moves, one_order, is_link, is_skipped, is_started, rc_run, with_arg}
 use Rattle.std.proofs.lemmas.Bool.Decides.{nat_tests}
 use Rattle.std.proofs.lemmas.List.{append-nil}
 use Rattle.std.proofs.lemmas.List.Elements.{filter-append}
 use Rattle.std.proofs.lemmas.List.Sorted.{IsPermutation-append, IsPermutation-trans}
 use Rattle.init_words.specs.declared.levels.Level.{Level}
+use Rattle.init_words.proofs.Tests.{filter_both}
 use Rattle.rc_links.specs.Links.{in_byte_order, link_of, start_links, stop_links}
 use Rattle.rc_links.specs.Names.{is_name}
 use Rattle.rc_links.specs.PlannedText.{PlannedText}
@@ -35,11 +36,6 @@ starts-K : (level : Level) (plan : List PlannedText) → filter (is_link (byte "
 starts-K level [] = refl
 starts-K level (s ∷ plan) = grind (arith, starts-K level plan)
 
--- what is kept by two tests is kept by one and then by the other
-kept_twice : {X : Type 0} (p q : X → Bool) (xs : List X) → filter (λ x. p x && q x) xs ≡ filter q (filter p xs)
-kept_twice p q [] = refl
-kept_twice p q (x ∷ xs) = grind (arith, kept_twice p q xs)
-
 -- of a folder that holds the links of a plan, its own run is all that is run
 pub plans_run : (previous new : List (List ℕ)) → RunsPlans previous new (rc_run previous new)
 plans_run previous new plan level named moved =
@@ -54,5 +50,5 @@ plans_run previous new plan level named moved =
     ∙ (λ i. stops-S level plan i ++ starts-S level plan named i) in
     let stopped = kept (is_link (byte "K")) ∙ ap in_byte_order all-K in
     let started = kept (is_started previous new)
-    ∙ ap in_byte_order (kept_twice (is_link (byte "S")) fresh (stops ++ starts) ∙ ap (filter fresh) all-S) in
+    ∙ ap in_byte_order (sym (filter_both fresh (is_link (byte "S")) (stops ++ starts)) ∙ ap (filter fresh) all-S) in
     λ i. with_arg arg.Stop (dedup bytes_eq (stopped i)) ++ with_arg arg.Start (dedup bytes_eq (started i))
