@@ -1,6 +1,8 @@
 -- What the paths of scripts give.
-use Rattle.rclinks_command.proofs.Words.{◌≡◌, ◌⊎◌, inl, inr, ℕ, suc, Bool, true, List, [], ◌∷◌, ◌++◌, length, slice_get, unwrap_or, None, Some, refl, ap, sym, subst, ◌∙◌, append_assoc, arith, map, string_bytes, String, get_or, take, ◌+◌, ◌<◌, both_ways, map-append, KnownTexts, cut_at, ScriptText, HasRefused, AreScripts, IsNoScriptAt, IsScriptAt, file_status, Reads, ReadsOne, ReadsTo, FileFault}
-use Rattle.std.proofs.Common.{append-nil, Global}
+use Rattle.rclinks_command.proofs.Words.{◌≡◌, ◌⊎◌, inl, inr, ℕ, suc, Bool, true, List, [], ◌∷◌, ◌++◌, length, slice_get, unwrap_or, None, Some, refl, ap, sym, subst, ◌∙◌, append_assoc, arith, map, get_or, take, ◌+◌, ◌<◌, both_ways, map-append, KnownTexts, ScriptText, HasRefused, AreScripts, IsNoScriptAt, IsScriptAt, file_status, Reads, ReadsOne, ReadsTo, FileFault}
+use Rattle.std.proofs.Common.{append-nil}
+use Rattle.std.specs.Borrow.{Bor}
+use Rattle.std.proofs.lemmas.List.{take_more}
 use Rattle.std.proofs.lemmas.Option.{none-some}
 
 pub nil_is_no_cons : {X : Type 0} (x : X) (xs : List X) → [] ≡ x ∷ xs → ⊥
@@ -59,12 +61,12 @@ reads_push text_at paths path old new before after read one = elim one [
 ]
 
 -- the next word's path gives a script, or a fault
-pub reads_next : (text_at : KnownTexts) (words : List (String Global)) (n : ℕ) (word : String Global) (old new : List ScriptText) (before after : List FileFault)
-    → n < length words → word ≡ get_or words n word → Reads text_at (map string_bytes (take n words)) old before
-    → ReadsOne text_at (string_bytes word) old new before after → Reads text_at (map string_bytes (take (n + 1) words)) new after
-reads_next text_at words n word old new before after within is read one =
-    let next = ap (λ ws. map string_bytes ws) (cut_at words n word within is).1 ∙ map-append string_bytes (take n words) (word ∷ []) in
-    subst (λ ps. Reads text_at ps new after) (sym next) (reads_push text_at (map string_bytes (take n words)) (string_bytes word) old new before after read one)
+pub reads_next : (text_at : KnownTexts) (words : List (Bor (List ℕ))) (n : ℕ) (d : Bor (List ℕ)) (old new : List ScriptText) (before after : List FileFault)
+    → n < length words → Reads text_at (map (λ w. w.now) (take n words)) old before
+    → ReadsOne text_at (get_or words n d).now old new before after → Reads text_at (map (λ w. w.now) (take (n + 1) words)) new after
+reads_next text_at words n d old new before after within read one =
+    let next = ap (map (λ (w : Bor (List ℕ)). w.now)) (take_more words n d within) ∙ map-append (λ w. w.now) (take n words) (get_or words n d ∷ []) in
+    subst (λ ps. Reads text_at ps new after) (sym next) (reads_push text_at (map (λ w. w.now) (take n words)) (get_or words n d).now old new before after read one)
 
 -- the first fault refuses a run for its file
 pub refused_first : (text_at : KnownTexts) (paths read later : List (List ℕ)) (scripts : List ScriptText) (faults more : List FileFault) (found : FileFault)

@@ -1,6 +1,7 @@
 -- Lines that a writer gained, one after the other.
-use Rattle.rclinks_command.proofs.Words.{◌≡◌, inl, inr, ℕ, ◌+◌, ◌<◌, Bool, true, false, not, ◌&&◌, List, [], ◌∷◌, ◌++◌, Option, String, refl, sym, ap, ◌∙◌, subst, arith, length, get_or, take, drop, map, string_bytes, codes, map-append, take-append-drop, KnownTexts, cut_at, ScriptText, true≢false, Reads, has_faults, file_status, Gains, ReportsFile, ReportsPlan, ReportsWhy, TellsFiles, TellsLines, TellsOne, Warns, FileFault}
-use Rattle.std.proofs.Common.{Global}
+use Rattle.rclinks_command.proofs.Words.{◌≡◌, inl, inr, ℕ, ◌+◌, ◌<◌, Bool, true, false, not, ◌&&◌, List, [], ◌∷◌, ◌++◌, Option, refl, sym, ap, ◌∙◌, subst, arith, length, get_or, take, drop, map, codes, map-append, take-append-drop, KnownTexts, ScriptText, true≢false, Reads, has_faults, file_status, Gains, ReportsFile, ReportsPlan, ReportsWhy, TellsFiles, TellsLines, TellsOne, Warns, FileFault}
+use Rattle.std.specs.Borrow.{Bor}
+use Rattle.std.proofs.lemmas.List.{drop_more}
 use Rattle.program_io.specs.Writing.{AppendsPrefix}
 use Rattle.rclinks_command.specs.Reports.{line_of}
 use Rattle.rclinks_command.proofs.ReadingLemmas.{all_scripts, nil_is_no_cons}
@@ -25,25 +26,25 @@ pub warned_why : (word rest : List ℕ) (old mid new : Option (List ℕ)) → Wa
 warned_why word rest old mid new first then = (then.0, tells-then (codes "warning: ") old mid then.0 first then.1, then.2)
 
 -- the file behind those that give scripts is refused, which is told
-pub told_file : (text_at : KnownTexts) (words : List (String Global)) (n : ℕ) (word : String Global) (scripts : List ScriptText) (before after : List FileFault) (a b c : Option (List ℕ))
-    → n < length words → word ≡ get_or words n word → Reads text_at (map string_bytes (take n words)) scripts before → (before ≡ []) × Warns a b
-    → TellsOne text_at (string_bytes word) before after b c → (after ≡ [] → ⊥) → TellsFiles text_at (map string_bytes words) after a c
-told_file text_at words n word scripts before after a b c within is read so_far one some = elim one [
+pub told_file : (text_at : KnownTexts) (words : List (Bor (List ℕ))) (n : ℕ) (d : Bor (List ℕ)) (scripts : List ScriptText) (before after : List FileFault) (a b c : Option (List ℕ))
+    → n < length words → Reads text_at (map (λ w. w.now) (take n words)) scripts before → (before ≡ []) × Warns a b
+    → TellsOne text_at (get_or words n d).now before after b c → (after ≡ [] → ⊥) → TellsFiles text_at (map (λ w. w.now) words) after a c
+told_file text_at words n d scripts before after a b c within read so_far one some = elim one [
   | inl good ↦ absurd (some (good.0 ∙ so_far.0))
   | inr bad ↦ inr (
     bad.0,
     bad.1 ∙ ap (λ fs. fs ++ bad.0 ∷ []) so_far.0,
     λ status. (
-      map string_bytes (take n words),
-      map string_bytes (drop (n + 1) words),
-      string_bytes word,
-      sym (ap (map string_bytes) (take-append-drop n words)) ∙ map-append string_bytes (take n words) (drop n words)
-          ∙ ap (λ ws. map string_bytes (take n words) ++ map string_bytes ws) (cut_at words n word within is).0,
-      (scripts, all_scripts text_at (map string_bytes (take n words)) scripts (subst (λ fs. Reads text_at (map string_bytes (take n words)) scripts fs) so_far.0 read)),
+      map (λ w. w.now) (take n words),
+      map (λ w. w.now) (drop (n + 1) words),
+      (get_or words n d).now,
+      sym (ap (map (λ (w : Bor (List ℕ)). w.now)) (take-append-drop n words)) ∙ map-append (λ w. w.now) (take n words) (drop n words)
+          ∙ ap (λ ws. map (λ w. w.now) (take n words) ++ map (λ w. w.now) ws) (drop_more words n d within),
+      (scripts, all_scripts text_at (map (λ w. w.now) (take n words)) scripts (subst (λ fs. Reads text_at (map (λ w. w.now) (take n words)) scripts fs) so_far.0 read)),
       bad.0,
       bad.2,
       status,
-      warned_why (codes "bad header: ") (string_bytes word) a b c so_far.1 (bad.3 status),
+      warned_why (codes "bad header: ") (get_or words n d).now a b c so_far.1 (bad.3 status),
     ),
   )
 ]

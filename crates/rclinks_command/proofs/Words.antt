@@ -1,12 +1,12 @@
 -- The words of the proofs of this crate.
-pub use Rattle.std.proofs.Common.{◌≡◌, refl, true, ◌≢◌, inl, inr, ℕ, zero, suc, ◌+◌, ◌<◌, Bool, false, ◌&&◌, sym, List, [], ◌∷◌, length, drop, get_or, arith, add-one, drop-cons, ◌⊎◌, ◌++◌, slice_get, unwrap_or, None, Some, ap, subst, ◌∙◌, append_assoc, map, string_bytes, String, take, not, Option, codes, ◌||◌, cond, flat_map, option_map, IfSome, ◌-◌, ◌≤◌, rules}
+pub use Rattle.std.proofs.Common.{◌≡◌, refl, true, ◌≢◌, inl, inr, ℕ, suc, ◌+◌, ◌<◌, Bool, false, ◌&&◌, sym, List, [], ◌∷◌, length, drop, get_or, arith, ◌⊎◌, ◌++◌, slice_get, unwrap_or, None, Some, ap, subst, ◌∙◌, append_assoc, map, string_bytes, take, not, Option, codes, ◌||◌, cond, flat_map, option_map, IfSome, rules}
 pub use Rattle.clap.specs.Words.{is_simple_and_free, found_of, rows_of}
 pub use Rattle.rclinks_command.specs.Command.{command_line, HasRefused, Line, TellsRefused, goes_on, line_with, HasNoPlan, asked_by, writes_by}
-pub use Rattle.std.specs.List.{list_all, list_any, AllByRecursion, filter}
-pub use Rattle.std.specs.Str.{IsAscii, IsUtf8, bytes_eq}
-pub use Rattle.std.proofs.lemmas.Bool.{true≢false, both_ways, and_left, and_parts, or_left, or_right, or_parts}
+pub use Rattle.std.specs.List.{list_any, AllByRecursion, filter}
+pub use Rattle.std.specs.Str.{bytes_eq}
+pub use Rattle.std.proofs.lemmas.Bool.{true≢false, both_ways, and_left, or_left, or_right, or_parts}
 pub use Rattle.rclinks_command.specs.Files.{is_slash, last_part, AreScripts, IsNoScriptAt, IsScriptAt, file_status}
-pub use Rattle.std.proofs.lemmas.List.{map-append, take-append-drop, take_rest}
+pub use Rattle.std.proofs.lemmas.List.{map-append, take-append-drop}
 pub use Rattle.program_io.specs.Known.{KnownTexts}
 pub use Rattle.rc_links.proofs.NameLemmas.{cut_at}
 pub use Rattle.rc_links.specs.ScriptText.{ScriptText}
@@ -18,7 +18,6 @@ pub use Rattle.rc_links.specs.ChangeText.{ChangeText}
 pub use Rattle.rc_links.specs.Changes.{changes_of, is_in_way, is_left_over, is_missing, is_stale, making, removal, settled, targets_of, is_taken}
 pub use Rattle.rc_links.specs.EntryText.{EntryText}
 pub use Rattle.rc_links.specs.PlannedText.{PlannedText}
-pub use Rattle.rclinks_command.specs.Writing.{AreFolders, IsFolder, all_levels, changes_in, planned_at, settled_in, IsWritten, Wants, gone_at, link_entry, target_of, targets_in, has_taken, changes_text}
+pub use Rattle.rclinks_command.specs.Writing.{AreFolders, IsFolder, all_levels, changes_in, planned_at, settled_in, InFolders, IsTaken, IsWritten, Wants, gone_at, link_entry, target_of, targets_in, has_taken, changes_text}
 pub use Rattle.rc_links.specs.Plans.{IsRefused, IsPlan}
-pub use Rattle.rclinks_command.specs.Skipping.{IsFaultAt, LeavesSome, is_provided}
-pub use Rattle.rc_links.specs.Scripts.{has_script}
+pub use Rattle.rclinks_command.specs.Skipping.{IsFaultAt, LeavesSome}

@@ -1,5 +1,5 @@
 -- Changes, one more on, and the folders behind all of them.
-use Rattle.rclinks_command.proofs.Words.{◌≡◌, ℕ, Bool, ◌+◌, ◌<◌, List, [], ◌∷◌, ◌++◌, length, get_or, drop, take, map, Some, sym, ap, ◌∙◌, append_assoc, cut_at, ChangeText, PlannedText, Becomes, KnownFolders, KnownScripts, changed_by, changed_in, IsWritten, Wants}
+use Rattle.rclinks_command.proofs.Words.{◌≡◌, ℕ, Bool, true, false, ◌+◌, ◌<◌, List, [], ◌∷◌, ◌++◌, length, get_or, drop, take, map, Some, sym, ap, ◌∙◌, append_assoc, cut_at, ChangeText, PlannedText, Becomes, KnownFolders, KnownScripts, changed_by, changed_in, InFolders, IsWritten, Wants}
 use Rattle.rclinks_command.proofs.SettledLemmas.{changed_by-append, settles}
 
 -- what one more of a list gives by two steps, and those after it
@@ -16,6 +16,12 @@ pub changed-next : (old before after : KnownFolders) (dir : List ℕ) (changes :
 changed-next old before after dir changes place c within at so_far one = λ other level es is.
     one other level (changed_by dir (take place changes) other level es) (so_far other level es is)
     ∙ ap Some (sym (ap (λ cs. changed_by dir cs other level es) (cut_at changes place c within at).1 ∙ changed_by-append dir (take place changes) (c ∷ []) other level es))
+
+-- what is so of a plan in folders has what follows from it
+pub in_folders : (keeps : Bool) (known : KnownFolders) (dir : List ℕ) (plan : List PlannedText) (P Q : List PlannedText → Type 0)
+    → ((p : List PlannedText) → P p → Q p) → InFolders keeps known dir plan P → InFolders keeps known dir plan Q
+in_folders false known dir plan P Q follows holds = follows plan holds
+in_folders true known dir plan P Q follows (folders, are, holds) = (folders, are, follows _ holds)
 
 -- all changes that a plan's folders want were made
 pub written : (known after : KnownFolders) (scripts : KnownScripts) (prunes : Bool) (dir : List ℕ) (plan : List PlannedText) (changes : List ChangeText)

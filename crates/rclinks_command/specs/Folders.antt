@@ -1,11 +1,10 @@
 -- What the folders of the runlevels hold, as far as it is known, and what they hold behind changes.
-use Rattle.std.specs.Prelude.{◌≡◌, ℕ, ◌&&◌, if◌then◌else◌, List, [], ◌∷◌, Option, Some}
+use Rattle.std.specs.Prelude.{◌≡◌, ℕ, if◌then◌else◌, List, [], ◌∷◌, Option, Some}
 use Rattle.std.specs.Str.{bytes_eq}
 use Rattle.init_words.specs.declared.levels.Level.{Level}
-use Rattle.init_words.specs.Levels.{same_level}
 use Rattle.rc_links.specs.ChangeText.{ChangeText}
 use Rattle.rc_links.specs.EntryText.{EntryText}
-use Rattle.rc_links.specs.Mending.{changed}
+use Rattle.rc_links.specs.Mending.{held_behind}
 
 -- the entries of each runlevel's folder in each directory, where they are known
 abbrev pub KnownFolders : Type 0
@@ -24,12 +23,10 @@ Becomes old new f =
 abbrev pub Stays : KnownFolders → KnownFolders → Type 0
 Stays old new = Becomes old new (λ dir level es. es)
 
+-- the changes, one after the other, in the folders of a directory alone
+abbrev pub changed_by : List ℕ → List ChangeText → List ℕ → Level → List EntryText → List EntryText
+changed_by dir changes other level es = if bytes_eq dir other then held_behind changes level es else es
+
 -- a change of a folder in a directory changes that folder alone
 abbrev pub changed_in : List ℕ → ChangeText → List ℕ → Level → List EntryText → List EntryText
-changed_in dir c other level es =
-    if bytes_eq dir other && same_level c.level level then changed c.act c.entry es else es
-
--- the changes, one after the other
-abbrev pub changed_by : List ℕ → List ChangeText → List ℕ → Level → List EntryText → List EntryText
-changed_by dir [] other level es = es
-changed_by dir (c ∷ changes) other level es = changed_by dir changes other level (changed_in dir c other level es)
+changed_in dir c other level es = changed_by dir (c ∷ []) other level es

@@ -1,5 +1,5 @@
 -- What the words of a command line say.
-use Rattle.std.specs.Prelude.{map, string_bytes}
+use Rattle.std.specs.Prelude.{map}
 use Rattle.std.specs.Option.{option_map}
 use Rattle.rclinks_command.specs.Command as command
 use Rattle.rclinks_command.specs.declared.command.Line.{Line}
@@ -14,5 +14,5 @@ line_said line = record {
   keeps = line.keeps;
   prunes = line.prunes;
   dir = option_map (λ dir. dir.now) line.dir;
-  files = map string_bytes line.files.now;
+  files = map (λ file. file.now) line.files.now;
 }

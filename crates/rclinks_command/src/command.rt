@@ -1,39 +1,37 @@
 //! The command line of rclinks, and what it prints.
 
-ghost use Rattle.std.specs.Prelude.{◌≡◌, ◌⊎◌, true, false, codes, map, string_bytes, IfOk, IfErr, OnOk, IsSome, Some, None};
+ghost use Rattle.std.specs.Prelude.{◌≡◌, ◌⊎◌, true, false, codes, map, string_bytes, IfOk, IfErr, OnOk, Some, None};
 ghost use Rattle.std.specs.Io.KnownBytes.{Appends};
 ghost use Rattle.clap.specs.Words.{found_of, rows_of};
 ghost use Rattle.program_io.specs.Writing.{AppendsPrefix};
-ghost use Rattle.command_words.specs.CommandLines.{asks_version, given_by};
-ghost use Rattle.command_words.specs.Faults.{ReportsUsage, reason_of};
+ghost use Rattle.command_words.specs.CommandLines.{asks_version};
+ghost use Rattle.command_words.specs.Faults.{ReportsUsage};
 ghost use Rattle.command_words.specs.VersionLine.{PrintsVersion};
 ghost use Rattle.rc_links.specs.AllLast.{with_all};
 ghost use Rattle.rc_links.specs.Links.{plan_text};
 ghost use Rattle.rc_links.specs.Plans.{IsPlan};
 ghost use Rattle.rclinks_command.specs.Said.{line_said};
-ghost use Rattle.rclinks_command.specs.Command.{goes_on, Does, DoesBy, DoesIn, DoesPart, HasNoPlan, IsRefusedBy, IsRefusedFor, PartBy, PartIn, Says, ScriptsOf, TakenBy, TellsRefused, asked_by, command_line, line_with, rclinks_read_of, writes, writes_by};
+ghost use Rattle.rclinks_command.specs.Command.{goes_on, Does, DoesBy, DoesPart, HasNoPlan, IsRefusedBy, IsRefusedFor, PartBy, Says, ScriptsOf, TakenBy, TellsRefused, asked_by, line_with, rclinks_read_of, writes, writes_by};
 ghost use Rattle.rclinks_command.specs.Files.{file_status};
 ghost use Rattle.rclinks_command.specs.Reports.{ReportsPlan, ReportsRefused};
 ghost use Rattle.rclinks_command.specs.Skipping.{LeavesSome};
-ghost use Rattle.rclinks_command.specs.Writing.{IsTaken};
 
 use crate::facilities::files_with;
 use crate::files::FileFault;
 use crate::folders::LinkFolders;
-use crate::planned::{kept_in, report_unlisted};
+use crate::planned::report_unlisted;
 use crate::reading::read_files;
 use crate::skipping::{plan_rest, report_first, status_of};
 use crate::telling::warn_of_names;
 use crate::writing::{changes_for, changes_text, make_changes};
 use clap::ArgMatches;
 use command_words::{
-    Row, WordFault, is_set, is_version, print_version, read_line, report_word_fault, word_of,
-    words_of,
+    Row, is_set, is_version, print_version, read_line, report_word_fault, word_of, words_of,
 };
 use init_words::Memory;
 use program_io::{DEVICE_FAULT, DONE, REFUSED, Texts, report_no_memory, write_text};
 use rc_links::{Plan, PlanFault, Script, add_all, plan};
-use std::alloc::{AllocError, Global};
+use std::alloc::Global;
 use std::io::Write;
 
 /// What is told where help is asked for.
@@ -62,7 +60,7 @@ pub const SHORT_USAGE: &str = "usage: rclinks [OPTION].. FILE.. | --help\n";
 
 /// What words ask for.
 #[derive(Clone, Copy)]
-struct Line<'w> {
+struct Line<'f, 'w> {
     /// All faults are told, and not the first alone.
     all: bool,
     /// A script that can't be read or planned is left out.
@@ -80,10 +78,10 @@ struct Line<'w> {
     /// The directory of the folders that are written.
     dir: Option<&'w str>,
     /// The paths of the scripts.
-    files: &'w [String],
+    files: &'f [&'w str],
 }
 
-impl<'w> Line<'w> {
+impl<'f, 'w> Line<'f, 'w> {
     /// A fault doesn't end the run.
     fn goes_on(&self) -> bool
         ensures { result ≡ goes_on (line_said self.now) }
@@ -105,21 +103,10 @@ const OPTIONS: &[Row] = &[
     ("FILE", "..", ""),
 ];
 
-/// What words give the rows of the table.
-#[tactic(auto, using(crate::proofs::FreeLine::is_free_line))]
-fn matched(alloc: Global, words: &[String]) -> Result<ArgMatches<'_>, WordFault>
-    ensures ok { IfOk result (λ found. given_by command_line (map string_bytes words.now)
-        ≡ Some (rows_of (found_of found))) }
-    ensures usage { IfErr result (λ fault. IsSome (reason_of fault)
-        → given_by command_line (map string_bytes words.now) ≡ None) }
-{
-    read_line(alloc, "rclinks", OPTIONS, words)
-}
-
 /// What is asked for, over these files.
-fn line_of<'w>(matches: &'w ArgMatches, files: &'w [String]) -> Line<'w>
-    ensures { line_said result ≡ record (asked_by (rows_of (found_of matches.entry.now)))
-        { files = map string_bytes files.entry.now } }
+fn line_of<'f, 'w>(matches: &ArgMatches<'w>, files: &'f [&'w str]) -> Line<'f, 'w>
+    ensures { line_said result ≡ record (asked_by (rows_of (found_of matches.now)))
+        { files = map (λ file. file.now) files.entry.now } }
 {
     Line {
         all: is_set(matches, "--all"),
@@ -135,12 +122,12 @@ fn line_of<'w>(matches: &'w ArgMatches, files: &'w [String]) -> Line<'w>
 }
 
 /// The files that are read, with the facility files in front where those are taken.
-fn files_of(
+fn files_of<'w>(
     alloc: Global,
-    facilities: &[String],
-    matches: &ArgMatches,
-) -> Result<Vec<String>, AllocError>
-    ensures { IfOk result (λ files. map string_bytes files.items
+    facilities: &'w [String],
+    matches: &ArgMatches<'w>,
+) -> Result<Vec<&'w str>, Memory>
+    ensures { IfOk result (λ files. map (λ file. file.now) files.items
         ≡ (line_with (map string_bytes facilities.now)
         (asked_by (rows_of (found_of matches.now)))).files) }
 {
@@ -283,12 +270,12 @@ fn plan_of<T: Texts, E: Write>(
     err: &mut E,
 ) -> Result<Plan, u8>
     ensures planned { IfOk result (λ plan. ScriptsOf (T.text_at texts.now) line.now.skips
-        line.now.last (map string_bytes line.now.files.now) (λ scripts. IsPlan scripts plan)) }
+        line.now.last (map (λ file. file.now) line.now.files.now) (λ scripts. IsPlan scripts plan)) }
     ensures refused { IfErr result (λ status. (status ≡ DEVICE_FAULT)
         ⊎ (status ≡ REFUSED) × IsRefusedFor (T.text_at texts.now) line.now.skips line.now.last
-        (map string_bytes line.now.files.now)) }
+        (map (λ file. file.now) line.now.files.now)) }
     ensures told { goes_on (line_said line.now) ≡ false → IfErr result (λ status. status ≡ REFUSED
-        → ReportsRefused (T.text_at texts.now) line.now.last (map string_bytes line.now.files.now)
+        → ReportsRefused (T.text_at texts.now) line.now.last (map (λ file. file.now) line.now.files.now)
         (E.contents err.old) (E.contents err.new)) }
 {
     let mut scripts = Vec::new(alloc);
@@ -318,35 +305,38 @@ fn plan_of<T: Texts, E: Write>(
     }
 }
 
-/// Makes the folders of a directory hold a plan's links, or prints the changes, and gives the exit status.
-fn do_in<F: LinkFolders, W: Write, E: Write>(
+/// Does by a plan what words ask for, and gives the exit status.
+fn do_by<F: LinkFolders, W: Write, E: Write>(
     folders: &mut F,
     alloc: Global,
-    dir: &str,
-    dry: bool,
-    prunes: bool,
-    plan: &Plan,
+    line: &Line,
+    plan: Plan,
     out: &mut W,
     err: &mut E,
 ) -> u8
     ensures statuses { (result ≡ DONE) ⊎ (result ≡ REFUSED) ⊎ (result ≡ DEVICE_FAULT) }
-    ensures done { result ≡ DONE → DoesIn dry prunes (F.scripts_in folders.old)
-        (F.held folders.old) dir.now (F.held folders.new) (W.contents out.old) (W.contents out.new)
-        plan.now }
-    ensures refused { result ≡ REFUSED → IsTaken (F.held folders.old) (F.scripts_in folders.old)
-        prunes dir.now plan.now × (out.new ≡ out.old) × (folders.new ≡ folders.old) }
-    ensures kept { dry ≡ true → folders.new ≡ folders.old }
-    ensures silent { dry ≡ false → out.new ≡ out.old }
+    ensures done { result ≡ DONE → DoesBy (line_said line.now).dir (line_said line.now)
+        (F.scripts_in folders.old) (F.held folders.old) (F.held folders.new)
+        (W.contents out.old) (W.contents out.new) plan }
+    ensures refused { result ≡ REFUSED → TakenBy (line_said line.now).dir (line_said line.now)
+        (F.scripts_in folders.old) (F.held folders.old) plan
+        × (out.new ≡ out.old) × (folders.new ≡ folders.old) }
+    ensures kept { writes (line_said line.now) ≡ false → folders.new ≡ folders.old }
+    ensures silent { writes (line_said line.now) ≡ true → out.new ≡ out.old }
     ensures part { (out.new ≡ out.old) × (folders.new ≡ folders.old)
-        ⊎ PartIn dry prunes (F.scripts_in folders.old) (F.held folders.old) dir.now
-        (F.held folders.new) (W.contents out.old) (W.contents out.new) plan.now }
+        ⊎ PartBy (line_said line.now).dir (line_said line.now) (F.scripts_in folders.old)
+        (F.held folders.old) (F.held folders.new) (W.contents out.old) (W.contents out.new)
+        plan }
 {
-    let found = match changes_for(folders, alloc, dir, prunes, plan, err) {
+    let Some(dir) = line.dir else {
+        return print_links(alloc, &plan, out, err);
+    };
+    let found = match changes_for(folders, alloc, dir, line.keeps, line.prunes, plan, err) {
         Ok(Some(found)) => found,
         Ok(None) => return REFUSED,
         Err(fault) => return report_unlisted(dir, &fault, err),
     };
-    if !dry {
+    if !line.dry {
         return make_changes(folders, alloc, dir, found.as_slice(), err);
     }
     match changes_text(alloc, found.as_slice()) {
@@ -355,48 +345,13 @@ fn do_in<F: LinkFolders, W: Write, E: Write>(
     }
 }
 
-/// Does by a plan what words ask for, and gives the exit status.
-fn do_by<F: LinkFolders, W: Write, E: Write>(
-    folders: &mut F,
-    alloc: Global,
-    line: &Line,
-    plan: &Plan,
-    out: &mut W,
-    err: &mut E,
-) -> u8
-    ensures statuses { (result ≡ DONE) ⊎ (result ≡ REFUSED) ⊎ (result ≡ DEVICE_FAULT) }
-    ensures done { result ≡ DONE → DoesBy (line_said line.now).dir (line_said line.now)
-        (F.scripts_in folders.old) (F.held folders.old) (F.held folders.new)
-        (W.contents out.old) (W.contents out.new) plan.now }
-    ensures refused { result ≡ REFUSED → TakenBy (line_said line.now).dir (line_said line.now)
-        (F.scripts_in folders.old) (F.held folders.old) plan.now
-        × (out.new ≡ out.old) × (folders.new ≡ folders.old) }
-    ensures kept { writes (line_said line.now) ≡ false → folders.new ≡ folders.old }
-    ensures silent { writes (line_said line.now) ≡ true → out.new ≡ out.old }
-    ensures part { (out.new ≡ out.old) × (folders.new ≡ folders.old)
-        ⊎ PartBy (line_said line.now).dir (line_said line.now) (F.scripts_in folders.old)
-        (F.held folders.old) (F.held folders.new) (W.contents out.old) (W.contents out.new)
-        plan.now }
-{
-    let Some(dir) = line.dir else {
-        return print_links(alloc, plan, out, err);
-    };
-    if !line.keeps {
-        return do_in(folders, alloc, dir, line.dry, line.prunes, plan, out, err);
-    }
-    match kept_in(folders, alloc, dir, plan) {
-        Ok(kept) => do_in(folders, alloc, dir, line.dry, line.prunes, &kept, out, err),
-        Err(fault) => report_unlisted(dir, &fault, err),
-    }
-}
-
 /// Runs rclinks on what words give, with facility files, and gives its exit status.
-fn run_matches<T: Texts, F: LinkFolders, W: Write, E: Write>(
+fn run_matches<'w, T: Texts, F: LinkFolders, W: Write, E: Write>(
     texts: &T,
     folders: &mut F,
     alloc: Global,
-    facilities: &[String],
-    matches: &ArgMatches,
+    facilities: &'w [String],
+    matches: &ArgMatches<'w>,
     out: &mut W,
     err: &mut E,
 ) -> u8
@@ -428,7 +383,7 @@ fn run_matches<T: Texts, F: LinkFolders, W: Write, E: Write>(
     };
     let line = line_of(matches, files.as_slice());
     match plan_of(texts, alloc, &line, err) {
-        Ok(plan) => do_by(folders, alloc, &line, &plan, out, err),
+        Ok(plan) => do_by(folders, alloc, &line, plan, out, err),
         Err(status) => status,
     }
 }
@@ -445,12 +400,13 @@ fn run_matches<T: Texts, F: LinkFolders, W: Write, E: Write>(
 /// away whose script `init.d` of the directory hasn't. With `--write`, and without `--no-facilities`, the facility
 /// files are read in front of the scripts, but for those whose name a script has. What is odd in a header is told on
 /// `err` too, whatever the status.
-pub fn run_words<T: Texts, F: LinkFolders, W: Write, E: Write>(
+#[tactic(auto, using(crate::proofs::FreeLine::is_free_line))]
+pub fn run_words<'w, T: Texts, F: LinkFolders, W: Write, E: Write>(
     texts: &T,
     folders: &mut F,
     alloc: Global,
-    facilities: &[String],
-    words: &[String],
+    facilities: &'w [String],
+    words: &'w [String],
     out: &mut W,
     err: &mut E,
 ) -> u8
@@ -493,7 +449,7 @@ pub fn run_words<T: Texts, F: LinkFolders, W: Write, E: Write>(
     if is_version(words) {
         return print_version("rclinks", out, err);
     }
-    match matched(alloc, words) {
+    match read_line(alloc, "rclinks", OPTIONS, words) {
         Ok(matches) => run_matches(texts, folders, alloc, facilities, &matches, out, err),
         Err(fault) => report_word_fault("rclinks", &fault, USAGE, SHORT_USAGE, err),
     }

@@ -1,6 +1,6 @@
 //! The scripts and facility files that paths lead to.
 
-ghost use Rattle.std.specs.Prelude.{◌≡◌, true, false, None, Err, IfOk, IfErr, IfSome, codes, string_bytes};
+ghost use Rattle.std.specs.Prelude.{◌≡◌, true, false, None, Err, IfOk, IfErr, IfSome, codes};
 ghost use Rattle.rc_header.specs.Headers.{frame_fault};
 ghost use Rattle.rc_links.specs.Names.{is_name};
 ghost use Rattle.rclinks_command.specs.Files.{IsNoScript, IsNoScriptAt, IsScriptAt, IsScriptOf, file_status, last_part, refusal_of};
@@ -8,11 +8,10 @@ ghost use Rattle.rclinks_command.specs.Reports.{ReportsWhy, TellsWhy, Warns};
 
 use crate::lines::tell_why;
 use crate::remarks::{behind_end, warn_of_lines};
-use init_words::Memory;
 use program_io::{DEVICE_FAULT, REFUSED, Reason, Texts};
 use rc_header::{HeaderFault, second_keyword_line};
 use rc_links::{Script, is_name};
-use std::alloc::Global;
+use std::alloc::{AllocError, Global};
 use std::io::Write;
 use std::{fmt, io};
 use thiserror::Error;
@@ -47,17 +46,6 @@ impl fmt::Display for LineWords {
     }
 }
 
-impl From<Memory> for FileFault {
-    ghost use Rattle.std.specs.Prelude.{◌≡◌};
-    ghost use Rattle.rclinks_command.specs.declared.files.FileFault.TheVariants as fault;
-
-    ghost from_gives = { λ _ given. given ≡ fault.Memory };
-
-    fn from(_error: Memory) -> FileFault {
-        FileFault::Memory
-    }
-}
-
 impl FileFault {
     /// The exit status.
     pub fn status(&self) -> u8
@@ -71,24 +59,12 @@ impl FileFault {
 }
 
 /// The text after the last `/` of a path, or the whole path where it has none.
-pub(crate) fn last_part(path: &[u8]) -> &[u8]
+pub(crate) fn last_part(path: &str) -> &str
     ensures { result.now ≡ last_part path.now }
 {
-    let mut start = path.len();
-    while start > 0 && path[start - 1] != b'/' {
-        start -= 1;
-    }
-    &path[start..]
-}
-
-/// A string of a name that a link may have.
-fn name_of(alloc: Global, name: &[u8]) -> Result<String, Memory>
-    requires { is_name name.now ≡ true }
-    ensures { IfOk result (λ text. string_bytes text ≡ name.now) }
-{
-    match String::from_utf8(Vec::from_slice(alloc, name)?) {
-        Ok(text) => Ok(text),
-        Err(_) => unreachable!(),
+    match path.rsplit_once('/') {
+        Some((_, last)) => last,
+        None => path,
     }
 }
 
@@ -105,7 +81,7 @@ fn refusal_of(text: &[u8], fault: HeaderFault) -> FileFault
 
 /// The script of a file with this name and text, or the first fault: a name that no link may have, and then what is
 /// wrong with the header.
-pub fn script_in(alloc: Global, name: &[u8], text: &[u8]) -> Result<Script, FileFault>
+pub fn script_in(alloc: Global, name: &str, text: &[u8]) -> Result<Script, FileFault>
     ensures script { IfOk result (IsScriptOf name.now text.now) }
     ensures fault { IfErr result (IsNoScript name.now text.now) }
     // A name that no link may have, and a header without its first or its last line, take no memory to refuse.
@@ -113,11 +89,14 @@ pub fn script_in(alloc: Global, name: &[u8], text: &[u8]) -> Result<Script, File
     ensures frame { is_name name.now ≡ true → IfSome (frame_fault text.now) (λ fault.
         result ≡ Err (refusal_of text.now fault)) }
 {
-    if !is_name(name) {
+    if !is_name(name.as_bytes()) {
         return Err(FileFault::Name);
     }
     match rc_header::read(alloc, text) {
-        Ok(header) => Ok(Script::new(name_of(alloc, name)?, header)),
+        Ok(header) => match String::from_str(alloc, name) {
+            Ok(name) => Ok(Script::new(name, header)),
+            Err(AllocError) => Err(FileFault::Memory),
+        },
         Err(fault) => Err(refusal_of(text, fault)),
     }
 }
@@ -184,7 +163,7 @@ pub(crate) fn script_of<T: Texts, E: Write>(
     match texts.read_file(alloc, path) {
         Ok(text) => {
             warn_of_lines(alloc, path, text.as_slice(), err);
-            match script_in(alloc, last_part(path.as_bytes()), text.as_slice()) {
+            match script_in(alloc, last_part(path), text.as_slice()) {
                 Ok(script) => Ok(script),
                 Err(fault) => {
                     tell_refusal(alloc, path, text.as_slice(), &fault, skips, err);

@@ -42,19 +42,7 @@ pub trait LinkFolders {
 }
 
 /// The folders of the operating system. Nothing is known of what they hold.
-#[derive(Drop)]
-pub struct OsFolders<'r, R> {
-    rt: &'r R,
-}
-
-impl<'r, R: Files + Alloc + Clone + Drop> OsFolders<'r, R> {
-    /// The folders that this system has.
-    pub fn new(rt: &'r R) -> OsFolders<'r, R> {
-        OsFolders { rt }
-    }
-}
-
-impl<'r, R: Files + Alloc + Clone + Drop> LinkFolders for OsFolders<'r, R> {
+impl<R: Files + Alloc + Clone + Drop> LinkFolders for R {
     ghost use Rattle.std.specs.Prelude.{None};
 
     ghost held = { λ _ _ _. None };
@@ -63,16 +51,16 @@ impl<'r, R: Files + Alloc + Clone + Drop> LinkFolders for OsFolders<'r, R> {
 
     fn entries(&self, alloc: Global, dir: &str, level: Level) -> io::Result<Vec<FolderEntry>> {
         let path = folder_path(alloc, dir, level)?;
-        if is_absent(self.rt, path.as_str()) {
-            fs::metadata(self.rt, dir)?;
+        if is_absent(self, path.as_str()) {
+            fs::metadata(self, dir)?;
             return Ok(Vec::new(alloc));
         }
-        entries_at(self.rt, alloc, path.as_str())
+        entries_at(self, alloc, path.as_str())
     }
 
     fn scripts(&self, alloc: Global, dir: &str) -> io::Result<Vec<FolderEntry>> {
         let path = format!(in alloc; "{dir}/init.d")?;
-        entries_at(self.rt, alloc, path.as_str())
+        entries_at(self, alloc, path.as_str())
     }
 
     fn change(&mut self, alloc: Global, dir: &str, change: &LinkChange) -> io::Result<()> {
@@ -80,10 +68,10 @@ impl<'r, R: Files + Alloc + Clone + Drop> LinkFolders for OsFolders<'r, R> {
         let name = text_of(change.entry().name())?;
         let path = format!(in alloc; "{folder}/{name}")?;
         match change.act() {
-            LinkAction::Remove => fs::remove_file(self.rt, path.as_str()),
+            LinkAction::Remove => fs::remove_file(self, path.as_str()),
             LinkAction::Make => {
-                make_folder(self.rt, folder.as_str())?;
-                symlink(self.rt, text_of(change.entry().leads())?, path.as_str())
+                make_folder(self, folder.as_str())?;
+                symlink(self, text_of(change.entry().leads())?, path.as_str())
             }
         }
     }

@@ -17,4 +17,4 @@ mod writing;
 
 pub use command::{SHORT_USAGE, USAGE, run_words};
 pub use files::{FileFault, script_in};
-pub use folders::{LinkFolders, OsFolders};
+pub use folders::LinkFolders;

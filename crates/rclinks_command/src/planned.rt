@@ -1,11 +1,10 @@
 //! The folders of a directory, with the links that a plan has there.
 
-ghost use Rattle.std.specs.Prelude.{◌≡◌, ◌++◌, List, true, flat_map, IfOk, OnOk};
+ghost use Rattle.std.specs.Prelude.{◌≡◌, ◌++◌, true, flat_map, IfOk, OnOk};
 ghost use Rattle.std.specs.List.{list_any};
 ghost use Rattle.rc_links.specs.Changes.{targets_of, is_taken};
-ghost use Rattle.rc_links.specs.FolderText.{FolderText};
-ghost use Rattle.rc_links.specs.Kept.{is_gone, kept_plan};
-ghost use Rattle.rclinks_command.specs.Writing.{AreFolders, AreTargets, IsFolder, all_levels, gone_at, has_taken, link_entry, planned_at, target_of, targets_in};
+ghost use Rattle.rc_links.specs.Kept.{is_gone};
+ghost use Rattle.rclinks_command.specs.Writing.{AreFolders, AreTargets, InFolders, IsFolder, all_levels, gone_at, has_taken, link_entry, planned_at, target_of, targets_in};
 
 use crate::folders::LinkFolders;
 use init_words::{Level, Memory};
@@ -130,17 +129,21 @@ pub(crate) fn folders_in<F: LinkFolders>(
     Ok(found)
 }
 
-/// The plan with the runlevels of the links that the folders of a directory hold.
+/// The plan; where it keeps runlevels, with those of the links that the folders of a directory hold.
 pub(crate) fn kept_in<F: LinkFolders>(
     folders: &F,
     alloc: Global,
     dir: &str,
-    plan: &Plan,
+    keeps: bool,
+    plan: Plan,
 ) -> Result<Plan, FoldersFault>
-    ensures { IfOk result (λ kept. (read : List FolderText)
-        × AreFolders (F.held folders.now) dir.now plan.now read × (kept ≡ kept_plan read plan.now)) }
+    ensures { IfOk result (λ kept.
+        InFolders keeps (F.held folders.now) dir.now plan (λ plan. kept ≡ plan)) }
 {
-    let read = folders_in(folders, alloc, dir, plan)?;
+    if !keeps {
+        return Ok(plan);
+    }
+    let read = folders_in(folders, alloc, dir, &plan)?;
     Ok(plan.kept(alloc, read.as_slice())?)
 }
 

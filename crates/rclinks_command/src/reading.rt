@@ -1,6 +1,6 @@
 //! All files of a command line, read; what can't be read is told.
 
-ghost use Rattle.std.specs.Prelude.{◌≡◌, ◌&&◌, [], false, not, map, string_bytes, IfOk, OnOk};
+ghost use Rattle.std.specs.Prelude.{◌≡◌, ◌&&◌, [], false, not, map, IfOk, OnOk};
 ghost use Rattle.rclinks_command.specs.Reading.{ReadsOne, ReadsTo, has_faults};
 ghost use Rattle.rclinks_command.specs.Reports.{TellsFiles, TellsOne};
 
@@ -52,7 +52,7 @@ fn is_over(goes_on: bool, faults: &[FileFault]) -> bool
 pub(crate) fn read_files<'w, T: Texts, E: Write>(
     texts: &T,
     alloc: Global,
-    words: &'w [String],
+    files: &[&'w str],
     skips: bool,
     goes_on: bool,
     scripts: &mut Vec<Script>,
@@ -61,13 +61,12 @@ pub(crate) fn read_files<'w, T: Texts, E: Write>(
 ) -> Result<Vec<FileFault>, Memory>
     requires { scripts.old.items ≡ [] }
     ensures read { IfOk result (λ faults. ReadsTo goes_on (T.text_at texts.now)
-        (map string_bytes words.now) scripts.new.items faults.items) }
+        (map (λ file. file.now) files.now) scripts.new.items faults.items) }
     ensures told { IfOk result (λ faults. goes_on ≡ false → TellsFiles (T.text_at texts.now)
-        (map string_bytes words.now) faults.items (E.contents err.old) (E.contents err.new)) }
+        (map (λ file. file.now) files.now) faults.items (E.contents err.old) (E.contents err.new)) }
 {
     let mut faults = Vec::new(alloc);
-    for word in words {
-        let path = word.as_str();
+    for path in files {
         read_one(texts, alloc, path, skips, scripts, paths, &mut faults, err)?;
         let over = is_over(goes_on, faults.as_slice());
         if over {

@@ -14,10 +14,7 @@ type Naming<'s> = (&'static str, &'s str);
 
 /// The path of the file at a place.
 fn path_at<'w>(paths: &[&'w str], place: usize) -> &'w str {
-    match paths.get(place) {
-        Some(path) => path,
-        None => "",
-    }
+    paths.get(place).copied().unwrap_or("")
 }
 
 /// Tells a fault of scripts that have no plan, and who is at fault with whom: the script at the place. `outs` are the
@@ -148,12 +145,8 @@ fn tell_cycle<E: Write>(names: &[String], scripts: &[Script], more: &mut E) {
         let Some((from, to)) = step_of(names, scripts, at) else {
             return;
         };
-        let (who, naming, whom) = if starts {
-            (from, start_naming(from, to), to)
-        } else {
-            (to, stop_naming(to, from), from)
-        };
-        if let Some((keyword, name)) = naming {
+        let (who, whom) = if starts { (from, to) } else { (to, from) };
+        if let Some((keyword, name)) = naming(starts, who, whom) {
             let who = who.name();
             let whom = whom.name();
             let _ = writeln!(more, "{who}: {keyword} names {name}, which {whom} provides");
@@ -186,31 +179,32 @@ fn script_named<'s>(scripts: &'s [Script], name: &str) -> Option<&'s Script> {
 fn is_start_cycle(names: &[String], scripts: &[Script]) -> bool {
     for at in 0..names.len() {
         match step_of(names, scripts, at) {
-            Some((from, to)) if start_naming(from, to).is_some() => {}
+            Some((from, to)) if naming(true, from, to).is_some() => {}
             _ => return false,
         }
     }
     true
 }
 
-/// How a script names another that is started before it.
-fn start_naming<'s>(from: &'s Script, to: &Script) -> Option<Naming<'s>> {
+/// How a script names another that is started before it, or stopped after it.
+fn naming<'s>(starts: bool, from: &'s Script, to: &Script) -> Option<Naming<'s>> {
     let header = from.header();
-    first_provided("Required-Start", header.required_start(), to).or(first_provided(
-        "Should-Start",
-        header.should_start(),
-        to,
-    ))
-}
-
-/// How a script names another that is stopped after it.
-fn stop_naming<'s>(from: &'s Script, to: &Script) -> Option<Naming<'s>> {
-    let header = from.header();
-    first_provided("Required-Stop", header.required_stop(), to).or(first_provided(
-        "Should-Stop",
-        header.should_stop(),
-        to,
-    ))
+    let (first, required, second, should) = if starts {
+        (
+            "Required-Start",
+            header.required_start(),
+            "Should-Start",
+            header.should_start(),
+        )
+    } else {
+        (
+            "Required-Stop",
+            header.required_stop(),
+            "Should-Stop",
+            header.should_stop(),
+        )
+    };
+    first_provided(first, required, to).or(first_provided(second, should, to))
 }
 
 /// The first of the names of a keyword that a script provides.

@@ -2,10 +2,10 @@
 
 ghost use Rattle.std.specs.Prelude.{◌≡◌, ◌⊎◌, ◌++◌, ℕ, None, IfOk, IfSome, OnOk, take};
 ghost use Rattle.rclinks_command.specs.Folders.{Becomes, changed_by};
-ghost use Rattle.rclinks_command.specs.Writing.{IsTaken, Wants, act_word, change_line, changes_text};
+ghost use Rattle.rclinks_command.specs.Writing.{InFolders, IsTaken, Wants, act_word, change_line, changes_text};
 
 use crate::folders::LinkFolders;
-use crate::planned::{FoldersFault, folders_in, targets_for, tell_taken};
+use crate::planned::{FoldersFault, folders_in, kept_in, targets_for, tell_taken};
 use init_words::Memory;
 use program_io::{DEVICE_FAULT, DONE, Reason, write_text};
 use rc_links::{LinkAction, LinkChange, Plan, changes};
@@ -104,17 +104,21 @@ pub(crate) fn changes_for<F: LinkFolders, E: Write>(
     folders: &F,
     alloc: Global,
     dir: &str,
+    keeps: bool,
     prunes: bool,
-    plan: &Plan,
+    plan: Plan,
     err: &mut E,
 ) -> Result<Option<Vec<LinkChange>>, FoldersFault>
-    ensures wanted { IfOk result (λ asked. IfSome asked (λ found. Wants (F.held folders.now)
-        (F.scripts_in folders.now) prunes dir.now plan.now found.items)) }
+    ensures wanted { IfOk result (λ asked. IfSome asked (λ found. InFolders keeps
+        (F.held folders.now) dir.now plan (λ plan. Wants (F.held folders.now)
+        (F.scripts_in folders.now) prunes dir.now plan found.items))) }
     ensures taken { IfOk result (λ found. found ≡ None
-        → IsTaken (F.held folders.now) (F.scripts_in folders.now) prunes dir.now plan.now) }
+        → InFolders keeps (F.held folders.now) dir.now plan
+        (IsTaken (F.held folders.now) (F.scripts_in folders.now) prunes dir.now)) }
 {
-    let read = folders_in(folders, alloc, dir, plan)?;
-    let targets = targets_for(folders, alloc, dir, prunes, plan, read.as_slice())?;
+    let plan = kept_in(folders, alloc, dir, keeps, plan)?;
+    let read = folders_in(folders, alloc, dir, &plan)?;
+    let targets = targets_for(folders, alloc, dir, prunes, &plan, read.as_slice())?;
     if tell_taken(dir, targets.as_slice(), read.as_slice(), err) {
         return Ok(None);
     }

@@ -1,4 +1,4 @@
-use Rattle.rclinks_command.proofs.Words.{◌∙◌, inl, inr, map, string_bytes, subst, sym, or_parts, IsPlan, HasNoPlan, Reads, ReadsTo, ReportsPlan, ReportsRefused}
+use Rattle.rclinks_command.proofs.Words.{◌∙◌, inl, inr, map, subst, sym, or_parts, IsPlan, HasNoPlan, Reads, ReadsTo, ReportsPlan, ReportsRefused}
 use Rattle.std.proofs.lemmas.Result.{IfOk-weaker, IfErr-weaker}
 use Rattle.rclinks_command.proofs.ReadingLemmas.{all_read, all_scripts, none_first, refused_first, some_first}
 use Rattle.rclinks_command.proofs.ReportLemmas.{plan_told, refused_told, warned_told}
@@ -8,7 +8,7 @@ use Rattle.rclinks_command.proofs.command.plan_of.Goals as goal
 pub returns-in-None-clause-planned : goal.returns-in-None-clause-planned
 returns-in-None-clause-planned g c =
     let text_at = g.T.Texts.text_at c.args.texts.now in
-    let paths = map string_bytes c.args.line.now.files.now in
+    let paths = map (λ file. file.now) c.args.line.now.files.now in
     let scripts = c.read_files-read.new.scripts.items in
     let none = none_first c.in-Ok.faults.items (rw c.deref.ensures.value at c.in-None.ensures.value) in
     let read = all_read c.goes_on.result text_at paths scripts c.in-Ok.faults.items c.in-Ok.ensures.read (inr none) in
@@ -18,7 +18,7 @@ returns-in-None-clause-planned g c =
 pub returns-in-None-clause-refused : goal.returns-in-None-clause-refused
 returns-in-None-clause-refused g c =
     let text_at = g.T.Texts.text_at c.args.texts.now in
-    let paths = map string_bytes c.args.line.now.files.now in
+    let paths = map (λ file. file.now) c.args.line.now.files.now in
     let scripts = c.read_files-read.new.scripts.items in
     let none = none_first c.in-Ok.faults.items (rw c.deref.ensures.value at c.in-None.ensures.value) in
     let read = all_read c.goes_on.result text_at paths scripts c.in-Ok.faults.items c.in-Ok.ensures.read (inr none) in
@@ -28,7 +28,7 @@ returns-in-None-clause-refused g c =
 pub returns-clause-refused : goal.returns-clause-refused
 returns-clause-refused g c =
     let text_at = g.T.Texts.text_at c.args.texts.now in
-    let paths = map string_bytes c.args.line.now.files.now in
+    let paths = map (λ file. file.now) c.args.line.now.files.now in
     let scripts = c.read_files-read.new.scripts.items in
     let first = some_first c.in-Ok.faults.items c.in-Some.fault.now (rw c.deref.ensures.value at c.in-Some.ensures.value) in
     elim (two_statuses c.in-Some.fault.now) [
@@ -40,7 +40,7 @@ returns-clause-refused g c =
 pub returns-in-None-clause-told : goal.returns-in-None-clause-told
 returns-in-None-clause-told g c = λ plain.
     let text_at = g.T.Texts.text_at c.args.texts.now in
-    let paths = map string_bytes c.args.line.now.files.now in
+    let paths = map (λ file. file.now) c.args.line.now.files.now in
     let scripts = c.read_files-read.new.scripts.items in
     let none = none_first c.in-Ok.faults.items (rw c.deref.ensures.value at c.in-None.ensures.value) in
     let read = all_read c.goes_on.result text_at paths scripts c.in-Ok.faults.items c.in-Ok.ensures.read (inr none) in
@@ -51,7 +51,7 @@ returns-in-None-clause-told g c = λ plain.
 pub returns-clause-told : goal.returns-clause-told
 returns-clause-told g c = λ plain is.
     let text_at = g.T.Texts.text_at c.args.texts.now in
-    let paths = map string_bytes c.args.line.now.files.now in
+    let paths = map (λ file. file.now) c.args.line.now.files.now in
     let first = some_first c.in-Ok.faults.items c.in-Some.fault.now (rw c.deref.ensures.value at c.in-Some.ensures.value) in
     let tells = c.in-Ok.ensures.told (c.goes_on.ensures ∙ plain) in
     let same = c.refuse_file.ensures.told (or_parts c.args.line.now.skips c.args.line.now.all plain).1 in
