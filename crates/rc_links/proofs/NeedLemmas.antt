@@ -1,26 +1,14 @@
 -- The needs by names: where they are, by a table, and within which places.
 use Rattle.rc_links.proofs.Words.{◌≡◌, ℕ, zero, suc, ◌+◌, ◌<◌, ◌≤◌, Bool, true, false, cond, List, [], ◌∷◌, ◌++◌, length, get_or, drop, map, Option, Some, None, is_some, Result, Ok, Err, OnOk, refl, sym, ap, ◌∙◌, arith, append_assoc, filter_map, cons_option, unwrap_or, true≢false, Phase, InRange, ScriptText, named, need, needs_from, needs_of, place_from, place_of, places_of}
+use Rattle.std.proofs.lemmas.List.{map-append}
+use Rattle.std.proofs.lemmas.List.Elements.{filter_map-append}
 use Rattle.rc_links.specs.declared.needs.Phase.TheVariants as phase
 use Rattle.rc_links.specs.Scripts.{has_name}
 use Rattle.rc_links.proofs.NameLemmas.{cut_at}
 
 -- two lists of names after another
-abbrev cons_option_of : {X Y : Type 0} (f : X → Y) (o : Option X) (rest : List Y) → List Y
-cons_option_of f None rest = rest
-cons_option_of f (Some x) rest = f x ∷ rest
-
-one_more : {X Y : Type 0} (f : X → Y) (o : Option X) (xs : List X) (ys : List Y) (rest : List Y) → map f xs ++ ys ≡ rest → map f (cons_option o xs) ++ ys ≡ cons_option_of f o rest
-one_more f None xs ys rest is = is
-one_more f (Some x) xs ys rest is = ap (λ zs. f x ∷ zs) is
-
-cons_map : {X Y : Type 0} (f : X → Y) (o : Option X) (xs : List X) → map f (cons_option o xs) ≡ cons_option_of f o (map f xs)
-cons_map f None xs = refl
-cons_map f (Some x) xs = refl
-
-pub names-after : {X Y Z : Type 0} (f : Y → Z) (h : X → Option Y) (xs ys : List X) → map f (filter_map h xs) ++ map f (filter_map h ys) ≡ map f (filter_map h (xs ++ ys))
-names-after f h [] ys = refl
-names-after f h (x ∷ xs) ys =
-    one_more f (h x) (filter_map h xs) (map f (filter_map h ys)) (map f (filter_map h (xs ++ ys))) (names-after f h xs ys) ∙ sym (cons_map f (h x) (filter_map h (xs ++ ys)))
+names-after : {X Y Z : Type 0} (f : Y → Z) (h : X → Option Y) (xs ys : List X) → map f (filter_map h xs) ++ map f (filter_map h ys) ≡ map f (filter_map h (xs ++ ys))
+names-after f h xs ys = sym (ap (map f) (filter_map-append h xs ys) ∙ map-append f (filter_map h xs) (filter_map h ys))
 
 -- tables that agree give the same
 pub filter_map-ext : {X Y : Type 0} (f h : X → Option Y) (xs : List X) → ((x : X) → f x ≡ h x) → filter_map f xs ≡ filter_map h xs

@@ -1,5 +1,5 @@
 -- Plans: their fields, their names, and the faults that a step gives on.
-use Rattle.rc_links.proofs.Words.{string_bytes, ◌≡◌, ℕ, zero, suc, ◌+◌, ◌<◌, List, [], ◌∷◌, ◌++◌, length, map, get_or, drop, refl, sym, ap, ◌∙◌, subst, arith, append_assoc, inl, inr, AllByRecursion, Phase, Wrong, Round, IsAnyDeep, IsRound, IsTooDeep, Says, HasNoNumbering, IsCycle, ScriptText, PlannedText, AreLeast, IsCycleOf, IsPlan, IsProvided, IsRefused, IsShort, names_at, planned, planned_all, needs_of}
+use Rattle.rc_links.proofs.Words.{string_bytes, ◌≡◌, ℕ, zero, suc, ◌+◌, ◌<◌, List, [], ◌∷◌, ◌++◌, length, map, get_or, refl, sym, ap, ◌∙◌, subst, arith, append_assoc, inl, inr, AllByRecursion, Phase, Wrong, Round, IsAnyDeep, IsRound, IsTooDeep, Says, HasNoNumbering, IsCycle, ScriptText, PlannedText, AreLeast, IsCycleOf, IsPlan, IsProvided, IsRefused, IsShort, names_at, planned, planned_all, needs_of}
 use Rattle.rc_links.specs.declared.needs.Phase.TheVariants as phase
 use Rattle.rc_links.specs.declared.faults.PlanFault.{PlanFault}
 use Rattle.rc_links.specs.declared.faults.PlanFault.TheVariants as fault
@@ -22,12 +22,6 @@ planned-step plan whole s scripts start stop starts stops same = append_assoc pl
 pub short-push : (plan : List PlannedText) (s : PlannedText) → AllByRecursion IsShort plan → IsShort s → AllByRecursion IsShort (plan ++ s ∷ [])
 short-push [] s all short = (short, tt)
 short-push (t ∷ plan) s all short = (all.0, short-push plan s all.1 short)
-
--- a list of numbers at one of its places
-pub cut_number : (xs : List ℕ) (n : ℕ) → n < length xs → drop n xs ≡ get_or xs n 0 ∷ drop (n + 1) xs
-cut_number [] n within = absurd (omega arith)
-cut_number (x ∷ xs) zero within = refl
-cut_number (x ∷ xs) (suc n) within = let e : suc n + 1 ≡ suc (n + 1) = omega arith in rw e (cut_number xs n (omega arith))
 
 -- what is said of one thing is said of another
 pub Says-weaker : {A : Type 0} {P Q : Wrong → Type 0} (f : PlanFault A) → ((wrong : Wrong) → P wrong → Q wrong) → Says P f → Says Q f

@@ -6,7 +6,7 @@ pub use Rattle.std.proofs.lemmas.Bool.{false_from_ne_true, true≢false, and_par
 pub use Rattle.std.proofs.Math.Bool.{or-false, or_assoc}
 pub use Rattle.std.proofs.lemmas.Slice.Eq.{bytes_eq-Decides}
 pub use Rattle.rc_links.specs.Links.{in_byte_order, is_before, placed, linked_name, links_at, level_text, plan_text, link_line, start_links, stop_links}
-pub use Rattle.std.proofs.lemmas.List.{append-nil, drop_all, take_all}
+pub use Rattle.std.proofs.lemmas.List.{append-nil, drop_all, drop_more, take_all}
 pub use Rattle.init_words.specs.declared.levels.Level.{Level}
 pub use Rattle.rc_links.specs.ChangeText.{ChangeText}
 pub use Rattle.rc_links.specs.Changes.{changes_of, is_in_way, is_left_over, is_missing, is_ours, is_stale, making, removal, settled, goes, targets_of}

@@ -1,7 +1,7 @@
 use Rattle.std.proofs.Common.{string_bytes, ◌∙◌, ◌+◌, ◌++◌, ◌∷◌, [], sym, ap, get_or, drop, map}
-use Rattle.std.proofs.lemmas.List.{append-nil, drop_all, map-append}
+use Rattle.std.proofs.lemmas.List.{append-nil, drop_all, drop_more, map-append}
 use Rattle.rc_links.specs.Plans.{names_at}
-use Rattle.rc_links.proofs.PlanLemmas.{cut_number, names-step}
+use Rattle.rc_links.proofs.PlanLemmas.{names-step}
 use Rattle.rc_links.proofs.planning.names_at.Goals as goal
 
 pub loop-place-preserved : goal.loop-place-preserved
@@ -9,7 +9,7 @@ loop-place-preserved g c =
     let scripts = c.args.scripts.now in
     let places = c.args.places.now in
     let n = c.loop-place.place-index in
-    let cut = cut_number places n c.loop-place-test.true in
+    let cut = drop_more places n 0 c.loop-place-test.true in
     let kept = ap (λ xs. map string_bytes c.loop-place.names.items ++ names_at scripts xs) (sym cut) ∙ c.loop-place.invariant in
     rw (c.in_ok-push.ensures.items, map-append string_bytes c.loop-place.names.items (c.in_ok-from_str.field-0 ∷ []), c.in_ok-from_str.ensures.ok, c.name.ensures)
     (names-step scripts (get_or places n 0) (drop (n + 1) places) (map string_bytes c.loop-place.names.items) _ c.index-scripts-place.result (c.requires n c.loop-place-test.true) c.index-scripts-place.is kept)

@@ -1,6 +1,6 @@
-use Rattle.rc_links.proofs.Words.{◌+◌, subst, get_or, drop, arith, PlannedText, IsShort}
+use Rattle.rc_links.proofs.Words.{◌+◌, subst, get_or, drop, drop_more, arith, PlannedText, IsShort}
 use Rattle.rc_links.proofs.NameLemmas.{cut_at, err_and}
-use Rattle.rc_links.proofs.PlanLemmas.{Says-weaker, any_deep, cut_number, planned-step, short-push}
+use Rattle.rc_links.proofs.PlanLemmas.{Says-weaker, any_deep, planned-step, short-push}
 use Rattle.rc_links.proofs.planning.planned_all.Goals as goal
 
 pub returns-in_err-script-clause-deep : goal.returns-in_err-script-clause-deep
@@ -15,8 +15,8 @@ loop-place-preserved g c =
     let n = c.loop-place.place in
     let s = c.index-scripts-place.result in
     let cut = cut_at scripts n s c.loop-place-test.true c.index-scripts-place.is in
-    let first = cut_number starts n (omega (arith, c.loop-place-test.true, c.requires.starts)) in
-    let second = cut_number stops n (omega (arith, c.loop-place-test.true, c.requires.stops)) in
+    let first = drop_more starts n 0 (omega (arith, c.loop-place-test.true, c.requires.starts)) in
+    let second = drop_more stops n 0 (omega (arith, c.loop-place-test.true, c.requires.stops)) in
     let kept = rw (cut.0, first, second) at c.loop-place.invariant.planned in
     rw (c.in_ok-push.ensures.items, c.in_ok-script.ensures.planned) (record {
       planned = planned-step c.loop-place.plan.items _ s (drop (n + 1) scripts) (get_or starts n 0) (get_or stops n 0) (drop (n + 1) starts) (drop (n + 1) stops) kept;
