@@ -36,32 +36,6 @@ pub(crate) fn start_call<A: Allocator>(
     Ok(Call::Start(id, Bytes::copy_of(alloc, command)?, *reply))
 }
 
-/// A copy of a text that was read, or of why it was not.
-fn text_copy<A: Allocator, B: Allocator>(
-    alloc: A,
-    text: &Result<Vec<u8, B>, HostFault>,
-) -> Result<Result<Bytes<A>, HostFault>, Memory>
-    ensures { IfOk result (λ copy. copy ≡ text_read (λ held. held.items) text.now) }
-{
-    match text {
-        Ok(text) => Ok(Ok(Bytes::copy_of(alloc, text.as_slice())?)),
-        Err(fault) => Ok(Err(*fault)),
-    }
-}
-
-/// A copy of files that were read, or of why they were not.
-fn parts_read_copy<A: Allocator + Copy, B: Allocator>(
-    alloc: A,
-    parts: &Result<Vec<Part<B>, B>, HostFault>,
-) -> Result<Result<PartList<A>, HostFault>, Memory>
-    ensures { IfOk result (λ copy. copy ≡ parts_read (λ held. held.items) parts.now) }
-{
-    match parts {
-        Ok(parts) => Ok(Ok(PartList::of(parts_copy(alloc, parts.as_slice())?))),
-        Err(fault) => Ok(Err(*fault)),
-    }
-}
-
 /// The call that read the files of the inittab.
 pub(crate) fn tables_call<A: Allocator + Copy, B: Allocator>(
     alloc: A,
@@ -70,7 +44,13 @@ pub(crate) fn tables_call<A: Allocator + Copy, B: Allocator>(
     ensures { IfOk result (λ call.
         call ≡ Call.ReadTables (parts_read (λ held. held.items) parts.now)) }
 {
-    Ok(Call::ReadTables(parts_read_copy(alloc, parts)?))
+    match parts {
+        Ok(parts) => {
+            let copy = PartList::of(parts_copy(alloc, parts.as_slice())?);
+            Ok(Call::ReadTables(Ok(copy)))
+        }
+        Err(fault) => Ok(Call::ReadTables(Err(*fault))),
+    }
 }
 
 /// The call that carried a text.
@@ -82,21 +62,10 @@ pub(crate) fn carry_call<A: Allocator + Copy, B: Allocator>(
     ensures { IfOk result (λ call.
         call ≡ Call.Carry text.now (text_read (λ held. held.items) back.now)) }
 {
-    Ok(Call::Carry(Bytes::copy_of(alloc, text)?, text_copy(alloc, back)?))
-}
-
-/// A copy of what was taken to the front of a buffer.
-fn front_copy<A: Allocator>(
-    alloc: A,
-    buffer: &[u8],
-    taken: &Result<usize, HostFault>,
-) -> Result<Result<Bytes<A>, HostFault>, Memory>
-    requires { IfOk taken.now (λ count. count ≤ length buffer.now) }
-    ensures { IfOk result (λ copy. copy ≡ front_read taken.now buffer.now) }
-{
-    match taken {
-        Ok(count) => Ok(Ok(Bytes::copy_of(alloc, &buffer[..*count])?)),
-        Err(fault) => Ok(Err(*fault)),
+    let carried = Bytes::copy_of(alloc, text)?;
+    match back {
+        Ok(back) => Ok(Call::Carry(carried, Ok(Bytes::copy_of(alloc, back.as_slice())?))),
+        Err(fault) => Ok(Call::Carry(carried, Err(*fault))),
     }
 }
 
@@ -110,7 +79,13 @@ pub(crate) fn bytes_call<A: Allocator>(
     ensures { IfOk result (λ call.
         call ≡ Call.TakeBytes (length buffer.now) (front_read taken.now buffer.now)) }
 {
-    Ok(Call::TakeBytes(buffer.len(), front_copy(alloc, buffer, taken)?))
+    match taken {
+        Ok(count) => {
+            let front = Bytes::copy_of(alloc, &buffer[..*count])?;
+            Ok(Call::TakeBytes(buffer.len(), Ok(front)))
+        }
+        Err(fault) => Ok(Call::TakeBytes(buffer.len(), Err(*fault))),
+    }
 }
 
 /// The call that announced a happening.
