@@ -1,7 +1,8 @@
 -- Which calls a run made, by how it ended: none but where it came to its turns.
-use Rattle.initd_command.proofs.Words.{◌≡◌, refl, Bool, List, [], ◌∷◌, Option, Some, None, ⊤, Entry, KnownTexts, Event, LogState, HostCall, Since, InitdSaid, judges, runs, simulates, version, RunSaid, IsOpeningOf, OpeningState, Spoken, no_memory, refused, turned, End, HasInittab, TakesParts, is_unled, table_in, told_of, AsksSaid, MakesLogged, MakesTurns, RanBy, RunTold}
+use Rattle.initd_command.proofs.Words.{◌≡◌, refl, Bool, List, [], ◌∷◌, Option, Some, None, ⊤, Entry, KnownTexts, Event, LogState, HostCall, Since, InitdSaid, judges, runs, simulates, version, RunSaid, IsOpeningOf, OpeningState, Spoken, refused, turned, End, HasInittab, TakesParts, is_unled, table_in, told_of, AsksSaid, MakesLogged, MakesTurns, RanBy, RunTold}
 use Rattle.std.specs.Prelude.{IfSome}
 use Rattle.initd_command.specs.Services.{EndsTold}
+use Rattle.initd_command.specs.declared.run.Obstacle.TheVariants.{Memory}
 
 -- turns over a log that was fresh
 pub made_fresh : {L fresh : Type 0} (state : L → LogState) (told : Option (List HostCall)) (has_ended : Bool → List Event → Type 0) (service : RunSaid) (table : List Entry) (end : End) (calls : List HostCall)
@@ -28,7 +29,7 @@ ran_to text_at service own opening spoken end old new (parts, are, read, (taken,
     ((parts, are, read, (taken, led, made (table_in parts) opens, told)), by, is)
 
 -- where memory ran out nothing is asked, whatever the arguments say
-pub none_asked : (text_at : KnownTexts) (said : Option InitdSaid) (own : List HostCall → Type 0) (now : RunTold) → AsksSaid text_at said own (refused no_memory) now now
+pub none_asked : (text_at : KnownTexts) (said : Option InitdSaid) (own : List HostCall → Type 0) (now : RunTold) → AsksSaid text_at said own (refused Memory) now now
 none_asked text_at None own now = refl
 none_asked text_at (Some version) own now = refl
 none_asked text_at (Some (simulates run)) own now = refl

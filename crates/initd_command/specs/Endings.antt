@@ -1,5 +1,5 @@
 -- How a command line of initd ends: its exit status, what was written, and what is reported of it.
-use Rattle.std.specs.Prelude.{◌≡◌, ◌&&◌, not, ℕ, Bool, true, false, if◌then◌else◌, List, [], ◌∷◌, ◌++◌, codes, decimal, Option, Some, None, unwrap_or}
+use Rattle.std.specs.Prelude.{◌≡◌, ◌&&◌, not, ℕ, Bool, true, false, if◌then◌else◌, List, [], ◌∷◌, ◌++◌, codes, decimal, Option, Some, None, unwrap_or, string_bytes}
 use Rattle.std.specs.Io.KnownBytes.{Keeps}
 use Rattle.std.specs.Str.{bytes_eq}
 use Rattle.initd_command.specs.Words.{AppendsPrefix, DONE, REFUSED, UNLAWFUL, DEVICE_FAULT, SimFault}
@@ -11,6 +11,8 @@ use Rattle.initd_command.specs.Lines.{line_at, line_told}
 use Rattle.initd_command.specs.declared.check.TheConstants.{UNWRITTEN}
 use Rattle.initd_command.specs.declared.reports.TheConstants.{FLAWED, NO_MEMORY, TOO_MANY}
 use Rattle.initd_command.specs.declared.command.TheConstants.{CHECK_USAGE, RUN_USAGE, SHORT_USAGE, SIMULATE_USAGE, UNVERSIONED, VERSION_USAGE}
+use Rattle.initd_command.specs.declared.run.Obstacle.{Obstacle}
+use Rattle.initd_command.specs.declared.run.Obstacle.TheVariants as why
 use Rattle.initd_command.specs.declared.run.TheConstants.{UNLED, UNTOLD}
 use Rattle.initd_command.specs.Turned.{End, ReportsEnd, ReportsText, end_status}
 use Rattle.command_words.specs.Faults.{usage_report}
@@ -21,22 +23,6 @@ pub record Judged : Type 0 where
   pub within : Option (List ℕ)
   pub left : Option ℕ
   pub count : ℕ
-
--- Why a command is refused, or can't go on, before it writes anything: the file of a path was not read, and why; memory
--- ran out; the inittab has too many files, is too long, has faults that these lines tell, or has no entry of this id; a
--- file is in use, by whom where that is known; two files are one; the channel was not locked, or the trace not created,
--- and why
-pub data Obstacle : Type 0 where
-  unread : List ℕ → List ℕ → Obstacle
-  no_memory : Obstacle
-  too_many : Obstacle
-  too_long : Obstacle
-  flawed : List ℕ → Obstacle
-  unlisted : List ℕ → Obstacle
-  busy : List ℕ → Option ℕ → Obstacle
-  shared : List ℕ → List ℕ → Obstacle
-  unlocked : List ℕ → List ℕ → Obstacle
-  uncreated : List ℕ → List ℕ → Obstacle
 
 -- what is said of a run that comes to its turns: that nothing names its level, or something does; and whether the faults
 -- of its inittab were written, and all was printed that its host was to print
@@ -65,16 +51,12 @@ pub data Ending : Type 0 where
   unversioned : Ending
 
 abbrev pub obstacle_status : Obstacle → ℕ
-obstacle_status (unread path why) = DEVICE_FAULT
-obstacle_status no_memory = DEVICE_FAULT
-obstacle_status too_many = REFUSED
-obstacle_status too_long = REFUSED
-obstacle_status (flawed told) = REFUSED
-obstacle_status (unlisted id) = REFUSED
-obstacle_status (busy path holder) = DEVICE_FAULT
-obstacle_status (shared one other) = REFUSED
-obstacle_status (unlocked path why) = DEVICE_FAULT
-obstacle_status (uncreated path why) = DEVICE_FAULT
+obstacle_status why.TooMany = REFUSED
+obstacle_status why.TooLong = REFUSED
+obstacle_status (why.Flawed told) = REFUSED
+obstacle_status (why.Unlisted id) = REFUSED
+obstacle_status (why.Shared one other) = REFUSED
+obstacle_status _ = DEVICE_FAULT
 
 abbrev pub fault_status : SimFault → ℕ
 fault_status fault.Table = REFUSED
@@ -86,7 +68,7 @@ fault_status fault.Memory = DEVICE_FAULT
 abbrev pub status_of : Ending → ℕ
 status_of done = DONE
 status_of (usage help reason) = REFUSED
-status_of (refused why) = obstacle_status why
+status_of (refused obstacle) = obstacle_status obstacle
 status_of (stopped script f) = fault_status f
 status_of unflushed = DEVICE_FAULT
 status_of (lawful judged) = DONE
@@ -178,17 +160,22 @@ ReportsJudged judged old new =
     (first : Option (List ℕ)) × ReportsWithin judged.within old first
     × (mid : Option (List ℕ)) × ReportsText (count_message judged.count) first mid × ReportsLeft judged.left mid new
 
+-- what could not be done with a file is reported, and why
+abbrev pub ReportsCannot : List ℕ → List ℕ → Option (List ℕ) → Option (List ℕ) → Type 0
+ReportsCannot verb path old new = (reason : List ℕ) × ReportsText (cannot_message verb path reason) old new
+
 abbrev pub ReportsObstacle : Obstacle → Option (List ℕ) → Option (List ℕ) → Type 0
-ReportsObstacle (unread path why) old new = ReportsText (cannot_message (codes "read") path why) old new
-ReportsObstacle no_memory old new = AppendsPrefix old new NO_MEMORY.now
-ReportsObstacle too_many old new = AppendsPrefix old new TOO_MANY.now
-ReportsObstacle too_long old new = ReportsText (fault_message [] fault.Table) old new
-ReportsObstacle (flawed told) old new = ReportsFlawed told old new
-ReportsObstacle (unlisted id) old new = ReportsText (unlisted_message id) old new
-ReportsObstacle (busy path holder) old new = ReportsText (busy_message path holder) old new
-ReportsObstacle (shared one other) old new = ReportsText (shared_message one other) old new
-ReportsObstacle (unlocked path why) old new = ReportsText (cannot_message (codes "lock") path why) old new
-ReportsObstacle (uncreated path why) old new = ReportsText (cannot_message (codes "create") path why) old new
+ReportsObstacle (why.Unread path error) old new = ReportsCannot (codes "read") (string_bytes path) old new
+ReportsObstacle why.Memory old new = AppendsPrefix old new NO_MEMORY.now
+ReportsObstacle why.TooMany old new = AppendsPrefix old new TOO_MANY.now
+ReportsObstacle why.TooLong old new = ReportsText (fault_message [] fault.Table) old new
+ReportsObstacle (why.Flawed told) old new = ReportsFlawed told.items old new
+ReportsObstacle (why.Unlisted id) old new = ReportsText (unlisted_message id) old new
+ReportsObstacle (why.Busy path holder) old new = ReportsText (busy_message (string_bytes path) holder) old new
+ReportsObstacle (why.Shared one other) old new =
+    ReportsText (shared_message (string_bytes one) (string_bytes other)) old new
+ReportsObstacle (why.Unlocked path error) old new = ReportsCannot (codes "lock") (string_bytes path) old new
+ReportsObstacle (why.Uncreated path error) old new = ReportsCannot (codes "create") (string_bytes path) old new
 
 -- the usage of a command, and of the one that words begin with
 abbrev pub usage_of : List ℕ → Option (List ℕ)
@@ -220,7 +207,7 @@ ReportsRefused help reason old new =
 abbrev pub Reports : Ending → Option (List ℕ) → Option (List ℕ) → Type 0
 Reports done old new = Keeps old new
 Reports (usage help reason) old new = ReportsRefused help reason old new
-Reports (refused why) old new = ReportsObstacle why old new
+Reports (refused obstacle) old new = ReportsObstacle obstacle old new
 Reports (stopped script f) old new = ReportsText (fault_message script f) old new
 Reports unflushed old new = ReportsText (fault_message [] fault.Write) old new
 Reports (lawful judged) old new = ReportsJudged judged old new
@@ -236,4 +223,5 @@ Reports unversioned old new = AppendsPrefix old new UNVERSIONED.now
 
 -- the file of this path was not read, and nothing was written
 abbrev pub EndsUnread : List ℕ → Ending → Option (List ℕ) → Option (List ℕ) → Type 0
-EndsUnread path ending old new = (why : List ℕ) × (ending ≡ refused (unread path why)) × Keeps old new
+EndsUnread path (refused (why.Unread at error)) old new = (string_bytes at ≡ path) × Keeps old new
+EndsUnread path _ old new = ⊥

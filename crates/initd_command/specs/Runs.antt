@@ -4,7 +4,8 @@ use Rattle.std.specs.Prelude.{◌≡◌, ◌⊎◌, ℕ, if◌then◌else◌, Li
 use Rattle.std.specs.Io.KnownBytes.{Appends, Keeps}
 use Rattle.initd_command.specs.Words.{AppendsPrefix, IsTextAt, KnownTexts, SimFault, Done, Ends, Scenario, scenario, CheckSaid, SimulateSaid, InitdSaid, judges, initd_read_of, simulates, runs, version}
 use Rattle.command_words.specs.VersionLine.{version_line}
-use Rattle.initd_command.specs.Endings.{Ending, EndsUnread, done, usage, refused, no_memory, stopped, unflushed, unversioned, usage_named}
+use Rattle.initd_command.specs.declared.run.Obstacle.TheVariants.{Memory}
+use Rattle.initd_command.specs.Endings.{Ending, EndsUnread, done, usage, refused, stopped, unflushed, unversioned, usage_named}
 use Rattle.initd_command.specs.Services.{EndsRun}
 use Rattle.initd_command.specs.Verdicts.{EndsCheck}
 
@@ -49,4 +50,4 @@ EndsRead text_at words (Some said) ending old new = EndsSaid text_at said ending
 -- how words end: so, or memory ran out to read them
 abbrev pub EndsBy : KnownTexts → List (List ℕ) → Ending → Option (List ℕ) → Option (List ℕ) → Type 0
 EndsBy text_at words ending old new =
-    ((ending ≡ refused no_memory) × Keeps old new) ⊎ EndsRead text_at words (initd_read_of words) ending old new
+    ((ending ≡ refused Memory) × Keeps old new) ⊎ EndsRead text_at words (initd_read_of words) ending old new

@@ -10,9 +10,9 @@ use Rattle.trace_log_wrappers.specs.Ends.{last_end}
 use Rattle.trace_log_wrappers.specs.Notes.{IsRunning, Notes, is_wanted}
 use Rattle.trace_events.specs.declared.steps.Goal.{Goal}
 use Rattle.initd_command.specs.declared.run.Inittab.{Inittab}
-use Rattle.initd_command.specs.declared.run.RunFault.{RunFault}
-use Rattle.initd_command.specs.declared.run.RunFault.TheVariants as why
-use Rattle.initd_command.specs.Endings.{Ending, Obstacle, Spoken, refused, no_memory, unread, too_many, too_long, flawed, unlisted, busy, shared, turned, uncreated, unlocked}
+use Rattle.initd_command.specs.declared.run.Obstacle.{Obstacle}
+use Rattle.initd_command.specs.declared.run.Obstacle.TheVariants as why
+use Rattle.initd_command.specs.Endings.{Ending, Spoken, refused, turned}
 use Rattle.initd_command.specs.Turned.{End, EntryEnd, drained, limited, unlogged}
 use Rattle.host_files.specs.Folders.{IsWithin}
 use Rattle.host_messages.specs.LineFaults.{faults_text}
@@ -140,22 +140,23 @@ StandBy one other paths =
 
 -- what is in the way of a run
 abbrev pub IsInWay : KnownTexts → RunSaid → Obstacle → Type 0
-IsInWay text_at service (unread path why) =
-    (path ≡ service.inittab) ⊎ ((folder : List ℕ) × (service.inittab_dir ≡ Some folder) × IsWithin folder path)
-IsInWay text_at service no_memory = ⊤
-IsInWay text_at service too_many =
+IsInWay text_at service (why.Unread path error) = (string_bytes path ≡ service.inittab)
+    ⊎ ((folder : List ℕ) × (service.inittab_dir ≡ Some folder) × IsWithin folder (string_bytes path))
+IsInWay text_at service why.Memory = ⊤
+IsInWay text_at service why.TooMany =
     (parts : List NamedText) × AreFiles text_at service parts × AreTooMany (texts_of parts)
-IsInWay text_at service too_long =
+IsInWay text_at service why.TooLong =
     (parts : List NamedText) × AreFiles text_at service parts × AreTooLong (texts_of parts)
-IsInWay text_at service (flawed told) =
-    HasInittab text_at service (λ parts. (is_flawed service told ≡ true) × (told ≡ told_of parts))
-IsInWay text_at service (unlisted id) =
+IsInWay text_at service (why.Flawed told) =
+    HasInittab text_at service (λ parts. (is_flawed service told.items ≡ true) × (told.items ≡ told_of parts))
+IsInWay text_at service (why.Unlisted id) =
     HasInittab text_at service (λ parts. (service.result ≡ Some id) × (has_result (table_in parts) (Some id) ≡ false))
-IsInWay text_at service (busy path holder) = (path ≡ service.initctl) ⊎ (service.trace ≡ Some path)
-IsInWay text_at service (shared one other) = StandBy one other (own_paths service)
-IsInWay text_at service (unlocked path why) = path ≡ service.initctl
-IsInWay text_at service (uncreated path why) =
-    (service.trace ≡ Some path) × HasInittab text_at service (TakesParts service)
+IsInWay text_at service (why.Busy path holder) =
+    (string_bytes path ≡ service.initctl) ⊎ (service.trace ≡ Some (string_bytes path))
+IsInWay text_at service (why.Shared one other) = StandBy (string_bytes one) (string_bytes other) (own_paths service)
+IsInWay text_at service (why.Unlocked path error) = string_bytes path ≡ service.initctl
+IsInWay text_at service (why.Uncreated path error) =
+    (service.trace ≡ Some (string_bytes path)) × HasInittab text_at service (TakesParts service)
 
 -- a text is written, or a part of it
 abbrev pub Writes : Bool → List ℕ → Option (List ℕ) → Option (List ℕ) → Type 0
@@ -170,7 +171,7 @@ EndsTold service told written end old new = EndsServed service end × Writes wri
 -- tells, and makes turns
 abbrev pub EndsRun : KnownTexts → RunSaid → Ending → Option (List ℕ) → Option (List ℕ) → Type 0
 EndsRun text_at service ending old new =
-    ((why : Obstacle) × (ending ≡ refused why) × IsInWay text_at service why × Keeps old new)
+    ((obstacle : Obstacle) × (ending ≡ refused obstacle) × IsInWay text_at service obstacle × Keeps old new)
     ⊎ HasInittab text_at service (λ parts. TakesParts service parts
     × (spoken : Spoken) × (spoken.unled ≡ is_unled service.level (table_in parts))
     × (end : End) × (ending ≡ turned spoken end)
@@ -185,22 +186,3 @@ IsReadOf parts read =
 abbrev pub IsInittab : KnownTexts → RunSaid → Inittab → Type 0
 IsInittab text_at service read = (parts : List NamedText) × AreFiles text_at service parts × IsReadOf parts read
     × (is_taken service read.faults.items read.table ≡ true)
-
--- the obstacle that a fault of a run is, with the words of what the system said of it
-abbrev pub obstacle_of : RunSaid → List ℕ → RunFault → Obstacle
-obstacle_of service reason (why.Busy holder) = busy service.initctl holder
-obstacle_of service reason (why.Held holder) = busy (unwrap_or service.trace []) holder
-obstacle_of service reason (why.Shared one other) = shared (string_bytes one) (string_bytes other)
-obstacle_of service reason (why.Channel error) = unlocked service.initctl reason
-obstacle_of service reason (why.Inittab error) = unread service.inittab reason
-obstacle_of service reason (why.Folder path error) = unread (string_bytes path) reason
-obstacle_of service reason why.TooMany = too_many
-obstacle_of service reason why.TooLong = too_long
-obstacle_of service reason (why.Flawed lines) = flawed lines.items
-obstacle_of service reason (why.Unlisted id) = unlisted id
-obstacle_of service reason (why.Trace error) = uncreated (unwrap_or service.trace []) reason
-obstacle_of service reason why.Memory = no_memory
-
--- such a fault is in the way of the run
-abbrev pub Hinders : KnownTexts → RunSaid → RunFault → Type 0
-Hinders text_at service fault = (reason : List ℕ) → IsInWay text_at service (obstacle_of service reason fault)

@@ -7,8 +7,9 @@ use Rattle.trace_verdict.specs.declared.findings.Finding.TheVariants.{Lawful, Br
 use Rattle.trace_verdict.specs.Answers.{Named, Answers}
 use Rattle.trace_verdict.specs.Judges.{HasTaken, TextState}
 use Rattle.initd_command.specs.declared.check.JudgedTrace.{JudgedTrace}
+use Rattle.initd_command.specs.declared.run.Obstacle.TheVariants.{Memory}
 use Rattle.initd_command.specs.Lines.{front_line}
-use Rattle.initd_command.specs.Endings.{Ending, EndsUnread, Judged, refused, no_memory, lawful, unlawful, torn, unfinished, unwritten}
+use Rattle.initd_command.specs.Endings.{Ending, EndsUnread, Judged, refused, lawful, unlawful, torn, unfinished, unwritten}
 
 abbrev pub judged_of : JudgedTrace → Judged
 judged_of told = record {
@@ -67,7 +68,7 @@ abbrev pub EndsBreach : Named → Judged → Ending → Option (List ℕ) → Op
 EndsBreach breach judged (unlawful message told) old new =
     (message ≡ breach_message breach) × (told ≡ judged) × Appends old new (unlawful_text breach)
 EndsBreach breach judged unwritten old new = AppendsPrefix old new (unlawful_text breach)
-EndsBreach breach judged (refused no_memory) old new = Keeps old new
+EndsBreach breach judged (refused Memory) old new = Keeps old new
 EndsBreach breach judged _ old new = ⊥
 
 -- how a text ends of which a line is none

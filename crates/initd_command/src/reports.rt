@@ -3,7 +3,7 @@
 ghost use Rattle.std.specs.Prelude.{◌≡◌, true, ℕ, List, None, Some, OnOk, OnErr, string_bytes, IfOk, ◌++◌};
 ghost use Rattle.std.specs.Io.KnownBytes.{Appends};
 ghost use Rattle.initd_command.specs.Words.{AppendsPrefix};
-ghost use Rattle.initd_command.specs.Endings.{ReportsFlawed, ReportsWhere, busy_message, cannot_message, fault_message, fault_status, reason_message, shared_message, unlisted_message};
+ghost use Rattle.initd_command.specs.Endings.{ReportsCannot, ReportsFlawed, ReportsWhere, busy_message, cannot_message, fault_message, fault_status, reason_message, shared_message, unlisted_message};
 ghost use Rattle.initd_command.specs.Turned.{ReportsText};
 
 use crate::lines::{line_at, line_told};
@@ -82,8 +82,7 @@ pub(crate) fn report_cannot<E: Write>(
     err: &mut E,
 ) -> u8
     ensures status { result ≡ DEVICE_FAULT }
-    ensures reported { (why : List ℕ) × ReportsText (cannot_message verb.now path.now why)
-        (E.contents err.old) (E.contents err.new) }
+    ensures reported { ReportsCannot verb.now path.now (E.contents err.old) (E.contents err.new) }
 {
     report_made(cannot_message(alloc, verb, path, error), err);
     DEVICE_FAULT

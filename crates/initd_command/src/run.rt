@@ -5,7 +5,7 @@ ghost use Rattle.initd_command.specs.Words.{KnownTexts, NamedText, Entry, Level,
 ghost use Rattle.initd_command.specs.Endings.{Ending, Reports, ReportsObstacle, Spoken, obstacle_status, status_of, turned};
 ghost use Rattle.initd_command.specs.Ran.{MakesLogged, MakesTurns, RanBy};
 ghost use Rattle.initd_command.specs.Turned.{End, ReportsEnd, end_status};
-ghost use Rattle.initd_command.specs.Services.{AreFiles, EndsRun, EndsServed, EndsTold, HasInittab, Hinders, IsInittab, IsReadOf, StandBy, TakesParts, has_result, is_taken, is_unled, judgement_for, obstacle_of, own_paths, table_in, told_of};
+ghost use Rattle.initd_command.specs.Services.{AreFiles, EndsRun, EndsServed, EndsTold, HasInittab, IsInWay, IsInittab, IsReadOf, StandBy, TakesParts, has_result, is_taken, is_unled, judgement_for, own_paths, table_in, told_of};
 
 use crate::ends::report_end;
 use crate::hosts::Hosts;
@@ -45,19 +45,13 @@ const UNTOLD: &str = "initd: the faults of the inittab could not be written\n";
 const UNLED: &str = "initd: the inittab names no level (initdefault), and --level is not given: \
     init goes to level S\n";
 
-/// Why a run ended before its first turn.
+/// Why a command is refused, or can't go on, before it writes anything.
 #[derive(Drop)]
-enum RunFault {
-    /// Another run reads the channel of requests; its process number, where that is known.
-    Busy(Option<u32>),
-    /// These two paths of the run lead to one file.
-    Shared(String, String),
-    /// The channel of requests could not be made, opened or locked.
-    Channel(io::Error),
-    /// The inittab could not be read.
-    Inittab(io::Error),
-    /// The folder of this path could not be listed, or the file of this path in it not be read.
-    Folder(String, io::Error),
+enum Obstacle {
+    /// The file or the folder of this path was not read.
+    Unread(String, io::Error),
+    /// Out of memory.
+    Memory,
     /// The inittab has too many files.
     TooMany,
     /// The inittab is too long.
@@ -66,33 +60,24 @@ enum RunFault {
     Flawed(Vec<u8>),
     /// The inittab has no entry of the id whose result the run's is to be.
     Unlisted(Id),
-    /// The file of the trace could not be opened or made.
-    Trace(io::Error),
-    /// Another run writes the trace; its process number, where that is known.
-    Held(Option<u32>),
-    /// Out of memory.
-    Memory,
+    /// Another run has the file of this path, the channel or the trace; its process number, where that is known.
+    Busy(String, Option<u32>),
+    /// These two paths of the run lead to one file.
+    Shared(String, String),
+    /// The channel of this path could not be made, opened or locked.
+    Unlocked(String, io::Error),
+    /// The trace of this path could not be opened or made.
+    Uncreated(String, io::Error),
 }
 
-impl From<AllocError> for RunFault {
+impl From<AllocError> for Obstacle {
     ghost use Rattle.std.specs.Prelude.{◌≡◌};
-    ghost use Rattle.initd_command.specs.declared.run.RunFault.TheVariants.{Memory as NoRoom};
+    ghost use Rattle.initd_command.specs.declared.run.Obstacle.TheVariants.{Memory as NoRoom};
 
     ghost from_gives = { λ _ fault. fault ≡ NoRoom };
 
-    fn from(_error: AllocError) -> RunFault {
-        RunFault::Memory
-    }
-}
-
-impl From<Memory> for RunFault {
-    ghost use Rattle.std.specs.Prelude.{◌≡◌};
-    ghost use Rattle.initd_command.specs.declared.run.RunFault.TheVariants.{Memory as NoRoom};
-
-    ghost from_gives = { λ _ fault. fault ≡ NoRoom };
-
-    fn from(_error: Memory) -> RunFault {
-        RunFault::Memory
+    fn from(_error: AllocError) -> Obstacle {
+        Obstacle::Memory
     }
 }
 
@@ -139,7 +124,7 @@ where
 {
     match open_run(rt, texts, hosts, alloc, said) {
         Ok(run) => make_run(rt, hosts, alloc, said, run, out, err),
-        Err(fault) => report_run_fault(alloc, said, &fault, err),
+        Err(why) => report_obstacle(alloc, &why, err),
     }
 }
 
@@ -151,7 +136,7 @@ fn open_run<R, T: Texts, H: Host + Drop, S: Hosts<H>>(
     hosts: &mut S,
     alloc: Global,
     said: &RunWords,
-) -> Result<Run<H>, RunFault>
+) -> Result<Run<H>, Obstacle>
 where
     R: Files<File = File> + Alloc + Eprint,
     ensures ok { IfOk result (λ run. HasInittab (T.text_at texts.now) (run_of said.now)
@@ -162,13 +147,15 @@ where
     ensures host { IfOk result (λ run. H.told run.host ≡ S.told hosts.old) }
     ensures opened { OnOk result (Since (S.opened hosts.old) (S.opened hosts.new)
         (λ saids. saids ≡ run_of said.now ∷ [])) }
-    ensures err { IfErr result (Hinders (T.text_at texts.now) (run_of said.now)) }
+    ensures err { IfErr result (IsInWay (T.text_at texts.now) (run_of said.now)) }
     ensures unasked { OnErr result (S.told hosts.new ≡ S.told hosts.old) }
 {
     refuse_shared(rt, alloc, said)?;
     let Inittab { table, faults } = read_inittab(rt, texts, alloc, said)?;
     let is_unled = is_unled(said.level, &table);
-    let opening = Opening::new(alloc, table, said.level)?;
+    let Ok(opening) = Opening::new(alloc, table, said.level) else {
+        return Err(Obstacle::Memory);
+    };
     let (trace, made_trace) = open_trace(rt, alloc, said)?;
     let host = match open_host(rt, hosts, alloc, said) {
         Ok(host) => host,
@@ -192,25 +179,25 @@ fn open_host<R: Files<File = File> + Alloc, H: Host + Drop, S: Hosts<H>>(
     hosts: &mut S,
     alloc: Global,
     said: &RunWords,
-) -> Result<H, RunFault>
+) -> Result<H, Obstacle>
     ensures host { IfOk result (λ host. H.told host ≡ S.told hosts.old) }
     ensures opened { OnOk result (Since (S.opened hosts.old) (S.opened hosts.new)
         (λ saids. saids ≡ run_of said.now ∷ [])) }
     ensures unasked { OnErr result (S.told hosts.new ≡ S.told hosts.old) }
-    ensures err { (text_at : KnownTexts) → IfErr result (Hinders text_at (run_of said.now)) }
+    ensures err { (text_at : KnownTexts) → IfErr result (IsInWay text_at (run_of said.now)) }
 {
     let path = said.initctl.as_str();
     let lock = match lock_channel(rt, path) {
         Ok(Some(lock)) => lock,
-        Ok(None) => return Err(RunFault::Busy(lock_holder(rt, alloc, path))),
-        Err(error) => return Err(RunFault::Channel(error)),
+        Ok(None) => return Err(Obstacle::Busy(said.initctl.clone()?, lock_holder(rt, alloc, path))),
+        Err(error) => return Err(Obstacle::Unlocked(said.initctl.clone()?, error)),
     };
     let was_made = lock.was_made();
     match hosts.open(alloc, said, lock) {
         Ok(host) => Ok(host),
         Err(Memory) => {
             take_away(rt, path, was_made);
-            Err(RunFault::Memory)
+            Err(Obstacle::Memory)
         }
     }
 }
@@ -236,8 +223,8 @@ fn is_unled(level: Option<Level>, table: &Table) -> bool
 }
 
 /// Refuses two paths of the run that lead to one file: what is written to one would be lost in the other.
-fn refuse_shared<R: Files>(rt: &R, alloc: Global, said: &RunWords) -> Result<(), RunFault>
-    ensures { (text_at : KnownTexts) → IfErr result (Hinders text_at (run_of said.now)) }
+fn refuse_shared<R: Files>(rt: &R, alloc: Global, said: &RunWords) -> Result<(), Obstacle>
+    ensures { (text_at : KnownTexts) → IfErr result (IsInWay text_at (run_of said.now)) }
 {
     let inittab = said.inittab.as_str();
     let initctl = said.initctl.as_str();
@@ -252,17 +239,17 @@ fn refuse_shared<R: Files>(rt: &R, alloc: Global, said: &RunWords) -> Result<(),
 }
 
 /// Refuses two paths that lead to one file.
-fn refuse_pair<R: Files>(rt: &R, alloc: Global, one: &str, other: &str) -> Result<(), RunFault>
+fn refuse_pair<R: Files>(rt: &R, alloc: Global, one: &str, other: &str) -> Result<(), Obstacle>
     ensures { (text_at : KnownTexts) (service : RunSaid)
         → StandBy one.now other.now (own_paths service)
-        → IfErr result (Hinders text_at service) }
+        → IfErr result (IsInWay text_at service) }
 {
     if !are_one_file(rt, one, other) {
         return Ok(());
     }
     let one = String::from_str(alloc, one)?;
     let other = String::from_str(alloc, other)?;
-    Err(RunFault::Shared(one, other))
+    Err(Obstacle::Shared(one, other))
 }
 
 /// The folder of the inittab's further files, where words name one.
@@ -281,22 +268,22 @@ fn files_of<R: Files + Eprint, T: Texts>(
     texts: &T,
     alloc: Global,
     said: &RunWords,
-) -> Result<Vec<Part>, RunFault>
+) -> Result<Vec<Part>, Obstacle>
     ensures ok { IfOk result (λ parts.
         AreFiles (T.text_at texts.now) (run_of said.now) parts.items) }
-    ensures err { IfErr result (Hinders (T.text_at texts.now) (run_of said.now)) }
+    ensures err { IfErr result (IsInWay (T.text_at texts.now) (run_of said.now)) }
 {
     let bytes = match texts.read_file(alloc, said.inittab.as_str()) {
         Ok(bytes) => bytes,
-        Err(error) => return Err(RunFault::Inittab(hinted(said, error))),
+        Err(error) => return Err(Obstacle::Unread(said.inittab.clone()?, hinted(said, error))),
     };
     let name = String::from_str(alloc, said.inittab.as_str())?;
     let own = Part { name, bytes };
     let mut passed = PassedNames::new(alloc, said.verbose);
     match with_folder(rt, alloc, own, folder_of(said), &mut passed) {
         Ok(parts) => Ok(parts),
-        Err(FolderFault::Unread(path, error)) => Err(RunFault::Folder(path, error)),
-        Err(FolderFault::Memory) => Err(RunFault::Memory),
+        Err(FolderFault::Unread(path, error)) => Err(Obstacle::Unread(path, error)),
+        Err(FolderFault::Memory) => Err(Obstacle::Memory),
     }
 }
 
@@ -313,39 +300,39 @@ fn hinted(said: &RunWords, error: io::Error) -> io::Error {
 
 /// The inittab, where the run takes it: one with faults where it is not strict, and one that has an entry of the id
 /// whose result the run's is to be.
-fn taken(said: &RunWords, inittab: Inittab) -> Result<Inittab, RunFault>
+fn taken(said: &RunWords, inittab: Inittab) -> Result<Inittab, Obstacle>
     ensures ok { IfOk result (λ given. (given ≡ inittab)
         × (is_taken (run_of said.now) inittab.faults.items inittab.table ≡ true)) }
     ensures err { (text_at : KnownTexts) (parts : List NamedText)
         → AreFiles text_at (run_of said.now) parts → IsReadOf parts inittab
-        → IfErr result (Hinders text_at (run_of said.now)) }
+        → IfErr result (IsInWay text_at (run_of said.now)) }
 {
     if said.strict && !inittab.faults.is_empty() {
-        return Err(RunFault::Flawed(inittab.faults));
+        return Err(Obstacle::Flawed(inittab.faults));
     }
     let Some(id) = said.result else {
         return Ok(inittab);
     };
     if inittab.table.get(&id).is_none() {
-        return Err(RunFault::Unlisted(id));
+        return Err(Obstacle::Unlisted(id));
     }
     Ok(inittab)
 }
 
 /// The table of the files of an inittab, and the lines that tell their faults.
-fn inittab_of(alloc: Global, parts: &[Part]) -> Result<Inittab, RunFault>
+fn inittab_of(alloc: Global, parts: &[Part]) -> Result<Inittab, Obstacle>
     ensures ok { IfOk result (IsReadOf parts.now) }
     ensures err { (text_at : KnownTexts) (service : RunSaid) → AreFiles text_at service parts.now
-        → IfErr result (Hinders text_at service) }
+        → IfErr result (IsInWay text_at service) }
 {
     match read_parts(alloc, parts) {
         Ok((table, faults)) => Ok(Inittab {
             table,
             faults: faults_text(alloc, parts, &faults)?,
         }),
-        Err(TableFault::TooLong) => Err(RunFault::TooLong),
-        Err(TableFault::Parts) => Err(RunFault::TooMany),
-        Err(TableFault::Memory) => Err(RunFault::Memory),
+        Err(TableFault::TooLong) => Err(Obstacle::TooLong),
+        Err(TableFault::Parts) => Err(Obstacle::TooMany),
+        Err(TableFault::Memory) => Err(Obstacle::Memory),
     }
 }
 
@@ -354,9 +341,9 @@ fn read_inittab<R: Files + Eprint, T: Texts>(
     texts: &T,
     alloc: Global,
     said: &RunWords,
-) -> Result<Inittab, RunFault>
+) -> Result<Inittab, Obstacle>
     ensures ok { IfOk result (IsInittab (T.text_at texts.now) (run_of said.now)) }
-    ensures err { IfErr result (Hinders (T.text_at texts.now) (run_of said.now)) }
+    ensures err { IfErr result (IsInWay (T.text_at texts.now) (run_of said.now)) }
 {
     let parts = files_of(rt, texts, alloc, said)?;
     let inittab = inittab_of(alloc, &parts)?;
@@ -368,18 +355,18 @@ fn open_trace<R: Files<File = File>>(
     rt: &R,
     alloc: Global,
     said: &RunWords,
-) -> Result<(Option<File>, bool), RunFault>
+) -> Result<(Option<File>, bool), Obstacle>
     ensures { (text_at : KnownTexts)
         → HasInittab text_at (run_of said.now) (TakesParts (run_of said.now))
-        → IfErr result (Hinders text_at (run_of said.now)) }
+        → IfErr result (IsInWay text_at (run_of said.now)) }
 {
     let Some(path) = &said.trace else {
         return Ok((None, false));
     };
     match opened(rt, path.as_str()) {
         Ok((Some(file), was_made)) => Ok((Some(file), was_made)),
-        Ok((None, _)) => Err(RunFault::Held(lock_holder(rt, alloc, path.as_str()))),
-        Err(error) => Err(RunFault::Trace(error)),
+        Ok((None, _)) => Err(Obstacle::Busy(path.clone()?, lock_holder(rt, alloc, path.as_str()))),
+        Err(error) => Err(Obstacle::Uncreated(path.clone()?, error)),
     }
 }
 
@@ -397,31 +384,24 @@ fn opened<R: Files<File = File>>(rt: &R, path: &str) -> io::Result<(Option<File>
     Ok((Some(file), was_missing))
 }
 
-/// Reports why a run ended before its first turn, and gives the exit status.
-fn report_run_fault<E: Write>(alloc: Global, said: &RunWords, fault: &RunFault, err: &mut E) -> u8
-    ensures { (reason : List ℕ)
-        × (result ≡ obstacle_status (obstacle_of (run_of said.now) reason fault.now))
-        × ReportsObstacle (obstacle_of (run_of said.now) reason fault.now)
-        (E.contents err.old) (E.contents err.new) }
+/// Reports what is in the way, and gives the exit status.
+fn report_obstacle<E: Write>(alloc: Global, why: &Obstacle, err: &mut E) -> u8
+    ensures status { result ≡ obstacle_status why.now }
+    ensures reported { ReportsObstacle why.now (E.contents err.old) (E.contents err.new) }
 {
-    let initctl = said.initctl.as_str();
-    match fault {
-        RunFault::Busy(holder) => report_busy(alloc, initctl, *holder, err),
-        RunFault::Shared(one, other) => {
-            let first = one.as_str();
-            let second = other.as_str();
-            report_shared(alloc, first, second, err)
+    match why {
+        Obstacle::Unread(path, error) => report_cannot(alloc, "read", path.as_str(), error, err),
+        Obstacle::Memory => report_memory(err),
+        Obstacle::TooMany => report_too_many(err),
+        Obstacle::TooLong => report_fault(alloc, &[], &SimFault::Table, err),
+        Obstacle::Flawed(faults) => report_flawed(faults, err),
+        Obstacle::Unlisted(id) => report_unlisted(alloc, id, err),
+        Obstacle::Busy(path, holder) => report_busy(alloc, path.as_str(), *holder, err),
+        Obstacle::Shared(one, other) => report_shared(alloc, one.as_str(), other.as_str(), err),
+        Obstacle::Unlocked(path, error) => report_cannot(alloc, "lock", path.as_str(), error, err),
+        Obstacle::Uncreated(path, error) => {
+            report_cannot(alloc, "create", path.as_str(), error, err)
         }
-        RunFault::Channel(error) => report_cannot(alloc, "lock", initctl, error, err),
-        RunFault::Inittab(error) => report_cannot(alloc, "read", said.inittab.as_str(), error, err),
-        RunFault::Folder(path, error) => report_cannot(alloc, "read", path.as_str(), error, err),
-        RunFault::TooMany => report_too_many(err),
-        RunFault::TooLong => report_fault(alloc, &[], &SimFault::Table, err),
-        RunFault::Flawed(faults) => report_flawed(faults, err),
-        RunFault::Unlisted(id) => report_unlisted(alloc, id, err),
-        RunFault::Trace(error) => report_cannot(alloc, "create", trace_of(said), error, err),
-        RunFault::Held(holder) => report_busy(alloc, trace_of(said), *holder, err),
-        RunFault::Memory => report_memory(err),
     }
 }
 

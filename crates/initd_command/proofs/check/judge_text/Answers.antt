@@ -1,5 +1,6 @@
-use Rattle.initd_command.proofs.Words.{◌∙◌, ap, inl, inr, subst, Keeps-refl, IsTextAt, CheckSaid, check_of, refused, unread, cut_at, within_of}
+use Rattle.initd_command.proofs.Words.{refl, ◌∙◌, ap, inl, inr, subst, Keeps-refl, IsTextAt, CheckSaid, check_of, refused, cut_at, within_of}
 use Rattle.initd_command.specs.Verdicts.{EndsTold}
+use Rattle.initd_command.specs.declared.run.Obstacle.TheVariants.{Unread}
 use Rattle.initd_command.proofs.check.judge_text.Goals as goal
 
 pub returns-in-Ok : goal.returns-in-Ok
@@ -21,5 +22,4 @@ returns-in-Ok g c =
 
 pub returns-in-Err : goal.returns-in-Err
 returns-in-Err g c =
-    let (why, reported) = c.report_cannot.ensures.reported in
-    (refused (unread c.as_str-path.result.now why), c.report_cannot.ensures.status, inl (why, ap (λ p. refused (unread p why)) c.as_str-path.ensures.value, Keeps-refl (g.W.Write.contents c.args.out.now)), reported)
+    (refused (Unread c.args.said.now.trace c.in-Err.error), c.report_cannot.ensures.status, inl (refl, Keeps-refl (g.W.Write.contents c.args.out.now)), rw c.as_str-path.ensures.value at c.report_cannot.ensures.reported)

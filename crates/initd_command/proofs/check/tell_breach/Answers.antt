@@ -1,11 +1,12 @@
-use Rattle.initd_command.proofs.Words.{rules, ◌≡◌, refl, subst, Appends, AppendsPrefix, Keeps-refl, no_memory, refused, unlawful, unwritten, breach_message, unlawful_text}
+use Rattle.initd_command.proofs.Words.{rules, ◌≡◌, refl, subst, Appends, AppendsPrefix, Keeps-refl, refused, unlawful, unwritten, breach_message, unlawful_text}
+use Rattle.initd_command.specs.declared.run.Obstacle.TheVariants.{Memory}
 use Rattle.initd_command.proofs.check.tell_breach.Goals as goal
 
 pub returns-in_default : goal.returns-in_default
-returns-in_default g c = (refused no_memory, c.report_memory.ensures.status, Keeps-refl (g.W.Write.contents c.args.out.now), c.report_memory.ensures.reported)
+returns-in_default g c = (refused Memory, c.report_memory.ensures.status, Keeps-refl (g.W.Write.contents c.args.out.now), c.report_memory.ensures.reported)
 
 pub returns-in_default-breach_message : goal.returns-in_default-breach_message
-returns-in_default-breach_message g c = (refused no_memory, c.report_memory-in_default-breach_message.ensures.status, Keeps-refl (g.W.Write.contents c.args.out.now), c.report_memory-in_default-breach_message.ensures.reported)
+returns-in_default-breach_message g c = (refused Memory, c.report_memory-in_default-breach_message.ensures.status, Keeps-refl (g.W.Write.contents c.args.out.now), c.report_memory-in_default-breach_message.ensures.reported)
 
 pub returns-then-not-tell : goal.returns-then-not-tell
 returns-then-not-tell g c =

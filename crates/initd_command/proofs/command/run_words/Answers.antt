@@ -1,5 +1,6 @@
-use Rattle.initd_command.proofs.Words.{◌≡◌, refl, sym, subst, rules, inl, inr, List, ℕ, Option, Some, None, map, string_bytes, Keeps-refl, KnownTexts, InitdSaid, check_of, judges, initd_read_of, simulation_of, simulates, runs, version, RunSaid, run_of, HostCall, Ending, no_memory, refused, usage, usage_named, AsksBy, AsksSaid, RunTold}
+use Rattle.initd_command.proofs.Words.{◌≡◌, refl, sym, subst, rules, inl, inr, List, ℕ, Option, Some, None, map, string_bytes, Keeps-refl, KnownTexts, InitdSaid, check_of, judges, initd_read_of, simulation_of, simulates, runs, version, RunSaid, run_of, HostCall, Ending, refused, usage, usage_named, AsksBy, AsksSaid, RunTold}
 use Rattle.initd_command.specs.Runs.{EndsBy, EndsRead}
+use Rattle.initd_command.specs.declared.run.Obstacle.TheVariants.{Memory}
 use Rattle.initd_command.proofs.Ran.{none_asked}
 use Rattle.initd_command.proofs.command.run_words.Goals as goal
 
@@ -62,7 +63,7 @@ returns-in-Err-Usage g c =
 pub returns : goal.returns
 returns g c =
     let now : RunTold = told (g.S.Hosts.opened c.args.hosts.now) (g.S.Hosts.told c.args.hosts.now) (g.W.Write.contents c.args.out.now) in (
-      refused no_memory,
+      refused Memory,
       c.report_memory.ensures.status,
       inl (refl, Keeps-refl (g.W.Write.contents c.args.out.now)),
       c.report_memory.ensures.reported,

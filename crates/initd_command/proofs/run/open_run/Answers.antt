@@ -1,4 +1,4 @@
-use Rattle.initd_command.proofs.Words.{run_of, Hinders}
+use Rattle.initd_command.proofs.Words.{run_of, IsInWay}
 use Rattle.initd_command.proofs.Ended.{handed_on, read_taken}
 use Rattle.initd_command.proofs.run.open_run.Goals as goal
 
@@ -6,8 +6,13 @@ pub returns-in_err-trace-clause-err : goal.returns-in_err-trace-clause-err
 returns-in_err-trace-clause-err g c =
     let text_at = g.T.Texts.text_at c.args.texts.now in
     let service = run_of c.args.said.now in
-    handed_on c.from_residual-in_err-trace.result c.in_err-trace.field-0.0 (Hinders text_at service) c.from_residual-in_err-trace.ensures.1
+    handed_on c.from_residual-in_err-trace.result c.in_err-trace.field-0.0 (IsInWay text_at service) c.from_residual-in_err-trace.ensures.1
     (c.in_err-trace.ensures text_at (read_taken text_at service c.in_ok-table.field-0 c.in_ok-table.ensures.ok))
 
 pub returns-in-Err-clause-err : goal.returns-in-Err-clause-err
-returns-in-Err-clause-err g c = λ reason. c.in-Err.ensures.err (g.T.Texts.text_at c.args.texts.now) reason
+returns-in-Err-clause-err g c = c.in-Err.ensures.err (g.T.Texts.text_at c.args.texts.now)
+
+pub returns-in_err-refuse_shared-clause-err : goal.returns-in_err-refuse_shared-clause-err
+returns-in_err-refuse_shared-clause-err g c =
+    let text_at = g.T.Texts.text_at c.args.texts.now in
+    handed_on c.from_residual.result c.in_err-refuse_shared.field-0.0 (IsInWay text_at (run_of c.args.said.now)) c.from_residual.ensures.1 (c.in_err-refuse_shared.ensures text_at)

@@ -1,4 +1,4 @@
-use Rattle.initd_command.proofs.Words.{◌≡◌, ◌∙◌, refl, sym, subst, [], ◌∷◌, inl, inr, ⊤, Keeps-refl, Since, run_of, refused, turned, MakesTurns, obstacle_of}
+use Rattle.initd_command.proofs.Words.{◌≡◌, ◌∙◌, refl, sym, subst, [], ◌∷◌, inl, inr, ⊤, Keeps-refl, Since, run_of, refused, turned, MakesTurns}
 use Rattle.initd_command.specs.Services.{EndsTold}
 use Rattle.initd_command.proofs.Ran.{ran_to}
 use Rattle.initd_command.proofs.run.run_files.Goals as goal
@@ -28,6 +28,4 @@ returns-in-Ok g c =
 
 pub returns-in-Err : goal.returns-in-Err
 returns-in-Err g c =
-    let (reason, status, reported) = c.report_run_fault.ensures in
-    let why = obstacle_of (run_of c.args.said.now) reason c.in-Err.fault in
-    (refused why, status, inl (why, refl, c.in-Err.ensures.err reason, Keeps-refl (g.W.Write.contents c.args.out.now)), reported, c.in-Err.ensures.unasked)
+    (refused c.in-Err.why, c.report_obstacle.ensures.status, inl (c.in-Err.why, refl, c.in-Err.ensures.err, Keeps-refl (g.W.Write.contents c.args.out.now)), c.report_obstacle.ensures.reported, c.in-Err.ensures.unasked)
