@@ -4,13 +4,6 @@ use Rattle.initd_command.specs.declared.ends.TheConstants.{UNLOGGED}
 use Rattle.initd_command.specs.declared.reports.TheConstants.{NO_MEMORY}
 use Rattle.initd_command.specs.Services.{Noted}
 
--- a message whose text says a reason is reported, or that there was no memory for it
-pub reported_why : {T E : Type 0} (message : Result T E) (bytes : T → List ℕ) (told : List ℕ → List ℕ) (old new : Option (List ℕ))
-    → IfOk message (λ text. (why : List ℕ) × (bytes text ≡ told why)) → IfOk message (λ text. AppendsPrefix old new (bytes text))
-    → OnErr message (AppendsPrefix old new NO_MEMORY.now) → (why : List ℕ) × ReportsText (told why) old new
-reported_why (Ok text) bytes told old new (why, is) part none = (why, inl (subst (AppendsPrefix old new) is part))
-reported_why (Err error) bytes told old new is part none = ([], inr none)
-
 -- a message of this text is reported, or that there was no memory for it
 pub reported_text : {T E : Type 0} (message : Result T E) (bytes : T → List ℕ) (told : List ℕ) (old new : Option (List ℕ))
     → IfOk message (λ text. bytes text ≡ told) → IfOk message (λ text. AppendsPrefix old new (bytes text))

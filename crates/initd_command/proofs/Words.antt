@@ -24,5 +24,5 @@ pub use Rattle.initd_options.specs.CommandLine.{InitdSaid, judges, runs, simulat
 pub use Rattle.initd_command.specs.Turned.{End, ReportsEnd, ReportsJudgement, ReportsText, ReportsTurns, listed_after}
 pub use Rattle.initd_command.specs.Ran.{AsksSaid, MakesLogged, MakesTurns, RanBy, RunTold, AsksBy}
 pub use Rattle.program_io.specs.Writing.{AppendsPrefix}
-pub use Rattle.initd_command.specs.Verdicts.{first_byte, cut_at, within_of, breach_message, unlawful_text, EndsFound, judged_of, verdict_of}
+pub use Rattle.initd_command.specs.Verdicts.{cut_at, within_of, breach_message, unlawful_text, EndsFound, judged_of, verdict_of}
 pub use Rattle.std.proofs.lemmas.Result.{IfOk-weaker}

@@ -1,5 +1,5 @@
 -- How a trace is judged: the verdict that is written, and what is told of a breach.
-use Rattle.std.specs.Prelude.{◌≡◌, ◌⊎◌, ◌==◌, ◌&&◌, if◌then◌else◌, not, nat_lt, ℕ, Bool, true, false, List, [], ◌∷◌, ◌++◌, codes, decimal, Option, Some, None, option_map}
+use Rattle.std.specs.Prelude.{◌≡◌, ◌⊎◌, ◌==◌, ◌&&◌, if◌then◌else◌, not, nat_lt, ℕ, Bool, true, false, List, [], ◌∷◌, ◌++◌, codes, decimal, Option, Some, None, option_map, slice_get}
 use Rattle.std.specs.Io.KnownBytes.{Appends, Keeps}
 use Rattle.initd_command.specs.Words.{AppendsPrefix, IsTextAt, KnownTexts, law_number, law_words, CheckSaid}
 use Rattle.trace_verdict.specs.declared.findings.Finding.{Finding}
@@ -35,18 +35,10 @@ verdict_of Lawful = lawful_text
 verdict_of (Breach breach) = unlawful_text breach
 verdict_of (Torn number) = []
 
--- a line, its number and what is said of it
-abbrev pub message_of : ℕ → List ℕ → List ℕ → List ℕ
-message_of number line why =
-    codes "line " ++ decimal number ++ codes ": " ++ line ++ codes ": " ++ why ++ codes "\n"
-
 -- the line at fault, with its number in the trace's text, and the law
 abbrev pub breach_message : Named → List ℕ
-breach_message breach = message_of breach.line (front_line breach.text) (law_words breach.law)
-
-abbrev pub first_byte : List ℕ → Option ℕ
-first_byte [] = None
-first_byte (byte ∷ text) = Some byte
+breach_message breach = codes "line " ++ decimal breach.line ++ codes ": " ++ front_line breach.text
+    ++ codes ": " ++ law_words breach.law ++ codes "\n"
 
 -- the path of a text that begins within a run, by its first byte and how many happenings it has: a run begins with
 -- `use`, and no other happening's text with a `u`
@@ -56,7 +48,7 @@ within_of path (Some byte) count = if not (byte == 117) && nat_lt 0 count then S
 
 -- a judge has taken the text, and this is its first byte
 abbrev pub IsJudge : TextState → Option ℕ → List ℕ → Type 0
-IsJudge judge first text = HasTaken judge text × (first ≡ first_byte text)
+IsJudge judge first text = HasTaken judge text × (first ≡ slice_get text 0)
 
 -- how a lawful trace ends, and one with this breach, so far as it was judged
 abbrev pub EndsLawful : Judged → Ending → Option (List ℕ) → Option (List ℕ) → Type 0
@@ -102,7 +94,7 @@ abbrev pub EndsTrace : CheckSaid → List ℕ → Ending → Option (List ℕ) �
 EndsTrace said text ending old new = (finding : Finding Named) × (left : Option ℕ) × (count : ℕ)
     × Answers text finding left count
     × EndsTold (cut_at said.growing left) finding (record {
-      within = within_of said.trace (first_byte text) count;
+      within = within_of said.trace (slice_get text 0) count;
       left = left;
       count = count;
     }) ending old new

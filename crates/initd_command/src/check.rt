@@ -1,11 +1,11 @@
 //! `initd check`: a trace file, judged.
 
-ghost use Rattle.std.specs.Prelude.{◌≡◌, ◌++◌, ℕ, List, Some, [], option_map, string_bytes, IfOk};
+ghost use Rattle.std.specs.Prelude.{◌≡◌, [], option_map, string_bytes, IfOk};
 ghost use Rattle.initd_command.specs.Words.{check_of};
 ghost use Rattle.initd_command.specs.Endings.{Ending, Reports, ReportsJudged, ReportsLeft, ReportsWithin, status_of, left_message, torn_message, unfinished_message, within_message};
 ghost use Rattle.initd_command.specs.Runs.{judged_at};
 ghost use Rattle.initd_command.specs.Turned.{ReportsText};
-ghost use Rattle.initd_command.specs.Verdicts.{EndsBreach, EndsCheck, EndsFound, EndsLawful, EndsTold, IsJudge, breach_message, cut_at, first_byte, judged_of, message_of, verdict_of, verdict_text, within_of};
+ghost use Rattle.initd_command.specs.Verdicts.{EndsBreach, EndsCheck, EndsFound, EndsLawful, EndsTold, IsJudge, breach_message, cut_at, judged_of, verdict_of, verdict_text, within_of};
 
 use crate::lines::front_line;
 use crate::reports::{report, report_bytes, report_cannot, report_made, report_memory, tell};
@@ -37,32 +37,13 @@ struct FileJudge {
     first: Option<u8>,
 }
 
-/// The first byte of a text, which was this one without the text's last piece.
-fn first_with(first: Option<u8>, piece: &[u8]) -> Option<u8>
-    ensures { (text : List ℕ) → first ≡ first_byte text → result ≡ first_byte (text ++ piece.now) }
-{
-    match first {
-        Some(byte) => Some(byte),
-        None => first_byte(piece),
-    }
-}
-
-fn first_byte(text: &[u8]) -> Option<u8>
-    ensures { result ≡ first_byte text.now }
-{
-    match text {
-        [] => None,
-        [first, ..] => Some(*first),
-    }
-}
-
 impl PieceTaker for FileJudge {
     ghost use Rattle.initd_command.specs.Verdicts.{IsJudge};
 
     ghost has_taken = { λ file text. IsJudge file.judge file.first text };
 
     fn take_piece(&mut self, piece: &[u8]) -> Result<(), AllocError> {
-        self.first = first_with(self.first, piece);
+        self.first = self.first.or(piece.first().copied());
         match self.judge.take(piece) {
             Ok(()) => Ok(()),
             Err(Memory) => Err(AllocError),
@@ -284,21 +265,14 @@ fn verdict_of(alloc: Global, finding: &Finding) -> Result<String, AllocError>
 fn breach_message(alloc: Global, breach: &Breach) -> Result<Vec<u8>, AllocError>
     ensures { IfOk result (λ text. text.items ≡ breach_message breach.now) }
 {
-    let why = breach.law().words().as_bytes();
-    message_of(alloc, breach.line(), front_line(breach.text()), why)
-}
-
-fn message_of(alloc: Global, number: u64, line: &[u8], why: &[u8]) -> Result<Vec<u8>, AllocError>
-    ensures { IfOk result (λ text. text.items ≡ message_of number line.now why.now) }
-{
     let mut text = Vec::new(alloc);
     let mut digits = Buffer::new();
     text.extend_from_slice(b"line ")?;
-    text.extend_from_slice(digits.format(number).as_bytes())?;
+    text.extend_from_slice(digits.format(breach.line()).as_bytes())?;
     text.extend_from_slice(b": ")?;
-    text.extend_from_slice(line)?;
+    text.extend_from_slice(front_line(breach.text()))?;
     text.extend_from_slice(b": ")?;
-    text.extend_from_slice(why)?;
+    text.extend_from_slice(breach.law().words().as_bytes())?;
     text.push(b'\n')?;
     Ok(text)
 }

@@ -3,7 +3,7 @@
 ghost use Rattle.std.specs.Prelude.{◌≡◌, true, ℕ, List, None, Some, OnOk, OnErr, string_bytes, IfOk, ◌++◌};
 ghost use Rattle.std.specs.Io.KnownBytes.{Appends};
 ghost use Rattle.initd_command.specs.Words.{AppendsPrefix};
-ghost use Rattle.initd_command.specs.Endings.{ReportsCannot, ReportsFlawed, ReportsWhere, busy_message, cannot_message, fault_message, fault_status, reason_message, shared_message, unlisted_message};
+ghost use Rattle.initd_command.specs.Endings.{ReportsCannot, ReportsFlawed, ReportsWhere, busy_message, fault_message, fault_status, reason_message, shared_message, unlisted_message};
 ghost use Rattle.initd_command.specs.Turned.{ReportsText};
 
 use crate::lines::{line_at, line_told};
@@ -84,22 +84,15 @@ pub(crate) fn report_cannot<E: Write>(
     ensures status { result ≡ DEVICE_FAULT }
     ensures reported { ReportsCannot verb.now path.now (E.contents err.old) (E.contents err.new) }
 {
-    report_made(cannot_message(alloc, verb, path, error), err);
-    DEVICE_FAULT
-}
-
-fn cannot_message(
-    alloc: Global,
-    verb: &str,
-    path: &str,
-    error: &io::Error,
-) -> Result<String, AllocError>
-    ensures { IfOk result (λ text.
-        (why : List ℕ) × (string_bytes text ≡ cannot_message verb.now path.now why)) }
-{
-    let reason = format!(in alloc; "{}", Reason(error))?;
+    let Ok(reason) = format!(in alloc; "{}", Reason(error)) else {
+        return report_memory(err);
+    };
     let why = reason.as_str();
-    format!(in alloc; "initd: cannot {verb} {path}: {why}\n")
+    report_made(
+        format!(in alloc; "initd: cannot {verb} {path}: {why}\n"),
+        err,
+    );
+    DEVICE_FAULT
 }
 
 /// Reports that another run has the channel of requests or the trace, by its process number where that is known, and
