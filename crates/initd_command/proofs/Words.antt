@@ -6,7 +6,7 @@ pub use Rattle.program_io.specs.Known.{KnownTexts, IsTextAt}
 pub use Rattle.std.proofs.KnownBytes.{Appends-kept, Keeps-trans, Keeps-refl}
 pub use Rattle.simulator.specs.Simulation.{Done, Ends, Scenario, past_text, scenario}
 pub use Rattle.initd_command.specs.Endings.{Spoken, refused, turned, count_message, unlawful, unwritten, Judged, torn, lawful, unfinished, Ending, usage, usage_named, done, unversioned, cannot_message, stopped, unflushed}
-pub use Rattle.initd_command.specs.Services.{HasInittab, IsInittab, TakesParts, is_taken, told_of, IsNoted, IsServed, LogEnds, TurnsFrom, judgement_for, noted_of, is_unled, table_in, end_at, end_of, Writes, IsInWay, AreFiles, StandBy, own_paths}
+pub use Rattle.initd_command.specs.Services.{HasInittab, IsInittab, TakesParts, is_taken, told_of, IsNoted, IsServed, LogEnds, TurnsFrom, judgement_for, noted_of, is_unled, table_in, end_of, Writes, IsInWay, AreFiles, StandBy, own_paths}
 pub use Rattle.initd_options.specs.Options.{RunSaid, run_of}
 pub use Rattle.std.proofs.lemmas.List.{append-nil, reverse-append, reverse-reverse, length-drop}
 pub use Rattle.init_words.specs.declared.entries.Entry.{Entry}

@@ -13,7 +13,7 @@ use Rattle.initd_command.specs.declared.run.Inittab.{Inittab}
 use Rattle.initd_command.specs.declared.run.Obstacle.{Obstacle}
 use Rattle.initd_command.specs.declared.run.Obstacle.TheVariants as why
 use Rattle.initd_command.specs.Endings.{Ending, Spoken, refused, turned}
-use Rattle.initd_command.specs.Turned.{End, EntryEnd, drained, limited, unlogged}
+use Rattle.initd_command.specs.Turned.{End, EntryEnd, TurnsEnd, drained, limited, unlogged}
 use Rattle.host_files.specs.Folders.{IsWithin}
 use Rattle.host_messages.specs.LineFaults.{faults_text}
 
@@ -61,13 +61,17 @@ abbrev pub entry_end : Option Status → Option (List ℕ) → Option EntryEnd
 entry_end last entry = option_map (λ id. record { id = id; last = last }) entry
 
 -- how turns end: the trace was written whole or not, and the run was to end where it is drained, and is
-abbrev pub end_at : RunSaid → Noted → Bool → Bool → End
-end_at service noted false _ = unlogged noted.waiting noted.judgement
-end_at service noted true true = drained (entry_end noted.last service.result) noted.judgement
-end_at service noted true false = limited noted.running noted.waiting noted.judgement
+abbrev pub turns_at : RunSaid → Noted → Bool → Bool → TurnsEnd
+turns_at service noted false _ = unlogged noted.waiting
+turns_at service noted true true = drained (entry_end noted.last service.result)
+turns_at service noted true false = limited noted.running noted.waiting
 
 abbrev pub end_of : RunSaid → Noted → Served → End
-end_of service noted served = end_at service noted served.logged (service.drain && served.drained)
+end_of service noted served = record {
+  turns = turns_at service noted served.logged (service.drain && served.drained);
+  whole = served.logged;
+  judgement = noted.judgement;
+}
 
 -- it made no more turns than were asked for, and fewer only where it was to end drained, and is
 abbrev pub IsServed : RunSaid → Served → Type 0

@@ -12,13 +12,19 @@ pub record EntryEnd : Type 0 where
   pub id : List ℕ
   pub last : Option Status
 
--- it ended drained, with an entry's result or without one; it made all its turns, and these children with their numbers go on, or there was no memory to note them all, and these lines tell
--- what init waits for; or its trace was not written whole, and so do these; with what was found of it, where it was to
--- be judged
-pub data End : Type 0 where
-  drained : Option EntryEnd → Option Judgement → End
-  limited : Option (List (List ℕ × ℕ)) → List ℕ → Option Judgement → End
-  unlogged : List ℕ → Option Judgement → End
+-- it ended drained, with an entry's result or without one; it made all its turns, and these children with their numbers
+-- go on, or there was no memory to note them all, and these lines tell what init waits for; or its trace was not written
+-- whole, and so do these
+pub data TurnsEnd : Type 0 where
+  drained : Option EntryEnd → TurnsEnd
+  limited : Option (List (List ℕ × ℕ)) → List ℕ → TurnsEnd
+  unlogged : List ℕ → TurnsEnd
+
+-- how the turns ended, whether their trace was written whole, and what was found of them, where they were to be judged
+pub record End : Type 0 where
+  pub turns : TurnsEnd
+  pub whole : Bool
+  pub judgement : Option Judgement
 
 -- an entry's result as an exit status
 abbrev pub result_status : Option Status → ℕ
@@ -43,15 +49,13 @@ judged_status (Some judgement) status =
     if status == DONE || status == LIMIT_REACHED then unwrap_or (judgement_status judgement) status else status
 
 -- the exit status of how turns ended, whatever was found of them
-abbrev pub turns_status : End → ℕ
-turns_status (drained result judgement) = drained_status result
-turns_status (limited running waiting judgement) = LIMIT_REACHED
-turns_status (unlogged waiting judgement) = DEVICE_FAULT
+abbrev pub turns_status : TurnsEnd → ℕ
+turns_status (drained result) = drained_status result
+turns_status (limited running waiting) = LIMIT_REACHED
+turns_status (unlogged waiting) = DEVICE_FAULT
 
 abbrev pub end_status : End → ℕ
-end_status (drained result judgement) = judged_status judgement (drained_status result)
-end_status (limited running waiting judgement) = judged_status judgement LIMIT_REACHED
-end_status (unlogged waiting judgement) = DEVICE_FAULT
+end_status end = judged_status end.judgement (turns_status end.turns)
 
 -- how the last child of an entry ended
 abbrev pub last_text : Option Status → List ℕ
@@ -109,20 +113,15 @@ ReportsJudgement whole None old new = Keeps old new
 ReportsJudgement whole (Some judgement) old new = ReportsText (judgement_text whole judgement) old new
 
 -- what is reported of how turns ended
-abbrev pub ReportsTurns : End → Option (List ℕ) → Option (List ℕ) → Type 0
-ReportsTurns (drained result judgement) old new = ReportsResult result old new
-ReportsTurns (limited running waiting judgement) old new =
+abbrev pub ReportsTurns : TurnsEnd → Option (List ℕ) → Option (List ℕ) → Type 0
+ReportsTurns (drained result) old new = ReportsResult result old new
+ReportsTurns (limited running waiting) old new =
     (limit : Option (List ℕ)) × AppendsPrefix old limit LIMITED.now
     × (mid : Option (List ℕ)) × ReportsRunning running limit mid × ReportsText waiting mid new
-ReportsTurns (unlogged waiting judgement) old new =
+ReportsTurns (unlogged waiting) old new =
     (mid : Option (List ℕ)) × AppendsPrefix old mid UNLOGGED.now × ReportsText waiting mid new
-
--- what is reported of what was found of them
-abbrev pub ReportsFound : End → Option (List ℕ) → Option (List ℕ) → Type 0
-ReportsFound (drained result judgement) old new = ReportsJudgement true judgement old new
-ReportsFound (limited running waiting judgement) old new = ReportsJudgement true judgement old new
-ReportsFound (unlogged waiting judgement) old new = ReportsJudgement false judgement old new
 
 -- what is reported of an end
 abbrev pub ReportsEnd : End → Option (List ℕ) → Option (List ℕ) → Type 0
-ReportsEnd end old new = (mid : Option (List ℕ)) × ReportsTurns end old mid × ReportsFound end mid new
+ReportsEnd end old new = (mid : Option (List ℕ)) × ReportsTurns end.turns old mid
+    × ReportsJudgement end.whole end.judgement mid new

@@ -1,8 +1,8 @@
 //! How the turns of a run ended, as it is reported, and the exit status.
 
-ghost use Rattle.std.specs.Prelude.{◌≡◌, ◌++◌, ◌&&◌, [], None, Some, true, string_bytes, IfOk, OnOk};
+ghost use Rattle.std.specs.Prelude.{◌≡◌, ◌++◌, ◌&&◌, [], None, Some, string_bytes, IfOk, OnOk};
 ghost use Rattle.initd_command.specs.Words.{run_of, waiting_text};
-ghost use Rattle.initd_command.specs.Services.{end_at, end_of, entry_end, noted_of};
+ghost use Rattle.initd_command.specs.Services.{end_of, entry_end, noted_of, turns_at};
 ghost use Rattle.initd_command.specs.Turned.{ReportsEnd, ReportsJudgement, ReportsResult, ReportsRunning, ReportsText, ReportsTurns, breach_text, child_text, drained_status, end_status, judged_status, judgement_text, lawful_text, result_status, result_text, running_text, turns_status};
 
 use crate::reports::{report, report_lines, report_made};
@@ -48,18 +48,12 @@ pub(crate) fn report_end<E: Write>(
         (noted_of notes.now (waiting_text core.now) judgement) served.now)
         (E.contents err.old) (E.contents err.new) }
 {
-    if !served.logged {
-        report(UNLOGGED, err);
-        report_waiting(alloc, core, err);
-        report_judgement(alloc, false, judgement, err);
-        return DEVICE_FAULT;
-    }
     let status = report_turns(alloc, said, served, notes, core, err);
-    report_judgement(alloc, true, judgement, err);
+    report_judgement(alloc, served.logged, judgement, err);
     judged_status(judgement, status)
 }
 
-/// Reports how turns ended whose log took the whole trace, and gives the exit status that they have by themselves.
+/// Reports how turns ended, and gives the exit status that they have by themselves.
 fn report_turns<E: Write>(
     alloc: Global,
     said: &RunWords,
@@ -68,14 +62,19 @@ fn report_turns<E: Write>(
     core: &Core,
     err: &mut E,
 ) -> u8
-    ensures status { result ≡ turns_status (end_at (run_of said.now)
-        (noted_of notes.now (waiting_text core.now) None) true
+    ensures status { result ≡ turns_status (turns_at (run_of said.now)
+        (noted_of notes.now (waiting_text core.now) None) served.now.logged
         ((run_of said.now).drain && served.now.drained)) }
-    ensures reported { ReportsTurns (end_at (run_of said.now)
-        (noted_of notes.now (waiting_text core.now) None) true
+    ensures reported { ReportsTurns (turns_at (run_of said.now)
+        (noted_of notes.now (waiting_text core.now) None) served.now.logged
         ((run_of said.now).drain && served.now.drained))
         (E.contents err.old) (E.contents err.new) }
 {
+    if !served.logged {
+        report(UNLOGGED, err);
+        report_waiting(alloc, core, err);
+        return DEVICE_FAULT;
+    }
     if said.drain && served.drained {
         return report_result(alloc, said.result, notes, err);
     }
