@@ -112,59 +112,10 @@ impl Write for AnewFile {
     }
 }
 
-/// The file of a trace. Looks that found nothing are kept, to be written with what comes next in one write, as are bytes
-/// that it doesn't take.
-#[derive(Drop)]
-struct TraceFile {
-    piece: AnewFile,
-    kept: Vec<u8>,
-    /// Why it could not be written last.
-    fault: Option<io::Error>,
-}
-
-impl TraceFile {
-    /// A look that found nothing, whose lines these are, is kept: the next line that is none is the next reading of the
-    /// clock at the latest.
-    fn can_wait(&self, line: &[u8]) -> bool {
-        let is_idle = line.starts_with(b"ask ") && line.ends_with(b" look\n")
-            || line.starts_with(b"still ")
-            || line.starts_with(b"told ") && !self.kept.is_empty();
-        is_idle && self.kept.len() < WRITE_LENGTH
-    }
-
-    /// Writes lines, or keeps them. Neither is done where too many bytes are kept.
-    fn add(&mut self, line: &[u8]) -> Result<(), LogFault> {
-        let length = self.kept.len().saturating_add(line.len());
-        if self.fault.is_some() && length > KEPT_LIMIT {
-            return Err(LogFault::Device);
-        }
-        let can_wait = self.can_wait(line);
-        if self.kept.extend_from_slice(line).is_err() {
-            return Err(LogFault::Memory);
-        }
-        if !can_wait {
-            self.catch_up();
-        }
-        Ok(())
-    }
-
-    /// Writes what is kept, as far as the file takes it.
-    fn catch_up(&mut self) {
-        let rest = self.kept.get(self.piece.count..).unwrap_or(&[]);
-        match write_text(&mut self.piece, rest) {
-            Ok(()) => {
-                self.piece.count = 0;
-                self.kept.clear();
-                self.fault = None;
-            }
-            Err(error) => self.fault = Some(error),
-        }
-    }
-}
-
 /// The log of a trace in a file. The pieces one behind the other are the trace: where the file is gone from its path when
 /// init has re-executed itself, the trace goes on in a new one there; and one that has grown to a length is put away at
-/// the end of a turn, where that is asked for.
+/// the end of a turn, where that is asked for. Looks that found nothing are kept, to be written with what comes next in one
+/// write.
 ///
 /// Where the file can't be written, that is told on standard error, and what it doesn't take is kept in memory until it
 /// does: then nothing of the trace is missing, and that is told. Where more than a mebibyte would be kept the log fails,
@@ -174,7 +125,10 @@ pub(crate) struct FileLog<'a, R> {
     rt: &'a R,
     alloc: Global,
     path: &'a str,
-    trace: TraceFile,
+    piece: AnewFile,
+    kept: Vec<u8>,
+    /// Why it could not be written last.
+    fault: Option<io::Error>,
     /// At which length in bytes it is put away, and by how much more where that can't be done.
     put_away_at: u64,
     step: u64,
@@ -199,11 +153,9 @@ impl<'a, R: Files<File = File> + Eprint> FileLog<'a, R> {
             rt,
             alloc,
             path,
-            trace: TraceFile {
-                piece: AnewFile::new(file, 0),
-                kept: Vec::new(alloc),
-                fault: None,
-            },
+            piece: AnewFile::new(file, 0),
+            kept: Vec::new(alloc),
+            fault: None,
             put_away_at: step,
             step,
             is_waiting: false,
@@ -227,14 +179,49 @@ impl<'a, R: Files<File = File> + Eprint> FileLog<'a, R> {
         Ok(())
     }
 
+    /// A look that found nothing, whose lines these are, is kept: the next line that is none is the next reading of the
+    /// clock at the latest.
+    fn can_wait(&self, line: &[u8]) -> bool {
+        let is_idle = line.starts_with(b"ask ") && line.ends_with(b" look\n")
+            || line.starts_with(b"still ")
+            || line.starts_with(b"told ") && !self.kept.is_empty();
+        is_idle && self.kept.len() < WRITE_LENGTH
+    }
+
+    /// Writes the lines of a happening, or keeps them. Neither is done where too many bytes are kept.
     fn add<B: Allocator>(&mut self, happening: &HappeningIn<B>) -> Result<(), LogFault> {
-        self.trace.add(&print_one(self.alloc, happening)?)
+        let line = print_one(self.alloc, happening)?;
+        let length = self.kept.len().saturating_add(line.len());
+        if self.fault.is_some() && length > KEPT_LIMIT {
+            return Err(LogFault::Device);
+        }
+        let can_wait = self.can_wait(&line);
+        if self.kept.extend_from_slice(&line).is_err() {
+            return Err(LogFault::Memory);
+        }
+        if !can_wait {
+            self.catch_up();
+        }
+        Ok(())
+    }
+
+    /// Writes what is kept, as far as the file takes it.
+    fn catch_up(&mut self) {
+        let rest = self.kept.get(self.piece.count..).unwrap_or(&[]);
+        match write_text(&mut self.piece, rest) {
+            Ok(()) => {
+                self.piece.count = 0;
+                self.kept.clear();
+                self.fault = None;
+            }
+            Err(error) => self.fault = Some(error),
+        }
     }
 
     /// Tells that bytes are kept since the file can't be written, and that it was.
     fn tell_waiting(&mut self) {
         let path = self.path;
-        match &self.trace.fault {
+        match &self.fault {
             Some(error) if !self.is_waiting => {
                 self.is_waiting = true;
                 let _ = eprintln!(self.rt;
@@ -255,7 +242,7 @@ impl<'a, R: Files<File = File> + Eprint> FileLog<'a, R> {
     /// Says why a happening could not be written.
     fn tell_failed(&self, fault: LogFault) {
         let path = self.path;
-        let _ = match &self.trace.fault {
+        let _ = match &self.fault {
             Some(error) => eprintln!(self.rt;
                 "initd: cannot write the trace {path}: {}: init goes on without it",
                 Reason(error)
@@ -268,7 +255,7 @@ impl<'a, R: Files<File = File> + Eprint> FileLog<'a, R> {
 
     /// Goes on in another file, first with what this one didn't take.
     fn go_on_in(&mut self, file: File) {
-        self.trace.piece = AnewFile::new(file, self.trace.piece.count);
+        self.piece = AnewFile::new(file, self.piece.count);
         self.put_away_at = self.step;
     }
 
@@ -294,18 +281,18 @@ impl<'a, R: Files<File = File> + Eprint> FileLog<'a, R> {
     /// Puts the file away as the next piece, and goes on in a new one, where it has grown so far and has taken all. Where
     /// that can't be done it goes on in the same one.
     fn put_away(&mut self) {
-        if self.trace.piece.length < self.put_away_at {
+        if self.piece.length < self.put_away_at {
             return;
         }
-        self.trace.catch_up();
-        if self.trace.fault.is_some() {
+        self.catch_up();
+        if self.fault.is_some() {
             return;
         }
         let path = self.path;
         match self.next_file() {
             Ok(file) => self.go_on_in(file),
             Err(error) => {
-                self.put_away_at = self.trace.piece.length.saturating_add(self.step);
+                self.put_away_at = self.piece.length.saturating_add(self.step);
                 let _ = eprintln!(self.rt;
                     "initd: cannot put the trace {path} away: {}: it goes on in the same file",
                     Reason(&error)
@@ -332,7 +319,7 @@ impl<'a, R: Files<File = File> + Eprint> FileLog<'a, R> {
     fn exchange(&self, new: &str) -> io::Result<()> {
         match metadata(self.rt, self.path) {
             Ok(found) if !found.is_file() => return Err(io::Error::other("it is no plain file")),
-            Ok(found) if are_same(&found, &self.trace.piece.file.metadata()?) => {
+            Ok(found) if are_same(&found, &self.piece.file.metadata()?) => {
                 let newest = newest_piece(self.rt, self.alloc, self.path)?;
                 let piece = piece_path(self.alloc, self.path, newest.saturating_add(1))?;
                 // Where the file system lets it, the file has both names until the new one comes.
@@ -385,11 +372,12 @@ impl<R: Files<File = File> + Eprint> EndedLog for FileLog<'_, R> {
 
     /// Whether the file took all of the trace, in pieces or in one.
     fn end(mut self) -> ((), bool) {
-        self.trace.catch_up();
-        let is_written = self.trace.fault.is_none();
+        let took_all = !self.is_failed;
+        self.catch_up();
+        let is_written = self.fault.is_none();
         if !is_written {
             self.tell_waiting();
         }
-        ((), !self.is_failed && is_written)
+        ((), took_all && is_written)
     }
 }
