@@ -1,6 +1,7 @@
 -- What turns noted over a host that tells its calls, what their judge found, and how their log ended.
 use Rattle.initd_command.proofs.Words.{◌≡◌, refl, sym, ◌∙◌, ap, subst, ℕ, Bool, true, false, not, ◌&&◌, if◌then◌else◌, List, [], ◌++◌, reverse, Option, Some, None, is_some, append-nil, reverse-append, reverse-reverse, Entry, Event, LogState, HostCall, IsRunning, Notes, NotesOf, is_wanted, Served, waiting_text, IsOpening, opening_point, RunSaid, Judgement, Finds, IsNoted, IsServed, LogEnds, TurnsFrom, judgement_for, noted_of}
 use Rattle.std.proofs.Common.{IfSome}
+use Rattle.std.specs.Bool.{then_some}
 use Rattle.std.proofs.lemmas.Bool.{and_parts, not-true}
 use Rattle.init_words.specs.declared.levels.Level.{Level}
 use Rattle.host_trace.specs.Leads.{Takes, UpTo, Went}
@@ -16,14 +17,14 @@ use Rattle.inittab_text.specs.Tables.{is_distinct}
 found_for : (service : RunSaid) (found : Judgement) (past : List Event) → Finds found past → IfSome (judgement_for service found) (λ judgement. Finds judgement past)
 found_for service found past finds = by service.judge
   where
-    by : (asked : Bool) → IfSome (if asked then Some found else None) (λ judgement. Finds judgement past)
+    by : (asked : Bool) → IfSome (then_some asked found) (λ judgement. Finds judgement past)
     by true = finds
     by false = tt
 
 judged_for : (service : RunSaid) (found : Judgement) → is_some (judgement_for service found) ≡ service.judge
 judged_for service found = by service.judge
   where
-    by : (asked : Bool) → is_some (if asked then Some found else None) ≡ asked
+    by : (asked : Bool) → is_some (then_some asked found) ≡ asked
     by true = refl
     by false = refl
 

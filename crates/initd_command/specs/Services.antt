@@ -1,6 +1,7 @@
 -- How a run over the operating system ends. Its host tells nothing of what was asked of it, so this is what is written,
 -- and how the exit status follows from what ended the turns.
 use Rattle.std.specs.Prelude.{◌≡◌, ◌≤◌, ◌<◌, ◌⊎◌, ◌&&◌, ◌==◌, not, if◌then◌else◌, ℕ, Bool, true, false, List, [], ◌∷◌, ◌++◌, length, string_bytes, Option, Some, None, option_map, is_none, is_some, unwrap_or, IfSome, IsTrue, ⊤}
+use Rattle.std.specs.Bool.{then_some}
 use Rattle.std.specs.Io.KnownBytes.{Appends, Keeps}
 use Rattle.initd_command.specs.Words.{AppendsPrefix, IsTextAt, KnownTexts, NamedText, texts_of, Entry, Level, Judgement, Status, Event, CoreState, opening_goal, FitsAll, waiting_text, HostCall, are_carried, is_allowed, point_after, Served, opening_point, RunSaid}
 use Rattle.inittab_text.specs.Parts.{AreTooLong, AreTooMany, are_readable, faults_of_parts, table_of_texts}
@@ -54,7 +55,7 @@ noted_of notes waiting judgement = record {
 
 -- what was found counts where the run was to be judged
 abbrev pub judgement_for : RunSaid → Judgement → Option Judgement
-judgement_for service judgement = if service.judge then Some judgement else None
+judgement_for service judgement = then_some service.judge judgement
 
 -- the end of an entry, where the run has an entry's result
 abbrev pub entry_end : Option Status → Option (List ℕ) → Option EntryEnd

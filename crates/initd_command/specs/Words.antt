@@ -18,7 +18,7 @@ pub use Rattle.core_model.specs.State.{CoreState, opening_goal}
 pub use Rattle.core_model.specs.Decide.{is_drained}
 pub use Rattle.core_model.specs.Fit.{FitsAll}
 pub use Rattle.init_turns.specs.Arriving.{ServesTurns}
-pub use Rattle.init_turns.specs.Opening.{IsOpening, opening_point, IsOpeningOf, Opens}
+pub use Rattle.init_turns.specs.Opening.{IsOpening, opening_point, IsOpeningOf}
 pub use Rattle.init_turns.specs.declared.serving.Served.{Served}
 pub use Rattle.simulator.specs.Simulation.{Done, Ends, Scenario, scenario}
 pub use Rattle.init_words.specs.Parts.{NamedText, texts_of}

@@ -1,11 +1,11 @@
 //! `initd run`: what it stands on, and its turns.
 
-ghost use Rattle.std.specs.Prelude.{◌≡◌, ◌≤◌, ◌<◌, ◌∷◌, ◌&&◌, if◌then◌else◌, not, true, ℕ, List, Option, None, Some, [], option_map, unwrap_or, IfErr, IfOk, IfSome, OnErr, OnOk, ⊤};
-ghost use Rattle.initd_command.specs.Words.{KnownTexts, NamedText, Entry, Level, is_drained, Since, ServesTurns, IsOpeningOf, Opens, RunSaid, run_of};
+ghost use Rattle.std.specs.Prelude.{◌≡◌, ◌∷◌, ◌&&◌, if◌then◌else◌, true, List, None, Some, [], option_map, unwrap_or, IfErr, IfOk, IfSome, OnErr, OnOk, ⊤};
+ghost use Rattle.initd_command.specs.Words.{KnownTexts, NamedText, Entry, Since, IsOpeningOf, RunSaid, run_of};
 ghost use Rattle.initd_command.specs.Endings.{Ending, Reports, ReportsObstacle, Spoken, obstacle_status, status_of, turned};
 ghost use Rattle.initd_command.specs.Ran.{MakesLogged, MakesTurns, RanBy};
 ghost use Rattle.initd_command.specs.Turned.{End, ReportsEnd, end_status};
-ghost use Rattle.initd_command.specs.Services.{AreFiles, EndsRun, EndsServed, EndsTold, HasInittab, IsInWay, IsInittab, IsReadOf, StandBy, TakesParts, has_result, is_taken, is_unled, judgement_for, own_paths, table_in, told_of};
+ghost use Rattle.initd_command.specs.Services.{AreFiles, EndsRun, EndsServed, EndsTold, HasInittab, IsInWay, IsInittab, IsReadOf, StandBy, TakesParts, is_taken, is_unled, own_paths, table_in, told_of};
 
 use crate::ends::report_end;
 use crate::hosts::Hosts;
@@ -16,11 +16,9 @@ use crate::reports::{
     report_too_many, report_unlisted, report_where, tell,
 };
 use crate::watchers::Watcher;
-use core_steps::Core;
 use host_calls::Host;
 use host_files::{FolderFault, PassedNames, with_folder};
 use host_messages::{StampedRuntime, faults_text};
-use host_trace::Edge;
 use init_stamped::Stamped;
 use init_turns::{Opening, Served};
 use init_words::{Id, Level, Memory, Part};
@@ -559,38 +557,24 @@ where
     let judged = JudgedLog::new(rt, alloc, log, said.judge);
     let noted = NotedLog::new(alloc, judged, said.result);
     let mut edge = Stamped::new(host, noted);
-    let (served, core) = serve_watched(rt, alloc, said, opening, &mut edge);
+    let mut watch = Watcher::new(rt, alloc, said.verbose, said.initctl.as_str());
+    let (served, core) = opening.serve(
+        alloc,
+        &mut edge,
+        said.turns,
+        said.drain,
+        said.strict,
+        &mut watch,
+    );
     edge.law_of_stamps();
     let (host, noted) = edge.into_parts();
     let (judged, notes) = noted.into_parts();
     let found = judged.judgement();
     let (left, whole) = judged.into_log().end();
     let served = ended_with(served, whole);
-    let judgement = judgement_for(said, found);
+    let judgement = said.judge.then_some(found);
     let status = report_end(alloc, said, &served, &notes, &core, judgement, err);
     (status, host, left)
-}
-
-/// Makes the turns of a run, from its opening on, with a watcher who says between them what there is to say.
-fn serve_watched<R: Files + Eprint, E: Edge>(
-    rt: &R,
-    alloc: Global,
-    said: &RunWords,
-    opening: Opening,
-    edge: &mut E,
-) -> (Served, Box<Core>)
-    ensures trace { (level : Option Level) (table : List Entry) → IsOpeningOf level table opening
-        → Opens E.state E.told E.log edge.old edge.new level table
-        (ServesTurns (run_of said.now).strict (run_of said.now).drain level table result.0.turns None None)
-        result.1.value }
-    ensures most { result.0.turns ≤ (run_of said.now).turns }
-    ensures fewer { result.0.turns < (run_of said.now).turns
-        → ((run_of said.now).drain ≡ true) × (result.0.drained ≡ true) }
-    ensures drained { result.0.drained ≡ is_drained result.1.value }
-    ensures logged { result.0.logged ≡ not (E.state (E.log edge.new)).failed }
-{
-    let mut watch = Watcher::new(rt, alloc, said.verbose, said.initctl.as_str());
-    opening.serve(alloc, edge, said.turns, said.drain, said.strict, &mut watch)
 }
 
 /// Turns whose log was ended, with all that it took or not.
@@ -601,11 +585,4 @@ fn ended_with(served: Served, whole: bool) -> Served
         logged: served.logged && whole,
         ..served
     }
-}
-
-/// What was found of a run, where it was to be judged.
-fn judgement_for(said: &RunWords, found: Judgement) -> Option<Judgement>
-    ensures { result ≡ judgement_for (run_of said.now) found }
-{
-    if said.judge { Some(found) } else { None }
 }
