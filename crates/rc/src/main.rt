@@ -3,7 +3,7 @@
 #![tactic(auto)]
 
 use program_io::{StandardFiles, report_no_memory, report_unread_words, words};
-use rc_command::{OsFiles, SHORT_USAGE, close, os_host, run_words};
+use rc_command::{SHORT_USAGE, close, os_host, run_words};
 use std::process::ExitCode;
 
 fn main(rt: HostRuntime) -> ExitCode {
@@ -11,11 +11,12 @@ fn main(rt: HostRuntime) -> ExitCode {
     let Ok(mut host) = os_host(rt, rt.alloc()) else {
         return ExitCode::from(report_no_memory("rc", &mut rt.stderr()));
     };
+    let mut files = rt;
     let status = match words(&rt, rt.alloc()) {
         Ok(words) => run_words(
             &mut host,
             &rt,
-            &mut OsFiles::new(&rt),
+            &mut files,
             rt.alloc(),
             words,
             &mut rt.stdout(),

@@ -2,9 +2,8 @@
 
 ghost use Rattle.std.specs.Prelude.{◌≡◌, map, string_bytes, IfErr, IfOk, IsSome, None, Some};
 ghost use Rattle.clap.specs.Words.{found_of, rows_of};
-ghost use Rattle.command_words.specs.CommandLines.{given_by};
 ghost use Rattle.command_words.specs.Faults.{reason_of};
-ghost use Rattle.rc_command.specs.CommandLine.{command_line, entering, is_dir, level_of, levels_of, levels_said, new_of, options_said, previous_of};
+ghost use Rattle.rc_command.specs.CommandLine.{entering, is_dir, level_of, levels_of, levels_said, new_of, options_said, previous_of};
 ghost use Rattle.rc_command.specs.CommandLine.{rc_read_of, rows_said, rc_said_by, said_of, seconds_read, seconds_said};
 
 use clap::ArgMatches;
@@ -61,17 +60,6 @@ pub struct RunOptions {
     pub way: ScriptOptions,
 }
 
-/// What words give the rows of the table.
-#[tactic(auto, using(crate::proofs::ReadWords::is_free_line))]
-fn matched(alloc: Global, words: &[String]) -> Result<ArgMatches<'_>, WordFault>
-    ensures ok { IfOk result (λ found. given_by command_line (map string_bytes words.now)
-        ≡ Some (rows_of (found_of found))) }
-    ensures usage { IfErr result (λ fault. IsSome (reason_of fault)
-        → given_by command_line (map string_bytes words.now) ≡ None) }
-{
-    read_line(alloc, "rc", OPTIONS, words)
-}
-
 /// Reads a command line, without the program's name in front.
 pub fn read_words(alloc: Global, words: &[String]) -> Result<Words, WordFault>
     ensures ok { IfOk result (λ said.
@@ -79,7 +67,7 @@ pub fn read_words(alloc: Global, words: &[String]) -> Result<Words, WordFault>
     ensures usage { IfErr result (λ fault. IsSome (reason_of fault)
         → rc_read_of (map string_bytes words.now) ≡ None) }
 {
-    match matched(alloc, words) {
+    match read_line(alloc, "rc", OPTIONS, words) {
         Ok(matches) => read_matches(alloc, &matches),
         Err(fault) => Err(fault),
     }

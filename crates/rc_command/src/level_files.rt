@@ -32,25 +32,13 @@ pub trait LevelFiles {
 }
 
 /// The files of the operating system. Nothing is known of their texts.
-#[derive(Drop)]
-pub struct OsFiles<'r, R> {
-    rt: &'r R,
-}
-
-impl<'r, R: Files> OsFiles<'r, R> {
-    /// The files that this system has.
-    pub fn new(rt: &'r R) -> OsFiles<'r, R> {
-        OsFiles { rt }
-    }
-}
-
-impl<'r, R: Files> LevelFiles for OsFiles<'r, R> {
+impl<R: Files> LevelFiles for R {
     ghost use Rattle.std.specs.Prelude.{None};
 
     ghost file_at = { λ _ _. None };
 
     fn read(&self, alloc: Global, path: &str) -> io::Result<Option<Vec<u8>>> {
-        match read_file(self.rt, alloc, path) {
+        match read_file(self, alloc, path) {
             Ok(text) => Ok(Some(text)),
             Err(error) if error.kind() == ErrorKind::NotFound => Ok(None),
             Err(error) => Err(error),
@@ -60,8 +48,8 @@ impl<'r, R: Files> LevelFiles for OsFiles<'r, R> {
     /// It is written beside the path, with `.new` after it, and then put in its place.
     fn put(&mut self, alloc: Global, path: &str, text: &[u8]) -> io::Result<()> {
         let beside = format!(in alloc; "{path}.new")?;
-        write_whole(self.rt, beside.as_str(), text)?;
-        fs::rename(self.rt, beside.as_str(), path)
+        write_whole(self, beside.as_str(), text)?;
+        fs::rename(self, beside.as_str(), path)
     }
 }
 

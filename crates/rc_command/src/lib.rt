@@ -12,5 +12,5 @@ pub use command::{RunOptions, Words, read_words};
 pub use command_words::WordFault;
 pub use folders::Folders;
 pub use hosts::{close, os_host};
-pub use level_files::{LevelFiles, OsFiles};
+pub use level_files::LevelFiles;
 pub use running::{PAUSES_LIMIT, SCRIPT_FAILED, SHORT_USAGE, USAGE, run_names, run_words};

@@ -166,11 +166,11 @@ fn run_asked<H: Host, F: Folders, L: LevelFiles, W: Write, E: Write>(
     };
     let previous = match previous_names(folders, alloc, dir, before) {
         Ok(previous) => previous,
-        Err(error) => return report_unlisted(dir, &error, err),
+        Err(error) => return report_refusal("cannot list", dir, &error, "", err),
     };
     let names = match folders.names(alloc, path.as_str()) {
         Ok(names) => names,
-        Err(error) => return report_unlisted(path.as_str(), &error, err),
+        Err(error) => return report_refusal("cannot list", path.as_str(), &error, "", err),
     };
     let status = run_names(
         alloc,
@@ -206,7 +206,10 @@ fn level_before<L: LevelFiles, E: Write>(
             Some(level) => Ok(Some(level)),
             None => Err(report_no_level(path.as_str(), err)),
         },
-        Err(error) => Err(report_unread(path.as_str(), &error, err)),
+        Err(error) => {
+            let rest = ": nothing was run; give PREV as a word without --level-file";
+            Err(report_refusal("cannot read", path.as_str(), &error, rest, err))
+        }
     }
 }
 
@@ -222,15 +225,11 @@ fn report_no_level<E: Write>(path: &str, err: &mut E) -> u8
     DEVICE_FAULT
 }
 
-/// Reports that a file was not read, and gives the exit status.
-fn report_unread<E: Write>(path: &str, error: &io::Error, err: &mut E) -> u8
+/// Reports why something can't be done with a path, and gives the exit status.
+fn report_refusal<E: Write>(act: &str, path: &str, error: &io::Error, rest: &str, err: &mut E) -> u8
     ensures { result ≡ DEVICE_FAULT }
 {
-    let _ = writeln!(
-        err,
-        "rc: cannot read {path}: {}: nothing was run; give PREV as a word without --level-file",
-        Reason(error)
-    );
+    let _ = writeln!(err, "rc: {act} {path}: {}{rest}", Reason(error));
     DEVICE_FAULT
 }
 
@@ -257,7 +256,10 @@ fn keep_level<L: LevelFiles, E: Write>(
     };
     match levels.put(alloc, path.as_str(), &[said.new.code(), b'\n']) {
         Ok(()) => status,
-        Err(error) => report_unkept(path.as_str(), &error, err),
+        Err(error) => {
+            let rest = ": all scripts were carried out, and it has not the new level";
+            report_refusal("cannot write", path.as_str(), &error, rest, err)
+        }
     }
 }
 
@@ -266,18 +268,6 @@ fn is_whole(status: u8) -> bool
     ensures { IsTrue result ↔ IsWhole status }
 {
     status == DONE || status == SCRIPT_FAILED
-}
-
-/// Reports that the new level was not kept, and gives the exit status.
-fn report_unkept<E: Write>(path: &str, error: &io::Error, err: &mut E) -> u8
-    ensures { result ≡ DEVICE_FAULT }
-{
-    let _ = writeln!(
-        err,
-        "rc: cannot write {path}: {}: all scripts were carried out, and it has not the new level",
-        Reason(error)
-    );
-    DEVICE_FAULT
 }
 
 /// Runs the scripts of the folder at `path` over a host, from the names in the folder of the previous level and in it,
@@ -432,12 +422,4 @@ fn tell<E: Write>(status: u8, line: &str, err: &mut E) -> u8
 {
     let _ = write_text(err, line.as_bytes());
     status
-}
-
-/// Reports that a folder was not listed, and gives the exit status.
-fn report_unlisted<E: Write>(path: &str, error: &io::Error, err: &mut E) -> u8
-    ensures { result ≡ DEVICE_FAULT }
-{
-    let _ = writeln!(err, "rc: cannot list {path}: {}", Reason(error));
-    DEVICE_FAULT
 }
