@@ -82,12 +82,7 @@ fn add_removals<A: Allocator + Copy>(
 {
     for entry in folder.held() {
         if goes(targets, folder, named, entry) {
-            let entry = entry.copy(alloc)?;
-            changes.push(LinkChange {
-                act: LinkAction::Remove,
-                level: folder.level(),
-                entry,
-            })?;
+            changes.push(LinkChange::new(LinkAction::Remove, folder.level(), entry.copy(alloc)?))?;
         }
     }
     Ok(())
@@ -104,12 +99,7 @@ fn add_makings<A: Allocator + Copy>(
 {
     for link in folder.planned() {
         if !has_entry(folder.held(), link) {
-            let entry = link.copy(alloc)?;
-            changes.push(LinkChange {
-                act: LinkAction::Make,
-                level: folder.level(),
-                entry,
-            })?;
+            changes.push(LinkChange::new(LinkAction::Make, folder.level(), link.copy(alloc)?))?;
         }
     }
     Ok(())

@@ -1,7 +1,7 @@
 //! A runlevel's folder as it stands and as it is planned, and the changes that lead from the one to the other.
 
 ghost use Rattle.std.specs.Prelude.{◌≡◌};
-ghost use Rattle.rc_links.specs.Folders.{folder_text};
+ghost use Rattle.rc_links.specs.Folders.{change_of, folder_text};
 
 use crate::folder_entries::FolderEntry;
 use init_words::Level;
@@ -78,9 +78,9 @@ pub enum LinkAction {
 /// A change of a runlevel's folder.
 #[derive(Drop)]
 pub struct LinkChange<A: Allocator = Global> {
-    pub(crate) act: LinkAction,
-    pub(crate) level: Level,
-    pub(crate) entry: FolderEntry<A>,
+    act: LinkAction,
+    level: Level,
+    entry: FolderEntry<A>,
 }
 
 impl<A: Allocator> Model for LinkChange<A> {
@@ -92,6 +92,13 @@ impl<A: Allocator> Model for LinkChange<A> {
 }
 
 impl<A: Allocator> LinkChange<A> {
+    /// A change of the folder of a runlevel.
+    pub(crate) fn new(act: LinkAction, level: Level, entry: FolderEntry<A>) -> LinkChange<A>
+        ensures { result ≡ change_of act level entry }
+    {
+        LinkChange { act, level, entry }
+    }
+
     /// What is done.
     pub fn act(&self) -> LinkAction
         ensures { result ≡ self.now.act }

@@ -270,13 +270,14 @@ fn plan_of<T: Texts, E: Write>(
     err: &mut E,
 ) -> Result<Plan, u8>
     ensures planned { IfOk result (λ plan. ScriptsOf (T.text_at texts.now) line.now.skips
-        line.now.last (map (λ file. file.now) line.now.files.now) (λ scripts. IsPlan scripts plan)) }
+        line.now.last (map (λ file. file.now) line.now.files.now)
+        (λ scripts. IsPlan scripts plan)) }
     ensures refused { IfErr result (λ status. (status ≡ DEVICE_FAULT)
         ⊎ (status ≡ REFUSED) × IsRefusedFor (T.text_at texts.now) line.now.skips line.now.last
         (map (λ file. file.now) line.now.files.now)) }
     ensures told { goes_on (line_said line.now) ≡ false → IfErr result (λ status. status ≡ REFUSED
-        → ReportsRefused (T.text_at texts.now) line.now.last (map (λ file. file.now) line.now.files.now)
-        (E.contents err.old) (E.contents err.new)) }
+        → ReportsRefused (T.text_at texts.now) line.now.last
+        (map (λ file. file.now) line.now.files.now) (E.contents err.old) (E.contents err.new)) }
 {
     let mut scripts = Vec::new(alloc);
     let mut paths = Vec::new(alloc);
