@@ -1,6 +1,6 @@
 -- The rows of a timeline: which ids have one, how each is at the end, and what is drawn in it.
 use Rattle.std.specs.Prelude.{ℕ, ◌-◌, ◌^◌, Bool, true, false, ◌&&◌, ◌||◌, nat_lt, min, not, if◌then◌else◌, unwrap_or, List, [], ◌∷◌, ◌++◌, map, length, Option, Some, None}
-use Rattle.std.specs.List.{list_any}
+use Rattle.std.specs.List.{fold, list_any}
 use Rattle.init_words.specs.Actions.{wanted_by}
 use Rattle.init_words.specs.Entries.{starts_of, waited_of}
 use Rattle.init_words.specs.Ids.{same_id}
@@ -89,9 +89,8 @@ state_after s (Sent id sig.Term) = asked_from s
 state_after s (Ended id number status) = ended_from s status
 state_after s _ = s
 
-abbrev pub state_from : State → List TimelineMark → State
-state_from s [] = s
-state_from s (mark ∷ marks) = state_from (state_after s mark.what) marks
+abbrev pub state_from : List TimelineMark → State
+state_from marks = fold (λ s (mark : TimelineMark). state_after s mark.what) state.Due marks
 
 -- one that an operator has to look at
 abbrev pub is_loud : State → Bool
@@ -138,7 +137,7 @@ abbrev pub state_by : Bool → Bool → State → State
 state_by held due s = if held then state.Held else if due && not (is_up s) then state.Due else s
 
 abbrev pub state_of : Scene → List ℕ → List TimelineMark → State
-state_of s id own = state_by (is_held s.end (Some id) s.marks) (waits s id) (state_from state.Due own)
+state_of s id own = state_by (is_held s.end (Some id) s.marks) (waits s id) (state_from own)
 
 -- what is drawn of an id: that it is due, since the stage in force was entered; its lives and its holds; and upon them what
 -- went wrong

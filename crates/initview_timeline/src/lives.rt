@@ -78,15 +78,11 @@ pub fn marks_for(
 ) -> Result<Vec<TimelineMark>, AllocError>
     ensures { IfOk result (λ kept. kept.items ≡ marks_for id.now marks.now) }
 {
-    let mut kept = Vec::new(alloc);
-    let mut rest = marks;
-    while let Some((mark, others)) = rest.split_first() {
-        if is_for(id, mark.what) {
-            kept.push(*mark)?;
-        }
-        rest = others;
-    }
-    Ok(kept)
+    marks
+        .iter()
+        .copied()
+        .filter(|mark| is_for(id, mark.what))
+        .collect(alloc)
 }
 
 /// What a mark of its id makes of a life.

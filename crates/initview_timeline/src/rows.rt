@@ -2,7 +2,6 @@
 
 ghost use Rattle.std.specs.Prelude.{◌≡◌, ◌++◌, IfOk, OnOk};
 ghost use Rattle.initview_timeline.specs.Rows.{due_bars, had_marks, ids_of, is_begun, is_held, is_ill, is_loud, is_up, is_waited, of_stage, row_of, rows_of, scene_of, stage_pieces, starts_now, starts_there, state_after, state_from, state_of, table_ids, timeline_of, waits};
-ghost use Rattle.initview_timeline.specs.declared.rows.State.TheVariants as state;
 
 use crate::frames::Frame;
 use crate::lives::{add_ids, add_new, is_for, lives_of, marks_for};
@@ -99,7 +98,8 @@ fn has_marks(id: Id, marks: &[TimelineMark]) -> bool
 }
 
 fn add_table_ids(ids: &mut Vec<Id>, seen: &Seen, entries: &[Entry]) -> Result<(), AllocError>
-    ensures { OnOk result (ids.new.items ≡ table_ids ids.old.items (scene_of seen.now) entries.now) }
+    ensures { OnOk result (ids.new.items
+        ≡ table_ids ids.old.items (scene_of seen.now) entries.now) }
 {
     let mut rest = entries;
     while let Some((entry, others)) = rest.split_first() {
@@ -144,15 +144,11 @@ fn state_after(state: State, what: Shown) -> State
 }
 
 fn state_from(marks: &[TimelineMark]) -> State
-    ensures { result ≡ state_from state.Due marks.now }
+    ensures { result ≡ state_from marks.now }
 {
-    let mut state = State::Due;
-    let mut rest = marks;
-    while let Some((mark, others)) = rest.split_first() {
-        state = state_after(state, mark.what);
-        rest = others;
-    }
-    state
+    marks
+        .iter()
+        .fold(State::Due, |state, mark| state_after(state, mark.what))
 }
 
 /// A hold of the id is in force at a time: it began less than five minutes ago, and nothing ended it.
