@@ -20,14 +20,12 @@ pub use Rattle.trace_verdict.specs.Readers.{Reading, capped, ReadsNext}
 pub use Rattle.trace_view.specs.declared.text_views.ViewEnd.{ViewEnd}
 pub use Rattle.trace_view.specs.Shown.{ShownBy, StopsAt, IsShown}
 pub use Rattle.initview_lines.specs.Parts.{HasTold, IsReadOf, IsTelling, IsToldOf, PartState, ReadBy, TakenBy, TellsOn, part_in}
-pub use Rattle.init_words.specs.declared.stages.Stage.TheVariants.{Sysinit, Boot, Run}
-pub use Rattle.trace_laws.specs.Plans.{boot_before, is_on_path, path_along, stages_to, critical_path, started_in}
-pub use Rattle.initview_lines.specs.Plans.{last_of, path_in, path_line, path_lines, stage_lines, stages_lines}
+pub use Rattle.trace_laws.specs.Plans.{path_along}
+pub use Rattle.initview_lines.specs.Plans.{last_of, path_lines, stages_lines, waiting}
 pub use Rattle.inittab_text.specs.Tables.{entry_of, act_of}
 pub use Rattle.trace_view.specs.declared.rows.Row.{Row}
 pub use Rattle.trace_view.specs.Rows.{row_of, is_settled_now, gone_ids}
-pub use Rattle.initview_lines.specs.Changes.{same_process, entry_change, is_gone}
+pub use Rattle.initview_lines.specs.Changes.{same_process, is_gone}
 pub use Rattle.initview_lines.specs.Rows.{head_of, id_row, row_by, entry_row, row_at}
 pub use Rattle.initview_lines.specs.Left.{child_line}
-pub use Rattle.initview_lines.specs.Times.{time_line, timed_of, longest_from, sum_from}
-pub use Rattle.std.proofs.lemmas.List.{map-append}
+pub use Rattle.initview_lines.specs.Times.{timed_of}

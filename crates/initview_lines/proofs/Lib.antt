@@ -2,7 +2,6 @@ pub mod CommonWords
 pub mod Entering
 pub mod Follows
 pub mod Parts
-pub mod Paths
 pub mod ReloadLemmas
 pub mod SaidOf
 pub mod SayingLemmas

@@ -52,5 +52,4 @@ is_gone table e = is_none (entry_of e.id table)
 -- the level, then the entries of the new inittab in its order, then those that are gone
 abbrev pub changes_in : Level → List Entry → List Entry → List Line
 changes_in level old new =
-    line.Stage (Some (Run level))
-    ∷ (map (entry_change level old new) new ++ map (entry_change level old new) (filter (is_gone new) old))
+    line.Stage (Some (Run level)) ∷ map (entry_change level old new) (new ++ filter (is_gone new) old)

@@ -4,7 +4,7 @@ pub use Rattle.init_words.specs.declared.entries.Entry.{Entry}
 pub use Rattle.init_words.specs.declared.levels.Level.{Level}
 pub use Rattle.inittab_text.specs.Tables.{entry_of, act_of}
 pub use Rattle.trace_events.specs.Wanted.{may_live, starts_now, is_asked, is_excluded}
-pub use Rattle.trace_laws.specs.Plans.{is_started, stages_to, critical_path, started_in, boot_before, is_on_path, path_along}
+pub use Rattle.trace_laws.specs.Plans.{is_started, stages_to, critical_path, started_in, is_on_path, path_along}
 pub use Rattle.trace_events.specs.Event.{Event}
 pub use Rattle.trace_view.specs.declared.text_views.ViewEnd.{ViewEnd}
 pub use Rattle.trace_view.specs.Shown.{IsShown, ShownBy, StopsAt}

@@ -1,13 +1,16 @@
 -- How long what init waits for took in a trace, on the critical path to a level: each from its first birth to its end.
+use Rattle.std.specs.List.{fold}
 use Rattle.std.specs.Prelude.{ℕ, ◌-◌, ◌&&◌, ◌==◌, max, nat_lt, if◌then◌else◌, List, [], ◌∷◌, ◌++◌, map, Option, Some, None}
-use Rattle.initview_lines.specs.CommonWords.{Entry, Level, critical_path, Ending}
+use Rattle.initview_lines.specs.CommonWords.{Entry, Level, Ending}
 use Rattle.initview_lines.specs.declared.lines.Line.{Line}
 use Rattle.initview_lines.specs.declared.lines.Line.TheVariants as line
 use Rattle.initview_timeline.specs.declared.lives.Life.{Life}
 use Rattle.initview_timeline.specs.declared.marks.TimelineMark.{TimelineMark}
+use Rattle.initview_lines.specs.declared.plans.Waited.{Waited}
 use Rattle.initview_lines.specs.declared.times.Timed.{Timed}
 use Rattle.initview_lines.specs.declared.times.Took.{Took}
 use Rattle.initview_lines.specs.declared.times.Took.TheVariants as took
+use Rattle.initview_lines.specs.Plans.{waited_in}
 use Rattle.initview_timeline.specs.Frames.{plus}
 use Rattle.initview_timeline.specs.Lives.{lives_of, marks_for}
 
@@ -16,8 +19,8 @@ abbrev pub first_of : List Life → Option Life
 first_of [] = None
 first_of (life ∷ lives) = Some life
 
-abbrev pub timed_of : List TimelineMark → Entry → Timed
-timed_of marks e = record { id = e.id; act = e.act; life = first_of (lives_of (marks_for (Some e.id) marks)) }
+abbrev pub timed_of : List TimelineMark → Waited → Timed
+timed_of marks w = record { entry = w; life = first_of (lives_of (marks_for (Some w.id) marks)) }
 
 -- the seconds of a life that ended, and 0 of any other
 abbrev pub seconds_to : ℕ → Option Ending → ℕ
@@ -29,13 +32,11 @@ seconds_of None = 0
 seconds_of (Some life) = seconds_to life.from life.end
 
 -- the seconds of all, and those of the longest
-abbrev pub sum_from : ℕ → List Timed → ℕ
-sum_from sum [] = sum
-sum_from sum (t ∷ ts) = sum_from (plus sum (seconds_of t.life)) ts
+abbrev pub sum_of : List Timed → ℕ
+sum_of timed = fold (λ sum (t : Timed). plus sum (seconds_of t.life)) 0 timed
 
-abbrev pub longest_from : ℕ → List Timed → ℕ
-longest_from longest [] = longest
-longest_from longest (t ∷ ts) = longest_from (max longest (seconds_of t.life)) ts
+abbrev pub longest_of : List Timed → ℕ
+longest_of timed = fold (λ longest (t : Timed). max longest (seconds_of t.life)) 0 timed
 
 -- an entry, and how long it took, or why that is unknown
 abbrev pub seconds_took : ℕ → ℕ → Took
@@ -51,12 +52,12 @@ took_of longest None = took.NotStarted
 took_of longest (Some life) = end_took longest life.from life.end
 
 abbrev pub time_line : ℕ → Timed → Line
-time_line longest t = line.Took t.id t.act (took_of longest t.life)
+time_line longest t = line.Took t.entry.id t.entry.act (took_of longest t.life)
 
 -- init waits for one after the other, so that the way to the level takes as long as all of them
 abbrev pub times_by : Level → List Timed → List Line
 times_by level timed =
-    line.PathTimes ∷ (map (time_line (longest_from 0 timed)) timed ++ line.Whole level (sum_from 0 timed) ∷ [])
+    line.PathTimes ∷ (map (time_line (longest_of timed)) timed ++ line.Whole level (sum_of timed) ∷ [])
 
 abbrev pub times_in : Level → List Entry → List TimelineMark → List Line
-times_in level table marks = times_by level (map (timed_of marks) (critical_path level table))
+times_in level table marks = times_by level (map (timed_of marks) (waited_in level table))

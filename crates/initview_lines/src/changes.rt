@@ -131,42 +131,24 @@ fn change_line<A: Allocator>(level: Level, old: &Table<A>, new: &Table<A>, id: &
     )
 }
 
-fn add_new<A: Allocator>(
-    lines: &mut Vec<Line>,
+fn changes<A: Allocator>(
+    alloc: Global,
     level: Level,
     old: &Table<A>,
     new: &Table<A>,
-    entries: &[Entry],
-) -> Result<(), AllocError>
-    ensures { OnOk result (lines.new.items
-        ≡ lines.old.items ++ map (entry_change level old.now new.now) entries.now) }
+) -> Result<Vec<Line>, AllocError>
+    ensures { IfOk result (λ lines. lines.items ≡ map (entry_change level old.now new.now)
+        (new.now ++ filter (is_gone new.now) old.now)) }
 {
-    let mut rest = entries;
-    while let Some((entry, others)) = rest.split_first() {
-        lines.push(change_line(level, old, new, &entry.id))?;
-        rest = others;
-    }
-    Ok(())
-}
-
-fn add_gone<A: Allocator>(
-    lines: &mut Vec<Line>,
-    level: Level,
-    old: &Table<A>,
-    new: &Table<A>,
-    entries: &[Entry],
-) -> Result<(), AllocError>
-    ensures { OnOk result (lines.new.items ≡ lines.old.items
-        ++ map (entry_change level old.now new.now) (filter (is_gone new.now) entries.now)) }
-{
-    let mut rest = entries;
-    while let Some((entry, others)) = rest.split_first() {
-        if new.get(&entry.id).is_none() {
-            lines.push(change_line(level, old, new, &entry.id))?;
-        }
-        rest = others;
-    }
-    Ok(())
+    let gone = old
+        .entries()
+        .iter()
+        .filter(|entry| new.get(&entry.id).is_none());
+    new.entries()
+        .iter()
+        .chain(gone)
+        .map(|entry| change_line(level, old, new, &entry.id))
+        .collect(alloc)
 }
 
 /// What becomes of each id in a level, where init reads the new table in the place of the old one: the level, then each
@@ -181,7 +163,6 @@ pub fn change_lines<A: Allocator>(
 {
     let mut lines = Vec::new(alloc);
     lines.push(Line::Stage(Some(Stage::Run(level))))?;
-    add_new(&mut lines, level, old, new, new.entries())?;
-    add_gone(&mut lines, level, old, new, old.entries())?;
+    lines.append(&mut changes(alloc, level, old, new)?)?;
     Ok(lines)
 }

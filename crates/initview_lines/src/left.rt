@@ -19,8 +19,7 @@ pub fn left_lines<A: Allocator>(
     ensures { IfOk result (λ lines. (past : List Event) → Viewed view.now past
         → lines.items ≡ left_in shape past) }
 {
-    let mut lines = Vec::new(alloc);
-    add_children(&mut lines, view.children(), shape)?;
+    let mut lines = child_lines(alloc, view.children(), shape)?;
     add_starts(&mut lines, view, view.table().entries(), shape)?;
     Ok(lines)
 }
@@ -32,20 +31,17 @@ pub fn is_starting(row: &Row) -> bool
     matches!((row.child, row.order), (None, Some(OrderKind::Start)))
 }
 
-fn add_children(
-    lines: &mut Vec<Line>,
+fn child_lines(
+    alloc: Global,
     children: &[BornChild],
     shape: RowFormat,
-) -> Result<(), AllocError>
-    ensures { OnOk result (lines.new.items
-        ≡ lines.old.items ++ map (child_line shape) children.now) }
+) -> Result<Vec<Line>, AllocError>
+    ensures { IfOk result (λ lines. lines.items ≡ map (child_line shape) children.now) }
 {
-    let mut rest = children;
-    while let Some((child, others)) = rest.split_first() {
-        lines.push(Line::Left(shape, child.id, Some(child.number)))?;
-        rest = others;
-    }
-    Ok(())
+    children
+        .iter()
+        .map(|child| Line::Left(shape, child.id, Some(child.number)))
+        .collect(alloc)
 }
 
 fn add_starts<A: Allocator>(

@@ -76,9 +76,9 @@ impl<A: Allocator + Copy> PartView<A> {
 
     /// Adds the line of the next happening, if one is whole.
     fn tell_next(&mut self, lines: &mut Vec<Line>) -> Result<bool, Memory>
-        ensures goes { IfOk result (λ more. (said : List Line) (text : List ℕ) → length text < 2 ^ 64
-            → TellsOn more self.old (said ++ lines.old.items) self.new (said ++ lines.new.items)
-            text) }
+        ensures goes { IfOk result (λ more. (said : List Line) (text : List ℕ)
+            → length text < 2 ^ 64 → TellsOn more self.old (said ++ lines.old.items)
+            self.new (said ++ lines.new.items) text) }
         ensures shorter { IfOk result (λ more. more ≡ true
             → length self.new.reading.over < length self.old.reading.over) }
     {

@@ -1,118 +1,127 @@
 //! Which entries init starts of itself on its way to a level, and its critical path.
 
-ghost use Rattle.std.specs.Prelude.{◌≡◌, ◌++◌, filter, map, IfOk, OnOk};
-ghost use Rattle.initview_lines.specs.CommonWords.{boot_before, critical_path, is_on_path, path_along, started_in, stages_to};
-ghost use Rattle.initview_lines.specs.Plans.{last_of, path_in, path_lines, plan_in, stage_lines, stages_lines, start_line};
+ghost use Rattle.std.specs.Prelude.{◌≡◌, ◌++◌, None, filter, map, IfOk, OnOk};
+ghost use Rattle.initview_lines.specs.CommonWords.{is_on_path, path_along, started_in, stages_to};
+ghost use Rattle.initview_lines.specs.Plans.{last_of, path_in, path_lines, plan_in, stages_lines, start_line, waited_in, waiting};
 
 use crate::changes::is_started;
 use crate::lines::Line;
-use init_words::{Entry, Id, Level, Stage, waited};
+use init_words::{Act, Entry, Id, Level, Stage, waited};
 use inittab_text::Table;
 use std::alloc::{AllocError, Allocator, Global};
 
-/// Adds a stage, and the entries that it starts of itself.
-fn add_stage(lines: &mut Vec<Line>, stage: Stage, entries: &[Entry]) -> Result<(), AllocError>
-    ensures { OnOk result (lines.new.items ≡ lines.old.items ++ stage_lines entries.now stage) }
-{
-    lines.push(Line::Stage(Some(stage)))?;
-    add_starts(lines, stage, entries)
+/// An entry for whose end init waits.
+#[derive(Clone, Copy)]
+pub struct Waited {
+    pub id: Id,
+    pub act: Act,
 }
 
-fn add_starts(lines: &mut Vec<Line>, stage: Stage, entries: &[Entry]) -> Result<(), AllocError>
-    ensures { OnOk result (lines.new.items
-        ≡ lines.old.items ++ map start_line (started_in entries.now stage)) }
+/// The stages on the way to a level: no boot on the way to S.
+fn stages_to(alloc: Global, level: Level) -> Result<Vec<Stage>, AllocError>
+    ensures { IfOk result (λ stages. stages.items ≡ stages_to level) }
 {
-    let mut rest = entries;
-    while let Some((entry, others)) = rest.split_first() {
-        if is_started(stage, entry) {
-            lines.push(Line::Start(entry.id, entry.act, waited(entry)))?;
-        }
+    if level == Level::S {
+        Vec::from_slice(alloc, &[Stage::Sysinit, Stage::Run(level)])
+    } else {
+        Vec::from_slice(alloc, &[Stage::Sysinit, Stage::Boot, Stage::Run(level)])
+    }
+}
+
+fn starts(alloc: Global, stage: Stage, entries: &[Entry]) -> Result<Vec<Line>, AllocError>
+    ensures { IfOk result (λ lines. lines.items ≡ map start_line (started_in entries.now stage)) }
+{
+    entries
+        .iter()
+        .filter(|entry| is_started(stage, *entry))
+        .map(|entry| Line::Start(entry.id, entry.act, waited(entry)))
+        .collect(alloc)
+}
+
+/// Adds stages, and behind each the entries that it starts of itself.
+fn add_stages(
+    lines: &mut Vec<Line>,
+    alloc: Global,
+    stages: &[Stage],
+    entries: &[Entry],
+) -> Result<(), AllocError>
+    ensures { OnOk result (lines.new.items
+        ≡ lines.old.items ++ stages_lines entries.now stages.now) }
+{
+    let mut rest = stages;
+    while let Some((stage, others)) = rest.split_first() {
+        lines.push(Line::Stage(Some(*stage)))?;
+        lines.append(&mut starts(alloc, *stage, entries)?)?;
         rest = others;
     }
     Ok(())
 }
 
-/// Adds what the boot starts, on the way to a level other than S.
-fn add_boot(lines: &mut Vec<Line>, level: Level, entries: &[Entry]) -> Result<(), AllocError>
-    ensures { OnOk result (lines.new.items
-        ≡ lines.old.items ++ stages_lines entries.now (boot_before level)) }
-{
-    if level == Level::S {
-        return Ok(());
-    }
-    add_stage(lines, Stage::Boot, entries)
-}
-
-fn add_stages(lines: &mut Vec<Line>, level: Level, entries: &[Entry]) -> Result<(), AllocError>
-    ensures { OnOk result (lines.new.items
-        ≡ lines.old.items ++ stages_lines entries.now (stages_to level)) }
-{
-    add_stage(lines, Stage::Sysinit, entries)?;
-    add_boot(lines, level, entries)?;
-    add_stage(lines, Stage::Run(level), entries)?;
-    Ok(())
-}
-
 /// The entry is on the critical path of a stage.
-pub(crate) fn is_on_path(stage: Stage, entry: &Entry) -> bool
+fn is_on_path(stage: Stage, entry: &Entry) -> bool
     ensures { result ≡ is_on_path stage entry.now }
 {
     is_started(stage, entry) && waited(entry)
 }
 
-/// Adds the path of a stage behind an entry, and gives its last entry.
-fn add_path(
-    lines: &mut Vec<Line>,
-    stage: Stage,
-    before: Option<Id>,
-    entries: &[Entry],
-) -> Result<Option<Id>, AllocError>
-    ensures { IfOk result (λ last. (last ≡ last_of before (filter (is_on_path stage) entries.now))
-        × (lines.new.items
-        ≡ lines.old.items ++ path_lines before (filter (is_on_path stage) entries.now))) }
+fn waited_at(alloc: Global, stage: Stage, entries: &[Entry]) -> Result<Vec<Waited>, AllocError>
+    ensures { IfOk result (λ path. path.items
+        ≡ map waiting (filter (is_on_path stage) entries.now)) }
 {
-    let mut last = before;
-    let mut rest = entries;
-    while let Some((entry, others)) = rest.split_first() {
-        if is_on_path(stage, entry) {
-            lines.push(Line::OnPath(entry.id, entry.act, last))?;
-            last = Some(entry.id);
-        }
+    entries
+        .iter()
+        .filter(|entry| is_on_path(stage, *entry))
+        .map(|entry| Waited {
+            id: entry.id,
+            act: entry.act,
+        })
+        .collect(alloc)
+}
+
+/// The critical path through stages.
+fn path_along(alloc: Global, stages: &[Stage], entries: &[Entry]) -> Result<Vec<Waited>, AllocError>
+    ensures { IfOk result (λ path. path.items ≡ map waiting (path_along entries.now stages.now)) }
+{
+    let mut path = Vec::new(alloc);
+    let mut rest = stages;
+    while let Some((stage, others)) = rest.split_first() {
+        path.append(&mut waited_at(alloc, *stage, entries)?)?;
+        rest = others;
+    }
+    Ok(path)
+}
+
+/// The critical path to a level.
+pub(crate) fn waited_in(
+    alloc: Global,
+    level: Level,
+    entries: &[Entry],
+) -> Result<Vec<Waited>, AllocError>
+    ensures { IfOk result (λ path. path.items ≡ waited_in level entries.now) }
+{
+    path_along(alloc, &stages_to(alloc, level)?, entries)
+}
+
+/// Adds the entries of a path, and gives its last.
+fn add_path(lines: &mut Vec<Line>, path: &[Waited]) -> Result<Option<Id>, AllocError>
+    ensures { IfOk result (λ last. (last ≡ last_of None path.now)
+        × (lines.new.items ≡ lines.old.items ++ path_lines None path.now)) }
+{
+    let mut last = None;
+    let mut rest = path;
+    while let Some((one, others)) = rest.split_first() {
+        lines.push(Line::OnPath(one.id, one.act, last))?;
+        last = Some(one.id);
         rest = others;
     }
     Ok(last)
 }
 
-/// Adds the path of the boot, on the way to a level other than S.
-fn add_boot_path(
-    lines: &mut Vec<Line>,
-    level: Level,
-    before: Option<Id>,
-    entries: &[Entry],
-) -> Result<Option<Id>, AllocError>
-    ensures { IfOk result (λ last.
-        (last ≡ last_of before (path_along entries.now (boot_before level)))
-        × (lines.new.items
-        ≡ lines.old.items ++ path_lines before (path_along entries.now (boot_before level)))) }
-{
-    if level == Level::S {
-        return Ok(before);
-    }
-    add_path(lines, Stage::Boot, before, entries)
-}
-
-fn add_critical_path(
-    lines: &mut Vec<Line>,
-    level: Level,
-    entries: &[Entry],
-) -> Result<(), AllocError>
-    ensures { OnOk result (lines.new.items
-        ≡ lines.old.items ++ path_in level (critical_path level entries.now)) }
+fn add_critical_path(lines: &mut Vec<Line>, level: Level, path: &[Waited]) -> Result<(), AllocError>
+    ensures { OnOk result (lines.new.items ≡ lines.old.items ++ path_in level path.now) }
 {
     lines.push(Line::CriticalPath)?;
-    let sysinit = add_path(lines, Stage::Sysinit, None, entries)?;
-    let boot = add_boot_path(lines, level, sysinit, entries)?;
-    let last = add_path(lines, Stage::Run(level), boot, entries)?;
+    let last = add_path(lines, path)?;
     lines.push(Line::Reached(level, last))?;
     Ok(())
 }
@@ -128,7 +137,16 @@ pub fn plan_lines<A: Allocator>(
     ensures { IfOk result (λ lines. lines.items ≡ plan_in level table.now) }
 {
     let mut lines = Vec::new(alloc);
-    add_stages(&mut lines, level, table.entries())?;
-    add_critical_path(&mut lines, level, table.entries())?;
+    add_stages(
+        &mut lines,
+        alloc,
+        &stages_to(alloc, level)?,
+        table.entries(),
+    )?;
+    add_critical_path(
+        &mut lines,
+        level,
+        &waited_in(alloc, level, table.entries())?,
+    )?;
     Ok(lines)
 }

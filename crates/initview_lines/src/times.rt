@@ -1,12 +1,11 @@
 //! How long what init waits for on its way to a level took in a trace.
 
-ghost use Rattle.std.specs.Prelude.{◌≡◌, ◌∷◌, ◌++◌, [], filter, map, IfOk, OnOk};
-ghost use Rattle.initview_lines.specs.CommonWords.{boot_before, critical_path, is_on_path, path_along};
-ghost use Rattle.initview_lines.specs.Times.{end_took, first_of, longest_from, seconds_of, seconds_to, sum_from, time_line, timed_of, times_by, times_in, took_of};
+ghost use Rattle.std.specs.Prelude.{◌≡◌, ◌∷◌, ◌++◌, [], map, IfOk, OnOk};
+ghost use Rattle.initview_lines.specs.Times.{end_took, first_of, longest_of, seconds_of, seconds_to, sum_of, time_line, timed_of, times_by, times_in, took_of};
 
 use crate::lines::Line;
-use crate::plans::is_on_path;
-use init_words::{Act, Entry, Id, Level, Stage};
+use crate::plans::{Waited, waited_in};
+use init_words::Level;
 use inittab_text::Table;
 use initview_timeline::{Life, TimelineMark, lives_of, marks_for};
 use std::alloc::{AllocError, Allocator, Global};
@@ -25,8 +24,7 @@ pub enum Took {
 /// An entry that init waits for, and the first life of its children, where it has one.
 #[derive(Clone, Copy)]
 pub struct Timed {
-    pub id: Id,
-    pub act: Act,
+    pub entry: Waited,
     pub life: Option<Life>,
 }
 
@@ -43,16 +41,14 @@ fn add_timed(
     timed: &mut Vec<Timed>,
     alloc: Global,
     marks: &[TimelineMark],
-    entry: &Entry,
+    entry: Waited,
 ) -> Result<(), AllocError>
-    ensures { OnOk result (timed.new.items
-        ≡ timed.old.items ++ timed_of marks.now entry.now ∷ []) }
+    ensures { OnOk result (timed.new.items ≡ timed.old.items ++ timed_of marks.now entry ∷ []) }
 {
     let own = marks_for(alloc, &Some(entry.id), marks)?;
     let lives = lives_of(alloc, own.as_slice())?;
     timed.push(Timed {
-        id: entry.id,
-        act: entry.act,
+        entry,
         life: first_of(lives.as_slice()),
     })?;
     Ok(())
@@ -61,53 +57,29 @@ fn add_timed(
 fn add_path(
     timed: &mut Vec<Timed>,
     alloc: Global,
-    stage: Stage,
     marks: &[TimelineMark],
-    entries: &[Entry],
+    path: &[Waited],
 ) -> Result<(), AllocError>
-    ensures { OnOk result (timed.new.items ≡ timed.old.items
-        ++ map (timed_of marks.now) (filter (is_on_path stage) entries.now)) }
+    ensures { OnOk result (timed.new.items
+        ≡ timed.old.items ++ map (timed_of marks.now) path.now) }
 {
-    let mut rest = entries;
+    let mut rest = path;
     while let Some((entry, others)) = rest.split_first() {
-        if is_on_path(stage, entry) {
-            add_timed(timed, alloc, marks, entry)?;
-        }
+        add_timed(timed, alloc, marks, *entry)?;
         rest = others;
     }
     Ok(())
 }
 
-/// Adds the path of the boot, on the way to a level other than S.
-fn add_boot_path(
-    timed: &mut Vec<Timed>,
-    alloc: Global,
-    level: Level,
-    marks: &[TimelineMark],
-    entries: &[Entry],
-) -> Result<(), AllocError>
-    ensures { OnOk result (timed.new.items ≡ timed.old.items
-        ++ map (timed_of marks.now) (path_along entries.now (boot_before level))) }
-{
-    if level == Level::S {
-        return Ok(());
-    }
-    add_path(timed, alloc, Stage::Boot, marks, entries)
-}
-
 fn timed_path(
     alloc: Global,
-    level: Level,
     marks: &[TimelineMark],
-    entries: &[Entry],
+    path: &[Waited],
 ) -> Result<Vec<Timed>, AllocError>
-    ensures { IfOk result (λ timed.
-        timed.items ≡ map (timed_of marks.now) (critical_path level entries.now)) }
+    ensures { IfOk result (λ timed. timed.items ≡ map (timed_of marks.now) path.now) }
 {
     let mut timed = Vec::new(alloc);
-    add_path(&mut timed, alloc, Stage::Sysinit, marks, entries)?;
-    add_boot_path(&mut timed, alloc, level, marks, entries)?;
-    add_path(&mut timed, alloc, Stage::Run(level), marks, entries)?;
+    add_path(&mut timed, alloc, marks, path)?;
     Ok(timed)
 }
 
@@ -131,27 +103,19 @@ fn seconds_of(life: Option<Life>) -> u64
 }
 
 fn sum_of(timed: &[Timed]) -> u64
-    ensures { result ≡ sum_from 0 timed.now }
+    ensures { result ≡ sum_of timed.now }
 {
-    let mut sum = 0u64;
-    let mut rest = timed;
-    while let Some((one, others)) = rest.split_first() {
-        sum = sum.saturating_add(seconds_of(one.life));
-        rest = others;
-    }
-    sum
+    timed
+        .iter()
+        .fold(0u64, |sum, one| sum.saturating_add(seconds_of(one.life)))
 }
 
 fn longest_of(timed: &[Timed]) -> u64
-    ensures { result ≡ longest_from 0 timed.now }
+    ensures { result ≡ longest_of timed.now }
 {
-    let mut longest = 0u64;
-    let mut rest = timed;
-    while let Some((one, others)) = rest.split_first() {
-        longest = longest.max(seconds_of(one.life));
-        rest = others;
-    }
-    longest
+    timed
+        .iter()
+        .fold(0u64, |longest, one| longest.max(seconds_of(one.life)))
 }
 
 fn end_took(longest: u64, from: u64, end: Option<Ending>) -> Took
@@ -177,23 +141,25 @@ fn took_of(longest: u64, life: Option<Life>) -> Took
     }
 }
 
-fn add_entries(lines: &mut Vec<Line>, longest: u64, timed: &[Timed]) -> Result<(), AllocError>
-    ensures { OnOk result (lines.new.items
-        ≡ lines.old.items ++ map (time_line longest) timed.now) }
+fn time_lines(alloc: Global, longest: u64, timed: &[Timed]) -> Result<Vec<Line>, AllocError>
+    ensures { IfOk result (λ lines. lines.items ≡ map (time_line longest) timed.now) }
 {
-    let mut rest = timed;
-    while let Some((one, others)) = rest.split_first() {
-        lines.push(Line::Took(one.id, one.act, took_of(longest, one.life)))?;
-        rest = others;
-    }
-    Ok(())
+    timed
+        .iter()
+        .map(|one| Line::Took(one.entry.id, one.entry.act, took_of(longest, one.life)))
+        .collect(alloc)
 }
 
-fn add_times(lines: &mut Vec<Line>, level: Level, timed: &[Timed]) -> Result<(), AllocError>
+fn add_times(
+    lines: &mut Vec<Line>,
+    alloc: Global,
+    level: Level,
+    timed: &[Timed],
+) -> Result<(), AllocError>
     ensures { OnOk result (lines.new.items ≡ lines.old.items ++ times_by level timed.now) }
 {
     lines.push(Line::PathTimes)?;
-    add_entries(lines, longest_of(timed), timed)?;
+    lines.append(&mut time_lines(alloc, longest_of(timed), timed)?)?;
     lines.push(Line::Whole(level, sum_of(timed)))?;
     Ok(())
 }
@@ -210,6 +176,7 @@ pub fn add_path_times<A: Allocator>(
     ensures { OnOk result (lines.new.items
         ≡ lines.old.items ++ times_in level table.now marks.now) }
 {
-    let timed = timed_path(alloc, level, marks, table.entries())?;
-    add_times(lines, level, timed.as_slice())
+    let path = waited_in(alloc, level, table.entries())?;
+    let timed = timed_path(alloc, marks, &path)?;
+    add_times(lines, alloc, level, &timed)
 }
