@@ -4,7 +4,7 @@ ghost use Rattle.std.specs.Prelude.{◌≡◌, ◌⊎◌, true, false, codes, ma
 ghost use Rattle.command_words.specs.CommandLines.{asks_version};
 ghost use Rattle.command_words.specs.Faults.{ReportsUsage};
 ghost use Rattle.command_words.specs.VersionLine.{PrintsVersion};
-ghost use Rattle.telinit_command.specs.Channels.{AreSame, Asks, AsksPartly, HasGained, HasGainedFront, IsWholeAt};
+ghost use Rattle.telinit_command.specs.Channels.{AreSame, Asks, AsksPartly};
 ghost use Rattle.telinit_command.specs.CommandLine.{block_said, telinit_read_of};
 ghost use Rattle.telinit_command.specs.Notes.{IsTold};
 
@@ -80,32 +80,13 @@ pub fn run_words<C: Channels, W: Write, E: Write>(
     match read_words(alloc, home, words) {
         Ok(words) => {
             let block = encode(&words.request);
-            ask(channels, alloc, words.path.as_str(), &block, err)
+            let path = words.path.as_str();
+            match append_block(channels, alloc, path, &block, err) {
+                Ok(()) => DONE,
+                Err(fault) => report_channel(path, &fault, err),
+            }
         }
         Err(fault) => report_word_fault("telinit", &fault, USAGE, SHORT_USAGE, err),
-    }
-}
-
-/// Appends a block, and gives the exit status.
-fn ask<C: Channels, E: Write>(
-    channels: &mut C,
-    alloc: Global,
-    path: &str,
-    block: &[u8; BLOCK],
-    err: &mut E,
-) -> u8
-    ensures statuses { (result ≡ DONE) ⊎ (result ≡ DEVICE_FAULT) }
-    ensures told { result ≡ DONE → IsTold path.now (E.contents err.old) (E.contents err.new) }
-    ensures whole { result ≡ DONE → IsWholeAt path.now (C.bytes_at channels.old) }
-    ensures gained { result ≡ DONE → HasGained path.now block.now
-        (C.bytes_at channels.old) (C.bytes_at channels.new) }
-    ensures refused { result ≡ DEVICE_FAULT
-        → AreSame (C.bytes_at channels.old) (C.bytes_at channels.new)
-        ⊎ HasGainedFront path.now block.now (C.bytes_at channels.old) (C.bytes_at channels.new) }
-{
-    match append_block(channels, alloc, path, block, err) {
-        Ok(()) => DONE,
-        Err(fault) => report_channel(path, &fault, err),
     }
 }
 
