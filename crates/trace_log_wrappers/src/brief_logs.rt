@@ -2,15 +2,13 @@
 //! to another log.
 
 ghost use Rattle.std.specs.Prelude.{◌≡◌, ◌++◌, ◌∷◌, [], List, true, false, is_err, reverse, OnOk, OnErr};
-ghost use Rattle.init_words.specs.declared.orders.OrderKind.TheVariants.{Look};
-ghost use Rattle.trace_events.specs.declared.happenings.Happening.TheVariants.{Asked, Still};
 ghost use Rattle.trace_events.specs.Event.{Event};
 ghost use Rattle.trace_events.specs.Range.{is_in_range, is_short};
 ghost use Rattle.trace_brief.specs.Holding.{look_events, round_events, reading_events, written_of, next_held};
 ghost use Rattle.trace_log_wrappers.specs.Adding.{AddsHappenings, AddsFront, held_first, newly_first};
 ghost use Rattle.trace_log_wrappers.specs.Keeping.{HandsOn, TookBy, brief_state};
 
-use init_words::{Id, OrderKind};
+use init_words::OrderKind;
 use std::alloc::{Allocator, Global};
 use std::marker::Model;
 use trace_brief::{HeldBack, HeldLook};
@@ -82,32 +80,6 @@ fn write_round<L: Log>(log: &mut L, round: bool) -> Result<(), LogFault>
     hand(log, &happening)
 }
 
-/// Hands the log the order of a look.
-fn write_order<L: Log>(log: &mut L, id: Id) -> Result<(), LogFault>
-    requires { (L.state log.old).failed ≡ false }
-    ensures flag { (L.state log.new).failed ≡ is_err result }
-    ensures ok { OnOk result (AddsHappenings
-        (L.state log.old) (L.state log.new)
-        (Asked id Look ∷ [])) }
-    ensures err { OnErr result (AddsHappenings (L.state log.old) (L.state log.new) []) }
-{
-    let happening: HappeningIn<Global> = Happening::Asked(id, OrderKind::Look);
-    hand(log, &happening)
-}
-
-/// Hands the log that a look found nothing.
-fn write_still<L: Log>(log: &mut L, id: Id) -> Result<(), LogFault>
-    requires { (L.state log.old).failed ≡ false }
-    ensures flag { (L.state log.new).failed ≡ is_err result }
-    ensures ok { OnOk result (AddsHappenings
-        (L.state log.old) (L.state log.new)
-        (Still id ∷ [])) }
-    ensures err { OnErr result (AddsHappenings (L.state log.old) (L.state log.new) []) }
-{
-    let happening: HappeningIn<Global> = Happening::Still(id);
-    hand(log, &happening)
-}
-
 /// Hands the log a look that was held.
 fn write_look<L: Log>(log: &mut L, look: &Option<HeldLook>) -> Result<(), LogFault>
     requires { (L.state log.old).failed ≡ false }
@@ -121,10 +93,15 @@ fn write_look<L: Log>(log: &mut L, look: &Option<HeldLook>) -> Result<(), LogFau
 {
     match look {
         None => Ok(()),
-        Some(HeldLook::Ordered(id)) => write_order(log, *id),
+        Some(HeldLook::Ordered(id)) => {
+            let order: HappeningIn<Global> = Happening::Asked(*id, OrderKind::Look);
+            hand(log, &order)
+        }
         Some(HeldLook::FoundNothing(id)) => {
-            write_order(log, *id)?;
-            write_still(log, *id)
+            let order: HappeningIn<Global> = Happening::Asked(*id, OrderKind::Look);
+            hand(log, &order)?;
+            let still: HappeningIn<Global> = Happening::Still(*id);
+            hand(log, &still)
         }
     }
 }
