@@ -13,8 +13,8 @@ pub record EntryEnd : Type 0 where
   pub last : Option Status
 
 -- it ended drained, with an entry's result or without one; it made all its turns, and these children with their numbers
--- go on, or there was no memory to note them all, and these lines tell what init waits for; or its trace was not written
--- whole, and so do these
+-- go on, or there was no memory to note them all, and these lines tell what init waits for; or its trace was not
+-- written whole, and so do these
 pub data TurnsEnd : Type 0 where
   drained : Option EntryEnd → TurnsEnd
   limited : Option (List (List ℕ × ℕ)) → List ℕ → TurnsEnd
