@@ -3,6 +3,3 @@ pub use Rattle.std.proofs.Common.{◌≡◌, refl, ap, sym, ◌∙◌, ℕ, true
 pub use Rattle.inittab_lint.specs.Shell.{is_pair, operator_at, operator_in, part_behind, has_hash}
 pub use Rattle.text_lines.specs.Lines.{lines_of}
 pub use Rattle.inittab_lint.specs.Warnings.{warnings_of_lines, warnings_of, warnings_of_texts, at_line, holds, warnings_by}
-pub use Rattle.inittab_lint.specs.IdLines.{own_lines, lines_from, none_told, or_none}
-pub use Rattle.init_words.proofs.Behind.{four_more, one_more}
-pub use Rattle.inittab_lint.specs.Linting.{told_fault, fault_lines, warning_line, warning_lines, shown}

@@ -1,5 +1,3 @@
-pub mod IdLines
-pub mod Linting
 pub mod Meant
 pub mod Programs
 pub mod Shell

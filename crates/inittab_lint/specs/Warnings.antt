@@ -114,21 +114,3 @@ warnings_of_texts part (text ∷ texts) =
 
 abbrev pub warnings_of : List (List ℕ) → List LineWarning
 warnings_of texts = warnings_of_texts 0 texts
-
--- what is told of each, and what to do
-abbrev pub warning_words : Warning → List ℕ
-warning_words warning.Runlevel =
-    codes "a character of the runlevels counts for nothing: name each level (2345)"
-warning_words warning.NoLevel = codes "nothing starts it: its runlevels name no level"
-warning_words warning.NoLetter = codes "nothing starts it: its runlevels have no letter A, B or C"
-warning_words warning.Boot = codes "its child lives on in every level: name its levels and write once"
-warning_words warning.Return = codes "the line ends with a carriage return, which its last word has: take it out"
-warning_words warning.At = codes "@ is taken for a part of the program's name: take it out"
-warning_words warning.ShellWord = codes "it begins with a word of the shell, which is no program: write a script"
-warning_words warning.Assignment = codes "it begins with an assignment, which is no program: write env before it"
-warning_words warning.Chain = codes "what stands behind ; or && or || is never run: write a script"
-warning_words warning.Pipe = codes "no signal reaches the programs of a pipe: write a script"
-warning_words warning.Background = codes "& ends the shell at once, and init takes its child for ended: take it out"
-warning_words warning.Unclosed = codes "a quote or a parenthesis isn't closed: the shell refuses it"
-warning_words warning.Comment = codes "# begins no comment here: the program gets it as an argument: take it out"
-warning_words warning.Missing = codes "its program is in none of the folders: mend the line, or the folders"

@@ -4,7 +4,7 @@ ghost use Rattle.std.specs.Prelude.{◌≡◌, ◌++◌, map, OnOk};
 ghost use Rattle.std.specs.List.{list_any};
 ghost use Rattle.inittab_text.specs.Kept.{levels_meant};
 ghost use Rattle.inittab_text.specs.Lines.{fields_at, fields_of, is_ignored};
-ghost use Rattle.inittab_lint.specs.Warnings.{at_line, counts, counts_none, ends_with, has_idle, holds, holds_of, run_by, warning_words, warnings_by, warnings_of_line};
+ghost use Rattle.inittab_lint.specs.Warnings.{at_line, counts, counts_none, ends_with, has_idle, holds, holds_of, run_by, warnings_by, warnings_of_line};
 
 use crate::shell::{
     Operator, begins_with, first_word, has_comment, is_assigned, is_shell_word, operator_of,
@@ -235,9 +235,7 @@ pub(crate) fn is_ignored(line: &[u8]) -> bool
 
 impl Warning {
     /// What is told, and what to do.
-    pub fn words(self) -> &'static [u8]
-        ensures { result.now ≡ warning_words self }
-    {
+    pub fn words(self) -> &'static [u8] {
         match self {
             Warning::Runlevel => {
                 b"a character of the runlevels counts for nothing: name each level (2345)"

@@ -7,13 +7,12 @@ use Rattle.inittab_text.specs.declared.faults.TableFault.{TableFault}
 use Rattle.inittab_text.specs.declared.faults.TableFault.TheVariants as fault
 use Rattle.inittab_text.specs.Parts.{AreTooLong, AreTooMany, table_of_texts}
 use Rattle.inittab_text.specs.Tables.{default_level_of}
-use Rattle.inittab_lint.specs.declared.linting.Findings.{Findings}
-use Rattle.inittab_lint.specs.declared.linting.Findings.TheVariants as found
 use Rattle.inittab_lint.specs.declared.traps.LineWarning.{LineWarning}
-use Rattle.inittab_lint.specs.Linting.{lint_in}
 use Rattle.initview_lines.specs.declared.lines.Line.{Line}
-use Rattle.initview_lines.specs.declared.lines.Line.TheVariants as line
+use Rattle.initview_lines.specs.declared.lint.Findings.{Findings}
+use Rattle.initview_lines.specs.declared.lint.Findings.TheVariants as found
 use Rattle.initview_lines.specs.Changes.{changes_in}
+use Rattle.initview_lines.specs.Lint.{lint_in}
 use Rattle.initview_lines.specs.Plans.{plan_in}
 use Rattle.initview_command.specs.Showing.{Writes}
 use Rattle.initview_command.specs.declared.asking.TableQuestion.{TableQuestion}
@@ -68,7 +67,7 @@ AreMissing _ missing = missing ≡ []
 
 -- what is written of files, and the exit status
 abbrev pub lint_by : List NamedText → List LineWarning → List Line × ℕ
-lint_by parts missing = (line.Text (lint_in parts missing).0 ∷ [], found_status (lint_in parts missing).1)
+lint_by parts missing = ((lint_in parts missing).0, found_status (lint_in parts missing).1)
 
 abbrev pub answer_of : TableQuestion → List LineWarning → List NamedText → List Line × ℕ
 answer_of (table.Diff level) missing parts =

@@ -78,12 +78,12 @@ impl Query for Form {
         (drawing form past ∷ [], stop_status stop) };
 
     fn answer(
-        &self,
+        self,
         alloc: Global,
         text: &mut SeenText<Marks>,
         shown: &TraceOutcome,
     ) -> Result<Answer, Memory> {
-        let drawn = draw(alloc, *self, text.seen(), text.view())?;
+        let drawn = draw(alloc, self, text.seen(), text.view())?;
         let mut lines = Vec::new(alloc);
         lines.push(drawn)?;
         Ok((lines, stop_status(shown.stop)))

@@ -166,7 +166,7 @@ fn run_given<'a, T: Texts, G: GrowingTexts, S: Says, E: Write>(
             let path = path_of(&what, matches, words);
             let files = files_of(&what, words);
             let folder = word_of(matches, "--inittab-dir");
-            run_asked(texts, growing, alloc, &what, path, files, folder, out, err)
+            run_asked(texts, growing, alloc, what, path, files, folder, out, err)
         }
         None => report_refusal(alloc, matches, words, err),
     }
@@ -177,7 +177,7 @@ fn run_asked<T: Texts, G: GrowingTexts, S: Says, E: Write>(
     texts: &T,
     growing: &G,
     alloc: Global,
-    what: &Command,
+    what: Command,
     path: &str,
     files: &[&str],
     folder: Option<&str>,
@@ -186,28 +186,28 @@ fn run_asked<T: Texts, G: GrowingTexts, S: Says, E: Write>(
 ) -> u8
     ensures { Does (T.text_at texts.now) (G.text_at growing.now)
         (G.writer_at growing.now) path.now
-        (map (λ file. file.now) files.now) (option_map (λ path. path.now) folder.entry) what.now
+        (map (λ file. file.now) files.now) (option_map (λ path. path.now) folder.entry) what
         result (S.said out.old) (S.said out.new) }
 {
     match what {
         Command::Show(question) => show_file(texts, growing, alloc, path, question, out, err),
         Command::Draw(form) => show_file(texts, growing, alloc, path, form, out, err),
-        Command::Follow(last) => follow_file(growing, alloc, path, *last, out, err),
+        Command::Follow(last) => follow_file(growing, alloc, path, last, out, err),
         Command::Explain(id) => {
-            let asked = ReasonOf { id: *id };
+            let asked = ReasonOf { id };
             show_with_files(texts, growing, alloc, path, files, folder, &asked, out, err)
         }
         Command::Reload(level) => {
-            let asked = ReloadTo { level: *level };
+            let asked = ReloadTo { level };
             show_with_files(texts, growing, alloc, path, files, folder, &asked, out, err)
         }
         Command::Timing(level) => {
-            let asked = TimingTo { level: *level };
+            let asked = TimingTo { level };
             show_with_files(texts, growing, alloc, path, files, folder, &asked, out, err)
         }
         Command::Tables(question) => {
             show_files(
-                texts, growing, alloc, path, files, folder, *question, out, err,
+                texts, growing, alloc, path, files, folder, question, out, err,
             )
         }
     }

@@ -2,16 +2,15 @@
 
 ghost use Rattle.std.specs.Prelude.{◌≡◌, List, IfOk, IfErr};
 ghost use Rattle.initview_command.specs.Words.{Event, Viewed};
-ghost use Rattle.initview_command.specs.Explaining.{explanation, files_text};
+ghost use Rattle.initview_command.specs.Explaining.{explanation, files_lines};
 ghost use Rattle.initview_command.specs.Tables.{AreNone, FailsBy};
 
 use crate::presence::show_present;
 use crate::showing::{Answer, Query, TraceOutcome, stop_status};
 use crate::with_files::NeedsFiles;
 use init_words::{Id, Memory, Part};
-use inittab_lint::id_lines;
 use inittab_text::TableFault;
-use initview_lines::{Bytes, Chain, Line, chain_of, why_lines};
+use initview_lines::{Chain, Line, chain_of, id_lines, why_lines};
 use std::alloc::{AllocError, Global};
 use std::io::Write;
 use trace_view::{LastLines, SeenText, TraceView};
@@ -26,23 +25,22 @@ pub(crate) struct ReasonOf {
 #[derive(Drop)]
 pub(crate) struct Reason {
     id: Id,
-    told: Vec<u8>,
+    told: Vec<Line>,
 }
 
 /// The reason by now with the lines that were at fault, and what is told behind it.
 fn explanation(
     alloc: Global,
     path: &str,
-    asked: &Reason,
+    told: &mut Vec<Line>,
     view: &TraceView,
     chain: &Chain,
 ) -> Result<Vec<Line>, AllocError>
     ensures { IfOk result (λ lines. (now : List Event) → Viewed view.now now
-        → lines.items ≡ explanation path.now chain.now asked.now.told.items now) }
+        → lines.items ≡ explanation path.now chain.now told.old.items now) }
 {
     let mut lines = why_lines(alloc, view, path.as_bytes(), chain)?;
-    let told = Bytes::copy_of(alloc, asked.told.as_slice())?;
-    lines.push(Line::Text(told))?;
+    lines.append(told)?;
     Ok(lines)
 }
 
@@ -59,28 +57,29 @@ impl Query for Reason {
     }
 
     fn answer(
-        &self,
+        self,
         alloc: Global,
         text: &mut SeenText<LastLines>,
         shown: &TraceOutcome,
     ) -> Result<Answer, Memory> {
-        let chain = chain_of(text.view(), text.seen(), self.id);
+        let Reason { id, mut told } = self;
+        let chain = chain_of(text.view(), text.seen(), id);
         show_present(text, shown.writer, shown.stop)?;
-        let said = explanation(alloc, shown.path, self, text.view(), &chain)?;
+        let said = explanation(alloc, shown.path, &mut told, text.view(), &chain)?;
         Ok((said, stop_status(shown.stop)))
     }
 }
 
 /// What is told of the id's lines in an inittab, where one is named.
-fn files_text(alloc: Global, files: &[Part], id: &Id) -> Result<Vec<u8>, TableFault>
-    ensures told { IfOk result (λ text. text.items ≡ files_text id.now files.now) }
+fn files_lines(alloc: Global, files: &[Part], id: &Id) -> Result<Vec<Line>, TableFault>
+    ensures told { IfOk result (λ lines. lines.items ≡ files_lines id.now files.now) }
     ensures fault { IfErr result (FailsBy (AreNone files.now)) }
 {
     if files.is_empty() {
         return Ok(Vec::new(alloc));
     }
     match id_lines(alloc, files, id) {
-        Ok(text) => Ok(text),
+        Ok(lines) => Ok(lines),
         Err(TableFault::Memory) => Err(TableFault::Memory),
         Err(TableFault::TooLong) => Err(TableFault::TooLong),
         Err(TableFault::Parts) => Err(TableFault::Parts),
@@ -103,7 +102,7 @@ impl NeedsFiles for ReasonOf {
         files: &mut [Part],
         _err: &mut E,
     ) -> Result<Reason, TableFault> {
-        match files_text(alloc, files, &self.id) {
+        match files_lines(alloc, files, &self.id) {
             Ok(told) => Ok(Reason { id: self.id, told }),
             Err(fault) => Err(fault),
         }

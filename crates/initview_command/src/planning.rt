@@ -52,7 +52,7 @@ impl Query for Timing {
         timing_answer asked.level asked.table stop past };
 
     fn answer(
-        &self,
+        self,
         alloc: Global,
         text: &mut SeenText<Marks>,
         shown: &TraceOutcome,

@@ -92,7 +92,7 @@ impl Query for Reload {
         reload_answer asked.old asked.new asked.level stop past };
 
     fn answer(
-        &self,
+        self,
         alloc: Global,
         text: &mut SeenText<()>,
         shown: &TraceOutcome,

@@ -30,7 +30,7 @@ pub(crate) struct TraceOutcome<'a> {
 pub(crate) type Answer = (Vec<Line>, u8);
 
 /// What is asked of a trace.
-pub(crate) trait Query {
+pub(crate) trait Query: Drop {
     /// What sees the happenings for it.
     type Seen: Sees<Global> + Drop;
 
@@ -48,7 +48,7 @@ pub(crate) trait Query {
 
     /// What is written, and the exit status.
     fn answer(
-        &self,
+        self,
         alloc: Global,
         text: &mut SeenText<Self::Seen>,
         shown: &TraceOutcome,
@@ -56,9 +56,9 @@ pub(crate) trait Query {
         ensures { IfOk result (λ given. (past : List Event) → Viewed text.old.viewing.viewing past
             → Self.Seen.has_seen text.old.seen past
             → (given.0.items
-            ≡ (gives self.now shown.now.path.now shown.now.writer shown.now.stop past).0)
+            ≡ (gives self shown.now.path.now shown.now.writer shown.now.stop past).0)
             × (given.1
-            ≡ (gives self.now shown.now.path.now shown.now.writer shown.now.stop past).1)) };
+            ≡ (gives self shown.now.path.now shown.now.writer shown.now.stop past).1)) };
 }
 
 /// The text of a trace that is read in pieces.
@@ -213,14 +213,14 @@ impl Query for TraceQuery {
     }
 
     fn answer(
-        &self,
+        self,
         alloc: Global,
         text: &mut SeenText<()>,
         shown: &TraceOutcome,
     ) -> Result<Answer, Memory> {
         show_present(text, shown.writer, shown.stop)?;
-        let said = lines(alloc, text.view(), self)?;
-        let status = status_of(text.view(), self, shown.writer, shown.stop);
+        let said = lines(alloc, text.view(), &self)?;
+        let status = status_of(text.view(), &self, shown.writer, shown.stop);
         Ok((said, status))
     }
 }
@@ -231,12 +231,12 @@ pub(crate) fn show_file<T: Texts, G: GrowingTexts, Q: Query, S: Says, E: Write>(
     growing: &G,
     alloc: Global,
     path: &str,
-    asked: &Q,
+    asked: Q,
     out: &mut S,
     err: &mut E,
 ) -> u8
     ensures { Shows (T.text_at texts.now) (G.writer_at growing.now) path.now
-        (Q.gives asked.now path.now) result (S.said out.old) (S.said out.new) }
+        (Q.gives asked path.now) result (S.said out.old) (S.said out.new) }
 {
     match file_text(alloc) {
         Ok(mut file) => show_text(texts, growing, alloc, path, asked, &mut file, out, err),
@@ -250,14 +250,14 @@ fn show_text<T: Texts, G: GrowingTexts, Q: Query, S: Says, E: Write>(
     growing: &G,
     alloc: Global,
     path: &str,
-    asked: &Q,
+    asked: Q,
     file: &mut FileText<Q::Seen>,
     out: &mut S,
     err: &mut E,
 ) -> u8
     requires { HasSeenText Q.Seen.has_seen file.old.text [] }
     ensures { Shows (T.text_at texts.now) (G.writer_at growing.now) path.now
-        (Q.gives asked.now path.now) result (S.said out.old) (S.said out.new) }
+        (Q.gives asked path.now) result (S.said out.old) (S.said out.new) }
 {
     match texts.read_pieces(path, file) {
         Ok(()) => {
@@ -270,7 +270,7 @@ fn show_text<T: Texts, G: GrowingTexts, Q: Query, S: Says, E: Write>(
                 writer: growing.writer(path),
                 stop,
             };
-            tell_end(asked, &shown, left, err);
+            tell_end(&asked, &shown, left, err);
             show_seen(alloc, asked, &mut file.text, &shown, out, err)
         }
         Err(error) => report_unread(path, &error, err),
@@ -298,7 +298,7 @@ fn is_within(stop: Option<ViewEnd>) -> bool
 /// Writes what is asked of a text, unless that begins within a run, and gives the exit status.
 fn show_seen<Q: Query, S: Says, E: Write>(
     alloc: Global,
-    asked: &Q,
+    asked: Q,
     text: &mut SeenText<Q::Seen>,
     shown: &TraceOutcome,
     out: &mut S,
@@ -307,7 +307,7 @@ fn show_seen<Q: Query, S: Says, E: Write>(
     ensures { (past : List Event) → Viewed text.old.viewing.viewing past
         → Q.Seen.has_seen text.old.seen past
         → ShowsOf shown.now.stop
-        (Q.gives asked.now shown.now.path.now shown.now.writer shown.now.stop past) result
+        (Q.gives asked shown.now.path.now shown.now.writer shown.now.stop past) result
         (S.said out.old) (S.said out.new) }
 {
     if is_within(shown.stop) {

@@ -11,9 +11,9 @@ use crate::programs::missing;
 use crate::showing::write_answer;
 use crate::telling::report_unread;
 use init_words::{Level, Part};
-use inittab_lint::{Findings, LineWarning, lint_parts};
+use inittab_lint::LineWarning;
 use inittab_text::{PartFault, Table, TableFault, read_parts};
-use initview_lines::{Line, Says, change_lines, plan_lines, text_line};
+use initview_lines::{Findings, Line, Says, change_lines, lint_parts, plan_lines};
 use program_io::{DEVICE_FAULT, DONE, REFUSED, Texts};
 use std::alloc::{AllocError, Global};
 use std::io;
@@ -142,13 +142,7 @@ fn lint_answer(
     ensures fault { IfErr result (FailsBy (AreNone parts.now)) }
 {
     match lint_parts(alloc, parts, missing) {
-        Ok(lint) => {
-            let status = found_status(lint.found);
-            match text_line(alloc, lint.text) {
-                Ok(lines) => Ok((lines, status)),
-                Err(_) => Err(TableFault::Memory),
-            }
-        }
+        Ok((lines, found)) => Ok((lines, found_status(found))),
         Err(TableFault::Memory) => Err(TableFault::Memory),
         Err(TableFault::TooLong) => Err(TableFault::TooLong),
         Err(TableFault::Parts) => Err(TableFault::Parts),

@@ -20,7 +20,7 @@ use std::io::Write;
 /// What is asked of a trace, once files of inittabs are read.
 pub(crate) trait NeedsFiles {
     /// What is asked then.
-    type Asked: Query + Drop;
+    type Asked: Query;
 
     /// What is written and the exit status, by the path of the trace, the files, who writes it, why it is shown no
     /// further, and its past.
@@ -80,7 +80,7 @@ fn show_with<T: Texts, G: GrowingTexts, Q: NeedsFiles, S: Says, E: Write>(
         (S.said out.old) (S.said out.new) }
 {
     match asked.with_files(alloc, files, err) {
-        Ok(asked) => show_file(texts, growing, alloc, path, &asked, out, err),
+        Ok(asked) => show_file(texts, growing, alloc, path, asked, out, err),
         Err(fault) => report_fault(fault, err),
     }
 }

@@ -2,8 +2,10 @@ pub mod Changes
 pub mod CommonWords
 pub mod Following
 pub mod Happenings
+pub mod IdLines
 pub mod Json
 pub mod Left
+pub mod Lint
 pub mod Parts
 pub mod Plans
 pub mod Reasons

@@ -1,6 +1,7 @@
 //! What a view of a trace says, line by line, for people to read: how the entries stand, why one isn't started next, and
-//! which children are left; and what init makes of inittabs: what changes by another one, also for what runs at the end
-//! of a trace, and what a level starts. A line is a value, and proved; how it is worded is tested by `tools/rows`.
+//! which children are left; and what init makes of inittabs: which lines it leaves out, what changes by another one, also
+//! for what runs at the end of a trace, and what a level starts. A line is a value, and proved; how it is worded is tested
+//! by `tools/rows`.
 #![tactic(auto)]
 
 mod changes;
@@ -11,6 +12,8 @@ mod happenings;
 mod json;
 mod left;
 mod lines;
+mod lint;
+mod own_lines;
 mod part_views;
 mod phrases;
 mod pieces;
@@ -28,7 +31,9 @@ mod words;
 pub use changes::{Change, change_lines};
 pub use happenings::{News, add_happening};
 pub use left::{is_starting, left_lines};
-pub use lines::{Head, IdRow, Line, Reason, RowFormat, Stopping, text_line};
+pub use lines::{FileLine, Head, IdRow, Line, Reason, RowFormat, Stopping, text_line};
+pub use lint::{Findings, lint_parts};
+pub use own_lines::id_lines;
 pub use part_views::PartView;
 pub use pieces::take_lines;
 pub use plans::plan_lines;

@@ -8,6 +8,8 @@ use crate::happenings::News;
 use crate::texts::Bytes;
 use crate::times::Took;
 use init_words::{Act, ChildNumber, Id, Level, Stage};
+use inittab_lint::Warning;
+use inittab_text::LineKind;
 use initview_timeline::Timeline;
 use std::alloc::{AllocError, Global};
 use trace_view::{Row, Why, Wish};
@@ -72,6 +74,24 @@ pub struct Reason {
     pub line: Option<u64>,
 }
 
+/// What is told of a file of an inittab, or of a line of it, whose number counts from 1.
+#[derive(Drop)]
+pub enum FileLine {
+    /// The line is left out: the first check that it fails, the id or the action that is at fault, and the action that was
+    /// probably meant.
+    LeftOut(u32, LineKind, Bytes, Option<Act>),
+    /// The line does otherwise than it seems to.
+    Warned(usize, Warning),
+    /// The line as it is, whose entry is kept.
+    Kept(usize, Bytes),
+    /// Lines begin with no id.
+    Nameless,
+    /// No entry starts in the default level, or there is none.
+    Default(Option<Level>),
+    /// No line has the id.
+    NoLine(Id),
+}
+
 /// A line, or a text of its own that isn't made of lines here.
 #[derive(Drop)]
 pub enum Line {
@@ -103,6 +123,8 @@ pub enum Line {
     Took(Id, Act, Took),
     /// How long they all took on the way to the level.
     Whole(Level, u64),
+    /// What is told of the file of a name.
+    File(Bytes, FileLine),
     /// What happened at a time.
     Happened(u64, News),
     /// A timeline, in lines of so many columns.

@@ -2,7 +2,7 @@
 
 use crate::days::{add_clock, add_time_of_day};
 use crate::json::add_quoted;
-use crate::words::{add_level, add_number, add_padded, add_stage, add_status, put};
+use crate::words::{add_level, add_number, add_padded, add_shown, add_stage, add_status, put};
 use init_words::{Level, Stage, Status};
 use std::alloc::AllocError;
 use trace_view::Wish;
@@ -13,6 +13,8 @@ pub(crate) enum Value<'a> {
     Text(&'a [u8]),
     /// A text, and spaces behind it up to a width.
     Padded(usize, &'a [u8]),
+    /// A text of a file, whose control characters a terminal is not to obey.
+    Shown(&'a [u8]),
     Byte(u8),
     Number(u64),
     /// A number, or null.
@@ -48,6 +50,7 @@ fn add_value(text: &mut Vec<u8>, value: Value) -> Result<(), AllocError> {
     match value {
         Value::Text(bytes) => put(text, bytes),
         Value::Padded(width, bytes) => add_padded(text, width, bytes),
+        Value::Shown(bytes) => add_shown(text, bytes),
         Value::Byte(byte) => put(text, &[byte]),
         Value::Number(number) | Value::Known(Some(number)) => add_number(text, b"", number, b""),
         Value::Quoted(Some(bytes)) => add_quoted(text, bytes),

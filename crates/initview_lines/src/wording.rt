@@ -4,13 +4,14 @@ use crate::changes::Change;
 use crate::chart::add_chart;
 use crate::happenings::News;
 use crate::json;
-use crate::lines::{Head, IdRow, Line, Reason, RowFormat};
+use crate::lines::{FileLine, Head, IdRow, Line, Reason, RowFormat};
 use crate::phrases::{Value, fill};
 use crate::svg::add_svg;
 use crate::times::Took;
 use crate::words::put;
 use init_words::{Act, ChildNumber, Id, Letter, Level, OrderKind, PowerKind, Stage};
 use initctl_frame::{Cause, HeardRequest};
+use inittab_text::LineKind;
 use respawn_limit::{HOLD, STARTS, WINDOW};
 use std::alloc::{AllocError, Global};
 use trace_events::Handed;
@@ -51,10 +52,79 @@ fn add_line(text: &mut Vec<u8>, alloc: Global, line: &Line) -> Result<(), AllocE
             let columns = [Value::Padded(23, &level), Value::Number(*seconds)];
             fill(text, b"@@ s\n", &columns)
         }
+        Line::File(name, told) => {
+            put(text, name.as_slice())?;
+            add_file_line(text, alloc, told)?;
+            put(text, b"\n")
+        }
         Line::Happened(time, news) => add_happened(text, *time, news),
         Line::Chart(width, timeline) => add_chart(text, alloc, *width, timeline),
         Line::Svg(timeline) => add_svg(text, timeline),
         Line::Text(bytes) => put(text, bytes.as_slice()),
+    }
+}
+
+/// Adds what is told of a file, behind its name.
+fn add_file_line(text: &mut Vec<u8>, alloc: Global, told: &FileLine) -> Result<(), AllocError> {
+    match told {
+        FileLine::LeftOut(line, kind, field, meant) => {
+            let kind = *kind;
+            let reason = format!(in alloc; "{kind}")?;
+            let place = Value::Number(u64::from(*line));
+            fill(text, b":@: @", &[place, Value::Text(reason.as_bytes())])?;
+            add_hint(text, kind, field.as_slice(), *meant)
+        }
+        FileLine::Warned(line, kind) => fill(
+            text,
+            b":@: warning: @",
+            &[Value::Number(*line as u64), Value::Text(kind.words())],
+        ),
+        FileLine::Kept(line, bytes) => fill(
+            text,
+            b":@: @",
+            &[Value::Number(*line as u64), Value::Shown(bytes.as_slice())],
+        ),
+        FileLine::Nameless => put(
+            text,
+            b": lines begin with no id, as in BusyBox's inittab: write one before the first colon",
+        ),
+        FileLine::Default(Some(_)) => put(
+            text,
+            b": warning: no entry starts in the level of initdefault",
+        ),
+        FileLine::Default(None) => put(
+            text,
+            b": warning: no initdefault names a level: init goes to S",
+        ),
+        FileLine::NoLine(id) => fill(
+            text,
+            b": no line has the id @",
+            &[Value::Text(id.as_bytes())],
+        ),
+    }
+}
+
+/// Adds what is told behind the check that a line fails.
+fn add_hint(
+    text: &mut Vec<u8>,
+    kind: LineKind,
+    field: &[u8],
+    meant: Option<Act>,
+) -> Result<(), AllocError> {
+    let field = Value::Shown(field);
+    match (kind, meant) {
+        (LineKind::Fields, _) => put(text, b": a line is id:runlevels:action:process"),
+        (LineKind::Id, _) => fill(text, b" @: 1 to 8 characters, the first no #", &[field]),
+        (LineKind::Levels, _) => put(text, b": at most 11 characters"),
+        (LineKind::Action, Some(act)) => {
+            fill(text, b" @: @?", &[field, Value::Text(act.word())])
+        }
+        (LineKind::Action, None) => fill(text, b" @", &[field]),
+        (LineKind::Length, _) => put(text, b": at most 127 bytes: write a script"),
+        (LineKind::Empty, _) => Ok(()),
+        (LineKind::Text, _) => put(text, b": it is not UTF-8, or has a NUL"),
+        (LineKind::Twice, _) => fill(text, b" @: the first line of it counts", &[field]),
+        (LineKind::Many, _) => put(text, b": at most 4096"),
     }
 }
 

@@ -31,6 +31,24 @@ pub(crate) fn add_padded(text: &mut Vec<u8>, width: usize, word: &[u8]) -> Resul
     Ok(())
 }
 
+fn hex_digit(number: u8) -> u8 {
+    let zero = if number < 10 { b'0' } else { b'a' - 10 };
+    zero.saturating_add(number)
+}
+
+/// Adds a text, a control character as `\xNN`.
+pub(crate) fn add_shown(text: &mut Vec<u8>, bytes: &[u8]) -> Result<(), AllocError> {
+    for byte in bytes {
+        if *byte >= 32 && *byte != 127 {
+            text.push(*byte)?;
+        } else {
+            put(text, b"\\x")?;
+            put(text, &[hex_digit(*byte / 16), hex_digit(*byte % 16)])?;
+        }
+    }
+    Ok(())
+}
+
 /// Adds the words of a level.
 pub(crate) fn add_level(text: &mut Vec<u8>, level: Level) -> Result<(), AllocError> {
     put(text, b"level ")?;

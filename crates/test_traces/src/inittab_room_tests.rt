@@ -1,8 +1,8 @@
 //! Growths are refused in turn, on heaps of more and more room, until a call meets no refusal: what is answered is lack
 //! of memory, and a table that was there is as it was.
 
-use init_words::{Id, Memory, Part};
-use inittab_lint::{Findings, LineWarning, Warning, id_lines, lint_parts, warnings};
+use init_words::{Memory, Part};
+use inittab_lint::{LineWarning, Warning, warnings};
 use inittab_text::{Table, TableFault, read_parts};
 use linked_list_allocator::LocalHeap;
 use std::alloc::{Allocator, Global};
@@ -16,17 +16,6 @@ const WRITTEN: &[u8] = b"id:3:initdefault:\na:3:respawn:/bin/x 1\n";
 
 /// Two files with a fault and two warnings.
 const FILES: [&[u8]; 2] = [b"a:3:onec:x\nb:3:once:x & \n", b"c:x:once:x\n"];
-
-/// What is told of them.
-const TOLD: &str =
-    "a:1: unknown action onec: once?\na:2: warning: & ends the shell at once, and init takes its child for ended: take it out\nb:1: warning: a character of the runlevels counts for nothing: name each level (2345)\nb:1: warning: nothing starts it: its runlevels name no level\nb:1: warning: its program is in none of the folders: mend the line, or the folders\na: warning: no initdefault names a level: init goes to S\n";
-
-/// What the caller warns of.
-const MISSING: [LineWarning; 1] = [LineWarning {
-    part: 1,
-    line: 1,
-    kind: Warning::Missing,
-}];
 
 const WARNINGS: [LineWarning; 3] = [
     LineWarning {
@@ -45,9 +34,6 @@ const WARNINGS: [LineWarning; 3] = [
         kind: Warning::NoLevel,
     },
 ];
-
-/// What is told of the lines of `a`.
-const OWN: &str = "a:1: unknown action onec: once?\n";
 
 /// The table has these entries.
 fn is_table<A: Allocator>(own: Global, table: &Table<A>) -> Result<bool, Memory> {
@@ -78,21 +64,11 @@ fn is_kept(own: Global, heap: &LocalHeap, table: &Table, call: &str) -> Result<b
     }
 }
 
-/// The answer of a call over the files is right.
-fn is_linted(heap: &LocalHeap, files: &[Part], call: &str) -> Result<bool, TableFault> {
-    match call {
-        "lint_parts" => {
-            let lint = lint_parts(heap, files, &MISSING)?;
-            Ok(lint.found == Findings::Faults && lint.text.as_slice() == TOLD.as_bytes())
-        }
-        "warnings" => match warnings(heap, files) {
-            Ok(found) => Ok(found.as_slice() == WARNINGS.as_slice()),
-            Err(_) => Err(TableFault::Memory),
-        },
-        _ => match Id::read(b"a") {
-            Some(id) => Ok(id_lines(heap, files, &id)?.as_slice() == OWN.as_bytes()),
-            None => Ok(false),
-        },
+/// The warnings about the files are right.
+fn is_warned(heap: &LocalHeap, files: &[Part]) -> Result<bool, TableFault> {
+    match warnings(heap, files) {
+        Ok(found) => Ok(found.as_slice() == WARNINGS.as_slice()),
+        Err(_) => Err(TableFault::Memory),
     }
 }
 
@@ -111,9 +87,7 @@ const CALLS: &[(&str, usize)] = &[
     ("write", 1),
     ("read_written", 1),
     ("copy", 1),
-    ("lint_parts", 1),
     ("warnings", 1),
-    ("id_lines", 1),
 ];
 
 /// The call's answer on a heap is right.
@@ -131,7 +105,7 @@ fn is_answered(
     match call {
         "read" | "read_parts" => is_read(own, heap, parts, call),
         "write" | "read_written" | "copy" => is_kept(own, heap, table, call),
-        _ => is_linted(heap, files, call),
+        _ => is_warned(heap, files),
     }
 }
 

@@ -14,4 +14,4 @@ returns-in-Ok g c = λ past seen has.
 pub returns-in-Err : goal.returns-in-Err
 returns-in-Err g c = λ past seen has.
     answered c.args.shown.now.stop _ c.report_memory.result (g.S.Says.said c.args.out.now) (g.S.Says.said c.args.out.now) (sym c.is_within.ensures ∙ c.if-is_within.false)
-    (inr (c.report_memory.ensures.status, ([], (g.Q.Query.gives c.args.asked.now c.args.shown.now.path.now c.args.shown.now.writer c.args.shown.now.stop past).0, refl, says_nothing (g.S.Says.said c.args.out.now))))
+    (inr (c.report_memory.ensures.status, ([], (g.Q.Query.gives c.args.asked c.args.shown.now.path.now c.args.shown.now.writer c.args.shown.now.stop past).0, refl, says_nothing (g.S.Says.said c.args.out.now))))

@@ -1,0 +1,10 @@
+use Rattle.initview_lines.proofs.CommonWords.{◌≡◌, ◌++◌, length, map}
+use Rattle.initview_lines.specs.Lint.{warning_line}
+use Rattle.initview_lines.proofs.lint.warning_lines.Given as goal
+
+-- the lines so far, and behind them those of what is left, are the lines of all
+abbrev pub invariant-loop-found : goal.invariant-loop-found
+invariant-loop-found l = l.lines.items ++ map (warning_line l.parts) l.rest ≡ map (warning_line l.parts) l.warnings
+
+abbrev pub decreases-loop-found : goal.decreases-loop-found
+decreases-loop-found l = length l.rest

@@ -1,0 +1,54 @@
+-- The lines of an inittab's files that have an id: where each stands, and what it says or why it is left out.
+use Rattle.std.specs.Prelude.{ℕ, Bool, ◌+◌, ◌&&◌, ◌==◌, if◌then◌else◌, List, [], ◌∷◌, ◌++◌, find, Option, Some, None}
+use Rattle.std.specs.Str.{bytes_eq}
+use Rattle.text_lines.specs.Lines.{cut, lines_of, skip_blanks}
+use Rattle.init_words.specs.Parts.{NamedText, texts_of}
+use Rattle.inittab_text.specs.declared.faults.PartFault.{PartFault}
+use Rattle.inittab_text.specs.Parts.{faults_of_parts}
+use Rattle.inittab_text.specs.Written.{is_empty}
+use Rattle.initview_lines.specs.declared.lines.FileLine.TheVariants as told
+use Rattle.initview_lines.specs.declared.lines.Line.{Line}
+use Rattle.initview_lines.specs.declared.lines.Line.TheVariants.{File}
+use Rattle.initview_lines.specs.Lint.{fault_line, note_if, up_to}
+
+-- the id of a line: what stands before its first colon, also where the line has too few
+abbrev pub id_written : List ℕ → List ℕ
+id_written line = up_to (cut 58 (skip_blanks line)) (skip_blanks line)
+
+-- the fault that the reader has of the line of a number, in the file of a number
+abbrev pub is_fault_at : ℕ → ℕ → PartFault → Bool
+is_fault_at part number fault = fault.part == part && fault.line == number
+
+abbrev pub fault_at : List PartFault → ℕ → ℕ → Option PartFault
+fault_at faults part number = find (is_fault_at part number) faults
+
+-- the fault, where the line is left out; else the line itself
+abbrev pub line_told : NamedText → ℕ → List ℕ → Option PartFault → Line
+line_told file number line (Some fault) = fault_line (Some file) fault
+line_told file number line None = File file.name (told.Kept number line)
+
+-- so of a line that has the id
+abbrev pub own_line : List ℕ → List PartFault → ℕ → NamedText → ℕ → List ℕ → List Line
+own_line id faults part file number line =
+    if bytes_eq (id_written line) id then line_told file number line (fault_at faults part number) ∷ [] else []
+
+-- of a file's lines from a number on, and of the files from a number on: lines count from 1, files from 0
+abbrev pub own_lines : List ℕ → List PartFault → ℕ → NamedText → ℕ → List (List ℕ) → List Line
+own_lines id faults part file number [] = []
+own_lines id faults part file number (line ∷ lines) =
+    own_line id faults part file number line ++ own_lines id faults part file (number + 1) lines
+
+abbrev pub lines_from : List ℕ → List PartFault → ℕ → List NamedText → List Line
+lines_from id faults part [] = []
+lines_from id faults part (file ∷ files) =
+    own_lines id faults part file 1 (lines_of file.bytes) ++ lines_from id faults (part + 1) files
+
+-- all of it, of the files of an inittab; where no line has the id that is told
+abbrev pub or_none : List ℕ → List NamedText → List Line → List Line
+or_none id files lines = lines ++ note_if (is_empty lines) files (told.NoLine id)
+
+abbrev pub lines_by : List ℕ → List PartFault → List NamedText → List Line
+lines_by id faults files = or_none id files (lines_from id faults 0 files)
+
+abbrev pub id_lines : List ℕ → List NamedText → List Line
+id_lines id files = lines_by id (faults_of_parts (texts_of files)) files

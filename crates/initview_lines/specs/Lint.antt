@@ -1,0 +1,117 @@
+-- All that is told of the files of an inittab.
+use Rattle.std.specs.Prelude.{ℕ, Bool, true, false, ◌-◌, not, if◌then◌else◌, List, [], ◌∷◌, ◌++◌, filter, map, slice_get, Option, Some, None}
+use Rattle.std.specs.List.{list_any}
+use Rattle.std.specs.Option.{option_map_or}
+use Rattle.text_lines.specs.Lines.{after_lines, cut, skip_blanks}
+use Rattle.init_words.specs.declared.stages.Stage.TheVariants.{Run}
+use Rattle.init_words.specs.Entries.{starts_of}
+use Rattle.init_words.specs.Parts.{NamedText, texts_of}
+use Rattle.inittab_text.specs.declared.faults.LineKind.{LineKind}
+use Rattle.inittab_text.specs.declared.faults.LineKind.TheVariants as kind
+use Rattle.inittab_text.specs.declared.faults.PartFault.{PartFault}
+use Rattle.inittab_text.specs.Lines.{FieldBytes, fields_of}
+use Rattle.inittab_text.specs.Parts.{faults_of_parts, table_of_texts}
+use Rattle.inittab_text.specs.Tables.{default_level_of}
+use Rattle.inittab_text.specs.Written.{is_empty}
+use Rattle.inittab_lint.specs.declared.traps.LineWarning.{LineWarning}
+use Rattle.inittab_lint.specs.Meant.{meant}
+use Rattle.inittab_lint.specs.Warnings.{warnings_of}
+use Rattle.initview_lines.specs.CommonWords.{Act, Entry}
+use Rattle.initview_lines.specs.declared.lines.FileLine.{FileLine}
+use Rattle.initview_lines.specs.declared.lines.FileLine.TheVariants as told
+use Rattle.initview_lines.specs.declared.lines.Line.{Line}
+use Rattle.initview_lines.specs.declared.lines.Line.TheVariants.{File}
+use Rattle.initview_lines.specs.declared.lint.Findings.{Findings}
+use Rattle.initview_lines.specs.declared.lint.Findings.TheVariants as found
+
+-- the name and the text of the file of a number
+abbrev pub name_of : Option NamedText → List ℕ
+name_of part = option_map_or (λ (p : NamedText). p.name) part []
+
+abbrev pub text_of : Option NamedText → List ℕ
+text_of part = option_map_or (λ (p : NamedText). p.bytes) part []
+
+-- a text up to its newline
+abbrev pub up_to : Option (List ℕ × List ℕ) → List ℕ → List ℕ
+up_to None text = text
+up_to (Some parts) text = parts.0
+
+abbrev pub line_begun : Option (List ℕ) → List ℕ
+line_begun None = []
+line_begun (Some text) = up_to (cut 10 text) text
+
+-- the line of a number, counted from 1
+abbrev pub line_at : ℕ → List ℕ → List ℕ
+line_at number text = line_begun (after_lines (number - 1) text)
+
+-- the id or the action of a line, where a check of it fails, and the action that was probably meant
+abbrev pub field_of : LineKind → FieldBytes → List ℕ
+field_of kind.Id f = f.id
+field_of kind.Twice f = f.id
+field_of kind.Action f = f.action
+field_of _ f = []
+
+abbrev pub field_in : LineKind → Option FieldBytes → List ℕ
+field_in kind fields = option_map_or (field_of kind) fields []
+
+abbrev pub meant_for : LineKind → List ℕ → Option Act
+meant_for kind.Action word = meant word
+meant_for _ word = None
+
+-- a line that is left out: the first check that it fails
+abbrev pub left_out : PartFault → List ℕ → FileLine
+left_out fault field = told.LeftOut fault.line fault.kind field (meant_for fault.kind field)
+
+abbrev pub fault_line : Option NamedText → PartFault → Line
+fault_line part fault =
+    File (name_of part)
+    (left_out fault (field_in fault.kind (fields_of (skip_blanks (line_at fault.line (text_of part))))))
+
+abbrev pub fault_line_of : List NamedText → PartFault → Line
+fault_line_of parts fault = fault_line (slice_get parts fault.part) fault
+
+-- lines that begin with no id, as BusyBox has them, are told of once
+abbrev pub has_no_id : FieldBytes → Bool
+has_no_id f = is_empty f.id
+
+abbrev pub is_nameless : List NamedText → PartFault → Bool
+is_nameless parts fault =
+    option_map_or has_no_id (fields_of (skip_blanks (line_at fault.line (text_of (slice_get parts fault.part))))) false
+
+abbrev pub has_nameless : List NamedText → List PartFault → Bool
+has_nameless parts faults = list_any (is_nameless parts) faults
+
+-- a warning about a line, and one about the whole, where it is so
+abbrev pub warning_line : List NamedText → LineWarning → Line
+warning_line parts found = File (name_of (slice_get parts found.part)) (told.Warned found.line found.kind)
+
+abbrev pub note_if : Bool → List NamedText → FileLine → List Line
+note_if so parts note = if so then File (name_of (slice_get parts 0)) note ∷ [] else []
+
+-- entries start in the default level
+abbrev pub serves : List Entry → Bool
+serves table = option_map_or (λ level. list_any (λ e. starts_of e (Run level)) table) (default_level_of table) false
+
+abbrev pub lint_lines : List NamedText → List PartFault → List LineWarning → List Entry → List Line
+lint_lines parts faults warnings table =
+    map (fault_line_of parts) (filter (λ fault. not (is_nameless parts fault)) faults)
+    ++ (note_if (has_nameless parts faults) parts told.Nameless
+    ++ (map (warning_line parts) warnings
+    ++ note_if (not (serves table)) parts (told.Default (default_level_of table))))
+
+-- a fault counts before any warning
+abbrev pub found_by : List PartFault → List LineWarning → Bool → Findings
+found_by (fault ∷ faults) warnings served = found.Faults
+found_by [] (warning ∷ warnings) served = found.Warnings
+found_by [] [] served = if served then found.Nothing else found.Warnings
+
+-- what is told and what was found
+abbrev pub lint_by : List NamedText → List PartFault → List LineWarning → List Entry → List Line × Findings
+lint_by parts faults warnings table =
+    (lint_lines parts faults warnings table, found_by faults warnings (serves table))
+
+-- of files: the faults of the reader, the warnings that hold, further ones, and the default level of their table
+abbrev pub lint_in : List NamedText → List LineWarning → List Line × Findings
+lint_in parts more =
+    lint_by parts (faults_of_parts (texts_of parts)) (warnings_of (texts_of parts) ++ more)
+    (table_of_texts (texts_of parts))

@@ -1,0 +1,299 @@
+//! What is told of the files of an inittab that is not in force yet.
+
+ghost use Rattle.std.specs.Prelude.{◌≡◌, ◌++◌, ◌↔◌, filter, map, not, option_copied, slice_get, IfOk, OnOk, IsErrOf};
+ghost use Rattle.std.specs.List.{list_any};
+ghost use Rattle.text_lines.specs.Lines.{skip_blanks};
+ghost use Rattle.init_words.specs.declared.stages.Stage.TheVariants.{Run};
+ghost use Rattle.init_words.specs.Entries.{starts_of};
+ghost use Rattle.init_words.specs.Parts.{texts_of};
+ghost use Rattle.inittab_text.specs.Lines.{fields_of};
+ghost use Rattle.inittab_text.specs.Parts.{AreTooLong, AreTooMany};
+ghost use Rattle.inittab_lint.specs.Warnings.{warnings_of};
+ghost use Rattle.initview_lines.specs.declared.lines.Line.TheVariants.{File};
+ghost use Rattle.initview_lines.specs.Lint.{fault_line, fault_line_of, field_in, found_by, has_nameless, is_nameless, line_at, lint_in, lint_lines, meant_for, name_of, note_if, serves, text_of, warning_line};
+
+use crate::lines::{FileLine, Line};
+use crate::texts::Bytes;
+use init_words::{Act, Entry, Level, Part, Stage, starts};
+use inittab_lint::{LineWarning, meant, warnings};
+use inittab_text::{Fields, LineKind, PartFault, Table, TableFault, read_parts};
+use std::alloc::{AllocError, Global};
+use text_lines::{after_lines, cut, without_blanks};
+
+/// What was found in the files of an inittab.
+#[derive(Clone, Copy, PartialEq, Eq)]
+pub enum Findings {
+    Nothing,
+    /// Warnings, and no line that is left out.
+    Warnings,
+    /// A line that is left out.
+    Faults,
+}
+
+/// The file of a number.
+fn part_at(parts: &[Part], number: usize) -> Option<&Part>
+    ensures { option_copied result ≡ slice_get parts.now number }
+{
+    let part = parts.get(number)?;
+    Some(part)
+}
+
+/// The name of a file.
+fn name_of(part: Option<&Part>) -> &[u8]
+    ensures { result.now ≡ name_of (option_copied part.entry) }
+{
+    match part {
+        Some(part) => part.name.as_bytes(),
+        None => b"",
+    }
+}
+
+/// The text of a file.
+fn text_of(part: Option<&Part>) -> &[u8]
+    ensures { result.now ≡ text_of (option_copied part.entry) }
+{
+    match part {
+        Some(part) => part.bytes.as_slice(),
+        None => b"",
+    }
+}
+
+/// What is told of a file.
+pub(crate) fn file_line(
+    alloc: Global,
+    part: Option<&Part>,
+    told: FileLine,
+) -> Result<Line, AllocError>
+    ensures { IfOk result (λ line. line ≡ File (name_of (option_copied part.entry)) told) }
+{
+    let name = Bytes::copy_of(alloc, name_of(part))?;
+    Ok(Line::File(name, told))
+}
+
+/// Adds what is told of the first file, where it is so.
+pub(crate) fn add_note(
+    lines: &mut Vec<Line>,
+    alloc: Global,
+    parts: &[Part],
+    so: bool,
+    note: FileLine,
+) -> Result<(), AllocError>
+    ensures { OnOk result (lines.new.items ≡ lines.old.items ++ note_if so parts.now note) }
+{
+    if so {
+        lines.push(file_line(alloc, part_at(parts, 0), note)?)?;
+    }
+    Ok(())
+}
+
+/// The line of a number, counted from 1.
+fn line_at(number: u32, text: &[u8]) -> &[u8]
+    ensures { result.now ≡ line_at number text.now }
+{
+    let before = number.saturating_sub(1) as usize;
+    let Some(rest) = after_lines(before, text) else {
+        return b"";
+    };
+    match cut(b'\n', rest) {
+        Some((line, _)) => line,
+        None => rest,
+    }
+}
+
+/// The id or the action of a line, where a check of it fails.
+fn field_in(kind: LineKind, line: &[u8]) -> &[u8]
+    ensures { result.now ≡ field_in kind (fields_of line.now) }
+{
+    let Some(fields) = Fields::of(line) else {
+        return b"";
+    };
+    match kind {
+        LineKind::Id | LineKind::Twice => fields.id,
+        LineKind::Action => fields.action,
+        _ => b"",
+    }
+}
+
+/// The action that a field was probably meant to be.
+fn meant_for(kind: LineKind, field: &[u8]) -> Option<Act>
+    ensures { result ≡ meant_for kind field.now }
+{
+    match kind {
+        LineKind::Action => meant(field),
+        _ => None,
+    }
+}
+
+/// What is told of a line that is left out.
+pub(crate) fn fault_line(
+    alloc: Global,
+    part: Option<&Part>,
+    fault: &PartFault,
+) -> Result<Line, AllocError>
+    ensures { IfOk result (λ line. line ≡ fault_line (option_copied part.entry) fault.now) }
+{
+    let line = line_at(fault.line, text_of(part));
+    let field = field_in(fault.kind, without_blanks(line));
+    let meant = meant_for(fault.kind, field);
+    let field = Bytes::copy_of(alloc, field)?;
+    file_line(
+        alloc,
+        part,
+        FileLine::LeftOut(fault.line, fault.kind, field, meant),
+    )
+}
+
+/// The line of a fault begins with no id.
+fn is_nameless(parts: &[Part], fault: &PartFault) -> bool
+    ensures { result ≡ is_nameless parts.now fault.now }
+{
+    let part = part_at(parts, fault.part as usize);
+    match Fields::of(without_blanks(line_at(fault.line, text_of(part)))) {
+        Some(fields) => fields.id.is_empty(),
+        None => false,
+    }
+}
+
+fn has_nameless(parts: &[Part], faults: &[PartFault]) -> bool
+    ensures { result ≡ has_nameless parts.now faults.now }
+{
+    faults.iter().any(|fault| is_nameless(parts, fault))
+}
+
+fn named(alloc: Global, parts: &[Part], faults: &[PartFault]) -> Result<Vec<PartFault>, AllocError>
+    ensures { IfOk result (λ named. named.items
+        ≡ filter (λ fault. not (is_nameless parts.now fault)) faults.now) }
+{
+    faults
+        .iter()
+        .copied()
+        .filter(|fault| !is_nameless(parts, fault))
+        .collect(alloc)
+}
+
+fn fault_line_of(alloc: Global, parts: &[Part], fault: &PartFault) -> Result<Line, AllocError>
+    ensures { IfOk result (λ line. line ≡ fault_line_of parts.now fault.now) }
+{
+    fault_line(alloc, part_at(parts, fault.part as usize), fault)
+}
+
+fn fault_lines(alloc: Global, parts: &[Part], faults: &[PartFault]) -> Result<Vec<Line>, AllocError>
+    ensures { IfOk result (λ lines. lines.items ≡ map (fault_line_of parts.now) faults.now) }
+{
+    let mut lines = Vec::new(alloc);
+    let mut rest = faults;
+    while let Some((fault, others)) = rest.split_first() {
+        lines.push(fault_line_of(alloc, parts, fault)?)?;
+        rest = others;
+    }
+    Ok(lines)
+}
+
+fn warning_line(alloc: Global, parts: &[Part], found: &LineWarning) -> Result<Line, AllocError>
+    ensures { IfOk result (λ line. line ≡ warning_line parts.now found.now) }
+{
+    let warned = FileLine::Warned(found.line, found.kind);
+    file_line(alloc, part_at(parts, found.part), warned)
+}
+
+fn warning_lines(
+    alloc: Global,
+    parts: &[Part],
+    warnings: &[LineWarning],
+) -> Result<Vec<Line>, AllocError>
+    ensures { IfOk result (λ lines. lines.items ≡ map (warning_line parts.now) warnings.now) }
+{
+    let mut lines = Vec::new(alloc);
+    let mut rest = warnings;
+    while let Some((found, others)) = rest.split_first() {
+        lines.push(warning_line(alloc, parts, found)?)?;
+        rest = others;
+    }
+    Ok(lines)
+}
+
+fn any_starts(entries: &[Entry], level: Level) -> bool
+    ensures { result ≡ list_any (λ e. starts_of e (Run level)) entries.now }
+{
+    entries.iter().any(|entry| starts(entry, Stage::Run(level)))
+}
+
+/// Entries start in the default level.
+fn serves(table: &Table) -> bool
+    ensures { result ≡ serves table.now }
+{
+    match table.default_level() {
+        Some(level) => any_starts(table.entries(), level),
+        None => false,
+    }
+}
+
+/// What was found, by what is told.
+fn found_by(faults: &[PartFault], warnings: &[LineWarning], serves: bool) -> Findings
+    ensures { result ≡ found_by faults.now warnings.now serves }
+{
+    if !faults.is_empty() {
+        Findings::Faults
+    } else if !warnings.is_empty() || !serves {
+        Findings::Warnings
+    } else {
+        Findings::Nothing
+    }
+}
+
+fn lint_lines(
+    alloc: Global,
+    parts: &[Part],
+    faults: &[PartFault],
+    warnings: &[LineWarning],
+    table: &Table,
+) -> Result<Vec<Line>, AllocError>
+    ensures { IfOk result (λ lines. lines.items
+        ≡ lint_lines parts.now faults.now warnings.now table.now) }
+{
+    let mut lines = fault_lines(alloc, parts, &named(alloc, parts, faults)?)?;
+    let nameless = has_nameless(parts, faults);
+    add_note(&mut lines, alloc, parts, nameless, FileLine::Nameless)?;
+    lines.append(&mut warning_lines(alloc, parts, warnings)?)?;
+    let default = FileLine::Default(table.default_level());
+    add_note(&mut lines, alloc, parts, !serves(table), default)?;
+    Ok(lines)
+}
+
+fn lint_table(
+    alloc: Global,
+    parts: &[Part],
+    faults: &[PartFault],
+    more: &[LineWarning],
+    table: &Table,
+) -> Result<(Vec<Line>, Findings), AllocError>
+    ensures { IfOk result (λ given. (given.0.items
+        ≡ lint_lines parts.now faults.now (warnings_of (texts_of parts.now) ++ more.now) table.now)
+        × (given.1
+        ≡ found_by faults.now (warnings_of (texts_of parts.now) ++ more.now) (serves table.now))) }
+{
+    let mut warnings = warnings(alloc, parts)?;
+    warnings.extend_from_slice(more)?;
+    let found = found_by(faults, &warnings, serves(table));
+    Ok((lint_lines(alloc, parts, faults, &warnings, table)?, found))
+}
+
+/// Reads an inittab(5) of several files, as `read_parts` does, and tells of it: first its lines that are left out, then its
+/// warnings, behind its own those of the caller, and at last that no entry starts in a default level. Over 256 files are
+/// refused, and files of over 1,048,576 bytes together.
+pub fn lint_parts(
+    alloc: Global,
+    parts: &[Part],
+    more: &[LineWarning],
+) -> Result<(Vec<Line>, Findings), TableFault>
+    ensures told { IfOk result (λ given. (given.0.items ≡ (lint_in parts.now more.now).0)
+        × (given.1 ≡ (lint_in parts.now more.now).1)) }
+    ensures parts { IsErrOf result TableFault.Parts ↔ AreTooMany (texts_of parts.now) }
+    ensures too_long { IsErrOf result TableFault.TooLong ↔ AreTooLong (texts_of parts.now) }
+{
+    let (table, faults) = read_parts(alloc, parts)?;
+    match lint_table(alloc, parts, &faults, more, &table) {
+        Ok(given) => Ok(given),
+        Err(_) => Err(TableFault::Memory),
+    }
+}
