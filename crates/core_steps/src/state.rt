@@ -39,7 +39,8 @@ impl<A: Allocator> Model for BareCore<A> {
 
     ghost view = { λ c. record { table = c.table; slots = c.slots; fields = c.fields } };
 
-    ghost invariant = { λ c. (c.fields.time ≤ CLOCK_LIMIT) × (are_timely c.fields.time c.slots ≡ true)
+    ghost invariant = { λ c. (c.fields.time ≤ CLOCK_LIMIT)
+        × (are_timely c.fields.time c.slots ≡ true)
         × IsInOrder c.table c.slots × (are_seen c.looks_from c.slots ≡ true)
         × ArePassed c.fields.stage c.starts c.table c.slots };
 }
@@ -235,7 +236,8 @@ impl<A: Allocator> BareCore<A> {
 
     /// After Sysinit and Boot, the stage that comes next.
     fn stage_step(&self, stage: Stage) -> Option<Step>
-        ensures { result ≡ core.stage_step stage self.now.fields.goal self.now.table self.now.slots }
+        ensures { result ≡ core.stage_step stage self.now.fields.goal self.now.table
+            self.now.slots }
     {
         let next = next_stage(stage, self.fields.goal.level)?;
         if self.slots.quiet() && all_done(stage, &self.table, self.slots.as_slice()) {

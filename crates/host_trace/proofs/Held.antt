@@ -1,5 +1,5 @@
 -- The children that a host holds are the unreaped ones of its trace, and what it answers is possible.
-use Rattle.host_trace.proofs.Words.{arith, ◌≡◌, refl, sym, ◌∙◌, ap, ap₂, subst, ℕ, Bool, true, false, not, ◌==◌, ◌&&◌, ◌||◌, cond, List, [], ◌∷◌, ◌++◌, map, filter, length, reverse, append-nil, eq-eqb, Some, None, Ok, Err, list_any, AllByRecursion, option_map_or, false≢true, and_parts, and_from, or_left, or_right, or_parts, or_from, eqb-true, false_from_ne_true, reverse-append, list_any-append, Answer, OrderKind, answers, same_ask, Status, texts_of, are_readable, table_of_texts, same_id-is, same_id-self, same_id-sym, both_ways, and_false, not_from, any_filtered, passing, Goal, Event, Child, is_child, has_number, unreaped_children, is_dead, is_living, open_of, undone_of, is_untold, is_order, Start, Signal, Late, Clock, TakeBytes, ReadTables, Carry, Announce, Pause, Reply, Now, Later, HostCall, PartsRead, heard_of, Point, last_birth, acted, is_asked_for, answered, ordered, order_for, come, is_last, nudged_if, byte_after, bytes_after, reading, before_reading, before_handing, came_whole, handed_if, announced, after, point_after, meets, is_allowed}
+use Rattle.host_trace.proofs.Words.{arith, ◌≡◌, refl, sym, ◌∙◌, ap, ap₂, subst, ℕ, Bool, true, false, not, ◌==◌, ◌&&◌, ◌||◌, cond, List, [], ◌∷◌, ◌++◌, map, filter, length, reverse, append-nil, eq-eqb, Some, None, Ok, Err, list_any, AllByRecursion, option_map_or, false≢true, and_parts, and_from, or_left, or_right, or_parts, or_from, eqb-true, false_from_ne_true, reverse-append, list_any-append, Answer, OrderKind, answers, same_ask, Status, texts_of, are_readable, table_of_texts, same_id-is, same_id-self, same_id-sym, both_ways, and_false, not_from, any_filtered, all_filter, passing, Goal, Event, Child, is_child, has_number, unreaped_children, is_dead, is_living, open_of, undone_of, is_untold, is_order, Start, Signal, Late, Clock, TakeBytes, ReadTables, Carry, Announce, Pause, Reply, Now, Later, HostCall, PartsRead, heard_of, Point, last_birth, acted, is_asked_for, answered, ordered, order_for, come, is_last, nudged_if, byte_after, bytes_after, reading, before_reading, before_handing, came_whole, handed_if, announced, after, point_after, meets, is_allowed}
 use Rattle.std.proofs.lemmas.List.Elements.{filter-append}
 use Rattle.init_words.specs.declared.levels.Level.TheVariants.{L0}
 use Rattle.init_words.specs.declared.orders.Answer.TheVariants as answer
@@ -18,14 +18,6 @@ use Rattle.core_model.proofs.Reading.{any_map}
 all_then : {X : Type 0} (P Q : X → Type 0) → ((x : X) → P x → Q x) → (xs : List X) → AllByRecursion P xs → AllByRecursion Q xs
 all_then P Q more [] all = tt
 all_then P Q more (x ∷ xs) all = (more x all.0, all_then P Q more xs all.1)
-
-all_filter : {X : Type 0} (P : X → Type 0) (p : X → Bool) (xs : List X) → AllByRecursion P xs → AllByRecursion P (filter p xs)
-all_filter P p [] all = tt
-all_filter {X} P p (x ∷ xs) all = by (p x) (all_filter P p xs all.1)
-  where
-    by : (b : Bool) → AllByRecursion P (filter p xs) → AllByRecursion P (cond b (x ∷ filter p xs) (filter p xs))
-    by true rest = (all.0, rest)
-    by false rest = rest
 
 all_both : {X : Type 0} (P Q R : X → Type 0) → ((x : X) → P x → Q x → R x) → (xs : List X) → AllByRecursion P xs → AllByRecursion Q xs → AllByRecursion R xs
 all_both P Q R more [] ps qs = tt

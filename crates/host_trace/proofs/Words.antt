@@ -44,6 +44,6 @@ pub use Rattle.trace_events.specs.Wanted.{is_order}
 pub use Rattle.host_trace.specs.Grows.{Grows, GrowsBy, GrowsReading}
 pub use Rattle.trace_log.specs.declared.faults.LogFault.{LogFault}
 pub use Rattle.std.proofs.lemmas.List.Folds.{list_any-append, list_all-append}
-pub use Rattle.init_words.proofs.Tests.{both_ways, and_false, not_from, any_filtered, passing, or_either}
+pub use Rattle.init_words.proofs.Tests.{both_ways, and_false, not_from, all_filter, any_filtered, passing, or_either}
 pub use Rattle.host_calls.specs.declared.calls.Reply.TheVariants.{Now, Later}
 pub use Rattle.host_trace.specs.Turns.{takes_none, AreSteps, IsTurn, is_reread, is_step}

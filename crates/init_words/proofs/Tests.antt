@@ -1,6 +1,6 @@
 -- Lemmas on tests, and on lists that are searched and filtered by them.
 use Rattle.std.proofs.Common.{◌≡◌, refl, sym, ◌∙◌, ap, inl, inr, Bool, true, false, not, ◌&&◌, ◌||◌, cond, List, [], ◌∷◌, filter, find, Option, Some, None, is_none, is_some, Result, Ok, Err}
-use Rattle.std.specs.List.{list_any, list_all}
+use Rattle.std.specs.List.{list_any, list_all, AllByRecursion}
 use Rattle.std.specs.Option.{option_map}
 use Rattle.std.specs.Result.{IfErr}
 use Rattle.std.proofs.lemmas.Bool.{false≢true, false_from_ne_true, and_parts, and_from, or_cases, or_left, or_right, or_parts, or_from}
@@ -92,6 +92,13 @@ passing {X} p (x ∷ xs) h = or_either (p x) (list_any p xs) h here (λ more. la
   later rest = record { item = rest.item; passes = rest.passes; within = λ q is. or_right (q x) (list_any q xs) (rest.within q is) }
 
 -- filters
+pub all_filter : {X : Type 0} (P : X → Type 0) (p : X → Bool) (xs : List X) → AllByRecursion P xs → AllByRecursion P (filter p xs)
+all_filter P p [] all = tt
+all_filter {X} P p (x ∷ xs) all = by (p x) (all_filter P p xs all.1) where
+  by : (b : Bool) → AllByRecursion P (filter p xs) → AllByRecursion P (cond b (x ∷ filter p xs) (filter p xs))
+  by true rest = (all.0, rest)
+  by false rest = rest
+
 pub any_filter : {X : Type 0} (p q : X → Bool) (xs : List X) → list_any p (filter q xs) ≡ list_any (λ x. q x && p x) xs
 any_filter p q [] = refl
 any_filter {X} p q (x ∷ xs) = split (q x) (any_filter p q xs) where

@@ -5,7 +5,7 @@ use Rattle.std.proofs.Common.{flat_map}
 use Rattle.std.proofs.lemmas.List.Folds.{list_any-append}
 use Rattle.std.proofs.lemmas.Map.Views.{any-filter_same}
 use Rattle.init_words.specs.Levels.{same_level}
-use Rattle.init_words.proofs.Tests.{any_filtered, any_less, falsely, passing}
+use Rattle.init_words.proofs.Tests.{all_filter, any_filtered, any_less, falsely, passing}
 use Rattle.init_words.proofs.Same.{same_level-is, same_level-self}
 use Rattle.rc_links.specs.Entries.{has_name}
 use Rattle.rc_links.specs.declared.folders.LinkAction.{LinkAction}
@@ -60,11 +60,6 @@ all_cond P x xs false is all = all
 all-passed : {X : Type 0} (P : X → Type 0) (p : X → Bool) (xs : List X) → ((x : X) → p x ≡ true → P x) → AllByRecursion P (filter p xs)
 all-passed P p [] is = tt
 all-passed P p (x ∷ xs) is = all_cond P x (filter p xs) (p x) (is x) (all-passed P p xs is)
-
--- what holds of all holds of those that pass a test
-pub all-filter : {X : Type 0} (P : X → Type 0) (p : X → Bool) (xs : List X) → AllByRecursion P xs → AllByRecursion P (filter p xs)
-all-filter P p [] all = tt
-all-filter P p (x ∷ xs) all = all_cond P x (filter p xs) (p x) (λ _. all.0) (all-filter P p xs all.1)
 
 all_fail : {X : Type 0} (p : X → Bool) (xs : List X) → list_any p xs ≡ false → AllByRecursion (λ x. p x ≡ false) xs
 all_fail p [] none = tt
@@ -241,7 +236,7 @@ mends targets f m = λ e.
     let q : EntryText → Bool = λ x. is_ours targets x || has x f.planned in
     let all : AllByRecursion (Each (Passes q)) (changes_of targets f) = all_changes (Passes q) targets f
     (λ x is. or_left (is_ours targets x) (has x f.planned) (and_parts (is_ours targets x) (not (has x f.planned)) is).0)
-    (all-filter (Passes q Make) (is_missing f.held) f.planned (all_ours f.planned (all_among f.planned f.planned (λ x is. is)))) in
+    (all_filter (Passes q Make) (is_missing f.held) f.planned (all_ours f.planned (all_among f.planned f.planned (λ x is. is)))) in
     has_settled targets f.planned now e
     ∙ mended_by (is_ours targets e) (has e f.planned) (has e f.held) (has e now)
     (λ fails. others_stay q e (take m (changes_of targets f)) f.level f.held fails (all-take (Each (Passes q)) (changes_of targets f) m all))
@@ -373,7 +368,7 @@ stays_by targets f m p true at both clear =
     let l = found p f.planned (both ∙ at) in
     stays_some targets f m p x.0 l.0 (has l.0 f.held) refl x.1 x.2 (not_both p (is_in_way targets f.planned) x.0 f.held clear x.1 x.2) l.1 l.2
 stays_by targets f m p false at both clear =
-    let made_none = all-filter (MakesNone p Make) (is_missing f.held) f.planned (all_fail p f.planned (both ∙ at)) in
+    let made_none = all_filter (MakesNone p Make) (is_missing f.held) f.planned (all_fail p f.planned (both ∙ at)) in
     let all : AllByRecursion (Each (MakesNone p)) (changes_of targets f) = all_changes (MakesNone p) targets f (λ _ _. tt) made_none in
     none_made p (take m (changes_of targets f)) f.level f.held at (all-take (Each (MakesNone p)) (changes_of targets f) m all)
 

@@ -6,12 +6,12 @@ use Rattle.init_words.specs.declared.levels.Level.{Level}
 use Rattle.init_words.specs.declared.levels.Level.TheVariants.{L0, L1, L2, L3, L4, L5, L6, L7, L8, L9, S}
 use Rattle.init_words.specs.Levels.{same_level}
 use Rattle.init_words.proofs.Same.{same_level-is, same_level-self}
-use Rattle.init_words.proofs.Tests.{any_filtered, filter_both}
+use Rattle.init_words.proofs.Tests.{all_filter, any_filtered, filter_both}
 use Rattle.rc_links.specs.Entries.{has_name, same_entry}
 use Rattle.rc_links.specs.FolderText.{FolderText}
 use Rattle.rc_links.specs.Mending.{held_behind}
 use Rattle.rc_links.proofs.LinkLemmas.{same_bytes}
-use Rattle.rc_links.proofs.MendingLemmas.{all-filter, all_among, behind_more, elsewhere, entry_itself, has, made, none_of_folder, none_of_folders, not_stale, one_entry}
+use Rattle.rc_links.proofs.MendingLemmas.{all_among, behind_more, elsewhere, entry_itself, has, made, none_of_folder, none_of_folders, not_stale, one_entry}
 
 -- changes, and then others
 pub changed_by-append : (dir : List ℕ) (a b : List ChangeText) (other : List ℕ) (level : Level) (es : List EntryText)
@@ -92,7 +92,7 @@ left_over_goes targets planned es =
     (fails (is_left_over targets planned) kept es (λ e. any_filtered (λ y. same_entry y e) (λ x. not (is_in_way targets planned x)) es)
     ∙ filter_twice (λ e. not (is_left_over targets planned e)) (λ e. not (is_in_way targets planned e)) (λ e. not (is_stale targets planned e)) es (λ e. parted (is_stale targets planned e) (has_name e.name planned)))
     ∙ ap (λ ys. filter (λ e. not (is_stale targets planned e)) es ++ ys)
-    (filter_all stays links (all_stay targets planned es links (all-filter (λ e. has e planned ≡ true) (is_missing es) planned (all_among planned planned (λ e is. is)))))
+    (filter_all stays links (all_stay targets planned es links (all_filter (λ e. has e planned ≡ true) (is_missing es) planned (all_among planned planned (λ e is. is)))))
 
 -- the changes of a folder settle it
 own_folder : (k : Level) (targets : List (List ℕ)) (planned es : List EntryText)
