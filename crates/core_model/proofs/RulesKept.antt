@@ -1,5 +1,5 @@
 -- Each step of init, and each thing that it is told, leaves a core that keeps the rules.
-use Rattle.core_model.proofs.Words.{◌≡◌, refl, sym, ap, ◌∙◌, subst, Bool, true, false, not, ◌&&◌, ◌||◌, cond, ℕ, List, [], ◌∷◌, zip, Option, Some, None, is_some, is_none, Ok, arith, false≢true, and_parts, and_from, not-true, Entry, Answer, Start, Look, Term, Kill, Stage, is_limited, same_level, names, same_level-self, is_distinct, may_of, Goal, Step, Order, Reread, Reexec, Idle, in_run, RecordState, allows, can_be_asked, after_order, with_changed, order_in, refusal_of, first_news, or_else, or_idle, level_step, news_step, wished_step, stop_among, has_excluded, is_owed_record, can_start_record, start_step, start_along, stage_step, settle_step, look_among, work_step, decide_in, decide, may_follow, are_starts_along, are_starts_in, is_callable, is_goal_reached, IsFit, CoreState, opening_state, is_boot, wished, is_named, after_step, after_adopt}
+use Rattle.core_model.proofs.Words.{◌≡◌, refl, sym, ap, ◌∙◌, subst, Bool, true, false, not, ◌&&◌, ◌||◌, cond, ℕ, List, [], ◌∷◌, zip, Option, Some, None, is_some, is_none, Ok, arith, false≢true, and_parts, and_from, not-true, Entry, Answer, Start, Look, Term, Kill, Stage, is_limited, same_level, same_level-self, is_distinct, may_of, Goal, Step, Order, Reread, Reexec, Idle, in_run, RecordState, allows, can_be_asked, after_order, with_changed, order_in, refusal_of, first_news, or_else, or_idle, level_step, news_step, wished_step, stop_among, has_excluded, is_owed_record, can_start_record, start_step, start_along, stage_step, settle_step, look_among, work_step, decide_in, decide, may_follow, are_starts_along, are_starts_in, is_callable, is_goal_reached, IsFit, CoreState, opening_state, is_boot, wished, is_named, after_step, after_adopt}
 use Rattle.init_words.specs.declared.stages.Stage.TheVariants as stage
 use Rattle.respawn_limit.specs.Window.{is_held}
 use Rattle.trace_events.specs.declared.steps.Step.TheVariants.{Enter, Call, Power, Hold, Settle}

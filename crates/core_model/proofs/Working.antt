@@ -1,5 +1,5 @@
 -- Each step that is decided leaves less to do, by the state alone.
-use Rattle.core_model.proofs.Words.{Bool, true, false, not, ◌≡◌, ◌&&◌, ◌<◌, ◌≤◌, ℕ, suc, List, [], ◌∷◌, map, filter, length, Some, refl, sym, ap, arith, false≢true, and_parts, and_from, ltb-true, not-true, nat_tests, Entry, Level, Letter, Stage, OrderKind, PowerKind, any_less, Step, Reread, Order, Reexec, Idle, RecordState, IsInOrder, can_be_asked, after_order, is_record_of, changed, with_changed, PendingCalls, news_count, keeps_kind, keeps_call, with_kind, with_call, CoreState, called_if, with_called, is_named, after_step, decide, stages_left, enters_left, unasked, unheld, work_left}
+use Rattle.core_model.proofs.Words.{Bool, true, false, ◌≡◌, ◌&&◌, ◌<◌, ◌≤◌, ℕ, suc, List, [], ◌∷◌, map, filter, length, Some, refl, sym, ap, arith, false≢true, and_parts, and_from, ltb-true, not-true, nat_tests, Entry, Level, Letter, Stage, OrderKind, PowerKind, any_less, Step, Reread, Order, Reexec, Idle, RecordState, IsInOrder, can_be_asked, after_order, is_record_of, changed, with_changed, PendingCalls, news_count, keeps_kind, keeps_call, with_kind, with_call, CoreState, called_if, with_called, is_named, after_step, decide, stages_left, enters_left, unasked, unheld, work_left}
 use Rattle.trace_events.specs.declared.steps.Step.TheVariants.{Enter, Call, Power, Hold, Settle}
 use Rattle.trace_events.specs.Run.{is_rest}
 use Rattle.core_model.proofs.Allowed.{has_with, has_asked, has_unheld, is_backed, decided}

@@ -1,5 +1,5 @@
 -- Signals are due to excluded children alone: SIGTERM where a stop is due, SIGKILL where the grace has passed since SIGTERM.
-use Rattle.core_steps.proofs.Words.{◌≡◌, refl, sym, ℕ, ◌+◌, Bool, false, nat_le, List, [], ◌∷◌, Option, Some, None, is_some, not, arith, list_any, Stage, RecordState, is_stop_due, is_termed, is_termed_before, IsFirstTermed, signal_step, stop_among, has_excluded, stands, calm_step, work_step, CoreState, is_past}
+use Rattle.core_steps.proofs.Words.{◌≡◌, refl, sym, ℕ, ◌+◌, Bool, false, nat_le, List, [], ◌∷◌, Option, Some, None, is_some, arith, list_any, Stage, RecordState, is_stop_due, is_termed, is_termed_before, IsFirstTermed, signal_step, stop_among, has_excluded, stands, calm_step, work_step, CoreState, is_past}
 use Rattle.core_records.specs.declared.children.Stop.{Stop}
 
 module _ (grace now : ℕ) where

@@ -3,13 +3,13 @@
 ghost use Rattle.std.specs.Prelude.{◌≡◌};
 ghost use Rattle.std.specs.Option.{option_map};
 ghost use Rattle.core_text.specs.declared.versions.Version.TheVariants.{V1, V2};
-ghost use Rattle.core_text.specs.Reading.{limits_read, marks_read, slot_words_read, generation_line_read, clock_line_read, stage_line_read, goal_line_read, flags_line_read, wish_line_read, wishes_read, stage_pair_read, table_line_read, end_line_read, slot_line_read, ends_read, reread_read, pair_read, three_bits, slot_made, record_made, behind};
+ghost use Rattle.core_text.specs.Reading.{limits_read, marks_read, slot_words_read, generation_line_read, wishes_read, stage_pair_read, end_line_read, slot_line_read, ends_read, reread_read, pair_read, three_bits, slot_made, record_made, behind};
 
 use crate::versions::Version;
 use crate::words::{
-    read_act_or_dash, read_child_or_dash, read_four_bits, read_generation, read_goal,
-    read_goal_or_dash, read_id, read_order_or_dash, read_stage_or_none, read_starts,
-    read_status_or_dash, read_stop_or_dash, read_three_bits, read_time_or_dash, read_two_bits,
+    read_act_or_dash, read_child_or_dash, read_four_bits, read_generation, read_goal_or_dash,
+    read_id, read_order_or_dash, read_stage_or_none, read_starts, read_status_or_dash,
+    read_stop_or_dash, read_three_bits, read_time_or_dash, read_two_bits,
 };
 use arrayvec::ArrayVec;
 use core_model::PlainRecord;
@@ -21,7 +21,7 @@ use trace_events::Goal;
 use trace_text::words::{is, read_seconds};
 
 /// The text after the name and a blank.
-fn behind<'a>(name: &[u8], line: &'a [u8]) -> Option<&'a [u8]>
+pub(crate) fn behind<'a>(name: &[u8], line: &'a [u8]) -> Option<&'a [u8]>
     ensures { option_map (λ rest. rest.now) result ≡ behind name.now 32 line.now }
 {
     let (word, rest) = cut(b' ', line)?;
@@ -34,13 +34,7 @@ pub(crate) fn read_generation_line(line: &[u8]) -> Option<u64>
     read_generation(behind(b"generation", line)?)
 }
 
-pub(crate) fn read_clock_line(line: &[u8]) -> Option<u64>
-    ensures { result ≡ clock_line_read line.now }
-{
-    read_number(behind(b"clock", line)?)
-}
-
-fn read_stage_pair(words: &[u8]) -> Option<(Option<Stage>, u16)>
+pub(crate) fn read_stage_pair(words: &[u8]) -> Option<(Option<Stage>, u16)>
     ensures { result ≡ stage_pair_read words.now }
 {
     let (stage, grace) = cut(b' ', words)?;
@@ -50,24 +44,6 @@ fn read_stage_pair(words: &[u8]) -> Option<(Option<Stage>, u16)>
         return None;
     }
     Some((stage, grace))
-}
-
-pub(crate) fn read_stage_line(line: &[u8]) -> Option<(Option<Stage>, u16)>
-    ensures { result ≡ stage_line_read line.now }
-{
-    read_stage_pair(behind(b"stage", line)?)
-}
-
-pub(crate) fn read_goal_line(line: &[u8]) -> Option<Goal>
-    ensures { result ≡ goal_line_read line.now }
-{
-    read_goal(b' ', behind(b"goal", line)?)
-}
-
-pub(crate) fn read_flags_line(line: &[u8]) -> Option<(bool, bool)>
-    ensures { result ≡ flags_line_read line.now }
-{
-    read_two_bits(behind(b"flags", line)?)
 }
 
 /// Whether inittab is to be read again; the bit after it is 0, as a re-execution that goes on is wished no more.
@@ -94,25 +70,13 @@ fn read_news(words: &[u8]) -> Option<(Bits, Bits)>
     Some((read_three_bits(powers)?, read_three_bits(letters)?))
 }
 
-fn read_wishes(words: &[u8]) -> Option<WishFields>
+pub(crate) fn read_wishes(words: &[u8]) -> Option<WishFields>
     ensures { result ≡ wishes_read words.now }
 {
     let (bits, words) = cut(b' ', words)?;
     let bits = read_reread(bits)?;
     let (level, words) = cut(b' ', words)?;
     Some((bits, (read_goal_or_dash(level)?, read_news(words)?)))
-}
-
-pub(crate) fn read_wish_line(line: &[u8]) -> Option<WishFields>
-    ensures { result ≡ wish_line_read line.now }
-{
-    read_wishes(behind(b"wish", line)?)
-}
-
-pub(crate) fn read_table_line(line: &[u8]) -> Option<u64>
-    ensures { result ≡ table_line_read line.now }
-{
-    read_number(behind(b"table", line)?)
 }
 
 pub(crate) fn read_end_line(line: &[u8]) -> Option<u64>

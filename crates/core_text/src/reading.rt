@@ -6,21 +6,21 @@ ghost use Rattle.std.specs.Option.{option_map};
 ghost use Rattle.std.specs.Result.{MatchResult};
 ghost use Rattle.core_text.specs.CommonWords.{cut, Entry, SavedState};
 ghost use Rattle.core_text.specs.Versions.{holds_id, holds_table};
-ghost use Rattle.core_text.specs.Reading.{end_split, UnreadState, times_read, places_read, flags_read, fields_made, fields_read, table_read, table_in, version_read, generation_of, line_read, slot_line_read, end_line_read, checked_by, OnLine};
+ghost use Rattle.core_text.specs.Reading.{end_split, UnreadState, times_read, places_read, flags_read, fields_made, fields_read, table_read, table_in, version_read, generation_of, line_read, behind, slot_line_read, end_line_read, checked_by, OnLine};
 ghost use Rattle.core_text.specs.Refused.{AreRecords, NoRecords, IsBody, IsCut, IsOtherVersion, RefusedBody, IsTextOf, Refused};
 
 use crate::fields::{
-    WishFields, read_clock_line, read_end_line, read_flags_line, read_generation_line,
-    read_goal_line, read_slot_line, read_stage_line, read_table_line, read_wish_line,
+    WishFields, behind, read_end_line, read_generation_line, read_slot_line, read_stage_pair,
+    read_wishes,
 };
 use crate::state_fault::StateFault;
 use crate::versions::Version;
-use crate::words::read_version;
+use crate::words::{read_generation, read_goal, read_two_bits, read_version};
 use core_model::{CoreFields, Parts, PendingCalls, PlainRecord};
 use init_words::{Entry, Memory, Stage};
 use inittab_text::{Table, table_begun};
 use std::alloc::{AllocError, Allocator};
-use text_lines::{after_lines, cut, newlines};
+use text_lines::{after_lines, cut, newlines, read_number};
 use trace_events::Goal;
 
 /// The text without its last line, and that line without its newline; None where the text doesn't end with a newline
@@ -47,14 +47,29 @@ fn take_line(text: &[u8], number: u64) -> Result<(&[u8], &[u8]), StateFault>
     }
 }
 
+/// The words behind the name on the first line of a text, whose number is given, and the text after it.
+fn take_words<'a>(
+    text: &'a [u8],
+    number: u64,
+    name: &[u8],
+) -> Result<(&'a [u8], &'a [u8]), StateFault>
+    ensures ok { IfOk result (λ found.
+        line_read (behind name.now 32) text.now ≡ Some (found.0.now, found.1.now)) }
+    ensures err { IfErr result (λ why. UnreadState (line_read (behind name.now 32) text.now) why) }
+{
+    let (line, rest) = take_line(text, number)?;
+    let words = behind(name, line).ok_or(StateFault::Line(number))?;
+    Ok((words, rest))
+}
+
 fn take_times(text: &[u8]) -> Result<((u64, u64), &[u8]), StateFault>
     ensures ok { IfOk result (λ found. times_read text.now ≡ Some (found.0, found.1.now)) }
     ensures err { IfErr result (λ why. UnreadState (times_read text.now) why) }
 {
-    let (line, rest) = take_line(text, 2)?;
-    let generation = read_generation_line(line).ok_or(StateFault::Line(2))?;
-    let (line, rest) = take_line(rest, 3)?;
-    let time = read_clock_line(line).ok_or(StateFault::Line(3))?;
+    let (words, rest) = take_words(text, 2, b"generation")?;
+    let generation = read_generation(words).ok_or(StateFault::Line(2))?;
+    let (words, rest) = take_words(rest, 3, b"clock")?;
+    let time = read_number(words).ok_or(StateFault::Line(3))?;
     Ok(((generation, time), rest))
 }
 
@@ -62,10 +77,10 @@ fn take_places(text: &[u8]) -> Result<(((Option<Stage>, u16), Goal), &[u8]), Sta
     ensures ok { IfOk result (λ found. places_read text.now ≡ Some (found.0, found.1.now)) }
     ensures err { IfErr result (λ why. UnreadState (places_read text.now) why) }
 {
-    let (line, rest) = take_line(text, 4)?;
-    let stage = read_stage_line(line).ok_or(StateFault::Line(4))?;
-    let (line, rest) = take_line(rest, 5)?;
-    let goal = read_goal_line(line).ok_or(StateFault::Line(5))?;
+    let (words, rest) = take_words(text, 4, b"stage")?;
+    let stage = read_stage_pair(words).ok_or(StateFault::Line(4))?;
+    let (words, rest) = take_words(rest, 5, b"goal")?;
+    let goal = read_goal(b' ', words).ok_or(StateFault::Line(5))?;
     Ok(((stage, goal), rest))
 }
 
@@ -73,10 +88,10 @@ fn take_wishes(text: &[u8]) -> Result<(((bool, bool), WishFields), &[u8]), State
     ensures ok { IfOk result (λ found. flags_read text.now ≡ Some (found.0, found.1.now)) }
     ensures err { IfErr result (λ why. UnreadState (flags_read text.now) why) }
 {
-    let (line, rest) = take_line(text, 6)?;
-    let flags = read_flags_line(line).ok_or(StateFault::Line(6))?;
-    let (line, rest) = take_line(rest, 7)?;
-    let wishes = read_wish_line(line).ok_or(StateFault::Line(7))?;
+    let (words, rest) = take_words(text, 6, b"flags")?;
+    let flags = read_two_bits(words).ok_or(StateFault::Line(6))?;
+    let (words, rest) = take_words(rest, 7, b"wish")?;
+    let wishes = read_wishes(words).ok_or(StateFault::Line(7))?;
     Ok(((flags, wishes), rest))
 }
 
@@ -192,8 +207,8 @@ fn take_table<A: Allocator + Copy>(
     ensures ok { IfOk result (λ found. table_read version text.now ≡ Some (found.0, found.1.now)) }
     ensures err { IfErr result (λ why. UnreadState (table_read version text.now) why) }
 {
-    let (line, rest) = take_line(text, 8)?;
-    let count = read_table_line(line).ok_or(StateFault::Line(8))? as usize;
+    let (words, rest) = take_words(text, 8, b"table")?;
+    let count = read_number(words).ok_or(StateFault::Line(8))? as usize;
     match table_in(alloc, version, count, rest)? {
         Some(found) => Ok(found),
         None => {

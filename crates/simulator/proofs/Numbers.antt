@@ -1,5 +1,5 @@
 -- No two unreaped children have one number.
-use Rattle.simulator.proofs.Words.{◌≡◌, refl, ◌∙◌, ap, ℕ, ◌==◌, Bool, true, false, not, ◌||◌, cond, List, [], ◌∷◌, filter, Some, find, is_none, list_any, option_map, and_parts, not-true, Birth, Reaped, Goal, Event, Start, Child, is_child, has_number, undone_of, unreaped_children, is_order, may_come, is_sound, both_ways, any_less, none_filtered, is_lone, lone_filter}
+use Rattle.simulator.proofs.Words.{◌≡◌, refl, ◌∙◌, ap, ℕ, ◌==◌, Bool, true, false, not, ◌||◌, cond, List, [], ◌∷◌, filter, list_any, and_parts, not-true, Birth, Reaped, Goal, Event, Start, Child, is_child, has_number, undone_of, unreaped_children, is_order, may_come, is_sound, both_ways, any_less, none_filtered, is_lone, lone_filter}
 use Rattle.std.proofs.lemmas.Bool.{eqb-true}
 use Rattle.trace_laws.proofs.Keeps.{sound_ind}
 

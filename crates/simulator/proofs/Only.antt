@@ -1,5 +1,5 @@
 -- A level, an inittab and a script leave one run.
-use Rattle.simulator.proofs.Words.{◌≡◌, refl, sym, ap, ◌∙◌, subst, ◌⊎◌, inl, inr, ℕ, Bool, true, false, ◌&&◌, cond, List, [], ◌∷◌, ◌++◌, length, reverse, append_assoc, Some, arith, ◌==◌, false≢true, and_parts, append_cancel_right, reverse-reverse, Letter, PowerKind, Stage, same_letter, same_id, same_ask-is, same_id-is, same_level-is, Goal, Step, Enter, Call, Power, Reread, Order, Hold, Settle, Reexec, Idle, due, first, same_step, Event, is_next, is_rest, is_reread, is_run, step_in, may_come, with_step, first_table, heard, is_scripted, reverse_onto, is_in_range, are_in_range, are_in_range-push, one_trace, Rested, Scenario, goal_in, heard_text, past_text}
+use Rattle.simulator.proofs.Words.{◌≡◌, refl, sym, ap, ◌∙◌, subst, ◌⊎◌, inl, inr, ℕ, Bool, true, false, ◌&&◌, cond, List, [], ◌∷◌, ◌++◌, length, reverse, append_assoc, Some, arith, ◌==◌, false≢true, and_parts, append_cancel_right, reverse-reverse, Letter, PowerKind, same_letter, same_id, same_ask-is, same_id-is, same_level-is, Goal, Step, Enter, Call, Power, Reread, Order, Hold, Settle, Reexec, Idle, due, first, same_step, Event, is_next, is_rest, is_reread, is_run, step_in, may_come, with_step, first_table, heard, is_scripted, reverse_onto, is_in_range, are_in_range, are_in_range-push, one_trace, Rested, Scenario, goal_in, heard_text, past_text}
 use Rattle.std.proofs.Common.{eqb-true}
 use Rattle.std.proofs.lemmas.List.{length-append}
 use Rattle.std.proofs.lemmas.Option.{none-some, same_Some}

@@ -1,4 +1,3 @@
-use Rattle.std.proofs.Common.{arith}
 -- The words of the proofs of this crate.
 pub use Rattle.std.proofs.Common.{◌≡◌, refl, ◌∙◌, ap, List, [], ◌∷◌, length, arith, sym, ap₂, subst, ℕ, Bool, true, false, not, ◌&&◌, cond, ◌++◌, filter, Option, Some, None, is_none, ◌==◌, ◌||◌, ◌+◌, ◌-◌, nat_lt, nat_le, max, min, map}
 pub use Rattle.trace_events.specs.Event.{Event}

@@ -1,5 +1,5 @@
 -- The law that a happening breaks by the state is the one that it breaks by the past.
-use Rattle.trace_check.proofs.Words.{arith, ◌≡◌, ◌-◌, refl, sym, ◌∙◌, ap, ℕ, Bool, true, false, not, ◌&&◌, ◌||◌, cond, nat_lt, List, slice_get, take, find, Option, Some, is_some, list_any, list_all, keys_of, option_map, option_map_or, and_from, is_some-lookup, HOLD, STARTS, WINDOW, Entry, Level, same_id, entry_of, is_distinct, Event, table_of, stage_of, grace_of, time_of, Child, is_of, has_child, unreaped_children, starts_in, is_called, is_wanted, is_owed, is_excluded, may_live, entries_before, is_level, is_ripe, spell_hits, start_times, hold_times, is_held, is_full, is_placed, is_in_turn, is_limited_id, is_free, is_due_hold, may_term, may_kill, broken, same_id-is, same_id-self, same_tests, any_less, any_same, Passing, passing, found_any, and_three, is_lone, lone_any, UnreapedChild, JudgeState, at, among, is_alive, is_excluded_in, none_excluded_in, is_placed_in, is_wanted_in, is_owed_in, is_in_turn_in, is_held_in, is_full_in, is_free_in, is_due_hold_in, is_served_in, is_settled_in, is_over_in, may_kill_in, flaw_in, child_of, living_of, newest, Reads}
+use Rattle.trace_check.proofs.Words.{arith, ◌≡◌, ◌-◌, refl, sym, ◌∙◌, ap, ℕ, Bool, true, false, not, ◌&&◌, ◌||◌, cond, nat_lt, List, [], ◌∷◌, slice_get, take, find, Option, Some, is_none, is_some, list_any, list_all, keys_of, option_map, option_map_or, and_from, is_some-lookup, HOLD, STARTS, WINDOW, Entry, Level, same_id, entry_of, is_distinct, Event, table_of, stage_of, grace_of, time_of, Child, is_of, has_child, unreaped_children, starts_in, is_called, is_wanted, is_owed, is_excluded, may_live, entries_before, is_level, is_ripe, spell_hits, start_times, hold_times, is_held, is_full, is_placed, is_in_turn, is_limited_id, is_free, is_due_hold, may_term, may_kill, broken, same_id-is, same_id-self, same_tests, any_less, any_same, Passing, passing, found_any, and_three, is_lone, lone_any, UnreapedChild, JudgeState, at, among, is_alive, is_excluded_in, none_excluded_in, is_placed_in, is_wanted_in, is_owed_in, is_in_turn_in, is_held_in, is_full_in, is_free_in, is_due_hold_in, is_served_in, is_settled_in, is_over_in, may_kill_in, flaw_in, child_of, living_of, newest, Reads}
 use Rattle.trace_events.specs.Due.{is_served, is_settled}
 use Rattle.trace_check.proofs.Lone.{found_test, by_child}
 use Rattle.trace_check.proofs.Found.{found_all, found_before, first_before}
@@ -9,6 +9,11 @@ use Rattle.trace_check.proofs.Terms.{over_age, ripe_least}
 -- a TERM was told in the spell of the child, and the grace since is over
 abbrev is_ripe_child : List Event → Child → Bool
 is_ripe_child past child = list_any (is_ripe (grace_of past) (time_of past)) (spell_hits child past)
+
+-- none is the first that passes where none passes
+none_first : {X : Type 0} (p : X → Bool) (xs : List X) → is_none (find p xs) ≡ not (list_any p xs)
+none_first p [] = refl
+none_first p (x ∷ xs) = grind (arith, none_first p xs)
 
 module _ (s : JudgeState) (past : List Event) (r : Reads s past) where
   -- the entry that is found for its id is called, wanted, owed
@@ -63,7 +68,7 @@ module _ (s : JudgeState) (past : List Event) (r : Reads s past) (lone : (id : L
   placed id = ap (λ now. option_map_or (λ e. starts_in e now) (entry_of id (table_of past)) false) r.stage
 
   in_turn : (id : List ℕ) → is_in_turn_in (table_of past) s id ≡ is_in_turn id past
-  in_turn id = ap not (found_before (is_owed_in s) (λ e. is_owed e past) id (table_of past) distinct (owed s past r))
+  in_turn id = none_first (is_owed_in s) (entries_before id (table_of past)) ∙ ap not (found_before (is_owed_in s) (λ e. is_owed e past) id (table_of past) distinct (owed s past r))
 
   free : (id : List ℕ) → is_free_in (table_of past) s id ≡ is_free id past
   free id = ap (λ b. not (is_limited_id id past) || not b && not (is_full_in s id)) (held s past r id) ∙ ap (λ b. not (is_limited_id id past) || not (is_held id past) && not b) (full s past r id)

@@ -1,5 +1,5 @@
 -- What a happening makes of each part of the state is what the longer past says.
-use Rattle.trace_check.proofs.Words.{arith, ◌≡◌, refl, sym, ◌∙◌, ap, ℕ, ◌-◌, Bool, true, false, not, ◌&&◌, ◌||◌, cond, List, [], ◌∷◌, ◌++◌, filter, take, Option, Some, None, list_any, option_map, option_map_or, not_from_true, list_any-append, STARTS, Entry, OrderKind, Start, Term, same_id, has_id, entry_of, is_distinct, NewTable, Enter, Call, Power, Asked, Hit, Told, Event, table_of, stage_of, grace_of, time_of, Child, is_of, has_child, open_of, unreaped_children, kept_children, is_order, is_asked, is_called, starts_in, untold_hits, start_times, hold_times, same_id-is, same_id-apart, not_from, or_false, and_false, any_within, any_without, table_after, stage_after, grace_after, time_after, order_after, kept_after, is_changed, asked_after, is_named, stays_called_in, called_after, sent_after, starts_after, hold_after, calls_of, has_sent, newest}
+use Rattle.trace_check.proofs.Words.{arith, ◌≡◌, refl, sym, ◌∙◌, ap, ℕ, ◌-◌, Bool, true, false, not, ◌&&◌, ◌||◌, cond, List, [], ◌∷◌, ◌++◌, filter, take, Option, Some, None, list_any, option_map, option_map_or, not_from_true, list_any-append, STARTS, Entry, OrderKind, Start, Term, same_id, has_id, entry_of, is_distinct, NewTable, Enter, Call, Power, Asked, Hit, Event, table_of, stage_of, grace_of, time_of, Child, is_of, has_child, open_of, unreaped_children, kept_children, is_order, is_asked, is_called, starts_in, untold_hits, start_times, hold_times, same_id-is, same_id-apart, not_from, or_false, and_false, any_within, any_without, table_after, stage_after, grace_after, time_after, order_after, kept_after, is_changed, asked_after, is_named, stays_called_in, called_after, sent_after, starts_after, hold_after, calls_of, has_sent, newest}
 use Rattle.init_words.specs.Actions.{stays_called}
 use Rattle.trace_laws.proofs.Tests.{never}
 use Rattle.trace_check.proofs.Lone.{found_passes}

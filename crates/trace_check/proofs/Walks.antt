@@ -1,5 +1,5 @@
 -- One more entry of a table that is walked.
-use Rattle.trace_check.proofs.Words.{◌≡◌, refl, sym, ◌∙◌, ap, ℕ, ◌+◌, Bool, true, false, not, ◌&&◌, ◌||◌, cond, List, [], ◌∷◌, take, drop, slice_get, find, Some, None, list_any, list_all, list_any_more, slice_get_within, get_or_from_slice_get, Entry, same_id, entries_before}
+use Rattle.trace_check.proofs.Words.{◌≡◌, refl, sym, ◌∙◌, ap, ℕ, ◌+◌, Bool, true, false, not, ◌&&◌, ◌||◌, cond, List, [], ◌∷◌, take, drop, slice_get, find, Some, None, list_any, list_any_more, slice_get_within, get_or_from_slice_get, Entry, same_id, entries_before}
 use Rattle.inittab_text.proofs.Entries.{drop-slice_get}
 
 pub any_taken : {X : Type 0} (p : X → Bool) (xs : List X) (i : ℕ) (x : X) → slice_get xs i ≡ Some x → list_any p (take (i + 1) xs) ≡ (list_any p (take i xs) || p x)
@@ -26,32 +26,6 @@ pub one_dropped : {X : Type 0} (has test : X → Bool) (xs : List X) (i : ℕ) (
 one_dropped has test xs i x flag was now first is tested step so_far =
     step ∙ ap (λ b. not (has x && b) && was) tested ∙ ap (λ b. not (has x && test x) && b) so_far ∙ and_turn (list_any (λ y. has y && test y) (take i xs)) (has x && test x) first
     ∙ ap (λ b. not b && first) (sym (any_taken (λ y. has y && test y) xs i x is))
-
--- a test of all that goes on, or fails
-all_step : {X : Type 0} (p : X → Bool) (xs : List X) (i : ℕ) (x : X) → slice_get xs i ≡ Some x → list_all p (drop i xs) ≡ (p x && list_all p (drop (i + 1) xs))
-all_step p xs i x is = ap (list_all p) (drop-slice_get xs i x is)
-
-pub all_next : {X : Type 0} (p : X → Bool) (xs : List X) (i : ℕ) (x : X) → slice_get xs i ≡ Some x → list_all p (drop i xs) ≡ list_all p xs → p x ≡ true → list_all p (drop (i + 1) xs) ≡ list_all p xs
-all_next p xs i x is so_far passes = sym (all_step p xs i x is ∙ ap (λ b. b && list_all p (drop (i + 1) xs)) passes) ∙ so_far
-
-pub all_stop : {X : Type 0} (p : X → Bool) (xs : List X) (i : ℕ) (x : X) → slice_get xs i ≡ Some x → list_all p (drop i xs) ≡ list_all p xs → p x ≡ false → false ≡ list_all p xs
-all_stop p xs i x is so_far fails = sym (all_step p xs i x is ∙ ap (λ b. b && list_all p (drop (i + 1) xs)) fails) ∙ so_far
-
--- a test of the entries before an id's that goes on, comes to the id, or finds one
-before_step : (p : Entry → Bool) (id : List ℕ) (es : List Entry) (i : ℕ) (e : Entry) → slice_get es i ≡ Some e → list_any p (entries_before id (drop i es)) ≡ list_any p (cond (same_id id e.id) [] (e ∷ entries_before id (drop (i + 1) es)))
-before_step p id es i e is = ap (λ rest. list_any p (entries_before id rest)) (drop-slice_get es i e is)
-
-before_other : (p : Entry → Bool) (id : List ℕ) (es : List Entry) (i : ℕ) (e : Entry) → slice_get es i ≡ Some e → same_id id e.id ≡ false → list_any p (entries_before id (drop i es)) ≡ (p e || list_any p (entries_before id (drop (i + 1) es)))
-before_other p id es i e is differ = before_step p id es i e is ∙ ap (λ b. list_any p (cond b [] (e ∷ entries_before id (drop (i + 1) es)))) differ
-
-pub before_next : (p : Entry → Bool) (id : List ℕ) (es : List Entry) (i : ℕ) (e : Entry) → slice_get es i ≡ Some e → list_any p (entries_before id (drop i es)) ≡ list_any p (entries_before id es) → same_id id e.id ≡ false → p e ≡ false → list_any p (entries_before id (drop (i + 1) es)) ≡ list_any p (entries_before id es)
-before_next p id es i e is so_far differ fails = sym (before_other p id es i e is differ ∙ ap (λ b. b || list_any p (entries_before id (drop (i + 1) es))) fails) ∙ so_far
-
-pub before_end : (p : Entry → Bool) (id : List ℕ) (es : List Entry) (i : ℕ) (e : Entry) → slice_get es i ≡ Some e → list_any p (entries_before id (drop i es)) ≡ list_any p (entries_before id es) → same_id id e.id ≡ true → true ≡ not (list_any p (entries_before id es))
-before_end p id es i e is so_far same = ap not (sym (before_step p id es i e is ∙ ap (λ b. list_any p (cond b [] (e ∷ entries_before id (drop (i + 1) es)))) same) ∙ so_far)
-
-pub before_found : (p : Entry → Bool) (id : List ℕ) (es : List Entry) (i : ℕ) (e : Entry) → slice_get es i ≡ Some e → list_any p (entries_before id (drop i es)) ≡ list_any p (entries_before id es) → same_id id e.id ≡ false → p e ≡ true → false ≡ not (list_any p (entries_before id es))
-before_found p id es i e is so_far differ passes = ap not (sym (before_other p id es i e is differ ∙ ap (λ b. b || list_any p (entries_before id (drop (i + 1) es))) passes) ∙ so_far)
 
 -- the first that passes before an id's entry: the walk goes on, comes to the id, or finds it
 first_step : (p : Entry → Bool) (id : List ℕ) (es : List Entry) (i : ℕ) (e : Entry) → slice_get es i ≡ Some e → find p (entries_before id (drop i es)) ≡ find p (cond (same_id id e.id) [] (e ∷ entries_before id (drop (i + 1) es)))

@@ -1,5 +1,5 @@
 -- The words of the proofs of this crate.
-pub use Rattle.std.proofs.Common.{◌≡◌, refl, sym, ◌∙◌, ap, ℕ, Bool, true, false, not, ◌&&◌, ◌==◌, cond, List, [], ◌∷◌, ◌++◌, map, Option, Some, None, is_some, arith, ◌||◌, find, ◌-◌, nat_lt, slice_get, take, filter, subst, ◌<◌, ◌≤◌, ◌+◌, length, reverse, take_all, drop, get_or, replicate, codes, min, nat_le, max, suc, zero, le_refl, rules}
+pub use Rattle.std.proofs.Common.{◌≡◌, refl, sym, ◌∙◌, ap, ℕ, Bool, true, false, not, ◌&&◌, ◌==◌, cond, List, [], ◌∷◌, ◌++◌, map, Option, Some, None, is_none, is_some, arith, ◌||◌, find, ◌-◌, nat_lt, slice_get, take, filter, subst, ◌<◌, ◌≤◌, ◌+◌, length, reverse, take_all, drop, get_or, replicate, codes, min, nat_le, max, suc, zero, le_refl, rules}
 pub use Rattle.std.specs.Option.{option_map, option_map_or}
 pub use Rattle.init_words.specs.declared.entries.Entry.{Entry}
 pub use Rattle.init_words.specs.declared.stages.Stage.{Stage}

@@ -1,5 +1,5 @@
 -- The law that a happening breaks, by the state and the table.
-use Rattle.std.specs.Prelude.{◌≡◌, IsTrue, ℕ, Bool, true, false, not, ◌&&◌, ◌||◌, ◌-◌, if◌then◌else◌, nat_lt, nat_le, List, slice_get, find, Option, Some, None, is_some}
+use Rattle.std.specs.Prelude.{◌≡◌, IsTrue, ℕ, Bool, true, false, not, ◌&&◌, ◌||◌, ◌-◌, if◌then◌else◌, nat_lt, nat_le, List, slice_get, find, Option, Some, None, is_none, is_some}
 use Rattle.std.specs.Map.{keys_of}
 use Rattle.std.specs.Option.{option_map_or}
 use Rattle.std.specs.List.{list_any, list_all}
@@ -48,12 +48,12 @@ is_wanted_in s e =
 abbrev pub is_owed_in : JudgeState → Entry → Bool
 is_owed_in s e = waited_of e && (among e.id s.kept || is_starting s e.id || is_wanted_in s e)
 
-abbrev pub is_in_turn_in : List Entry → JudgeState → List ℕ → Bool
-is_in_turn_in table s id = not (list_any (is_owed_in s) (entries_before id table))
-
 -- the first entry before the id's that is owed
 abbrev pub first_owed_in : List Entry → JudgeState → List ℕ → Option Entry
 first_owed_in table s id = find (is_owed_in s) (entries_before id table)
+
+abbrev pub is_in_turn_in : List Entry → JudgeState → List ℕ → Bool
+is_in_turn_in table s id = is_none (first_owed_in table s id)
 
 -- the respawn limit
 abbrev pub is_held_in : JudgeState → List ℕ → Bool

@@ -144,16 +144,7 @@ impl<A: Allocator> Judge<A> {
     fn is_in_turn(&self, table: &Table<A>, id: &Id) -> bool
         ensures { result ≡ is_in_turn_in table.now self.now id.now }
     {
-        for place in 0..table.len() {
-            let entry = entry_at(table, place);
-            if *id == entry.id {
-                return true;
-            }
-            if self.is_owed(entry) {
-                return false;
-            }
-        }
-        true
+        self.first_owed(table, id).is_none()
     }
 
     /// The first entry before the id's that is owed.
@@ -219,12 +210,10 @@ impl<A: Allocator> Judge<A> {
     fn all_served(&self, level: Level, table: &Table<A>) -> bool
         ensures { result ≡ list_all (is_served_in level self.now) table.now }
     {
-        for place in 0..table.len() {
-            if !self.is_served(level, entry_at(table, place)) {
-                return false;
-            }
-        }
-        true
+        table
+            .entries()
+            .iter()
+            .all(|entry| self.is_served(level, entry))
     }
 
     pub(crate) fn is_settled(&self, level: Level, table: &Table<A>, calm: bool) -> bool

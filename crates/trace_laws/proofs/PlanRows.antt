@@ -1,6 +1,6 @@
 -- A trace as `initd run` writes it: an orderly one, that nothing disturbs, up to the announcement. In it the system acts
 -- while steps are due, so it is no run of `initd simulate`.
-use Rattle.trace_laws.proofs.Words.{◌≡◌, refl, ℕ, true, false, List, [], ◌∷◌, codes, Option, Some, Entry, Act, Mark, At, Start, Look, NewTable, Asked, Birth, Death, Reaped, Told, Clock, Nudge, Goal, Event, is_announced, is_sound, is_run, is_orderly, is_undisturbed}
+use Rattle.trace_laws.proofs.Words.{◌≡◌, refl, ℕ, true, false, List, [], ◌∷◌, codes, Entry, Act, Mark, At, Start, Look, NewTable, Asked, Birth, Death, Reaped, Told, Clock, Nudge, Goal, Event, is_announced, is_sound, is_run, is_orderly, is_undisturbed}
 use Rattle.init_words.specs.declared.actions.Act.TheVariants as act
 use Rattle.init_words.specs.declared.levels.Level.TheVariants as level
 use Rattle.init_words.specs.declared.stages.Stage.TheVariants as stage

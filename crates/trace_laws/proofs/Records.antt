@@ -1,5 +1,5 @@
 -- Each open order and each kept child has its place among init's records, whatever tables came.
-use Rattle.trace_laws.proofs.Words.{◌≡◌, refl, sym, ◌∙◌, ap, ◌⊎◌, inl, inr, ℕ, Bool, true, false, not, ◌||◌, cond, List, [], ◌∷◌, ◌++◌, filter, Some, arith, list_any, false≢true, and_parts, or_right, none-some, same_Some, list_any-append, Entry, OrderKind, Start, Look, same_id, same_ask, ids_of, has_id, is_distinct, NewTable, Asked, Birth, Told, Goal, Event, table_of, is_of, has_child, open_of, is_quiet, unreaped_children, kept_children, known_children, is_due, left_ids, record_ids, may_come, is_sound, same_id-is, or_either, not_from, any_within}
+use Rattle.trace_laws.proofs.Words.{◌≡◌, refl, sym, ◌∙◌, ap, ◌⊎◌, inl, inr, ℕ, Bool, true, false, not, ◌||◌, cond, List, [], ◌∷◌, ◌++◌, filter, Some, arith, list_any, false≢true, and_parts, or_right, none-some, same_Some, list_any-append, Entry, OrderKind, Start, same_id, same_ask, ids_of, has_id, is_distinct, NewTable, Asked, Birth, Told, Goal, Event, table_of, is_of, has_child, open_of, is_quiet, unreaped_children, kept_children, known_children, is_due, left_ids, record_ids, may_come, is_sound, same_id-is, or_either, not_from, any_within}
 use Rattle.trace_events.specs.declared.steps.Step.TheVariants as step
 use Rattle.trace_laws.proofs.Orders.{cleared, quiet_looks, known_kept, kept_before_told, told_other, same_has}
 use Rattle.trace_laws.proofs.Dues.{due_facts}
