@@ -1,6 +1,5 @@
 -- What a log had taken when each call was made: of one call, of none, and of two parts.
 use Rattle.host_trace.proofs.Words.{arith, ◌≡◌, refl, sym, ap, subst, true, List, [], ◌∷◌, ◌++◌, Option, Some, None, and_parts, OrderKind, Goal, Event, is_sound, LogState, Announce, HostCall, Point, announced, point_after, Leads, Logs, Took, UpTo, Went, WentWell, are_seconds_short, is_allowed, are_short, is_seconds, past_of}
-use Rattle.std.specs.Prelude.{IfSome}
 use Rattle.trace_events.specs.declared.happenings.Happening.TheVariants.{Asked}
 use Rattle.host_calls.specs.Record.{Since}
 use Rattle.host_trace.specs.Edges.{AddsMade, Kept, KeptAt, Made, calls_of, trace_at}
@@ -17,18 +16,13 @@ calls_of-append [] xs = refl
 calls_of-append (made ∷ ys) xs = ap (λ l. made.call ∷ l) (calls_of-append ys xs)
 
 -- a call was made, whether it is told or not
-pub Since-made : {L : Type 0} (old new : Option (List (Made L))) (call : HostCall) (log : L) (P : List (Made L) → Type 0) → AddsMade old new call log → ((at : Option L) → IfSome at (λ then. then ≡ log) → P (record { call = call; at = at } ∷ [])) → Since old new P
-Since-made old None call log P adds p = (record { call = call; at = None } ∷ [], tt, p None tt)
-Since-made old (Some all) call log P (before, at, was, is, then) p = (record { call = call; at = at } ∷ [], (before, was, is), p at then)
+pub Since-made : {L : Type 0} (old new : Option (List (Made L))) (call : HostCall) (log : L) (P : List (Made L) → Type 0) → AddsMade old new call log → P (record { call = call; log = log } ∷ []) → Since old new P
+Since-made old None call log P adds p = (record { call = call; log = log } ∷ [], tt, p)
+Since-made old (Some all) call log P adds p = (record { call = call; log = log } ∷ [], adds, p)
 
 -- the same between records that are equal
 pub AddsMade-same : {L : Type 0} (old before behind new : Option (List (Made L))) (call : HostCall) (log : L) → before ≡ old → new ≡ behind → AddsMade before behind call log → AddsMade old new call log
 AddsMade-same old before behind new call log same_before same_behind adds = subst (λ t. AddsMade old t call log) (sym same_behind) (subst (λ t. AddsMade t behind call log) same_before adds)
-
--- what is so of the log at the call
-pub told_at : {L : Type 0} (at : Option L) (log : L) (P : L → Type 0) → IfSome at (λ then. then ≡ log) → P log → IfSome at P
-told_at None log P then held = tt
-told_at (Some at) log P then held = subst P (sym then) held
 
 -- ---- at each call
 
@@ -60,16 +54,12 @@ kept_then f₀ f₁ old mid now call xs ys leads kept = UpTo-then f₀ f₁ old 
 -- ---- at each of some calls
 
 module _ {L : Type 0} (state : L → LogState) where
-  pub Kept-one : (fitted : Goal → Point → Type 0) (old : LogState) (call : HostCall) (at : Option L) (log : L) → IfSome at (λ then. then ≡ log) → KeptAt past_of fitted old (state log) call [] → Kept state past_of fitted old (record { call = call; at = at } ∷ [])
-  Kept-one fitted old call at log then kept = (told_at at log (λ l. KeptAt past_of fitted old (state l) call []) then kept, tt)
-
   pub Kept-then : (f₀ f₁ : Goal → Point → Type 0) (old mid : LogState) (xs ys : List (Made L)) → Leads f₀ f₁ old mid (calls_of xs) → Kept state past_of f₀ old xs → Kept state past_of f₁ mid ys → Kept state past_of f₀ old (ys ++ xs)
   Kept-then f₀ f₁ old mid xs [] leads first second = first
-  Kept-then f₀ f₁ old mid xs (made ∷ ys) leads first second = (by made.at second.0, Kept-then f₀ f₁ old mid xs ys leads first second.1)
-    where
-      by : (at : Option L) → IfSome at (λ log. KeptAt past_of f₁ mid (state log) made.call (calls_of ys)) → IfSome at (λ log. KeptAt past_of f₀ old (state log) made.call (calls_of (ys ++ xs)))
-      by None kept = tt
-      by (Some log) kept = subst (KeptAt past_of f₀ old (state log) made.call) (sym (calls_of-append ys xs)) (kept_then f₀ f₁ old mid (state log) made.call (calls_of xs) (calls_of ys) leads kept)
+  Kept-then f₀ f₁ old mid xs (made ∷ ys) leads first second = (
+    subst (KeptAt past_of f₀ old (state made.log) made.call) (sym (calls_of-append ys xs)) (kept_then f₀ f₁ old mid (state made.log) made.call (calls_of xs) (calls_of ys) leads second.0),
+    Kept-then f₀ f₁ old mid xs ys leads first second.1,
+  )
 
 -- ---- what is said of what fitted is said of what is narrower, and of a log that had taken what came before
 
@@ -92,15 +82,14 @@ module _ (from : Point → List Event) (f g : Goal → Point → Type 0) (l₀ l
 
   pub kept_from : {L : Type 0} (state : L → LogState) (mades : List (Made L)) → Kept state past_of f l₁ mades → Kept state from g l₀ mades
   kept_from state [] kept = tt
-  kept_from {L = L} state (made ∷ mades) kept = (by made.at kept.0, kept_from state mades kept.1)
+  kept_from state (made ∷ mades) kept = (
+    UpTo-map f g (At past_of l₁) (At from l₀) (calls_of mades)
+        (λ goal p sound fits.
+        let (before, had) = took goal p sound fits in
+        (before, λ taken short. Took-then l₀ l₁ (state made.log) (from p) p.past (trace_at made.call (point_after (calls_of mades) p).past) (had short) (taken short)))
+        kept.0,
+    kept_from state mades kept.1,
+  )
     where
-      At : (Point → List Event) → LogState → L → Goal → Point → List HostCall → Type 0
-      At at old log goal p earlier = are_seconds_short goal p.past ≡ true → Took old (state log) (at p) (trace_at made.call (point_after earlier p).past)
-
-      by : (at : Option L) → IfSome at (λ log. KeptAt past_of f l₁ (state log) made.call (calls_of mades)) → IfSome at (λ log. KeptAt from g l₀ (state log) made.call (calls_of mades))
-      by None so_far = tt
-      by (Some log) so_far = UpTo-map f g (At past_of l₁ log) (At from l₀ log) (calls_of mades)
-          (λ goal p sound fits.
-          let (before, had) = took goal p sound fits in
-          (before, λ taken short. Took-then l₀ l₁ (state log) (from p) p.past (trace_at made.call (point_after (calls_of mades) p).past) (had short) (taken short)))
-          so_far
+      At : (Point → List Event) → LogState → Goal → Point → List HostCall → Type 0
+      At at old goal p earlier = are_seconds_short goal p.past ≡ true → Took old (state made.log) (at p) (trace_at made.call (point_after earlier p).past)

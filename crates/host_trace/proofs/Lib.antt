@@ -13,4 +13,5 @@ pub mod Rows
 pub mod Seconds
 pub mod Taking
 pub mod Texts
+pub mod Told
 pub mod Words

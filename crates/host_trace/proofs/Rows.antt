@@ -228,7 +228,7 @@ abbrev listed : List Event → Listed
 listed list = record { list = list; failed = false }
 
 abbrev made_with : HostCall → List Event → Made Listed
-made_with call list = record { call = call; at = Some (listed list) }
+made_with call list = record { call = call; log = listed list }
 
 abbrev Any : Goal → Point → Type 0
 Any _ _ = Unit {0}

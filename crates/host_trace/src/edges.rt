@@ -1,104 +1,229 @@
 //! The edge of init: its host and its log, so that what one sees stands in time with what the other sees.
 
-ghost use Rattle.std.specs.Prelude.{◌≡◌, ◌≤◌, List, Option, IfOk, OnOk, OnErr, length, is_err, true, false};
-ghost use Rattle.host_trace.specs.Words.{is_in_range, LogState, Gains, Stays, text_read, parts_read, front_read};
-ghost use Rattle.host_trace.specs.Edges.{AddsMade, Made};
+ghost use Rattle.std.specs.Prelude.{◌≡◌, ◌∷◌, ◌≤◌, List, IfOk, length, true};
+ghost use Rattle.std.specs.Option.{option_map};
+ghost use Rattle.host_trace.specs.Words.{Event, is_short, text_read, parts_read, front_read};
+ghost use Rattle.host_trace.specs.Edges.{AddsMade, calls_of, first_told};
+ghost use Rattle.host_trace.specs.Grows.{Grows};
+ghost use Rattle.host_trace.specs.Leads.{Logs};
 
-use host_calls::{Call, HostFault, Reply};
+use crate::noting::{MadeList, told_before, with};
+use host_calls::{Call, Host, HostFault, Reply};
+use host_telling::Noted;
 use init_words::{Answer, Id, Part, SignalKind};
 use std::alloc::Allocator;
-use trace_events::HappeningIn;
-use trace_log::LogFault;
+use std::marker::Model;
+use trace_events::{Happening, HappeningIn, law_of_ranges};
+use trace_log::Log;
 
-/// What init asks of its host (`Host`), and the log of its run (`Log`), in one: no call of the host changes the log, and
-/// the log is handed nothing without the edge.
+/// A host and the log of its run in one: no call of the host changes the log, and the log is handed nothing without the
+/// edge.
 ///
-/// A contract sees of it the calls that it tells, and of each, where it tells that, what the log was when it was made.
-pub trait Edge {
-    /// What a log is at a moment.
-    type Log;
+/// A contract sees of it the calls that the host tells, and of each what the log was when it was made. That is noted for
+/// proofs alone: it has no bytes, and nothing is done for it when a program runs.
+#[derive(Drop)]
+pub struct Edge<H: Host, L: Log> {
+    host: H,
+    log: L,
+    told: Noted<MadeList<L>>,
+}
 
-    /// Whether a log took these, the oldest first; whether it has failed; and the id whose ends it notes.
-    ghost state: { Self.Log → LogState };
+impl<H: Host, L: Log> Model for Edge<H, L> {
+    ghost use Rattle.std.specs.Prelude.{◌≡◌};
+    ghost use Rattle.std.specs.Option.{option_map};
+    ghost use Rattle.host_trace.specs.Edges.{EdgeState, calls_of};
 
-    /// The calls so far with their answers, and the log at each, the newest first. None from the first call that isn't
-    /// told.
-    ghost told: { Self → Option (List (Made Self.Log)) };
+    ghost Value = { EdgeState H L };
 
-    /// The log now.
-    ghost log: { Self → Self.Log };
+    ghost view = { λ edge. record { host = edge.host; log = edge.log; told = edge.told.value } };
+
+    ghost invariant = { λ edge. option_map calls_of edge.told.value ≡ H.told edge.host };
+}
+
+impl<H: Host, L: Log> Edge<H, L> {
+    /// An edge of a host and a log. Calls that were made before it count as made with the log as it is.
+    pub fn new(host: H, log: L) -> Edge<H, L>
+        ensures { result
+            ≡ record { host = host; log = log; told = first_told (H.told host) log } }
+    {
+        let told = told_before(&host, &log);
+        Edge { host, log, told }
+    }
+
+    /// The host and the log.
+    pub fn into_parts(self) -> (H, L)
+        ensures { result ≡ (self.host, self.log) }
+    {
+        let Edge {
+            host,
+            log,
+            told: _told,
+        } = self;
+        (host, log)
+    }
+
+    /// The host.
+    pub fn host(&self) -> &H
+        ensures { result.now ≡ self.now.host }
+    {
+        &self.host
+    }
+
+    /// The log.
+    pub fn log(&self) -> &L
+        ensures { result.now ≡ self.now.log }
+    {
+        &self.log
+    }
+
+    /// The calls told here are those that the host tells. It does nothing: its contract is the law.
+    pub fn law_of_calls(&self)
+        ensures { option_map calls_of self.now.told ≡ H.told self.now.host }
+    {
+        let _host = &self.host;
+    }
 
     /// Starts a child for the id by the command of an entry.
-    fn start<A: Allocator + Copy>(&mut self, alloc: A, id: Id, command: &[u8]) -> Reply
-        ensures adds { AddsMade (told self.old) (told self.new) (Call.Start id command.now result)
-            (log self.old) }
-        ensures log { log self.new ≡ log self.old };
+    pub fn start<A: Allocator + Copy>(&mut self, alloc: A, id: Id, command: &[u8]) -> Reply
+        ensures adds { AddsMade self.old.told self.new.told (Call.Start id command.now result)
+            self.old.log }
+        ensures log { self.new.log ≡ self.old.log }
+    {
+        let reply = self.host.start(alloc, id, command);
+        self.told = with(&self.told, &self.host, &self.log);
+        reply
+    }
 
     /// Looks whether the id's child has ended.
-    fn look(&mut self, id: Id) -> Reply
-        ensures adds { AddsMade (told self.old) (told self.new) (Call.Look id result)
-            (log self.old) }
-        ensures log { log self.new ≡ log self.old };
+    pub fn look(&mut self, id: Id) -> Reply
+        ensures adds { AddsMade self.old.told self.new.told (Call.Look id result) self.old.log }
+        ensures log { self.new.log ≡ self.old.log }
+    {
+        let reply = self.host.look(id);
+        self.told = with(&self.told, &self.host, &self.log);
+        reply
+    }
 
     /// Sends the id's child a signal.
-    fn signal(&mut self, id: Id, signal: SignalKind) -> Reply
-        ensures adds { AddsMade (told self.old) (told self.new) (Call.Signal id signal result)
-            (log self.old) }
-        ensures log { log self.new ≡ log self.old };
+    pub fn signal(&mut self, id: Id, signal: SignalKind) -> Reply
+        ensures adds { AddsMade self.old.told self.new.told (Call.Signal id signal result)
+            self.old.log }
+        ensures log { self.new.log ≡ self.old.log }
+    {
+        let reply = self.host.signal(id, signal);
+        self.told = with(&self.told, &self.host, &self.log);
+        reply
+    }
 
     /// The answer to an order whose reply was `Later`.
-    fn late(&mut self) -> Option<(Id, Answer)>
-        ensures adds { AddsMade (told self.old) (told self.new) (Call.Late result) (log self.old) }
-        ensures log { log self.new ≡ log self.old };
+    pub fn late(&mut self) -> Option<(Id, Answer)>
+        ensures adds { AddsMade self.old.told self.new.told (Call.Late result) self.old.log }
+        ensures log { self.new.log ≡ self.old.log }
+    {
+        let late = self.host.late();
+        self.told = with(&self.told, &self.host, &self.log);
+        late
+    }
 
     /// The time, in seconds.
-    fn clock(&mut self) -> Result<u64, HostFault>
-        ensures adds { AddsMade (told self.old) (told self.new) (Call.Clock result)
-            (log self.old) }
-        ensures log { log self.new ≡ log self.old };
+    pub fn clock(&mut self) -> Result<u64, HostFault>
+        ensures adds { AddsMade self.old.told self.new.told (Call.Clock result) self.old.log }
+        ensures log { self.new.log ≡ self.old.log }
+    {
+        let reading = self.host.clock();
+        self.told = with(&self.told, &self.host, &self.log);
+        reading
+    }
 
     /// Takes the next bytes of requests into the front of the buffer, and gives how many.
-    fn take_bytes(&mut self, buffer: &mut [u8]) -> Result<usize, HostFault>
+    pub fn take_bytes(&mut self, buffer: &mut [u8]) -> Result<usize, HostFault>
         ensures within { IfOk result (λ count. count ≤ length buffer.old) }
-        ensures adds { AddsMade (told self.old) (told self.new)
-            (Call.TakeBytes (length buffer.old) (front_read result buffer.new)) (log self.old) }
-        ensures log { log self.new ≡ log self.old };
+        ensures adds { AddsMade self.old.told self.new.told
+            (Call.TakeBytes (length buffer.old) (front_read result buffer.new)) self.old.log }
+        ensures log { self.new.log ≡ self.old.log }
+    {
+        let taken = self.host.take_bytes(buffer);
+        self.told = with(&self.told, &self.host, &self.log);
+        taken
+    }
 
     /// The files of the inittab.
-    fn read_tables<A: Allocator + Copy>(&mut self, alloc: A) -> Result<Vec<Part<A>, A>, HostFault>
-        ensures adds { AddsMade (told self.old) (told self.new)
-            (Call.ReadTables (parts_read (λ parts. parts.items) result)) (log self.old) }
-        ensures log { log self.new ≡ log self.old };
+    pub fn read_tables<A: Allocator + Copy>(
+        &mut self,
+        alloc: A,
+    ) -> Result<Vec<Part<A>, A>, HostFault>
+        ensures adds { AddsMade self.old.told self.new.told
+            (Call.ReadTables (parts_read (λ parts. parts.items) result)) self.old.log }
+        ensures log { self.new.log ≡ self.old.log }
+    {
+        let parts = self.host.read_tables(alloc);
+        self.told = with(&self.told, &self.host, &self.log);
+        parts
+    }
 
     /// Hands the text of init's state over to a new init, and gives what reaches it.
-    fn carry<A: Allocator + Copy>(&mut self, alloc: A, text: &[u8]) -> Result<Vec<u8, A>, HostFault>
-        ensures adds { AddsMade (told self.old) (told self.new)
-            (Call.Carry text.now (text_read (λ back. back.items) result)) (log self.old) }
-        ensures log { log self.new ≡ log self.old };
+    pub fn carry<A: Allocator + Copy>(
+        &mut self,
+        alloc: A,
+        text: &[u8],
+    ) -> Result<Vec<u8, A>, HostFault>
+        ensures adds { AddsMade self.old.told self.new.told
+            (Call.Carry text.now (text_read (λ back. back.items) result)) self.old.log }
+        ensures log { self.new.log ≡ self.old.log }
+    {
+        let back = self.host.carry(alloc, text);
+        self.told = with(&self.told, &self.host, &self.log);
+        back
+    }
 
     /// Says what happened, where init says something of it.
-    fn announce<A: Allocator>(&mut self, happening: &HappeningIn<A>)
-        ensures adds { AddsMade (told self.old) (told self.new) (Call.Announce happening.now)
-            (log self.old) }
-        ensures log { log self.new ≡ log self.old };
+    pub fn announce<A: Allocator>(&mut self, happening: &HappeningIn<A>)
+        ensures adds { AddsMade self.old.told self.new.told (Call.Announce happening.now)
+            self.old.log }
+        ensures log { self.new.log ≡ self.old.log }
+    {
+        self.host.announce(happening);
+        self.told = with(&self.told, &self.host, &self.log);
+    }
 
     /// Lets some time pass.
-    fn pause(&mut self)
-        ensures adds { AddsMade (told self.old) (told self.new) Call.Pause (log self.old) }
-        ensures log { log self.new ≡ log self.old };
+    pub fn pause(&mut self)
+        ensures adds { AddsMade self.old.told self.new.told Call.Pause self.old.log }
+        ensures log { self.new.log ≡ self.old.log }
+    {
+        self.host.pause();
+        self.told = with(&self.told, &self.host, &self.log);
+    }
 
-    /// Hands the log a happening. A log that could not take it has failed from then on, and is handed nothing more.
-    fn take<A: Allocator>(&mut self, happening: &HappeningIn<A>) -> Result<(), LogFault>
-        requires { (state (log self.old)).failed ≡ false }
-        ensures told { told self.new ≡ told self.old }
-        ensures flag { (state (log self.new)).failed ≡ is_err result }
-        ensures ok { OnOk result (is_in_range happening.now ≡ true
-            → Gains (state (log self.old)) (state (log self.new)) happening.now) }
-        ensures err { OnErr result (is_in_range happening.now ≡ true
-            → Stays (state (log self.old)) (state (log self.new))) }
-        ensures noted { (state (log self.new)).noted ≡ (state (log self.old)).noted };
+    /// Hands the log a happening, unless it has failed.
+    pub fn write<A: Allocator>(&mut self, happening: &HappeningIn<A>)
+        ensures logs { (past : List Event)
+            → Logs (L.state self.old.log) (L.state self.new.log) past (happening.now ∷ past) }
+        ensures told { self.new.told ≡ self.old.told }
+        ensures grows { is_short happening.now ≡ true
+            → Grows (L.state self.old.log) (L.state self.new.log) }
+    {
+        if !self.log.failed() {
+            law_of_ranges(happening);
+            let _ = self.log.take(happening);
+        }
+    }
+
+    /// Writes a happening that is no table.
+    pub fn note(&mut self, happening: Happening)
+        ensures logs { (past : List Event)
+            → Logs (L.state self.old.log) (L.state self.new.log) past (happening ∷ past) }
+        ensures told { self.new.told ≡ self.old.told }
+        ensures grows { is_short happening ≡ true
+            → Grows (L.state self.old.log) (L.state self.new.log) }
+    {
+        self.write(&happening);
+    }
 
     /// Whether the log has failed.
-    fn failed(&self) -> bool
-        ensures { result ≡ (state (log self.now)).failed };
+    pub fn failed(&self) -> bool
+        ensures { result ≡ (L.state self.now.log).failed }
+    {
+        self.log.failed()
+    }
 }

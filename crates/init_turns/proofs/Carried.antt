@@ -1,5 +1,5 @@
 -- What a step leads to that is only said, and what comes of steps that were due.
-use Rattle.init_turns.proofs.Words.{arith, ◌≡◌, refl, sym, ◌∙◌, ap, subst, ℕ, Bool, true, false, ◌||◌, List, [], ◌∷◌, Option, Some, Result, Ok, Err, OnOk, OnErr, is_ok, option_and_then, Answer, Ended, false≢true, Begun, Goal, Step, Event, is_sound, child_number, order_in, refusal_of, record_by_id, CoreState, after_told, Fits, FitsAll, StillFits, OnEachTrace, with_step, unreaped_recorded, LogState, AddsMade, AddsMade-same, Made, trace_at, kept_asked, Hears-order, ordered, Announce, HostCall, Point, point_after, last_birth, acted, answered, announced, is_announcement, Gave, gone_on, Hears, Lasts, Leads, Logs, Tracks, is_allowed, Leads-heard, Leads-map, Leads-weaken, Logs-none, Hears-answer, Hears-step, Hears-tracks, tracks, is_reread, AndRests, IsReread, IsStep, IsStepUnless, Left, Makes, MakesOver, SaysStep, is_end}
+use Rattle.init_turns.proofs.Words.{arith, ◌≡◌, refl, sym, ◌∙◌, ap, subst, ℕ, Bool, true, false, ◌||◌, List, [], ◌∷◌, Option, Some, Result, Ok, Err, OnOk, OnErr, is_ok, option_and_then, Answer, Ended, false≢true, Begun, Goal, Step, Event, is_sound, child_number, order_in, refusal_of, record_by_id, CoreState, after_told, Fits, FitsAll, StillFits, OnEachTrace, with_step, unreaped_recorded, LogState, AddsMade, EdgeState, AddsMade-same, Made, trace_at, kept_asked, Hears-order, ordered, Announce, HostCall, Point, point_after, last_birth, acted, answered, announced, is_announcement, Gave, gone_on, Hears, Lasts, Leads, Logs, Tracks, is_allowed, Leads-heard, Leads-map, Leads-weaken, Logs-none, Hears-answer, Hears-step, Hears-tracks, tracks, is_reread, AndRests, IsReread, IsStep, IsStepUnless, Left, Makes, MakesOver, SaysStep, is_end}
 use Rattle.init_words.specs.declared.orders.OrderKind.{OrderKind}
 use Rattle.init_words.specs.declared.refusals.Refusal.{Refusal}
 use Rattle.trace_events.specs.declared.happenings.Happening.TheVariants as past
@@ -46,19 +46,19 @@ end_known goal so_far c id _ sound fits allowed ends = absurd (false≢true ends
 -- ---- orders
 
 -- init noted the order, gave it, and heard the reply
-pub Makes-ordered : {E L : Type 0} (state : L → LogState) (told : E → Option (List (Made L))) (log : E → L) (old asked made new : E) (c behind : CoreState) (call : HostCall) (id : List ℕ) (order : OrderKind) (reply : Reply)
-    → told asked ≡ told old → AddsMade (told asked) (told made) call (log asked) → log made ≡ log asked → told new ≡ told made → IsStep (call ∷ [])
-    → ((so_far : List Event) → trace_at call so_far ≡ past.Asked id order ∷ so_far) → ((so_far : List Event) → Logs (state (log old)) (state (log asked)) so_far (past.Asked id order ∷ so_far))
-    → Hears (Tracks c) (Tracks behind) (state (log made)) (state (log new)) (replied id reply)
-    → (Hears (Gave (Tracks c) (step.Order id order)) (Tracks behind) (state (log old)) (state (log new)) (ordered id order reply) → Leads (Gave (Tracks c) (step.Order id order)) (Tracks behind) (state (log old)) (state (log new)) (call ∷ []))
-    → Makes state told log old new IsStep (Gave (Tracks c) (step.Order id order)) (Tracks behind)
-Makes-ordered state told log old asked made new c behind call id order reply same adds kept heard_told shape asks notes hears leads =
+pub Makes-ordered : {H L : Type 0} (state : L → LogState) (old asked made new : EdgeState H L) (c behind : CoreState) (call : HostCall) (id : List ℕ) (order : OrderKind) (reply : Reply)
+    → asked.told ≡ old.told → AddsMade asked.told made.told call asked.log → made.log ≡ asked.log → new.told ≡ made.told → IsStep (call ∷ [])
+    → ((so_far : List Event) → trace_at call so_far ≡ past.Asked id order ∷ so_far) → ((so_far : List Event) → Logs (state old.log) (state asked.log) so_far (past.Asked id order ∷ so_far))
+    → Hears (Tracks c) (Tracks behind) (state made.log) (state new.log) (replied id reply)
+    → (Hears (Gave (Tracks c) (step.Order id order)) (Tracks behind) (state old.log) (state new.log) (ordered id order reply) → Leads (Gave (Tracks c) (step.Order id order)) (Tracks behind) (state old.log) (state new.log) (call ∷ []))
+    → Makes state old new IsStep (Gave (Tracks c) (step.Order id order)) (Tracks behind)
+Makes-ordered state old asked made new c behind call id order reply same adds kept heard_told shape asks notes hears leads =
     let before : Goal → Point → Type 0 = Gave (Tracks c) (step.Order id order) in
-    Makes-one state (told old) (told new) (state (log old)) (state (log new)) (log asked) call IsStep before (Tracks behind)
-    (AddsMade-same (told old) (told asked) (told made) (told new) call (log asked) same heard_told adds) shape
-    (leads (Hears-order c behind (state (log old)) (state (log asked)) (state (log new)) id order reply notes
-    (subst (λ l. Hears (Tracks c) (Tracks behind) (state l) (state (log new)) (replied id reply)) kept hears)))
-    (kept_asked before (state (log old)) (state (log asked)) call id order asks notes)
+    Makes-one state old.told new.told (state old.log) (state new.log) asked.log call IsStep before (Tracks behind)
+    (AddsMade-same old.told asked.told made.told new.told call asked.log same heard_told adds) shape
+    (leads (Hears-order c behind (state old.log) (state asked.log) (state new.log) id order reply notes
+    (subst (λ l. Hears (Tracks c) (Tracks behind) (state l) (state new.log) (replied id reply)) kept hears)))
+    (kept_asked before (state old.log) (state asked.log) call id order asks notes)
 
 -- ---- steps
 

@@ -1,6 +1,8 @@
 pub mod Arriving
 pub mod ArrivingRows
 pub mod Carried
+pub mod CrashRows
+pub mod Crashes
 pub mod Grown
 pub mod HandOvers
 pub mod Lasting

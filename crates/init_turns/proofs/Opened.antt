@@ -1,5 +1,5 @@
 -- A run from its opening.
-use Rattle.init_turns.proofs.Words.{◌≡◌, ◌<◌, ◌+◌, refl, sym, subst, ℕ, Bool, true, List, [], ◌∷◌, Option, Entry, is_distinct, NewTable, Goal, CoreState, opening_goal, opening_state, LogState, HostCall, Event, Fronts, Logs, Took, UpTo, Went, Kept, Made, calls_of, are_carried, are_seconds_short, is_allowed, Point, point_after, AreTurns, MadeTurns, Since-map, fronts_from, kept_from, leads_from, Fresh, LeftBy, Makes, Arrives, turns_in, ServesTurns, IsOpening, IsOpeningOf, OpeningState, Opens, opening_point}
+use Rattle.init_turns.proofs.Words.{◌≡◌, ◌<◌, ◌+◌, refl, sym, subst, ℕ, Bool, true, List, [], ◌∷◌, Option, Entry, is_distinct, NewTable, Goal, CoreState, opening_goal, opening_state, LogState, HostCall, Event, Fronts, Logs, Took, UpTo, Went, EdgeState, Kept, Made, calls_of, are_carried, are_seconds_short, is_allowed, Point, point_after, AreTurns, MadeTurns, Since-map, fronts_from, kept_from, leads_from, Fresh, LeftBy, Makes, Arrives, turns_in, ServesTurns, IsOpening, IsOpeningOf, OpeningState, Opens, opening_point}
 use Rattle.init_words.specs.declared.levels.Level.{Level}
 use Rattle.core_model.proofs.Hearing.{fits_opening}
 use Rattle.init_turns.proofs.Arriving.{arrives_up}
@@ -19,13 +19,13 @@ made_narrower strict drain f g narrower n saw now_saw calls (cores, seen, (count
 pub opening_fresh : (level : Option Level) (table : List Entry) → is_distinct table ≡ true → Fresh (opening_state table (opening_goal level table)) (opening_goal level table) (opening_point table)
 opening_fresh level table distinct = (record { fits = fits_opening table (opening_goal level table) distinct; short = refl; own = refl }, refl)
 
-pub opened : {E L : Type 0} (state : L → LogState) (told : E → Option (List (Made L))) (log : E → L) (old mid new : E) (level : Option Level) (table : List Entry) (strict drain : Bool) (n : ℕ) (saw now_saw : Option (List CoreState)) (core left : CoreState)
-    → Fresh core (opening_goal level table) (opening_point table) → is_distinct table ≡ true → told mid ≡ told old
-    → Logs (state (log old)) (state (log mid)) [] (NewTable table ∷ []) → Makes state told log mid new (MadeTurns strict drain (Fresh core) n saw now_saw) (Fresh core) (LeftBy left)
-    → Opens state told log old new level table (ServesTurns strict drain level table n saw now_saw) left
-opened {L = L} state told log old mid new level table strict drain n saw now_saw core left fresh distinct same took makes =
-    subst (λ t. Since t (told new) Opened) same
-    (Since-map (told mid) (told new) (AreMade state l₁ l₂ (MadeTurns strict drain (Fresh core) n saw now_saw) (Fresh core) (LeftBy left)) Opened makes
+pub opened : {H L : Type 0} (state : L → LogState) (old mid new : EdgeState H L) (level : Option Level) (table : List Entry) (strict drain : Bool) (n : ℕ) (saw now_saw : Option (List CoreState)) (core left : CoreState)
+    → Fresh core (opening_goal level table) (opening_point table) → is_distinct table ≡ true → mid.told ≡ old.told
+    → Logs (state old.log) (state mid.log) [] (NewTable table ∷ []) → Makes state mid new (MadeTurns strict drain (Fresh core) n saw now_saw) (Fresh core) (LeftBy left)
+    → Opens state old new level table (ServesTurns strict drain level table n saw now_saw) left
+opened {L = L} state old mid new level table strict drain n saw now_saw core left fresh distinct same took makes =
+    subst (λ t. Since t new.told Opened) same
+    (Since-map mid.told new.told (AreMade state l₁ l₂ (MadeTurns strict drain (Fresh core) n saw now_saw) (Fresh core) (LeftBy left)) Opened makes
     (λ mades made. (
       (made_narrower strict drain (Fresh core) (IsOpening level table) (λ goal p opens. (before goal p opens).0) n saw now_saw (calls_of mades) made.0, there (calls_of mades) made.0),
       leads_from none (Fresh core) (IsOpening level table) l₀ l₁ (λ goal p sound opens. before goal p opens) (LeftBy left) l₂ (calls_of mades) made.1,
@@ -34,13 +34,13 @@ opened {L = L} state told log old mid new level table strict drain n saw now_saw
     )))
   where
     l₀ : LogState
-    l₀ = state (log old)
+    l₀ = state old.log
 
     l₁ : LogState
-    l₁ = state (log mid)
+    l₁ = state mid.log
 
     l₂ : LogState
-    l₂ = state (log new)
+    l₂ = state new.log
 
     none : Point → List Event
     none p = []
@@ -61,13 +61,13 @@ opened {L = L} state told log old mid new level table strict drain n saw now_saw
         arrives_up strict (Fresh core) (opening_goal level table) (opening_point table) distinct fresh refl later rounds cores calls turns (subst (λ m. later + turns_in rounds < m) (sym count) room)
 
 -- of an opening, the log and the turns
-pub opened_by : {E L : Type 0} (state : L → LogState) (told : E → Option (List (Made L))) (log : E → L) (old mid new : E) (strict drain : Bool) (n : ℕ) (saw now_saw : Option (List CoreState)) (o : OpeningState) (left : CoreState)
-    → told mid ≡ told old → Logs (state (log old)) (state (log mid)) [] (o.told ∷ []) → Makes state told log mid new (MadeTurns strict drain (Fresh o.core) n saw now_saw) (Fresh o.core) (LeftBy left)
-    → (level : Option Level) (table : List Entry) → IsOpeningOf level table o → Opens state told log old new level table (ServesTurns strict drain level table n saw now_saw) left
-opened_by state told log old mid new strict drain n saw now_saw o left same took makes level table is =
-    opened state told log old mid new level table strict drain n saw now_saw o.core left
+pub opened_by : {H L : Type 0} (state : L → LogState) (old mid new : EdgeState H L) (strict drain : Bool) (n : ℕ) (saw now_saw : Option (List CoreState)) (o : OpeningState) (left : CoreState)
+    → mid.told ≡ old.told → Logs (state old.log) (state mid.log) [] (o.told ∷ []) → Makes state mid new (MadeTurns strict drain (Fresh o.core) n saw now_saw) (Fresh o.core) (LeftBy left)
+    → (level : Option Level) (table : List Entry) → IsOpeningOf level table o → Opens state old new level table (ServesTurns strict drain level table n saw now_saw) left
+opened_by state old mid new strict drain n saw now_saw o left same took makes level table is =
+    opened state old mid new level table strict drain n saw now_saw o.core left
     (subst (λ c. Fresh c (opening_goal level table) (opening_point table)) (sym is.core) (opening_fresh level table is.distinct)) is.distinct same
-    (subst (λ t. Logs (state (log old)) (state (log mid)) [] (t ∷ [])) is.told took) makes
+    (subst (λ t. Logs (state old.log) (state mid.log) [] (t ∷ [])) is.told took) makes
 
 -- ---- of what is so from the opening on
 

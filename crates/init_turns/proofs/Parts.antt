@@ -1,6 +1,5 @@
 -- Parts of a turn, one behind the other.
-use Rattle.init_turns.proofs.Words.{◌≡◌, refl, sym, subst, ℕ, suc, ◌+◌, ◌≤◌, Bool, true, false, inl, inr, List, [], ◌∷◌, ◌++◌, Option, arith, Goal, is_sound, LogState, HostCall, AddsMade, Kept, KeptAt, Made, calls_of, Point, Fronts, says_of, Grows, Leads, Took, are_seconds_short, past_of, STEP_LIMIT, AreSteps, Since-none, Since-map, Since-then, Took-none, fronts_from, fronts_none, fronts_one, fronts_then, fronts_two, Leads-none, Leads-then, Kept-one, Kept-then, Since-made, calls_of-append, kept_from, told_at, AreAllSteps, IsStepUnless, MakesOver}
-use Rattle.std.specs.Prelude.{IfSome}
+use Rattle.init_turns.proofs.Words.{◌≡◌, refl, sym, subst, ℕ, suc, ◌+◌, ◌≤◌, Bool, true, false, inl, inr, List, [], ◌∷◌, ◌++◌, Option, arith, Goal, is_sound, LogState, HostCall, AddsMade, Kept, KeptAt, Made, calls_of, Point, Fronts, says_of, Grows, Leads, Took, are_seconds_short, past_of, STEP_LIMIT, AreSteps, Since-none, Since-map, Since-then, Took-none, fronts_from, fronts_none, fronts_one, fronts_then, fronts_two, Leads-none, Leads-then, Kept-then, Since-made, calls_of-append, kept_from, AreAllSteps, IsStepUnless, MakesOver}
 
 module _ {L : Type 0} (state : L → LogState) where
   -- what is so of calls that were made
@@ -8,18 +7,18 @@ module _ {L : Type 0} (state : L → LogState) where
   AreMade l₀ l₁ Shape f₀ f₁ mades = Shape (calls_of mades) × Leads f₀ f₁ l₀ l₁ (calls_of mades) × Fronts past_of f₀ l₀ l₁ (calls_of mades) × Kept state past_of f₀ l₀ mades
 
   pub Makes-one : (old new : Option (List (Made L))) (l₀ l₁ : LogState) (log : L) (call : HostCall) (Shape : List HostCall → Type 0) (f₀ f₁ : Goal → Point → Type 0) → AddsMade old new call log → Shape (call ∷ []) → Leads f₀ f₁ l₀ l₁ (call ∷ []) → KeptAt past_of f₀ l₀ (state log) call [] → MakesOver state old new l₀ l₁ Shape f₀ f₁
-  Makes-one old new l₀ l₁ log call Shape f₀ f₁ adds shape leads kept = Since-made old new call log (AreMade l₀ l₁ Shape f₀ f₁) adds (λ at then. (shape, leads, fronts_one f₀ l₀ l₁ call, Kept-one state f₀ l₀ call at log then kept))
+  Makes-one old new l₀ l₁ log call Shape f₀ f₁ adds shape leads kept = Since-made old new call log (AreMade l₀ l₁ Shape f₀ f₁) adds (shape, leads, fronts_one f₀ l₀ l₁ call, (kept, tt))
 
   -- two calls, of which the second says what came of the first
   pub Makes-two : (old mid new : Option (List (Made L))) (l₀ l₁ : LogState) (log₁ log₂ : L) (one two : HostCall) (Shape : List HostCall → Type 0) (f₀ f₁ : Goal → Point → Type 0) → says_of two one ≡ true → AddsMade old mid one log₁ → AddsMade mid new two log₂ → Shape (two ∷ one ∷ []) → Leads f₀ f₁ l₀ l₁ (two ∷ one ∷ []) → KeptAt past_of f₀ l₀ (state log₁) one [] → KeptAt past_of f₀ l₀ (state log₂) two (one ∷ []) → MakesOver state old new l₀ l₁ Shape f₀ f₁
   Makes-two old mid new l₀ l₁ log₁ log₂ one two Shape f₀ f₁ says first second shape leads kept_one kept_two =
       Since-then old mid new (IsMade one log₁) (IsMade two log₂) (AreMade l₀ l₁ Shape f₀ f₁)
-      (Since-made old mid one log₁ (IsMade one log₁) first (λ at then. (at, then, refl))) (Since-made mid new two log₂ (IsMade two log₂) second (λ at then. (at, then, refl)))
-      (λ xs ys (at₁, then₁, is_one) (at₂, then₂, is_two). subst (AreMade l₀ l₁ Shape f₀ f₁) (sym (λ i. is_two i ++ is_one i))
-      (shape, leads, fronts_two f₀ l₀ l₁ one two says, (told_at at₂ log₂ (λ log. KeptAt past_of f₀ l₀ (state log) two (one ∷ [])) then₂ kept_two, Kept-one state f₀ l₀ one at₁ log₁ then₁ kept_one)))
+      (Since-made old mid one log₁ (IsMade one log₁) first refl) (Since-made mid new two log₂ (IsMade two log₂) second refl)
+      (λ xs ys is_one is_two. subst (AreMade l₀ l₁ Shape f₀ f₁) (sym (λ i. is_two i ++ is_one i))
+      (shape, leads, fronts_two f₀ l₀ l₁ one two says, (kept_two, (kept_one, tt))))
     where
       IsMade : HostCall → L → List (Made L) → Type 0
-      IsMade call log mades = (at : Option L) × IfSome at (λ then. then ≡ log) × (mades ≡ record { call = call; at = at } ∷ [])
+      IsMade call log mades = mades ≡ record { call = call; log = log } ∷ []
 
   pub Makes-none : (now : Option (List (Made L))) (log : LogState) (Shape : List HostCall → Type 0) (f : Goal → Point → Type 0) → Shape [] → MakesOver state now now log log Shape f f
   Makes-none now log Shape f shape = Since-none now (AreMade log log Shape f f) (shape, Leads-none f log, fronts_none f log log, tt)

@@ -1,7 +1,7 @@
 -- The words of the proofs of this crate.
-pub use Rattle.std.proofs.Common.{◌≡◌, refl, sym, ap, ◌∙◌, subst, ℕ, zero, suc, ◌+◌, ◌-◌, ◌<◌, ◌≤◌, inl, inr, Bool, true, false, ◌&&◌, nat_lt, List, [], ◌∷◌, ◌++◌, length, take, arith, length-append, codes, None, Some, Ok, Option, Result, Err, OnOk, OnErr, is_ok, ◌==◌, ◌||◌, not, drop, append-nil, cond, append_assoc, is_some, zip, ◌≢◌, min, nat_le, rules, is_err}
-pub use Rattle.std.specs.List.{list_all, starts_with}
-pub use Rattle.std.proofs.lemmas.Bool.{and_from, and_parts, ltb-true, false≢true, eq-eqb, eqb-true, le-leb}
+pub use Rattle.std.proofs.Common.{◌≡◌, refl, sym, ap, ◌∙◌, subst, ℕ, zero, suc, ◌+◌, ◌-◌, ◌<◌, ◌≤◌, inl, inr, Bool, true, false, ◌&&◌, nat_lt, List, [], ◌∷◌, ◌++◌, length, take, arith, length-append, codes, None, Some, Ok, Option, Result, Err, OnOk, OnErr, is_ok, ◌==◌, ◌||◌, not, drop, append-nil, cond, append_assoc, is_some, zip, ◌≢◌, min, nat_le, rules, is_err, ◌⊎◌}
+pub use Rattle.std.specs.List.{list_all, starts_with, list_any}
+pub use Rattle.std.proofs.lemmas.Bool.{and_from, and_parts, ltb-true, false≢true, eq-eqb, eqb-true, le-leb, or_right}
 pub use Rattle.std.proofs.lemmas.List.Folds.{list_all-append}
 pub use Rattle.trace_events.specs.declared.steps.Goal.{Goal}
 pub use Rattle.trace_events.specs.Event.{Event}
@@ -10,10 +10,10 @@ pub use Rattle.core_model.specs.State.{CoreState, opening_goal, opening_state}
 pub use Rattle.core_waiting.specs.Arrival.{AreUnasked, undisturbed_among, is_unasked, is_undisturbed, rounds_to_come}
 pub use Rattle.core_waiting.specs.Rest.{AtRest, after_rounds, is_level_announced}
 pub use Rattle.host_calls.specs.declared.calls.Call.TheVariants.{Clock, Pause, Start, Look, Late, TakeBytes, Announce, Carry, Signal, ReadTables}
-pub use Rattle.host_calls.specs.Calls.{HostCall, TextRead, front_read, parts_read}
+pub use Rattle.host_calls.specs.Calls.{HostCall, TextRead, front_read, parts_read, PartsRead}
 pub use Rattle.host_trace.specs.declared.TheConstants.{STEP_LIMIT, BYTE_LIMIT, PIECE, LATE_LIMIT}
-pub use Rattle.host_trace.specs.Leads.{are_carried, are_seconds_short, is_allowed, Gave, gone_on, Hears, Lasts, Leads, Logs, Tracks, UpTo, Went, comes_back, Counted, IsOver, Took, past_of}
-pub use Rattle.host_trace.specs.Point.{Point, point_after, has_trace, last_birth, acted, answered, announced, is_announcement, bytes_after, came_cut, carrying, is_of_generation, is_outcome, same_text, is_last, clocked, come, ordered, order_for}
+pub use Rattle.host_trace.specs.Leads.{are_carried, are_seconds_short, is_allowed, Gave, gone_on, Hears, Lasts, Leads, Logs, Tracks, UpTo, Went, comes_back, Counted, IsOver, Took, past_of, AreTexts, WentWell}
+pub use Rattle.host_trace.specs.Point.{Point, point_after, has_trace, last_birth, acted, answered, announced, is_announcement, bytes_after, came_cut, carrying, is_of_generation, is_outcome, same_text, is_last, clocked, come, ordered, order_for, after, byte_after, came_whole, handed_if, is_asked_for, nudged_if, reading}
 pub use Rattle.host_trace.specs.Turns.{AreSteps, AreTurns, IsTurn, are_full, are_lates, are_takes, has_come, is_reread, is_step, may_take, MadeTurns, Turned, bytes_in, bytes_taken, is_room, is_busy, takes_none}
 pub use Rattle.host_trace.proofs.Leading.{calls_allowed, carried_parts, UpTo-then, Leads-heard, Leads-map, Leads-weaken, Leads-none, Leads-then, Leads-beside, Leads-frame, Leads-still, bytes_counted, Hears-none}
 pub use Rattle.host_trace.proofs.Point.{point_after-append}
@@ -44,20 +44,25 @@ pub use Rattle.core_text.specs.Refused.{IsTextOf, IsCut, IsOther, IsTextIn}
 pub use Rattle.host_trace.specs.Grows.{GrowsBy, GrowsReading, HasRead, Grows}
 pub use Rattle.host_trace.proofs.Growing.{GrowsBy-then, Grows-none, GrowsBy-one, GrowsBy-none, Grows-handed, Grows-then, GrowsReading-none, GrowsReading-then, GrowsBy-call}
 pub use Rattle.host_trace.proofs.Bytes.{piece_fed, Leads-no_bytes, Leads-pieces, Leads-fed}
-pub use Rattle.std.proofs.lemmas.Option.{same_Some}
+pub use Rattle.std.proofs.lemmas.Option.{same_Some, none-some}
 pub use Rattle.init_words.proofs.Same.{same_id-self}
 pub use Rattle.core_model.specs.Rules.{IsFit}
 pub use Rattle.core_text.specs.declared.versions.Version.TheVariants.{V2}
 pub use Rattle.core_text.proofs.Prefixes.{generation_said}
 pub use Rattle.host_trace.proofs.Calling.{HandedOn, Leads-carried, Leads-clock, Hears-last, Hears-more, Leads-late, Hears-order, first_is, Leads-start, Leads-not_handed, Leads-not_read, Leads-used}
 pub use Rattle.inittab_text.specs.Tables.{entry_of, is_distinct}
-pub use Rattle.host_trace.specs.Edges.{AddsMade, Kept, KeptAt, Made, calls_of, trace_at}
-pub use Rattle.host_trace.specs.Fronts.{Fronts, says_of}
+pub use Rattle.host_trace.specs.Edges.{AddsMade, EdgeState, Kept, KeptAt, Made, calls_of, trace_at}
+pub use Rattle.host_trace.specs.Fronts.{Fronts, says_of, EachFront}
 pub use Rattle.host_calls.proofs.Record.{Since-map, Since-none, Since-then}
 pub use Rattle.host_trace.proofs.Fronts.{fronts_none, fronts_one, fronts_then, fronts_two}
-pub use Rattle.host_trace.proofs.Keeping.{AddsMade-same, Kept-one, Kept-then, Since-made, calls_of-append, fronts_from, kept_asked, kept_from, kept_led, kept_still, leads_from, told_at}
+pub use Rattle.host_trace.proofs.Keeping.{AddsMade-same, Kept-then, Since-made, calls_of-append, fronts_from, kept_asked, kept_from, kept_led, kept_still, leads_from}
 pub use Rattle.host_trace.specs.Requests.{Brings, requested}
 pub use Rattle.core_handover.specs.Taken.{NotTaken}
+pub use Rattle.trace_events.specs.Agreement.{is_unreaped}
+pub use Rattle.trace_events.specs.Past.{open_of, Child, is_child, newborn, unreaped_children}
+pub use Rattle.trace_laws.proofs.Laws.{lawful_unbroken, sound_lawful}
+pub use Rattle.host_calls.specs.declared.calls.Reply.TheVariants.{Now, Later}
+pub use Rattle.init_turns.specs.Crashes.{Leaves, LeavesIn, is_of_idle_look, IsUnderWay, subject_of}
 
 -- what parts of a turn make, between two records of calls and two logs
 abbrev pub MakesOver : {L : Type 0} → (L → LogState) → Option (List (Made L)) → Option (List (Made L)) → LogState → LogState → (List HostCall → Type 0) → (Goal → Point → Type 0) → (Goal → Point → Type 0) → Type 0

@@ -1,4 +1,5 @@
 pub mod Arriving
+pub mod Crashes
 pub mod Opening
 pub mod Parts
 pub mod Words

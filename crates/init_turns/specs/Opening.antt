@@ -1,6 +1,6 @@
 -- A run from its opening: the table that is in force then, and nothing before it (init(8)).
 use Rattle.std.specs.Prelude.{◌≡◌, true, List, [], ◌∷◌, Option}
-use Rattle.init_turns.specs.Words.{Entry, Level, is_distinct, NewTable, Goal, Event, CoreState, opening_goal, opening_state, LogState, HostCall, Made, Point}
+use Rattle.init_turns.specs.Words.{Entry, Level, is_distinct, NewTable, Goal, Event, CoreState, opening_goal, opening_state, LogState, HostCall, EdgeState, Point}
 use Rattle.init_turns.specs.Parts.{LeftBy, MakesFrom}
 
 -- a run begins with the table that is in force
@@ -24,7 +24,7 @@ pub record IsOpeningOf (level : Option Level) (table : List Entry) (o : OpeningS
 
 -- The calls made from the opening on are such turns; their trace went to the log from its first happening on, and the
 -- core that is left tracks it.
-abbrev pub Opens : {E L : Type 0} → (L → LogState) → (E → Option (List (Made L))) → (E → L) → E → E → Option Level
-    → List Entry → (List HostCall → Type 0) → CoreState → Type 0
-Opens state told log old new level table Turns core = MakesFrom (λ p. []) state (told old) (told new)
-    (state (log old)) (state (log new)) Turns (IsOpening level table) (LeftBy core)
+abbrev pub Opens : {H L : Type 0} → (L → LogState) → EdgeState H L → EdgeState H L → Option Level → List Entry
+    → (List HostCall → Type 0) → CoreState → Type 0
+Opens state old new level table Turns core = MakesFrom (λ p. []) state old.told new.told (state old.log)
+    (state new.log) Turns (IsOpening level table) (LeftBy core)

@@ -1,6 +1,6 @@
 -- What each part of a turn makes of init's host, log and core (init(8)).
 use Rattle.std.specs.Prelude.{◌≡◌, ◌≤◌, ◌⊎◌, ◌||◌, ℕ, Bool, true, false, IsTrue, List, [], ◌∷◌, Option, Result, is_some}
-use Rattle.init_turns.specs.Words.{Entry, Ended, entry_of, Handed, Goal, Step, Event, is_seconds, CoreState, with_step, state_of, IsTextOf, LogState, Late, Clock, TakeBytes, Announce, HostCall, TextRead, STEP_LIMIT, Point, is_last, is_outcome, is_announcement, may_announce, Since, AddsMade, Kept, Made, calls_of, At, Tracks, UpTo, Went, comes_back, past_of, AreSteps, bytes_in, is_reread, is_room, is_step}
+use Rattle.init_turns.specs.Words.{Entry, Ended, entry_of, Handed, Goal, Step, Event, is_seconds, CoreState, with_step, state_of, IsTextOf, LogState, Late, Clock, TakeBytes, Announce, HostCall, TextRead, STEP_LIMIT, Point, is_last, is_outcome, is_announcement, may_announce, Since, AddsMade, EdgeState, Kept, Made, calls_of, At, Tracks, UpTo, Went, comes_back, past_of, AreSteps, bytes_in, is_reread, is_room, is_step}
 use Rattle.init_words.specs.declared.orders.Answer.{Answer}
 use Rattle.init_words.specs.declared.orders.OrderKind.TheVariants as ask
 use Rattle.initctl_frame.specs.Blocks.{Begun}
@@ -25,9 +25,9 @@ MakesFrom from state told now_told log now_log Shape fitted fit =
     × Fronts from fitted log now_log (calls_of mades) × Kept state from fitted log mades)
 
 -- so it is of an edge before and behind them, whose log was handed all before
-abbrev pub Makes : {E L : Type 0} → (L → LogState) → (E → Option (List (Made L))) → (E → L) → E → E
-    → (List HostCall → Type 0) → (Goal → Point → Type 0) → (Goal → Point → Type 0) → Type 0
-Makes state told log old new = MakesFrom past_of state (told old) (told new) (state (log old)) (state (log new))
+abbrev pub Makes : {H L : Type 0} → (L → LogState) → EdgeState H L → EdgeState H L → (List HostCall → Type 0)
+    → (Goal → Point → Type 0) → (Goal → Point → Type 0) → Type 0
+Makes state old new = MakesFrom past_of state old.told new.told (state old.log) (state new.log)
 
 -- the answer is that the child ended
 abbrev pub is_end : Answer → Bool

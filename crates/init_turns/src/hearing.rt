@@ -5,56 +5,60 @@ ghost use Rattle.init_turns.specs.Words.{is_request, TakeBytes, BYTE_LIMIT, LATE
 ghost use Rattle.trace_events.specs.declared.happenings.Happening.TheVariants as happening;
 ghost use Rattle.init_turns.specs.Parts.{IsLate, IsReading, IsTake, Makes};
 
-use crate::answering::{hear_answer, note};
+use crate::answering::hear_answer;
 use core_steps::Core;
+use host_calls::Host;
 use host_trace::{BYTE_LIMIT, Edge, LATE_LIMIT, PIECE};
 use init_words::{Answer, Id};
 use initctl_frame::{Blocks, HeardRequest};
 use std::alloc::Allocator;
 use trace_events::Happening;
+use trace_log::Log;
 
 /// Reads the clock. A reading that failed is passed over.
-pub(crate) fn hear_clock<A: Allocator, E: Edge>(core: &mut Core<A>, edge: &mut E)
-    ensures makes { Makes E.state E.told E.log edge.old edge.new IsReading
+pub(crate) fn hear_clock<A: Allocator, H: Host, L: Log>(core: &mut Core<A>, edge: &mut Edge<H, L>)
+    ensures makes { Makes L.state edge.old edge.new IsReading
         (Tracks core.old) (λ goal p. Tracks core.new goal p × Counted 0 goal p) }
-    ensures grows { GrowsBy core.old core.new
-        (E.state (E.log edge.old)) (E.state (E.log edge.new)) }
+    ensures grows { GrowsBy core.old core.new (L.state edge.old.log) (L.state edge.new.log) }
 {
     if let Ok(reading) = edge.clock() {
         core.clock(reading);
-        note(edge, Happening::Clock(reading));
+        edge.note(Happening::Clock(reading));
     }
 }
 
-fn hear_request<A: Allocator, E: Edge>(core: &mut Core<A>, edge: &mut E, request: HeardRequest)
-    ensures told { E.told edge.new ≡ E.told edge.old }
+fn hear_request<A: Allocator, H: Host, L: Log>(
+    core: &mut Core<A>,
+    edge: &mut Edge<H, L>,
+    request: HeardRequest,
+)
+    ensures told { edge.new.told ≡ edge.old.told }
     ensures hears { IsTrue (is_request request)
         → Hears (Tracks core.old) (Tracks core.new)
-        (E.state (E.log edge.old)) (E.state (E.log edge.new))
-        (λ past. happening.Got request ∷ past) }
+        (L.state edge.old.log) (L.state edge.new.log) (λ past. happening.Got request ∷ past) }
     ensures grows { IsTrue (is_request request)
-        → GrowsBy core.old core.new (E.state (E.log edge.old)) (E.state (E.log edge.new)) }
+        → GrowsBy core.old core.new (L.state edge.old.log) (L.state edge.new.log) }
 {
     core.receive(request);
-    note(edge, Happening::Got(request));
+    edge.note(Happening::Got(request));
 }
 
 /// Hears the bytes up to the end of the block under way, or all of them; gives how many.
-fn hear_front<A: Allocator, E: Edge>(
+fn hear_front<A: Allocator, H: Host, L: Log>(
     core: &mut Core<A>,
-    edge: &mut E,
+    edge: &mut Edge<H, L>,
     blocks: &mut Blocks,
     bytes: &[u8],
 ) -> usize
     requires { 0 < length bytes.now }
     ensures progress { 0 < result }
     ensures within { result ≤ length bytes.now }
-    ensures told { E.told edge.new ≡ E.told edge.old }
+    ensures told { edge.new.told ≡ edge.old.told }
     ensures leads { (room : ℕ) → Leads (At core.old blocks.old) (At core.new blocks.new)
-        (E.state (E.log edge.old)) (E.state (E.log edge.new))
+        (L.state edge.old.log) (L.state edge.new.log)
         (TakeBytes room (Ok (take result bytes.now)) ∷ []) }
     ensures grows { GrowsReading core.old core.new blocks.old blocks.new
-        (E.state (E.log edge.old)) (E.state (E.log edge.new)) }
+        (L.state edge.old.log) (L.state edge.new.log) }
 {
     let (count, request) = blocks.feed(bytes);
     if let Some(request) = request {
@@ -63,17 +67,17 @@ fn hear_front<A: Allocator, E: Edge>(
     count
 }
 
-fn hear_bytes<A: Allocator, E: Edge>(
+fn hear_bytes<A: Allocator, H: Host, L: Log>(
     core: &mut Core<A>,
-    edge: &mut E,
+    edge: &mut Edge<H, L>,
     blocks: &mut Blocks,
     bytes: &[u8],
 )
-    ensures told { E.told edge.new ≡ E.told edge.old }
+    ensures told { edge.new.told ≡ edge.old.told }
     ensures leads { (room : ℕ) → Leads (At core.old blocks.old) (At core.new blocks.new)
-        (E.state (E.log edge.old)) (E.state (E.log edge.new)) (TakeBytes room (Ok bytes.now) ∷ []) }
+        (L.state edge.old.log) (L.state edge.new.log) (TakeBytes room (Ok bytes.now) ∷ []) }
     ensures grows { GrowsReading core.old core.new blocks.old blocks.new
-        (E.state (E.log edge.old)) (E.state (E.log edge.new)) }
+        (L.state edge.old.log) (L.state edge.new.log) }
 {
     let mut rest = bytes;
     while !rest.is_empty() {
@@ -83,19 +87,19 @@ fn hear_bytes<A: Allocator, E: Edge>(
 }
 
 /// Takes bytes of requests into the buffer and hears them; gives how many, 0 where the call failed.
-fn take_into<A: Allocator, E: Edge>(
+fn take_into<A: Allocator, H: Host, L: Log>(
     core: &mut Core<A>,
-    edge: &mut E,
+    edge: &mut Edge<H, L>,
     blocks: &mut Blocks,
     taken: usize,
     buffer: &mut [u8],
 ) -> usize
     requires { is_room (length buffer.old) taken ≡ true }
     ensures within { result ≤ length buffer.old }
-    ensures takes { Makes E.state E.told E.log edge.old edge.new
+    ensures takes { Makes L.state edge.old edge.new
         (IsTake taken result) (At core.old blocks.old) (At core.new blocks.new) }
     ensures grows { GrowsReading core.old core.new blocks.old blocks.new
-        (E.state (E.log edge.old)) (E.state (E.log edge.new)) }
+        (L.state edge.old.log) (L.state edge.new.log) }
 {
     let Ok(count) = edge.take_bytes(buffer) else {
         return 0;
@@ -115,18 +119,18 @@ fn room_for(taken: usize) -> usize
 }
 
 /// Takes a piece of the bytes of requests, after so many taken in this turn; gives how many it took, 0 where it failed.
-fn take_piece<A: Allocator, E: Edge>(
+fn take_piece<A: Allocator, H: Host, L: Log>(
     core: &mut Core<A>,
-    edge: &mut E,
+    edge: &mut Edge<H, L>,
     blocks: &mut Blocks,
     taken: usize,
 ) -> usize
     requires { taken < BYTE_LIMIT }
     ensures within { taken + result ≤ BYTE_LIMIT }
-    ensures takes { Makes E.state E.told E.log edge.old edge.new
+    ensures takes { Makes L.state edge.old edge.new
         (IsTake taken result) (At core.old blocks.old) (At core.new blocks.new) }
     ensures grows { GrowsReading core.old core.new blocks.old blocks.new
-        (E.state (E.log edge.old)) (E.state (E.log edge.new)) }
+        (L.state edge.old.log) (L.state edge.new.log) }
 {
     let mut buffer = [0; PIECE];
     let room = room_for(taken);
@@ -134,15 +138,15 @@ fn take_piece<A: Allocator, E: Edge>(
 }
 
 /// Takes the bytes of requests, until none have come or the turn may take no more.
-pub(crate) fn hear_requests<A: Allocator, E: Edge>(
+pub(crate) fn hear_requests<A: Allocator, H: Host, L: Log>(
     core: &mut Core<A>,
-    edge: &mut E,
+    edge: &mut Edge<H, L>,
     blocks: &mut Blocks,
 )
-    ensures makes { Makes E.state E.told E.log edge.old edge.new
+    ensures makes { Makes L.state edge.old edge.new
         (λ calls. are_takes calls ≡ true) (At core.old blocks.old) (At core.new blocks.new) }
     ensures grows { GrowsReading core.old core.new blocks.old blocks.new
-        (E.state (E.log edge.old)) (E.state (E.log edge.new)) }
+        (L.state edge.old.log) (L.state edge.new.log) }
 {
     let mut taken = 0;
     while taken < BYTE_LIMIT {
@@ -154,25 +158,25 @@ pub(crate) fn hear_requests<A: Allocator, E: Edge>(
     }
 }
 
-fn begin_round<A: Allocator, E: Edge>(core: &mut Core<A>, edge: &mut E)
+fn begin_round<A: Allocator, H: Host, L: Log>(core: &mut Core<A>, edge: &mut Edge<H, L>)
     ensures hears { Hears (Tracks core.old) (Tracks core.new)
-        (E.state (E.log edge.old)) (E.state (E.log edge.new))
-        (λ past. happening.Nudge ∷ past) }
-    ensures told { E.told edge.new ≡ E.told edge.old }
-    ensures grows { GrowsBy core.old core.new
-        (E.state (E.log edge.old)) (E.state (E.log edge.new)) }
+        (L.state edge.old.log) (L.state edge.new.log) (λ past. happening.Nudge ∷ past) }
+    ensures told { edge.new.told ≡ edge.old.told }
+    ensures grows { GrowsBy core.old core.new (L.state edge.old.log) (L.state edge.new.log) }
 {
     core.begin_round();
-    note(edge, Happening::Nudge);
+    edge.note(Happening::Nudge);
 }
 
-fn hear_come<A: Allocator, E: Edge>(core: &mut Core<A>, edge: &mut E, late: &Option<(Id, Answer)>)
+fn hear_come<A: Allocator, H: Host, L: Log>(
+    core: &mut Core<A>,
+    edge: &mut Edge<H, L>,
+    late: &Option<(Id, Answer)>,
+)
     ensures hears { Hears (Tracks core.old) (Tracks core.new)
-        (E.state (E.log edge.old)) (E.state (E.log edge.new))
-        (come late.now) }
-    ensures told { E.told edge.new ≡ E.told edge.old }
-    ensures grows { GrowsBy core.old core.new
-        (E.state (E.log edge.old)) (E.state (E.log edge.new)) }
+        (L.state edge.old.log) (L.state edge.new.log) (come late.now) }
+    ensures told { edge.new.told ≡ edge.old.told }
+    ensures grows { GrowsBy core.old core.new (L.state edge.old.log) (L.state edge.new.log) }
 {
     if let Some(late) = late {
         hear_answer(core, edge, late.0, late.1);
@@ -188,14 +192,17 @@ fn is_last(late: &Option<(Id, Answer)>, asked: usize) -> bool
 }
 
 /// Asks for a late answer, after so many in this turn. After the last the round begins; gives whether it was that.
-fn hear_late<A: Allocator, E: Edge>(core: &mut Core<A>, edge: &mut E, asked: usize) -> bool
+fn hear_late<A: Allocator, H: Host, L: Log>(
+    core: &mut Core<A>,
+    edge: &mut Edge<H, L>,
+    asked: usize,
+) -> bool
     requires { asked < LATE_LIMIT }
     ensures more { result ≡ false → asked + 1 < LATE_LIMIT }
-    ensures lates { Makes E.state E.told E.log edge.old edge.new
+    ensures lates { Makes L.state edge.old edge.new
         (IsLate asked result) (λ goal p. Tracks core.old goal p × Counted asked goal p)
         (λ goal p. Tracks core.new goal p × Counted (asked + 1) goal p) }
-    ensures grows { GrowsBy core.old core.new
-        (E.state (E.log edge.old)) (E.state (E.log edge.new)) }
+    ensures grows { GrowsBy core.old core.new (L.state edge.old.log) (L.state edge.new.log) }
 {
     let late = edge.late();
     let last = is_last(&late, asked);
@@ -207,12 +214,11 @@ fn hear_late<A: Allocator, E: Edge>(core: &mut Core<A>, edge: &mut E, asked: usi
 }
 
 /// Takes the late answers, and begins the round.
-pub(crate) fn hear_lates<A: Allocator, E: Edge>(core: &mut Core<A>, edge: &mut E)
-    ensures makes { Makes E.state E.told E.log edge.old edge.new
+pub(crate) fn hear_lates<A: Allocator, H: Host, L: Log>(core: &mut Core<A>, edge: &mut Edge<H, L>)
+    ensures makes { Makes L.state edge.old edge.new
         (λ calls. are_lates calls ≡ true)
         (λ goal p. Tracks core.old goal p × Counted 0 goal p) (Tracks core.new) }
-    ensures grows { GrowsBy core.old core.new
-        (E.state (E.log edge.old)) (E.state (E.log edge.new)) }
+    ensures grows { GrowsBy core.old core.new (L.state edge.old.log) (L.state edge.new.log) }
 {
     let mut asked = 0;
     while !hear_late(core, edge, asked) {

@@ -5,15 +5,16 @@ ghost use Rattle.init_turns.specs.Words.{is_drained, opening_goal, opening_state
 ghost use Rattle.init_turns.specs.Arriving.{ServesTurns};
 ghost use Rattle.init_turns.specs.Opening.{IsOpeningOf, Opens};
 
-use crate::answering::write;
 use crate::serving::{Served, Watch, serve};
 use core_steps::Core;
+use host_calls::Host;
 use host_trace::Edge;
 use init_words::{Level, Memory};
 use inittab_text::Table;
 use std::alloc::{Allocator, Global};
 use std::marker::Model;
 use trace_events::{Happening, HappeningIn};
+use trace_log::Log;
 
 /// Init at its opening: its core, and the table in force as the log is told of it. The core is on the heap: so an opening
 /// costs little to whoever owns it.
@@ -45,10 +46,10 @@ impl<A: Allocator + Copy> Opening<A> {
 
     /// Makes the given number of turns from the opening on, and gives back what init keeps after them. The log is handed
     /// the table in force first. A strict init takes no inittab that is read again of which a line is faulty.
-    pub fn serve<E: Edge, W: Watch<A>>(
+    pub fn serve<H: Host, L: Log, W: Watch<A>>(
         self,
         alloc: A,
-        edge: &mut E,
+        edge: &mut Edge<H, L>,
         turns: u64,
         drain: bool,
         strict: bool,
@@ -59,17 +60,17 @@ impl<A: Allocator + Copy> Opening<A> {
         // the log took it, and had taken all of it until then when each call was made; and a level is settled after turns
         // in which nothing is asked, where as many undisturbed rounds can be made of them as were to come
         ensures trace { (level : Option Level) (table : List Entry) → IsOpeningOf level table self
-            → Opens E.state E.told E.log edge.old edge.new
+            → Opens L.state edge.old edge.new
             level table (ServesTurns strict drain level table result.0.turns (W.seen watch.old)
             (W.seen watch.new)) result.1.value }
         // it makes the turns that were asked for; fewer only where it was to end drained, and is
         ensures most { result.0.turns ≤ turns }
         ensures fewer { result.0.turns < turns → (drain ≡ true) × (result.0.drained ≡ true) }
         ensures drained { result.0.drained ≡ is_drained result.1.value }
-        ensures logged { result.0.logged ≡ not (E.state (E.log edge.new)).failed }
+        ensures logged { result.0.logged ≡ not (L.state edge.new.log).failed }
     {
         let Opening { mut core, told } = self;
-        write(edge, &told);
+        edge.write(&told);
         drop(told);
         let served = serve(alloc, &mut *core, edge, turns, drain, strict, watch);
         (served, core)

@@ -5,12 +5,14 @@ ghost use Rattle.init_turns.specs.Words.{entry_of, GrowsBy, Gave, Tracks, order_
 ghost use Rattle.trace_events.specs.declared.steps.Step.TheVariants as step;
 ghost use Rattle.init_turns.specs.Parts.{IsStep, Makes, is_listed};
 
-use crate::answering::{hear_reply, note};
+use crate::answering::hear_reply;
 use core_steps::Core;
+use host_calls::Host;
 use host_trace::Edge;
 use init_words::{Id, OrderKind, SignalKind};
 use std::alloc::Allocator;
 use trace_events::Happening;
+use trace_log::Log;
 
 /// The order by which a signal is sent.
 fn order_for(sent: &SignalKind) -> OrderKind
@@ -22,57 +24,63 @@ fn order_for(sent: &SignalKind) -> OrderKind
     }
 }
 
-fn start<A: Allocator + Copy, E: Edge>(alloc: A, core: &mut Core<A>, edge: &mut E, id: Id)
+fn start<A: Allocator + Copy, H: Host, L: Log>(
+    alloc: A,
+    core: &mut Core<A>,
+    edge: &mut Edge<H, L>,
+    id: Id,
+)
     requires { is_some (entry_of id core.old.table) ≡ true }
-    ensures makes { Makes E.state E.told E.log edge.old edge.new
+    ensures makes { Makes L.state edge.old edge.new
         IsStep (Gave (Tracks core.old) (step.Order id OrderKind.Start)) (Tracks core.new) }
-    ensures grows { GrowsBy core.old core.new
-        (E.state (E.log edge.old)) (E.state (E.log edge.new)) }
+    ensures grows { GrowsBy core.old core.new (L.state edge.old.log) (L.state edge.new.log) }
 {
     let Some(entry) = core.table().get(&id) else {
         unreachable!()
     };
-    note(edge, Happening::Asked(id, OrderKind::Start));
+    edge.note(Happening::Asked(id, OrderKind::Start));
     let reply = edge.start(alloc, id, entry.command());
     hear_reply(core, edge, id, &reply);
 }
 
-fn look<A: Allocator, E: Edge>(core: &mut Core<A>, edge: &mut E, id: Id)
-    ensures makes { Makes E.state E.told E.log edge.old edge.new
+fn look<A: Allocator, H: Host, L: Log>(core: &mut Core<A>, edge: &mut Edge<H, L>, id: Id)
+    ensures makes { Makes L.state edge.old edge.new
         IsStep (Gave (Tracks core.old) (step.Order id OrderKind.Look)) (Tracks core.new) }
-    ensures grows { GrowsBy core.old core.new
-        (E.state (E.log edge.old)) (E.state (E.log edge.new)) }
+    ensures grows { GrowsBy core.old core.new (L.state edge.old.log) (L.state edge.new.log) }
 {
-    note(edge, Happening::Asked(id, OrderKind::Look));
+    edge.note(Happening::Asked(id, OrderKind::Look));
     let reply = edge.look(id);
     hear_reply(core, edge, id, &reply);
 }
 
-fn signal<A: Allocator, E: Edge>(core: &mut Core<A>, edge: &mut E, id: Id, sent: SignalKind)
-    ensures makes { Makes E.state E.told E.log edge.old edge.new
+fn signal<A: Allocator, H: Host, L: Log>(
+    core: &mut Core<A>,
+    edge: &mut Edge<H, L>,
+    id: Id,
+    sent: SignalKind,
+)
+    ensures makes { Makes L.state edge.old edge.new
         IsStep (Gave (Tracks core.old) (step.Order id (order_for sent)))
         (Tracks core.new) }
-    ensures grows { GrowsBy core.old core.new
-        (E.state (E.log edge.old)) (E.state (E.log edge.new)) }
+    ensures grows { GrowsBy core.old core.new (L.state edge.old.log) (L.state edge.new.log) }
 {
-    note(edge, Happening::Asked(id, order_for(&sent)));
+    edge.note(Happening::Asked(id, order_for(&sent)));
     let reply = edge.signal(id, sent);
     hear_reply(core, edge, id, &reply);
 }
 
 /// Gives the host an order about the id, and hears what it replies.
-pub(crate) fn order<A: Allocator + Copy, E: Edge>(
+pub(crate) fn order<A: Allocator + Copy, H: Host, L: Log>(
     alloc: A,
     core: &mut Core<A>,
-    edge: &mut E,
+    edge: &mut Edge<H, L>,
     id: Id,
     ask: &OrderKind,
 )
     requires { is_listed core.old.table (step.Order id ask.now) ≡ true }
-    ensures makes { Makes E.state E.told E.log edge.old edge.new
+    ensures makes { Makes L.state edge.old edge.new
         IsStep (Gave (Tracks core.old) (step.Order id ask.now)) (Tracks core.new) }
-    ensures grows { GrowsBy core.old core.new
-        (E.state (E.log edge.old)) (E.state (E.log edge.new)) }
+    ensures grows { GrowsBy core.old core.new (L.state edge.old.log) (L.state edge.new.log) }
 {
     match *ask {
         OrderKind::Start => start(alloc, core, edge, id),

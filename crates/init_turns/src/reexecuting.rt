@@ -10,12 +10,13 @@ ghost use Rattle.core_text.specs.declared.state_fault.StateFault.TheVariants as 
 ghost use Rattle.core_handover.specs.Taken.{NotTaken};
 ghost use Rattle.init_turns.specs.Parts.{ComesTo, IsStep, Makes, Saying};
 
-use crate::answering::write;
 use core_handover::{StateFault, generation_of, hand_over, take_over};
 use core_steps::Core;
+use host_calls::Host;
 use host_trace::Edge;
 use std::alloc::Allocator;
 use trace_events::{Handed, Happening};
+use trace_log::Log;
 
 /// What came back of the text and was distinguished from a whole one: it is said to be cut where it is a prefix of the
 /// text.
@@ -68,17 +69,17 @@ fn take_back<A: Allocator + Copy>(alloc: A, core: &mut Core<A>, text: &[u8], bac
 }
 
 /// Carries the text of the core's state; gives what came of it.
-fn carry<A: Allocator + Copy, E: Edge>(
+fn carry<A: Allocator + Copy, H: Host, L: Log>(
     alloc: A,
     core: &mut Core<A>,
-    edge: &mut E,
+    edge: &mut Edge<H, L>,
     text: &[u8],
 ) -> Handed
     ensures comes { (back : TextRead)
-        × AddsMade (E.told edge.old) (E.told edge.new) (Carry text.now back) (E.log edge.old)
+        × AddsMade edge.old.told edge.new.told (Carry text.now back) edge.old.log
         × ComesTo result text.now back core.old core.new }
     ensures short { has_short_seconds core.old ≡ true → has_short_seconds core.new ≡ true }
-    ensures log { E.log edge.new ≡ E.log edge.old }
+    ensures log { edge.new.log ≡ edge.old.log }
 {
     match edge.carry(alloc, text) {
         Ok(back) => take_back(alloc, core, text, &back),
@@ -87,37 +88,39 @@ fn carry<A: Allocator + Copy, E: Edge>(
 }
 
 /// Writes what came of a hand-over, and says so where it was refused.
-fn tell<E: Edge>(edge: &mut E, how: Handed)
+fn tell<H: Host, L: Log>(edge: &mut Edge<H, L>, how: Handed)
     ensures log { (past : List Event) →
-        Logs (E.state (E.log edge.old)) (E.state (E.log edge.new)) past
+        Logs (L.state edge.old.log) (L.state edge.new.log) past
         (happening.Handed how ∷ past) }
-    ensures said { Saying how (E.told edge.old) (E.told edge.new) (E.log edge.new) }
-    ensures grows { Grows (E.state (E.log edge.old)) (E.state (E.log edge.new)) }
+    ensures said { Saying how edge.old.told edge.new.told edge.new.log }
+    ensures grows { Grows (L.state edge.old.log) (L.state edge.new.log) }
 {
     let handed: Happening = Happening::Handed(how);
-    write(edge, &handed);
+    edge.write(&handed);
     if how != Handed::Whole {
         edge.announce(&handed);
     }
 }
 
 /// No text was made: init goes on as it is.
-fn not_handed<A: Allocator, E: Edge>(core: &mut Core<A>, edge: &mut E)
-    ensures makes { Makes E.state E.told E.log edge.old edge.new
+fn not_handed<A: Allocator, H: Host, L: Log>(core: &mut Core<A>, edge: &mut Edge<H, L>)
+    ensures makes { Makes L.state edge.old edge.new
         IsStep (Gave (Tracks core.old) step.Reexec) (Tracks core.new) }
-    ensures grows { GrowsBy core.old core.new
-        (E.state (E.log edge.old)) (E.state (E.log edge.new)) }
+    ensures grows { GrowsBy core.old core.new (L.state edge.old.log) (L.state edge.new.log) }
 {
     core.not_handed();
     tell(edge, Handed::Failed);
 }
 
 /// Executes init anew. Where no text is made, or what comes back is not taken over, init goes on as it is.
-pub(crate) fn reexec<A: Allocator + Copy, E: Edge>(alloc: A, core: &mut Core<A>, edge: &mut E)
-    ensures makes { Makes E.state E.told E.log edge.old edge.new
+pub(crate) fn reexec<A: Allocator + Copy, H: Host, L: Log>(
+    alloc: A,
+    core: &mut Core<A>,
+    edge: &mut Edge<H, L>,
+)
+    ensures makes { Makes L.state edge.old edge.new
         IsStep (Gave (Tracks core.old) step.Reexec) (Tracks core.new) }
-    ensures grows { GrowsBy core.old core.new
-        (E.state (E.log edge.old)) (E.state (E.log edge.new)) }
+    ensures grows { GrowsBy core.old core.new (L.state edge.old.log) (L.state edge.new.log) }
 {
     let Ok(text) = hand_over(alloc, core) else {
         return not_handed(core, edge);

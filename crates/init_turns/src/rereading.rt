@@ -7,19 +7,20 @@ ghost use Rattle.init_turns.specs.Words.{NewTable, Event, is_quiet, ReadTables, 
 ghost use Rattle.trace_events.specs.declared.steps.Step.TheVariants as step;
 ghost use Rattle.init_turns.specs.Parts.{IsReread, Makes};
 
-use crate::answering::write;
 use core_steps::Core;
+use host_calls::Host;
 use host_trace::Edge;
 use init_words::Part;
 use inittab_text::read_parts;
 use std::alloc::Allocator;
 use trace_events::{Happening, HappeningIn};
+use trace_log::Log;
 
 /// Takes the table of files for that in force, a strict init only where no line is faulty; gives whether it did.
-fn use_parts<A: Allocator + Copy, E: Edge>(
+fn use_parts<A: Allocator + Copy, H: Host, L: Log>(
     alloc: A,
     core: &mut Core<A>,
-    edge: &mut E,
+    edge: &mut Edge<H, L>,
     parts: &[Part<A>],
     strict: bool,
 ) -> bool
@@ -30,13 +31,12 @@ fn use_parts<A: Allocator + Copy, E: Edge>(
         (NewTable (table_of_texts (texts_of parts.now)) ∷ past)) }
     ensures lasts { result ≡ true → Lasts core.old core.new }
     ensures took { result ≡ true → (past : List Event)
-        → Logs (E.state (E.log edge.old)) (E.state (E.log edge.new)) past
+        → Logs (L.state edge.old.log) (L.state edge.new.log) past
         (NewTable (table_of_texts (texts_of parts.now)) ∷ past) }
     ensures core { result ≡ false → core.new ≡ core.old }
-    ensures log { result ≡ false → E.log edge.new ≡ E.log edge.old }
-    ensures told { E.told edge.new ≡ E.told edge.old }
-    ensures grows { GrowsBy core.old core.new
-        (E.state (E.log edge.old)) (E.state (E.log edge.new)) }
+    ensures log { result ≡ false → edge.new.log ≡ edge.old.log }
+    ensures told { edge.new.told ≡ edge.old.told }
+    ensures grows { GrowsBy core.old core.new (L.state edge.old.log) (L.state edge.new.log) }
 {
     let Ok((table, faults)) = read_parts(alloc, parts) else {
         return false;
@@ -51,25 +51,24 @@ fn use_parts<A: Allocator + Copy, E: Edge>(
         return false;
     }
     let used: HappeningIn<A> = Happening::NewTable(copy);
-    write(edge, &used);
+    edge.write(&used);
     true
 }
 
 /// Reads inittab and takes its table for that in force; gives whether it did.
-fn use_table<A: Allocator + Copy, E: Edge>(
+fn use_table<A: Allocator + Copy, H: Host, L: Log>(
     alloc: A,
     core: &mut Core<A>,
-    edge: &mut E,
+    edge: &mut Edge<H, L>,
     strict: bool,
 ) -> bool
-    ensures used { result ≡ true → Makes E.state E.told E.log edge.old edge.new
+    ensures used { result ≡ true → Makes L.state edge.old edge.new
         (IsReread strict) (Gave (Tracks core.old) step.Reread) (Tracks core.new) }
     ensures read { result ≡ false → (parts : PartsRead)
-        × AddsMade (E.told edge.old) (E.told edge.new) (ReadTables parts) (E.log edge.old) }
+        × AddsMade edge.old.told edge.new.told (ReadTables parts) edge.old.log }
     ensures core { result ≡ false → core.new ≡ core.old }
-    ensures log { result ≡ false → E.log edge.new ≡ E.log edge.old }
-    ensures grows { GrowsBy core.old core.new
-        (E.state (E.log edge.old)) (E.state (E.log edge.new)) }
+    ensures log { result ≡ false → edge.new.log ≡ edge.old.log }
+    ensures grows { GrowsBy core.old core.new (L.state edge.old.log) (L.state edge.new.log) }
 {
     let Ok(parts) = edge.read_tables(alloc) else {
         return false;
@@ -79,22 +78,21 @@ fn use_table<A: Allocator + Copy, E: Edge>(
 
 /// Reads inittab again. Where that fails, or the table can't be taken, the one in force stays; so it does where a line
 /// is faulty and init is strict.
-pub(crate) fn reread<A: Allocator + Copy, E: Edge>(
+pub(crate) fn reread<A: Allocator + Copy, H: Host, L: Log>(
     alloc: A,
     core: &mut Core<A>,
-    edge: &mut E,
+    edge: &mut Edge<H, L>,
     strict: bool,
 )
-    ensures makes { Makes E.state E.told E.log edge.old edge.new
+    ensures makes { Makes L.state edge.old edge.new
         (IsReread strict) (Gave (Tracks core.old) step.Reread) (Tracks core.new) }
-    ensures grows { GrowsBy core.old core.new
-        (E.state (E.log edge.old)) (E.state (E.log edge.new)) }
+    ensures grows { GrowsBy core.old core.new (L.state edge.old.log) (L.state edge.new.log) }
 {
     if use_table(alloc, core, edge, strict) {
         return;
     }
     let unread: Happening = Happening::NotRead;
     core.not_read();
-    write(edge, &unread);
+    edge.write(&unread);
     edge.announce(&unread);
 }

@@ -8,9 +8,11 @@ ghost use Rattle.init_turns.specs.Parts.{Fresh, Left, LeftBy, Makes};
 use crate::hearing::{hear_clock, hear_lates, hear_requests};
 use crate::stepping::take_steps;
 use core_steps::Core;
+use host_calls::Host;
 use host_trace::Edge;
 use initctl_frame::Blocks;
 use std::alloc::Allocator;
+use trace_log::Log;
 
 /// Somebody who looks at what init keeps after each turn, before the pause.
 pub trait Watch<A: Allocator> {
@@ -51,21 +53,21 @@ pub struct Served {
 /// What the clock, the bytes, an announcement or the log fails to do is passed over; a start, a look or a signal that
 /// failed is answered so, and inittab that can't be read or taken leaves the table in force; where init is strict, so
 /// does one of which a line is faulty.
-pub fn turn<A: Allocator + Copy, E: Edge>(
+pub fn turn<A: Allocator + Copy, H: Host, L: Log>(
     alloc: A,
     core: &mut Core<A>,
-    edge: &mut E,
+    edge: &mut Edge<H, L>,
     blocks: &mut Blocks,
     strict: bool,
 ) -> bool
     // the calls made are those of a turn; as far as their answers were possible each was in its place, init's core tracks
     // their trace, nothing is due after it where the turn was done, and the log took it; and when each call was made, the
     // log had taken the whole trace until then
-    ensures makes { Makes E.state E.told E.log edge.old edge.new
+    ensures makes { Makes L.state edge.old edge.new
         (IsTurn strict result) (At core.old blocks.old) (Left result core.new blocks.new) }
     // whatever is answered, the log only grows, and seconds of at most an hour stay so
     ensures grows { GrowsReading core.old core.new blocks.old blocks.new
-        (E.state (E.log edge.old)) (E.state (E.log edge.new)) }
+        (L.state edge.old.log) (L.state edge.new.log) }
 {
     hear_clock(core, edge);
     hear_requests(core, edge, blocks);
@@ -80,10 +82,14 @@ fn is_over<A: Allocator>(core: &Core<A>, drain: bool) -> bool
     drain && core.drained()
 }
 
-fn served_so_far<A: Allocator, E: Edge>(core: &Core<A>, edge: &E, turns: u64) -> Served
+fn served_so_far<A: Allocator, H: Host, L: Log>(
+    core: &Core<A>,
+    edge: &Edge<H, L>,
+    turns: u64,
+) -> Served
     ensures turns { result.turns ≡ turns }
     ensures drained { result.drained ≡ is_drained core.now }
-    ensures logged { result.logged ≡ not (E.state (E.log edge.now)).failed }
+    ensures logged { result.logged ≡ not (L.state edge.now.log).failed }
 {
     Served {
         turns,
@@ -94,10 +100,10 @@ fn served_so_far<A: Allocator, E: Edge>(core: &Core<A>, edge: &E, turns: u64) ->
 
 /// Makes the given number of turns, with a look and a pause after each. With `drain` it ends after the first turn that
 /// leaves nothing to do and nothing running. A strict init takes no inittab of which a line is faulty.
-pub fn serve<A: Allocator + Copy, E: Edge, W: Watch<A>>(
+pub fn serve<A: Allocator + Copy, H: Host, L: Log, W: Watch<A>>(
     alloc: A,
     core: &mut Core<A>,
-    edge: &mut E,
+    edge: &mut Edge<H, L>,
     turns: u64,
     drain: bool,
     strict: bool,
@@ -106,20 +112,19 @@ pub fn serve<A: Allocator + Copy, E: Edge, W: Watch<A>>(
     // the calls made are those of so many turns; as far as their answers were possible each was in its place, the core that
     // is seen after each tracks their trace up to there, and the log took it; and when each call was made, the log had
     // taken the whole trace until then
-    ensures trace { Makes E.state E.told E.log edge.old edge.new
+    ensures trace { Makes L.state edge.old edge.new
         (MadeTurns strict drain (Fresh core.old) result.turns (W.seen watch.old) (W.seen watch.new))
         (Fresh core.old) (LeftBy core.new) }
     // the requests in it are those of all bytes that were taken
-    ensures requests { Since (E.told edge.old) (E.told edge.new) (λ mades. (p : Point)
+    ensures requests { Since edge.old.told edge.new.told (λ mades. (p : Point)
         → p.over ≡ [] → Brings [] (calls_of mades) p) }
     // it makes the turns that were asked for; fewer only where it was to end drained, and is
     ensures most { result.turns ≤ turns }
     ensures fewer { result.turns < turns → (drain ≡ true) × (result.drained ≡ true) }
     ensures drained { result.drained ≡ is_drained core.new }
-    ensures logged { result.logged ≡ not (E.state (E.log edge.new)).failed }
+    ensures logged { result.logged ≡ not (L.state edge.new.log).failed }
     // whatever is answered, the log only grows, and seconds of at most an hour stay so
-    ensures grows { GrowsBy core.old core.new
-        (E.state (E.log edge.old)) (E.state (E.log edge.new)) }
+    ensures grows { GrowsBy core.old core.new (L.state edge.old.log) (L.state edge.new.log) }
 {
     let mut blocks = Blocks::new();
     for made in 0..turns {

@@ -4,14 +4,15 @@ ghost use Rattle.std.specs.Prelude.{◌≡◌, ◌≤◌, true, false};
 ghost use Rattle.init_turns.specs.Words.{is_short, Step, CoreState, Grows, GrowsBy, Gave, Tracks};
 ghost use Rattle.init_turns.specs.Parts.{AndRests, AreAllSteps, IsStep, IsStepUnless, Makes, SaysStep, is_idle, is_listed, is_short_step};
 
-use crate::answering::write;
 use crate::ordering::order;
 use crate::reexecuting::reexec;
 use crate::rereading::reread;
 use core_steps::Core;
+use host_calls::Host;
 use host_trace::{Edge, STEP_LIMIT};
 use std::alloc::Allocator;
 use trace_events::{Happening, Step};
+use trace_log::Log;
 
 fn is_idle(step: &Step) -> bool
     ensures { result ≡ is_idle step.now }
@@ -20,31 +21,31 @@ fn is_idle(step: &Step) -> bool
 }
 
 /// Says a step that needs no more.
-fn tell<E: Edge>(edge: &mut E, happening: Happening)
+fn tell<H: Host, L: Log>(edge: &mut Edge<H, L>, happening: Happening)
     ensures makes { (core : CoreState) (made : Step) → SaysStep made happening
-        → Makes E.state E.told E.log edge.old edge.new
+        → Makes L.state edge.old edge.new
         IsStep (Gave (Tracks core) made) (Tracks core) }
     ensures grows { is_short happening ≡ true
-        → Grows (E.state (E.log edge.old)) (E.state (E.log edge.new)) }
+        → Grows (L.state edge.old.log) (L.state edge.new.log) }
 {
-    write(edge, &happening);
+    edge.write(&happening);
     edge.announce(&happening);
 }
 
 /// Carries out a step that init gave.
-fn carry_out<A: Allocator + Copy, E: Edge>(
+fn carry_out<A: Allocator + Copy, H: Host, L: Log>(
     alloc: A,
     core: &mut Core<A>,
-    edge: &mut E,
+    edge: &mut Edge<H, L>,
     step: &Step,
     strict: bool,
 )
     requires { is_listed core.old.table step.now ≡ true }
-    ensures makes { Makes E.state E.told E.log edge.old edge.new
+    ensures makes { Makes L.state edge.old edge.new
         (IsStepUnless strict (is_idle step.now)) (Gave (Tracks core.old) step.now)
         (Tracks core.new) }
     ensures grows { is_short_step step.now ≡ true
-        → GrowsBy core.old core.new (E.state (E.log edge.old)) (E.state (E.log edge.new)) }
+        → GrowsBy core.old core.new (L.state edge.old.log) (L.state edge.new.log) }
 {
     match *step {
         Step::Enter(stage, grace) => tell(edge, Happening::Enter(stage, grace)),
@@ -60,16 +61,15 @@ fn carry_out<A: Allocator + Copy, E: Edge>(
 }
 
 /// Takes a step of init's; gives whether nothing was due.
-fn take_step<A: Allocator + Copy, E: Edge>(
+fn take_step<A: Allocator + Copy, H: Host, L: Log>(
     alloc: A,
     core: &mut Core<A>,
-    edge: &mut E,
+    edge: &mut Edge<H, L>,
     strict: bool,
 ) -> bool
-    ensures makes { Makes E.state E.told E.log edge.old edge.new
+    ensures makes { Makes L.state edge.old edge.new
         (IsStepUnless strict result) (Tracks core.old) (AndRests result (Tracks core.new)) }
-    ensures grows { GrowsBy core.old core.new
-        (E.state (E.log edge.old)) (E.state (E.log edge.new)) }
+    ensures grows { GrowsBy core.old core.new (L.state edge.old.log) (L.state edge.new.log) }
 {
     let step = core.next();
     carry_out(alloc, core, edge, &step, strict);
@@ -77,16 +77,15 @@ fn take_step<A: Allocator + Copy, E: Edge>(
 }
 
 /// Takes init's steps until nothing is due, or as many as a turn may; gives whether nothing is due.
-pub(crate) fn take_steps<A: Allocator + Copy, E: Edge>(
+pub(crate) fn take_steps<A: Allocator + Copy, H: Host, L: Log>(
     alloc: A,
     core: &mut Core<A>,
-    edge: &mut E,
+    edge: &mut Edge<H, L>,
     strict: bool,
 ) -> bool
-    ensures makes { Makes E.state E.told E.log edge.old edge.new
+    ensures makes { Makes L.state edge.old edge.new
         (AreAllSteps strict result) (Tracks core.old) (AndRests result (Tracks core.new)) }
-    ensures grows { GrowsBy core.old core.new
-        (E.state (E.log edge.old)) (E.state (E.log edge.new)) }
+    ensures grows { GrowsBy core.old core.new (L.state edge.old.log) (L.state edge.new.log) }
 {
     for made in 0..STEP_LIMIT {
         if take_step(alloc, core, edge, strict) {

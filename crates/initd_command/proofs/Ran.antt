@@ -5,9 +5,9 @@ use Rattle.initd_command.specs.Services.{EndsTold}
 use Rattle.initd_command.specs.declared.run.Obstacle.TheVariants.{Memory}
 
 -- turns over a log that was fresh
-pub made_fresh : {L fresh : Type 0} (state : L → LogState) (told : Option (List HostCall)) (has_ended : Bool → List Event → Type 0) (service : RunSaid) (table : List Entry) (end : End) (calls : List HostCall)
-    → fresh → MakesLogged state fresh told has_ended service table end calls → MakesTurns ⊤ service table end calls
-made_fresh state told has_ended service table end calls is (made, ended, had) = record {
+pub made_fresh : {L fresh : Type 0} (state : L → LogState) (has_ended : Bool → List Event → Type 0) (service : RunSaid) (table : List Entry) (end : End) (calls : List HostCall)
+    → fresh → MakesLogged state fresh has_ended service table end calls → MakesTurns ⊤ service table end calls
+made_fresh state has_ended service table end calls is (made, ended, had) = record {
   served = made.served;
   noted = made.noted;
   turns = made.turns;

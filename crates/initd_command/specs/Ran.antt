@@ -1,8 +1,8 @@
 -- Which calls a run of init makes of its host.
 use Rattle.std.specs.Prelude.{◌≡◌, ℕ, Bool, true, List, [], ◌∷◌, reverse, Option, Some, None, IfSome, ⊤}
 use Rattle.initd_command.specs.Words.{Entry, KnownTexts, InitdSaid, initd_read_of, runs, RunSaid, Event, LogState, HostCall, Since, UpTo, WentWell, Level, CoreState, opening_goal, is_drained, FitsAll, ServesTurns, IsOpening, Served}
+use Rattle.host_trace.specs.Edges.{HadAll}
 use Rattle.host_trace.specs.Fronts.{EachFront}
-use Rattle.init_stamped.specs.Stamps.{HadAll}
 use Rattle.initd_command.specs.Turned.{End}
 use Rattle.initd_command.specs.Endings.{Ending, turned}
 use Rattle.initd_command.specs.Services.{HasInittab, IsJudged, IsNoted, IsServed, LogEnds, Noted, TakesParts, TurnsFrom, Writes, end_of, is_unled, table_in, told_of}
@@ -28,13 +28,12 @@ pub record MakesTurns (fresh : Type 0) (service : RunSaid) (table : List Entry) 
   pub asked : IsJudged service noted
   pub ends : end ≡ end_of service noted served
 
--- such turns; and if their log was fresh, how it ended, and that at each call it had taken what came until then: one log
--- for each call, where the host tells its calls
-abbrev pub MakesLogged : {L : Type 0} → (L → LogState) → Type 0 → Option (List HostCall) → (Bool → List Event → Type 0)
-    → RunSaid → List Entry → End → List HostCall → Type 0
-MakesLogged state fresh told has_ended service table end calls = (made : MakesTurns fresh service table end calls)
+-- such turns; and if their log was fresh, how it ended, and that at each call it had taken what came until then
+abbrev pub MakesLogged : {L : Type 0} → (L → LogState) → Type 0 → (Bool → List Event → Type 0) → RunSaid → List Entry
+    → End → List HostCall → Type 0
+MakesLogged state fresh has_ended service table end calls = (made : MakesTurns fresh service table end calls)
     × (fresh → TurnsFrom service.level table calls (λ past. LogEnds has_ended made.served.logged (reverse past)))
-    × (fresh → HadAll state told (IsOpening service.level table) calls)
+    × (fresh → HadAll state (IsOpening service.level table) calls)
 
 -- what is told of a run: the arguments by which its hosts were opened, the calls that these were asked, and what it wrote
 pub record RunTold : Type 0 where

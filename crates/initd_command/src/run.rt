@@ -19,7 +19,7 @@ use crate::watchers::Watcher;
 use host_calls::Host;
 use host_files::{FolderFault, PassedNames, with_folder};
 use host_messages::{StampedRuntime, faults_text};
-use init_stamped::Stamped;
+use host_trace::Edge;
 use init_turns::{Opening, Served};
 use init_words::{Id, Level, Memory, Part};
 use initd_options::RunWords;
@@ -552,11 +552,11 @@ where
         × ReportsEnd end (E.contents err.old) (E.contents err.new)
         × ((table : List Entry) → IsOpeningOf (run_of said.now).level table opening
         → Since (H.told host) (H.told result.1) (MakesLogged L.state ((L.state log).taken [])
-        (H.told result.1) (L.has_ended result.2) (run_of said.now) table end)) }
+        (L.has_ended result.2) (run_of said.now) table end)) }
 {
     let judged = JudgedLog::new(rt, alloc, log, said.judge);
     let noted = NotedLog::new(alloc, judged, said.result);
-    let mut edge = Stamped::new(host, noted);
+    let mut edge = Edge::new(host, noted);
     let mut watch = Watcher::new(rt, alloc, said.verbose, said.initctl.as_str());
     let (served, core) = opening.serve(
         alloc,
@@ -566,7 +566,7 @@ where
         said.strict,
         &mut watch,
     );
-    edge.law_of_stamps();
+    edge.law_of_calls();
     let (host, noted) = edge.into_parts();
     let (judged, notes) = noted.into_parts();
     let found = judged.judgement();

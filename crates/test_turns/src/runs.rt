@@ -4,7 +4,6 @@ use core_steps::Core;
 use host_calls::Host;
 use host_scripted::MemoryHost;
 use host_trace::Edge;
-use init_stamped::Stamped;
 use init_turns::{Served, Unwatched};
 use init_words::Memory;
 use inittab_text::Table;
@@ -69,7 +68,7 @@ pub(crate) fn row_of(row: &str) -> Option<Row> {
 #[derive(Drop)]
 pub(crate) struct Bench<A: Allocator + Copy, B: Allocator, L: Log> {
     pub(crate) core: Core<B>,
-    pub(crate) edge: Stamped<MemoryHost<A>, L>,
+    pub(crate) edge: Edge<MemoryHost<A>, L>,
     pub(crate) strict: bool,
 }
 
@@ -80,7 +79,7 @@ fn bench_over<A: Allocator + Copy, B: Allocator + Copy, L: Log + Drop>(
     table: Table<B>,
     log: L,
 ) -> Result<Box<Bench<A, B, L>>, Memory> {
-    let edge = Stamped::new(Box::into_inner(host), log);
+    let edge = Edge::new(Box::into_inner(host), log);
     let core = Core::new(alloc, table, None)?;
     let strict = false;
     Ok(boxed(own, Bench { core, edge, strict })?)
@@ -136,7 +135,8 @@ fn log_table<A: Allocator + Copy>(own: Global, bench: &mut Bench<A, Global, List
     let Ok(table) = bench.core.table().copy(own) else {
         return false;
     };
-    !bench.edge.failed() && bench.edge.take(&Happening::NewTable(table)).is_ok()
+    bench.edge.write(&Happening::NewTable(table));
+    !bench.edge.failed()
 }
 
 /// The log's happenings after the opening table are these lines, and all of it is lawful.

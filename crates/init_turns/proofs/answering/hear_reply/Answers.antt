@@ -7,7 +7,7 @@ pub returns-in-Later-clause-hears : goal.returns-in-Later-clause-hears
 returns-in-Later-clause-hears g c =
     let is : c.args.reply.now ≡ Later = search rules in
     let core = c.args.core.now in
-    let log = g.E.Edge.state (g.E.Edge.log c.args.edge.now) in
+    let log = g.L.Log.state c.args.edge.now.log in
     subst (λ reply. Hears (Tracks core) (Tracks core) log log (replied c.args.id reply)) (sym is) (Hears-none (Tracks core) log)
 
 pub returns-in-Later-clause-grows : goal.returns-in-Later-clause-grows

@@ -5,9 +5,9 @@ use Rattle.init_turns.proofs.hearing.hear_bytes.Given as goal
 -- what stands before the rest was heard
 abbrev pub invariant-loop-rest : goal.invariant-loop-rest
 invariant-loop-rest g l = (part : List ℕ) × (part ++ l.rest ≡ l.bytes)
-    × (g.E.Edge.told l.edge ≡ g.E.Edge.told l.fn.edge)
-    × ((room : ℕ) → Leads (At l.fn.core l.fn.blocks) (At l.core l.blocks) (g.E.Edge.state (g.E.Edge.log l.fn.edge)) (g.E.Edge.state (g.E.Edge.log l.edge)) (TakeBytes room (Ok part) ∷ []))
-    × GrowsReading l.fn.core l.core l.fn.blocks l.blocks (g.E.Edge.state (g.E.Edge.log l.fn.edge)) (g.E.Edge.state (g.E.Edge.log l.edge))
+    × (l.edge.told ≡ l.fn.edge.told)
+    × ((room : ℕ) → Leads (At l.fn.core l.fn.blocks) (At l.core l.blocks) (g.L.Log.state l.fn.edge.log) (g.L.Log.state l.edge.log) (TakeBytes room (Ok part) ∷ []))
+    × GrowsReading l.fn.core l.core l.fn.blocks l.blocks (g.L.Log.state l.fn.edge.log) (g.L.Log.state l.edge.log)
 
 abbrev pub decreases-loop-rest : goal.decreases-loop-rest
 decreases-loop-rest g l = length l.rest

@@ -4,8 +4,8 @@ use Rattle.init_turns.proofs.hearing.hear_come.Goals as goal
 pub returns-in_default-clause-hears : goal.returns-in_default-clause-hears
 returns-in_default-clause-hears g c =
     let is : c.args.late.now ≡ None = search rules in
-    let log = g.E.Edge.state (g.E.Edge.log c.args.edge.now) in
+    let log = g.L.Log.state c.args.edge.now.log in
     subst (λ late. Hears (Tracks c.args.core.now) (Tracks c.args.core.now) log log (come late)) (sym is) (Hears-none (Tracks c.args.core.now) log)
 
 pub returns-in_default-clause-grows : goal.returns-in_default-clause-grows
-returns-in_default-clause-grows g c = GrowsBy-none c.args.core.now (g.E.Edge.state (g.E.Edge.log c.args.edge.now))
+returns-in_default-clause-grows g c = GrowsBy-none c.args.core.now (g.L.Log.state c.args.edge.now.log)

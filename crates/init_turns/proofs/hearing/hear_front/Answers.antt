@@ -9,16 +9,16 @@ pub returns-in-Some-clause-leads : goal.returns-in-Some-clause-leads
 returns-in-Some-clause-leads g c room =
     let request = c.feed-count.result.1 in
     let is : request ≡ Some c.in-Some.request = search rules in
-    Leads-fed c.args.core.now c.hear_request.new.core c.args.blocks.now c.feed-count.new.self (g.E.Edge.state (g.E.Edge.log c.args.edge.now)) (g.E.Edge.state (g.E.Edge.log c.hear_request.new.edge)) room (take c.feed-count.result.0 c.args.bytes.now) request
+    Leads-fed c.args.core.now c.hear_request.new.core c.args.blocks.now c.feed-count.new.self (g.L.Log.state c.args.edge.now.log) (g.L.Log.state c.hear_request.new.edge.log) room (take c.feed-count.result.0 c.args.bytes.now) request
     (some_left c.args.blocks.now.count (length c.args.bytes.now) c.feed-count.result.0 c.feed-count.ensures.taken (c.feed-count.ensures.progress c.requires))
     c.feed-count.ensures.stands c.feed-count.ensures.got
-    (subst (λ given. list_all is_request (option_to_list given) ≡ true → Hears (Tracks c.args.core.now) (Tracks c.hear_request.new.core) (g.E.Edge.state (g.E.Edge.log c.args.edge.now)) (g.E.Edge.state (g.E.Edge.log c.hear_request.new.edge)) (requested (option_to_list given))) (sym is) (λ short. c.hear_request.ensures.hears (and_parts (is_request c.in-Some.request) true short).0))
+    (subst (λ given. list_all is_request (option_to_list given) ≡ true → Hears (Tracks c.args.core.now) (Tracks c.hear_request.new.core) (g.L.Log.state c.args.edge.now.log) (g.L.Log.state c.hear_request.new.edge.log) (requested (option_to_list given))) (sym is) (λ short. c.hear_request.ensures.hears (and_parts (is_request c.in-Some.request) true short).0))
 
 pub returns-in_default-clause-leads : goal.returns-in_default-clause-leads
 returns-in_default-clause-leads g c room =
     let request = c.feed-count.result.1 in
     let is : request ≡ None = search rules in
-    let log = g.E.Edge.state (g.E.Edge.log c.args.edge.now) in
+    let log = g.L.Log.state c.args.edge.now.log in
     Leads-fed c.args.core.now c.args.core.now c.args.blocks.now c.feed-count.new.self log log room (take c.feed-count.result.0 c.args.bytes.now) request
     (some_left c.args.blocks.now.count (length c.args.bytes.now) c.feed-count.result.0 c.feed-count.ensures.taken (c.feed-count.ensures.progress c.requires))
     c.feed-count.ensures.stands c.feed-count.ensures.got
@@ -39,4 +39,4 @@ returns-in_default-clause-grows g c read =
     let part = take c.feed-count.result.0 c.args.bytes.now in
     let some = some_left c.args.blocks.now.count (length c.args.bytes.now) c.feed-count.result.0 c.feed-count.ensures.taken (c.feed-count.ensures.progress c.requires) in
     let reads = piece_reads c.args.blocks.now c.feed-count.new.self part c.feed-count.result.1 some c.feed-count.ensures.stands c.feed-count.ensures.got read in
-    (reads.0, GrowsBy-none c.args.core.now (g.E.Edge.state (g.E.Edge.log c.args.edge.now)))
+    (reads.0, GrowsBy-none c.args.core.now (g.L.Log.state c.args.edge.now.log))

@@ -7,8 +7,8 @@ pub returns-clause-hears : goal.returns-clause-hears
 returns-clause-hears g c asks =
     let core = c.args.core.now in
     let new = c.receive.new.self in
-    let old = g.E.Edge.state (g.E.Edge.log c.args.edge.now) in
-    let now = g.E.Edge.state (g.E.Edge.log c.note.new.edge) in
+    let old = g.L.Log.state c.args.edge.now.log in
+    let now = g.L.Log.state c.note.new.self.log in
     Hears-tracks core new old now (λ so_far. past.Got c.args.request ∷ so_far) (request_lasts core new c.args.request asks c.receive.ensures.state)
     (Hears-told core new old now (past.Got c.args.request) refl c.receive.ensures.fits
     c.note.ensures.logs)
@@ -16,6 +16,6 @@ returns-clause-hears g c asks =
 pub returns-clause-grows : goal.returns-clause-grows
 returns-clause-grows g c asks =
     let lasts = request_lasts c.args.core.now c.receive.new.self c.args.request asks c.receive.ensures.state in
-    let old = g.E.Edge.state (g.E.Edge.log c.args.edge.now) in
-    let new = g.E.Edge.state (g.E.Edge.log c.note.new.edge) in
+    let old = g.L.Log.state c.args.edge.now.log in
+    let new = g.L.Log.state c.note.new.self.log in
     GrowsBy-one c.args.core.now c.receive.new.self old new lasts.short (c.note.ensures.grows asks)

@@ -5,9 +5,9 @@ use Rattle.init_turns.proofs.hearing.hear_requests.Given as goal
 
 -- so many bytes were taken, by calls that each gave some
 abbrev pub invariant-loop-taken : goal.invariant-loop-taken
-invariant-loop-taken g l = (l.taken ≤ BYTE_LIMIT) × MakesOver g.E.Edge.state (g.E.Edge.told l.fn.edge) (g.E.Edge.told l.edge) (g.E.Edge.state (g.E.Edge.log l.fn.edge)) (g.E.Edge.state (g.E.Edge.log l.edge))
+invariant-loop-taken g l = (l.taken ≤ BYTE_LIMIT) × MakesOver g.L.Log.state l.fn.edge.told l.edge.told (g.L.Log.state l.fn.edge.log) (g.L.Log.state l.edge.log)
     (HaveTaken l.taken) (At l.fn.core l.fn.blocks) (At l.core l.blocks)
-    × GrowsReading l.fn.core l.core l.fn.blocks l.blocks (g.E.Edge.state (g.E.Edge.log l.fn.edge)) (g.E.Edge.state (g.E.Edge.log l.edge))
+    × GrowsReading l.fn.core l.core l.fn.blocks l.blocks (g.L.Log.state l.fn.edge.log) (g.L.Log.state l.edge.log)
 
 abbrev pub decreases-loop-taken : goal.decreases-loop-taken
 decreases-loop-taken g l = BYTE_LIMIT - l.taken

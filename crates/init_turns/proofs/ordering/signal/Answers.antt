@@ -9,15 +9,15 @@ returns-clause-makes g c =
     let core = c.args.core.now in
     let reply = c.signal-reply.result in
     let ask = order_for c.args.sent in
-    let old = g.E.Edge.state (g.E.Edge.log c.args.edge.now) in
-    let new = g.E.Edge.state (g.E.Edge.log c.hear_reply.new.edge) in
-    Makes-ordered g.E.Edge.state g.E.Edge.told g.E.Edge.log c.args.edge.now c.note.new.edge c.signal-reply.new.self c.hear_reply.new.edge core c.hear_reply.new.core (Signal id c.args.sent reply) id ask reply
+    let old = g.L.Log.state c.args.edge.now.log in
+    let new = g.L.Log.state c.hear_reply.new.edge.log in
+    Makes-ordered g.L.Log.state c.args.edge.now c.note.new.self c.signal-reply.new.self c.hear_reply.new.edge core c.hear_reply.new.core (Signal id c.args.sent reply) id ask reply
     c.note.ensures.told c.signal-reply.ensures.adds c.signal-reply.ensures.log c.hear_reply.ensures.told refl (λ so_far. refl)
-    (subst (λ order. (so_far : List Event) → Logs old (g.E.Edge.state (g.E.Edge.log c.note.new.edge)) so_far (Asked id order ∷ so_far)) c.order_for.ensures c.note.ensures.logs) c.hear_reply.ensures.hears
+    (subst (λ order. (so_far : List Event) → Logs old (g.L.Log.state c.note.new.self.log) so_far (Asked id order ∷ so_far)) c.order_for.ensures c.note.ensures.logs) c.hear_reply.ensures.hears
     (λ hears. Leads-heard (Gave (Tracks core) (step.Order id ask)) (Tracks c.hear_reply.new.core) old new (Signal id c.args.sent reply) (ordered id ask reply) hears
     (λ p. refl) (λ goal p sound gave. first_is goal p.past (step.Order id ask) gave.0) (λ goal p. tt))
 
 pub returns-clause-grows : goal.returns-clause-grows
 returns-clause-grows g c =
-    GrowsBy-call g.E.Edge.state c.args.core.now c.hear_reply.new.core (g.E.Edge.state (g.E.Edge.log c.args.edge.now)) (g.E.Edge.state (g.E.Edge.log c.hear_reply.new.edge)) (g.E.Edge.log c.note.new.edge) (g.E.Edge.log c.signal-reply.new.self)
+    GrowsBy-call g.L.Log.state c.args.core.now c.hear_reply.new.core (g.L.Log.state c.args.edge.now.log) (g.L.Log.state c.hear_reply.new.edge.log) c.note.new.self.log c.signal-reply.new.self.log
     c.signal-reply.ensures.log (c.note.ensures.grows refl) c.hear_reply.ensures.grows

@@ -10,18 +10,18 @@ pub returns-clause-makes : goal.returns-clause-makes
 returns-clause-makes g c =
     let core = c.args.core.now in
     let new = c.not_handed.new.self in
-    let log = g.E.Edge.log c.tell.new.edge in
-    let old = g.E.Edge.state (g.E.Edge.log c.args.edge.now) in
-    let now = g.E.Edge.state log in
+    let log = c.tell.new.edge.log in
+    let old = g.L.Log.state c.args.edge.now.log in
+    let now = g.L.Log.state log in
     let happening = past.Handed handed.Failed in
     let before = Gave (Tracks core) step.Reexec in
     let leads : Leads before (Tracks new) old now (Announce happening ∷ []) =
     Leads-not_handed core new old now (λ goal so_far sound fits. c.not_handed.ensures.fits goal so_far sound fits handed.Failed)
     (unhanded_lasts core new c.not_handed.ensures.state) c.tell.ensures.log in
-    Makes-one g.E.Edge.state (g.E.Edge.told c.args.edge.now) (g.E.Edge.told c.tell.new.edge) old now log (Announce happening) IsStep before (Tracks new)
+    Makes-one g.L.Log.state c.args.edge.now.told c.tell.new.edge.told old now log (Announce happening) IsStep before (Tracks new)
     c.tell.ensures.said refl leads (kept_led before (Tracks new) old now happening [] leads)
 
 pub returns-clause-grows : goal.returns-clause-grows
 returns-clause-grows g c =
     let lasts = unhanded_lasts c.args.core.now c.not_handed.new.self c.not_handed.ensures.state in
-    GrowsBy-one c.args.core.now c.not_handed.new.self (g.E.Edge.state (g.E.Edge.log c.args.edge.now)) (g.E.Edge.state (g.E.Edge.log c.tell.new.edge)) lasts.short c.tell.ensures.grows
+    GrowsBy-one c.args.core.now c.not_handed.new.self (g.L.Log.state c.args.edge.now.log) (g.L.Log.state c.tell.new.edge.log) lasts.short c.tell.ensures.grows

@@ -9,28 +9,28 @@ returns-clause-makes g c =
     let (back, adds, comes) = c.carry-how.ensures.comes in
     let next = c.hand_over.new.core in
     let is : c.in-Ok.text.items ≡ c.deref.result.now = search rules in
-    let log = g.E.Edge.log c.args.edge.now in
-    let now = g.E.Edge.log c.tell.new.edge in
-    Makes-carried g.E.Edge.state (g.E.Edge.told c.args.edge.now) (g.E.Edge.told c.carry-how.new.edge) (g.E.Edge.told c.tell.new.edge) log now
+    let log = c.args.edge.now.log in
+    let now = c.tell.new.edge.log in
+    Makes-carried g.L.Log.state c.args.edge.now.told c.carry-how.new.edge.told c.tell.new.edge.told log now
     c.args.core.now next c.carry-how.new.core c.carry-how.result c.deref.result.now back adds c.tell.ensures.said
     c.in-Ok.ensures.state c.in-Ok.ensures.fits
     (λ short. subst (λ text. IsTextIn V2 text (state_of next) × IsFit next) is (c.in-Ok.ensures.said short)) comes
-    (subst (λ l. (so_far : List Event) → Logs (g.E.Edge.state l) (g.E.Edge.state now) so_far (Handed c.carry-how.result ∷ so_far)) c.carry-how.ensures.log c.tell.ensures.log)
+    (subst (λ l. (so_far : List Event) → Logs (g.L.Log.state l) (g.L.Log.state now) so_far (Handed c.carry-how.result ∷ so_far)) c.carry-how.ensures.log c.tell.ensures.log)
 
 -- no text was made, and nothing was changed
 pub returns-in_default-clause-makes : goal.returns-in_default-clause-makes
 returns-in_default-clause-makes g c =
     let same : c.hand_over.new.core ≡ c.args.core.now = search rules in
-    subst (λ core. MakesOver g.E.Edge.state (g.E.Edge.told c.args.edge.now) (g.E.Edge.told c.not_handed.new.edge) (g.E.Edge.state (g.E.Edge.log c.args.edge.now)) (g.E.Edge.state (g.E.Edge.log c.not_handed.new.edge)) IsStep (Gave (Tracks core) step.Reexec) (Tracks c.not_handed.new.core)) same c.not_handed.ensures.makes
+    subst (λ core. MakesOver g.L.Log.state c.args.edge.now.told c.not_handed.new.edge.told (g.L.Log.state c.args.edge.now.log) (g.L.Log.state c.not_handed.new.edge.log) IsStep (Gave (Tracks core) step.Reexec) (Tracks c.not_handed.new.core)) same c.not_handed.ensures.makes
 
 pub returns-clause-grows : goal.returns-clause-grows
 returns-clause-grows g c =
-    let old = g.E.Edge.state (g.E.Edge.log c.args.edge.now) in
-    let now = g.E.Edge.state (g.E.Edge.log c.tell.new.edge) in
-    GrowsBy-call g.E.Edge.state c.args.core.now c.carry-how.new.core old now (g.E.Edge.log c.args.edge.now) (g.E.Edge.log c.carry-how.new.edge) c.carry-how.ensures.log (Grows-none old)
-    (GrowsBy-one c.args.core.now c.carry-how.new.core (g.E.Edge.state (g.E.Edge.log c.carry-how.new.edge)) now (λ short. c.carry-how.ensures.short (ap has_short_seconds c.in-Ok.ensures.state ∙ short)) c.tell.ensures.grows)
+    let old = g.L.Log.state c.args.edge.now.log in
+    let now = g.L.Log.state c.tell.new.edge.log in
+    GrowsBy-call g.L.Log.state c.args.core.now c.carry-how.new.core old now c.args.edge.now.log c.carry-how.new.edge.log c.carry-how.ensures.log (Grows-none old)
+    (GrowsBy-one c.args.core.now c.carry-how.new.core (g.L.Log.state c.carry-how.new.edge.log) now (λ short. c.carry-how.ensures.short (ap has_short_seconds c.in-Ok.ensures.state ∙ short)) c.tell.ensures.grows)
 
 pub returns-in_default-clause-grows : goal.returns-in_default-clause-grows
 returns-in_default-clause-grows g c =
     let same : c.hand_over.new.core ≡ c.args.core.now = search rules in
-    subst (λ core. GrowsBy core c.not_handed.new.core (g.E.Edge.state (g.E.Edge.log c.args.edge.now)) (g.E.Edge.state (g.E.Edge.log c.not_handed.new.edge))) same c.not_handed.ensures.grows
+    subst (λ core. GrowsBy core c.not_handed.new.core (g.L.Log.state c.args.edge.now.log) (g.L.Log.state c.not_handed.new.edge.log)) same c.not_handed.ensures.grows

@@ -49,21 +49,21 @@ returns-clause-quiet g c taken =
 pub returns-clause-took : goal.returns-clause-took
 returns-clause-took g c taken =
     let read : c.in-Ok-copy.copy ≡ table_of_texts (texts_of c.args.parts.now) = search rules in
-    let old = g.E.Edge.state (g.E.Edge.log c.args.edge.now) in
-    let new = g.E.Edge.state (g.E.Edge.log c.write.new.edge) in
+    let old = g.L.Log.state c.args.edge.now.log in
+    let new = g.L.Log.state c.write.new.self.log in
     subst (λ table. (past : List Event) → Logs old new past (NewTable table ∷ past)) read c.write.ensures.logs
 
 pub returns-clause-grows : goal.returns-clause-grows
 returns-clause-grows g c =
     let works : is_err c.adopt.result ≡ false = search rules in
     let lasts = adopt_lasts c.args.core.now c.adopt.new.self c.in-Ok.table (was_ok c.adopt.result _ works c.adopt.ensures.adopted) in
-    GrowsBy-one c.args.core.now c.adopt.new.self (g.E.Edge.state (g.E.Edge.log c.args.edge.now)) (g.E.Edge.state (g.E.Edge.log c.write.new.edge)) lasts.short (c.write.ensures.grows refl)
+    GrowsBy-one c.args.core.now c.adopt.new.self (g.L.Log.state c.args.edge.now.log) (g.L.Log.state c.write.new.self.log) lasts.short (c.write.ensures.grows refl)
 
 pub returns-then-is_err-clause-grows : goal.returns-then-is_err-clause-grows
 returns-then-is_err-clause-grows g c =
     let same : c.adopt.new.self ≡ c.args.core.now = search rules in
-    let old = g.E.Edge.state (g.E.Edge.log c.args.edge.now) in
+    let old = g.L.Log.state c.args.edge.now.log in
     GrowsBy-one c.args.core.now c.adopt.new.self old old (λ short. ap has_short_seconds same ∙ short) (Grows-none old)
 
 pub returns-in_default-copy-clause-grows : goal.returns-in_default-copy-clause-grows
-returns-in_default-copy-clause-grows g c = GrowsBy-none c.args.core.now (g.E.Edge.state (g.E.Edge.log c.args.edge.now))
+returns-in_default-copy-clause-grows g c = GrowsBy-none c.args.core.now (g.L.Log.state c.args.edge.now.log)

@@ -9,23 +9,23 @@ pub returns-clause-used : goal.returns-clause-used
 returns-clause-used g c took =
     let core = c.args.core.now in
     let new = c.use_parts.new.core in
-    let log = g.E.Edge.log c.args.edge.now in
-    let old = g.E.Edge.state log in
-    let now = g.E.Edge.state (g.E.Edge.log c.use_parts.new.edge) in
-    let told = g.E.Edge.told c.args.edge.now in
-    let now_told = g.E.Edge.told c.use_parts.new.edge in
+    let log = c.args.edge.now.log in
+    let old = g.L.Log.state log in
+    let now = g.L.Log.state c.use_parts.new.edge.log in
+    let told = c.args.edge.now.told in
+    let now_told = c.use_parts.new.edge.told in
     let parts = parts_read (λ held. held.items) c.read_tables.result in
     let is : parts ≡ Ok c.deref.result.now = search rules in
     let taken : may_take c.args.strict (Ok c.deref.result.now) ≡ true = c.use_parts.ensures.taken took in
     let before = Gave (Tracks core) step.Reread in
-    Makes-one g.E.Edge.state told now_told old now log (ReadTables parts) (IsReread c.args.strict) before (Tracks new)
-    (AddsMade-same told told (g.E.Edge.told c.read_tables.new.self) now_told (ReadTables parts) log refl c.use_parts.ensures.told c.read_tables.ensures.adds) (ap (may_take c.args.strict) is ∙ taken)
+    Makes-one g.L.Log.state told now_told old now log (ReadTables parts) (IsReread c.args.strict) before (Tracks new)
+    (AddsMade-same told told c.read_tables.new.self.told now_told (ReadTables parts) log refl c.use_parts.ensures.told c.read_tables.ensures.adds) (ap (may_take c.args.strict) is ∙ taken)
     (subst (λ t. Leads before (Tracks new) old now (ReadTables t ∷ [])) (sym is)
     (Leads-used core new old now c.deref.result.now (and_parts (are_readable (texts_of c.deref.result.now)) _ taken).0 (c.use_parts.ensures.quiet took) (c.use_parts.ensures.fits took) (c.use_parts.ensures.lasts took)
-    (subst (λ l. (so_far : List Event) → Logs (g.E.Edge.state l) now so_far (NewTable (table_of_texts (texts_of c.deref.result.now)) ∷ so_far)) c.read_tables.ensures.log (c.use_parts.ensures.took took))))
+    (subst (λ l. (so_far : List Event) → Logs (g.L.Log.state l) now so_far (NewTable (table_of_texts (texts_of c.deref.result.now)) ∷ so_far)) c.read_tables.ensures.log (c.use_parts.ensures.took took))))
     (kept_still before old (ReadTables parts) (λ so_far. refl))
 
 pub returns-clause-grows : goal.returns-clause-grows
 returns-clause-grows g c =
-    let old = g.E.Edge.state (g.E.Edge.log c.args.edge.now) in
-    GrowsBy-call g.E.Edge.state c.args.core.now c.use_parts.new.core old (g.E.Edge.state (g.E.Edge.log c.use_parts.new.edge)) (g.E.Edge.log c.args.edge.now) (g.E.Edge.log c.read_tables.new.self) c.read_tables.ensures.log (Grows-none old) c.use_parts.ensures.grows
+    let old = g.L.Log.state c.args.edge.now.log in
+    GrowsBy-call g.L.Log.state c.args.core.now c.use_parts.new.core old (g.L.Log.state c.use_parts.new.edge.log) c.args.edge.now.log c.read_tables.new.self.log c.read_tables.ensures.log (Grows-none old) c.use_parts.ensures.grows

@@ -14,12 +14,12 @@ carry_out-requires g c =
 
 pub returns-clause-makes : goal.returns-clause-makes
 returns-clause-makes g c =
-    let told = g.E.Edge.told c.args.edge.now in
-    let now_told = g.E.Edge.told c.carry_out.new.edge in
-    let log = g.E.Edge.state (g.E.Edge.log c.args.edge.now) in
-    let now_log = g.E.Edge.state (g.E.Edge.log c.carry_out.new.edge) in
-    subst (λ idle. MakesOver g.E.Edge.state told now_told log now_log (IsStepUnless c.args.strict idle) (Tracks c.args.core.now) (AndRests idle (Tracks c.carry_out.new.core))) (sym c.is_idle.ensures)
-    (Makes-stepped g.E.Edge.state c.args.strict told now_told log now_log c.args.core.now c.next-step.new.self c.carry_out.new.core c.next-step.result c.next-step.ensures.due c.next-step.ensures.fits (step_lasts c.args.core.now c.next-step.new.self c.next-step.result c.next-step.ensures.step c.next-step.ensures.state) c.carry_out.ensures.makes)
+    let told = c.args.edge.now.told in
+    let now_told = c.carry_out.new.edge.told in
+    let log = g.L.Log.state c.args.edge.now.log in
+    let now_log = g.L.Log.state c.carry_out.new.edge.log in
+    subst (λ idle. MakesOver g.L.Log.state told now_told log now_log (IsStepUnless c.args.strict idle) (Tracks c.args.core.now) (AndRests idle (Tracks c.carry_out.new.core))) (sym c.is_idle.ensures)
+    (Makes-stepped g.L.Log.state c.args.strict told now_told log now_log c.args.core.now c.next-step.new.self c.carry_out.new.core c.next-step.result c.next-step.ensures.due c.next-step.ensures.fits (step_lasts c.args.core.now c.next-step.new.self c.next-step.result c.next-step.ensures.step c.next-step.ensures.state) c.carry_out.ensures.makes)
 
 pub returns-clause-grows : goal.returns-clause-grows
 returns-clause-grows g c short =

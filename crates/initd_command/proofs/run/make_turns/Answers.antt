@@ -1,8 +1,7 @@
 use Rattle.initd_command.proofs.Words.{◌≡◌, ℕ, Bool, true, not, refl, sym, ◌∙◌, ap, subst, reverse, [], None, Served, FindsBy, JudgedBy, judged_state, Notes, NotesOf, noted_state, run_of, waiting_text, IsNoted, LogEnds, TurnsFrom, end_of, noted_of}
 use Rattle.trace_log_wrappers.specs.Notes.{Noted}
-use Rattle.host_trace.specs.Edges.{calls_of}
-use Rattle.init_stamped.specs.Stamps.{StampedState}
-use Rattle.init_stamped.proofs.Stamps.{Since-stamped, had_each, with_logs, with_logs-calls, with_logs-had, with_logs-timed}
+use Rattle.host_trace.specs.Edges.{EdgeState, calls_of}
+use Rattle.host_trace.proofs.Told.{Since-edge, had_each, with_logs, with_logs-calls, with_logs-had}
 use Rattle.init_turns.specs.Arriving.{ServesTurns}
 use Rattle.initd_command.proofs.Noted.{LedFrom, is_served, judged_still, led_fits, noted_over, served_still}
 use Rattle.initd_command.proofs.run.make_turns.Goals as goal
@@ -13,7 +12,7 @@ returns g c =
     let state = g.L.Log.state in
     let judged = c.into_parts-judged.result.0 in
     let notes = c.into_parts-judged.result.1 in
-    let began : c.new-edge.result.log ≡ c.new-noted.result = ap (λ (e : StampedState _ (Noted (JudgedBy _))). e.log) c.new-edge.ensures in
+    let began : c.new-edge.result.log ≡ c.new-noted.result = ap (λ (e : EdgeState _ (Noted (JudgedBy _))). e.log) c.new-edge.ensures in
     let first = noted_state (judged_state state) c.new-edge.result.log in
     let fresh : (state c.args.log).taken [] → first.taken [] = λ none. subst (λ (n : Noted (JudgedBy _)). (noted_state (judged_state state) n).taken []) (sym began) (c.new-noted.ensures.nothing (c.new-judged.ensures.nothing none)) in
     let wanted = subst (λ (n : Noted (JudgedBy _)). n.notes.wanted ≡ service.result) (sym began) c.new-noted.ensures.wanted in
@@ -29,7 +28,7 @@ returns g c =
       (rw c.deref.ensures at c.report_end-status.ensures.status),
       (c.ended_with-served.result, noted, refl, most, asked),
       (rw c.deref.ensures at c.report_end-status.ensures.reported),
-      λ table opens. Since-stamped g.H.Host.told c.args.host c.into_parts-host.result.0 c.new-noted.result c.new-edge.result last _ _ c.new-edge.ensures c.law_of_stamps.ensures (ap (λ (parts : _ × Noted (JudgedBy _)). parts.0) c.into_parts-host.ensures) (c.serve-core.ensures.trace service.level table opens) (λ mades all made.
+      λ table opens. Since-edge g.H.Host.told c.args.host c.into_parts-host.result.0 c.new-noted.result c.new-edge.result last _ _ c.new-edge.ensures c.law_of_calls.ensures (ap (λ (parts : _ × Noted (JudgedBy _)). parts.0) c.into_parts-host.ensures) (c.serve-core.ensures.trace service.level table opens) (λ mades made.
           let calls = calls_of mades in
           let leads = subst
           (λ (parts : JudgedBy _ × Notes). LedFrom service.level table c.serve-core.result.1.value first (record { taken = λ trace. NotesOf parts.1 (reverse trace) × (judged_state state parts.0).taken trace; failed = (state parts.0.log).failed; noted = parts.1.wanted }) calls)
@@ -56,7 +55,6 @@ returns g c =
             λ none. record {
               mades = with_logs inner mades;
               same = with_logs-calls inner mades;
-              all = λ is. with_logs-timed inner mades (all is);
               had = with_logs-had inner (noted_state (judged_state state)) state _ (λ log works. works) (λ log trace took. took.1.1) mades
                   (had_each (noted_state (judged_state state)) _ first mades (fresh none) made.3);
             },

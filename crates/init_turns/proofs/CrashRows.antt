@@ -1,5 +1,5 @@
 -- Worked crashes: `refl` computes what is left of a run whose init is killed.
-use Rattle.init_stamped.proofs.Words.{◌≡◌, drop, refl, sym, ap, subst, inl, inr, ℕ, Bool, true, false, ◌&&◌, List, [], ◌∷◌, ◌++◌, codes, Some, None, Ok, list_all, false≢true, and_parts, none-some, Entry, Goal, is_unreaped, Event, open_of, is_sound, lawful_unbroken, sound_lawful, opening_goal, Start, Look, Late, Clock, TakeBytes, Carry, Announce, Pause, Now, HostCall, trace_at, EachFront, AreTexts, UpTo, WentWell, are_carried, is_allowed, Point, has_trace, point_after, IsOpening, opening_point, Leaves, LeavesIn, is_of_idle_look}
+use Rattle.init_turns.proofs.Words.{◌≡◌, drop, refl, sym, ap, subst, inl, inr, ℕ, Bool, true, false, ◌&&◌, List, [], ◌∷◌, ◌++◌, codes, Some, None, Ok, list_all, false≢true, and_parts, none-some, Entry, Goal, is_unreaped, Event, open_of, is_sound, lawful_unbroken, sound_lawful, opening_goal, Start, Look, Late, Clock, TakeBytes, Carry, Announce, Pause, Now, HostCall, trace_at, EachFront, AreTexts, UpTo, WentWell, are_carried, is_allowed, Point, has_trace, point_after, IsOpening, opening_point, Leaves, LeavesIn, is_of_idle_look}
 use Rattle.init_words.specs.declared.actions.Act.{Act}
 use Rattle.init_words.specs.declared.actions.Act.TheVariants as act
 use Rattle.init_words.specs.declared.children.Status.TheVariants.{Exit}
@@ -10,7 +10,7 @@ use Rattle.init_words.specs.declared.orders.Answer.TheVariants.{Born, Ended}
 use Rattle.init_words.specs.declared.orders.OrderKind.TheVariants as ask
 use Rattle.init_words.specs.declared.stages.Stage.TheVariants as stage
 use Rattle.trace_events.specs.declared.happenings.Happening.TheVariants as past
-use Rattle.init_stamped.proofs.Crashes.{leaves, leaves_in}
+use Rattle.init_turns.proofs.Crashes.{leaves, leaves_in}
 
 abbrev entry : List ℕ → List Mark → Act → List ℕ → Entry
 entry id levels action process = record { id = id; levels = record { items = levels }; act = action; process = record { items = process } }

@@ -1,5 +1,5 @@
 -- What is left of a run whose init is killed at a call: the trace until then, and the children.
-use Rattle.init_stamped.proofs.Words.{arith, ◌≡◌, refl, sym, ◌∙◌, ap, subst, ◌⊎◌, inl, inr, ℕ, Bool, true, false, not, ◌==◌, cond, List, [], ◌∷◌, ◌++◌, append_assoc, Option, Some, None, Ok, Err, list_all, list_any, none-some, same_Some, option_map_or, false≢true, and_parts, or_right, Entry, Goal, Event, is_unreaped, Child, is_child, newborn, open_of, unreaped_children, is_sound, sound_lawful, opening_goal, Start, Look, Signal, Late, Clock, TakeBytes, ReadTables, Carry, Announce, Pause, Now, Later, HostCall, PartsRead, trace_at, EachFront, says_of, UpTo, WentWell, are_carried, is_allowed, Point, acted, after, announced, answered, byte_after, bytes_after, came_whole, handed_if, is_asked_for, is_last, last_birth, nudged_if, order_for, ordered, point_after, reading, calls_allowed, carried_parts, IsOpening, opening_point, IsUnderWay, Leaves, LeavesIn, is_of_idle_look, subject_of}
+use Rattle.init_turns.proofs.Words.{arith, ◌≡◌, refl, sym, ◌∙◌, ap, subst, ◌⊎◌, inl, inr, ℕ, Bool, true, false, not, ◌==◌, cond, List, [], ◌∷◌, ◌++◌, append_assoc, Option, Some, None, Ok, Err, list_all, list_any, none-some, same_Some, option_map_or, false≢true, and_parts, or_right, Entry, Goal, Event, is_unreaped, Child, is_child, newborn, open_of, unreaped_children, is_sound, sound_lawful, opening_goal, Start, Look, Signal, Late, Clock, TakeBytes, ReadTables, Carry, Announce, Pause, Now, Later, HostCall, PartsRead, trace_at, EachFront, says_of, UpTo, WentWell, are_carried, is_allowed, Point, acted, after, announced, answered, byte_after, bytes_after, came_whole, handed_if, is_asked_for, is_last, last_birth, nudged_if, order_for, ordered, point_after, reading, calls_allowed, carried_parts, IsOpening, opening_point, IsUnderWay, Leaves, LeavesIn, is_of_idle_look, subject_of}
 use Rattle.init_words.specs.declared.levels.Level.{Level}
 use Rattle.init_words.specs.declared.orders.Answer.{Answer}
 use Rattle.init_words.specs.declared.orders.Answer.TheVariants as answer

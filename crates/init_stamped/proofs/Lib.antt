@@ -1,4 +1,0 @@
-pub mod CrashRows
-pub mod Crashes
-pub mod Stamps
-pub mod Words
