@@ -1,18 +1,16 @@
 //! What is said of words of a command line that are refused.
 
-ghost use Rattle.std.specs.Prelude.{◌≡◌, ◌≢◌, ◌↔◌, IfSome, IsSome, IsTrue, OnOk, OnErr};
-ghost use Rattle.std.specs.Io.KnownBytes.{Appends};
+ghost use Rattle.std.specs.Prelude.{◌≡◌, ◌≢◌, ◌↔◌, IfSome, IsSome, IsTrue};
 ghost use Rattle.clap.specs.Words.{kind_of};
 ghost use Rattle.program_io.specs.Arguments.{no_memory_text};
 ghost use Rattle.program_io.specs.Writing.{AppendsPrefix};
-ghost use Rattle.command_words.specs.Faults.{reason_line, reason_of, usage_report};
+ghost use Rattle.command_words.specs.Faults.{reason_of, usage_report};
 ghost use Rattle.command_words.specs.declared.faults.WordFault.TheVariants.{Memory};
 
 use clap::Error;
 use clap::error::ErrorKind;
-use program_io::{DEVICE_FAULT, REFUSED, report_no_memory, report_usage, write_text};
+use program_io::{DEVICE_FAULT, REFUSED, report_no_memory, report_usage, write_texts};
 use std::alloc::{AllocError, Global};
-use std::io;
 use std::io::Write;
 
 /// Why words were not read.
@@ -160,21 +158,6 @@ pub fn report_refused_words<E: Write>(
     if reason.is_empty() {
         return report_usage(whole, err);
     }
-    match write_reason(name, reason, err) {
-        Ok(()) => report_usage(short, err),
-        Err(_) => REFUSED,
-    }
-}
-
-/// Writes the line of a reason.
-fn write_reason<E: Write>(name: &str, reason: &str, err: &mut E) -> io::Result<()>
-    ensures ok { OnOk result (Appends (E.contents err.old) (E.contents err.new)
-        (reason_line name.now reason.now)) }
-    ensures err { OnErr result (AppendsPrefix (E.contents err.old) (E.contents err.new)
-        (reason_line name.now reason.now)) }
-{
-    write_text(err, name.as_bytes())?;
-    write_text(err, b": ")?;
-    write_text(err, reason.as_bytes())?;
-    write_text(err, b"\n")
+    let _ = write_texts(err, &[name, ": ", reason, "\n", short]);
+    REFUSED
 }

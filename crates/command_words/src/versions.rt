@@ -1,12 +1,11 @@
 //! The version of the programs, and the line that says it.
 
-ghost use Rattle.std.specs.Prelude.{◌≡◌, ◌⊎◌, true, OnOk, OnErr};
+ghost use Rattle.std.specs.Prelude.{◌≡◌, ◌⊎◌, true};
 ghost use Rattle.std.specs.Io.KnownBytes.{Appends};
 ghost use Rattle.program_io.specs.Writing.{AppendsPrefix};
 ghost use Rattle.command_words.specs.VersionLine.{PrintsVersion, version_line};
 
-use program_io::{DEVICE_FAULT, DONE, write_text};
-use std::io;
+use program_io::{DEVICE_FAULT, DONE, write_texts};
 use std::io::Write;
 
 /// The version of the programs.
@@ -22,10 +21,7 @@ pub fn write_version<W: Write>(name: &str, out: &mut W) -> bool
     ensures part { AppendsPrefix (W.contents out.old) (W.contents out.new)
         (version_line name.now) }
 {
-    match write_line(name, out) {
-        Ok(()) => out.flush().is_ok(),
-        Err(_) => false,
-    }
+    write_texts(out, &[name, " ", VERSION, " (", KIT, ")\n"]).is_ok() && out.flush().is_ok()
 }
 
 /// Writes the line of the version on `out`, and gives the exit status: 0, or 4 where it was not written whole, which is
@@ -40,18 +36,4 @@ pub fn print_version<W: Write, E: Write>(name: &str, out: &mut W, err: &mut E) -
     }
     let _ = writeln!(err, "{name}: cannot write");
     DEVICE_FAULT
-}
-
-fn write_line<W: Write>(name: &str, out: &mut W) -> io::Result<()>
-    ensures ok { OnOk result (Appends (W.contents out.old) (W.contents out.new)
-        (version_line name.now)) }
-    ensures err { OnErr result (AppendsPrefix (W.contents out.old) (W.contents out.new)
-        (version_line name.now)) }
-{
-    write_text(out, name.as_bytes())?;
-    write_text(out, b" ")?;
-    write_text(out, VERSION.as_bytes())?;
-    write_text(out, b" (")?;
-    write_text(out, KIT.as_bytes())?;
-    write_text(out, b")\n")
 }

@@ -1,6 +1,8 @@
 -- What the writes of a text leave, one after the other.
-use Rattle.std.proofs.Common.{◌++◌, ◌∙◌, ap, [], append-nil, append_assoc, Result, Ok, Err, OnOk, OnErr, ℕ, ◌+◌, ◌<◌, List, Option, length, take, drop, arith, sym, subst, take-append-drop, length-drop}
+use Rattle.std.proofs.Common.{◌≡◌, ◌++◌, ◌∙◌, ap, [], append-nil, append_assoc, Result, Ok, Err, OnOk, OnErr, ℕ, ◌+◌, ◌<◌, List, Option, length, take, drop, arith, sym, subst, take-append-drop, length-append, length-drop, flat_map, get_or}
 use Rattle.std.proofs.Math.Seq.{take-add}
+use Rattle.std.proofs.lemmas.List.{at_drop_more}
+use Rattle.std.proofs.lemmas.List.Concat.{flat_map-append}
 use Rattle.std.proofs.KnownBytes.{Appends-trans}
 use Rattle.std.specs.Io.KnownBytes.{Appends}
 use Rattle.program_io.specs.Writing.{AppendsFront, AppendsPrefix}
@@ -68,3 +70,13 @@ front_err (Err error) old new text now = AppendsFront-prefix old new text now
 -- a write that stops in its text, with more to come
 pub stops : (old new : Option (List ℕ)) (text rest : List ℕ) → AppendsFront old new text → AppendsPrefix old new (text ++ rest)
 stops old new text rest some = AppendsPrefix-first old new text rest (AppendsFront-prefix old new text some)
+
+-- a write that stops in one of several texts, behind those before it
+pub stops_within : {X : Type 0} (f : X → List ℕ) (texts : List X) (i : ℕ) (d : X) (old mid new : Option (List ℕ)) → i < length texts
+    → Appends old mid (flat_map f (take i texts)) → AppendsFront mid new (f (get_or texts i d)) → AppendsFront old new (flat_map f texts)
+stops_within f texts i d old mid new within whole (front, rest, joined, written, some) =
+    let before = flat_map f (take i texts) in
+    let after = flat_map f (drop (i + 1) texts) in
+    let parts : flat_map f texts ≡ before ++ (f (get_or texts i d) ++ after) =
+    ap (flat_map f) (sym (take-append-drop i texts)) ∙ flat_map-append f (take i texts) (drop i texts) ∙ ap (λ text. before ++ text) (at_drop_more (flat_map f) texts i d within) in
+    (before ++ front, rest ++ after, rw (parts, ← joined) (simp append_assoc), Appends-trans old mid new before front whole written, omega (arith, length-append rest after, some))

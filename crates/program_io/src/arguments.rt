@@ -6,7 +6,7 @@ ghost use Rattle.program_io.specs.Arguments.{no_memory_text, only_byte};
 ghost use Rattle.program_io.specs.Writing.{AppendsPrefix};
 
 use crate::statuses::{DEVICE_FAULT, REFUSED};
-use crate::writing::write_text;
+use crate::writing::{write_text, write_texts};
 use std::alloc::Global;
 use std::env::Env;
 use std::io::{ErrorKind, Write};
@@ -67,13 +67,12 @@ pub fn report_usage<E: Write>(usage: &str, err: &mut E) -> u8
 
 /// Reports that memory ran out before anything was written, by as much of the text as `err` takes, and gives the
 /// status.
+#[tactic(auto, unfolding(crate::specs::Arguments::no_memory_text))]
 pub fn report_no_memory<E: Write>(name: &str, err: &mut E) -> u8
     ensures status { result ≡ DEVICE_FAULT }
     ensures report { AppendsPrefix (E.contents err.old) (E.contents err.new)
         (no_memory_text name.now) }
 {
-    if let Ok(()) = write_text(err, name.as_bytes()) {
-        let _ = write_text(err, NO_MEMORY.as_bytes());
-    }
+    let _ = write_texts(err, &[name, NO_MEMORY]);
     DEVICE_FAULT
 }

@@ -25,4 +25,4 @@ pub use standard::StandardFiles;
 pub use statuses::{DEVICE_FAULT, DONE, LIMIT_REACHED, REFUSED, UNLAWFUL};
 pub use takers::{PIECE_LIMIT, PIECES_LIMIT, PieceTaker, hand_over};
 pub use texts::Texts;
-pub use writing::write_text;
+pub use writing::{write_text, write_texts};

@@ -1,8 +1,8 @@
-//! A text, written whole.
+//! Texts, written whole.
 
-ghost use Rattle.std.specs.Prelude.{OnOk, OnErr};
+ghost use Rattle.std.specs.Prelude.{OnOk, OnErr, flat_map};
 ghost use Rattle.std.specs.Io.KnownBytes.{Appends};
-ghost use Rattle.program_io.specs.Writing.{AppendsFront};
+ghost use Rattle.program_io.specs.Writing.{AppendsFront, AppendsPrefix};
 
 use std::io;
 use std::io::{ErrorKind, Write};
@@ -20,6 +20,21 @@ pub fn write_text<W: Write>(out: &mut W, text: &[u8]) -> io::Result<()>
             Ok(taken) => done += taken,
             Err(error) => return Err(error),
         }
+    }
+    Ok(())
+}
+
+/// Writes texts, one after the other, as `write_text` writes one.
+pub fn write_texts<W: Write>(out: &mut W, texts: &[&str]) -> io::Result<()>
+    ensures ok { OnOk result (Appends (W.contents out.old) (W.contents out.new)
+        (flat_map (λ text. text.now) texts.now)) }
+    ensures err { OnErr result (AppendsFront (W.contents out.old) (W.contents out.new)
+        (flat_map (λ text. text.now) texts.now)) }
+    ensures part { AppendsPrefix (W.contents out.old) (W.contents out.new)
+        (flat_map (λ text. text.now) texts.now) }
+{
+    for text in texts {
+        write_text(out, text.as_bytes())?;
     }
     Ok(())
 }
