@@ -1,7 +1,7 @@
 //! What init says of what it did.
 
 ghost use Rattle.std.specs.Prelude.{◌≡◌, ◌++◌, IfOk};
-ghost use Rattle.host_messages.specs.Announced.{announcement, handed_over};
+ghost use Rattle.host_messages.specs.Announced.{announcement};
 
 use init_words::{Memory, Stage};
 use std::alloc::Allocator;
@@ -34,17 +34,9 @@ pub fn announcement_text<A: Allocator, B: Allocator>(
             b"\" respawning too fast: disabled for 5 minutes\n",
         ),
         Happening::NotRead => joined(alloc, b"initd: inittab not read\n", b"", b""),
-        Happening::Handed(how) => handed_over(alloc, *how),
+        Happening::Handed(Handed::Whole) => Ok(Vec::new(alloc)),
+        Happening::Handed(_) => joined(alloc, b"initd: re-execution refused\n", b"", b""),
         _ => Ok(Vec::new(alloc)),
-    }
-}
-
-fn handed_over<A: Allocator>(alloc: A, how: Handed) -> Result<Vec<u8, A>, Memory>
-    ensures { IfOk result (λ text. text.items ≡ handed_over how) }
-{
-    match how {
-        Handed::Whole => Ok(Vec::new(alloc)),
-        _ => joined(alloc, b"initd: re-execution refused\n", b"", b""),
     }
 }
 
