@@ -4,19 +4,18 @@ ghost use Rattle.std.specs.Prelude.{◌≡◌, false};
 
 /// How long the pauses of a host are.
 #[derive(Clone, Copy)]
-pub enum Pace<'a> {
+pub enum Pace {
     /// A second each.
     Second,
     /// A tenth of the time since the child that is waited for was born or sent a signal, a ten-thousandth of a second to a
     /// second.
     Tenth,
-    /// At most this length in seconds, a decimal of 0.01 to 60 with at most two digits after the point; any other text
-    /// stands for a second each. Since the last pause a child may have been born or reaped, a signal sent or bytes taken:
-    /// then the next one lasts a thousandth of the length, or less where there are few children: two millionths of a
-    /// second a child, and at least a hundred. Else it lasts twice as long as the last, but no longer than the length;
+    /// At most so many hundredths of a second. Since the last pause a child may have been born or reaped, a signal sent or
+    /// bytes taken: then the next one lasts a thousandth of that, or less where there are few children: two millionths of
+    /// a second a child, and at least a hundred. Else it lasts twice as long as the last, but no longer than the longest;
     /// where there are children and pauses go by cost, no longer than two thousand times what the last turn took either,
     /// and that is taken for a tenth of a second at least.
-    UpTo { length: &'a str, by_cost: bool },
+    UpTo { hundredths: u64, by_cost: bool },
 }
 
 /// The paths of a host, and what it does besides.
@@ -40,7 +39,7 @@ pub struct HostOptions<'a> {
     /// in the log that there is none and ends with a status. Where a log can't be opened that is told, and the child is
     /// started as without logs.
     pub logs: Option<&'a str>,
-    pub pace: Pace<'a>,
+    pub pace: Pace,
     /// It makes its bell first, by mkfifo(1), where nothing stands at the bell's path. One that can't be made is told,
     /// and gone on without.
     pub bell: bool,

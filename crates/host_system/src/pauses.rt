@@ -5,10 +5,6 @@ use host_calls::Reply;
 use init_words::Answer;
 use std::rt::Clock;
 use std::time::Instant;
-use text_lines::{cut, read_below};
-
-/// The longest pause that may be asked for, in hundredths of a second.
-const PAUSE_LIMIT: u64 = 6_000;
 
 /// The microseconds of a hundredth of a second.
 const HUNDREDTH: u64 = 10_000;
@@ -63,22 +59,17 @@ impl Pauses {
                 pauses.next = SHORT;
                 pauses.passed = Some(0);
             }
-            Pace::UpTo { length, by_cost } => pauses.grow_to(length, by_cost),
+            Pace::UpTo {
+                hundredths,
+                by_cost,
+            } => {
+                pauses.longest = hundredths.saturating_mul(HUNDREDTH);
+                pauses.shortest = pauses.longest / 1_000;
+                pauses.next = pauses.shortest;
+                pauses.by_cost = by_cost;
+            }
         }
         pauses
-    }
-
-    /// Lets pauses grow up to this length, where it is one.
-    fn grow_to(&mut self, length: &str, by_cost: bool) {
-        let Some(hundredths) = read_hundredths(length.as_bytes()) else {
-            return;
-        };
-        if 0 < hundredths && hundredths <= PAUSE_LIMIT {
-            self.longest = hundredths.saturating_mul(HUNDREDTH);
-            self.shortest = self.longest / 1_000;
-            self.next = self.shortest;
-            self.by_cost = by_cost;
-        }
     }
 
     /// Notes whether something happened.
@@ -150,17 +141,4 @@ pub(crate) fn has_stirred(reply: &Reply) -> bool {
         reply,
         Reply::Now(Answer::Born(_) | Answer::Ended(_) | Answer::Hit)
     )
-}
-
-/// The hundredths of a second of a decimal of at most two digits after the point.
-fn read_hundredths(word: &[u8]) -> Option<u64> {
-    let (whole, part) = match cut(b'.', word) {
-        Some((whole, [tenth])) => (whole, read_below(&[*tenth], 10)?.saturating_mul(10)),
-        Some((whole, [b'0', hundredth])) => (whole, read_below(&[*hundredth], 10)?),
-        Some((whole, part)) if part.len() == 2 => (whole, read_below(part, 100)?),
-        Some(_) => return None,
-        None => (word, 0),
-    };
-    let seconds = read_below(whole, 61)?;
-    Some(seconds.saturating_mul(100).saturating_add(part))
 }

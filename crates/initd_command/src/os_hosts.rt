@@ -100,7 +100,7 @@ where
     ensures { IfOk result (λ host. host ≡ host_said (run_of said.now)) }
 {
     let pace = Pace::UpTo {
-        length: said.pause.as_str(),
+        hundredths: said.pause,
         by_cost: !writes_looks(said),
     };
     let options = HostOptions {

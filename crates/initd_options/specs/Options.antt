@@ -56,38 +56,27 @@ part_read (tenth ∷ hundredth ∷ []) =
     option_and_then (λ t. option_map (λ h. t * 10 + h) (digit_read hundredth)) (digit_read tenth)
 part_read _ = None
 
+-- the number in front of a point, at most the longest pause; 0 where nothing is
+abbrev pub whole_read : List ℕ → Option ℕ
+whole_read [] = Some 0
+whole_read digits = number_read (PAUSE_SECONDS + 1) digits
+
 -- the hundredths of a decimal number whose whole part is at most the longest pause
 abbrev pub hundredths_in : List ℕ → Option (List ℕ × List ℕ) → Option ℕ
 hundredths_in word None = option_map (λ whole. whole * 100) (number_read (PAUSE_SECONDS + 1) word)
 hundredths_in word (Some parts) =
-    option_and_then (λ whole. option_map (λ part. whole * 100 + part) (part_read parts.1))
-    (number_read (PAUSE_SECONDS + 1) parts.0)
+    option_and_then (λ whole. option_map (λ part. whole * 100 + part) (part_read parts.1)) (whole_read parts.0)
 
 abbrev pub hundredths_read : List ℕ → Option ℕ
 hundredths_read word = hundredths_in word (cut 46 word)
 
--- a length of 0.01 seconds to the longest pause
-abbrev pub is_length : Option ℕ → Bool
-is_length None = false
-is_length (Some hundredths) = nat_lt 0 hundredths && nat_le hundredths PAUSE_LIMIT
+-- the hundredths of a decimal number of seconds, 0.01 to the longest pause
+abbrev pub pause_read : Text → Option ℕ
+pause_read word = option_and_then
+    (λ length. if nat_lt 0 length && nat_le length PAUSE_LIMIT then Some length else None) (hundredths_read word)
 
--- a decimal number of seconds, 0.01 to 60
-abbrev pub is_pause : Text → Bool
-is_pause word = is_length (hundredths_read word)
-
--- a word that begins with a point
-abbrev pub begins_with_point : Text → Bool
-begins_with_point [] = false
-begins_with_point (byte ∷ word) = byte == 46
-
--- a decimal number, with a 0 in front of its point where nothing is
-abbrev pub with_whole : Text → Text
-with_whole word = if begins_with_point word then codes "0" ++ word else word
-
-abbrev pub pause_said : List Row → Option Text
-pause_said rows =
-    let word = with_whole (value_said (codes "--pause") rows) in
-    if is_pause word then Some word else None
+abbrev pub pause_said : List Row → Option ℕ
+pause_said rows = pause_read (value_said (codes "--pause") rows)
 
 -- the entry whose last status is the run's, if one is given; nothing where it is no id
 abbrev pub result_in : Option Text → Option (Option (List ℕ))
@@ -150,7 +139,7 @@ pub record RunSaid : Type 0 where
   pub level : Option Level
   pub turns : ℕ
   pub drain : Bool
-  pub pause : Text
+  pub pause : ℕ
   pub result : Option (List ℕ)
   pub verbose : Bool
   pub logs : Option Text
@@ -172,7 +161,7 @@ run_of said = record {
   level = said.level;
   turns = said.turns;
   drain = said.drain;
-  pause = string_bytes said.pause;
+  pause = said.pause;
   result = said.result;
   verbose = said.verbose;
   logs = option_map (λ (path : _). string_bytes path) said.logs;
@@ -182,7 +171,7 @@ run_of said = record {
 }
 
 -- what the words say, with these values of the options that may be refused
-abbrev pub service_with : List Row → Option Level → ℕ → Text → Option (List ℕ) → Bool → Option ℕ → RunSaid
+abbrev pub service_with : List Row → Option Level → ℕ → ℕ → Option (List ℕ) → Bool → Option ℕ → RunSaid
 service_with rows level turns pause result brief size = record {
   inittab = value_said (codes "--inittab") rows;
   inittab_dir = first_of (codes "--inittab-dir") rows;

@@ -1,15 +1,15 @@
 //! The options of `initd run`, and what their words may be.
 
-ghost use Rattle.std.specs.Prelude.{◌≡◌, ◌<◌, ◌≤◌, string_bytes, IfErr, IfOk, IfSome, IsSome, None, Some};
+ghost use Rattle.std.specs.Prelude.{◌≡◌, ◌<◌, ◌≤◌, IfErr, IfOk, IfSome, IsSome, None, Some};
 ghost use Rattle.clap.specs.Words.{found_of, rows_of};
 ghost use Rattle.command_words.specs.Faults.{reason_of};
-ghost use Rattle.initd_options.specs.Options.{brief_said, digit_read, hundredths_read, is_pause, level_said, level_word_read, part_read, pause_said, result_said, run_of, run_said, size_given, size_read, turns_read, turns_said, units_read, with_whole, without_zeros};
+ghost use Rattle.initd_options.specs.Options.{brief_said, digit_read, hundredths_read, level_said, level_word_read, part_read, pause_read, pause_said, result_said, run_of, run_said, size_given, size_read, turns_read, turns_said, units_read, whole_read, without_zeros};
 
 use clap::ArgMatches;
 use command_words::{Row, WordFault, checked, is_set, read_path, refused, value_of, word_of};
 use init_words::{Id, Level};
 use program_io::only_byte;
-use std::alloc::{AllocError, Global};
+use std::alloc::Global;
 use text_lines::{cut, read_below, read_number};
 
 /// What a command line of `initd run` says.
@@ -39,8 +39,8 @@ pub struct RunWords {
     pub turns: u64,
     /// It ends where nothing is left to do and nothing runs.
     pub drain: bool,
-    /// The seconds of a pause, as sleep(1) takes them.
-    pub pause: String,
+    /// The longest pause, in hundredths of a second, 1 to 6,000.
+    pub pause: u64,
     /// The entry whose last status is the run's, where one is given.
     pub result: Option<Id>,
     /// Each start and each end of a child is told.
@@ -111,7 +111,7 @@ pub(crate) fn read_matches(alloc: Global, matches: &ArgMatches) -> Result<RunWor
 {
     let level = read_level_option(alloc, matches)?;
     let turns = read_turns_option(alloc, matches)?;
-    let pause = read_pause(alloc, matches)?;
+    let pause = read_pause_option(alloc, matches)?;
     let result = read_result(alloc, matches)?;
     let brief = read_brief(alloc, matches)?;
     let trace_size = read_trace_size(alloc, matches)?;
@@ -202,38 +202,32 @@ fn read_turns(word: &str) -> Option<u64>
     if turns > 0 { Some(turns) } else { None }
 }
 
-/// The seconds of a pause, as they are written, but for a point in front.
-fn read_pause(alloc: Global, matches: &ArgMatches) -> Result<String, WordFault>
+/// The longest pause, in hundredths of a second.
+fn read_pause_option(alloc: Global, matches: &ArgMatches) -> Result<u64, WordFault>
     ensures ok { IfOk result (λ pause.
-        pause_said (rows_of (found_of matches.now)) ≡ Some (string_bytes pause)) }
+        pause_said (rows_of (found_of matches.now)) ≡ Some pause) }
     ensures usage { IfErr result (λ fault. IsSome (reason_of fault)
         → pause_said (rows_of (found_of matches.now)) ≡ None) }
 {
-    let given = value_of(matches, "--pause");
-    let word = with_whole(alloc, given)?;
-    if !is_pause(word.as_str()) {
-        return Err(refused(alloc, "--pause", given, "not 0.01 to 60 seconds"));
-    }
-    Ok(word)
+    let word = value_of(matches, "--pause");
+    checked(
+        alloc,
+        "--pause",
+        word,
+        read_pause(word.as_bytes()),
+        "not 0.01 to 60 seconds",
+    )
 }
 
-/// A decimal number, with a 0 in front of its point where nothing is.
-fn with_whole(alloc: Global, word: &str) -> Result<String, AllocError>
-    ensures { IfOk result (λ text. string_bytes text ≡ with_whole word.now) }
+/// The hundredths of a decimal number of seconds, 0.01 to 60, with at most two digits after a point.
+fn read_pause(word: &[u8]) -> Option<u64>
+    ensures { result ≡ pause_read word.now }
 {
-    match word.as_bytes() {
-        [b'.', ..] => format!(in alloc; "0{word}"),
-        _ => String::from_str(alloc, word),
-    }
-}
-
-/// The word is a decimal number of seconds, 0.01 to 60, with at most two digits after a point.
-fn is_pause(word: &str) -> bool
-    ensures { result ≡ is_pause word.now }
-{
-    match read_hundredths(word.as_bytes()) {
-        Some(length) => 0 < length && length <= PAUSE_LIMIT,
-        None => false,
+    let length = read_hundredths(word)?;
+    if 0 < length && length <= PAUSE_LIMIT {
+        Some(length)
+    } else {
+        None
     }
 }
 
@@ -244,8 +238,19 @@ fn read_hundredths(word: &[u8]) -> Option<u64>
     let Some((whole, part)) = cut(b'.', word) else {
         return Some(read_below(word, PAUSE_SECONDS + 1)? * 100);
     };
-    let seconds = read_below(whole, PAUSE_SECONDS + 1)?;
+    let seconds = read_whole(whole)?;
     Some(seconds * 100 + read_part(part)?)
+}
+
+/// The number in front of a point, 0 where nothing is.
+fn read_whole(digits: &[u8]) -> Option<u64>
+    ensures bound { IfSome result (λ whole. whole ≤ 60) }
+    ensures value { result ≡ whole_read digits.now }
+{
+    match digits {
+        [] => Some(0),
+        _ => read_below(digits, PAUSE_SECONDS + 1),
+    }
 }
 
 /// The hundredths of one or two digits after a point.

@@ -23,8 +23,8 @@ pub(crate) type Paths = (
 /// A host over the system that the tests run on.
 pub(crate) type SystemHost<A> = OsHost<HostRuntime, A>;
 
-/// A host of these paths: that passes over what stands in its channel, tells of its children, has logs, or pauses of this
-/// length; none of these where nothing is said.
+/// A host of these paths: that passes over what stands in its channel, tells of its children, has logs, or pauses by what
+/// a turn costs; none of these where nothing is said.
 pub(crate) fn host_of<A: Allocator + Copy>(
     rt: &HostRuntime,
     alloc: A,
@@ -34,8 +34,8 @@ pub(crate) fn host_of<A: Allocator + Copy>(
     let (inittab, channel, state, folder) = paths;
     let pace = match kind {
         "" | "fresh" | "verbose" | "logs" => Pace::Second,
-        length => Pace::UpTo {
-            length,
+        _ => Pace::UpTo {
+            hundredths: 1,
             by_cost: true,
         },
     };

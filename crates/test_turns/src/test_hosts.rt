@@ -24,16 +24,14 @@ const PATHS: Paths = ("a.tab", "a.ctl", "a.state", None);
 
 const LIVES: &[Life] = &[
     // There is no child, processes that no inittab has, of no word and not UTF-8, and a child beside another. A pause is
-    // no fault; where this is no length, the pauses are as they were.
+    // no fault.
     (
         PATHS,
-        "x",
+        "paced",
         "look = nolook / term = miss / kill = miss / late / faults 3 / \
          start = nobirth / start  \t = nobirth / unread = nobirth / faults 6 / \
          start sleep 60 = birth / start true = nobirth / look = still / kill = hit / faults 7 / pause / faults 7",
     ),
-    // A length past the range is none.
-    (PATHS, "0.001", "faults 0"),
     // Files that fail are faults.
     (
         ("f.tab", ".", "f.none/state", None),
