@@ -1,7 +1,6 @@
 pub mod Awaited
 pub mod Lining
 pub mod Reasons
-pub mod Seeing
 pub mod SeenTexts
 pub mod Sights
 pub mod Stands

@@ -19,7 +19,7 @@ pub use Rattle.init_words.specs.declared.stages.Stage.{Stage}
 pub use Rattle.trace_text.specs.Lines.{trace_text, event_text}
 pub use Rattle.trace_check.specs.State.{at}
 pub use Rattle.trace_verdict.specs.Readers.{capped, Reading, ReadsNext}
-pub use Rattle.trace_view.specs.LastLines.{LinesState, Lined, line_after, kinds_after, kinds_of, names, born_in, early_in, early_line, unborn_in, reaped_in, ordered_in, held_in, last_of, is_table, line_behind, line_at_fault}
+pub use Rattle.trace_view.specs.LastLines.{LinesState, Lined, line_after, kinds_of, names, born_in, early_in, early_line, unborn_in, reaped_in, ordered_in, held_in, last_of, is_table, line_behind, line_at_fault}
 pub use Rattle.trace_view.specs.Views.{TextState, IsAt, HasSeen, StopsBy, AtBy, TakenBy, ViewGoesOn, SeesStop, left_of, may_be, seen_by}
 pub use Rattle.std.proofs.lemmas.Bool.{and_parts, not-true, eqb-true}
 pub use Rattle.init_words.specs.declared.actions.Act.{Act}
@@ -34,12 +34,12 @@ pub use Rattle.trace_view.specs.declared.standings.Excluded.{Excluded}
 pub use Rattle.trace_view.specs.declared.standings.Standing.{Standing}
 pub use Rattle.trace_view.specs.declared.wishes.Wish.{Wish}
 pub use Rattle.trace_view.specs.declared.whys.Why.TheVariants.{NoEntry, WindowFull, Nothing, RanBefore, StageOver, OtherStage, ChildKept, NotCalled, WasStarted}
-pub use Rattle.trace_view.specs.Wishes.{first_of, first_wish, wishes_of, wishes_after, first_wish_in}
+pub use Rattle.trace_view.specs.Wishes.{first_of, first_wish, wishes_of, first_wish_in}
 pub use Rattle.trace_check.specs.Judging.{Judged, TakesNext}
 pub use Rattle.trace_view.specs.Births.{births_of, early_children, ran_early, is_born_as}
-pub use Rattle.trace_view.specs.Calls.{calls_of, calls_after, was_named, is_named_by}
-pub use Rattle.trace_view.specs.Rows.{ended_of, born_after, ended_after, row_of, settled_in}
-pub use Rattle.trace_view.specs.Viewing.{ViewState, Viewed, unreaped_after, early_after, kept_after, is_excluded_by}
+pub use Rattle.trace_view.specs.Calls.{calls_of, was_named, is_named_by}
+pub use Rattle.trace_view.specs.Rows.{ended_of, row_of, settled_in}
+pub use Rattle.trace_view.specs.Viewing.{ViewState, Viewed, is_excluded_by}
 pub use Rattle.trace_text.proofs.ReadTexts.{trace_text-push, are_in_range-push, shorter}
 pub use Rattle.trace_check.specs.Laws.{law_number}
 pub use Rattle.trace_verdict.specs.Fronts.{BeginsNever, line_left}

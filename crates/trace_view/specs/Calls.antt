@@ -43,29 +43,3 @@ is_named_by e calls =
 
 abbrev pub was_named : Entry → List Event → Bool
 was_named e past = is_named_by e (calls_of past)
-
--- what a happening makes of them
-abbrev pub no_calls : Calls
-no_calls = record { fail = false; fail_now = false; ok = false; a = false; b = false; c = false }
-
-abbrev pub called_for_after : PowerKind → Event → Bool → Bool
-called_for_after kind (Enter stage grace) before = false
-called_for_after kind (NewTable table) before = false
-called_for_after kind (Power k) before = same_power kind k || before
-called_for_after kind _ before = before
-
-abbrev pub lettered_after : Letter → Event → Bool → Bool
-lettered_after letter (Enter stage grace) before = false
-lettered_after letter (NewTable table) before = false
-lettered_after letter (Call l) before = same_letter letter l || before
-lettered_after letter _ before = before
-
-abbrev pub calls_after : Event → Calls → Calls
-calls_after happening calls = record {
-  fail = called_for_after power.Fail happening calls.fail;
-  fail_now = called_for_after power.FailNow happening calls.fail_now;
-  ok = called_for_after power.Ok happening calls.ok;
-  a = lettered_after letter.A happening calls.a;
-  b = lettered_after letter.B happening calls.b;
-  c = lettered_after letter.C happening calls.c;
-}

@@ -133,7 +133,7 @@ line_at_fault id (why.Held since) past = last_of held_in id past
 line_at_fault id why.WindowFull past = later (last_of born_in id past) (last_of unborn_in id past)
 line_at_fault id why.Nothing past = None
 
--- the lines of the kinds that are about no id, as the past has them; and what a happening at a line makes of them
+-- the lines of the kinds that are about no id, as the past has them
 abbrev pub kinds_of : List Event → KindLines
 kinds_of past = record {
   table = last_line is_table past;
@@ -142,19 +142,6 @@ kinds_of past = record {
   reread = reread_line past;
   goal = last_line is_goal past;
   news = last_line is_news past;
-}
-
-abbrev pub no_kinds : KindLines
-no_kinds = record { table = None; entering = None; reexec = None; reread = None; goal = None; news = None }
-
-abbrev pub kinds_after : Option Stage → ℕ → Event → KindLines → KindLines
-kinds_after stage line happening kinds = record {
-  table = line_after (is_table happening) line kinds.table;
-  entering = line_after (is_entering happening) line kinds.entering;
-  reexec = line_after (is_reexec happening) line kinds.reexec;
-  reread = line_after (is_reread stage happening) line kinds.reread;
-  goal = line_after (is_goal happening) line kinds.goal;
-  news = line_after (is_news happening) line kinds.news;
 }
 
 -- what is kept of the lines

@@ -1,10 +1,9 @@
 -- What is told of an id: its action, why it isn't started next, its child, and how it last ended.
 use Rattle.std.specs.Prelude.{ℕ, Bool, if◌then◌else◌, false, List, [], ◌∷◌, map, filter, Option, Some, None, is_none}
 use Rattle.std.specs.Option.{option_map, option_map_or}
-use Rattle.trace_view.specs.Words.{Entry, Stage, Run, same_id, entry_of, act_of, Birth, NoBirth, Reaped, Event, table_of, stage_of, time_of, Child, open_of, unreaped_children, is_excluded, is_settled, child_of, term_of}
+use Rattle.trace_view.specs.Words.{Entry, Stage, Run, same_id, entry_of, act_of, NoBirth, Reaped, Event, table_of, stage_of, time_of, Child, open_of, unreaped_children, is_excluded, is_settled, child_of, term_of}
 use Rattle.init_words.specs.declared.children.Status.{Status}
-use Rattle.trace_view.specs.declared.rows.Births.{Births}
-use Rattle.trace_view.specs.Births.{births_of, one_more}
+use Rattle.trace_view.specs.Births.{births_of}
 use Rattle.trace_view.specs.declared.rows.Ending.{Ending}
 use Rattle.trace_view.specs.declared.rows.Row.{Row}
 use Rattle.trace_view.specs.Why.{number_of, why}
@@ -50,13 +49,3 @@ id_of child = child.id
 
 abbrev pub gone_ids : List Entry → List Child → List (List ℕ)
 gone_ids table children = map id_of (filter (is_gone table) children)
-
--- what a happening makes of what is kept of an id, where the time is in force after it
-abbrev pub born_after : ℕ → Event → List ℕ → Option Births → Option Births
-born_after time (Birth i number) id before = if same_id id i then Some (one_more time before) else before
-born_after time _ id before = before
-
-abbrev pub ended_after : ℕ → Event → List ℕ → Option Ending → Option Ending
-ended_after time (NoBirth i) id before = if same_id id i then ended_at time None else before
-ended_after time (Reaped i number status) id before = if same_id id i then ended_at time (Some status) else before
-ended_after time _ id before = before

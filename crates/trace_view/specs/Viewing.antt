@@ -1,15 +1,15 @@
 -- A view of a trace: what it keeps, and which pasts it has seen.
-use Rattle.std.specs.Prelude.{◌≡◌, ℕ, Bool, not, List, [], ◌∷◌, ◌++◌, filter, Option, Some, None}
-use Rattle.trace_view.specs.Words.{Entry, Stage, entry_of, act_of, Birth, Reaped, Told, Event, Child, is_of, is_child, unreaped_children, kept_children, may_live, Law, at}
+use Rattle.std.specs.Prelude.{◌≡◌, ℕ, Bool, not, List, [], ◌∷◌, Option, Some, None}
+use Rattle.trace_view.specs.Words.{Entry, Stage, entry_of, act_of, Event, Child, unreaped_children, kept_children, may_live, Law, at}
 use Rattle.trace_check.specs.Judging.{Judging, Judged, unjudged}
 use Rattle.trace_view.specs.declared.calls.Calls.{Calls}
 use Rattle.trace_view.specs.declared.wishes.Wishes.{Wishes}
 use Rattle.trace_view.specs.declared.rows.Births.{Births}
 use Rattle.trace_view.specs.declared.rows.Ending.{Ending}
-use Rattle.trace_view.specs.Births.{births_of, early_children, or_early}
-use Rattle.trace_view.specs.Calls.{calls_of, no_calls}
+use Rattle.trace_view.specs.Births.{births_of, early_children}
+use Rattle.trace_view.specs.Calls.{calls_of}
 use Rattle.trace_view.specs.Rows.{ended_of}
-use Rattle.trace_view.specs.Wishes.{wishes_of, no_wishes}
+use Rattle.trace_view.specs.Wishes.{wishes_of}
 
 -- the judge, the unreaped and the kept children, the youngest first, the wishes, what called entries, how often each
 -- id's children were born and when, those that were born before the first level, and how each id last ended
@@ -29,8 +29,8 @@ unviewed = record {
   judging = unjudged;
   unreaped = [];
   kept = [];
-  wishes = no_wishes;
-  calls = no_calls;
+  wishes = wishes_of [];
+  calls = calls_of [];
   births = [];
   early = [];
   ends = [];
@@ -52,24 +52,9 @@ abbrev pub SeesNext : Option Law → ViewState → ViewState → Event → Type 
 SeesNext None old new happening = (past : List Event) → Viewed old past → Viewed new (happening ∷ past)
 SeesNext (Some law) old new happening = new ≡ old
 
--- what a happening makes of the children, where the table is in force after it
+-- the child that a birth makes, by the table in force
 abbrev pub newborn_in : List Entry → List ℕ → ℕ → Child
 newborn_in table id number = record { id = id; number = number; act = act_of id table }
-
-abbrev pub unreaped_after : List Entry → Event → List Child → List Child
-unreaped_after table (Birth id number) before = newborn_in table id number ∷ before
-unreaped_after table (Reaped id number status) before = filter (λ child. not (is_child id number child)) before
-unreaped_after table _ before = before
-
-abbrev pub early_after : List Entry → Event → List Child → List Child
-early_after table (Birth id number) before = or_early (newborn_in table id number) before
-early_after table _ before = before
-
-abbrev pub kept_after : List Entry → List Child → Event → List Child → List Child
-kept_after table unreaped (Birth id number) before = newborn_in table id number ∷ before
-kept_after table unreaped (Told id) before =
-    filter (is_of id) unreaped ++ filter (λ child. not (is_of id child)) before
-kept_after table unreaped _ before = before
 
 -- the child may not live in the stage, by the table
 abbrev pub is_excluded_by : List Entry → Option Stage → Child → Bool

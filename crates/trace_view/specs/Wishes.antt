@@ -1,11 +1,10 @@
 -- The wishes, as a view keeps them, and which of them is carried out first (telinit(8), initreq.h).
-use Rattle.std.specs.Prelude.{ℕ, Bool, true, false, not, ◌&&◌, ◌||◌, if◌then◌else◌, List, ◌∷◌, Option, Some, None}
-use Rattle.trace_view.specs.Words.{Letter, PowerKind, Stage, Boot, Run, same_letter, same_level, same_power, NewTable, NotRead, Enter, Call, Power, Got, Handed, Event, stage_of, enter_level, is_level, in_run, other_than, wants_reexec, wants_reread, heard_level, level_wish, was_booted, keeps_power, keeps_letter, keeps_news}
+use Rattle.std.specs.Prelude.{ℕ, Bool, not, ◌&&◌, ◌||◌, if◌then◌else◌, List, ◌∷◌, Option, Some, None}
+use Rattle.trace_view.specs.Words.{Stage, Boot, Run, same_level, Event, stage_of, enter_level, is_level, in_run, other_than, wants_reexec, wants_reread, heard_level, level_wish, was_booted, keeps_power, keeps_letter, keeps_news}
 use Rattle.init_words.specs.declared.levels.Level.{Level}
 use Rattle.init_words.specs.declared.levels.Letter.TheVariants as letter
 use Rattle.init_words.specs.declared.orders.PowerKind.TheVariants as power
 use Rattle.init_words.specs.declared.levels.Level.TheVariants.{S}
-use Rattle.initctl_frame.specs.declared.requests.HeardRequest.TheVariants as got
 use Rattle.trace_events.specs.declared.steps.Goal.{Goal}
 use Rattle.trace_events.specs.declared.steps.Step.{Step}
 use Rattle.trace_events.specs.declared.steps.Step.TheVariants as step
@@ -56,66 +55,6 @@ wishes_of past = record {
   b = keeps_letter letter.B past;
   c = keeps_letter letter.C past;
   booted = was_booted past;
-}
-
-abbrev pub no_wishes : Wishes
-no_wishes = record {
-  reexec = false;
-  reread = false;
-  heard = None;
-  fail = false;
-  fail_now = false;
-  ok = false;
-  a = false;
-  b = false;
-  c = false;
-  booted = false;
-}
-
--- what a happening makes of each, where the stage is in force after it
-abbrev pub reexec_after : Event → Bool → Bool
-reexec_after (Handed how) before = false
-reexec_after (Got got.Reexec) before = true
-reexec_after _ before = before
-
-abbrev pub reread_after : Option Stage → Event → Bool → Bool
-reread_after stage (NewTable table) before = false
-reread_after stage NotRead before = false
-reread_after stage (Got got.Reload) before = true
-reread_after stage (Got (got.Level l s)) before = not (is_level l stage) || before
-reread_after stage _ before = before
-
-abbrev pub heard_after : Event → Option Goal → Option Goal
-heard_after (Enter stage grace) before = None
-heard_after (Got (got.Level l s)) before = Some (record { level = l; grace = s })
-heard_after _ before = before
-
-abbrev pub power_after : PowerKind → Event → Bool → Bool
-power_after kind (Power k) before = not (same_power kind k) && before
-power_after kind (Got (got.Power k)) before = same_power kind k || before
-power_after kind _ before = before
-
-abbrev pub letter_after : Letter → Event → Bool → Bool
-letter_after letter (Call l) before = not (same_letter letter l) && before
-letter_after letter (Got (got.Call l)) before = same_letter letter l || before
-letter_after letter _ before = before
-
-abbrev pub booted_after : Event → Bool → Bool
-booted_after (Enter Boot grace) before = true
-booted_after _ before = before
-
-abbrev pub wishes_after : Option Stage → Event → Wishes → Wishes
-wishes_after stage happening w = record {
-  reexec = reexec_after happening w.reexec;
-  reread = reread_after stage happening w.reread;
-  heard = heard_after happening w.heard;
-  fail = power_after power.Fail happening w.fail;
-  fail_now = power_after power.FailNow happening w.fail_now;
-  ok = power_after power.Ok happening w.ok;
-  a = letter_after letter.A happening w.a;
-  b = letter_after letter.B happening w.b;
-  c = letter_after letter.C happening w.c;
-  booted = booted_after happening w.booted;
 }
 
 abbrev pub has_news : Wishes → Bool

@@ -1,11 +1,11 @@
 //! The unreaped and the kept children, the youngest first.
 
-ghost use Rattle.std.specs.Prelude.{◌≡◌, not, find, filter, false, option_map, option_copied, OnOk, IfOk};
+ghost use Rattle.std.specs.Prelude.{◌≡◌, ◌∷◌, List, not, find, filter, false, option_map, option_copied, OnOk, IfOk};
 ghost use Rattle.std.specs.List.{list_any};
 ghost use Rattle.std.specs.Option.{option_map_or};
-ghost use Rattle.trace_view.specs.Words.{Child, is_of, is_child};
-ghost use Rattle.trace_view.specs.Births.{is_born_as, is_early};
-ghost use Rattle.trace_view.specs.Viewing.{early_after, newborn_in, unreaped_after, kept_after, is_excluded_by};
+ghost use Rattle.trace_view.specs.Words.{Child, Event, is_of, is_child, kept_children, table_of, unreaped_children};
+ghost use Rattle.trace_view.specs.Births.{early_children, is_born_as, is_early};
+ghost use Rattle.trace_view.specs.Viewing.{newborn_in, is_excluded_by};
 ghost use Rattle.trace_view.specs.Why.{number_of, excluded_as};
 ghost use Rattle.trace_view.specs.Rows.{gone_ids};
 
@@ -38,10 +38,7 @@ impl Model for BornChild {
 pub(crate) fn newborn<A: Allocator>(table: &Table<A>, id: Id, number: ChildNumber) -> BornChild
     ensures { result ≡ newborn_in table.now id number }
 {
-    let act = match table.get(&id) {
-        Some(entry) => Some(entry.act),
-        None => None,
-    };
+    let act = table.get(&id).map(|entry| entry.act);
     BornChild { id, number, act }
 }
 
@@ -71,8 +68,9 @@ pub(crate) fn take_unreaped<A: Allocator, B: Allocator>(
     table: &Table<A>,
     happening: &HappeningIn<B>,
 ) -> Result<(), Memory>
-    ensures { OnOk result (unreaped.new.items
-        ≡ unreaped_after table.now happening.now unreaped.old.items) }
+    ensures { OnOk result ((past : List Event) → table.now ≡ table_of (happening.now ∷ past)
+        → unreaped.old.items ≡ unreaped_children past
+        → unreaped.new.items ≡ unreaped_children (happening.now ∷ past)) }
 {
     match happening {
         Happening::Birth(id, number) => {
@@ -95,8 +93,9 @@ pub(crate) fn take_kept<A: Allocator + Copy, B: Allocator>(
     table: &Table<A>,
     happening: &HappeningIn<B>,
 ) -> Result<(), Memory>
-    ensures { OnOk result (kept.new.items
-        ≡ kept_after table.now unreaped.now happening.now kept.old.items) }
+    ensures { OnOk result ((past : List Event) → table.now ≡ table_of (happening.now ∷ past)
+        → unreaped.now ≡ unreaped_children past → kept.old.items ≡ kept_children past
+        → kept.new.items ≡ kept_children (happening.now ∷ past)) }
 {
     match happening {
         Happening::Birth(id, number) => {
@@ -131,8 +130,9 @@ pub(crate) fn take_early<A: Allocator, B: Allocator>(
     table: &Table<A>,
     happening: &HappeningIn<B>,
 ) -> Result<(), Memory>
-    ensures { OnOk result (early.new.items
-        ≡ early_after table.now happening.now early.old.items) }
+    ensures { OnOk result ((past : List Event) → table.now ≡ table_of (happening.now ∷ past)
+        → early.old.items ≡ early_children past
+        → early.new.items ≡ early_children (happening.now ∷ past)) }
 {
     let Happening::Birth(id, number) = happening else {
         return Ok(());

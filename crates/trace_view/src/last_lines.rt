@@ -1,35 +1,27 @@
 //! The lines at which the last happenings of each kind begin.
 
-ghost use Rattle.std.specs.Prelude.{◌≡◌, ℕ, List, [], ◌∷◌, OnOk};
+ghost use Rattle.std.specs.Prelude.{◌≡◌, ℕ, List, ◌∷◌, OnOk};
 ghost use Rattle.trace_view.specs.Words.{Event, stage_of, at};
-ghost use Rattle.trace_view.specs.LastLines.{Lined, born_in, early_in, early_line, held_in, is_entering, is_goal, is_news, is_reexec, is_reread, is_table, kinds_after, last_line, last_of, later, line_after, line_at_fault, line_behind, names, no_kinds, ordered_in, reaped_in, unborn_in, wish_line};
+ghost use Rattle.trace_view.specs.LastLines.{Lined, born_in, early_in, held_in, is_entering, is_table, kinds_of, last_line, last_of, later, line_after, line_at_fault, line_behind, names, ordered_in, reaped_in, unborn_in, wish_line};
 
 use crate::children::{is_early, newborn};
+use crate::rows::{ById, nothing, of_id};
 use crate::seen_texts::Sees;
 use crate::views::TraceView;
 use crate::whys::Why;
 use crate::wishes::Wish;
-use indexmap::IndexMap;
 use init_words::{Id, Memory, Stage};
 use initctl_frame::HeardRequest;
 use inittab_text::Table;
 use std::alloc::{Allocator, Global};
-use std::hash::{BuildHasherDefault, FoldHasher};
 use std::marker::Model;
 use trace_events::{Happening, HappeningIn, is_level};
 
 /// A line of each id.
-type LineById<A> = IndexMap<Id, u64, BuildHasherDefault<FoldHasher>, A>;
-
-/// No line of any id. It takes no memory.
-fn nothing<A: Allocator + Copy>(alloc: A) -> LineById<A>
-    ensures { result.entries ≡ [] }
-{
-    IndexMap::new(alloc)
-}
+type LineById<A> = ById<u64, A>;
 
 /// The lines of the last happenings that are about no id.
-#[derive(Clone, Copy)]
+#[derive(Clone, Copy, Default)]
 pub(crate) struct KindLines {
     /// A table.
     pub(crate) table: Option<u64>,
@@ -80,44 +72,6 @@ pub(crate) fn is_table<B: Allocator>(happening: &HappeningIn<B>) -> bool
     ensures { result ≡ is_table happening.now }
 {
     matches!(happening, Happening::NewTable(_))
-}
-
-fn is_entering<B: Allocator>(happening: &HappeningIn<B>) -> bool
-    ensures { result ≡ is_entering happening.now }
-{
-    matches!(happening, Happening::Enter(_, _))
-}
-
-fn is_reexec<B: Allocator>(happening: &HappeningIn<B>) -> bool
-    ensures { result ≡ is_reexec happening.now }
-{
-    matches!(happening, Happening::Got(HeardRequest::Reexec))
-}
-
-fn is_goal<B: Allocator>(happening: &HappeningIn<B>) -> bool
-    ensures { result ≡ is_goal happening.now }
-{
-    matches!(happening, Happening::Got(HeardRequest::Level(_, _)))
-}
-
-fn is_news<B: Allocator>(happening: &HappeningIn<B>) -> bool
-    ensures { result ≡ is_news happening.now }
-{
-    match happening {
-        Happening::Got(HeardRequest::Call(_)) => true,
-        Happening::Got(HeardRequest::Power(_)) => true,
-        _ => false,
-    }
-}
-
-fn is_reread<B: Allocator>(stage: Option<Stage>, happening: &HappeningIn<B>) -> bool
-    ensures { result ≡ is_reread stage happening.now }
-{
-    match happening {
-        Happening::Got(HeardRequest::Reload) => true,
-        Happening::Got(HeardRequest::Level(level, _)) => !is_level(*level, stage),
-        _ => false,
-    }
 }
 
 fn born_in<B: Allocator>(happening: &HappeningIn<B>) -> Option<Id>
@@ -175,13 +129,6 @@ fn held_in<B: Allocator>(happening: &HappeningIn<B>) -> Option<Id>
     }
 }
 
-/// The line, where it is so; else what was there before.
-fn line_after(so: bool, line: u64, before: Option<u64>) -> Option<u64>
-    ensures { result ≡ line_after so line before }
-{
-    if so { Some(line) } else { before }
-}
-
 /// The later of two lines.
 fn later(line: Option<u64>, other: Option<u64>) -> Option<u64>
     ensures { result ≡ later line other }
@@ -198,36 +145,13 @@ fn mark<A: Allocator>(lines: &mut LineById<A>, id: Option<Id>, line: u64) -> Res
     ensures { OnOk result ((other : List ℕ) → at other lines.new.entries
         ≡ line_after (names other id) line (at other lines.old.entries)) }
 {
-    match id {
-        Some(id) => {
-            lines.insert(id, line)?;
-            Ok(())
-        }
-        None => Ok(()),
+    if let Some(id) = id {
+        lines.insert(id, line)?;
     }
-}
-
-/// The line of the id.
-fn line_of<A: Allocator>(lines: &LineById<A>, id: &Id) -> Option<u64>
-    ensures { result ≡ at id.now lines.now.entries }
-{
-    lines.get(id).copied()
+    Ok(())
 }
 
 impl KindLines {
-    fn new() -> KindLines
-        ensures { result ≡ no_kinds }
-    {
-        KindLines {
-            table: None,
-            entering: None,
-            reexec: None,
-            reread: None,
-            goal: None,
-            news: None,
-        }
-    }
-
     /// The lines after the happening at a line, where the stage was in force before it.
     fn after<B: Allocator>(
         self,
@@ -235,15 +159,39 @@ impl KindLines {
         line: u64,
         happening: &HappeningIn<B>,
     ) -> KindLines
-        ensures { result ≡ kinds_after stage line happening.now self }
+        ensures { (past : List Event) → stage ≡ stage_of past → line ≡ line_behind past
+            → self ≡ kinds_of past → result ≡ kinds_of (happening.now ∷ past) }
     {
-        KindLines {
-            table: line_after(is_table(happening), line, self.table),
-            entering: line_after(is_entering(happening), line, self.entering),
-            reexec: line_after(is_reexec(happening), line, self.reexec),
-            reread: line_after(is_reread(stage, happening), line, self.reread),
-            goal: line_after(is_goal(happening), line, self.goal),
-            news: line_after(is_news(happening), line, self.news),
+        let line = Some(line);
+        match happening {
+            Happening::NewTable(_) => KindLines {
+                table: line,
+                ..self
+            },
+            Happening::Enter(_, _) => KindLines {
+                entering: line,
+                ..self
+            },
+            Happening::Got(HeardRequest::Reexec) => KindLines {
+                reexec: line,
+                ..self
+            },
+            Happening::Got(HeardRequest::Reload) => KindLines {
+                reread: line,
+                ..self
+            },
+            Happening::Got(HeardRequest::Level(level, _)) if is_level(*level, stage) => {
+                KindLines { goal: line, ..self }
+            }
+            Happening::Got(HeardRequest::Level(_, _)) => KindLines {
+                reread: line,
+                goal: line,
+                ..self
+            },
+            Happening::Got(HeardRequest::Call(_) | HeardRequest::Power(_)) => {
+                KindLines { news: line, ..self }
+            }
+            _ => self,
         }
     }
 }
@@ -253,14 +201,7 @@ impl<A: Allocator> LastLines<A> {
     fn birth(&self, id: &Id) -> Option<u64>
         ensures { (past : List Event) → Lined self.now past → result ≡ last_of born_in id.now past }
     {
-        line_of(&self.births, id)
-    }
-
-    /// The line of the last birth of a child of an id before the first level.
-    fn early(&self, id: &Id) -> Option<u64>
-        ensures { (past : List Event) → Lined self.now past → result ≡ early_line id.now past }
-    {
-        line_of(&self.early, id)
+        of_id(&self.births, id)
     }
 
     /// The line of the last start of an id, also of one that failed.
@@ -268,7 +209,7 @@ impl<A: Allocator> LastLines<A> {
         ensures { (past : List Event) → Lined self.now past
             → result ≡ later (last_of born_in id.now past) (last_of unborn_in id.now past) }
     {
-        later(self.birth(id), line_of(&self.failures, id))
+        later(self.birth(id), of_id(&self.failures, id))
     }
 
     /// The line of the last birth of a child of an id, or of its end, where that is later.
@@ -276,7 +217,7 @@ impl<A: Allocator> LastLines<A> {
         ensures { (past : List Event) → Lined self.now past
             → result ≡ later (last_of born_in id.now past) (last_of reaped_in id.now past) }
     {
-        later(self.birth(id), line_of(&self.reapings, id))
+        later(self.birth(id), of_id(&self.reapings, id))
     }
 
     /// Since when init waits for an id.
@@ -292,14 +233,14 @@ impl<A: Allocator> LastLines<A> {
         ensures { (past : List Event) → Lined self.now past
             → result ≡ last_of ordered_in id.now past }
     {
-        line_of(&self.orders, id)
+        of_id(&self.orders, id)
     }
 
     /// The line of the last hold of an id.
     fn hold(&self, id: &Id) -> Option<u64>
         ensures { (past : List Event) → Lined self.now past → result ≡ last_of held_in id.now past }
     {
-        line_of(&self.holds, id)
+        of_id(&self.holds, id)
     }
 
     /// The line of a request that stands.
@@ -323,7 +264,7 @@ impl<A: Allocator> LastLines<A> {
             Why::NoEntry => self.kinds.table,
             Why::NeverStarts => self.kinds.table,
             Why::NoStage => None,
-            Why::RanBefore => self.early(id),
+            Why::RanBefore => of_id(&self.early, id),
             Why::StageOver => self.kinds.entering,
             Why::StageOwed(awaited) => self.awaited(&awaited),
             Why::OtherStage => self.kinds.entering,
@@ -346,7 +287,7 @@ impl<A: Allocator + Copy> Sees<A> for LastLines<A> {
 
     fn new(alloc: A) -> LastLines<A> {
         LastLines {
-            kinds: KindLines::new(),
+            kinds: KindLines::default(),
             births: nothing(alloc),
             early: nothing(alloc),
             failures: nothing(alloc),

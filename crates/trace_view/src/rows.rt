@@ -1,9 +1,9 @@
 //! What is told of an id.
 
-ghost use Rattle.std.specs.Prelude.{◌≡◌, ℕ, List, [], OnOk};
-ghost use Rattle.trace_view.specs.Words.{at};
-ghost use Rattle.trace_view.specs.Births.{one_more};
-ghost use Rattle.trace_view.specs.Rows.{born_after, ended_after};
+ghost use Rattle.std.specs.Prelude.{◌≡◌, ◌∷◌, ℕ, List, [], OnOk};
+ghost use Rattle.trace_view.specs.Words.{Event, at, time_of};
+ghost use Rattle.trace_view.specs.Births.{births_of, one_more};
+ghost use Rattle.trace_view.specs.Rows.{ended_of};
 
 use crate::whys::Why;
 use indexmap::IndexMap;
@@ -80,12 +80,13 @@ pub(crate) fn take_birth<A: Allocator, B: Allocator>(
     time: u64,
     happening: &HappeningIn<B>,
 ) -> Result<(), Memory>
-    ensures { OnOk result ((id : List ℕ) → at id births.new.entries
-        ≡ born_after time happening.now id (at id births.old.entries)) }
+    ensures { OnOk result ((past : List Event) → time ≡ time_of (happening.now ∷ past)
+        → ((id : List ℕ) → at id births.old.entries ≡ births_of id past)
+        → ((id : List ℕ) → at id births.new.entries ≡ births_of id (happening.now ∷ past))) }
 {
     match happening {
         Happening::Birth(id, _) => {
-            let before = birth_of(births, id);
+            let before = of_id(births, id);
             births.insert(*id, one_more(before, time))?;
             Ok(())
         }
@@ -99,8 +100,9 @@ pub(crate) fn take_end<A: Allocator, B: Allocator>(
     time: u64,
     happening: &HappeningIn<B>,
 ) -> Result<(), Memory>
-    ensures { OnOk result ((id : List ℕ) → at id ends.new.entries
-        ≡ ended_after time happening.now id (at id ends.old.entries)) }
+    ensures { OnOk result ((past : List Event) → time ≡ time_of (happening.now ∷ past)
+        → ((id : List ℕ) → at id ends.old.entries ≡ ended_of id past)
+        → ((id : List ℕ) → at id ends.new.entries ≡ ended_of id (happening.now ∷ past))) }
 {
     match happening {
         Happening::NoBirth(id) => {
@@ -119,16 +121,9 @@ pub(crate) fn take_end<A: Allocator, B: Allocator>(
     }
 }
 
-/// How often children of the id were born.
-pub(crate) fn birth_of<A: Allocator>(births: &ById<Births, A>, id: &Id) -> Option<Births>
-    ensures { result ≡ at id.now births.now.entries }
+/// What is kept of the id.
+pub(crate) fn of_id<V: Copy, A: Allocator>(kept: &ById<V, A>, id: &Id) -> Option<V>
+    ensures { result ≡ at id.now kept.now.entries }
 {
-    births.get(id).copied()
-}
-
-/// How the id last ended.
-pub(crate) fn end_of<A: Allocator>(ends: &ById<Ending, A>, id: &Id) -> Option<Ending>
-    ensures { result ≡ at id.now ends.now.entries }
-{
-    ends.get(id).copied()
+    kept.get(id).copied()
 }

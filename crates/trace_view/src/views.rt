@@ -13,7 +13,7 @@ use crate::children::{
     BornChild, child_of_id, excluded_of, excludes, gone_of, has_born_as, number_of_id, take_early,
     take_kept, take_unreaped,
 };
-use crate::rows::{Births, ById, Ending, Row, birth_of, end_of, nothing, take_birth, take_end};
+use crate::rows::{Births, ById, Ending, Row, nothing, of_id, take_birth, take_end};
 use crate::standings::Standing;
 use crate::whys::{Why, why_by};
 use crate::wishes::{Wish, Wishes};
@@ -137,8 +137,8 @@ impl<A: Allocator + Copy> TraceView<A> {
             judge: TraceJudge::new(alloc),
             unreaped: Vec::new(alloc),
             kept: Vec::new(alloc),
-            wishes: Wishes::new(),
-            calls: Calls::new(),
+            wishes: Wishes::default(),
+            calls: Calls::default(),
             births: nothing(alloc),
             early: Vec::new(alloc),
             ends: nothing(alloc),
@@ -261,10 +261,10 @@ impl<A: Allocator> TraceView<A> {
             why: self.why(id),
             child: number_of_id(unreaped, *id),
             excluded: excludes(child, table, stage),
-            births: birth_of(&self.births, id),
+            births: of_id(&self.births, id),
             order: self.judge.order(id),
             term: self.judge.termed(id),
-            last: end_of(&self.ends, id),
+            last: of_id(&self.ends, id),
         }
     }
 

@@ -1,8 +1,8 @@
 //! The wishes that stand.
 
-ghost use Rattle.std.specs.Prelude.{◌≡◌};
-ghost use Rattle.trace_view.specs.Words.{other_than};
-ghost use Rattle.trace_view.specs.Wishes.{reexec_after, reread_after, heard_after, power_after, letter_after, no_wishes, wishes_after, has_news, first_wish_in, unless_here, booted_after, next_stage_in};
+ghost use Rattle.std.specs.Prelude.{◌≡◌, ◌∷◌, List};
+ghost use Rattle.trace_view.specs.Words.{Event, Got, other_than, stage_of};
+ghost use Rattle.trace_view.specs.Wishes.{wishes_of, has_news, first_wish_in, unless_here, next_stage_in};
 
 use init_words::{Letter, Level, PowerKind, Stage};
 use initctl_frame::HeardRequest;
@@ -23,7 +23,7 @@ pub enum Wish {
 }
 
 /// What was wished and is not yet done (telinit(8), initreq.h).
-#[derive(Clone, Copy)]
+#[derive(Clone, Copy, Default)]
 pub(crate) struct Wishes {
     pub(crate) reexec: bool,
     pub(crate) reread: bool,
@@ -38,111 +38,83 @@ pub(crate) struct Wishes {
     pub(crate) booted: bool,
 }
 
-fn reexec_after<B: Allocator>(happening: &HappeningIn<B>, before: bool) -> bool
-    ensures { result ≡ reexec_after happening.now before }
-{
-    match happening {
-        Happening::Handed(_) => false,
-        Happening::Got(HeardRequest::Reexec) => true,
-        _ => before,
-    }
-}
-
-fn reread_after<B: Allocator>(
-    stage: Option<Stage>,
-    happening: &HappeningIn<B>,
-    before: bool,
-) -> bool
-    ensures { result ≡ reread_after stage happening.now before }
-{
-    match happening {
-        Happening::NewTable(_) | Happening::NotRead => false,
-        Happening::Got(HeardRequest::Reload) => true,
-        Happening::Got(HeardRequest::Level(level, _)) => !is_level(*level, stage) || before,
-        _ => before,
-    }
-}
-
-fn heard_after<B: Allocator>(happening: &HappeningIn<B>, before: Option<Goal>) -> Option<Goal>
-    ensures { result ≡ heard_after happening.now before }
-{
-    match happening {
-        Happening::Enter(_, _) => None,
-        Happening::Got(HeardRequest::Level(level, grace)) => Some(Goal {
-            level: *level,
-            grace: *grace,
-        }),
-        _ => before,
-    }
-}
-
-fn power_after<B: Allocator>(kind: PowerKind, happening: &HappeningIn<B>, before: bool) -> bool
-    ensures { result ≡ power_after kind happening.now before }
-{
-    match happening {
-        Happening::Power(called) => kind != *called && before,
-        Happening::Got(HeardRequest::Power(heard)) => kind == *heard || before,
-        _ => before,
-    }
-}
-
-fn letter_after<B: Allocator>(letter: Letter, happening: &HappeningIn<B>, before: bool) -> bool
-    ensures { result ≡ letter_after letter happening.now before }
-{
-    match happening {
-        Happening::Call(called) => letter != *called && before,
-        Happening::Got(HeardRequest::Call(heard)) => letter == *heard || before,
-        _ => before,
-    }
-}
-
-fn booted_after<B: Allocator>(happening: &HappeningIn<B>, before: bool) -> bool
-    ensures { result ≡ booted_after happening.now before }
-{
-    match happening {
-        Happening::Enter(Stage::Boot, _) => true,
-        _ => before,
-    }
-}
-
 impl Wishes {
-    /// Nothing was wished.
-    pub(crate) fn new() -> Wishes
-        ensures { result ≡ no_wishes }
-    {
-        Wishes {
-            reexec: false,
-            reread: false,
-            heard: None,
-            fail: false,
-            fail_now: false,
-            ok: false,
-            a: false,
-            b: false,
-            c: false,
-            booted: false,
-        }
-    }
-
     /// The wishes after the happening, where the stage is in force after it.
     pub(crate) fn after<B: Allocator>(
         self,
         stage: Option<Stage>,
         happening: &HappeningIn<B>,
     ) -> Wishes
-        ensures { result ≡ wishes_after stage happening.now self }
+        ensures { (past : List Event) → stage ≡ stage_of (happening.now ∷ past)
+            → self ≡ wishes_of past → result ≡ wishes_of (happening.now ∷ past) }
     {
-        Wishes {
-            reexec: reexec_after(happening, self.reexec),
-            reread: reread_after(stage, happening, self.reread),
-            heard: heard_after(happening, self.heard),
-            fail: power_after(PowerKind::Fail, happening, self.fail),
-            fail_now: power_after(PowerKind::FailNow, happening, self.fail_now),
-            ok: power_after(PowerKind::Ok, happening, self.ok),
-            a: letter_after(Letter::A, happening, self.a),
-            b: letter_after(Letter::B, happening, self.b),
-            c: letter_after(Letter::C, happening, self.c),
-            booted: booted_after(happening, self.booted),
+        match happening {
+            Happening::Handed(_) => Wishes {
+                reexec: false,
+                ..self
+            },
+            Happening::NewTable(_) | Happening::NotRead => Wishes {
+                reread: false,
+                ..self
+            },
+            Happening::Enter(Stage::Boot, _) => Wishes {
+                heard: None,
+                booted: true,
+                ..self
+            },
+            Happening::Enter(_, _) => Wishes {
+                heard: None,
+                ..self
+            },
+            Happening::Power(PowerKind::Fail) => Wishes {
+                fail: false,
+                ..self
+            },
+            Happening::Power(PowerKind::FailNow) => Wishes {
+                fail_now: false,
+                ..self
+            },
+            Happening::Power(PowerKind::Ok) => Wishes { ok: false, ..self },
+            Happening::Call(Letter::A) => Wishes { a: false, ..self },
+            Happening::Call(Letter::B) => Wishes { b: false, ..self },
+            Happening::Call(Letter::C) => Wishes { c: false, ..self },
+            Happening::Got(request) => self.behind(stage, request),
+            _ => self,
+        }
+    }
+
+    /// The wishes after the request.
+    fn behind(self, stage: Option<Stage>, request: &HeardRequest) -> Wishes
+        ensures { (past : List Event) → stage ≡ stage_of past → self ≡ wishes_of past
+            → result ≡ wishes_of (Got request.now ∷ past) }
+    {
+        match request {
+            HeardRequest::Reexec => Wishes {
+                reexec: true,
+                ..self
+            },
+            HeardRequest::Reload => Wishes {
+                reread: true,
+                ..self
+            },
+            HeardRequest::Level(level, grace) => Wishes {
+                reread: !is_level(*level, stage) || self.reread,
+                heard: Some(Goal {
+                    level: *level,
+                    grace: *grace,
+                }),
+                ..self
+            },
+            HeardRequest::Power(PowerKind::Fail) => Wishes { fail: true, ..self },
+            HeardRequest::Power(PowerKind::FailNow) => Wishes {
+                fail_now: true,
+                ..self
+            },
+            HeardRequest::Power(PowerKind::Ok) => Wishes { ok: true, ..self },
+            HeardRequest::Call(Letter::A) => Wishes { a: true, ..self },
+            HeardRequest::Call(Letter::B) => Wishes { b: true, ..self },
+            HeardRequest::Call(Letter::C) => Wishes { c: true, ..self },
+            HeardRequest::Nothing(_) => self,
         }
     }
 
