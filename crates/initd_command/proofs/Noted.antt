@@ -78,27 +78,27 @@ pub led_fits : (level : Option Level) (table : List Entry) (core : CoreState) (o
 led_fits level table core old new calls distinct leads allowed carried = (from_opening level table (Went (λ p. []) (LeftBy core) old new) calls distinct leads allowed carried).fits.0.fits
 
 -- turns over a log that had taken nothing, which was ended behind them
-pub noted_over : (has_ended : Bool → List Event → Type 0) (Found : List Event → Type 0) (taken : List Event → Type 0) (notes : Notes) (found : Judgement) (failed whole : Bool)
-    (core : CoreState) (old : LogState) (service : RunSaid) (level : Option Level) (table : List Entry) (served ended : Served) (judgement : Option Judgement) (calls : List HostCall)
+pub noted_over : (has_ended : Bool → List Event → Type 0) (notes : Notes) (found : Judgement) (whole : Bool) (core : CoreState) (old now : LogState)
+    (service : RunSaid) (level : Option Level) (table : List Entry) (served ended : Served) (judgement : Option Judgement) (calls : List HostCall)
     → ended ≡ record served { logged = served.logged && whole } → judgement ≡ judgement_for service found
-    → old.taken [] → old.noted ≡ service.result → served.logged ≡ not failed
-    → ((trace : List Event) → Found (reverse trace) × taken trace → Finds found (reverse trace)) → ((trace : List Event) → taken trace → has_ended whole trace)
-    → is_distinct table ≡ true → LedFrom level table core old (record { taken = λ trace. NotesOf notes (reverse trace) × (Found (reverse trace) × taken trace); failed = failed; noted = notes.wanted }) calls
+    → old.taken [] → old.noted ≡ service.result → notes.wanted ≡ now.noted → served.logged ≡ not now.failed
+    → ((trace : List Event) → now.taken trace → NotesOf notes (reverse trace) × Finds found (reverse trace) × has_ended whole trace)
+    → is_distinct table ≡ true → LedFrom level table core old now calls
     → TurnsFrom level table calls (λ past. (ended.logged ≡ true → IsNoted service.result (noted_of notes (waiting_text core) judgement) past) × LogEnds has_ended ended.logged (reverse past))
-noted_over has_ended Found taken notes found failed whole core old service level table served ended judgement calls goes asked none result logged finds ends distinct leads = λ allowed carried.
-    let now : LogState = record { taken = λ trace. NotesOf notes (reverse trace) × (Found (reverse trace) × taken trace); failed = failed; noted = notes.wanted } in
+noted_over has_ended notes found whole core old now service level table served ended judgement calls goes asked none result wanted logged tells distinct leads = λ allowed carried.
     let went = from_opening level table (Went (λ p. []) (LeftBy core) old now) calls distinct leads allowed carried in
     let past = (point_after calls (opening_point table)).past in
     let took = went.log (opening_short level table) in
     let takes : Takes old now [] took.came [] = took.log [] none in
     let parts : past ≡ takes.missed ++ takes.took = took.grown ∙ append-nil took.came ∙ takes.parts in
-    let all : served.logged ≡ true → takes.missed ≡ [] = λ h. takes.whole (not-true failed (sym logged ∙ h)) in
-    let so : ended.logged ≡ (served.logged && whole) = ap (λ s. s.logged) goes in (
+    let all : served.logged ≡ true → takes.missed ≡ [] = λ h. takes.whole (not-true now.failed (sym logged ∙ h)) in
+    let so : ended.logged ≡ (served.logged && whole) = ap (λ s. s.logged) goes in
+    let (of, finds, ends) = tells (reverse takes.took) takes.told in (
       (λ h.
           let every : takes.took ≡ past = sym (parts ∙ ap (λ m. m ++ takes.took) (all (and_parts served.logged whole (sym so ∙ h)).0)) in
           let same : reverse (reverse takes.took) ≡ past = reverse-reverse takes.took ∙ every in
-          noted_of_trace service.result notes (waiting_text core) judgement past (took.same ∙ result) (subst (NotesOf notes) same takes.told.0)
+          noted_of_trace service.result notes (waiting_text core) judgement past (wanted ∙ took.same ∙ result) (subst (NotesOf notes) same of)
           (opening_goal level table, core, went.fits.0.fits, refl)
-          (subst (λ j. IfSome j (λ given. Finds given past)) (sym asked) (found_for service found past (subst (Finds found) same (finds (reverse takes.took) takes.told.1))))),
-      subst (λ b. LogEnds has_ended b (reverse past)) (sym so) (log_ends has_ended whole past takes.missed takes.took parts (ends (reverse takes.took) takes.told.1.1) served.logged all),
+          (subst (λ j. IfSome j (λ given. Finds given past)) (sym asked) (found_for service found past (subst (Finds found) same finds)))),
+      subst (λ b. LogEnds has_ended b (reverse past)) (sym so) (log_ends has_ended whole past takes.missed takes.took parts ends served.logged all),
     )

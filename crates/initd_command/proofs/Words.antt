@@ -13,12 +13,13 @@ pub use Rattle.init_words.specs.declared.entries.Entry.{Entry}
 pub use Rattle.trace_events.specs.Event.{Event}
 pub use Rattle.trace_log.specs.Logs.{LogState}
 pub use Rattle.host_calls.specs.Calls.{HostCall}
-pub use Rattle.trace_log_wrappers.specs.Notes.{IsRunning, Notes, NotesOf, is_wanted, noted_state}
+pub use Rattle.trace_log_wrappers.specs.Notes.{IsRunning, Notes, NotesOf, is_wanted}
+pub use Rattle.trace_log_wrappers.specs.Watching.{Watched, watched_state}
 pub use Rattle.init_turns.specs.declared.serving.Served.{Served}
 pub use Rattle.core_waiting.specs.Lines.{waiting_text}
 pub use Rattle.init_turns.specs.Opening.{IsOpening, opening_point, IsOpeningOf, OpeningState}
 pub use Rattle.trace_log_wrappers.specs.declared.judgements.Judgement.{Judgement}
-pub use Rattle.trace_log_wrappers.specs.Judgements.{Finds, FindsBy, JudgedBy, judged_state}
+pub use Rattle.trace_log_wrappers.specs.Judgements.{Finds}
 pub use Rattle.host_calls.specs.Record.{Since}
 pub use Rattle.initd_options.specs.CommandLine.{InitdSaid, judges, runs, simulates, version, CheckSaid, check_of, initd_read_of, simulation_of}
 pub use Rattle.initd_command.specs.Turned.{End, ReportsText, listed_after}

@@ -9,7 +9,6 @@ mod laws;
 mod lines;
 mod logs;
 mod os_hosts;
-mod passed_over;
 mod reports;
 mod run;
 mod simulate;

@@ -10,7 +10,6 @@ ghost use Rattle.initd_command.specs.Services.{AreFiles, EndsRun, EndsServed, En
 use crate::ends::report_end;
 use crate::hosts::Hosts;
 use crate::logs::{FileLog, NoLog, takes_lock};
-use crate::passed_over::AskedLog;
 use crate::reports::{
     report_busy, report_cannot, report_fault, report_flawed, report_memory, report_shared,
     report_too_many, report_unlisted, report_where, tell,
@@ -34,7 +33,7 @@ use std::io;
 use std::io::{ErrorKind, Write};
 use std::rt::{Clock, Files};
 use trace_log::EndedLog;
-use trace_log_wrappers::{BriefLog, JudgedLog, Judgement, NotedLog};
+use trace_log_wrappers::{BriefLog, WatchedLog};
 
 /// What is reported where the faults of inittab's lines could not be written.
 const UNTOLD: &str = "initd: the faults of the inittab could not be written\n";
@@ -506,7 +505,7 @@ where
     make_over(rt, alloc, said, opening, host, log, err)
 }
 
-/// Makes the turns over a log, and says of level changes which are passed over.
+/// Makes the turns over a log, of which nothing is kept.
 fn make_over<R: Files + Eprint, H: Host, L: EndedLog, E: Write>(
     rt: &R,
     alloc: Global,
@@ -525,7 +524,6 @@ where
         → IsOpeningOf (run_of said.now).level table opening
         → Since (H.told host) (H.told result.1) (MakesTurns ⊤ (run_of said.now) table end)) }
 {
-    let log = AskedLog::new(rt, log);
     let (status, host, _) = make_turns(rt, alloc, said, opening, host, log, err);
     (status, host)
 }
@@ -554,9 +552,8 @@ where
         → Since (H.told host) (H.told result.1) (MakesLogged L.state ((L.state log).taken [])
         (L.has_ended result.2) (run_of said.now) table end)) }
 {
-    let judged = JudgedLog::new(rt, alloc, log, said.judge);
-    let noted = NotedLog::new(alloc, judged, said.result);
-    let mut edge = Edge::new(host, noted);
+    let watched = WatchedLog::new(rt, alloc, log, said.result, said.judge);
+    let mut edge = Edge::new(host, watched);
     let mut watch = Watcher::new(rt, alloc, said.verbose, said.initctl.as_str());
     let (served, core) = opening.serve(
         alloc,
@@ -567,10 +564,9 @@ where
         &mut watch,
     );
     edge.law_of_calls();
-    let (host, noted) = edge.into_parts();
-    let (judged, notes) = noted.into_parts();
-    let found = judged.judgement();
-    let (left, whole) = judged.into_log().end();
+    let (host, watched) = edge.into_parts();
+    let (log, notes, found) = watched.into_parts();
+    let (left, whole) = log.end();
     let served = ended_with(served, whole);
     let judgement = said.judge.then_some(found);
     let status = report_end(alloc, said, &served, &notes, &core, judgement, err);

@@ -8,7 +8,7 @@ use linked_list_allocator::LocalHeap;
 use std::alloc::{Allocator, Global};
 use test_support::{Slow, host_of};
 use trace_log::{ListLog, Log, StreamLog};
-use trace_log_wrappers::NotedLog;
+use trace_log_wrappers::WatchedLog;
 
 const INITTAB: &str = "id:3:initdefault:|r:3:respawn:serv";
 
@@ -73,11 +73,11 @@ fn listed(own: Global, heap: &LocalHeap) -> Option<usize> {
 
 /// Whether notes on a heap in front of a log are complete; None where they say anything false, or the log behind them has
 /// not the whole trace.
-fn noted(own: Global, heap: &LocalHeap) -> Option<bool> {
-    let log = NotedLog::new(heap, ListLog::new(own), Id::read(b"r"));
+fn noted(rt: &impl Eprint, own: Global, heap: &LocalHeap) -> Option<bool> {
+    let log = WatchedLog::new(rt, heap, ListLog::new(own), Id::read(b"r"), false);
     let mut bench = bench_of(own, host_of(own, own, GIFTS)?, own, INITTAB, log)?;
     let served = served(own, &mut bench)?;
-    let (log, notes) = log_of(bench).into_parts();
+    let (log, notes, _) = log_of(bench).into_parts();
     let text = trace_text::print(own, log.list()).ok()?;
     if taken(text.as_slice(), served) != Some(TRACE.len()) {
         return None;
@@ -91,10 +91,15 @@ fn noted(own: Global, heap: &LocalHeap) -> Option<bool> {
 
 /// Whether a log has room on a heap: a list of happenings, notes in front of one, or one that writes. None where something
 /// else is said than that it has none.
-pub(crate) fn is_whole(own: Global, heap: &LocalHeap, what: &str) -> Option<bool> {
+pub(crate) fn is_whole(
+    rt: &impl Eprint,
+    own: Global,
+    heap: &LocalHeap,
+    what: &str,
+) -> Option<bool> {
     match what {
         "list" => Some(listed(own, heap)? == TRACE.len()),
-        "notes" => noted(own, heap),
+        "notes" => noted(rt, own, heap),
         _ => Some(streamed(own, heap, TRACE.len(), true)? == TRACE.len()),
     }
 }

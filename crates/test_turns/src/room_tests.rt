@@ -201,11 +201,11 @@ fn opens(own: Global, heap: &LocalHeap) -> Option<bool> {
     Some(opening_of(own, heap, table).is_ok())
 }
 
-fn has_room_for(own: Global, heap: &LocalHeap, what: &str) -> Option<bool> {
+fn has_room_for(rt: &impl Eprint, own: Global, heap: &LocalHeap, what: &str) -> Option<bool> {
     match what {
         "opening" => opens(own, heap),
         "table lacks" | "carry lacks" => has_room(own, heap, what),
-        _ => is_whole(own, heap, what),
+        _ => is_whole(rt, own, heap, what),
     }
 }
 
@@ -223,7 +223,7 @@ const REFUSED: &[(&str, usize)] = &[
 #[test]
 fn what_has_no_room_is_refused(rt: HostRuntime) {
     let wrong = first_unrefused(rt.alloc(), REFUSED, |own, heap, what| {
-        has_room_for(own, heap, what).map(Outcome::of)
+        has_room_for(&rt, own, heap, what).map(Outcome::of)
     });
     assert!(rt; wrong.is_none(), "{wrong:?}");
     assert!(rt; is_untold(rt.alloc()) == Some(true), "calls");

@@ -3,3 +3,4 @@ pub mod Ends
 pub mod Judgements
 pub mod Keeping
 pub mod Notes
+pub mod Watching

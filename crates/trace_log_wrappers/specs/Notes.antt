@@ -1,11 +1,10 @@
--- What a log of notes keeps beside the log that it stands in front of.
-use Rattle.std.specs.Prelude.{◌≡◌, ℕ, Bool, true, false, List, reverse, Option, Some, None}
+-- What is noted of the happenings that a log takes.
+use Rattle.std.specs.Prelude.{◌≡◌, ℕ, Bool, true, false, List, Option, Some, None}
 use Rattle.std.specs.List.{IsDistinct}
 use Rattle.std.specs.Map.{keys_of, lookup}
 use Rattle.init_words.specs.declared.children.Status.{Status}
 use Rattle.init_words.specs.Ids.{same_id}
 use Rattle.trace_events.specs.Event.{Event}
-use Rattle.trace_log.specs.Logs.{LogState}
 use Rattle.trace_log_wrappers.specs.Ends.{last_end, number_of}
 
 -- the id whose last end is noted, if one is, and that end; the numbers of the unreaped children by id, and whether there
@@ -37,16 +36,3 @@ IsRunning running past =
 pub record NotesOf (notes : Notes) (past : List Event) : Type 0 where
   pub last : IsLast notes.last notes.wanted past
   pub running : notes.complete ≡ true → IsRunning notes.running past
-
--- a log with notes: the log in front of which it stands, and what is noted
-pub record Noted (L : Type 0) : Type 0 where
-  pub log : L
-  pub notes : Notes
-
--- it took what the other log took, and the notes are of that
-abbrev pub noted_state : {L : Type 0} → (L → LogState) → Noted L → LogState
-noted_state state noted = record {
-  taken = λ trace. NotesOf noted.notes (reverse trace) × (state noted.log).taken trace;
-  failed = (state noted.log).failed;
-  noted = noted.notes.wanted;
-}

@@ -1,4 +1,4 @@
-use Rattle.trace_log_wrappers.proofs.Words.{rules, ◌≡◌, ◌∷◌, true, false, sym, subst, List, Ok, Err, OnOk, Result, Event, IsRunning, NotesOf}
+use Rattle.trace_log_wrappers.proofs.Words.{rules, ◌≡◌, false, sym, subst, Ok, Err, OnOk, Result, NotesOf}
 use Rattle.std.specs.Result.{is_err}
 use Rattle.trace_log_wrappers.proofs.run_notes.RunNotes.note.Goals as goal
 

@@ -1,7 +1,9 @@
-//! A log in front of another one, which judges what it takes.
+//! A log in front of another one, which watches what that one takes.
 
 use crate::judgements::Judgement;
-use init_words::Memory;
+use crate::passed_over::Asked;
+use crate::run_notes::RunNotes;
+use init_words::{Id, Memory};
 use std::alloc::{Allocator, Global};
 use std::marker::Model;
 use std::str;
@@ -10,41 +12,61 @@ use trace_events::HappeningIn;
 use trace_log::{Log, LogFault};
 use trace_text::print_one;
 
-/// A log in front of another one, whose happenings are judged where a judge is asked for.
+/// A log in front of another one, to which each happening is handed on. What the other one takes is noted, and judged
+/// where a judge is asked for. Standard error is told of the first happening that breaks a law, of a request for a level
+/// that changes nothing, and of a level change that a later one passes over.
 #[derive(Drop)]
-pub struct JudgedLog<'a, R: Eprint, L: Log, A: Allocator = Global> {
+pub struct WatchedLog<'a, R, L, A: Allocator = Global> {
     rt: &'a R,
     alloc: A,
     log: L,
+    asked: Asked,
+    notes: RunNotes<A>,
     judge: TraceJudge<A>,
     judgement: Judgement,
 }
 
-impl<'a, R: Eprint, L: Log, A: Allocator> Model for JudgedLog<'a, R, L, A> {
-    ghost use Rattle.trace_log_wrappers.specs.Judgements.{JudgedBy};
+impl<'a, R, L, A: Allocator> Model for WatchedLog<'a, R, L, A> {
+    ghost use Rattle.trace_log_wrappers.specs.Watching.{Watched};
 
-    ghost Value = { JudgedBy L };
+    ghost Value = { Watched L };
 
-    ghost view = { λ j. record { log = j.log; judge = j.judge; judgement = j.judgement } };
+    ghost view = { λ watched. record {
+      log = watched.log;
+      notes = watched.notes;
+      judge = watched.judge;
+      judgement = watched.judgement;
+    } };
 }
 
-impl<'a, R: Eprint, L: Log, A: Allocator + Copy> JudgedLog<'a, R, L, A> {
+impl<'a, R: Eprint, L: Log, A: Allocator + Copy> WatchedLog<'a, R, L, A> {
     ghost use Rattle.std.specs.Prelude.{◌≡◌, [], List, reverse};
     ghost use Rattle.trace_events.specs.Event.{Event};
-    ghost use Rattle.trace_log_wrappers.specs.Judgements.{Finds, found_first, judged_state};
+    ghost use Rattle.trace_log_wrappers.specs.Judgements.{Finds, found_first};
+    ghost use Rattle.trace_log_wrappers.specs.Watching.{watched_state};
 
-    /// A log in front of this one, which took nothing; with a judge where one is asked for. It takes no memory.
-    pub fn new(rt: &'a R, alloc: A, log: L, asked: bool) -> JudgedLog<'a, R, L, A>
+    /// A log in front of this one, with notes of nothing, for the last end of this id, where one is wanted, and with a
+    /// judge where one is asked for. It takes no memory.
+    pub fn new(
+        rt: &'a R,
+        alloc: A,
+        log: L,
+        wanted: Option<Id>,
+        is_judged: bool,
+    ) -> WatchedLog<'a, R, L, A>
         ensures log { result.log ≡ log }
-        ensures found { result.judgement ≡ found_first asked }
-        ensures nothing { (L.state log).taken [] → (judged_state L.state result).taken [] }
+        ensures wanted { result.notes.wanted ≡ wanted }
+        ensures found { result.judgement ≡ found_first is_judged }
+        ensures nothing { (L.state log).taken [] → (watched_state L.state result).taken [] }
     {
-        JudgedLog {
+        WatchedLog {
             rt,
             alloc,
             log,
+            asked: Asked::default(),
+            notes: RunNotes::new(alloc, wanted),
             judge: TraceJudge::new(alloc),
-            judgement: if asked {
+            judgement: if is_judged {
                 Judgement::Lawful(0)
             } else {
                 Judgement::Unjudged
@@ -52,29 +74,24 @@ impl<'a, R: Eprint, L: Log, A: Allocator + Copy> JudgedLog<'a, R, L, A> {
         }
     }
 
-    /// What is found of the happenings that it took.
-    pub fn judgement(&self) -> Judgement
-        ensures value { result ≡ self.now.judgement }
-        ensures found { (trace : List Event) → (judged_state L.state self.now).taken trace
-            → Finds result (reverse trace) }
+    /// The other log, the notes of what it took, and what is found of that.
+    pub fn into_parts(self) -> (L, RunNotes<A>, Judgement)
+        ensures parts { result ≡ (self.entry.log, self.entry.notes, self.entry.judgement) }
+        ensures found { (trace : List Event) → (watched_state L.state self.entry).taken trace
+            → Finds result.2 (reverse trace) }
     {
-        self.judgement
-    }
-
-    /// The other log.
-    pub fn into_log(self) -> L
-        ensures { result ≡ self.entry.log }
-    {
-        let JudgedLog {
+        let WatchedLog {
             rt: _,
             alloc: _,
             log,
+            asked: _,
+            notes,
             judge,
-            judgement: _,
+            judgement,
         } = self;
         // By one call: the prover walks over the parts of what is dropped at a function's end, one by one.
         drop(judge);
-        log
+        (log, notes, judgement)
     }
 
     /// Tells a breach where it is new.
@@ -104,32 +121,36 @@ fn tell_line<R: Eprint>(rt: &R, place: u64, line: &str, law: Law) {
     let _ = eprintln!(rt; "initd: happening {place}, {line}: {law}: init goes on");
 }
 
-impl<R: Eprint, L: Log, A: Allocator + Copy> Log for JudgedLog<'_, R, L, A> {
+impl<R: Eprint, L: Log, A: Allocator + Copy> Log for WatchedLog<'_, R, L, A> {
     ghost use Rattle.std.specs.Prelude.{◌≡◌, true, false, is_err, OnOk, OnErr};
     ghost use Rattle.trace_events.specs.Range.{is_in_range};
     ghost use Rattle.trace_log.specs.Logs.{Gains, Stays};
-    ghost use Rattle.trace_log_wrappers.specs.Judgements.{judged_state};
+    ghost use Rattle.trace_log_wrappers.specs.Watching.{watched_state};
 
-    ghost state = { judged_state L.state };
+    ghost state = { watched_state L.state };
 
-    /// Hands the happening on. It is judged where the other log took it, and no happening before it broke a law.
+    /// Hands the happening on. Where the other log took it, it is noted, and judged if no happening before it broke a law;
+    /// where not, neither.
     fn take<B: Allocator>(&mut self, happening: &HappeningIn<B>) -> Result<(), LogFault>
         requires { (L.state self.old.log).failed ≡ false }
         ensures flag { (L.state self.new.log).failed ≡ is_err result }
         ensures ok { OnOk result (is_in_range happening.now ≡ true
-            → Gains (judged_state L.state self.old) (judged_state L.state self.new) happening.now) }
+            → Gains (watched_state L.state self.old) (watched_state L.state self.new) happening.now) }
         ensures err { OnErr result (is_in_range happening.now ≡ true
-            → Stays (judged_state L.state self.old) (judged_state L.state self.new)) }
+            → Stays (watched_state L.state self.old) (watched_state L.state self.new)) }
         ensures log_ok { OnOk result (is_in_range happening.now ≡ true
             → Gains (L.state self.old.log) (L.state self.new.log) happening.now) }
         ensures log_err { OnErr result (is_in_range happening.now ≡ true
             → Stays (L.state self.old.log) (L.state self.new.log)) }
         ensures kept { OnErr result (self.new ≡ record self.old { log = self.new.log }) }
+        ensures wanted { self.new.notes.wanted ≡ self.old.notes.wanted }
     {
+        self.asked.note(self.rt, happening);
         self.log.take(happening)?;
         let before = self.judgement;
         self.judgement = before.with_next(&mut self.judge, happening);
         self.tell(before, happening);
+        self.notes.note(happening);
         Ok(())
     }
 
