@@ -117,12 +117,12 @@ fn tell_reason<E: Write>(path: &str, text: &[u8], fault: &FileFault, skips: bool
 }
 
 /// The word in front of the path of a file that gives no script.
-fn word_of(fault: &FileFault) -> &'static [u8]
+fn word_of(fault: &FileFault) -> &'static str
     ensures { file_status fault.now ≡ 1 → result.now ≡ codes "bad header: " }
 {
     match fault {
-        FileFault::Unread(_) | FileFault::Memory => b"cannot read: ",
-        FileFault::Name | FileFault::Header(_, _) => b"bad header: ",
+        FileFault::Unread(_) | FileFault::Memory => "cannot read: ",
+        FileFault::Name | FileFault::Header(_, _) => "bad header: ",
     }
 }
 
@@ -143,7 +143,7 @@ fn tell_refusal<E: Write>(
     }
     let mut more = Vec::new(alloc);
     tell_reason(path, text, fault, skips, &mut more);
-    tell_why(word_of(fault), path.as_bytes(), more.as_slice(), err);
+    tell_why(word_of(fault), path, more.as_slice(), err);
 }
 
 /// Reads the script of a path. What is odd in the lines of its header is told, and why it gives none.

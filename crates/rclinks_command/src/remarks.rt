@@ -17,7 +17,7 @@ pub(crate) fn warn_of_lines<E: Write>(alloc: Global, path: &str, text: &[u8], er
 {
     let mut odd = Vec::new(alloc);
     tell_odd_lines(path, text, &mut odd);
-    tell_lines(b"warning: ", odd.as_slice(), err);
+    tell_lines("warning: ", odd.as_slice(), err);
 }
 
 fn tell_odd_lines<E: Write>(path: &str, text: &[u8], odd: &mut E) {
@@ -98,7 +98,7 @@ pub(crate) fn warn_of_header<E: Write>(alloc: Global, path: &str, header: &Heade
 {
     let mut odd = Vec::new(alloc);
     tell_odd_header(path, header, &mut odd);
-    tell_lines(b"warning: ", odd.as_slice(), err);
+    tell_lines("warning: ", odd.as_slice(), err);
 }
 
 fn tell_odd_header<E: Write>(path: &str, header: &Header, odd: &mut E) {

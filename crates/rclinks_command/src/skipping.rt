@@ -46,7 +46,7 @@ pub(crate) fn report_first<E: Write>(
         Some(place) => tell_who(fault, scripts, paths, place, &[], true, &mut more),
         None => tell_last(fault, &mut more),
     }
-    tell_why(b"", why.as_bytes(), more.as_slice(), err);
+    tell_why("", why.as_str(), more.as_slice(), err);
     status_of(fault)
 }
 
@@ -92,7 +92,7 @@ pub(crate) fn plan_rest<'w, E: Write>(
             let _ = writeln!(err, "rclinks: {fault}");
             let mut more = Vec::new(alloc);
             tell_last(&fault, &mut more);
-            tell_lines(b"", more.as_slice(), err);
+            tell_lines("", more.as_slice(), err);
             return Err(fault);
         };
         tell_fault(

@@ -38,7 +38,7 @@ pub(crate) fn tell_fault<E: Write>(
     let _ = writeln!(err, "rclinks: {fault}");
     let mut more = Vec::new(alloc);
     tell_who(fault, scripts, paths, place, outs, false, &mut more);
-    tell_lines(b"", more.as_slice(), err);
+    tell_lines("", more.as_slice(), err);
     if skips {
         let path = path_at(paths, place);
         let _ = writeln!(err, "rclinks: {path}: left out");
@@ -229,7 +229,7 @@ pub(crate) fn warn_of_names<E: Write>(
 {
     let mut odd = Vec::new(alloc);
     tell_system_names(scripts, paths, &mut odd);
-    tell_lines(b"warning: ", odd.as_slice(), err);
+    tell_lines("warning: ", odd.as_slice(), err);
 }
 
 fn tell_system_names<E: Write>(scripts: &[Script], paths: &[&str], odd: &mut E) {
