@@ -51,26 +51,6 @@ pub on_err : {T E : Type 0} (ended : Result T E) (P : Type 0) → P → OnErr en
 on_err (Ok value) P is = tt
 on_err (Err error) P is = is
 
--- the last of the writes
-pub last_ok : {T E : Type 0} (ended : Result T E) (old mid new : Option (List ℕ)) (first last : List ℕ) → Appends old mid first
-    → OnOk ended (Appends mid new last) → OnOk ended (Appends old new (first ++ last))
-last_ok (Ok value) old mid new first last before now = Appends-trans old mid new first last before now
-last_ok (Err error) old mid new first last before now = tt
-
-pub last_err : {T E : Type 0} (ended : Result T E) (old mid new : Option (List ℕ)) (first last : List ℕ) → Appends old mid first
-    → OnErr ended (AppendsPrefix mid new last) → OnErr ended (AppendsPrefix old new (first ++ last))
-last_err (Ok value) old mid new first last before now = tt
-last_err (Err error) old mid new first last before now = AppendsPrefix-then old mid new first last before now
-
-pub front_err : {T E : Type 0} (ended : Result T E) (old new : Option (List ℕ)) (text : List ℕ)
-    → OnErr ended (AppendsFront old new text) → OnErr ended (AppendsPrefix old new text)
-front_err (Ok value) old new text now = tt
-front_err (Err error) old new text now = AppendsFront-prefix old new text now
-
--- a write that stops in its text, with more to come
-pub stops : (old new : Option (List ℕ)) (text rest : List ℕ) → AppendsFront old new text → AppendsPrefix old new (text ++ rest)
-stops old new text rest some = AppendsPrefix-first old new text rest (AppendsFront-prefix old new text some)
-
 -- a write that stops in one of several texts, behind those before it
 pub stops_within : {X : Type 0} (f : X → List ℕ) (texts : List X) (i : ℕ) (d : X) (old mid new : Option (List ℕ)) → i < length texts
     → Appends old mid (flat_map f (take i texts)) → AppendsFront mid new (f (get_or texts i d)) → AppendsFront old new (flat_map f texts)

@@ -3,7 +3,7 @@
 #![tactic(auto)]
 
 use program_io::{StandardFiles, report_no_memory, report_unread_words, words};
-use rc_command::{SHORT_USAGE, close, os_host, run_words};
+use rc_command::{SHORT_USAGE, os_host, run_words};
 use std::process::ExitCode;
 
 fn main(rt: HostRuntime) -> ExitCode {
@@ -24,6 +24,6 @@ fn main(rt: HostRuntime) -> ExitCode {
         ),
         Err(error) => report_unread_words("rc", SHORT_USAGE, &error, &mut rt.stderr()),
     };
-    close(host);
+    drop(host);
     ExitCode::from(status)
 }

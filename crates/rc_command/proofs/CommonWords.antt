@@ -4,7 +4,7 @@ pub use Rattle.clap.specs.Words.{Row, is_simple_and_free, found_of, rows_of}
 pub use Rattle.rc_command.specs.CommandLine.{command_line, options_said, rows_said, rc_said_by, seconds_said, Asked, RcSaid, entering, said_at, said_of}
 pub use Rattle.rc_command.specs.declared.command.RunOptions.{RunOptions}
 pub use Rattle.std.proofs.lemmas.Bool.{true≢false}
-pub use Rattle.rc_command.specs.Endings.{AreNames, AsksFor, IsBefore, IsStatusOf, IsWhole, Reports, ReportsFirst, ReportsNames, ReportsPart, RunsAsked, RunsNames, RunsSaid, RunsScripts, ended_text, rc_of, status_of, written}
+pub use Rattle.rc_command.specs.Endings.{AreNames, AsksFor, IsBefore, IsStatusOf, IsWhole, Reports, ReportsFirst, ReportsNames, RunsAsked, RunsNames, RunsSaid, RunsScripts, ended_text, rc_of, status_of, written}
 pub use Rattle.rc_runs.specs.Runs.{LinkRun, RcState, is_failure}
 pub use Rattle.rc_driver.proofs.RunLemmas.{writes_ends, AppendsPrefix-none}
 pub use Rattle.std.proofs.lemmas.Result.{IfErr-weaker, IfOk-weaker}

@@ -1,5 +1,5 @@
 -- A run of all scripts reports them, and no answer to one is missing before it.
-use Rattle.rc_command.proofs.CommonWords.{◌≡◌, ◌≢◌, ◌⊎◌, ◌∙◌, inl, inr, refl, sym, arith, ℕ, ◌-◌, Bool, true, false, cond, ◌||◌, List, [], ◌∷◌, length, Option, ap, subst, true≢false, Asked, RcSaid, entering, said_at, RunOptions, AreNames, AsksFor, IsBefore, IsStatusOf, IsWhole, Reports, ReportsFirst, ReportsNames, ReportsPart, RunsAsked, RunsNames, RunsSaid, RunsScripts, ended_text, rc_of, status_of, written, LinkRun, RcState, is_failure, writes_ends}
+use Rattle.rc_command.proofs.CommonWords.{◌≡◌, ◌≢◌, ◌⊎◌, ◌∙◌, inl, inr, refl, sym, arith, ℕ, ◌-◌, Bool, true, false, cond, ◌||◌, List, [], ◌∷◌, length, Option, ap, subst, true≢false, Asked, RcSaid, entering, said_at, RunOptions, AreNames, AsksFor, IsBefore, IsStatusOf, IsWhole, Reports, ReportsFirst, ReportsNames, RunsAsked, RunsNames, RunsSaid, RunsScripts, ended_text, rc_of, status_of, written, LinkRun, RcState, is_failure, writes_ends}
 use Rattle.std.specs.Io.KnownBytes.{Appends}
 use Rattle.program_io.specs.Writing.{AppendsPrefix}
 use Rattle.program_io.specs.declared.statuses.TheConstants.{DEVICE_FAULT, DONE, LIMIT_REACHED}
@@ -214,16 +214,6 @@ said_reports names_at said dir path listed previous names before after status sa
   names,
   are_names names_at said dir listed previous names same there first here,
   subst (λ p. ReportsNames said.options p previous names before status after) (folder_is said dir path same at) all,
-)
-
-pub said_part : (names_at : KnownNames) (said : RcSaid) (dir path listed : List ℕ) (previous names : List (List ℕ)) (before after : Option (List ℕ))
-    → dir ≡ said.dir → path ≡ folder_of dir said.new → listed ≡ folder_of dir said.new → ArePrevious names_at dir said.previous previous → AreNamesAt names_at listed names
-    → ReportsFirst said.options path previous names before after → ReportsPart names_at said before after
-said_part names_at said dir path listed previous names before after same at there first here part = (
-  previous,
-  names,
-  are_names names_at said dir listed previous names same there first here,
-  subst (λ p. ReportsFirst said.options p previous names before after) (folder_is said dir path same at) part,
 )
 
 pub said_runs : (names_at : KnownNames) (said : RcSaid) (dir path listed : List ℕ) (previous names : List (List ℕ)) (old new : Option (List HostCall)) (before told after tells : Option (List ℕ)) (status : ℕ)

@@ -43,8 +43,8 @@ IsSilent options = (options.dry ≡ true) ⊎ (options.way.seconds ≡ None)
 
 -- what is reported of a script that has not ended: the link in the folder at the path
 abbrev pub limit_text : List ℕ → List ℕ → List ℕ
-limit_text path link = (codes "rc: " ++ (path ++ codes "/")) ++ (link ++
-    codes " has not ended after 100000 pauses, of a second at most: it runs on, and no script behind it was run\n")
+limit_text path link = codes "rc: " ++ (path ++ (codes "/" ++ (link ++
+    codes " has not ended after 100000 pauses, of a second at most: it runs on, and no script behind it was run\n")))
 
 -- what is reported of how a run ended
 abbrev pub ended_text : List ℕ → RunEnd → List ℕ

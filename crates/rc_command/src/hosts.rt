@@ -22,11 +22,3 @@ where
     };
     Ok(RecordingHost::after(&no_calls(), OsHost::new(rt, alloc, &options)?))
 }
-
-/// Lets a host go, with the handles and the files that it holds.
-pub fn close<R>(host: RecordingHost<OsHost<R>>)
-where
-    R: Processes + Files<File = File> + Clock + Print + Eprint + Drop,
-{
-    drop(host);
-}

@@ -11,6 +11,6 @@ mod running;
 pub use command::{RunOptions, Words, read_words};
 pub use command_words::WordFault;
 pub use folders::Folders;
-pub use hosts::{close, os_host};
+pub use hosts::os_host;
 pub use level_files::LevelFiles;
 pub use running::{PAUSES_LIMIT, SCRIPT_FAILED, SHORT_USAGE, USAGE, run_names, run_words};

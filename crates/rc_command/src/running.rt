@@ -21,9 +21,9 @@ use command_words::{is_version, print_version, report_word_fault};
 use host_calls::Host;
 use init_words::{Level, Memory};
 use program_io::{
-    DEVICE_FAULT, DONE, LIMIT_REACHED, REFUSED, Reason, report_no_memory, write_text,
+    DEVICE_FAULT, DONE, LIMIT_REACHED, REFUSED, Reason, report_no_memory, write_text, write_texts,
 };
-use rc_driver::{LevelChange, Rc, RunEnd, ScriptOptions, print_links, run_links, write_six};
+use rc_driver::{LevelChange, Rc, RunEnd, ScriptOptions, print_links, run_links};
 use std::alloc::Global;
 use std::io;
 use std::io::Write;
@@ -395,23 +395,17 @@ fn failed_status(strict: bool) -> u8
     if strict { SCRIPT_FAILED } else { DONE }
 }
 
+/// What is reported of a script that has not ended, behind its link.
+const RUNS_ON: &str = " has not ended after 100000 pauses, of a second at most: it runs on, \
+    and no script behind it was run\n";
+
 /// Reports that the pauses are used up while a script runs, and gives the exit status.
 fn report_limit<E: Write>(path: &str, link: &str, err: &mut E) -> u8
     ensures status { result ≡ LIMIT_REACHED }
     ensures report { AppendsPrefix (E.contents err.old) (E.contents err.new)
         (limit_text path.now link.now) }
 {
-    let runs_on = b" has not ended after 100000 pauses, of a second at most: it runs on, \
-        and no script behind it was run\n";
-    let _ = write_six(
-        err,
-        b"rc: ",
-        path.as_bytes(),
-        b"/",
-        link.as_bytes(),
-        runs_on,
-        b"",
-    );
+    let _ = write_texts(err, &["rc: ", path, "/", link, RUNS_ON]);
     LIMIT_REACHED
 }
 

@@ -1,5 +1,5 @@
 -- The calls of one script's run, put together.
-use Rattle.rc_driver.proofs.Words.{◌≡◌, refl, ap, ◌∙◌, subst, cond, nat_lt, ℕ, ◌+◌, ◌-◌, Bool, true, false, List, [], ◌∷◌, ◌++◌, length, filter, Option, Some, None, Result, Ok, Err, arith, HostCall, AddsCall, Since, Since-map, Since-one, Since-then, RcAnswer, ScriptOptions, AppendsPrefix, Begins, EndsEarly, Goes, GoesFurther, GoneTo, HasRun, RunsTo, by_late, by_look, by_reply, by_start, count_pauses, is_pause, is_waiting, script_id, Tells, due_by, due_signal, signal_line, time_lines, timer_at, timer_by}
+use Rattle.rc_driver.proofs.Words.{◌≡◌, refl, ap, ◌∙◌, subst, cond, nat_lt, ℕ, ◌+◌, ◌-◌, Bool, true, false, List, [], ◌∷◌, ◌++◌, length, filter, Option, Some, None, Result, Ok, Err, arith, HostCall, AddsCall, Since, Since-map, Since-one, Since-then, ScriptOptions, AppendsPrefix, Begins, Goes, GoesFurther, GoneTo, RunsTo, by_late, by_look, by_reply, by_start, count_pauses, is_pause, is_waiting, script_id, Tells, due_by, due_signal, signal_line, time_lines, timer_at, timer_by}
 use Rattle.std.proofs.lemmas.List.{length-append}
 use Rattle.std.proofs.lemmas.Option.{none-some, same_Some}
 use Rattle.std.proofs.lemmas.List.Elements.{filter-append}
@@ -120,19 +120,3 @@ pub gone_further : (old mid new : Option (List HostCall)) (limit : Option ℕ) (
 gone_further old mid new limit command known before now time taken pauses still left same fewer gone goes =
     gone_on old mid new limit command known before now time time taken pauses still left same fewer gone
     (Since-map mid new (GoesFurther limit before now taken) (Goes limit before time now time taken) goes (λ calls is. is time))
-
--- a script that came to its end, with what its time has told
-pub has_run : (old new : Option (List HostCall)) (way : ScriptOptions) (dir link command : List ℕ) (now : Progress) (given : RcAnswer) (time : Timer) (pauses still : ℕ) (told tells : Option (List ℕ))
-    → now ≡ progress.Over given → Since old new (GoneTo way.seconds command now time pauses still) → Tells told tells (time_lines way dir link time)
-    → Since old new (HasRun way dir link command given pauses still told tells)
-has_run old new way dir link command now given time pauses still told tells is gone lines =
-    Since-map old new (GoneTo way.seconds command now time pauses still) (HasRun way dir link command given pauses still told tells) gone
-    (λ calls was. (time, subst (λ p. GoneTo way.seconds command p time pauses still calls) is was, lines))
-
--- one that has none where the pauses are used up
-pub has_stopped : (old new : Option (List HostCall)) (way : ScriptOptions) (dir link command : List ℕ) (now : Progress) (time : Timer) (pauses still : ℕ) (told tells : Option (List ℕ))
-    → is_waiting now ≡ true → still ≡ 0 → Since old new (GoneTo way.seconds command now time pauses still) → Tells told tells (time_lines way dir link time)
-    → Since old new (EndsEarly way dir link command pauses told tells)
-has_stopped old new way dir link command now time pauses still told tells waiting none gone lines =
-    Since-map old new (GoneTo way.seconds command now time pauses still) (EndsEarly way dir link command pauses told tells) gone
-    (λ calls was. (now, time, waiting, was.0, omega (arith, was.1, none), lines))

@@ -3,4 +3,3 @@ pub mod PrintLemmas
 pub mod RunLemmas
 pub mod ToldLemmas
 pub mod Words
-pub mod WritingLemmas

@@ -1,5 +1,5 @@
 -- The words of the proofs of this crate.
-pub use Rattle.std.proofs.Common.{◌≡◌, refl, ap, ◌∙◌, subst, cond, nat_lt, ℕ, ◌+◌, ◌-◌, Bool, true, false, List, [], ◌∷◌, ◌++◌, length, filter, Option, Some, None, Result, Ok, Err, arith, ◌≢◌, ◌⊎◌, sym, inl, inr, codes, OnOk, IfErr, suc, not, ◌||◌, IfOk, OnErr, ◌*◌}
+pub use Rattle.std.proofs.Common.{◌≡◌, refl, ap, ◌∙◌, subst, cond, nat_lt, ℕ, ◌+◌, ◌-◌, Bool, true, false, List, [], ◌∷◌, ◌++◌, length, filter, Option, Some, None, Result, Ok, Err, arith, ◌≢◌, ◌⊎◌, sym, inl, inr, codes, OnOk, IfErr, suc, not, ◌||◌, IfOk, ◌*◌}
 pub use Rattle.host_calls.specs.Calls.{HostCall, AddsCall}
 pub use Rattle.host_calls.specs.Record.{Since}
 pub use Rattle.host_calls.proofs.Record.{Since-map, Since-one, Since-then, Since-none}
@@ -13,7 +13,7 @@ pub use Rattle.rc_driver.specs.Times.{due_by, due_signal, signal_line, time_line
 pub use Rattle.std.specs.Io.KnownBytes.{Appends}
 pub use Rattle.std.proofs.KnownBytes.{Appends-nil, Appends-trans}
 pub use Rattle.std.proofs.lemmas.Bool.{true≢false}
-pub use Rattle.program_io.proofs.WritingLemmas.{AppendsPrefix-first, AppendsPrefix-then, AppendsPrefix-whole, on_err, AppendsFront-prefix}
+pub use Rattle.program_io.proofs.WritingLemmas.{AppendsPrefix-first, AppendsPrefix-then}
 pub use Rattle.rc_driver.specs.declared.driving.RunEnd.{RunEnd}
 pub use Rattle.rc_driver.specs.Printing.{PrintStops, Printed, PrintsLinks, command_line, command_lines}
 pub use Rattle.rc_runs.specs.Runs.{LinkRun, RcState, is_failure}

@@ -34,17 +34,17 @@ abbrev pub end_text : RcAnswer → List ℕ
 end_text (answer.Ended how) = status_text how
 end_text answer.NotStarted = codes " not started\n"
 
--- a script's link and its argument
-abbrev pub script_text : LinkRun → List ℕ
-script_text s = s.0 ++ (codes " " ++ arg_word s.1)
+-- a line of a script: its link and its argument, and how it fares
+abbrev pub script_line : LinkRun → List ℕ → List ℕ
+script_line s how = s.0 ++ (codes " " ++ (arg_word s.1 ++ how))
 
 -- the line of a script that came to its end
 abbrev pub line_of : LinkRun → RcAnswer → List ℕ
-line_of s given = script_text s ++ end_text given
+line_of s given = script_line s (end_text given)
 
 -- the line of a script that is started
 abbrev pub begin_line : LinkRun → List ℕ
-begin_line s = script_text s ++ codes " begins\n"
+begin_line s = script_line s (codes " begins\n")
 
 -- what is written of a script that came to its end; of its start too, where starts are told
 abbrev pub lines_of : ScriptOptions → LinkRun → RcAnswer → List ℕ
@@ -85,7 +85,8 @@ level_words (Some change) = codes "env RUNLEVEL=" ++ (level_code change.new ∷ 
 
 -- what starts a script, whose link stands in the folder
 abbrev pub command_text : ScriptOptions → List ℕ → LinkRun → List ℕ
-command_text way dir s = level_words way.levels ++ (shell_word way ++ (dir ++ (codes "/" ++ script_text s)))
+command_text way dir s =
+    level_words way.levels ++ (shell_word way ++ (dir ++ (codes "/" ++ (s.0 ++ (codes " " ++ arg_word s.1)))))
 
 -- what is written of scripts that came to these ends, as far as there are both
 abbrev pub report : ScriptOptions → List LinkRun → List RcAnswer → List ℕ

@@ -37,13 +37,13 @@ wait_of limit sig.Term = unwrap_or limit 0
 wait_of limit sig.Kill = GRACE
 
 abbrev pub signal_word : SignalKind → List ℕ
-signal_word sig.Term = codes " s: TERM was sent\n"
-signal_word sig.Kill = codes " s more: KILL was sent\n"
+signal_word sig.Term = codes " s: TERM was sent"
+signal_word sig.Kill = codes " s more: KILL was sent"
 
 -- the line that tells of a signal to the script of a link in the folder, behind so many seconds
 abbrev pub late_line : List ℕ → List ℕ → ℕ → SignalKind → List ℕ
-late_line dir link seconds signal = ((codes "rc: " ++ (dir ++ codes "/"))
-    ++ (link ++ (codes " has not ended after " ++ decimal seconds))) ++ signal_word signal
+late_line dir link seconds signal = codes "rc: " ++ (dir ++ (codes "/" ++ (link ++ (codes " has not ended after "
+    ++ (decimal seconds ++ (signal_word signal ++ codes "\n"))))))
 
 abbrev pub signal_line : Option ℕ → List ℕ → List ℕ → SignalKind → List ℕ
 signal_line limit dir link signal = late_line dir link (wait_of limit signal) signal

@@ -11,4 +11,3 @@ mod writing;
 pub use driving::{RunEnd, run_links};
 pub use printing::print_links;
 pub use rc_runs::{Arg, LevelChange, NotAsked, Rc, RcAnswer, RcStep, ScriptOptions};
-pub use writing::write_six;

@@ -58,7 +58,7 @@ fn print_link<A: Allocator + Copy, W: Write>(
     let Ok(command) = command_of(alloc, way, dir, link, arg) else {
         return Err(RunEnd::Memory);
     };
-    tell_text(out, command.as_bytes())
+    tell_text(out, command.as_str())
 }
 
 /// Writes for each of the scripts that are left the text that would start it, a line each, and runs none: no host is

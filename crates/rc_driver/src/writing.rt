@@ -1,17 +1,17 @@
 //! The lines of scripts, and the texts that start them.
 
-ghost use Rattle.std.specs.Prelude.{◌≡◌, ◌++◌, string_bytes, true, codes, IfOk, IfErr, OnOk, OnErr};
+ghost use Rattle.std.specs.Prelude.{◌≡◌, ◌++◌, string_bytes, true, codes, IfOk, IfErr, OnOk};
 ghost use Rattle.std.specs.Io.KnownBytes.{Appends};
 ghost use Rattle.program_io.specs.Writing.{AppendsPrefix};
-ghost use Rattle.rc_driver.specs.Report.{TellsStart, arg_word, before_code, begin_line, command_text, level_words, line_of, script_text, shell_word};
-ghost use Rattle.rc_driver.specs.Times.{late_line, signal_line, signal_word};
+ghost use Rattle.rc_driver.specs.Report.{TellsStart, arg_word, before_code, begin_line, command_text, level_words, line_of, script_line, shell_word};
+ghost use Rattle.rc_driver.specs.Times.{signal_line, signal_word};
 ghost use Rattle.rc_driver.specs.declared.driving.RunEnd.TheVariants as run_end;
 
 use crate::driving::RunEnd;
 use crate::times::wait_of;
 use init_words::{Level, SignalKind, Status};
 use itoa::Buffer;
-use program_io::write_text;
+use program_io::write_texts;
 use rc_runs::{Arg, LevelChange, RcAnswer, ScriptOptions};
 use std::alloc::{AllocError, Allocator};
 use std::io;
@@ -26,78 +26,37 @@ fn arg_word(arg: Arg) -> &'static str
     }
 }
 
-/// Writes a text.
-fn write_one<W: Write>(out: &mut W, text: &[u8]) -> io::Result<()>
-    ensures ok { OnOk result (Appends (W.contents out.old) (W.contents out.new) text.now) }
-    ensures err { OnErr result
-        (AppendsPrefix (W.contents out.old) (W.contents out.new) text.now) }
-{
-    write_text(out, text)
-}
-
-/// Writes two texts, one after the other.
-#[tactic(auto, using(crate::proofs::WritingLemmas::first_err, crate::proofs::WritingLemmas::last_ok, crate::proofs::WritingLemmas::last_err))]
-fn write_two<W: Write>(out: &mut W, first: &[u8], second: &[u8]) -> io::Result<()>
-    ensures ok { OnOk result
-        (Appends (W.contents out.old) (W.contents out.new) (first.now ++ second.now)) }
-    ensures err { OnErr result
-        (AppendsPrefix (W.contents out.old) (W.contents out.new) (first.now ++ second.now)) }
-{
-    write_one(out, first)?;
-    write_one(out, second)
-}
-
-/// Writes three texts, one after the other.
-#[tactic(auto, using(crate::proofs::WritingLemmas::first_err, crate::proofs::WritingLemmas::last_ok, crate::proofs::WritingLemmas::last_err))]
-fn write_three<W: Write>(out: &mut W, first: &[u8], second: &[u8], third: &[u8]) -> io::Result<()>
-    ensures ok { OnOk result (Appends (W.contents out.old) (W.contents out.new)
-        (first.now ++ (second.now ++ third.now))) }
-    ensures err { OnErr result (AppendsPrefix (W.contents out.old) (W.contents out.new)
-        (first.now ++ (second.now ++ third.now))) }
-{
-    write_one(out, first)?;
-    write_two(out, second, third)
-}
-
-/// Writes six texts, one after the other.
-#[tactic(auto, using(crate::proofs::WritingLemmas::first_err, crate::proofs::WritingLemmas::last_ok, crate::proofs::WritingLemmas::last_err))]
-pub fn write_six<W: Write>(
+/// Writes the line of a script, in its parts.
+fn write_script<W: Write>(
     out: &mut W,
-    first: &[u8],
-    second: &[u8],
-    third: &[u8],
-    fourth: &[u8],
-    fifth: &[u8],
-    sixth: &[u8],
+    link: &str,
+    word: &str,
+    how: &str,
+    code: &str,
 ) -> io::Result<()>
     ensures ok { OnOk result (Appends (W.contents out.old) (W.contents out.new)
-        ((first.now ++ (second.now ++ third.now)) ++ (fourth.now ++ (fifth.now ++ sixth.now)))) }
-    ensures err { OnErr result (AppendsPrefix (W.contents out.old) (W.contents out.new)
-        ((first.now ++ (second.now ++ third.now)) ++ (fourth.now ++ (fifth.now ++ sixth.now)))) }
+        (link.now ++ (codes " " ++ (word.now ++ (how.now ++ (code.now ++ codes "\n")))))) }
+    ensures part { AppendsPrefix (W.contents out.old) (W.contents out.new)
+        (link.now ++ (codes " " ++ (word.now ++ (how.now ++ (code.now ++ codes "\n"))))) }
 {
-    write_three(out, first, second, third)?;
-    write_three(out, fourth, fifth, sixth)
+    write_texts(out, &[link, " ", word, how, code, "\n"])
 }
 
-/// Writes the line of a script, which ends with three texts, and sees that it is out.
+/// Writes the line of a script, which ends with two texts, and sees that it is out.
 fn tell_script<W: Write>(
     out: &mut W,
     link: &str,
     arg: Arg,
-    first: &[u8],
-    second: &[u8],
-    third: &[u8],
+    how: &str,
+    code: &str,
 ) -> Result<(), RunEnd<'static>>
     ensures ok { OnOk result (Appends (W.contents out.old) (W.contents out.new)
-        (script_text (link.now, arg) ++ (first.now ++ (second.now ++ third.now)))) }
+        (script_line (link.now, arg) (how.now ++ (code.now ++ codes "\n")))) }
     ensures err { IfErr result (λ ended. (ended ≡ run_end.Write) × AppendsPrefix
         (W.contents out.old) (W.contents out.new)
-        (script_text (link.now, arg) ++ (first.now ++ (second.now ++ third.now)))) }
+        (script_line (link.now, arg) (how.now ++ (code.now ++ codes "\n")))) }
 {
-    let word = arg_word(arg).as_bytes();
-    if write_six(out, link.as_bytes(), b" ", word, first, second, third).is_err()
-        || out.flush().is_err()
-    {
+    if write_script(out, link, arg_word(arg), how, code).is_err() || out.flush().is_err() {
         return Err(RunEnd::Write);
     }
     Ok(())
@@ -117,7 +76,7 @@ pub(crate) fn tell_start<W: Write>(
         (begin_line (link.now, arg))) }
 {
     if way.verbose {
-        tell_script(out, link, arg, b" begins\n", b"", b"")
+        tell_script(out, link, arg, " begins", "")
     } else {
         Ok(())
     }
@@ -138,11 +97,10 @@ pub(crate) fn tell_end<W: Write>(
     match answer {
         RcAnswer::Ended(Status::Exit(code)) => {
             let mut buffer = Buffer::new();
-            let number = buffer.format(*code).as_bytes();
-            tell_script(out, link, arg, b" exit ", number, b"\n")
+            tell_script(out, link, arg, " exit ", buffer.format(*code))
         }
-        RcAnswer::Ended(Status::Killed) => tell_script(out, link, arg, b" killed\n", b"", b""),
-        RcAnswer::NotStarted => tell_script(out, link, arg, b" not started\n", b"", b""),
+        RcAnswer::Ended(Status::Killed) => tell_script(out, link, arg, " killed", ""),
+        RcAnswer::NotStarted => tell_script(out, link, arg, " not started", ""),
     }
 }
 
@@ -192,46 +150,28 @@ pub(crate) fn command_of<A: Allocator + Copy>(
     format!(in alloc; "{levels}{shell}{dir}/{link} {word}")
 }
 
-fn signal_word(signal: SignalKind) -> &'static [u8]
+fn signal_word(signal: SignalKind) -> &'static str
     ensures { result.now ≡ signal_word signal }
 {
     match signal {
-        SignalKind::Term => b" s: TERM was sent\n",
-        SignalKind::Kill => b" s more: KILL was sent\n",
+        SignalKind::Term => " s: TERM was sent",
+        SignalKind::Kill => " s more: KILL was sent",
     }
 }
 
-/// Writes the line that tells of a signal.
-#[tactic(auto, using(crate::proofs::WritingLemmas::first_err, crate::proofs::WritingLemmas::last_ok, crate::proofs::WritingLemmas::last_err))]
-fn write_signal<E: Write>(
-    err: &mut E,
-    dir: &str,
-    link: &str,
-    seconds: u32,
-    signal: SignalKind,
-) -> io::Result<()>
-    ensures ok { OnOk result (Appends (E.contents err.old) (E.contents err.new)
-        (late_line dir.now link.now seconds signal)) }
-    ensures err { OnErr result (AppendsPrefix (E.contents err.old) (E.contents err.new)
-        (late_line dir.now link.now seconds signal)) }
+/// What is told of a script that is late, behind its link.
+const LATE: &str = " has not ended after ";
+
+/// Tells by how much of its time a script is late, and what it was sent, by as much of the line as `err` takes.
+fn tell_late<E: Write>(err: &mut E, dir: &str, link: &str, seconds: &str, sent: &str)
+    ensures { AppendsPrefix (E.contents err.old) (E.contents err.new) (codes "rc: " ++ (dir.now
+        ++ (codes "/" ++ (link.now ++ (codes " has not ended after " ++ (seconds.now
+        ++ (sent.now ++ codes "\n"))))))) }
 {
-    let mut buffer = Buffer::new();
-    let number = buffer.format(seconds).as_bytes();
-    let late = b" has not ended after ";
-    write_six(
-        err,
-        b"rc: ",
-        dir.as_bytes(),
-        b"/",
-        link.as_bytes(),
-        late,
-        number,
-    )?;
-    write_one(err, signal_word(signal))
+    let _ = write_texts(err, &["rc: ", dir, "/", link, LATE, seconds, sent, "\n"]);
 }
 
 /// Tells that a script was sent a signal, by as much of the line as `err` takes.
-#[tactic(auto, using(crate::proofs::WritingLemmas::prefix_of))]
 pub(crate) fn tell_signal<E: Write>(
     err: &mut E,
     limit: Option<u32>,
@@ -242,17 +182,19 @@ pub(crate) fn tell_signal<E: Write>(
     ensures { AppendsPrefix (E.contents err.old) (E.contents err.new)
         (signal_line limit dir.now link.now signal) }
 {
-    let _ = write_signal(err, dir, link, wait_of(limit, signal), signal);
+    let mut buffer = Buffer::new();
+    let seconds = buffer.format(wait_of(limit, signal));
+    tell_late(err, dir, link, seconds, signal_word(signal));
 }
 
 /// Writes a text as a line, and sees that it is out.
-pub(crate) fn tell_text<W: Write>(out: &mut W, text: &[u8]) -> Result<(), RunEnd<'static>>
+pub(crate) fn tell_text<W: Write>(out: &mut W, text: &str) -> Result<(), RunEnd<'static>>
     ensures ok { OnOk result (Appends (W.contents out.old) (W.contents out.new)
         (text.now ++ codes "\n")) }
     ensures err { IfErr result (λ ended. (ended ≡ run_end.Write) × AppendsPrefix
         (W.contents out.old) (W.contents out.new) (text.now ++ codes "\n")) }
 {
-    if write_two(out, text, b"\n").is_err() || out.flush().is_err() {
+    if write_texts(out, &[text, "\n"]).is_err() || out.flush().is_err() {
         return Err(RunEnd::Write);
     }
     Ok(())

@@ -1,6 +1,6 @@
 //! Writers and readers that give or take little at a time, or fail in the middle, and the words of a program.
 
-use program_io::{only_byte, read_all, report_unread_words, unread_status, words, write_text};
+use program_io::{only_byte, read_all, report_unread_words, unread_status, words, write_texts};
 use std::alloc::Global;
 use std::env::{Env, FillError};
 use std::io;
@@ -20,9 +20,9 @@ const WRITES: &[(usize, bool, Option<ErrorKind>, &[u8])] = &[
     (0, true, Some(ErrorKind::BrokenPipe), b""),
 ];
 
-/// How the write of `request` ends.
+/// How the write of `request` ends, in its parts.
 fn fault_at(slow: &mut Slow) -> Option<ErrorKind> {
-    match write_text(slow, b"request") {
+    match write_texts(slow, &["req", "", "uest"]) {
         Ok(()) => None,
         Err(error) => Some(error.kind()),
     }
