@@ -1,5 +1,5 @@
 -- What is so of each step that is decided, where it is so of each kind of step.
-use Rattle.core_model.proofs.Words.{arith, ◌≡◌, refl, sym, ap, ◌∙◌, ℕ, Bool, true, false, not, ◌+◌, ◌&&◌, cond, List, [], ◌∷◌, zip, Option, Some, None, is_none, is_some, nat_le, false≢true, Entry, Letter, Level, Stage, OrderKind, Start, Look, Term, Kill, PowerKind, is_limited, may_of, Goal, Step, Reread, Order, Reexec, Idle, in_run, Stop, Due, Termed, Killed, RecordState, allows, PendingCalls, first_news, CoreState, or_else, or_idle, level_step, news_step, wished_step, stop_step, stop_among, signal_step, limited_step, start_step, start_along, start_among, stage_step, settle_step, calm_step, work_step, look_among, can_look_record, can_start_record, is_owed_record, is_over_among, all_served, has_excluded, stands, decide_in, decide}
+use Rattle.core_model.proofs.Words.{arith, ◌≡◌, refl, sym, ap, ◌∙◌, ℕ, Bool, true, false, not, ◌+◌, ◌&&◌, cond, List, [], ◌∷◌, zip, Option, Some, None, is_none, is_some, nat_le, false≢true, Entry, Letter, Level, Stage, OrderKind, Start, Look, Term, Kill, PowerKind, is_limited, may_of, Goal, Step, Reread, Order, Reexec, Idle, in_run, Stop, Due, Termed, Killed, RecordState, allows, CallSet, first_news, CoreState, or_else, or_idle, level_step, news_step, wished_step, stop_step, stop_among, signal_step, limited_step, start_step, start_along, start_among, stage_step, settle_step, calm_step, work_step, look_among, can_look_record, can_start_record, is_owed_record, is_over_among, all_served, has_excluded, stands, decide_in, decide}
 use Rattle.init_words.specs.declared.stages.Stage.TheVariants as stage
 use Rattle.init_words.specs.declared.levels.Letter.TheVariants as letter
 use Rattle.init_words.specs.declared.orders.PowerKind.TheVariants as power
@@ -81,7 +81,7 @@ module _ (test : Step → Bool) (c : CoreState) (each : EachPasses test c) where
   levels booted None short = tt
   levels booted (Some wish) short = short wish refl _
 
-  pending : (kept : PendingCalls) → Pass (first_news kept)
+  pending : (kept : CallSet) → Pass (first_news kept)
   pending kept = by kept.fail kept.fail_now kept.ok kept.a kept.b kept.c
     where
       by : (fail fail_now ok a b c : Bool) → Pass (first_news (record { fail = fail; fail_now = fail_now; ok = ok; a = a; b = b; c = c }))

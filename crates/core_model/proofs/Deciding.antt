@@ -1,5 +1,5 @@
 -- Under a fit the step that is decided is the first that is due.
-use Rattle.core_model.proofs.Words.{arith, ◌≡◌, refl, sym, ◌∙◌, ap, cond, ℕ, Bool, true, false, not, ◌&&◌, ◌||◌, List, [], ◌++◌, Option, Some, None, is_some, list_all, Stage, waited_of, same_level-self, Step, Reread, Reexec, Goal, Event, table_of, stage_of, grace_of, time_of, has_child, kept_children, is_wanted, in_run, goal_of, wants_reexec, wants_reread, level_wish, powers, letters, keeps_news, wish_stands, was_booted, due, first, steps_if, due_first, due_reexec, due_reread, due_level, due_news, due_stops, due_starts, due_stage, due_settle, due_looks, enter_level, power_steps, letter_steps, stops_among, starts_among, is_announced, record_ids, is_sound, PendingCalls, has_news, first_news, CoreState, or_else, or_idle, level_step, wish_step, stands, has_excluded, all_done, work_step, decide_in, decide, LastStatuses, Fits, core_read, news_of, records_of}
+use Rattle.core_model.proofs.Words.{arith, ◌≡◌, refl, sym, ◌∙◌, ap, cond, ℕ, Bool, true, false, not, ◌&&◌, ◌||◌, List, [], ◌++◌, Option, Some, None, is_some, list_all, Stage, waited_of, same_level-self, Step, Reread, Reexec, Goal, Event, table_of, stage_of, grace_of, time_of, has_child, kept_children, is_wanted, in_run, goal_of, wants_reexec, wants_reread, level_wish, powers, letters, keeps_news, wish_stands, was_booted, due, first, steps_if, due_first, due_reexec, due_reread, due_level, due_news, due_stops, due_starts, due_stage, due_settle, due_looks, enter_level, power_steps, letter_steps, stops_among, starts_among, is_announced, record_ids, is_sound, CallSet, has_news, first_news, CoreState, or_else, or_idle, level_step, wish_step, stands, has_excluded, all_done, work_step, decide_in, decide, LastStatuses, Fits, core_read, news_of, records_of}
 use Rattle.init_words.specs.declared.stages.Stage.TheVariants as stage
 use Rattle.trace_events.specs.declared.steps.Step.TheVariants.{Enter}
 use Rattle.trace_events.specs.Past.{is_quiet, is_idle}
@@ -36,7 +36,7 @@ level_head : (past : List Event) (wish : Option Goal) → head (enter_level wish
 level_head past wish = grind arith
 
 any_news : (past : List Event) → keeps_news past ≡ has_news (news_of past)
-any_news past = by_first (λ (n : PendingCalls). ((n.fail || (n.fail_now || (n.ok || false))) || (n.a || (n.b || (n.c || false)))) ≡ has_news n) (λ n o a b c. refl) (λ o a b c. refl) (λ a b c. refl) (λ b c. refl) (λ c. refl) refl refl (news_of past)
+any_news past = by_first (λ (n : CallSet). ((n.fail || (n.fail_now || (n.ok || false))) || (n.a || (n.b || (n.c || false)))) ≡ has_news n) (λ n o a b c. refl) (λ o a b c. refl) (λ a b c. refl) (λ b c. refl) (λ c. refl) refl refl (news_of past)
 
 -- 6 to 9: what is to be done, where no wish stands
 work_by : (w x q l i a : Bool) (stops starts next settled : List Step) (s m n t : Option Step) → head stops ≡ s → head starts ≡ m → head (steps_if (q && l) next) ≡ n → (x ≡ true → settled ≡ []) → (x ≡ false → head (steps_if (i && not a) settled) ≡ t)

@@ -1,10 +1,9 @@
 -- Each happening leaves the single values of init what the past says.
-use Rattle.core_model.proofs.Words.{◌≡◌, refl, sym, ◌∙◌, ap, subst, ℕ, Bool, true, false, ◌||◌, cond, List, [], ◌∷◌, Option, Some, None, false≢true, Level, Letter, PowerKind, Stage, same_level, HeardRequest, Goal, Event, stage_of, in_run, goal_of, heard_level, other_than, level_wish, was_booted, wants_reread, with_kind, with_call, is_boot, wished, heard_in, fields_heard, news_of, fields_of}
-use Rattle.init_words.specs.declared.levels.Letter.TheVariants as letter
-use Rattle.init_words.specs.declared.orders.PowerKind.TheVariants as power
+use Rattle.core_model.proofs.Words.{◌≡◌, refl, sym, ◌∙◌, ap, subst, ℕ, Bool, true, false, ◌||◌, cond, List, [], ◌∷◌, Option, Some, None, false≢true, Level, Letter, PowerKind, Stage, same_level, HeardRequest, Goal, Event, stage_of, in_run, goal_of, heard_level, other_than, level_wish, was_booted, wants_reread, with_kind, with_call, is_boot, wished, heard_in, fields_heard, fields_of}
 use Rattle.init_words.specs.declared.stages.Stage.TheVariants as stage
 use Rattle.initctl_frame.specs.declared.requests.HeardRequest.TheVariants as got
 use Rattle.trace_events.specs.declared.happenings.Happening.TheVariants as event
+use Rattle.trace_events.proofs.CallSets.{news_powered, news_called, power_heard, letter_heard}
 use Rattle.core_model.specs.declared.parts.CoreFields.{CoreFields}
 
 -- a wish for another level that stands was the last level asked for
@@ -54,20 +53,10 @@ module _ (h : CoreFields) (past : List Event) (kept : h ≡ fields_of past h.goa
 
   -- news of the power, or a letter, was carried out
   pub fields_powered : (kind : PowerKind) → record h { pending = with_kind kind false h.pending } ≡ fields_of (event.Power kind ∷ past) h.goal h.generation
-  fields_powered kind = λ i. record (kept i) { pending = (ap (λ (x : CoreFields). with_kind kind false x.pending) kept ∙ by kind) i }
-    where
-      by : (kind : PowerKind) → with_kind kind false (news_of past) ≡ news_of (event.Power kind ∷ past)
-      by power.Fail = refl
-      by power.FailNow = refl
-      by power.Ok = refl
+  fields_powered kind = λ i. record (kept i) { pending = (ap (λ (x : CoreFields). with_kind kind false x.pending) kept ∙ news_powered past kind) i }
 
   pub fields_called : (l : Letter) → record h { pending = with_call l false h.pending } ≡ fields_of (event.Call l ∷ past) h.goal h.generation
-  fields_called l = λ i. record (kept i) { pending = (ap (λ (x : CoreFields). with_call l false x.pending) kept ∙ by l) i }
-    where
-      by : (l : Letter) → with_call l false (news_of past) ≡ news_of (event.Call l ∷ past)
-      by letter.A = refl
-      by letter.B = refl
-      by letter.C = refl
+  fields_called l = λ i. record (kept i) { pending = (ap (λ (x : CoreFields). with_call l false x.pending) kept ∙ news_called past l) i }
 
   -- a level was asked for, by the stage
   module _ (l : Level) (s : ℕ) where
@@ -107,18 +96,8 @@ module _ (h : CoreFields) (past : List Event) (kept : h ≡ fields_of past h.goa
       (sym (ap (λ (x : CoreFields). x.stage) kept)) (level_heard l s (stage_of past) refl)
   fields_got got.Reload = λ i. record (kept i) { reread = true }
   fields_got got.Reexec = λ i. record (kept i) { reexec = true }
-  fields_got (got.Call l) = λ i. record (kept i) { pending = (ap (λ (x : CoreFields). with_call l true x.pending) kept ∙ by l) i }
-    where
-      by : (l : Letter) → with_call l true (news_of past) ≡ news_of (event.Got (got.Call l) ∷ past)
-      by letter.A = refl
-      by letter.B = refl
-      by letter.C = refl
-  fields_got (got.Power k) = λ i. record (kept i) { pending = (ap (λ (x : CoreFields). with_kind k true x.pending) kept ∙ by k) i }
-    where
-      by : (k : PowerKind) → with_kind k true (news_of past) ≡ news_of (event.Got (got.Power k) ∷ past)
-      by power.Fail = refl
-      by power.FailNow = refl
-      by power.Ok = refl
+  fields_got (got.Call l) = λ i. record (kept i) { pending = (ap (λ (x : CoreFields). with_call l true x.pending) kept ∙ letter_heard past l) i }
+  fields_got (got.Power k) = λ i. record (kept i) { pending = (ap (λ (x : CoreFields). with_kind k true x.pending) kept ∙ power_heard past k) i }
   fields_got (got.Nothing cause) = kept
 
   -- the goal of what is kept, where it is that of the past before the run levels

@@ -1,7 +1,7 @@
 -- A fact of news, by the first that there is.
-use Rattle.core_model.proofs.Words.{Bool, true, false, PendingCalls}
+use Rattle.core_model.proofs.Words.{Bool, true, false, CallSet}
 
-module _ (P : PendingCalls → Type 0)
+module _ (P : CallSet → Type 0)
     (fail : (n o a b c : Bool) → P (record { fail = true; fail_now = n; ok = o; a = a; b = b; c = c }))
     (fail_now : (o a b c : Bool) → P (record { fail = false; fail_now = true; ok = o; a = a; b = b; c = c }))
     (ok : (a b c : Bool) → P (record { fail = false; fail_now = false; ok = true; a = a; b = b; c = c }))
@@ -9,7 +9,7 @@ module _ (P : PendingCalls → Type 0)
     (by_b : (c : Bool) → P (record { fail = false; fail_now = false; ok = false; a = false; b = true; c = c }))
     (by_c : P (record { fail = false; fail_now = false; ok = false; a = false; b = false; c = true }))
     (none : P (record { fail = false; fail_now = false; ok = false; a = false; b = false; c = false })) where
-  pub by_first : (pending : PendingCalls) → P pending
+  pub by_first : (pending : CallSet) → P pending
   by_first pending = at pending.fail pending.fail_now pending.ok pending.a pending.b pending.c
     where
       at : (f n o a b c : Bool) → P (record { fail = f; fail_now = n; ok = o; a = a; b = b; c = c })

@@ -1,5 +1,5 @@
 -- The core fits the trace with each step that it takes.
-use Rattle.core_model.proofs.Words.{arith, ◌≡◌, refl, sym, ◌∙◌, ap, ℕ, Bool, true, false, cond, List, [], ◌∷◌, map, Option, Some, None, list_any, false≢true, Entry, Level, Stage, Start, Look, Term, Kill, is_limited, same_id-self, entry_of, is_distinct, Step, Reread, Order, Reexec, Idle, Goal, Event, table_of, stage_of, time_of, in_run, goal_of, due, first, same_step, is_sound, MayRun, due_facts, sound_holds, RecordState, after_enter, after_judge, PendingCalls, first_news, CoreState, decide, or_else, or_idle, after_step, LastStatuses, Fits, StillFits, lasts_after, fields_of, core_read, with_step}
+use Rattle.core_model.proofs.Words.{arith, ◌≡◌, refl, sym, ◌∙◌, ap, ℕ, Bool, true, false, cond, List, [], ◌∷◌, map, Option, Some, None, list_any, false≢true, Entry, Level, Stage, Start, Look, Term, Kill, is_limited, same_id-self, entry_of, is_distinct, Step, Reread, Order, Reexec, Idle, Goal, Event, table_of, stage_of, time_of, in_run, goal_of, due, first, same_step, is_sound, MayRun, due_facts, sound_holds, RecordState, after_enter, after_judge, CallSet, first_news, CoreState, decide, or_else, or_idle, after_step, LastStatuses, Fits, StillFits, lasts_after, fields_of, core_read, with_step}
 use Rattle.init_words.specs.declared.stages.Stage.TheVariants as stage
 use Rattle.respawn_limit.specs.Window.{is_held}
 use Rattle.trace_events.specs.declared.happenings.Happening.TheVariants as event
@@ -48,8 +48,8 @@ look_enters : (slots : List RecordState) → enters (core.look_among slots) ≡ 
 look_enters [] = grind arith
 look_enters (slot ∷ slots) = grind (arith, look_enters slots)
 
-news_enters : (pending : PendingCalls) → enters (first_news pending) ≡ false
-news_enters = by_first (λ (n : PendingCalls). enters (first_news n) ≡ false) (λ n o a b c. refl) (λ o a b c. refl) (λ a b c. refl) (λ b c. refl) (λ c. refl) refl refl
+news_enters : (pending : CallSet) → enters (first_news pending) ≡ false
+news_enters = by_first (λ (n : CallSet). enters (first_news n) ≡ false) (λ n o a b c. refl) (λ o a b c. refl) (λ a b c. refl) (λ b c. refl) (λ c. refl) refl refl
 
 -- in a run level in which no other is wished for the core enters no stage
 run_enters : (c : CoreState) (level : Level) → c.fields.level_wish ≡ None → enters (or_else (core.wish_step (stage.Run level) c) (or_else (core.work_step (stage.Run level) c) (core.look_among c.slots))) ≡ false

@@ -18,7 +18,7 @@ pub use Rattle.trace_laws.proofs.Orders.{known_kept, idle_none, told_finds, open
 pub use Rattle.trace_laws.proofs.Births.{birth_ready, birth_in_turn, birth_spared, sound_step, step_at, one_child, one_child_at, is_table}
 pub use Rattle.trace_laws.proofs.Spells.{is_still, spell_still, missed_still, spell_birth, missed_none, spell_nudge, spell_none, spell_enter, missed_enter, spell_table, missed_table, spell_told, missed_told, Tells, answered_tells}
 pub use Rattle.core_records.specs.Lists.{record_by_id, is_record_of, are_distinct, can_ask_of, can_ask, has_record_of, changed, with_changed, is_busy, is_numbered, order_of, order_in, without, refusal_of, is_over_of}
-pub use Rattle.core_model.specs.Fit.{LastStatuses, child_known, living, known_child, stop_known, stop_of, is_to_look, was_missed, records_of, Fits, core_read, news_of, HasLasts, FitsAll, StillFits, lasts_after, lasts_of, with_lasts, fields_of, limiter_by, last_hold_end, stop_after, asked_of, called_of, limiter_of, limits_of, with_step, last_told}
+pub use Rattle.core_model.specs.Fit.{LastStatuses, child_known, living, known_child, stop_known, stop_of, is_to_look, was_missed, records_of, Fits, core_read, HasLasts, FitsAll, StillFits, lasts_after, lasts_of, with_lasts, fields_of, limiter_by, last_hold_end, stop_after, asked_of, called_of, limiter_of, limits_of, with_step, last_told}
 pub use Rattle.std.proofs.lemmas.Bool.Decides.{nat_tests}
 pub use Rattle.init_words.specs.declared.entries.Entry.{Entry}
 pub use Rattle.init_words.specs.declared.stages.Stage.{Stage}
@@ -31,7 +31,7 @@ pub use Rattle.core_records.specs.declared.children.Stop.{Stop}
 pub use Rattle.core_records.specs.State.{RecordState, is_limited_record, new_record, act_born_with, stays_called_record}
 pub use Rattle.core_records.specs.Order.{IsInOrder}
 pub use Rattle.core_records.specs.Changes.{allows, can_be_asked, after_order, after_hold, after_begin_round, after_hit, after_answer, is_over, after_call, after_enter}
-pub use Rattle.core_model.specs.PendingCalls.{keeps_kind, keeps_call, first_news, has_news, with_kind, with_call, news_count}
+pub use Rattle.trace_events.specs.CallSets.{keeps_kind, keeps_call, first_news, has_news, with_kind, with_call, news_count, news_of}
 pub use Rattle.core_model.specs.Rules.{may_follow, never_fall, IsFit, has_cause, is_birth_known, is_order_allowed, is_stop_judged, are_marks_due, is_limiter_kept, are_starts_in, are_starts_free, is_other_level, is_goal_reached, are_fields_kept, is_record_kept, are_records_kept, is_limit_kept, is_unused, is_kept, is_started, are_starts_along, is_excluded_in, allows_order, is_child_excluded, may_be_signalled, is_callable, is_hold_of, is_start_allowed}
 pub use Rattle.core_model.specs.State.{CoreState, opening_fields, opening_state}
 pub use Rattle.core_model.specs.Work.{stages_left, enters_left, unheld, unasked, work_left}
@@ -49,7 +49,7 @@ pub use Rattle.init_words.specs.declared.orders.PowerKind.{PowerKind}
 pub use Rattle.init_words.specs.Actions.{is_limited, starts_by, served_by, wanted_by, stays_called, lives_by, same_act}
 pub use Rattle.trace_events.specs.Wishes.{in_run, goal_of, wants_reexec, wants_reread, level_wish, powers, letters, keeps_news, wish_stands, was_booted, is_level, heard_level, other_than}
 pub use Rattle.core_records.specs.declared.children.Stop.TheVariants.{Due, Termed, Killed}
-pub use Rattle.core_model.specs.declared.pending_calls.PendingCalls.{PendingCalls}
+pub use Rattle.trace_events.specs.declared.call_sets.CallSet.{CallSet}
 pub use Rattle.init_words.specs.Entries.{waited_of, starts_of, lives_of}
 pub use Rattle.trace_events.specs.Wanted.{is_wanted, same_acts, brings, is_asked, is_order, is_owed, may_live, entries_before, starts_now, starts_in, is_called, nothing_runs, is_owed_before}
 pub use Rattle.core_records.proofs.Found.{is_listed, others, rest_distinct, unchanged}

@@ -1,5 +1,5 @@
 -- Each step that is decided leaves less to do, by the state alone.
-use Rattle.core_model.proofs.Words.{Bool, true, false, ◌≡◌, ◌&&◌, ◌<◌, ◌≤◌, ℕ, suc, List, [], ◌∷◌, map, filter, length, Some, refl, sym, ap, arith, false≢true, and_parts, and_from, ltb-true, not-true, nat_tests, Entry, Level, Letter, Stage, OrderKind, PowerKind, any_less, Step, Reread, Order, Reexec, Idle, RecordState, IsInOrder, can_be_asked, after_order, is_record_of, changed, with_changed, PendingCalls, news_count, keeps_kind, keeps_call, with_kind, with_call, CoreState, called_if, with_called, is_named, after_step, decide, stages_left, enters_left, unasked, unheld, work_left}
+use Rattle.core_model.proofs.Words.{Bool, true, false, ◌≡◌, ◌&&◌, ◌<◌, ◌≤◌, ℕ, suc, List, [], ◌∷◌, map, filter, length, Some, refl, sym, ap, arith, false≢true, and_parts, and_from, ltb-true, not-true, nat_tests, Entry, Level, Letter, Stage, OrderKind, PowerKind, any_less, Step, Reread, Order, Reexec, Idle, RecordState, IsInOrder, can_be_asked, after_order, is_record_of, changed, with_changed, CallSet, news_count, keeps_kind, keeps_call, with_kind, with_call, CoreState, called_if, with_called, is_named, after_step, decide, stages_left, enters_left, unasked, unheld, work_left}
 use Rattle.trace_events.specs.declared.steps.Step.TheVariants.{Enter, Call, Power, Hold, Settle}
 use Rattle.trace_events.specs.Run.{is_rest}
 use Rattle.core_model.proofs.Allowed.{has_with, has_asked, has_unheld, is_backed, decided}
@@ -65,13 +65,13 @@ called_same : {X : Type 0} (p : RecordState → X) → ((slot : RecordState) →
 called_same p same true slot = same slot
 called_same p same false slot = refl
 
-called_falls : (named : Entry → Bool) (pending : PendingCalls) (c : CoreState) → news_count pending < news_count c.fields.pending → work_left (record c { slots = with_called named c.table c.slots; fields = record c.fields { pending = pending } }) < work_left c
+called_falls : (named : Entry → Bool) (pending : CallSet) (c : CoreState) → news_count pending < news_count c.fields.pending → work_left (record c { slots = with_called named c.table c.slots; fields = record c.fields { pending = pending } }) < work_left c
 called_falls named pending c fewer_news = grind (arith, as_many, called_same, length-map)
 
-kind_falls : (kind : PowerKind) (pending : PendingCalls) → keeps_kind kind pending ≡ true → news_count (with_kind kind false pending) < news_count pending
+kind_falls : (kind : PowerKind) (pending : CallSet) → keeps_kind kind pending ≡ true → news_count (with_kind kind false pending) < news_count pending
 kind_falls kind pending is = grind arith
 
-call_falls : (l : Letter) (pending : PendingCalls) → keeps_call l pending ≡ true → news_count (with_call l false pending) < news_count pending
+call_falls : (l : Letter) (pending : CallSet) → keeps_call l pending ≡ true → news_count (with_call l false pending) < news_count pending
 call_falls l pending is = grind arith
 
 -- each step that is decided leaves less to do

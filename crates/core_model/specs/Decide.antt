@@ -4,7 +4,7 @@ use Rattle.std.specs.List.{list_any, list_all}
 use Rattle.core_model.specs.Words.{Entry, Level, S, At, Stage, Start, Look, Term, Kill, wanted_by, is_limited, served_by, starts_of, waited_of, same_level, names, may_of, is_held, Step, Order, Settle, Reread, Reexec, Idle, Goal, is_order, in_run, Stop, Due, Termed, RecordState, allows, is_quiet}
 use Rattle.init_words.specs.declared.stages.Stage.TheVariants as stage
 use Rattle.trace_events.specs.declared.steps.Step.TheVariants.{Enter, Hold}
-use Rattle.core_model.specs.PendingCalls.{has_news, first_news}
+use Rattle.trace_events.specs.CallSets.{has_news, first_news}
 use Rattle.core_model.specs.State.{CoreState}
 
 abbrev pub or_else : Option Step → Option Step → Option Step

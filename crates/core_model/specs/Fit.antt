@@ -2,11 +2,9 @@
 use Rattle.std.specs.Prelude.{◌≡◌, ℕ, Bool, true, false, ◌&&◌, ◌+◌, IsTrue, if◌then◌else◌, List, [], ◌∷◌, map, find, reverse, Option, Some, None}
 use Rattle.std.specs.List.{list_any}
 use Rattle.std.specs.Option.{option_map, option_map_or}
-use Rattle.core_model.specs.Words.{HOLD, LimiterState, unused, last_starts, Entry, Answer, Kill, is_limited, same_id, entry_of, act_of, Step, Goal, Event, Child, is_of, has_child, open_of, table_of, stage_of, grace_of, time_of, known_children, is_asked, is_called, is_order, in_run, goal_of, wants_reexec, wants_reread, level_wish, keeps_power, keeps_letter, was_booted, is_sound, KnownChild, Stop, Due, Termed, Killed, RecordState}
+use Rattle.core_model.specs.Words.{HOLD, LimiterState, unused, last_starts, Entry, Answer, Kill, is_limited, same_id, entry_of, act_of, Step, Goal, Event, Child, is_of, has_child, open_of, table_of, stage_of, grace_of, time_of, known_children, is_asked, is_called, is_order, in_run, goal_of, wants_reexec, wants_reread, level_wish, was_booted, is_sound, KnownChild, Stop, Due, Termed, Killed, RecordState}
 use Rattle.init_words.specs.declared.children.Status.{Status}
-use Rattle.init_words.specs.declared.levels.Letter.TheVariants as letter
 use Rattle.init_words.specs.declared.orders.Answer.TheVariants.{Ended}
-use Rattle.init_words.specs.declared.orders.PowerKind.TheVariants as power
 use Rattle.trace_events.specs.declared.happenings.Happening.TheVariants as happened
 use Rattle.trace_events.specs.declared.steps.Step.TheVariants as step
 use Rattle.trace_events.specs.Answered.{answered_of}
@@ -14,7 +12,7 @@ use Rattle.trace_events.specs.Wanted.{is_excluded}
 use Rattle.trace_events.specs.Spells.{Signal, spell_hits, is_missed}
 use Rattle.trace_events.specs.Timing.{start_times, hold_times}
 use Rattle.trace_events.specs.Due.{record_ids, wants_look, is_announced}
-use Rattle.core_model.specs.declared.pending_calls.PendingCalls.{PendingCalls}
+use Rattle.trace_events.specs.CallSets.{news_of}
 use Rattle.core_model.specs.declared.parts.CoreFields.{CoreFields}
 use Rattle.core_model.specs.State.{CoreState}
 
@@ -115,17 +113,6 @@ record_of lasts past id = record {
 -- all, in record order
 abbrev pub records_of : LastStatuses → List Event → List RecordState
 records_of lasts past = map (record_of lasts past) (record_ids past)
-
--- what is kept of the power and of letters
-abbrev pub news_of : List Event → PendingCalls
-news_of past = record {
-  fail = keeps_power power.Fail past;
-  fail_now = keeps_power power.FailNow past;
-  ok = keeps_power power.Ok past;
-  a = keeps_letter letter.A past;
-  b = keeps_letter letter.B past;
-  c = keeps_letter letter.C past;
-}
 
 -- the single values of init as the past has them, with this goal and of this generation
 abbrev pub fields_of : List Event → Goal → ℕ → CoreFields

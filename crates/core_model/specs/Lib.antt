@@ -3,7 +3,6 @@ pub mod Fit
 pub mod Happened
 pub mod Headline
 pub mod Parts
-pub mod PendingCalls
 pub mod Rebuilding
 pub mod Rules
 pub mod State

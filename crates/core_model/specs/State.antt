@@ -3,7 +3,7 @@ use Rattle.std.specs.Prelude.{false, List, map, Option, Some, None}
 use Rattle.core_model.specs.Words.{Entry, Level, S, default_level_of, Goal, RecordState, new_record}
 use Rattle.init_words.specs.declared.limits.TheConstants.{GRACE}
 use Rattle.core_model.specs.declared.parts.CoreFields.{CoreFields}
-use Rattle.core_model.specs.PendingCalls.{no_news}
+use Rattle.trace_events.specs.CallSets.{no_news}
 
 -- the table, the records in record order, and the single values of init: its stage, goal, time and wishes
 pub record CoreState : Type 0 where

@@ -9,7 +9,7 @@ use Rattle.trace_events.specs.declared.steps.Step.TheVariants.{Enter, Hold}
 use Rattle.core_records.specs.Lists as lists
 use Rattle.core_records.specs.Adopting as adopting
 use Rattle.core_model.specs.declared.parts.CoreFields.{CoreFields}
-use Rattle.core_model.specs.PendingCalls.{with_kind, with_call}
+use Rattle.trace_events.specs.CallSets.{with_kind, with_call}
 use Rattle.core_model.specs.State.{CoreState}
 
 abbrev pub is_boot : Stage → Bool

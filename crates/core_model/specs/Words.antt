@@ -13,7 +13,7 @@ pub use Rattle.trace_events.specs.declared.steps.Step.{Step}
 pub use Rattle.trace_events.specs.declared.steps.Step.TheVariants.{Order, Settle, Reread, Reexec, Idle, Call, Power}
 pub use Rattle.trace_events.specs.declared.steps.Goal.{Goal}
 pub use Rattle.trace_events.specs.Wanted.{is_order, is_asked, is_called, same_acts, brings, starts_in}
-pub use Rattle.trace_events.specs.Wishes.{in_run, goal_of, wants_reexec, wants_reread, level_wish, keeps_power, keeps_letter, was_booted}
+pub use Rattle.trace_events.specs.Wishes.{in_run, goal_of, wants_reexec, wants_reread, level_wish, was_booted}
 pub use Rattle.core_records.specs.declared.children.Stop.{Stop}
 pub use Rattle.core_records.specs.declared.children.Stop.TheVariants.{Due, Termed, Killed}
 pub use Rattle.core_records.specs.State.{RecordState, child_number, birth_act, is_limited_record, new_record}

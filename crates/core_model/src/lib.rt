@@ -8,9 +8,7 @@
 mod headline;
 mod laws;
 mod parts;
-mod pending_calls;
 
 pub use headline::law_agreement;
 pub use laws::{law_of_acts, law_of_lasts};
 pub use parts::{CoreFields, Parts, PlainRecord};
-pub use pending_calls::PendingCalls;

@@ -4,7 +4,6 @@ ghost use Rattle.std.specs.Prelude.{◌≡◌};
 ghost use Rattle.core_model.specs.Parts.{record_of};
 ghost use Rattle.core_model.specs.State.{opening_fields};
 
-use crate::pending_calls::PendingCalls;
 use arrayvec::ArrayVec;
 use core_records::{Record, Stop};
 use init_words::{Act, ChildNumber, Id, OrderKind, Stage, Status};
@@ -12,7 +11,7 @@ use inittab_text::Table;
 use respawn_limit::STARTS;
 use std::alloc::{Allocator, Global};
 use std::marker::Model;
-use trace_events::Goal;
+use trace_events::{CallSet, Goal};
 
 /// What init keeps, but for its table and its records.
 #[derive(Clone, Copy)]
@@ -36,7 +35,8 @@ pub struct CoreFields {
     pub reexec: bool,
     /// The level that was asked for.
     pub level_wish: Option<Goal>,
-    pub pending: PendingCalls,
+    /// What is to be called.
+    pub pending: CallSet,
 }
 
 impl CoreFields {
@@ -55,7 +55,7 @@ impl CoreFields {
             reread: false,
             reexec: false,
             level_wish: None,
-            pending: PendingCalls::new(),
+            pending: CallSet::default(),
         }
     }
 }

@@ -13,7 +13,7 @@ mod state;
 mod walk_places;
 mod walking;
 
-pub use core_model::{PendingCalls, law_agreement, law_of_acts};
+pub use core_model::{law_agreement, law_of_acts};
 pub use core_records::{KnownChild, Record, Stop};
 pub use cores::Core;
 pub use rebuilding::Rebuild;

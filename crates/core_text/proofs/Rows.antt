@@ -5,7 +5,7 @@ use Rattle.init_words.specs.declared.actions.Act.TheVariants as act
 use Rattle.init_words.specs.declared.levels.Level.TheVariants as level
 use Rattle.init_words.specs.declared.orders.OrderKind.TheVariants.{Term}
 use Rattle.init_words.specs.declared.stages.Stage.TheVariants as stage
-use Rattle.core_model.specs.PendingCalls.{no_news}
+use Rattle.trace_events.specs.CallSets.{no_news}
 
 abbrev left : PlainRecord
 left = record {

@@ -8,7 +8,7 @@ pub use Rattle.trace_events.specs.declared.steps.Goal.{Goal}
 pub use Rattle.trace_text.specs.Lines.{level_word, stage_word, order_word}
 pub use Rattle.core_records.specs.declared.children.Stop.{Stop}
 pub use Rattle.core_records.specs.declared.children.Stop.TheVariants.{Due, Termed, Killed}
-pub use Rattle.core_model.specs.declared.pending_calls.PendingCalls.{PendingCalls}
+pub use Rattle.trace_events.specs.declared.call_sets.CallSet.{CallSet}
 pub use Rattle.core_model.specs.declared.parts.CoreFields.{CoreFields}
 pub use Rattle.core_model.specs.declared.parts.PlainRecord.{PlainRecord}
 pub use Rattle.core_model.specs.Parts.{SavedState, record_of}

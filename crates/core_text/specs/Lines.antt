@@ -1,7 +1,7 @@
 -- The text of a state (telinit(8)), by its version: its lines, and the words of each line, set apart by single blanks.
 use Rattle.std.specs.Prelude.{ℕ, Bool, if◌then◌else◌, List, [], ◌∷◌, ◌++◌, map, length, codes, decimal, Option, Some, None}
 use Rattle.std.specs.List.{flat_map, join_with_byte}
-use Rattle.core_text.specs.CommonWords.{Status, Exit, Stage, word_of, fields_written, Goal, level_word, stage_word, order_word, Stop, Due, Termed, Killed, PendingCalls, CoreFields, PlainRecord, SavedState}
+use Rattle.core_text.specs.CommonWords.{Status, Exit, Stage, word_of, fields_written, Goal, level_word, stage_word, order_word, Stop, Due, Termed, Killed, CallSet, CoreFields, PlainRecord, SavedState}
 use Rattle.init_words.specs.declared.children.Status.TheVariants.{Killed as KilledBySignal}
 use Rattle.core_text.specs.declared.versions.Version.{Version}
 use Rattle.core_text.specs.declared.versions.Version.TheVariants.{V1, V2}
@@ -67,13 +67,13 @@ goal_line goal = spaced (codes "goal" ∷ level_word goal.level ∷ decimal goal
 abbrev pub flags_line : Bool → Bool → List ℕ
 flags_line booted announced = spaced (codes "flags" ∷ bits (booted ∷ announced ∷ []) ∷ [])
 
-abbrev pub power_bits : PendingCalls → List Bool
+abbrev pub power_bits : CallSet → List Bool
 power_bits pending = pending.fail ∷ pending.fail_now ∷ pending.ok ∷ []
 
-abbrev pub letter_bits : PendingCalls → List Bool
+abbrev pub letter_bits : CallSet → List Bool
 letter_bits pending = pending.a ∷ pending.b ∷ pending.c ∷ []
 
-abbrev pub wish_line : Bool → Bool → Option Goal → PendingCalls → List ℕ
+abbrev pub wish_line : Bool → Bool → Option Goal → CallSet → List ℕ
 wish_line reread reexec level pending =
     spaced (codes "wish" ∷ bits (reread ∷ reexec ∷ []) ∷ or_dash goal_word level ∷ bits (power_bits pending)
     ∷ bits (letter_bits pending) ∷ [])

@@ -3,7 +3,7 @@
 use Rattle.std.specs.Prelude.{◌≡◌, ℕ, Bool, true, false, not, ◌==◌, ◌-◌, ◌&&◌, ◌^◌, if◌then◌else◌, nat_le, List, [], ◌∷◌, length, take, codes, Option, Some, None, option_and_then}
 use Rattle.std.specs.Option.{option_map}
 use Rattle.std.specs.List.{starts_with}
-use Rattle.core_text.specs.CommonWords.{cut, pieces_of, after_lines, newlines, Status, Entry, Stage, act_read, id_read, same_id, is_empty, table_begun, Goal, both, level_of_word, stage_of_word, order_of_word, seconds_of_word, child_of_word, code_of_word, STARTS, Stop, Due, Termed, Killed, PendingCalls, CoreFields, PlainRecord}
+use Rattle.core_text.specs.CommonWords.{cut, pieces_of, after_lines, newlines, Status, Entry, Stage, act_read, id_read, same_id, is_empty, table_begun, Goal, both, level_of_word, stage_of_word, order_of_word, seconds_of_word, child_of_word, code_of_word, STARTS, Stop, Due, Termed, Killed, CallSet, CoreFields, PlainRecord}
 use Rattle.text_lines.specs.Numbers.{number_read}
 use Rattle.init_words.specs.declared.actions.Act.{Act}
 use Rattle.init_words.specs.declared.children.Status.TheVariants.{Killed as KilledBySignal}
@@ -236,7 +236,7 @@ places_read text = then_read (line_read stage_line_read) (line_read goal_line_re
 abbrev pub flags_read : List ℕ → Option (FlagWords × List ℕ)
 flags_read text = then_read (line_read flags_line_read) (line_read wish_line_read) text
 
-abbrev pub news_made : Bool × (Bool × Bool) → Bool × (Bool × Bool) → PendingCalls
+abbrev pub news_made : Bool × (Bool × Bool) → Bool × (Bool × Bool) → CallSet
 news_made powers letters = record {
   fail = powers.0;
   fail_now = powers.1.0;

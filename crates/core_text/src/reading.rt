@@ -16,12 +16,12 @@ use crate::fields::{
 use crate::state_fault::StateFault;
 use crate::versions::Version;
 use crate::words::{read_generation, read_goal, read_two_bits, read_version};
-use core_model::{CoreFields, Parts, PendingCalls, PlainRecord};
+use core_model::{CoreFields, Parts, PlainRecord};
 use init_words::{Entry, Memory, Stage};
 use inittab_text::{Table, table_begun};
 use std::alloc::{AllocError, Allocator};
 use text_lines::{after_lines, cut, newlines, read_number};
-use trace_events::Goal;
+use trace_events::{CallSet, Goal};
 
 /// The text without its last line, and that line without its newline; None where the text doesn't end with a newline
 /// or the line doesn't begin with `end `.
@@ -115,7 +115,7 @@ fn fields_of(
         reread,
         reexec,
         level_wish,
-        pending: PendingCalls {
+        pending: CallSet {
             fail: powers.0,
             fail_now: powers.1.0,
             ok: powers.1.1,

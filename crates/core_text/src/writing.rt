@@ -6,13 +6,13 @@ ghost use Rattle.core_text.specs.CommonWords.{word_of, text_of, level_word, orde
 ghost use Rattle.core_text.specs.declared.versions.Version.TheVariants.{V2};
 ghost use Rattle.core_text.specs.Lines.{bits, spaced, or_dash, goal_word, stop_word, stage_or_none, starts_word, status_word, stage_line, goal_line, flags_line, wish_line, head_lines, table_line, slot_line, slot_flags, power_bits, letter_bits, text_of_lines, state_text};
 
-use core_model::{CoreFields, PendingCalls, PlainRecord};
+use core_model::{CoreFields, PlainRecord};
 use core_records::{Record, Stop};
 use init_words::{Act, ChildNumber, Memory, OrderKind, Stage, Status};
 use inittab_text::Table;
 use itoa::Buffer;
 use std::alloc::{AllocError, Allocator};
-use trace_events::Goal;
+use trace_events::{CallSet, Goal};
 
 // Each of these appends to the text. Where memory runs out, a part may be appended.
 
@@ -218,7 +218,7 @@ fn put_flags<A: Allocator>(text: &mut Vec<u8, A>, fields: &CoreFields) -> Result
     Ok(())
 }
 
-fn put_news<A: Allocator>(text: &mut Vec<u8, A>, pending: PendingCalls) -> Result<(), AllocError>
+fn put_news<A: Allocator>(text: &mut Vec<u8, A>, pending: CallSet) -> Result<(), AllocError>
     ensures { OnOk result (text.new.items ≡ text.old.items
         ++ 32 ∷ bits (power_bits pending) ++ 32 ∷ bits (letter_bits pending)) }
 {

@@ -5,8 +5,8 @@ use Rattle.init_words.specs.declared.stages.Stage.{Stage}
 use Rattle.init_words.specs.declared.stages.Stage.TheVariants as stage
 use Rattle.trace_events.specs.declared.steps.Step.TheVariants as step
 use Rattle.trace_events.specs.Wishes.{in_run}
-use Rattle.core_model.specs.declared.pending_calls.PendingCalls.{PendingCalls}
-use Rattle.core_model.specs.PendingCalls.{first_news}
+use Rattle.trace_events.specs.declared.call_sets.CallSet.{CallSet}
+use Rattle.trace_events.specs.CallSets.{first_news}
 
 module _ (table : List Entry) where
   -- a step that may be there
@@ -30,7 +30,7 @@ module _ (table : List Entry) where
   level_listed : (booted : Bool) (wish : Option Goal) → Listed (level_step booted wish)
   level_listed booted wish = grind arith
 
-  first_listed : (pending : PendingCalls) → Listed (first_news pending)
+  first_listed : (pending : CallSet) → Listed (first_news pending)
   first_listed pending = grind arith
 
   stop_listed : (grace now : ℕ) (slots : List RecordState) → Listed (stop_among grace now slots)

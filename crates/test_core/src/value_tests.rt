@@ -4,12 +4,12 @@ use crate::cores::{does, opened};
 use crate::handed::{is_text, parts_of};
 use crate::handover_tests::{STARTED_TABLE, STARTS};
 use crate::texts::{STARTED_OLD, text_of};
-use core_model::{CoreFields, Parts, PendingCalls, PlainRecord};
+use core_model::{CoreFields, Parts, PlainRecord};
 use core_records::Stop;
 use core_text::{StateFault, write_state};
 use init_words::{Act, ChildNumber, Level, OrderKind, Stage, Status};
 use std::alloc::Global;
-use trace_events::Goal;
+use trace_events::{CallSet, Goal};
 
 /// A record: its id, child, action, order and stop, its flags in the order asked, called, look, missed, the end of its hold,
 /// its starts, and how its last child ended.
@@ -61,7 +61,7 @@ const STARTED_HEADS: CoreFields = CoreFields {
     reread: false,
     reexec: false,
     level_wish: None,
-    pending: PendingCalls {
+    pending: CallSet {
         fail: false,
         fail_now: false,
         ok: false,
@@ -128,7 +128,7 @@ const BUSY_HEADS: CoreFields = CoreFields {
         level: Level::L9,
         grace: 8,
     }),
-    pending: PendingCalls {
+    pending: CallSet {
         fail: true,
         fail_now: false,
         ok: true,

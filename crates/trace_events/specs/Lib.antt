@@ -1,6 +1,7 @@
 pub mod Agreement
 pub mod Answered
 pub mod Bounds
+pub mod CallSets
 pub mod Due
 pub mod Event
 pub mod Lawful

@@ -2,11 +2,13 @@
 //! Its definitions say which steps init owes, which traces a sound system allows, and which laws they keep.
 #![tactic(auto)]
 
+mod call_sets;
 mod copies;
 mod happenings;
 mod ranges;
 mod steps;
 
+pub use call_sets::CallSet;
 pub use copies::happening_copy;
 pub use happenings::{Handed, Happening, HappeningIn};
 pub use ranges::law_of_ranges;

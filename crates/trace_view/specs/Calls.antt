@@ -5,7 +5,7 @@ use Rattle.init_words.specs.declared.levels.Letter.TheVariants as letter
 use Rattle.init_words.specs.declared.levels.Mark.TheVariants.{OnCall}
 use Rattle.init_words.specs.declared.orders.PowerKind.TheVariants as power
 use Rattle.init_words.specs.Levels.{names}
-use Rattle.trace_view.specs.declared.calls.Calls.{Calls}
+use Rattle.trace_events.specs.declared.call_sets.CallSet.{CallSet}
 
 -- entries were called for this news
 abbrev pub is_called_for : PowerKind → List Event → Bool
@@ -23,7 +23,7 @@ is_lettered letter (NewTable table ∷ past) = false
 is_lettered letter (Call l ∷ past) = same_letter letter l || is_lettered letter past
 is_lettered letter (_ ∷ past) = is_lettered letter past
 
-abbrev pub calls_of : List Event → Calls
+abbrev pub calls_of : List Event → CallSet
 calls_of past = record {
   fail = is_called_for power.Fail past;
   fail_now = is_called_for power.FailNow past;
@@ -34,7 +34,7 @@ calls_of past = record {
 }
 
 -- one of them named the entry: it is called for the news, or has the letter among its runlevels
-abbrev pub is_named_by : Entry → Calls → Bool
+abbrev pub is_named_by : Entry → CallSet → Bool
 is_named_by e calls =
     is_called_by power.Fail e.act && calls.fail || (is_called_by power.FailNow e.act && calls.fail_now
     || (is_called_by power.Ok e.act && calls.ok || is_ondemand e.act

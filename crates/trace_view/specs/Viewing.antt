@@ -2,7 +2,7 @@
 use Rattle.std.specs.Prelude.{◌≡◌, ℕ, Bool, not, List, [], ◌∷◌, Option, Some, None}
 use Rattle.trace_view.specs.Words.{Entry, Stage, entry_of, act_of, Event, Child, unreaped_children, kept_children, may_live, Law, at}
 use Rattle.trace_check.specs.Judging.{Judging, Judged, unjudged}
-use Rattle.trace_view.specs.declared.calls.Calls.{Calls}
+use Rattle.trace_events.specs.declared.call_sets.CallSet.{CallSet}
 use Rattle.trace_view.specs.declared.wishes.Wishes.{Wishes}
 use Rattle.trace_view.specs.declared.rows.Births.{Births}
 use Rattle.trace_view.specs.declared.rows.Ending.{Ending}
@@ -18,7 +18,7 @@ pub record ViewState : Type 0 where
   pub unreaped : List Child
   pub kept : List Child
   pub wishes : Wishes
-  pub calls : Calls
+  pub calls : CallSet
   pub births : List (List ℕ × Births)
   pub early : List Child
   pub ends : List (List ℕ × Ending)

@@ -1,10 +1,9 @@
 -- The wishes, as a view keeps them, and which of them is carried out first (telinit(8), initreq.h).
 use Rattle.std.specs.Prelude.{ℕ, Bool, not, ◌&&◌, ◌||◌, if◌then◌else◌, List, ◌∷◌, Option, Some, None}
-use Rattle.trace_view.specs.Words.{Stage, Boot, Run, same_level, Event, stage_of, enter_level, is_level, in_run, other_than, wants_reexec, wants_reread, heard_level, level_wish, was_booted, keeps_power, keeps_letter, keeps_news}
+use Rattle.trace_view.specs.Words.{Stage, Boot, Run, same_level, Event, stage_of, enter_level, is_level, in_run, other_than, wants_reexec, wants_reread, heard_level, level_wish, was_booted, keeps_news}
 use Rattle.init_words.specs.declared.levels.Level.{Level}
-use Rattle.init_words.specs.declared.levels.Letter.TheVariants as letter
-use Rattle.init_words.specs.declared.orders.PowerKind.TheVariants as power
 use Rattle.init_words.specs.declared.levels.Level.TheVariants.{S}
+use Rattle.trace_events.specs.CallSets.{has_news, news_of}
 use Rattle.trace_events.specs.declared.steps.Goal.{Goal}
 use Rattle.trace_events.specs.declared.steps.Step.{Step}
 use Rattle.trace_events.specs.declared.steps.Step.TheVariants as step
@@ -48,20 +47,12 @@ wishes_of past = record {
   reexec = wants_reexec past;
   reread = wants_reread past;
   heard = heard_level past;
-  fail = keeps_power power.Fail past;
-  fail_now = keeps_power power.FailNow past;
-  ok = keeps_power power.Ok past;
-  a = keeps_letter letter.A past;
-  b = keeps_letter letter.B past;
-  c = keeps_letter letter.C past;
+  news = news_of past;
   booted = was_booted past;
 }
 
-abbrev pub has_news : Wishes → Bool
-has_news w = w.fail || w.fail_now || w.ok || w.a || w.b || w.c
-
 abbrev pub first_wish_in : Option Stage → Wishes → Option Wish
-first_wish_in stage w = first_of w.reexec w.reread (other_than stage w.heard) (in_run stage && has_news w)
+first_wish_in stage w = first_of w.reexec w.reread (other_than stage w.heard) (in_run stage && has_news w.news)
 
 abbrev pub stage_for : Bool → Option Goal → Option (Stage × ℕ)
 stage_for booted None = None

@@ -12,7 +12,7 @@ pub use Rattle.init_words.specs.Levels.{same_letter, same_level}
 pub use Rattle.init_words.specs.Orders.{same_power}
 pub use Rattle.text_lines.specs.Lines.{newlines}
 pub use Rattle.init_words.specs.declared.stages.Stage.{Stage}
-pub use Rattle.trace_events.specs.Wishes.{is_level, was_booted, in_run, other_than, wants_reexec, wants_reread, heard_level, level_wish, keeps_power, keeps_letter, keeps_news}
+pub use Rattle.trace_events.specs.Wishes.{is_level, was_booted, in_run, other_than, wants_reexec, wants_reread, heard_level, level_wish, keeps_news}
 pub use Rattle.trace_text.specs.Lines.{trace_text, event_text}
 pub use Rattle.trace_check.specs.State.{at}
 pub use Rattle.init_words.specs.declared.stages.Stage.TheVariants.{Run, Sysinit, Boot}

@@ -8,7 +8,7 @@ ghost use Rattle.trace_view.specs.Why.{entry_id, first_awaited, standing_of, sto
 ghost use Rattle.trace_view.specs.Rows.{row_of, gone_ids, is_settled_now, settled_in};
 ghost use Rattle.trace_view.specs.Wishes.{asked_level, first_wish, next_stage};
 
-use crate::calls::Calls;
+use crate::calls::{is_named, take_call};
 use crate::children::{
     BornChild, child_of_id, excluded_of, excludes, gone_of, has_born_as, number_of_id, take_early,
     take_kept, take_unreaped,
@@ -22,7 +22,7 @@ use inittab_text::Table;
 use std::alloc::{Allocator, Global};
 use std::marker::Model;
 use trace_check::{Law, TraceJudge};
-use trace_events::HappeningIn;
+use trace_events::{CallSet, HappeningIn};
 
 /// A view of a trace that comes one happening after another, the oldest first.
 ///
@@ -34,7 +34,7 @@ pub struct TraceView<A: Allocator = Global> {
     unreaped: Vec<BornChild, A>,
     kept: Vec<BornChild, A>,
     wishes: Wishes,
-    calls: Calls,
+    calls: CallSet,
     births: ById<Births, A>,
     early: Vec<BornChild, A>,
     ends: ById<Ending, A>,
@@ -138,7 +138,7 @@ impl<A: Allocator + Copy> TraceView<A> {
             unreaped: Vec::new(alloc),
             kept: Vec::new(alloc),
             wishes: Wishes::default(),
-            calls: Calls::default(),
+            calls: CallSet::default(),
             births: nothing(alloc),
             early: Vec::new(alloc),
             ends: nothing(alloc),
@@ -169,8 +169,8 @@ impl<A: Allocator + Copy> TraceView<A> {
         take_birth(&mut self.births, time, happening)?;
         take_early(&mut self.early, table, happening)?;
         take_end(&mut self.ends, time, happening)?;
-        self.wishes = self.wishes.after(stage, happening);
-        self.calls = self.calls.after(happening);
+        self.wishes.take(stage, happening);
+        take_call(&mut self.calls, happening);
         Ok(None)
     }
 }
@@ -201,7 +201,7 @@ impl<A: Allocator> TraceView<A> {
             awaited: self.awaited(),
             order: self.judge.order(&id),
             wanted: self.judge.is_wanted(entry),
-            named: self.calls.name(entry),
+            named: is_named(entry, self.calls),
             owed: id_of(self.judge.first_owed(&id)),
             excluded: excluded_of(kept, table, stage),
             wish: self.wishes.first(stage),

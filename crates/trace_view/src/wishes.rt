@@ -2,12 +2,12 @@
 
 ghost use Rattle.std.specs.Prelude.{◌≡◌, ◌∷◌, List};
 ghost use Rattle.trace_view.specs.Words.{Event, Got, other_than, stage_of};
-ghost use Rattle.trace_view.specs.Wishes.{wishes_of, has_news, first_wish_in, unless_here, next_stage_in};
+ghost use Rattle.trace_view.specs.Wishes.{wishes_of, first_wish_in, unless_here, next_stage_in};
 
-use init_words::{Letter, Level, PowerKind, Stage};
+use init_words::{Level, Stage};
 use initctl_frame::HeardRequest;
 use std::alloc::Allocator;
-use trace_events::{Goal, Happening, HappeningIn, in_run, is_level};
+use trace_events::{CallSet, Goal, Happening, HappeningIn, in_run, is_level};
 
 /// A wish that stands: no entry is started before it is carried out.
 #[derive(Clone, Copy)]
@@ -28,100 +28,50 @@ pub(crate) struct Wishes {
     pub(crate) reexec: bool,
     pub(crate) reread: bool,
     pub(crate) heard: Option<Goal>,
-    pub(crate) fail: bool,
-    pub(crate) fail_now: bool,
-    pub(crate) ok: bool,
-    pub(crate) a: bool,
-    pub(crate) b: bool,
-    pub(crate) c: bool,
+    pub(crate) news: CallSet,
     /// Boot was entered.
     pub(crate) booted: bool,
 }
 
 impl Wishes {
-    /// The wishes after the happening, where the stage is in force after it.
-    pub(crate) fn after<B: Allocator>(
-        self,
-        stage: Option<Stage>,
-        happening: &HappeningIn<B>,
-    ) -> Wishes
+    /// Takes the happening, where the stage is in force after it.
+    pub(crate) fn take<B: Allocator>(&mut self, stage: Option<Stage>, happening: &HappeningIn<B>)
         ensures { (past : List Event) → stage ≡ stage_of (happening.now ∷ past)
-            → self ≡ wishes_of past → result ≡ wishes_of (happening.now ∷ past) }
+            → self.old ≡ wishes_of past → self.new ≡ wishes_of (happening.now ∷ past) }
     {
         match happening {
-            Happening::Handed(_) => Wishes {
-                reexec: false,
-                ..self
-            },
-            Happening::NewTable(_) | Happening::NotRead => Wishes {
-                reread: false,
-                ..self
-            },
-            Happening::Enter(Stage::Boot, _) => Wishes {
-                heard: None,
-                booted: true,
-                ..self
-            },
-            Happening::Enter(_, _) => Wishes {
-                heard: None,
-                ..self
-            },
-            Happening::Power(PowerKind::Fail) => Wishes {
-                fail: false,
-                ..self
-            },
-            Happening::Power(PowerKind::FailNow) => Wishes {
-                fail_now: false,
-                ..self
-            },
-            Happening::Power(PowerKind::Ok) => Wishes { ok: false, ..self },
-            Happening::Call(Letter::A) => Wishes { a: false, ..self },
-            Happening::Call(Letter::B) => Wishes { b: false, ..self },
-            Happening::Call(Letter::C) => Wishes { c: false, ..self },
-            Happening::Got(request) => self.behind(stage, request),
-            _ => self,
+            Happening::Handed(_) => self.reexec = false,
+            Happening::NewTable(_) | Happening::NotRead => self.reread = false,
+            Happening::Enter(Stage::Boot, _) => {
+                self.heard = None;
+                self.booted = true;
+            }
+            Happening::Enter(_, _) => self.heard = None,
+            Happening::Power(kind) => self.news.set_power(*kind, false),
+            Happening::Call(letter) => self.news.set_letter(*letter, false),
+            Happening::Got(request) => self.hear(stage, request),
+            _ => {}
         }
     }
 
-    /// The wishes after the request.
-    fn behind(self, stage: Option<Stage>, request: &HeardRequest) -> Wishes
-        ensures { (past : List Event) → stage ≡ stage_of past → self ≡ wishes_of past
-            → result ≡ wishes_of (Got request.now ∷ past) }
+    fn hear(&mut self, stage: Option<Stage>, request: &HeardRequest)
+        ensures { (past : List Event) → stage ≡ stage_of past → self.old ≡ wishes_of past
+            → self.new ≡ wishes_of (Got request.now ∷ past) }
     {
         match request {
-            HeardRequest::Reexec => Wishes {
-                reexec: true,
-                ..self
-            },
-            HeardRequest::Reload => Wishes {
-                reread: true,
-                ..self
-            },
-            HeardRequest::Level(level, grace) => Wishes {
-                reread: !is_level(*level, stage) || self.reread,
-                heard: Some(Goal {
+            HeardRequest::Reexec => self.reexec = true,
+            HeardRequest::Reload => self.reread = true,
+            HeardRequest::Level(level, grace) => {
+                self.reread = !is_level(*level, stage) || self.reread;
+                self.heard = Some(Goal {
                     level: *level,
                     grace: *grace,
-                }),
-                ..self
-            },
-            HeardRequest::Power(PowerKind::Fail) => Wishes { fail: true, ..self },
-            HeardRequest::Power(PowerKind::FailNow) => Wishes {
-                fail_now: true,
-                ..self
-            },
-            HeardRequest::Power(PowerKind::Ok) => Wishes { ok: true, ..self },
-            HeardRequest::Call(Letter::A) => Wishes { a: true, ..self },
-            HeardRequest::Call(Letter::B) => Wishes { b: true, ..self },
-            HeardRequest::Call(Letter::C) => Wishes { c: true, ..self },
-            HeardRequest::Nothing(_) => self,
+                });
+            }
+            HeardRequest::Power(kind) => self.news.set_power(*kind, true),
+            HeardRequest::Call(letter) => self.news.set_letter(*letter, true),
+            HeardRequest::Nothing(_) => {}
         }
-    }
-
-    fn has_news(self) -> bool
-        ensures { result ≡ has_news self }
-    {
-        self.fail || self.fail_now || self.ok || self.a || self.b || self.c
     }
 
     /// The level that is asked for and isn't this stage.
@@ -174,7 +124,7 @@ impl Wishes {
         if let Some(heard) = self.level(stage) {
             return Some(Wish::Level(heard.level));
         }
-        if in_run(stage) && self.has_news() {
+        if in_run(stage) && self.news.is_some() {
             return Some(Wish::News);
         }
         None

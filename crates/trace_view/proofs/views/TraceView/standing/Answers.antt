@@ -16,7 +16,7 @@ returns g c = rw (← c.self.view_is) (λ past seen found.
     (c.awaited.ensures past (subst (λ v. Viewed v past) c.self.view_is seen))
     (c.order.ensures past judged)
     (c.is_wanted.ensures past judged found)
-    (c.name.ensures ∙ ap (is_named_by c.args.entry.now) seen.calls)
+    (c.is_named.ensures ∙ ap (is_named_by c.args.entry.now) seen.calls)
     (c.id_of.ensures ∙ ap (option_map entry_id) (c.first_owed.ensures past judged))
     (c.excluded_of.ensures ∙ excluded_is _ _ _ past (c.table-table.ensures.value past judged) on (c.as_slice-kept.ensures.value ∙ seen.kept))
     (c.first.ensures ∙ wish_is _ _ past on seen.wishes)

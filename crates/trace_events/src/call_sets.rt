@@ -1,44 +1,30 @@
-//! What init heard of the power, and which letters it is asked to call.
+//! Sets of calls: news of the power, and letters.
 
 ghost use Rattle.std.specs.Prelude.{◌≡◌, true, false};
-ghost use Rattle.core_model.specs.PendingCalls.{keeps_kind, keeps_call, with_kind, with_call, has_news, first_news, no_news};
+ghost use Rattle.trace_events.specs.CallSets.{keeps_kind, keeps_call, with_kind, with_call, has_news, first_news};
 
+use crate::steps::Step;
 use init_words::{Letter, PowerKind};
-use trace_events::Step;
 
-/// What init heard of the power and which letters it was asked to call, and did not carry out yet (telinit(8)).
-#[derive(Clone, Copy, PartialEq, Eq)]
-pub struct PendingCalls {
+/// Some of what entries are called by: of the news of the power, and of the letters (telinit(8)).
+#[derive(Clone, Copy, Default, PartialEq, Eq)]
+pub struct CallSet {
     /// The power failed.
     pub fail: bool,
     /// The power failed, and the battery is almost empty.
     pub fail_now: bool,
     /// The power is back.
     pub ok: bool,
-    /// The letter A is to be called.
+    /// The letter A.
     pub a: bool,
-    /// The letter B is to be called.
+    /// The letter B.
     pub b: bool,
-    /// The letter C is to be called.
+    /// The letter C.
     pub c: bool,
 }
 
-impl PendingCalls {
-    /// Nothing was heard.
-    pub fn new() -> PendingCalls
-        ensures { result ≡ no_news }
-    {
-        PendingCalls {
-            fail: false,
-            fail_now: false,
-            ok: false,
-            a: false,
-            b: false,
-            c: false,
-        }
-    }
-
-    /// Something is kept.
+impl CallSet {
+    /// There is one in it.
     pub fn is_some(&self) -> bool
         ensures { result ≡ has_news self.now }
     {
@@ -70,7 +56,7 @@ impl PendingCalls {
         None
     }
 
-    /// News of that kind is kept from here on, or no more.
+    /// News of that kind is in it from here on, or no more.
     pub fn set_power(&mut self, kind: PowerKind, kept: bool)
         ensures { self.new ≡ with_kind kind kept self.old }
     {
@@ -81,7 +67,7 @@ impl PendingCalls {
         }
     }
 
-    /// The letter is to be called from here on, or no more.
+    /// The letter is in it from here on, or no more.
     pub fn set_letter(&mut self, letter: Letter, kept: bool)
         ensures { self.new ≡ with_call letter kept self.old }
     {

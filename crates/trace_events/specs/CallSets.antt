@@ -1,43 +1,45 @@
--- What was heard of the power and of letters, and is not carried out yet (telinit(8), initreq.h).
-use Rattle.std.specs.Prelude.{ℕ, Bool, false, ◌||◌, ◌+◌, if◌then◌else◌, Option, Some, None}
-use Rattle.init_words.specs.declared.orders.PowerKind.{PowerKind}
+-- Sets of calls: news of the power, and letters (telinit(8), initreq.h).
+use Rattle.std.specs.Prelude.{ℕ, Bool, false, ◌||◌, ◌+◌, if◌then◌else◌, List, Option, Some, None}
+use Rattle.trace_events.specs.Words.{Letter, PowerKind}
 use Rattle.init_words.specs.declared.orders.PowerKind.TheVariants as power
-use Rattle.init_words.specs.declared.levels.Letter.{Letter}
 use Rattle.init_words.specs.declared.levels.Letter.TheVariants as letter
-use Rattle.core_model.specs.Words.{Step, Call, Power}
-use Rattle.core_model.specs.declared.pending_calls.PendingCalls.{PendingCalls}
+use Rattle.trace_events.specs.declared.call_sets.CallSet.{CallSet}
+use Rattle.trace_events.specs.declared.steps.Step.{Step}
+use Rattle.trace_events.specs.declared.steps.Step.TheVariants.{Call, Power}
+use Rattle.trace_events.specs.Event.{Event}
+use Rattle.trace_events.specs.Wishes.{keeps_power, keeps_letter}
 
-abbrev pub no_news : PendingCalls
+abbrev pub no_news : CallSet
 no_news = record { fail = false; fail_now = false; ok = false; a = false; b = false; c = false }
 
 -- news of that kind is kept; the letter is to be called
-abbrev pub keeps_kind : PowerKind → PendingCalls → Bool
+abbrev pub keeps_kind : PowerKind → CallSet → Bool
 keeps_kind power.Fail pending = pending.fail
 keeps_kind power.FailNow pending = pending.fail_now
 keeps_kind power.Ok pending = pending.ok
 
-abbrev pub keeps_call : Letter → PendingCalls → Bool
+abbrev pub keeps_call : Letter → CallSet → Bool
 keeps_call letter.A pending = pending.a
 keeps_call letter.B pending = pending.b
 keeps_call letter.C pending = pending.c
 
 -- the news where one kind, or one letter, is kept or no more
-abbrev pub with_kind : PowerKind → Bool → PendingCalls → PendingCalls
+abbrev pub with_kind : PowerKind → Bool → CallSet → CallSet
 with_kind power.Fail kept pending = record pending { fail = kept }
 with_kind power.FailNow kept pending = record pending { fail_now = kept }
 with_kind power.Ok kept pending = record pending { ok = kept }
 
-abbrev pub with_call : Letter → Bool → PendingCalls → PendingCalls
+abbrev pub with_call : Letter → Bool → CallSet → CallSet
 with_call letter.A kept pending = record pending { a = kept }
 with_call letter.B kept pending = record pending { b = kept }
 with_call letter.C kept pending = record pending { c = kept }
 
 -- something is kept
-abbrev pub has_news : PendingCalls → Bool
+abbrev pub has_news : CallSet → Bool
 has_news pending = pending.fail || pending.fail_now || pending.ok || pending.a || pending.b || pending.c
 
 -- the step that carries out what comes first: the power, then the letters
-abbrev pub first_news : PendingCalls → Option Step
+abbrev pub first_news : CallSet → Option Step
 first_news pending =
     if pending.fail then Some (Power power.Fail)
     else if pending.fail_now then Some (Power power.FailNow)
@@ -51,6 +53,18 @@ first_news pending =
 abbrev pub one_if : Bool → ℕ
 one_if b = if b then 1 else 0
 
-abbrev pub news_count : PendingCalls → ℕ
+abbrev pub news_count : CallSet → ℕ
 news_count pending =
-    one_if pending.fail + one_if pending.fail_now + one_if pending.ok + one_if pending.a + one_if pending.b + one_if pending.c
+    one_if pending.fail + one_if pending.fail_now + one_if pending.ok
+    + one_if pending.a + one_if pending.b + one_if pending.c
+
+-- what is kept of the power and of letters
+abbrev pub news_of : List Event → CallSet
+news_of past = record {
+  fail = keeps_power power.Fail past;
+  fail_now = keeps_power power.FailNow past;
+  ok = keeps_power power.Ok past;
+  a = keeps_letter letter.A past;
+  b = keeps_letter letter.B past;
+  c = keeps_letter letter.C past;
+}
