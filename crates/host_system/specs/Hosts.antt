@@ -1,19 +1,21 @@
--- What is known of a host over the operating system, which tells no calls.
-use Rattle.std.specs.Prelude.{ℕ, Bool, true, false}
+-- What is known of a host over the operating system.
+use Rattle.std.specs.Prelude.{ℕ, Bool, true, false, List}
 use Rattle.init_words.specs.declared.orders.Answer.{Answer}
 use Rattle.init_words.specs.declared.orders.Answer.TheVariants.{Born, NotBorn, Ended, Alive, NoLook, Hit, Miss}
 use Rattle.host_calls.specs.declared.calls.Reply.{Reply}
 use Rattle.host_calls.specs.declared.calls.Reply.TheVariants.{Now, Later}
+use Rattle.host_calls.specs.Calls.{HostCall}
 use Rattle.host_calls.specs.Held.{HeldChildren}
 
 -- how many of its calls failed; whether its init takes no inittab with a faulty line; whether it tells what children do;
--- whether it passes over the requests from before; and the children that it holds
+-- whether it passes over the requests from before; the children that it holds; and its calls, the newest first
 pub record HostState : Type 0 where
   pub faults : ℕ
   pub strict : Bool
   pub verbose : Bool
   pub fresh : Bool
   pub held : HeldChildren
+  pub calls : List HostCall
 
 -- the answers that there are to a start, to a look and to a signal
 abbrev pub is_start_answer : Answer → Bool

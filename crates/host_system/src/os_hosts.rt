@@ -10,6 +10,7 @@ use crate::steady_clocks::SteadyClock;
 use host_calls::{Host, HostFault, Reply, counted, is_failed_reply};
 use host_files::{Channel, InittabFiles, StateFile, boxed};
 use host_messages::{Output, tell_refused};
+use host_telling::{CallList, Noted, adding, no_calls};
 use init_words::{Answer, Id, Memory, Part, SignalKind};
 use inittab_text::read_parts;
 use program_io::ChannelLock;
@@ -22,7 +23,7 @@ use std::process::Processes;
 use std::rt::{Clock, Files};
 use trace_events::{Happening, HappeningIn};
 
-/// A host that asks the operating system. It tells nothing of its calls, and answers each order at once.
+/// A host that asks the operating system. It tells its calls, which proofs alone can read, and answers each order at once.
 ///
 /// A process text is executed by `sh` where it has a character that a shell reads; any other is split at blanks and
 /// tabs and started directly. A start for an id that has a child is refused. A child is looked at by waitpid(2)
@@ -64,15 +65,19 @@ struct OsHostParts<
     verbose: bool,
     fresh: bool,
     faults: u64,
+    told: Noted<CallList>,
 }
 
 impl<R: Processes + Files<File = File> + Clock + Print + Eprint + Drop, A: Allocator> Model
     for OsHost<R, A> {
+    ghost use Rattle.host_calls.specs.Held.{AreOwn};
     ghost use Rattle.host_system.specs.Hosts.{HostState};
 
     ghost Value = { HostState };
 
     ghost view = { λ os. os.host.value };
+
+    ghost invariant = { λ os. AreOwn os.host.value.calls os.host.value.held };
 }
 
 impl<R: Processes + Files<File = File> + Clock + Print + Eprint + Drop, A: Allocator> Model
@@ -87,6 +92,7 @@ impl<R: Processes + Files<File = File> + Clock + Print + Eprint + Drop, A: Alloc
       verbose = host.verbose;
       fresh = host.fresh;
       held = host.children.value;
+      calls = host.told.value;
     } };
 }
 
@@ -94,6 +100,8 @@ impl<R: Processes + Files<File = File> + Clock + Print + Eprint + Drop, A: Alloc
     R,
     A,
 > {
+    ghost use Rattle.host_calls.specs.Held.{AreOwn};
+
     /// A host without children.
     pub fn new(rt: R, alloc: A, options: &HostOptions) -> Result<OsHost<R, A>, Memory>
         ensures { IfOk result (λ host. host ≡ record {
@@ -102,6 +110,7 @@ impl<R: Processes + Files<File = File> + Clock + Print + Eprint + Drop, A: Alloc
           verbose = options.now.verbose;
           fresh = options.now.fresh;
           held = [];
+          calls = [];
         }) }
     {
         let children = Children::new(alloc, options)?;
@@ -120,6 +129,7 @@ impl<R: Processes + Files<File = File> + Clock + Print + Eprint + Drop, A: Alloc
             verbose: options.verbose,
             fresh: options.fresh,
             faults: 0,
+            told: no_calls(),
         };
         let mut host = boxed(alloc, parts)?;
         host.begin(options);
@@ -134,6 +144,15 @@ impl<R: Processes + Files<File = File> + Clock + Print + Eprint + Drop, A: Alloc
         let host = &mut *self.host;
         host.channel.hold(lock);
         self
+    }
+
+    /// The calls that were made of it.
+    pub fn calls(&self) -> Noted<CallList>
+        ensures value { result.value ≡ self.now.calls }
+        ensures own { AreOwn self.now.calls self.now.held }
+    {
+        let host = &*self.host;
+        host.told.again()
     }
 
     /// All could be printed that it was to print: announcements, and faults of the inittab's lines.
@@ -221,13 +240,13 @@ fn host_result<T>(outcome: io::Result<T>) -> Result<T, HostFault>
 
 impl<R: Processes + Files<File = File> + Clock + Print + Eprint + Drop, A: Allocator + Copy> Host
     for OsHost<R, A> {
-    ghost use Rattle.std.specs.Prelude.{◌≡◌, ◌≤◌, length, Some, None, IfOk, is_err, false, IsTrue};
-    ghost use Rattle.host_calls.specs.Calls.{HasCause};
-    ghost use Rattle.host_calls.specs.Calls.{is_failed_reply};
+    ghost use Rattle.std.specs.Prelude.{◌≡◌, ◌≤◌, ◌∷◌, length, Some, None, IfOk, is_err, false, IsTrue};
+    ghost use Rattle.host_calls.specs.declared.calls.Call.TheVariants as call;
+    ghost use Rattle.host_calls.specs.Calls.{HasCause, front_read, is_failed_reply, parts_read, text_read};
     ghost use Rattle.host_calls.specs.Held.{Starts, Looks, Signals};
     ghost use Rattle.host_system.specs.Hosts.{HostState, is_start_answer, is_look_answer, is_signal_answer, answers_by};
 
-    ghost told = { λ _. None };
+    ghost told = { λ (host : HostState). Some host.calls };
 
     ghost held = { λ (host : HostState). Some host.held };
 
@@ -237,8 +256,11 @@ impl<R: Processes + Files<File = File> + Clock + Print + Eprint + Drop, A: Alloc
         ensures cause { HasCause self.old.faults self.new.faults (is_failed_reply result) }
         ensures kind { IsTrue (answers_by is_start_answer result) }
         ensures held { Starts self.old.held self.new.held id result }
-        ensures kept { self.new
-            ≡ record self.old { faults = self.new.faults; held = self.new.held } }
+        ensures kept { self.new ≡ record self.old {
+          faults = self.new.faults;
+          held = self.new.held;
+          calls = call.Start id command.now result ∷ self.old.calls;
+        } }
     {
         let host = &mut *self.host;
         let reply = match host.children.start(&host.rt, alloc, id, command) {
@@ -250,6 +272,7 @@ impl<R: Processes + Files<File = File> + Clock + Print + Eprint + Drop, A: Alloc
         };
         host.pauses.note(has_stirred(&reply));
         host.faults = counted(host.faults, is_failed_reply(&reply));
+        host.told = adding::with::<_, adding::Start>(&host.told, (&id, command, &reply));
         reply
     }
 
@@ -257,13 +280,17 @@ impl<R: Processes + Files<File = File> + Clock + Print + Eprint + Drop, A: Alloc
         ensures cause { HasCause self.old.faults self.new.faults (is_failed_reply result) }
         ensures kind { IsTrue (answers_by is_look_answer result) }
         ensures held { Looks self.old.held self.new.held id result }
-        ensures kept { self.new
-            ≡ record self.old { faults = self.new.faults; held = self.new.held } }
+        ensures kept { self.new ≡ record self.old {
+          faults = self.new.faults;
+          held = self.new.held;
+          calls = call.Look id result ∷ self.old.calls;
+        } }
     {
         let host = &mut *self.host;
         let reply = Reply::Now(host.children.look(&host.rt, &id));
         host.pauses.note(has_stirred(&reply));
         host.faults = counted(host.faults, is_failed_reply(&reply));
+        host.told = adding::with::<_, adding::Look>(&host.told, (&id, &reply));
         reply
     }
 
@@ -271,49 +298,68 @@ impl<R: Processes + Files<File = File> + Clock + Print + Eprint + Drop, A: Alloc
         ensures cause { HasCause self.old.faults self.new.faults (is_failed_reply result) }
         ensures kind { IsTrue (answers_by is_signal_answer result) }
         ensures held { Signals self.old.held self.new.held id result }
-        ensures kept { self.new
-            ≡ record self.old { faults = self.new.faults; held = self.new.held } }
+        ensures kept { self.new ≡ record self.old {
+          faults = self.new.faults;
+          held = self.new.held;
+          calls = call.Signal id signal result ∷ self.old.calls;
+        } }
     {
         let host = &mut *self.host;
         let reply = Reply::Now(host.children.signal(&host.rt, &id, signal));
         host.pauses.note(has_stirred(&reply));
         host.faults = counted(host.faults, is_failed_reply(&reply));
+        host.told = adding::with::<_, adding::Signal>(&host.told, (&id, signal, &reply));
         reply
     }
 
     /// Nothing ever comes later.
     fn late(&mut self) -> Option<(Id, Answer)>
         ensures never { result ≡ None }
-        ensures unchanged { self.new ≡ self.old }
+        ensures kept { self.new
+            ≡ record self.old { calls = call.Late result ∷ self.old.calls } }
     {
+        let host = &mut *self.host;
+        host.told = adding::with::<_, adding::Late>(&host.told, &None);
         None
     }
 
     fn clock(&mut self) -> Result<u64, HostFault>
         ensures cause { HasCause self.old.faults self.new.faults (is_err result) }
-        ensures kept { self.new ≡ record self.old { faults = self.new.faults } }
+        ensures kept { self.new ≡ record self.old {
+          faults = self.new.faults;
+          calls = call.Clock result ∷ self.old.calls;
+        } }
     {
         let host = &mut *self.host;
         let reading = host_result(host.clock.seconds(&host.rt));
         host.faults = counted(host.faults, reading.is_err());
+        host.told = adding::with::<_, adding::Clock>(&host.told, reading);
         reading
     }
 
     fn take_bytes(&mut self, buffer: &mut [u8]) -> Result<usize, HostFault>
         ensures within { IfOk result (λ count. count ≤ length buffer.old) }
         ensures cause { HasCause self.old.faults self.new.faults (is_err result) }
-        ensures kept { self.new ≡ record self.old { faults = self.new.faults } }
+        ensures kept { self.new ≡ record self.old {
+          faults = self.new.faults;
+          calls = call.TakeBytes (length buffer.old) (front_read result buffer.new)
+              ∷ self.old.calls;
+        } }
     {
         let host = &mut *self.host;
         let taken = host_result(host.channel.take_bytes(&host.rt, buffer));
         host.pauses.note(matches!(taken, Ok(count) if count > 0));
         host.faults = counted(host.faults, taken.is_err());
+        host.told = adding::with::<_, adding::TakeBytes>(&host.told, (&*buffer, taken));
         taken
     }
 
     fn read_tables<B: Allocator + Copy>(&mut self, alloc: B) -> Result<Vec<Part<B>, B>, HostFault>
         ensures cause { HasCause self.old.faults self.new.faults (is_err result) }
-        ensures kept { self.new ≡ record self.old { faults = self.new.faults } }
+        ensures kept { self.new ≡ record self.old {
+          faults = self.new.faults;
+          calls = call.ReadTables (parts_read (λ parts. parts.items) result) ∷ self.old.calls;
+        } }
     {
         let host = &mut *self.host;
         let parts = host_result(host.inittab.read(&host.rt, alloc));
@@ -322,12 +368,16 @@ impl<R: Processes + Files<File = File> + Clock + Print + Eprint + Drop, A: Alloc
             Err(_) => false,
         };
         host.faults = counted(host.faults, !is_told);
+        host.told = adding::with::<_, adding::ReadTables>(&host.told, &parts);
         parts
     }
 
     fn carry<B: Allocator + Copy>(&mut self, alloc: B, text: &[u8]) -> Result<Vec<u8, B>, HostFault>
         ensures cause { HasCause self.old.faults self.new.faults (is_err result) }
-        ensures kept { self.new ≡ record self.old { faults = self.new.faults } }
+        ensures kept { self.new ≡ record self.old {
+          faults = self.new.faults;
+          calls = call.Carry text.now (text_read (λ back. back.items) result) ∷ self.old.calls;
+        } }
     {
         let host = &mut *self.host;
         let inittab = host.inittab.path();
@@ -335,16 +385,21 @@ impl<R: Processes + Files<File = File> + Clock + Print + Eprint + Drop, A: Alloc
         let back = host.state.carry(&host.rt, alloc, inittab, channel, text);
         let back = host_result(back);
         host.faults = counted(host.faults, back.is_err());
+        host.told = adding::with::<_, adding::Carry>(&host.told, (text, &back));
         back
     }
 
     fn announce<B: Allocator>(&mut self, happening: &HappeningIn<B>)
         ensures cause { HasCause self.old.faults self.new.faults false }
-        ensures kept { self.new ≡ record self.old { faults = self.new.faults } }
+        ensures kept { self.new ≡ record self.old {
+          faults = self.new.faults;
+          calls = call.Announce happening.now ∷ self.old.calls;
+        } }
     {
         let host = &mut *self.host;
         let is_printed = host.output.announce(&host.rt, happening);
         host.faults = counted(host.faults, !is_printed);
+        host.told = adding::with::<_, adding::Announce>(&host.told, happening);
         match happening {
             Happening::Enter(stage, _) => host.children.enter(*stage),
             Happening::Hold(id) => host.children.tell_last_end(&host.rt, id),
@@ -353,13 +408,15 @@ impl<R: Processes + Files<File = File> + Clock + Print + Eprint + Drop, A: Alloc
     }
 
     fn pause(&mut self)
-        ensures unchanged { self.new ≡ self.old }
+        ensures kept { self.new
+            ≡ record self.old { calls = call.Pause ∷ self.old.calls } }
     {
         let host = &mut *self.host;
         host.children.end_turn();
         let length = host.pauses.next(&host.rt, host.children.count());
         host.channel.rest(&host.rt, length);
         host.pauses.begin_turn(&host.rt);
+        host.told = adding::with::<_, adding::Pause>(&host.told, ());
     }
 
     fn faults(&self) -> u64 {

@@ -1,4 +1,4 @@
-//! A record of calls that proofs alone can read, and a call more, with what was answered.
+//! A record of calls that proofs alone can read, and a call more, with what was answered: one type for each kind of call.
 
 ghost use Rattle.std.specs.Prelude.{◌≡◌, ◌∷◌, []};
 
@@ -51,14 +51,14 @@ impl<'a, X, M: Reads<X, Call>> Reads<(&'a Noted<CallList>, X), CallList> for ByC
 }
 
 /// The record with a call added: what it was asked, and what was answered.
-pub(crate) fn with<X: Copy, M: Reads<X, Call>>(before: &Noted<CallList>, call: X) -> Noted<CallList>
+pub fn with<X: Copy, M: Reads<X, Call>>(before: &Noted<CallList>, call: X) -> Noted<CallList>
     ensures { result.value ≡ M.value call ∷ before.now.value }
 {
     Noted::of::<(&Noted<CallList>, X), ByCall<M>>(&(before, call))
 }
 
 /// A start.
-pub(crate) struct Start;
+pub struct Start;
 
 impl<'a> Reads<(&'a Id, &'a [u8], &'a Reply), Call> for Start {
     ghost use Rattle.host_calls.specs.declared.calls.Call.TheVariants.{Start};
@@ -67,7 +67,7 @@ impl<'a> Reads<(&'a Id, &'a [u8], &'a Reply), Call> for Start {
 }
 
 /// A look.
-pub(crate) struct Look;
+pub struct Look;
 
 impl<'a> Reads<(&'a Id, &'a Reply), Call> for Look {
     ghost use Rattle.host_calls.specs.declared.calls.Call.TheVariants.{Look};
@@ -76,7 +76,7 @@ impl<'a> Reads<(&'a Id, &'a Reply), Call> for Look {
 }
 
 /// A signal.
-pub(crate) struct Signal;
+pub struct Signal;
 
 impl<'a> Reads<(&'a Id, SignalKind, &'a Reply), Call> for Signal {
     ghost use Rattle.host_calls.specs.declared.calls.Call.TheVariants.{Signal};
@@ -85,7 +85,7 @@ impl<'a> Reads<(&'a Id, SignalKind, &'a Reply), Call> for Signal {
 }
 
 /// An answer that came later was asked for.
-pub(crate) struct Late;
+pub struct Late;
 
 impl<'a> Reads<&'a Option<(Id, Answer)>, Call> for Late {
     ghost use Rattle.host_calls.specs.declared.calls.Call.TheVariants.{Late};
@@ -94,7 +94,7 @@ impl<'a> Reads<&'a Option<(Id, Answer)>, Call> for Late {
 }
 
 /// A reading of the clock.
-pub(crate) struct Clock;
+pub struct Clock;
 
 impl Reads<Result<u64, HostFault>, Call> for Clock {
     ghost use Rattle.host_calls.specs.declared.calls.Call.TheVariants.{Clock};
@@ -103,7 +103,7 @@ impl Reads<Result<u64, HostFault>, Call> for Clock {
 }
 
 /// Bytes that were taken into the front of a buffer.
-pub(crate) struct TakeBytes;
+pub struct TakeBytes;
 
 impl<'a> Reads<(&'a [u8], Result<usize, HostFault>), Call> for TakeBytes {
     ghost use Rattle.std.specs.Prelude.{length};
@@ -114,7 +114,7 @@ impl<'a> Reads<(&'a [u8], Result<usize, HostFault>), Call> for TakeBytes {
 }
 
 /// The files of the inittab were read.
-pub(crate) struct ReadTables;
+pub struct ReadTables;
 
 impl<'a, A: Allocator> Reads<&'a Result<Vec<Part<A>, A>, HostFault>, Call> for ReadTables {
     ghost use Rattle.host_calls.specs.Calls.{parts_read};
@@ -124,7 +124,7 @@ impl<'a, A: Allocator> Reads<&'a Result<Vec<Part<A>, A>, HostFault>, Call> for R
 }
 
 /// A text was carried, and came back.
-pub(crate) struct Carry;
+pub struct Carry;
 
 impl<'a, A: Allocator> Reads<(&'a [u8], &'a Result<Vec<u8, A>, HostFault>), Call> for Carry {
     ghost use Rattle.host_calls.specs.Calls.{text_read};
@@ -134,7 +134,7 @@ impl<'a, A: Allocator> Reads<(&'a [u8], &'a Result<Vec<u8, A>, HostFault>), Call
 }
 
 /// A happening was announced.
-pub(crate) struct Announce;
+pub struct Announce;
 
 impl<'a, A: Allocator> Reads<&'a HappeningIn<A>, Call> for Announce {
     ghost use Rattle.host_calls.specs.declared.calls.Call.TheVariants.{Announce};
@@ -143,7 +143,7 @@ impl<'a, A: Allocator> Reads<&'a HappeningIn<A>, Call> for Announce {
 }
 
 /// A pause.
-pub(crate) struct Pause;
+pub struct Pause;
 
 impl Reads<(), Call> for Pause {
     ghost use Rattle.host_calls.specs.declared.calls.Call.TheVariants.{Pause};

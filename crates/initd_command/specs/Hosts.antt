@@ -12,4 +12,5 @@ host_said service = record {
   verbose = service.verbose;
   fresh = service.fresh;
   held = [];
+  calls = [];
 }

@@ -8,7 +8,7 @@ use crate::hosts::Hosts;
 use crate::run::{folder_of, trace_of};
 use host_messages::StampedRuntime;
 use host_system::{HostOptions, OsHost, Pace};
-use host_telling::{CallList, Noted, RecordingHost, no_calls};
+use host_telling::{CallList, Noted, no_calls};
 use init_words::Memory;
 use initd_options::RunWords;
 use program_io::ChannelLock;
@@ -54,7 +54,7 @@ impl<R: Processes + Files<File = File> + Clock + Print + Eprint + Clone + Drop> 
 }
 
 impl<R: Processes + Files<File = File> + Clock + Print + Eprint + Clone + Drop> Hosts<
-    RecordingHost<OsHost<StampedRuntime<R>>>,
+    OsHost<StampedRuntime<R>>,
 > for OsHosts<R> {
     ghost use Rattle.std.specs.Prelude.{◌≡◌, Some, None, IfOk};
     ghost use Rattle.host_calls.specs.Held.{AreOwn, HeldChildren};
@@ -72,24 +72,22 @@ impl<R: Processes + Files<File = File> + Clock + Print + Eprint + Clone + Drop> 
         alloc: Global,
         said: &RunWords,
         lock: ChannelLock,
-    ) -> Result<RecordingHost<OsHost<StampedRuntime<R>>>, Memory>
+    ) -> Result<OsHost<StampedRuntime<R>>, Memory>
         ensures told { IfOk result (λ host. Some host.calls ≡ Some self.old) }
         ensures err { self.new ≡ self.old }
-        ensures words { IfOk result (λ host. host.host ≡ host_said (run_of said.now)) }
+        ensures words { IfOk result (λ host. host ≡ host_said (run_of said.now)) }
     {
         let Some(rt) = self.rt.take() else {
             return Err(Memory);
         };
         let stamped = StampedRuntime::new(rt, alloc, said.stamp);
-        let host = host_of(&stamped, alloc, said)?.holding(lock);
-        Ok(RecordingHost::after(&self.calls, host))
+        Ok(host_of(&stamped, alloc, said)?.holding(lock))
     }
 
-    fn close(&mut self, host: RecordingHost<OsHost<StampedRuntime<R>>>) -> bool {
-        host.law_of_telling();
+    fn close(&mut self, host: OsHost<StampedRuntime<R>>) -> bool {
         self.rt = None;
         self.calls = host.calls();
-        host.into_host().has_printed()
+        host.has_printed()
     }
 }
 
