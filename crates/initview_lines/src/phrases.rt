@@ -3,7 +3,7 @@
 use crate::days::{add_clock, add_time_of_day};
 use crate::json::add_quoted;
 use crate::words::{add_level, add_number, add_padded, add_shown, add_stage, add_status, put};
-use init_words::{Level, Stage, Status};
+use init_words::{Id, Level, Stage, Status};
 use std::alloc::AllocError;
 use trace_view::Wish;
 
@@ -15,6 +15,9 @@ pub(crate) enum Value<'a> {
     Padded(usize, &'a [u8]),
     /// A text of a file, whose control characters a terminal is not to obey.
     Shown(&'a [u8]),
+    Id(Id),
+    /// The number of a child.
+    Pid(u32),
     Byte(u8),
     Number(u64),
     /// A number, or null.
@@ -37,7 +40,7 @@ pub(crate) fn fill(text: &mut Vec<u8>, phrase: &[u8], values: &[Value]) -> Resul
     for byte in phrase {
         match values.get(next) {
             Some(value) if *byte == b'@' => {
-                add_value(text, *value)?;
+                add_value(text, value)?;
                 next += 1;
             }
             _ => text.push(*byte)?,
@@ -46,21 +49,23 @@ pub(crate) fn fill(text: &mut Vec<u8>, phrase: &[u8], values: &[Value]) -> Resul
     Ok(())
 }
 
-fn add_value(text: &mut Vec<u8>, value: Value) -> Result<(), AllocError> {
+fn add_value(text: &mut Vec<u8>, value: &Value) -> Result<(), AllocError> {
     match value {
         Value::Text(bytes) => put(text, bytes),
-        Value::Padded(width, bytes) => add_padded(text, width, bytes),
+        Value::Padded(width, bytes) => add_padded(text, *width, bytes),
         Value::Shown(bytes) => add_shown(text, bytes),
-        Value::Byte(byte) => put(text, &[byte]),
-        Value::Number(number) | Value::Known(Some(number)) => add_number(text, b"", number, b""),
+        Value::Id(id) => put(text, id.as_bytes()),
+        Value::Pid(number) => add_number(text, b"", u64::from(*number), b""),
+        Value::Byte(byte) => put(text, &[*byte]),
+        Value::Number(number) | Value::Known(Some(number)) => add_number(text, b"", *number, b""),
         Value::Quoted(Some(bytes)) => add_quoted(text, bytes),
         Value::Known(None) | Value::Quoted(None) => put(text, b"null"),
-        Value::Level(level) => add_level(text, level),
-        Value::Stage(stage) => add_stage(text, stage),
-        Value::Status(status) => add_status(text, status),
-        Value::Wish(wish) => add_wish(text, wish),
-        Value::Clock(time) => add_clock(text, time),
-        Value::Time(time) => add_time_of_day(text, time),
+        Value::Level(level) => add_level(text, *level),
+        Value::Stage(stage) => add_stage(text, *stage),
+        Value::Status(status) => add_status(text, *status),
+        Value::Wish(wish) => add_wish(text, *wish),
+        Value::Clock(time) => add_clock(text, *time),
+        Value::Time(time) => add_time_of_day(text, *time),
     }
 }
 

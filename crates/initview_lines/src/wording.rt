@@ -96,11 +96,7 @@ fn add_file_line(text: &mut Vec<u8>, alloc: Global, told: &FileLine) -> Result<(
             text,
             b": warning: no initdefault names a level: init goes to S",
         ),
-        FileLine::NoLine(id) => fill(
-            text,
-            b": no line has the id @",
-            &[Value::Text(id.as_bytes())],
-        ),
+        FileLine::NoLine(id) => fill(text, b": no line has the id @", &[Value::Id(*id)]),
     }
 }
 
@@ -197,7 +193,7 @@ fn add_child(text: &mut Vec<u8>, at: &IdRow, number: ChildNumber) -> Result<(), 
     fill(
         text,
         b"@pid @",
-        &[Value::Padded(12, state), Value::Number(u64::from(number.0))],
+        &[Value::Padded(12, state), Value::Pid(number.0)],
     )?;
     add_births(text, at)?;
     add_stopping(text, at)
@@ -256,16 +252,11 @@ fn add_waits(text: &mut Vec<u8>, at: &IdRow) -> Result<(), AllocError> {
 /// Adds what is waited for.
 fn add_waited(text: &mut Vec<u8>, at: &IdRow) -> Result<(), AllocError> {
     match at.row.why {
-        Why::EarlierOwed(id) | Why::StageOwed(id) => {
-            fill(text, b"for @; ", &[Value::Text(id.as_bytes())])
-        }
+        Why::EarlierOwed(id) | Why::StageOwed(id) => { fill(text, b"for @; ", &[Value::Id(id)]) }
         Why::ExcludedKept(child) => fill(
             text,
             b"for @ (pid @) to end; ",
-            &[
-                Value::Text(child.id.as_bytes()),
-                Value::Number(u64::from(child.number.0)),
-            ],
+            &[Value::Id(child.id), Value::Pid(child.number.0)],
         ),
         Why::WishStands(_) => put(text, b"for a request; "),
         Why::Held(_) => fill(text, b"@ s more; ", &[Value::Known(at.held)]),
@@ -287,20 +278,13 @@ fn add_last(text: &mut Vec<u8>, at: &IdRow) -> Result<(), AllocError> {
 
 fn add_left(text: &mut Vec<u8>, id: &Id, number: Option<ChildNumber>) -> Result<(), AllocError> {
     match number {
-        Some(number) => fill(
-            text,
-            b"@ @\n",
-            &[
-                Value::Text(id.as_bytes()),
-                Value::Number(u64::from(number.0)),
-            ],
-        ),
-        None => fill(text, b"@ ?\n", &[Value::Text(id.as_bytes())]),
+        Some(number) => fill(text, b"@ @\n", &[Value::Id(*id), Value::Pid(number.0)]),
+        None => fill(text, b"@ ?\n", &[Value::Id(*id)]),
     }
 }
 
 fn add_reason(text: &mut Vec<u8>, reason: &Reason) -> Result<(), AllocError> {
-    fill(text, b"@: ", &[Value::Text(reason.at.id.as_bytes())])?;
+    fill(text, b"@: ", &[Value::Id(reason.at.id)])?;
     add_why(text, reason)?;
     add_stopping(text, &reason.stopped)?;
     match reason.line {
@@ -329,7 +313,7 @@ fn add_why(text: &mut Vec<u8>, reason: &Reason) -> Result<(), AllocError> {
             &[Value::Stage(reason.stage)],
         ),
         Why::StageOver => put(text, b"its action starts it before the first level alone"),
-        Why::StageOwed(id) => fill(text, b"init waits for @", &[Value::Text(id.as_bytes())]),
+        Why::StageOwed(id) => fill(text, b"init waits for @", &[Value::Id(id)]),
         Why::OtherStage => fill(
             text,
             b"it doesn't start in @",
@@ -351,14 +335,14 @@ fn add_why(text: &mut Vec<u8>, reason: &Reason) -> Result<(), AllocError> {
         Why::EarlierOwed(id) => fill(
             text,
             b"init waits for @, which stands before it",
-            &[Value::Text(id.as_bytes())],
+            &[Value::Id(id)],
         ),
         Why::ExcludedKept(child) => fill(
             text,
             b"@ (pid @) may not live in @, and has to end first",
             &[
-                Value::Text(child.id.as_bytes()),
-                Value::Number(u64::from(child.number.0)),
+                Value::Id(child.id),
+                Value::Pid(child.number.0),
                 Value::Stage(reason.stage),
             ],
         ),
@@ -382,7 +366,7 @@ fn add_why(text: &mut Vec<u8>, reason: &Reason) -> Result<(), AllocError> {
 
 /// Adds that a child is kept: it runs, or its end isn't told.
 fn add_kept(text: &mut Vec<u8>, at: &IdRow, number: ChildNumber) -> Result<(), AllocError> {
-    let number = [Value::Number(u64::from(number.0))];
+    let number = [Value::Pid(number.0)];
     if at.row.child.is_none() {
         return fill(
             text,
@@ -477,11 +461,7 @@ fn add_change(
     let words = Value::Text(change_words(change));
     add_columns(text, id, act)?;
     match child {
-        Some(number) => fill(
-            text,
-            b"@  @\n",
-            &[words, Value::Number(u64::from(number.0))],
-        ),
+        Some(number) => fill(text, b"@  @\n", &[words, Value::Pid(number.0)]),
         None => fill(text, b"@\n", &[words]),
     }
 }
@@ -498,7 +478,7 @@ fn add_start(text: &mut Vec<u8>, id: &Id, act: Act, waits: bool) -> Result<(), A
 /// The id for whose end is waited.
 fn behind(before: &Option<Id>) -> Value<'_> {
     match before {
-        Some(id) => Value::Text(id.as_bytes()),
+        Some(id) => Value::Id(*id),
         None => Value::Text(b"nothing"),
     }
 }
@@ -550,7 +530,7 @@ fn add_news(text: &mut Vec<u8>, news: &News) -> Result<(), AllocError> {
             text,
             b"@ held for @ s: started @ times in @ s",
             &[
-                Value::Text(id.as_bytes()),
+                Value::Id(*id),
                 Value::Number(HOLD),
                 Value::Number(STARTS as u64),
                 Value::Number(WINDOW),
@@ -559,30 +539,19 @@ fn add_news(text: &mut Vec<u8>, news: &News) -> Result<(), AllocError> {
         News::Born(id, number) => fill(
             text,
             b"@ started, @",
-            &[
-                Value::Text(id.as_bytes()),
-                Value::Number(u64::from(number.0)),
-            ],
+            &[Value::Id(*id), Value::Pid(number.0)],
         ),
-        News::NotBorn(id) => fill(
-            text,
-            b"@ could not be started",
-            &[Value::Text(id.as_bytes())],
-        ),
+        News::NotBorn(id) => fill(text, b"@ could not be started", &[Value::Id(*id)]),
         News::Ended(id, number, status) => fill(
             text,
             b"@ ended, @: @",
             &[
-                Value::Text(id.as_bytes()),
-                Value::Number(u64::from(number.0)),
+                Value::Id(*id),
+                Value::Pid(number.0),
                 Value::Status(Some(*status)),
             ],
         ),
-        News::NotSeen(id) => fill(
-            text,
-            b"@ could not be looked at",
-            &[Value::Text(id.as_bytes())],
-        ),
+        News::NotSeen(id) => fill(text, b"@ could not be looked at", &[Value::Id(*id)]),
         News::Sent(id, order, child) => add_signal(text, b"@ sent to @", id, *order, *child),
         News::NotSent(id, order, child) => {
             add_signal(text, b"@ could not be sent to @", id, *order, *child)
@@ -621,9 +590,9 @@ fn add_signal(
     child: Option<ChildNumber>,
 ) -> Result<(), AllocError> {
     let word = Value::Text(signal_word(order));
-    fill(text, phrase, &[word, Value::Text(id.as_bytes())])?;
+    fill(text, phrase, &[word, Value::Id(*id)])?;
     match child {
-        Some(number) => fill(text, b", @", &[Value::Number(u64::from(number.0))]),
+        Some(number) => fill(text, b", @", &[Value::Pid(number.0)]),
         None => Ok(()),
     }
 }
