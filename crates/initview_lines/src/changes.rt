@@ -8,7 +8,7 @@ ghost use Rattle.initview_lines.specs.Changes.{act_there, change_in, change_line
 use crate::lines::Line;
 use init_words::{Act, Entry, Id, Level, Stage, lives, starts};
 use inittab_text::Table;
-use std::alloc::{AllocError, Allocator, Global};
+use std::alloc::{AllocError, Global};
 
 /// What becomes of an id.
 #[derive(Clone, Copy, PartialEq, Eq)]
@@ -119,7 +119,7 @@ fn change_in(level: Level, old: Option<&Entry>, new: Option<&Entry>) -> Change
 }
 
 /// What becomes of an id in a level.
-fn change_line<A: Allocator>(level: Level, old: &Table<A>, new: &Table<A>, id: &Id) -> Line
+fn change_line(level: Level, old: &Table, new: &Table, id: &Id) -> Line
     ensures { result ≡ change_line level old.now new.now id.now }
 {
     let after = new.get(id);
@@ -131,12 +131,7 @@ fn change_line<A: Allocator>(level: Level, old: &Table<A>, new: &Table<A>, id: &
     )
 }
 
-fn changes<A: Allocator>(
-    alloc: Global,
-    level: Level,
-    old: &Table<A>,
-    new: &Table<A>,
-) -> Result<Vec<Line>, AllocError>
+fn changes(alloc: Global, level: Level, old: &Table, new: &Table) -> Result<Vec<Line>, AllocError>
     ensures { IfOk result (λ lines. lines.items ≡ map (entry_change level old.now new.now)
         (new.now ++ filter (is_gone new.now) old.now)) }
 {
@@ -153,11 +148,11 @@ fn changes<A: Allocator>(
 
 /// What becomes of each id in a level, where init reads the new table in the place of the old one: the level, then each
 /// entry of the new table, then each that is gone.
-pub fn change_lines<A: Allocator>(
+pub fn change_lines(
     alloc: Global,
     level: Level,
-    old: &Table<A>,
-    new: &Table<A>,
+    old: &Table,
+    new: &Table,
 ) -> Result<Vec<Line>, AllocError>
     ensures { IfOk result (λ lines. lines.items ≡ changes_in level old.now new.now) }
 {

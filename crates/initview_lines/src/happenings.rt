@@ -7,7 +7,7 @@ ghost use Rattle.initview_lines.specs.Happenings.{happening_lines, news_of};
 use crate::lines::Line;
 use init_words::{ChildNumber, Id, Letter, Level, OrderKind, PowerKind, Stage, Status};
 use initctl_frame::HeardRequest;
-use std::alloc::{AllocError, Allocator};
+use std::alloc::{AllocError, Global};
 use trace_events::{Handed, Happening, HappeningIn};
 use trace_view::TraceView;
 
@@ -35,7 +35,7 @@ pub enum News {
 
 /// What a happening says by itself that an operator is told. Of what he need not see there is none: an order, a death, a
 /// look that found its child alive, an answer that reached init, a reading of the clock, a round.
-pub(crate) fn news_alone<B: Allocator>(happening: &HappeningIn<B>) -> Option<News>
+pub(crate) fn news_alone(happening: &HappeningIn<Global>) -> Option<News>
     ensures { result ≡ news_of happening.now [] }
 {
     match happening {
@@ -59,10 +59,7 @@ pub(crate) fn news_alone<B: Allocator>(happening: &HappeningIn<B>) -> Option<New
 }
 
 /// What an operator is told of the happening that the view has seen last.
-fn news_of<A: Allocator, B: Allocator>(
-    view: &TraceView<A>,
-    happening: &HappeningIn<B>,
-) -> Option<News>
+fn news_of(view: &TraceView, happening: &HappeningIn<Global>) -> Option<News>
     ensures { (past : List Event) → Viewed view.now (happening.now ∷ past)
         → result ≡ news_of happening.now past }
 {
@@ -80,10 +77,10 @@ fn news_of<A: Allocator, B: Allocator>(
 }
 
 /// Adds what an operator is told of the happening that the view has seen last, with the time of the trace's clock.
-pub fn add_happening<A: Allocator, B: Allocator>(
+pub fn add_happening(
     lines: &mut Vec<Line>,
-    view: &TraceView<A>,
-    happening: &HappeningIn<B>,
+    view: &TraceView,
+    happening: &HappeningIn<Global>,
 ) -> Result<(), AllocError>
     ensures { OnOk result ((past : List Event) → Viewed view.now (happening.now ∷ past)
         → lines.new.items ≡ lines.old.items ++ happening_lines happening.now past) }

@@ -6,14 +6,14 @@ ghost use Rattle.initview_lines.specs.Left.{child_line, is_open, is_starting, le
 
 use crate::lines::{Line, RowFormat};
 use init_words::{Entry, OrderKind};
-use std::alloc::{AllocError, Allocator, Global};
+use std::alloc::{AllocError, Global};
 use trace_view::{BornChild, Row, TraceView};
 
 /// The children that were born and not reaped, the youngest first, and then the entries whose start is open, in the
 /// order of the table.
-pub fn left_lines<A: Allocator>(
+pub fn left_lines(
     alloc: Global,
-    view: &TraceView<A>,
+    view: &TraceView,
     shape: RowFormat,
 ) -> Result<Vec<Line>, AllocError>
     ensures { IfOk result (λ lines. (past : List Event) → Viewed view.now past
@@ -44,9 +44,9 @@ fn child_lines(
         .collect(alloc)
 }
 
-fn add_starts<A: Allocator>(
+fn add_starts(
     lines: &mut Vec<Line>,
-    view: &TraceView<A>,
+    view: &TraceView,
     entries: &[Entry],
     shape: RowFormat,
 ) -> Result<(), AllocError>

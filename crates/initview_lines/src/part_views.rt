@@ -11,7 +11,7 @@ use crate::happenings::news_alone;
 use crate::lines::Line;
 use init_words::Memory;
 use respawn_limit::CLOCK_LIMIT;
-use std::alloc::{AllocError, Allocator, Global};
+use std::alloc::{AllocError, Global};
 use std::marker::Model;
 use trace_events::{Happening, HappeningIn};
 use trace_text::ReadFault;
@@ -22,13 +22,13 @@ use trace_view::ViewEnd;
 ///
 /// A contract sees of it which texts it has taken (`HasTold`).
 #[derive(Drop)]
-pub struct PartView<A: Allocator = Global> {
-    reader: TextReader<A>,
+pub struct PartView {
+    reader: TextReader<Global>,
     time: u64,
     stop: Option<ViewEnd>,
 }
 
-impl<A: Allocator> Model for PartView<A> {
+impl Model for PartView {
     ghost use Rattle.initview_lines.specs.Parts.{PartState};
 
     ghost Value = { PartState };
@@ -37,7 +37,7 @@ impl<A: Allocator> Model for PartView<A> {
 }
 
 /// The time behind a happening: a clock that is set back changes nothing.
-fn time_after<B: Allocator>(time: u64, happening: &HappeningIn<B>) -> u64
+fn time_after(time: u64, happening: &HappeningIn<Global>) -> u64
     ensures { (past : List Event) → time ≡ time_of past
         → result ≡ time_of (happening.now ∷ past) }
 {
@@ -48,10 +48,10 @@ fn time_after<B: Allocator>(time: u64, happening: &HappeningIn<B>) -> u64
 }
 
 /// Adds what a happening says by itself that an operator is told.
-fn add_alone<B: Allocator>(
+fn add_alone(
     lines: &mut Vec<Line>,
     time: u64,
-    happening: &HappeningIn<B>,
+    happening: &HappeningIn<Global>,
 ) -> Result<(), AllocError>
     ensures { OnOk result (lines.new.items
         ≡ lines.old.items ++ line_at time (news_of happening.now [])) }
@@ -62,9 +62,9 @@ fn add_alone<B: Allocator>(
     Ok(())
 }
 
-impl<A: Allocator + Copy> PartView<A> {
+impl PartView {
     /// Nothing was taken yet. It takes no memory.
-    pub fn new(alloc: A) -> PartView<A>
+    pub fn new(alloc: Global) -> PartView
         ensures { HasTold result [] [] }
     {
         PartView {

@@ -7,14 +7,10 @@ ghost use Rattle.initview_lines.specs.declared.lines.Line.{Line};
 use crate::happenings::add_happening;
 use crate::lines::Line;
 use init_words::Memory;
-use std::alloc::Allocator;
 use trace_view::TextView;
 
 /// Adds the line of the next happening, if one is whole.
-fn next_line<A: Allocator + Copy>(
-    view: &mut TextView<A>,
-    lines: &mut Vec<Line>,
-) -> Result<bool, Memory>
+fn next_line(view: &mut TextView, lines: &mut Vec<Line>) -> Result<bool, Memory>
     ensures goes { IfOk result (λ more. (said : List Line) (text : List ℕ) → length text < 2 ^ 64
         → SaysOn more view.old (said ++ lines.old.items) view.new (said ++ lines.new.items) text) }
     ensures shorter { IfOk result (λ more. more ≡ true
@@ -31,11 +27,7 @@ fn next_line<A: Allocator + Copy>(
 
 /// Shows a view the next piece of its text, cut anywhere, and adds the lines of all that is whole of it. Where memory runs
 /// out the view is of no more use.
-pub fn take_lines<A: Allocator + Copy>(
-    view: &mut TextView<A>,
-    piece: &[u8],
-    lines: &mut Vec<Line>,
-) -> Result<(), Memory>
+pub fn take_lines(view: &mut TextView, piece: &[u8], lines: &mut Vec<Line>) -> Result<(), Memory>
     ensures { OnOk result ((said : List Line) (text : List ℕ) → length (text ++ piece.now) < 2 ^ 64
         → HasSaid view.old (said ++ lines.old.items) text
         → HasSaid view.new (said ++ lines.new.items) (text ++ piece.now)) }

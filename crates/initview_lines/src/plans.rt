@@ -8,7 +8,7 @@ use crate::changes::is_started;
 use crate::lines::Line;
 use init_words::{Act, Entry, Id, Level, Stage, waited};
 use inittab_text::Table;
-use std::alloc::{AllocError, Allocator, Global};
+use std::alloc::{AllocError, Global};
 
 /// An entry for whose end init waits.
 #[derive(Clone, Copy)]
@@ -129,11 +129,7 @@ fn add_critical_path(lines: &mut Vec<Line>, level: Level, path: &[Waited]) -> Re
 /// The entries that init starts of itself on its way to a level: each stage, and behind it each entry in the order in which
 /// they start, with whether init waits for its end before it goes on. Behind them the critical path: the entries whose
 /// ends the way to the level goes through, and which of them each waits for.
-pub fn plan_lines<A: Allocator>(
-    alloc: Global,
-    level: Level,
-    table: &Table<A>,
-) -> Result<Vec<Line>, AllocError>
+pub fn plan_lines(alloc: Global, level: Level, table: &Table) -> Result<Vec<Line>, AllocError>
     ensures { IfOk result (λ lines. lines.items ≡ plan_in level table.now) }
 {
     let mut lines = Vec::new(alloc);

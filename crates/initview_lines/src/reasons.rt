@@ -8,7 +8,7 @@ use crate::lines::{Line, Reason};
 use crate::rows::read_row;
 use crate::texts::Bytes;
 use init_words::Id;
-use std::alloc::{AllocError, Allocator, Global};
+use std::alloc::{AllocError, Global};
 use trace_view::{LastLines, TraceView, Why};
 
 /// An id that isn't started next, with the line of the trace at fault, where there is one.
@@ -56,7 +56,7 @@ fn fault_line(why: Why, line: Option<u64>) -> Option<u64>
     }
 }
 
-fn link_of<A: Allocator>(view: &TraceView<A>, lines: &LastLines, id: Id) -> Link
+fn link_of(view: &TraceView, lines: &LastLines, id: Id) -> Link
     ensures { (past : List Event) → Viewed view.now past → Lined lines.now past
         → result ≡ link_of id past }
 {
@@ -67,7 +67,7 @@ fn link_of<A: Allocator>(view: &TraceView<A>, lines: &LastLines, id: Id) -> Link
 }
 
 /// The id, and what keeps it back, with their lines.
-pub fn chain_of<A: Allocator>(view: &TraceView<A>, lines: &LastLines, id: Id) -> Chain
+pub fn chain_of(view: &TraceView, lines: &LastLines, id: Id) -> Chain
     ensures { (past : List Event) → Viewed view.now past → Lined lines.now past
         → result ≡ chain_of id past }
 {
@@ -79,9 +79,9 @@ pub fn chain_of<A: Allocator>(view: &TraceView<A>, lines: &LastLines, id: Id) ->
 
 /// Why an id isn't started next, the same of the one that keeps it back, and what to do. Lines at fault are those of the
 /// trace of this name.
-pub fn why_lines<A: Allocator>(
+pub fn why_lines(
     alloc: Global,
-    view: &TraceView<A>,
+    view: &TraceView,
     name: &[u8],
     chain: &Chain,
 ) -> Result<Vec<Line>, AllocError>
@@ -97,9 +97,9 @@ pub fn why_lines<A: Allocator>(
     Ok(lines)
 }
 
-fn reason_line<A: Allocator>(
+fn reason_line(
     alloc: Global,
-    view: &TraceView<A>,
+    view: &TraceView,
     name: &[u8],
     link: &Link,
 ) -> Result<Line, AllocError>
@@ -117,7 +117,7 @@ fn reason_line<A: Allocator>(
     Ok(Line::Why(reason))
 }
 
-fn advice_line<A: Allocator>(view: &TraceView<A>, id: &Id) -> Line
+fn advice_line(view: &TraceView, id: &Id) -> Line
     ensures { (past : List Event) → Viewed view.now past → result ≡ advice_line id.now past }
 {
     let row = view.row(id);

@@ -13,7 +13,7 @@ use crate::changes::{Change, same_process};
 use crate::lines::Line;
 use init_words::{Act, ChildNumber, Entry, Id, Stage};
 use inittab_text::Table;
-use std::alloc::{AllocError, Allocator, Global};
+use std::alloc::{AllocError, Global};
 use trace_view::TraceView;
 
 /// Where init reads another inittab in a stage, at a moment at which no start and no signal is open, the stage that its
@@ -40,7 +40,7 @@ fn idle_by(act: Act, starts: bool, wanted: bool) -> Change
     }
 }
 
-fn idle_entry<A: Allocator>(view: &TraceView<A>, entry: &Entry) -> Change
+fn idle_entry(view: &TraceView, entry: &Entry) -> Change
     ensures { (past : List Event) → Viewed view.now past
         → entry_of entry.now.id (table_of past) ≡ Some entry.now
         → result ≡ idle_entry past entry.now }
@@ -50,7 +50,7 @@ fn idle_entry<A: Allocator>(view: &TraceView<A>, entry: &Entry) -> Change
 }
 
 /// What becomes of an id that has no child.
-fn idle_change<A: Allocator>(view: &TraceView<A>, id: &Id) -> Change
+fn idle_change(view: &TraceView, id: &Id) -> Change
     ensures { (past : List Event) → Viewed view.now past → result ≡ idle_change past id.now }
 {
     match view.table().get(id) {
@@ -92,7 +92,7 @@ fn change_by(child: Option<ChildNumber>, excluded: bool, idle: Change, same: boo
 }
 
 /// What becomes of an id, with the number of its child.
-fn line_now<A: Allocator>(old: &Table<A>, view: &TraceView<A>, id: &Id) -> Line
+fn line_now(old: &Table, view: &TraceView, id: &Id) -> Line
     ensures { (past : List Event) → Viewed view.now past → result ≡ line_now old.now past id.now }
 {
     let row = view.row(id);
@@ -102,10 +102,10 @@ fn line_now<A: Allocator>(old: &Table<A>, view: &TraceView<A>, id: &Id) -> Line
     Line::Change(*id, row.act, change, row.child)
 }
 
-fn add_new<A: Allocator>(
+fn add_new(
     lines: &mut Vec<Line>,
-    old: &Table<A>,
-    view: &TraceView<A>,
+    old: &Table,
+    view: &TraceView,
     entries: &[Entry],
 ) -> Result<(), AllocError>
     ensures { OnOk result ((past : List Event) → Viewed view.now past
@@ -119,10 +119,10 @@ fn add_new<A: Allocator>(
     Ok(())
 }
 
-fn add_gone<A: Allocator>(
+fn add_gone(
     lines: &mut Vec<Line>,
-    old: &Table<A>,
-    view: &TraceView<A>,
+    old: &Table,
+    view: &TraceView,
     entries: &[Entry],
 ) -> Result<(), AllocError>
     ensures { OnOk result ((past : List Event) → Viewed view.now past → lines.new.items
@@ -139,10 +139,10 @@ fn add_gone<A: Allocator>(
     Ok(())
 }
 
-fn add_left<A: Allocator>(
+fn add_left(
     lines: &mut Vec<Line>,
-    old: &Table<A>,
-    view: &TraceView<A>,
+    old: &Table,
+    view: &TraceView,
     ids: &[Id],
 ) -> Result<(), AllocError>
     ensures { OnOk result ((past : List Event) → Viewed view.now past → lines.new.items
@@ -161,11 +161,7 @@ fn add_left<A: Allocator>(
 /// What becomes of each id, where this is the view of a trace behind which init read another inittab than the old one: the
 /// stage in force, each entry of the new inittab in its order, each of the old one that is gone, and each child that has
 /// an entry in neither. A line has the number of the child that is stopped or kept.
-pub fn reload_lines<A: Allocator>(
-    alloc: Global,
-    old: &Table<A>,
-    view: &TraceView<A>,
-) -> Result<Vec<Line>, AllocError>
+pub fn reload_lines(alloc: Global, old: &Table, view: &TraceView) -> Result<Vec<Line>, AllocError>
     ensures { IfOk result (λ lines. (past : List Event) → Viewed view.now past
         → lines.items ≡ reload_in old.now past) }
 {

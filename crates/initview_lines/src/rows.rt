@@ -7,14 +7,14 @@ ghost use Rattle.initview_lines.specs.Rows.{ended_at, entry_row, head_of, held_a
 use crate::lines::{Head, IdRow, Line, RowFormat, Stopping};
 use init_words::{Entry, Id};
 use respawn_limit::HOLD;
-use std::alloc::{AllocError, Allocator, Global};
+use std::alloc::{AllocError, Global};
 use trace_view::{Births, Ending, Row, TraceView, Why};
 
 /// How init and its entries stand: first init, then each entry in the order of the table, and each id whose child outlives
 /// its entry.
-pub fn status_lines<A: Allocator>(
+pub fn status_lines(
     alloc: Global,
-    view: &TraceView<A>,
+    view: &TraceView,
     shape: RowFormat,
 ) -> Result<Vec<Line>, AllocError>
     ensures { IfOk result (λ lines. (past : List Event) → Viewed view.now past
@@ -31,9 +31,9 @@ pub fn status_lines<A: Allocator>(
 }
 
 /// How one id stands.
-pub fn row_line<A: Allocator>(
+pub fn row_line(
     alloc: Global,
-    view: &TraceView<A>,
+    view: &TraceView,
     id: &Id,
     shape: RowFormat,
 ) -> Result<Vec<Line>, AllocError>
@@ -45,7 +45,7 @@ pub fn row_line<A: Allocator>(
     Ok(lines)
 }
 
-pub(crate) fn read_head<A: Allocator>(view: &TraceView<A>) -> Head
+pub(crate) fn read_head(view: &TraceView) -> Head
     ensures { (past : List Event) → Viewed view.now past → result ≡ head_of past }
 {
     Head {
@@ -58,9 +58,9 @@ pub(crate) fn read_head<A: Allocator>(view: &TraceView<A>) -> Head
     }
 }
 
-fn add_entries<A: Allocator>(
+fn add_entries(
     lines: &mut Vec<Line>,
-    view: &TraceView<A>,
+    view: &TraceView,
     entries: &[Entry],
     shape: RowFormat,
 ) -> Result<(), AllocError>
@@ -75,9 +75,9 @@ fn add_entries<A: Allocator>(
     Ok(())
 }
 
-fn add_ids<A: Allocator>(
+fn add_ids(
     lines: &mut Vec<Line>,
-    view: &TraceView<A>,
+    view: &TraceView,
     ids: &[Id],
     shape: RowFormat,
 ) -> Result<(), AllocError>
@@ -151,13 +151,13 @@ fn row_by(now: u64, grace: u64, id: Id, row: Row) -> IdRow
     }
 }
 
-pub(crate) fn read_row<A: Allocator>(view: &TraceView<A>, id: &Id) -> IdRow
+pub(crate) fn read_row(view: &TraceView, id: &Id) -> IdRow
     ensures { (past : List Event) → Viewed view.now past → result ≡ id_row past id.now }
 {
     row_by(view.time(), u64::from(view.grace()), *id, view.row(id))
 }
 
-fn row_at<A: Allocator>(view: &TraceView<A>, id: &Id, shape: RowFormat) -> Line
+fn row_at(view: &TraceView, id: &Id, shape: RowFormat) -> Line
     ensures { (past : List Event) → Viewed view.now past → result ≡ row_at shape past id.now }
 {
     Line::Row(shape, read_row(view, id))

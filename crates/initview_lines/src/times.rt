@@ -8,7 +8,7 @@ use crate::plans::{Waited, waited_in};
 use init_words::Level;
 use inittab_text::Table;
 use initview_timeline::{Life, TimelineMark, lives_of, marks_for};
-use std::alloc::{AllocError, Allocator, Global};
+use std::alloc::{AllocError, Global};
 use trace_view::Ending;
 
 /// How long an entry took for whose end init waits, from its first birth to its end, in seconds.
@@ -166,11 +166,11 @@ fn add_times(
 
 /// Adds how long each entry took whose end init waits for on its way to a level, by the marks of a trace, the oldest
 /// first: the seconds from its first birth to its end. The longest of them are marked, and the last line has them all.
-pub fn add_path_times<A: Allocator>(
+pub fn add_path_times(
     lines: &mut Vec<Line>,
     alloc: Global,
     level: Level,
-    table: &Table<A>,
+    table: &Table,
     marks: &[TimelineMark],
 ) -> Result<(), AllocError>
     ensures { OnOk result (lines.new.items

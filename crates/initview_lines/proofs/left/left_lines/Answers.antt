@@ -3,7 +3,7 @@ use Rattle.initview_lines.specs.Left.{is_open, start_line}
 use Rattle.initview_lines.proofs.left.left_lines.Goals as goal
 
 pub returns : goal.returns
-returns g c = λ past seen.
+returns c = λ past seen.
     let shape = c.args.shape in
     c.in_ok-add_starts.ensures past seen
     ∙ ap (λ es. c.in_ok-lines.lines.items ++ map (start_line shape) (filter (is_open past) es)) (c.entries.ensures.value ∙ c.table.ensures.value past seen)

@@ -4,7 +4,7 @@ use Rattle.initview_lines.proofs.Stands.{whole}
 use Rattle.initview_lines.proofs.rows.status_lines.Goals as goal
 
 pub returns : goal.returns
-returns g c = λ past seen.
+returns c = λ past seen.
     let shape = c.args.shape in
     let none : c.new-lines.result.items ≡ [] = search rules in
     whole (line.Head shape (head_of past)) (map (entry_row shape past) (table_of past)) (map (row_at shape past) (gone_ids (table_of past) (unreaped_children past))) _ _ _ _ none
