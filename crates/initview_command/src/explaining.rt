@@ -102,9 +102,7 @@ impl NeedsFiles for ReasonOf {
         files: &mut [Part],
         _err: &mut E,
     ) -> Result<Reason, TableFault> {
-        match files_lines(alloc, files, &self.id) {
-            Ok(told) => Ok(Reason { id: self.id, told }),
-            Err(fault) => Err(fault),
-        }
+        let told = files_lines(alloc, files, &self.id)?;
+        Ok(Reason { id: self.id, told })
     }
 }

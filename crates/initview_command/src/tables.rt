@@ -231,14 +231,9 @@ pub(crate) fn old_and_new<E: Write>(
         × (both.1 ≡ table_in (drop 1 parts.old))) }
     ensures fault { IfErr result (FailsBy (NoneOf parts.old)) }
 {
-    let new = match table_in(alloc, behind_first(parts), err) {
-        Ok(table) => table,
-        Err(fault) => return Err(fault),
-    };
-    match table_in(alloc, old_of(parts), err) {
-        Ok(old) => Ok((old, new)),
-        Err(fault) => Err(fault),
-    }
+    let new = table_in(alloc, behind_first(parts), err)?;
+    let old = table_in(alloc, old_of(parts), err)?;
+    Ok((old, new))
 }
 
 fn diff_answer<E: Write>(
@@ -251,10 +246,7 @@ fn diff_answer<E: Write>(
         IsAnswer (table_question.Diff level) parts.old given.0.items given.1) }
     ensures fault { IfErr result (FailsBy (NoneOf parts.old)) }
 {
-    let (old, new) = match old_and_new(alloc, parts, err) {
-        Ok(both) => both,
-        Err(fault) => return Err(fault),
-    };
+    let (old, new) = old_and_new(alloc, parts, err)?;
     match change_lines(alloc, level_asked(level, &new), &old, &new) {
         Ok(text) => Ok((text, DONE)),
         Err(_) => Err(TableFault::Memory),
@@ -271,10 +263,7 @@ fn plan_answer<E: Write>(
         IsAnswer (table_question.Plan level) parts.now given.0.items given.1) }
     ensures fault { IfErr result (FailsBy (AreNone parts.now)) }
 {
-    let table = match table_in(alloc, parts, err) {
-        Ok(table) => table,
-        Err(fault) => return Err(fault),
-    };
+    let table = table_in(alloc, parts, err)?;
     match plan_of(alloc, level, &table) {
         Ok(text) => Ok((text, DONE)),
         Err(_) => Err(TableFault::Memory),
