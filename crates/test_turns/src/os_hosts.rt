@@ -45,19 +45,15 @@ pub(crate) fn host_of<A: Allocator + Copy>(
         None
     };
     let options = HostOptions {
-        program: "initd",
         inittab,
         folder,
         channel,
         state,
-        spared: None,
         logs,
         pace,
-        bell: false,
         fresh: kind == "fresh",
         verbose: kind == "verbose",
-        strict: false,
-        sends_term: false,
+        ..HostOptions::of("initd")
     };
     Ok(boxed(rt.alloc(), OsHost::new(*rt, alloc, &options)?)?)
 }
@@ -107,12 +103,18 @@ fn is_read<A: Allocator + Copy, B: Allocator + Copy>(
     word: &str,
     what: &str,
 ) -> Result<bool, HostFault> {
-    Ok(match word {
-        "tables" => are_files(rt, &host.read_tables(alloc)?, what),
-        "carry" => host.carry(alloc, TEXT.as_bytes())?.as_slice() == TEXT.as_bytes(),
-        "clock" => host.clock().map(|_| true)?,
-        _ => what.parse::<usize>().ok() == Some(host.take_bytes(&mut [0; 1000])?),
-    })
+    match word {
+        "tables" => host
+            .read_tables(alloc)
+            .map(|parts| are_files(rt, &parts, what)),
+        "carry" => host
+            .carry(alloc, TEXT.as_bytes())
+            .map(|text| text.as_slice() == TEXT.as_bytes()),
+        "clock" => host.clock().map(|_| true),
+        _ => host
+            .take_bytes(&mut [0; 1000])
+            .map(|count| what.parse::<usize>().ok() == Some(count)),
+    }
 }
 
 fn reads<A: Allocator + Copy, B: Allocator + Copy>(

@@ -79,8 +79,8 @@ fn bench_over<A: Allocator + Copy, B: Allocator + Copy, L: Log + Drop>(
     table: Table<B>,
     log: L,
 ) -> Result<Box<Bench<A, B, L>>, Memory> {
-    let edge = Edge::new(Box::into_inner(host), log);
     let core = Core::new(alloc, table, None)?;
+    let edge = Edge::new(Box::into_inner(host), log);
     let strict = false;
     Ok(boxed(own, Bench { core, edge, strict })?)
 }
@@ -100,12 +100,10 @@ pub(crate) fn bench_of<A: Allocator + Copy, B: Allocator + Copy, L: Log + Drop>(
 
 /// What is left of it: its log.
 pub(crate) fn log_of<A: Allocator + Copy, B: Allocator, L: Log>(bench: Box<Bench<A, B, L>>) -> L {
-    let Bench {
-        core: _,
-        edge,
-        strict: _,
-    } = Box::into_inner(bench);
-    let (_, log) = edge.into_parts();
+    let Bench { core, edge, .. } = Box::into_inner(bench);
+    drop(core);
+    let (host, log) = edge.into_parts();
+    drop(host);
     log
 }
 

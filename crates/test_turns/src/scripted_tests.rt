@@ -87,23 +87,26 @@ fn is_text<A: Allocator>(
     }
 }
 
-fn are_files<A: Allocator>(
-    given: Result<Vec<Part<A>, A>, HostFault>,
-    want: Result<PartList, HostFault>,
-) -> bool {
-    let (parts, files) = match (given, want) {
-        (Ok(parts), Ok(files)) => (parts, files),
-        (Err(fault), Err(want)) => return fault == want,
-        _ => return false,
-    };
-    for (part, file) in parts.iter().zip(files.as_slice()) {
+fn are_same<A: Allocator>(parts: &[Part<A>], files: &[Part]) -> bool {
+    for (part, file) in parts.iter().zip(files) {
         if part.name.as_str() != file.name.as_str()
             || part.bytes.as_slice() != file.bytes.as_slice()
         {
             return false;
         }
     }
-    parts.len() == files.as_slice().len()
+    parts.len() == files.len()
+}
+
+fn are_files<A: Allocator>(
+    given: Result<Vec<Part<A>, A>, HostFault>,
+    want: Result<PartList, HostFault>,
+) -> bool {
+    match (given, want) {
+        (Ok(parts), Ok(files)) => are_same(parts.as_slice(), files.as_slice()),
+        (Err(fault), Err(want)) => fault == want,
+        _ => false,
+    }
 }
 
 /// What a call gives that takes bytes with so much room.
