@@ -2,7 +2,7 @@ use Rattle.std.proofs.Common.{rules, arith, Some, None, if◌then◌else◌, ◌
 use Rattle.std.proofs.lemmas.List.{take-append-drop, take_all}
 use Rattle.std.specs.Option.{option_map}
 use Rattle.std.specs.Str.{bytes_eq}
-use Rattle.test_initd.proofs.one_channel.OneChannelChannels.append.Goals as goal
+use Rattle.test_commands.proofs.one_channel.OneChannelChannels.append.Goals as goal
 
 one_more : (old more : List ℕ) (b : Bool) → (if b then Some (old ++ more) else None)
     ≡ (if b then option_map (λ bytes. bytes ++ more) (if b then Some old else None) else (if b then Some old else None))
