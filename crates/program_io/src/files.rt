@@ -1,6 +1,6 @@
 //! Whole files, read.
 
-ghost use Rattle.std.specs.Prelude.{◌≡◌, IfOk, IfSome, OnOk};
+ghost use Rattle.std.specs.Prelude.{◌≡◌, IfOk, IfSome, OnOk, true};
 ghost use Rattle.std.specs.Io.KnownBytes.{IsAtEnd};
 
 use std::alloc::Allocator;
@@ -44,7 +44,9 @@ pub fn refuse_special<R: Files>(rt: &R, path: &str) -> io::Result<()> {
 }
 
 /// Two paths are the same, or lead to one file.
-pub fn are_one_file<R: Files>(rt: &R, one: &str, other: &str) -> bool {
+pub fn are_one_file<R: Files>(rt: &R, one: &str, other: &str) -> bool
+    ensures same { one.now ≡ other.now → result ≡ true }
+{
     if one == other {
         return true;
     }
