@@ -1,5 +1,5 @@
 -- Two lists walked together: what is left of their pairs at a place.
-use Rattle.core_steps.proofs.Words.{drop-nil, ◌≡◌, ℕ, zero, suc, ◌+◌, ◌<◌, ◌≤◌, List, [], ◌∷◌, length, drop, get_or, zip, Some, None, refl, arith, add-one, slice_get}
+use Rattle.core_steps.proofs.Words.{Bool, true, false, ◌&&◌, list_all, drop-nil, ◌≡◌, ℕ, zero, suc, ◌+◌, ◌<◌, ◌≤◌, List, [], ◌∷◌, length, drop, get_or, zip, Some, None, refl, arith, add-one, slice_get}
 
 module _ {A B : Type 0} where
   pub pair_at : (xs : List A) (ys : List B) (i : ℕ) (x : A) (y : B) → slice_get xs i ≡ Some x → i < length ys → y ≡ get_or ys i y → drop i (zip xs ys) ≡ (x, y) ∷ drop (i + 1) (zip xs ys)
@@ -37,3 +37,13 @@ module _ {A B : Type 0} where
   pair_got (a ∷ xs) [] i x y at h is = absurd (omega arith)
   pair_got (a ∷ xs) (b ∷ ys) zero x y at h is = let first : a ≡ x = cc in rw (first, is) refl
   pair_got (a ∷ xs) (b ∷ ys) (suc i) x y at h is = pair_got xs ys i x y at (omega arith) is
+
+-- where the test fails at a place, it doesn't hold of all
+pub not_all : {X : Type 0} (p : X → Bool) (xs : List X) (i : ℕ) (x : X) → slice_get xs i ≡ Some x → p x ≡ false → list_all p xs ≡ false
+not_all p [] i x at fails = absurd (cc)
+not_all p (y ∷ ys) zero x at fails = let same : y ≡ x = cc in rw (same, fails) refl
+not_all p (y ∷ ys) (suc i) x at fails = ends (p y) (not_all p ys i x at fails)
+  where
+    ends : (b : Bool) → list_all p ys ≡ false → (b && list_all p ys) ≡ false
+    ends true h = h
+    ends false h = refl

@@ -1,5 +1,6 @@
 -- Places up to which records are seen and entries passed: a walk begins there, and changes keep them.
-use Rattle.core_steps.proofs.Words.{◌≡◌, ◌≢◌, refl, Bool, true, false, not, ◌&&◌, ◌||◌, ◌==◌, ℕ, zero, suc, ◌+◌, ◌<◌, ◌≤◌, arith, List, [], ◌∷◌, drop, zip, map, Option, Some, is_some, is_none, drop-nil, and_parts, and_from, false≢true, eqb-true, eq-eqb, nat_lt, ltb-true, ltb-false, subst, sym, ◌∙◌, Entry, Stage, RecordState, is_record_of, changed, with_changed, is_wanted_record, is_owed_record, start_along, look_among, Each, each_always, is_seen_record, are_seen, is_passed_in, is_passed_at, ArePassedFrom, ArePassed, AllBut, Places}
+use Rattle.core_steps.proofs.Words.{◌≡◌, ◌≢◌, refl, Bool, true, false, not, ◌&&◌, ◌||◌, ◌==◌, ℕ, zero, suc, ◌+◌, ◌<◌, ◌≤◌, arith, List, [], ◌∷◌, drop, zip, map, Option, Some, None, is_some, is_none, drop-nil, and_parts, and_from, false≢true, eqb-true, eq-eqb, nat_lt, ltb-true, ltb-false, subst, sym, ◌∙◌, Entry, Stage, RecordState, is_record_of, changed, with_changed, is_wanted_record, is_owed_record, start_along, start_step, look_among, Each, each_always, cond, is_limited, is_held, is_held_back, is_seen_record, are_seen, is_passed_in, is_passed_at, ArePassedFrom, ArePassed, AllBut, Places}
+use Rattle.trace_events.specs.declared.steps.Step.{Step}
 
 -- all before the next place, but for that at the first and that at a place
 but : (i place : ℕ) (b : Bool) → i ≢ place → (i == place || b) ≡ true → b ≡ true
@@ -50,6 +51,13 @@ over test places to h more own all = (omega arith, λ i lt other. by i lt (i == 
         at true below = let same = eqb-true i places.first is in subst (λ n. test n ≡ true) (sym same) (own (subst (λ n. n < places.next) same (ltb-true i places.next below)))
         at false behind = more i (ltb-false i places.next behind) lt
 
+-- at the same time passed stays passed
+pub still_passed : (stage : Option Stage) (old new : ℕ) (ps : List (Entry × RecordState)) (places : Places) → old ≤ new → nat_lt old new ≡ false → AllBut (is_passed_at stage old ps) places → AllBut (is_passed_at stage new ps) places
+still_passed stage old new ps places later same passed =
+    let least = ltb-false old new same in
+    let is : old ≡ new = omega arith in
+    subst (λ n. AllBut (is_passed_at stage n ps) places) is passed
+
 -- a walk begins at the place
 no_look : (child order look : Bool) → not (child && look) ≡ true → (child && order && look) ≡ false
 no_look true true true h = absurd (false≢true h)
@@ -63,26 +71,33 @@ look_from (slot ∷ slots) (suc i) seen =
     rw (no_look (is_some slot.child) (is_none slot.order) slot.look parts.0) (look_from slots i parts.1)
 look_from slots i seen = grind (arith, drop-nil, zero)
 
-no_start : (wanted child order : Bool) → not (wanted && child) ≡ true → (wanted && child && order) ≡ false
-no_start true true order h = absurd (false≢true h)
-no_start true false order h = refl
-no_start false child order h = refl
+no_step : (wanted child order limited held : Bool) (one other : Option Step) → not ((wanted && child) && not (limited && held)) ≡ true → cond (wanted && child && order) (cond limited (cond held None one) other) None ≡ None
+no_step true true true true true one other h = refl
+no_step true true true true false one other h = absurd (false≢true h)
+no_step true true true false held one other h = absurd (false≢true h)
+no_step true true false limited held one other h = refl
+no_step true false order limited held one other h = refl
+no_step false child order limited held one other h = refl
 
-not_so : (b : Bool) → not b ≡ true → b ≡ false
+-- nothing of an entry that is passed is started or held
+pub passed_step : (stage : Stage) (now : ℕ) (e : Entry) (slot : RecordState) → not ((is_wanted_record stage e slot && is_none slot.child) && not (is_held_back now e slot)) ≡ true → start_step stage now e slot ≡ None
+passed_step stage now e slot h = no_step (is_wanted_record stage e slot) (is_none slot.child) (is_none slot.order) (is_limited e.act) (is_held slot.limiter.held now) _ _ h
+
+pub not_so : (b : Bool) → not b ≡ true → b ≡ false
 not_so true h = absurd (false≢true h)
 not_so false h = refl
 
 -- a walk for a start goes on behind entries that are passed
-pub passed_on : (stage : Stage) (now : ℕ) (ps : List (Entry × RecordState)) (from to : ℕ) → from ≤ to → ArePassedFrom (Some stage) ps from to → start_along stage now (drop from ps) ≡ start_along stage now (drop to ps)
+pub passed_on : (stage : Stage) (now : ℕ) (ps : List (Entry × RecordState)) (from to : ℕ) → from ≤ to → ArePassedFrom (Some stage) now ps from to → start_along stage now (drop from ps) ≡ start_along stage now (drop to ps)
 passed_on stage now [] from to h passed = rw (drop-nil from, drop-nil to) refl
 passed_on stage now (p ∷ ps) zero zero h passed = refl
 passed_on stage now (p ∷ ps) zero (suc to) h passed =
-    let own = and_parts (not (is_wanted_record stage p.0 p.1 && is_none p.1.child)) (not (is_owed_record stage p.0 p.1)) (passed 0 (omega arith) (omega arith)) in
-    rw (no_start (is_wanted_record stage p.0 p.1) (is_none p.1.child) (is_none p.1.order) own.0, not_so (is_owed_record stage p.0 p.1) own.1) (passed_on stage now ps zero to (omega arith) (λ i least most. passed (suc i) (omega arith) (omega arith)))
+    let own = and_parts (not ((is_wanted_record stage p.0 p.1 && is_none p.1.child) && not (is_held_back now p.0 p.1))) (not (is_owed_record stage p.0 p.1)) (passed 0 (omega arith) (omega arith)) in
+    rw (passed_step stage now p.0 p.1 own.0, not_so (is_owed_record stage p.0 p.1) own.1) (passed_on stage now ps zero to (omega arith) (λ i least most. passed (suc i) (omega arith) (omega arith)))
 passed_on stage now (p ∷ ps) (suc from) zero h passed = absurd (omega arith)
 passed_on stage now (p ∷ ps) (suc from) (suc to) h passed = passed_on stage now ps from to (omega arith) (λ i least most. passed (suc i) (omega arith) (omega arith))
 
-module _ (stage : Stage) (now : ℕ) (table : List Entry) (slots : List RecordState) (places : Places) (passed : ArePassed (Some stage) places table slots) where
+module _ (stage : Stage) (now : ℕ) (table : List Entry) (slots : List RecordState) (places : Places) (passed : ArePassed (Some stage) now places table slots) where
   pub first_on : start_along stage now (zip table slots) ≡ start_along stage now (drop places.first (zip table slots))
   first_on = let h = passed.0 in passed_on stage now (zip table slots) 0 places.first (omega arith) (λ i least most. passed.1 i (omega arith) (λ is. omega arith))
 
@@ -96,8 +111,8 @@ module _ (stage : Stage) (now : ℕ) (table : List Entry) (slots : List RecordSt
 abbrev pub KeepsSeen : (RecordState → RecordState) → RecordState → Type 0
 KeepsSeen change slot = is_seen_record slot ≡ true → is_seen_record (change slot) ≡ true
 
-abbrev pub KeepsPassed : Option Stage → (RecordState → RecordState) → RecordState → Type 0
-KeepsPassed stage change slot = (e : Entry) → is_passed_in stage e slot ≡ true → is_passed_in stage e (change slot) ≡ true
+abbrev pub KeepsPassed : Option Stage → ℕ → (RecordState → RecordState) → RecordState → Type 0
+KeepsPassed stage now change slot = (e : Entry) → is_passed_in stage now e slot ≡ true → is_passed_in stage now e (change slot) ≡ true
 
 pub seen_map : (change : RecordState → RecordState) (slots : List RecordState) (i : ℕ) → Each (KeepsSeen change) slots → are_seen i slots ≡ true → are_seen i (map change slots) ≡ true
 seen_map change (slot ∷ slots) (suc i) each seen =
@@ -105,14 +120,14 @@ seen_map change (slot ∷ slots) (suc i) each seen =
     and_from (is_seen_record (change slot)) (are_seen i (map change slots)) (each.0 parts.0) (seen_map change slots i each.1 parts.1)
 seen_map change slots i each seen = grind (arith, zero)
 
-pub passed_map : (stage : Option Stage) (change : RecordState → RecordState) (table : List Entry) (slots : List RecordState) (i : ℕ) → Each (KeepsPassed stage change) slots → is_passed_at stage (zip table slots) i ≡ true → is_passed_at stage (zip table (map change slots)) i ≡ true
-passed_map stage change [] slots i each passed = passed
-passed_map stage change (e ∷ table) [] i each passed = passed
-passed_map stage change (e ∷ table) (slot ∷ slots) zero each passed = each.0 e passed
-passed_map stage change (e ∷ table) (slot ∷ slots) (suc i) each passed = passed_map stage change table slots i each.1 passed
+pub passed_map : (stage : Option Stage) (now : ℕ) (change : RecordState → RecordState) (table : List Entry) (slots : List RecordState) (i : ℕ) → Each (KeepsPassed stage now change) slots → is_passed_at stage now (zip table slots) i ≡ true → is_passed_at stage now (zip table (map change slots)) i ≡ true
+passed_map stage now change [] slots i each passed = passed
+passed_map stage now change (e ∷ table) [] i each passed = passed
+passed_map stage now change (e ∷ table) (slot ∷ slots) zero each passed = each.0 e passed
+passed_map stage now change (e ∷ table) (slot ∷ slots) (suc i) each passed = passed_map stage now change table slots i each.1 passed
 
-pub all_passed_map : (stage : Option Stage) (change : RecordState → RecordState) (table : List Entry) (slots : List RecordState) (places : Places) → ((slot : RecordState) → KeepsPassed stage change slot) → ArePassed stage places table slots → ArePassed stage places table (map change slots)
-all_passed_map stage change table slots places keeps passed = (passed.0, λ i lt other. passed_map stage change table slots i (each_always (KeepsPassed stage change) keeps slots) (passed.1 i lt other))
+pub all_passed_map : (stage : Option Stage) (now : ℕ) (change : RecordState → RecordState) (table : List Entry) (slots : List RecordState) (places : Places) → ((slot : RecordState) → KeepsPassed stage now change slot) → ArePassed stage now places table slots → ArePassed stage now places table (map change slots)
+all_passed_map stage now change table slots places keeps passed = (passed.0, λ i lt other. passed_map stage now change table slots i (each_always (KeepsPassed stage now change) keeps slots) (passed.1 i lt other))
 
 -- a change of one id's records alone
 pub seen_changed : (id : List ℕ) (change : RecordState → RecordState) (slots : List RecordState) (i : ℕ) → ((slot : RecordState) → KeepsSeen change slot) → are_seen i slots ≡ true → are_seen i (with_changed id change slots) ≡ true

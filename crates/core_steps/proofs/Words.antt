@@ -28,7 +28,9 @@ pub use Rattle.init_words.specs.declared.refusals.Refusal.TheVariants.{NotQuiet,
 pub use Rattle.core_model.specs.Rules.{IsFit, is_started, is_start_allowed, are_starts_along, is_hold_of, is_limit_kept, is_kept, never_fall}
 pub use Rattle.core_model.proofs.RulesKept.{adopt_keeps, told_keeps, opening_keeps, step_keeps}
 pub use Rattle.core_model.proofs.Each.{Each, each_always, each_less, each_own}
-pub use Rattle.core_steps.specs.Places.{is_seen_record, are_seen, is_passed_record, is_passed_in, is_passed_at, ArePassedFrom, ArePassed}
+pub use Rattle.core_steps.specs.Places.{is_seen_record, are_seen, is_held_back, is_passed_record, is_passed_in, is_passed_at, ArePassedFrom, ArePassed, changes_starts}
+pub use Rattle.init_words.specs.Actions.{is_limited}
+pub use Rattle.respawn_limit.specs.Window.{is_held}
 pub use Rattle.core_steps.specs.Between.{AllBut}
 pub use Rattle.core_steps.specs.declared.walk_places.Places.{Places}
 pub use Rattle.std.proofs.Math.Seq.{drop-nil, take-nil, drop-cons}

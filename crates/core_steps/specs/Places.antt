@@ -1,8 +1,12 @@
 -- The places from which on a record may be looked at, and an entry started or waited for.
-use Rattle.std.specs.Prelude.{◌≡◌, ◌≤◌, ◌<◌, ℕ, Bool, true, not, ◌&&◌, List, zip, take, slice_get, Option, Some, None, is_some, is_none}
+use Rattle.std.specs.Prelude.{◌≡◌, ◌≤◌, ◌<◌, ℕ, Bool, true, false, not, ◌&&◌, List, zip, take, slice_get, Option, Some, None, is_some, is_none}
 use Rattle.std.specs.List.{list_all}
 use Rattle.std.specs.Option.{option_map_or}
+use Rattle.init_words.specs.Actions.{is_limited}
 use Rattle.init_words.specs.declared.entries.Entry.{Entry}
+use Rattle.init_words.specs.declared.orders.Answer.{Answer}
+use Rattle.init_words.specs.declared.orders.Answer.TheVariants.{Born, NotBorn, Ended}
+use Rattle.respawn_limit.specs.Window.{is_held}
 use Rattle.core_steps.specs.Words.{Stage, RecordState, is_wanted_record, is_owed_record}
 use Rattle.core_steps.specs.declared.walk_places.Places.{Places}
 use Rattle.core_steps.specs.Between.{AllBut}
@@ -15,24 +19,37 @@ is_seen_record slot = not (is_some slot.child && slot.look)
 abbrev pub are_seen : ℕ → List RecordState → Bool
 are_seen place slots = list_all is_seen_record (take place slots)
 
--- the entry with this record is not to be started, whatever order is open, and init doesn't wait for it
-abbrev pub is_passed_record : Stage → Entry → RecordState → Bool
-is_passed_record stage e slot =
-    not (is_wanted_record stage e slot && is_none slot.child) && not (is_owed_record stage e slot)
+-- the limit holds the entry now
+abbrev pub is_held_back : ℕ → Entry → RecordState → Bool
+is_held_back now e slot = is_limited e.act && is_held slot.limiter.held now
+
+-- the entry with this record is not to be started now, whatever order is open, and init doesn't wait for it
+abbrev pub is_passed_record : Stage → ℕ → Entry → RecordState → Bool
+is_passed_record stage now e slot =
+    not ((is_wanted_record stage e slot && is_none slot.child) && not (is_held_back now e slot))
+    && not (is_owed_record stage e slot)
 
 -- so it is in the stage, if there is one
-abbrev pub is_passed_in : Option Stage → Entry → RecordState → Bool
-is_passed_in None e slot = true
-is_passed_in (Some stage) e slot = is_passed_record stage e slot
+abbrev pub is_passed_in : Option Stage → ℕ → Entry → RecordState → Bool
+is_passed_in None now e slot = true
+is_passed_in (Some stage) now e slot = is_passed_record stage now e slot
 
 -- so it is with the entry and the record at the place, if there are both
-abbrev pub is_passed_at : Option Stage → List (Entry × RecordState) → ℕ → Bool
-is_passed_at stage pairs place =
-    option_map_or (λ (p : Entry × RecordState). is_passed_in stage p.0 p.1) (slice_get pairs place) true
+abbrev pub is_passed_at : Option Stage → ℕ → List (Entry × RecordState) → ℕ → Bool
+is_passed_at stage now pairs place =
+    option_map_or (λ (p : Entry × RecordState). is_passed_in stage now p.0 p.1) (slice_get pairs place) true
 
-abbrev pub ArePassedFrom : Option Stage → List (Entry × RecordState) → ℕ → ℕ → Type 0
-ArePassedFrom stage pairs from to = (place : ℕ) → from ≤ place → place < to → is_passed_at stage pairs place ≡ true
+abbrev pub ArePassedFrom : Option Stage → ℕ → List (Entry × RecordState) → ℕ → ℕ → Type 0
+ArePassedFrom stage now pairs from to =
+    (place : ℕ) → from ≤ place → place < to → is_passed_at stage now pairs place ≡ true
 
 -- it is so of each entry before the next place, but for that at the first
-abbrev pub ArePassed : Option Stage → Places → List Entry → List RecordState → Type 0
-ArePassed stage places table slots = AllBut (is_passed_at stage (zip table slots)) places
+abbrev pub ArePassed : Option Stage → ℕ → Places → List Entry → List RecordState → Type 0
+ArePassed stage now places table slots = AllBut (is_passed_at stage now (zip table slots)) places
+
+-- the answer is to a start, or says that a child ended: what is to be started may be another then
+abbrev pub changes_starts : Answer → Bool
+changes_starts (Born number) = true
+changes_starts NotBorn = true
+changes_starts (Ended status) = true
+changes_starts _ = false

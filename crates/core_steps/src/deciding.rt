@@ -3,11 +3,12 @@
 ghost use Rattle.std.specs.Prelude.{◌≡◌, ◌≤◌, ◌+◌, nat_le};
 ghost use Rattle.core_steps.specs.Words.{level_step, signal_step, stop_step, is_wanted_record, is_owed_record, limited_step, can_start_record, start_step, is_done_record, next_stage, is_served_record, can_look_record, CLOCK_LIMIT};
 ghost use Rattle.trace_events.specs.Wanted.{is_order};
-ghost use Rattle.core_steps.specs.Places.{is_seen_record, is_passed_record};
+ghost use Rattle.core_steps.specs.Places.{is_seen_record, is_held_back, is_passed_record, changes_starts};
+ghost use Rattle.init_words.specs.Orders.{same_ask};
 ghost use Rattle.core_steps.specs.Signals.{is_past};
 
 use core_records::{Record, Stop};
-use init_words::{Entry, Id, Level, OrderKind, Stage, starts, waited};
+use init_words::{Answer, Entry, Id, Level, OrderKind, Stage, starts, waited};
 use respawn_limit::May;
 use trace_events::{Goal, Step};
 
@@ -123,11 +124,33 @@ pub(crate) fn start_step(stage: Stage, now: u64, entry: &Entry, slot: &Record) -
     }
 }
 
-/// The entry is not to be started, whatever order is open, and init doesn't wait for it.
-pub(crate) fn is_passed(stage: Stage, entry: &Entry, slot: &Record) -> bool
-    ensures { result ≡ is_passed_record stage entry.now slot.now }
+/// The order is a start.
+pub(crate) fn is_start(ask: OrderKind) -> bool
+    ensures { result ≡ same_ask OrderKind.Start ask }
 {
-    !(is_wanted(stage, entry, slot) && !slot.has_child()) && !is_owed(stage, entry, slot)
+    matches!(ask, OrderKind::Start)
+}
+
+/// What is to be started may be another after the answer.
+pub(crate) fn changes_starts(answer: &Answer) -> bool
+    ensures { result ≡ changes_starts answer.now }
+{
+    matches!(answer, Answer::Born(_) | Answer::NotBorn | Answer::Ended(_))
+}
+
+/// The limit holds the entry now.
+fn is_held_back(now: u64, entry: &Entry, slot: &Record) -> bool
+    ensures { result ≡ is_held_back now entry.now slot.now }
+{
+    entry.act.is_limited() && slot.held(now)
+}
+
+/// The entry is not to be started now, whatever order is open, and init doesn't wait for it.
+pub(crate) fn is_passed(stage: Stage, now: u64, entry: &Entry, slot: &Record) -> bool
+    ensures { result ≡ is_passed_record stage now entry.now slot.now }
+{
+    let open = is_wanted(stage, entry, slot) && !slot.has_child();
+    !(open && !is_held_back(now, entry, slot)) && !is_owed(stage, entry, slot)
 }
 
 /// Nothing is left to do for the entry in Sysinit or Boot.

@@ -3,7 +3,7 @@
 ghost use Rattle.std.specs.Prelude.{◌≡◌, IfOk, OnOk, OnErr};
 
 use crate::calling::{call_named, judge_in};
-use crate::deciding::{is_past, level_step, next_stage};
+use crate::deciding::{changes_starts, is_past, is_start, level_step, next_stage};
 use crate::walk_places::Places;
 use crate::walking::{
     all_done, all_served, any_busy, look_among, moved, seen_to, start_among, stop_among,
@@ -42,7 +42,7 @@ impl<A: Allocator> Model for BareCore<A> {
     ghost invariant = { λ c. (c.fields.time ≤ CLOCK_LIMIT)
         × (are_timely c.fields.time c.slots ≡ true)
         × IsInOrder c.table c.slots × (are_seen c.looks_from c.slots ≡ true)
-        × ArePassed c.fields.stage c.starts c.table c.slots };
+        × ArePassed c.fields.stage c.fields.time c.starts c.table c.slots };
 }
 
 impl<A: Allocator + Copy> BareCore<A> {
@@ -256,8 +256,11 @@ impl<A: Allocator> BareCore<A> {
             return None;
         };
         let slots = &self.slots;
-        let idle = !self.fields.announced && slots.is_idle();
-        if idle && all_served(level, self.fields.time, &self.table, slots.as_slice()) {
+        if self.fields.announced || !slots.is_idle() {
+            return None;
+        }
+        let now = self.fields.time;
+        if all_served(level, now, &self.table, slots.as_slice(), self.starts.first) {
             Some(Step::Settle(level))
         } else {
             None
@@ -340,7 +343,7 @@ impl<A: Allocator> BareCore<A> {
         let slots = self.slots.as_slice();
         self.looks_from = seen_to(slots, self.looks_from);
         if let Some(stage) = self.fields.stage {
-            self.starts = moved(self.starts, stage, &self.table, slots);
+            self.starts = moved(self.starts, stage, self.fields.time, &self.table, slots);
         }
     }
 
@@ -369,7 +372,7 @@ impl<A: Allocator> BareCore<A> {
             unreachable!()
         };
         self.slots.ask(id, ask, self.fields.time);
-        self.starts = self.starts.with(place);
+        self.starts = self.starts.with_if(place, is_start(ask));
     }
 
     /// The step is taken, as it was decided on.
@@ -422,7 +425,7 @@ impl<A: Allocator> BareCore<A> {
         self.slots.told(id, answer, self.fields.time)?;
         // An end may take a record out.
         self.looks_from = self.looks_from.saturating_sub(1);
-        self.starts = self.starts.with(place);
+        self.starts = self.starts.with_if(place, changes_starts(&answer));
         Ok(())
     }
 
@@ -489,6 +492,9 @@ impl<A: Allocator> BareCore<A> {
     pub(crate) fn clock_by_state(&mut self, reading: u64)
         ensures { self.new ≡ after_clock reading self.old }
     {
+        let before = self.fields.time;
         self.fields.time = reading.min(CLOCK_LIMIT).max(self.fields.time);
+        // A hold may be over.
+        self.starts = self.starts.all_if(before < self.fields.time);
     }
 }

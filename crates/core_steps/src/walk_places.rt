@@ -1,6 +1,6 @@
 //! Where a walk of the table begins.
 
-ghost use Rattle.std.specs.Prelude.{◌≡◌, ◌||◌, ◌==◌, ℕ, Bool};
+ghost use Rattle.std.specs.Prelude.{◌≡◌, ◌||◌, ◌==◌, ℕ, Bool, true, false};
 ghost use Rattle.core_steps.specs.declared.walk_places.Places.{Places};
 ghost use Rattle.core_steps.specs.Between.{AllBut};
 
@@ -37,5 +37,22 @@ impl Places {
             first: self.first,
             next: place,
         }
+    }
+
+    /// The entry at the place too, if it counts.
+    pub(crate) fn with_if(self, place: usize, counts: bool) -> Places
+        ensures { (passed : ℕ → Bool)
+            → (counts ≡ true → AllBut (λ i. i == place || passed i) self)
+            → (counts ≡ false → AllBut passed self) → AllBut passed result }
+    {
+        if counts { self.with(place) } else { self }
+    }
+
+    /// All entries, if the walk is to begin anew.
+    pub(crate) fn all_if(self, anew: bool) -> Places
+        ensures { (passed : ℕ → Bool) → (anew ≡ false → AllBut passed self)
+            → AllBut passed result }
+    {
+        if anew { Places::all() } else { self }
     }
 }

@@ -1,6 +1,6 @@
 //! What is due first among all records, in record order.
 
-ghost use Rattle.std.specs.Prelude.{◌≡◌, ◌≤◌, ◌+◌, true, None, Some, IfSome, drop, zip};
+ghost use Rattle.std.specs.Prelude.{◌≡◌, ◌≤◌, ◌+◌, true, false, None, Some, IfSome, drop, zip};
 ghost use Rattle.std.specs.List.{list_any};
 ghost use Rattle.core_steps.specs.Words.{stop_among, start_along, start_among, all_done, all_served, look_among, is_busy_record, CLOCK_LIMIT};
 ghost use Rattle.core_steps.specs.Places.{are_seen, is_passed_at, ArePassed, ArePassedFrom};
@@ -30,11 +30,12 @@ pub(crate) fn stop_among(grace: u16, now: u64, slots: &[Record]) -> Option<Step>
 /// The entry at the place is passed, or there is none.
 fn is_passed_at<A: Allocator>(
     stage: Stage,
+    now: u64,
     table: &Table<A>,
     slots: &[Record],
     place: usize,
 ) -> bool
-    ensures { result ≡ is_passed_at (Some stage) (zip table.now slots.now) place }
+    ensures { result ≡ is_passed_at (Some stage) now (zip table.now slots.now) place }
 {
     let Some(entry) = table.at(place) else {
         return true;
@@ -42,16 +43,22 @@ fn is_passed_at<A: Allocator>(
     if place >= slots.len() {
         return true;
     }
-    is_passed(stage, entry, &slots[place])
+    is_passed(stage, now, entry, &slots[place])
 }
 
 /// How far the entries are passed from a place on.
-fn passed_to<A: Allocator>(stage: Stage, table: &Table<A>, slots: &[Record], from: usize) -> usize
+fn passed_to<A: Allocator>(
+    stage: Stage,
+    now: u64,
+    table: &Table<A>,
+    slots: &[Record],
+    from: usize,
+) -> usize
     ensures behind { from ≤ result }
-    ensures passed { ArePassedFrom (Some stage) (zip table.now slots.now) from result }
+    ensures passed { ArePassedFrom (Some stage) now (zip table.now slots.now) from result }
 {
     for place in from..slots.len() {
-        if !is_passed_at(stage, table, slots, place) {
+        if !is_passed_at(stage, now, table, slots, place) {
             return place;
         }
     }
@@ -62,14 +69,15 @@ fn passed_to<A: Allocator>(stage: Stage, table: &Table<A>, slots: &[Record], fro
 pub(crate) fn moved<A: Allocator>(
     places: Places,
     stage: Stage,
+    now: u64,
     table: &Table<A>,
     slots: &[Record],
 ) -> Places
-    requires { ArePassed (Some stage) places table.now slots.now }
-    ensures { ArePassed (Some stage) result table.now slots.now }
+    requires { ArePassed (Some stage) now places table.now slots.now }
+    ensures { ArePassed (Some stage) now result table.now slots.now }
 {
-    let next = passed_to(stage, table, slots, places.next);
-    if places.first < places.next && !is_passed_at(stage, table, slots, places.first) {
+    let next = passed_to(stage, now, table, slots, places.next);
+    if places.first < places.next && !is_passed_at(stage, now, table, slots, places.first) {
         Places {
             first: places.first,
             next,
@@ -137,7 +145,7 @@ pub(crate) fn start_among<A: Allocator>(
     places: Places,
 ) -> Option<Step>
     requires limit { now ≤ CLOCK_LIMIT }
-    requires passed { ArePassed (Some stage) places table.now slots.now }
+    requires passed { ArePassed (Some stage) now places table.now slots.now }
     ensures { result ≡ start_among stage now table.now slots.now }
 {
     if places.first >= places.next {
@@ -160,15 +168,38 @@ pub(crate) fn all_done<A: Allocator>(stage: Stage, table: &Table<A>, slots: &[Re
         .all(|(entry, slot)| is_done(stage, entry, slot))
 }
 
-/// No entry keeps the level from being settled.
+/// The entry at the place keeps the level from being settled.
+fn is_unserved_at<A: Allocator>(
+    level: Level,
+    now: u64,
+    table: &Table<A>,
+    slots: &[Record],
+    place: usize,
+) -> bool
+    ensures { result ≡ true → all_served level now table.now slots.now ≡ false }
+{
+    let Some(entry) = table.at(place) else {
+        return false;
+    };
+    if place >= slots.len() {
+        return false;
+    }
+    !is_served(level, now, entry, &slots[place])
+}
+
+/// No entry keeps the level from being settled. That at the place, which it may wait for, is asked first.
 pub(crate) fn all_served<A: Allocator>(
     level: Level,
     now: u64,
     table: &Table<A>,
     slots: &[Record],
+    place: usize,
 ) -> bool
     ensures { result ≡ all_served level now table.now slots.now }
 {
+    if is_unserved_at(level, now, table, slots, place) {
+        return false;
+    }
     table
         .entries()
         .iter()

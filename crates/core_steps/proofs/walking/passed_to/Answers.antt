@@ -3,4 +3,4 @@ use Rattle.core_steps.proofs.Places.{one_further}
 use Rattle.core_steps.proofs.walking.passed_to.Goals as goal
 
 pub loop-place-preserved : goal.loop-place-preserved
-loop-place-preserved g c = (omega (arith, c.loop-place.invariant.0), one_further (is_passed_at (Some c.args.stage) (zip c.args.table.now c.args.slots.now)) c.args.from c.loop-place.place c.loop-place.invariant.1 c.if-not-is_passed_at.ensures)
+loop-place-preserved g c = (omega (arith, c.loop-place.invariant.0), one_further (is_passed_at (Some c.args.stage) c.args.now (zip c.args.table.now c.args.slots.now)) c.args.from c.loop-place.place c.loop-place.invariant.1 c.if-not-is_passed_at.ensures)
