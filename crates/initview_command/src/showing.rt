@@ -184,7 +184,7 @@ fn lines(alloc: Global, view: &TraceView, question: &TraceQuery) -> Result<Vec<L
 /// Tells of each start that is open what to do.
 fn tell_starts<E: Write>(view: &TraceView, path: &str, err: &mut E) {
     for entry in view.table().entries() {
-        if is_starting(&view.row(&entry.id)) {
+        if is_starting(view, &entry.id) {
             let id = entry.id.as_str();
             let _ = writeln!(
                 err,

@@ -64,14 +64,8 @@ fn news_of(view: &TraceView, happening: &HappeningIn<Global>) -> Option<News>
         → result ≡ news_of happening.now past }
 {
     match happening {
-        Happening::Hit(id) => {
-            let row = view.row(id);
-            Some(News::Sent(*id, row.order, row.child))
-        }
-        Happening::Miss(id) => {
-            let row = view.row(id);
-            Some(News::NotSent(*id, row.order, row.child))
-        }
+        Happening::Hit(id) => Some(News::Sent(*id, view.order(id), view.child(id))),
+        Happening::Miss(id) => Some(News::NotSent(*id, view.order(id), view.child(id))),
         _ => news_alone(happening),
     }
 }

@@ -1,13 +1,13 @@
 //! What a run leaves: the children that were born and not reaped, and the entries whose start is open.
 
 ghost use Rattle.std.specs.Prelude.{◌≡◌, ◌++◌, List, filter, map, IfOk, OnOk};
-ghost use Rattle.initview_lines.specs.CommonWords.{Event, Viewed};
-ghost use Rattle.initview_lines.specs.Left.{child_line, is_open, is_starting, left_in, start_line};
+ghost use Rattle.initview_lines.specs.CommonWords.{Event, Viewed, row_of};
+ghost use Rattle.initview_lines.specs.Left.{child_line, is_open, is_starting, is_unanswered, left_in, start_line};
 
 use crate::lines::{Line, RowFormat};
-use init_words::{Entry, OrderKind};
+use init_words::{ChildNumber, Entry, Id, OrderKind};
 use std::alloc::{AllocError, Global};
-use trace_view::{BornChild, Row, TraceView};
+use trace_view::{BornChild, TraceView};
 
 /// The children that were born and not reaped, the youngest first, and then the entries whose start is open, in the
 /// order of the table.
@@ -25,10 +25,17 @@ pub fn left_lines(
 }
 
 /// A start of the id is open, and no child of it was born.
-pub fn is_starting(row: &Row) -> bool
-    ensures { result ≡ is_starting row.now }
+pub fn is_starting(view: &TraceView, id: &Id) -> bool
+    ensures { (past : List Event) → Viewed view.now past
+        → result ≡ is_starting (row_of id.now past) }
 {
-    matches!((row.child, row.order), (None, Some(OrderKind::Start)))
+    is_unanswered(view.child(id), view.order(id))
+}
+
+fn is_unanswered(child: Option<ChildNumber>, order: Option<OrderKind>) -> bool
+    ensures { result ≡ is_unanswered child order }
+{
+    matches!((child, order), (None, Some(OrderKind::Start)))
 }
 
 fn child_lines(
@@ -55,7 +62,7 @@ fn add_starts(
 {
     let mut rest = entries;
     while let Some((entry, others)) = rest.split_first() {
-        if is_starting(&view.row(&entry.id)) {
+        if is_starting(view, &entry.id) {
             lines.push(Line::Left(shape, entry.id, None))?;
         }
         rest = others;

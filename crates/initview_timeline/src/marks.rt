@@ -67,7 +67,7 @@ fn shown_of<A: Allocator, B: Allocator>(
         Happening::Birth(id, number) => Some(Shown::Born(*id, *number)),
         Happening::NoBirth(id) => Some(Shown::NotBorn(*id)),
         Happening::Reaped(id, number, status) => Some(Shown::Ended(*id, *number, *status)),
-        Happening::Hit(id) => sent_for(*id, view.row(id).order),
+        Happening::Hit(id) => sent_for(*id, view.order(id)),
         _ => None,
     }
 }

@@ -1,5 +1,5 @@
 -- What a view says of an entry is what the past says.
-use Rattle.trace_view.proofs.Words.{arith, ◌≡◌, refl, sym, ◌∙◌, ap, ℕ, Bool, true, false, ◌||◌, ◌&&◌, cond, List, find, Option, Some, None, option_map_or, Act, Entry, OrderKind, Stage, is_limited, entry_of, has_id, act_of, same_id-is, Event, table_of, stage_of, Child, is_of, kept_children, open_of, starts_now, is_wanted, is_excluded, was_booted, hold_times, is_held, is_full, newest, child_of, term_of, found_passes, Excluded, Standing, NoEntry, births_of, ran_early, was_named, ended_of, row_of, Wish, Wishes, is_excluded_by, number_of, entry_id, excluded_as, first_awaited, first_owed, standing_of, stops_now, why_by, why_entry, why, wishes_of, first_wish, first_wish_in}
+use Rattle.trace_view.proofs.Words.{arith, ◌≡◌, refl, sym, ◌∙◌, ap, ℕ, Bool, true, false, ◌||◌, ◌&&◌, cond, List, find, Option, Some, None, option_map_or, Act, Entry, OrderKind, Stage, is_limited, entry_of, has_id, act_of, same_id-is, Event, table_of, stage_of, Child, is_of, kept_children, open_of, starts_now, is_wanted, is_excluded, was_booted, hold_times, is_held, is_full, newest, child_of, term_of, found_passes, Excluded, NoEntry, ChildKept, births_of, ran_early, was_named, ended_of, row_of, Wish, Wishes, is_excluded_by, number_of, entry_id, excluded_as, first_awaited, first_owed, standing_of, stops_now, why_entry, why, wishes_of, first_wish, first_wish_in}
 use Rattle.std.specs.Option.{option_map}
 use Rattle.trace_view.specs.declared.rows.Births.{Births}
 use Rattle.trace_view.specs.declared.rows.Ending.{Ending}
@@ -39,9 +39,13 @@ held_is limited held since e past limits holds times = grind arith
 pub full_is : (limited full : Bool) (e : Entry) (past : List Event) → limited ≡ is_limited e.act → full ≡ is_full e.id past → (limited && full) ≡ (is_limited e.act && is_full e.id past)
 full_is limited full e past limits fulls = ap (λ b. b && full) limits ∙ ap (λ b. is_limited e.act && b) fulls
 
--- why an id isn't started, by its entry's standing
-pub why_found : (id : List ℕ) (past : List Event) (e : Entry) (stage : Option Stage) (s : Standing) → stage ≡ stage_of past → entry_of id (table_of past) ≡ Some e → s ≡ standing_of e past → why_by e.act stage s ≡ why id past
-why_found id past e stage s on found is = ap (λ x. why_by e.act x s) on ∙ ap (why_by e.act (stage_of past)) is ∙ sym (ap (λ o. option_map_or (λ x. why_entry x past) o NoEntry) found)
+-- an entry that starts in the stage, and whose child lives on, isn't started for that
+pub kept_here : (e : Entry) (past : List Event) (starts : Bool) (kept : Option ℕ) (child : ℕ) → starts ≡ starts_now e past → kept ≡ option_map number_of (find (is_of e.id) (kept_children past)) → Some child ≡ cond starts kept None → ChildKept child ≡ why_entry e past
+kept_here e past starts kept child on is some = grind arith
+
+-- why an id isn't started, by its entry
+pub why_found : (id : List ℕ) (past : List Event) (e : Entry) → entry_of id (table_of past) ≡ Some e → why_entry e past ≡ why id past
+why_found id past e found = sym (ap (λ o. option_map_or (λ x. why_entry x past) o NoEntry) found)
 
 pub why_none : (id : List ℕ) (past : List Event) → entry_of id (table_of past) ≡ None → NoEntry ≡ why id past
 why_none id past none = sym (ap (λ o. option_map_or (λ x. why_entry x past) o NoEntry) none)

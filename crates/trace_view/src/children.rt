@@ -56,10 +56,22 @@ fn drop_id<A: Allocator>(children: &mut Vec<BornChild, A>, id: Id)
     children.retain(|child: &BornChild| id != child.id);
 }
 
-fn keep_id<A: Allocator>(children: &mut Vec<BornChild, A>, id: Id)
-    ensures { children.new.items ≡ filter (λ (child : Child). is_of id child) children.old.items }
+/// The children of an id.
+fn children_of_id<A: Allocator>(
+    alloc: A,
+    children: &[BornChild],
+    id: Id,
+) -> Result<Vec<BornChild, A>, Memory>
+    ensures { IfOk result (λ own. own.items
+        ≡ filter (λ (child : Child). is_of id child) children.now) }
 {
-    children.retain(|child: &BornChild| id == child.id);
+    Ok(
+        children
+            .iter()
+            .copied()
+            .filter(|child| id == child.id)
+            .collect(alloc)?,
+    )
 }
 
 /// The unreaped children, the youngest first.
@@ -103,8 +115,7 @@ pub(crate) fn take_kept<A: Allocator + Copy, B: Allocator>(
             Ok(())
         }
         Happening::Told(id) => {
-            let mut told = Vec::from_slice(alloc, unreaped)?;
-            keep_id(&mut told, *id);
+            let mut told = children_of_id(alloc, unreaped, *id)?;
             drop_id(kept, *id);
             told.extend_from_slice(kept.as_slice())?;
             *kept = told;

@@ -2,9 +2,9 @@
 
 ghost use Rattle.std.specs.Prelude.{◌≡◌, ◌&&◌, ◌||◌, if◌then◌else◌, true, List, Some, None, option_map, option_copied, IfOk};
 ghost use Rattle.std.specs.Option.{option_or};
-ghost use Rattle.trace_view.specs.Words.{Start, Entry, Event, table_of, stage_of, grace_of, time_of, unreaped_children, broken, is_order, is_owed, starts_in, entry_of, is_distinct, law_number};
+ghost use Rattle.trace_view.specs.Words.{Start, Entry, Event, table_of, stage_of, grace_of, time_of, unreaped_children, broken, is_order, is_owed, starts_in, entry_of, is_distinct, law_number, open_of, child_of};
 ghost use Rattle.trace_view.specs.Viewing.{unviewed, Viewed, SeesNext};
-ghost use Rattle.trace_view.specs.Why.{entry_id, first_awaited, standing_of, stops_now, why};
+ghost use Rattle.trace_view.specs.Why.{entry_id, first_awaited, standing_of, stops_now, number_of, why, why_entry};
 ghost use Rattle.trace_view.specs.Rows.{row_of, gone_ids, is_settled_now, settled_in};
 ghost use Rattle.trace_view.specs.Wishes.{asked_level, first_wish, next_stage};
 
@@ -17,7 +17,7 @@ use crate::rows::{Births, ById, Ending, Row, nothing, of_id, take_birth, take_en
 use crate::standings::Standing;
 use crate::whys::{Why, why_by};
 use crate::wishes::{Wish, Wishes};
-use init_words::{Act, Entry, Id, Level, Memory, OrderKind, Stage, starts};
+use init_words::{Act, ChildNumber, Entry, Id, Level, Memory, OrderKind, Stage, starts};
 use inittab_text::Table;
 use std::alloc::{Allocator, Global};
 use std::marker::Model;
@@ -118,10 +118,10 @@ fn both(first: bool, second: bool) -> bool
     first && second
 }
 
-fn only_if(test: bool, time: Option<u64>) -> Option<u64>
-    ensures { result ≡ (if test then time else None) }
+fn only_if<T: Copy>(test: bool, value: Option<T>) -> Option<T>
+    ensures { result ≡ (if test then value else None) }
 {
-    if test { time } else { None }
+    if test { value } else { None }
 }
 
 impl<A: Allocator + Copy> TraceView<A> {
@@ -242,8 +242,22 @@ impl<A: Allocator> TraceView<A> {
         ensures { (past : List Event) → Viewed self.now past → result ≡ why id.now past }
     {
         match self.judge.table().get(id) {
-            Some(entry) => why_by(entry.act, self.judge.stage(), &self.standing(entry)),
+            Some(entry) => self.why_of(entry),
             None => Why::NoEntry,
+        }
+    }
+
+    /// Why an entry of the table in force isn't started next. Where its child lives on nothing else is looked at.
+    fn why_of(&self, entry: &Entry) -> Why
+        ensures { (past : List Event) → Viewed self.now past
+            → entry_of entry.now.id (table_of past) ≡ Some entry.now
+            → result ≡ why_entry entry.now past }
+    {
+        let stage = self.judge.stage();
+        let kept = number_of_id(self.kept.as_slice(), entry.id);
+        match only_if(starts_in(entry, stage), kept) {
+            Some(child) => Why::ChildKept(child),
+            None => why_by(entry.act, stage, &self.standing(entry)),
         }
     }
 
@@ -266,6 +280,21 @@ impl<A: Allocator> TraceView<A> {
             term: self.judge.termed(id),
             last: of_id(&self.ends, id),
         }
+    }
+
+    /// The open order of an id.
+    pub fn order(&self, id: &Id) -> Option<OrderKind>
+        ensures { (past : List Event) → Viewed self.now past → result ≡ open_of id.now past }
+    {
+        self.judge.order(id)
+    }
+
+    /// The number of the id's unreaped child.
+    pub fn child(&self, id: &Id) -> Option<ChildNumber>
+        ensures { (past : List Event) → Viewed self.now past
+            → result ≡ option_map number_of (child_of id.now past) }
+    {
+        number_of_id(self.unreaped.as_slice(), *id)
     }
 
     /// The table in force; no id stands in it twice.
