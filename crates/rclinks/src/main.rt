@@ -3,7 +3,7 @@
 #![tactic(auto)]
 
 use program_io::{StandardFiles, report_unread_words, words};
-use rclinks_command::{SHORT_USAGE, run_words};
+use rclinks_command::{SHORT_USAGE, SystemFolders, run_words};
 use std::alloc::Global;
 use std::fs::{read_dir, read_link};
 use std::io;
@@ -30,7 +30,7 @@ fn facilities(rt: &HostRuntime, alloc: Global) -> io::Result<Vec<String>> {
 fn main(rt: HostRuntime) -> ExitCode {
     let _standard = StandardFiles::hold(&rt);
     let alloc = rt.alloc();
-    let mut folders = rt;
+    let mut folders = SystemFolders::new(rt, rt);
     let status = match words(&rt, alloc) {
         Ok(words) => {
             let facilities = facilities(&rt, alloc).unwrap_or(Vec::new(alloc));

@@ -1,3 +1,4 @@
+pub mod AnswerLemmas
 pub mod FreeLine
 pub mod PathLemmas
 pub mod ReadingLemmas

@@ -1,5 +1,6 @@
 -- Runs of rclinks over the paths of init scripts.
-use Rattle.std.specs.Prelude.{◌≡◌, ◌⊎◌, ℕ, Bool, true, false, not, ◌||◌, ◌&&◌, List, [], ◌∷◌, ◌++◌, Option, Some, None, codes, option_map, unwrap_or}
+use Rattle.std.specs.Prelude.{◌≡◌, ◌⊎◌, ℕ, Bool, true, false, not, ◌||◌, ◌&&◌, List, [], ◌∷◌, ◌++◌, Option, Some, None}
+use Rattle.std.specs.Prelude.{codes, option_map, unwrap_or}
 use Rattle.std.specs.Option.{is_some}
 use Rattle.std.specs.Io.KnownBytes.{Appends}
 use Rattle.std.specs.declared.alloc.Global.{Global}
@@ -102,7 +103,8 @@ ScriptsOf text_at true last paths P = (read rest : List ScriptText) × (faults :
 -- a plan of such scripts has this
 abbrev pub PlanOf : KnownTexts → Line → (List PlannedText → Type 0) → Type 0
 PlanOf text_at line P =
-    ScriptsOf text_at line.skips line.last line.files (λ scripts. (plan : List PlannedText) × IsPlan scripts plan × P plan)
+    ScriptsOf text_at line.skips line.last line.files
+    (λ scripts. (plan : List PlannedText) × IsPlan scripts plan × P plan)
 
 -- the folders of a directory are written
 abbrev pub writes : Line → Bool
@@ -166,7 +168,8 @@ abbrev pub IsRefusedBy : KnownTexts → Line → KnownScripts → KnownFolders �
 IsRefusedBy text_at line scripts before =
     IsRefusedFor text_at line.skips line.last line.files ⊎ PlanOf text_at line (TakenBy line.dir line scripts before)
 
--- the report of a run that is refused for a file or the plan; or a name is taken
+-- the report of a run that is refused for a file or the plan was written, as far as it was taken; or a name is taken
 abbrev pub TellsRefused : KnownTexts → Line → KnownScripts → KnownFolders → Option (List ℕ) → Option (List ℕ) → Type 0
 TellsRefused text_at line scripts before old new =
-    ReportsRefused text_at line.last line.files old new ⊎ PlanOf text_at line (TakenBy line.dir line scripts before)
+    ((report : List ℕ) × ReportsRefused text_at line.last line.files [] report × AppendsPrefix old new report)
+    ⊎ PlanOf text_at line (TakenBy line.dir line scripts before)

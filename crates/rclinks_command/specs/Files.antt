@@ -1,8 +1,6 @@
 -- The scripts of files.
-use Rattle.std.specs.Prelude.{◌≡◌, ℕ, Bool, true, false, ◌==◌, if◌then◌else◌, List, [], ◌∷◌, None, Err, Ok, IsSome}
+use Rattle.std.specs.Prelude.{◌≡◌, ◌⊎◌, ℕ, Bool, true, false, ◌==◌, if◌then◌else◌, List, [], ◌∷◌, None, Err, Ok}
 use Rattle.std.specs.List.{list_any}
-use Rattle.std.specs.IoError.{error_kind}
-use Rattle.std.specs.declared.io.ErrorKind.TheVariants.{OutOfMemory}
 use Rattle.rc_header.specs.declared.faults.HeaderFault.{HeaderFault}
 use Rattle.rc_header.specs.declared.faults.HeaderFault.TheVariants as header_fault
 use Rattle.rc_header.specs.Headers.{header_read}
@@ -58,13 +56,17 @@ IsNoScript name text (fault.Header found line) =
     (is_name name ≡ true) × (header_read text ≡ Err found) × (refusal_of text found ≡ fault.Header found line)
 IsNoScript name text fault.Memory = Unit {0}
 
--- why the text at this path gives no script
+-- why the text at this path gives no script: a file whose text is known can be read, and lack of memory is no reason
 abbrev pub IsNoScriptAt : KnownTexts → List ℕ → FileFault → Type 0
-IsNoScriptAt text_at path (fault.Unread error) = IsSome (text_at path) → error_kind error ≡ OutOfMemory
+IsNoScriptAt text_at path (fault.Unread error) = text_at path ≡ None
 IsNoScriptAt text_at path fault.Name = is_name (last_part path) ≡ false
 IsNoScriptAt text_at path (fault.Header found line) =
     (text : List ℕ) × IsTextAt text_at path text × IsNoScript (last_part path) text (fault.Header found line)
-IsNoScriptAt text_at path fault.Memory = Unit {0}
+IsNoScriptAt text_at path fault.Memory = ⊥
+
+-- why no script of a path is at hand: the path gives none, or memory is lacking
+abbrev pub IsNotRead : KnownTexts → List ℕ → FileFault → Type 0
+IsNotRead text_at path found = (found ≡ fault.Memory) ⊎ IsNoScriptAt text_at path found
 
 -- 1 for a name or a header that is refused, 4 for a file that is not read and for lack of memory
 abbrev pub file_status : FileFault → ℕ

@@ -1,8 +1,11 @@
+pub mod Answers
+pub mod Asked
 pub mod Command
 pub mod Facilities
 pub mod Files
 pub mod Folders
 pub mod Reading
+pub mod Refusals
 pub mod Reports
 pub mod Said
 pub mod Skipping

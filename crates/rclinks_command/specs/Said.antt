@@ -2,7 +2,7 @@
 use Rattle.std.specs.Prelude.{map}
 use Rattle.std.specs.Option.{option_map}
 use Rattle.rclinks_command.specs.Command as command
-use Rattle.rclinks_command.specs.declared.command.Line.{Line}
+use Rattle.rclinks_command.specs.declared.line.Line.{Line}
 
 abbrev pub line_said : Line → command.Line
 line_said line = record {

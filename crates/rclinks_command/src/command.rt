@@ -1,36 +1,23 @@
 //! The command line of rclinks, and what it prints.
 
-ghost use Rattle.std.specs.Prelude.{◌≡◌, ◌⊎◌, true, false, codes, map, string_bytes, IfOk, IfErr, OnOk, Some, None};
-ghost use Rattle.std.specs.Io.KnownBytes.{Appends};
+ghost use Rattle.std.specs.Prelude.{◌≡◌, ◌⊎◌, true, false, codes, map, string_bytes, IfOk, None};
 ghost use Rattle.clap.specs.Words.{found_of, rows_of};
-ghost use Rattle.program_io.specs.Writing.{AppendsPrefix};
 ghost use Rattle.command_words.specs.CommandLines.{asks_version};
 ghost use Rattle.command_words.specs.Faults.{ReportsUsage};
 ghost use Rattle.command_words.specs.VersionLine.{PrintsVersion};
-ghost use Rattle.rc_links.specs.AllLast.{with_all};
-ghost use Rattle.rc_links.specs.Links.{plan_text};
-ghost use Rattle.rc_links.specs.Plans.{IsPlan};
 ghost use Rattle.rclinks_command.specs.Said.{line_said};
-ghost use Rattle.rclinks_command.specs.Command.{goes_on, Does, DoesBy, DoesPart, HasNoPlan, IsRefusedBy, IsRefusedFor, PartBy, Says, ScriptsOf, TakenBy, TellsRefused, asked_by, line_with, rclinks_read_of, writes, writes_by};
-ghost use Rattle.rclinks_command.specs.Files.{file_status};
-ghost use Rattle.rclinks_command.specs.Reports.{ReportsPlan, ReportsRefused};
-ghost use Rattle.rclinks_command.specs.Skipping.{LeavesSome};
+ghost use Rattle.rclinks_command.specs.Command.{goes_on, Does, DoesPart, IsRefusedBy, Says, TellsRefused, asked_by, line_with, rclinks_read_of, writes_by};
 
+use crate::answer::{answer_of, write};
 use crate::facilities::files_with;
-use crate::files::FileFault;
 use crate::folders::LinkFolders;
-use crate::planned::report_unlisted;
-use crate::reading::read_files;
-use crate::skipping::{plan_rest, report_first, status_of};
-use crate::telling::warn_of_names;
-use crate::writing::{changes_for, changes_text, make_changes};
+use crate::line::Line;
 use clap::ArgMatches;
 use command_words::{
     Row, is_set, is_version, print_version, read_line, report_word_fault, word_of, words_of,
 };
 use init_words::Memory;
-use program_io::{DEVICE_FAULT, DONE, REFUSED, Texts, report_no_memory, write_text};
-use rc_links::{Plan, PlanFault, Script, add_all, plan};
+use program_io::{DEVICE_FAULT, DONE, REFUSED, Texts, report_no_memory};
 use std::alloc::Global;
 use std::io::Write;
 
@@ -57,38 +44,6 @@ pub const USAGE: &str = "usage: rclinks [--all] [--skip] [--all-last] [--write D
 
 /// What is told of words that are no command line, behind a line that says why.
 pub const SHORT_USAGE: &str = "usage: rclinks [OPTION].. FILE.. | --help\n";
-
-/// What words ask for.
-#[derive(Clone, Copy)]
-struct Line<'f, 'w> {
-    /// All faults are told, and not the first alone.
-    all: bool,
-    /// A script that can't be read or planned is left out.
-    skips: bool,
-    /// A script that names `$all` comes last.
-    last: bool,
-    /// Changes of folders are printed, and not made.
-    dry: bool,
-    /// No facility file is read that is not among the files.
-    bare: bool,
-    /// A script that has links keeps their runlevels.
-    keeps: bool,
-    /// Links whose script is gone are taken away.
-    prunes: bool,
-    /// The directory of the folders that are written.
-    dir: Option<&'w str>,
-    /// The paths of the scripts.
-    files: &'f [&'w str],
-}
-
-impl<'f, 'w> Line<'f, 'w> {
-    /// A fault doesn't end the run.
-    fn goes_on(&self) -> bool
-        ensures { result ≡ goes_on (line_said self.now) }
-    {
-        self.skips || self.all
-    }
-}
 
 /// The options and the words of a command line.
 const OPTIONS: &[Row] = &[
@@ -138,257 +93,6 @@ fn files_of<'w>(
     }
 }
 
-/// Writes a text, and gives the exit status.
-fn write_links<W: Write, E: Write>(text: &[u8], out: &mut W, err: &mut E) -> u8
-    ensures statuses { (result ≡ DONE) ⊎ (result ≡ DEVICE_FAULT) }
-    ensures done { result ≡ DONE → Appends (W.contents out.old) (W.contents out.new) text.now }
-    ensures part { AppendsPrefix (W.contents out.old) (W.contents out.new) text.now }
-    ensures silent { result ≡ DONE → err.new ≡ err.old }
-{
-    if write_text(out, text).is_err() || out.flush().is_err() {
-        let _ = writeln!(err, "rclinks: cannot write");
-        return DEVICE_FAULT;
-    }
-    DONE
-}
-
-/// Prints a plan's links, and gives the exit status.
-fn print_links<W: Write, E: Write>(alloc: Global, plan: &Plan, out: &mut W, err: &mut E) -> u8
-    ensures statuses { (result ≡ DONE) ⊎ (result ≡ DEVICE_FAULT) }
-    ensures done { result ≡ DONE
-        → Appends (W.contents out.old) (W.contents out.new) (plan_text plan.now) }
-    ensures part { (out.new ≡ out.old) ⊎ AppendsPrefix (W.contents out.old) (W.contents out.new)
-        (plan_text plan.now) }
-    ensures silent { result ≡ DONE → err.new ≡ err.old }
-{
-    match plan.print(alloc) {
-        Ok(text) => write_links(text.as_slice(), out, err),
-        Err(_) => report_no_memory("rclinks", err),
-    }
-}
-
-/// Tells all faults of scripts that have no plan.
-fn tell_faults<'w, E: Write>(
-    alloc: Global,
-    scripts: &mut Vec<Script>,
-    paths: &mut Vec<&'w str>,
-    err: &mut E,
-) {
-    let _ = plan_rest(alloc, scripts, paths, false, err);
-}
-
-/// The plan of the scripts; the exit status where they have none. The first fault is told on `err`, or all where that is
-/// asked for.
-fn plan_all<'w, E: Write>(
-    alloc: Global,
-    all: bool,
-    scripts: &mut Vec<Script>,
-    paths: &mut Vec<&'w str>,
-    err: &mut E,
-) -> Result<Plan, u8>
-    ensures planned { IfOk result (IsPlan scripts.old.items) }
-    ensures refused { IfErr result (λ status. (status ≡ DEVICE_FAULT)
-        ⊎ (status ≡ REFUSED) × HasNoPlan scripts.old.items) }
-    ensures told { all ≡ false → IfErr result (λ status. status ≡ REFUSED
-        → ReportsPlan scripts.old.items (E.contents err.old) (E.contents err.new)) }
-{
-    warn_of_names(alloc, scripts.as_slice(), paths.as_slice(), err);
-    match plan(alloc, scripts.as_slice()) {
-        Ok(plan) => Ok(plan),
-        Err(fault) => {
-            if all {
-                tell_faults(alloc, scripts, paths, err);
-                return Err(status_of(&fault));
-            }
-            Err(report_first(alloc, &fault, scripts.as_slice(), paths.as_slice(), err))
-        }
-    }
-}
-
-/// The plan of the scripts that are left where those at fault are left out; the exit status where they have none.
-fn plan_left<'w, E: Write>(
-    alloc: Global,
-    scripts: &mut Vec<Script>,
-    paths: &mut Vec<&'w str>,
-    err: &mut E,
-) -> Result<Plan, u8>
-    ensures left { LeavesSome scripts.old.items scripts.new.items }
-    ensures planned { IfOk result (IsPlan scripts.new.items) }
-    ensures refused { IfErr result (λ status. (status ≡ DEVICE_FAULT)
-        ⊎ (status ≡ REFUSED) × HasNoPlan scripts.new.items) }
-{
-    warn_of_names(alloc, scripts.as_slice(), paths.as_slice(), err);
-    match plan_rest(alloc, scripts, paths, true, err) {
-        Ok(plan) => Ok(plan),
-        Err(fault) => Err(status_of(&fault)),
-    }
-}
-
-/// Tells all faults of the scripts that the other files give, where that is asked for, and gives the exit status of the
-/// first file's.
-fn refuse_file<'w, E: Write>(
-    alloc: Global,
-    all: bool,
-    fault: &FileFault,
-    scripts: &mut Vec<Script>,
-    paths: &mut Vec<&'w str>,
-    err: &mut E,
-) -> u8
-    ensures status { result ≡ file_status fault.now }
-    ensures told { all ≡ false → err.new ≡ err.old }
-{
-    if !all {
-        return fault.status();
-    }
-    warn_of_names(alloc, scripts.as_slice(), paths.as_slice(), err);
-    tell_faults(alloc, scripts, paths, err);
-    fault.status()
-}
-
-/// Puts the facility `$all` in front of the scripts where those that name it come last.
-fn add_last<'w>(
-    alloc: Global,
-    last: bool,
-    scripts: &mut Vec<Script>,
-    paths: &mut Vec<&'w str>,
-) -> Result<(), Memory>
-    ensures { OnOk result (scripts.new.items ≡ with_all last scripts.old.items) }
-{
-    if last {
-        add_all(alloc, scripts)?;
-        paths.insert(0, "--all-last")?;
-    }
-    Ok(())
-}
-
-/// The plan of the files' scripts; the exit status where a file or the plan is refused, a file can't be read or memory
-/// runs out, which is told.
-fn plan_of<T: Texts, E: Write>(
-    texts: &T,
-    alloc: Global,
-    line: &Line,
-    err: &mut E,
-) -> Result<Plan, u8>
-    ensures planned { IfOk result (λ plan. ScriptsOf (T.text_at texts.now) line.now.skips
-        line.now.last (map (λ file. file.now) line.now.files.now)
-        (λ scripts. IsPlan scripts plan)) }
-    ensures refused { IfErr result (λ status. (status ≡ DEVICE_FAULT)
-        ⊎ (status ≡ REFUSED) × IsRefusedFor (T.text_at texts.now) line.now.skips line.now.last
-        (map (λ file. file.now) line.now.files.now)) }
-    ensures told { goes_on (line_said line.now) ≡ false → IfErr result (λ status. status ≡ REFUSED
-        → ReportsRefused (T.text_at texts.now) line.now.last
-        (map (λ file. file.now) line.now.files.now) (E.contents err.old) (E.contents err.new)) }
-{
-    let mut scripts = Vec::new(alloc);
-    let mut paths = Vec::new(alloc);
-    let read = read_files(
-        texts,
-        alloc,
-        line.files,
-        line.skips,
-        line.goes_on(),
-        &mut scripts,
-        &mut paths,
-        err,
-    );
-    let Ok(faults) = read else {
-        return Err(report_no_memory("rclinks", err));
-    };
-    let Ok(()) = add_last(alloc, line.last, &mut scripts, &mut paths) else {
-        return Err(report_no_memory("rclinks", err));
-    };
-    if line.skips {
-        return plan_left(alloc, &mut scripts, &mut paths, err);
-    }
-    match faults.first() {
-        None => plan_all(alloc, line.all, &mut scripts, &mut paths, err),
-        Some(fault) => Err(refuse_file(alloc, line.all, fault, &mut scripts, &mut paths, err)),
-    }
-}
-
-/// Does by a plan what words ask for, and gives the exit status.
-fn do_by<F: LinkFolders, W: Write, E: Write>(
-    folders: &mut F,
-    alloc: Global,
-    line: &Line,
-    plan: Plan,
-    out: &mut W,
-    err: &mut E,
-) -> u8
-    ensures statuses { (result ≡ DONE) ⊎ (result ≡ REFUSED) ⊎ (result ≡ DEVICE_FAULT) }
-    ensures done { result ≡ DONE → DoesBy (line_said line.now).dir (line_said line.now)
-        (F.scripts_in folders.old) (F.held folders.old) (F.held folders.new)
-        (W.contents out.old) (W.contents out.new) plan }
-    ensures refused { result ≡ REFUSED → TakenBy (line_said line.now).dir (line_said line.now)
-        (F.scripts_in folders.old) (F.held folders.old) plan
-        × (out.new ≡ out.old) × (folders.new ≡ folders.old) }
-    ensures kept { writes (line_said line.now) ≡ false → folders.new ≡ folders.old }
-    ensures silent { writes (line_said line.now) ≡ true → out.new ≡ out.old }
-    ensures part { (out.new ≡ out.old) × (folders.new ≡ folders.old)
-        ⊎ PartBy (line_said line.now).dir (line_said line.now) (F.scripts_in folders.old)
-        (F.held folders.old) (F.held folders.new) (W.contents out.old) (W.contents out.new)
-        plan }
-{
-    let Some(dir) = line.dir else {
-        return print_links(alloc, &plan, out, err);
-    };
-    let found = match changes_for(folders, alloc, dir, line.keeps, line.prunes, plan, err) {
-        Ok(Some(found)) => found,
-        Ok(None) => return REFUSED,
-        Err(fault) => return report_unlisted(dir, &fault, err),
-    };
-    if !line.dry {
-        return make_changes(folders, alloc, dir, found.as_slice(), err);
-    }
-    match changes_text(alloc, found.as_slice()) {
-        Ok(text) => write_links(text.as_slice(), out, err),
-        Err(Memory) => report_no_memory("rclinks", err),
-    }
-}
-
-/// Runs rclinks on what words give, with facility files, and gives its exit status.
-fn run_matches<'w, T: Texts, F: LinkFolders, W: Write, E: Write>(
-    texts: &T,
-    folders: &mut F,
-    alloc: Global,
-    facilities: &'w [String],
-    matches: &ArgMatches<'w>,
-    out: &mut W,
-    err: &mut E,
-) -> u8
-    ensures statuses { (result ≡ DONE) ⊎ (result ≡ REFUSED) ⊎ (result ≡ DEVICE_FAULT) }
-    ensures done { result ≡ DONE → Does (T.text_at texts.now)
-        (line_with (map string_bytes facilities.now) (asked_by (rows_of (found_of matches.now))))
-        (F.scripts_in folders.old) (F.held folders.old) (F.held folders.new) (W.contents out.old)
-        (W.contents out.new) }
-    ensures refused { result ≡ REFUSED → IsRefusedBy (T.text_at texts.now)
-        (line_with (map string_bytes facilities.now) (asked_by (rows_of (found_of matches.now))))
-        (F.scripts_in folders.old) (F.held folders.old) }
-    ensures told { goes_on (asked_by (rows_of (found_of matches.now))) ≡ false → result ≡ REFUSED
-        → TellsRefused (T.text_at texts.now)
-        (line_with (map string_bytes facilities.now) (asked_by (rows_of (found_of matches.now))))
-        (F.scripts_in folders.old) (F.held folders.old) (E.contents err.old) (E.contents err.new) }
-    ensures quiet { result ≡ REFUSED → (out.new ≡ out.old) × (folders.new ≡ folders.old) }
-    ensures kept { writes (asked_by (rows_of (found_of matches.now))) ≡ false
-        → folders.new ≡ folders.old }
-    ensures silent { writes (asked_by (rows_of (found_of matches.now))) ≡ true
-        → out.new ≡ out.old }
-    ensures part { (out.new ≡ out.old) × (folders.new ≡ folders.old)
-        ⊎ DoesPart (T.text_at texts.now)
-        (line_with (map string_bytes facilities.now) (asked_by (rows_of (found_of matches.now))))
-        (F.scripts_in folders.old) (F.held folders.old) (F.held folders.new) (W.contents out.old)
-        (W.contents out.new) }
-{
-    let Ok(files) = files_of(alloc, facilities, matches) else {
-        return report_no_memory("rclinks", err);
-    };
-    let line = line_of(matches, files.as_slice());
-    match plan_of(texts, alloc, &line, err) {
-        Ok(plan) => do_by(folders, alloc, &line, plan, out, err),
-        Err(status) => status,
-    }
-}
-
 /// Runs rclinks on its words, options and the paths of init scripts, and gives its exit status: 0 where their links
 /// were printed on `out`, or the version, where the one word is `--version`; 1 where the words are no command line,
 /// where a script's name or header or the plan is refused, or where a name of a link is taken; 4 where a file can't be
@@ -428,7 +132,7 @@ pub fn run_words<'w, T: Texts, F: LinkFolders, W: Write, E: Write>(
         ⊎ Says (map string_bytes words.now) (λ line. IsRefusedBy (T.text_at texts.now)
         (line_with (map string_bytes facilities.now) line) (F.scripts_in folders.old)
         (F.held folders.old)) }
-    // Without --all and --skip warnings are told, and then a file's path or the plan's first fault, unless a name is taken.
+    // Without --all and --skip warnings are told, then a file's path or the plan's first fault, unless a name is taken.
     ensures told { asks_version (map string_bytes words.now) ≡ false → result ≡ REFUSED
         → (rclinks_read_of (map string_bytes words.now) ≡ None)
         ⊎ Says (map string_bytes words.now) (λ line. goes_on line ≡ false
@@ -450,8 +154,14 @@ pub fn run_words<'w, T: Texts, F: LinkFolders, W: Write, E: Write>(
     if is_version(words) {
         return print_version("rclinks", out, err);
     }
-    match read_line(alloc, "rclinks", OPTIONS, words) {
-        Ok(matches) => run_matches(texts, folders, alloc, facilities, &matches, out, err),
-        Err(fault) => report_word_fault("rclinks", &fault, USAGE, SHORT_USAGE, err),
-    }
+    let matches = match read_line(alloc, "rclinks", OPTIONS, words) {
+        Ok(matches) => matches,
+        Err(fault) => return report_word_fault("rclinks", &fault, USAGE, SHORT_USAGE, err),
+    };
+    let Ok(files) = files_of(alloc, facilities, &matches) else {
+        return report_no_memory("rclinks", err);
+    };
+    let line = line_of(&matches, files.as_slice());
+    let answer = answer_of(texts, folders, alloc, &line);
+    write(folders, alloc, &answer, out, err)
 }

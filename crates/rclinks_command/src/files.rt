@@ -1,18 +1,20 @@
 //! The scripts and facility files that paths lead to.
 
-ghost use Rattle.std.specs.Prelude.{◌≡◌, true, false, None, Err, IfOk, IfErr, IfSome, codes};
+ghost use Rattle.std.specs.Prelude.{◌≡◌, true, false, None, Err, IfOk, IfErr, IfSome, OnOk, codes};
 ghost use Rattle.rc_header.specs.Headers.{frame_fault};
 ghost use Rattle.rc_links.specs.Names.{is_name};
-ghost use Rattle.rclinks_command.specs.Files.{IsNoScript, IsNoScriptAt, IsScriptAt, IsScriptOf, file_status, last_part, refusal_of};
+ghost use Rattle.rclinks_command.specs.Files.{IsNoScript, IsNotRead, IsScriptAt, IsScriptOf, file_status, last_part, refusal_of};
+ghost use Rattle.rclinks_command.specs.Refusals.{refusal_status};
 ghost use Rattle.rclinks_command.specs.Reports.{ReportsWhy, TellsWhy, Warns};
 
-use crate::lines::tell_why;
-use crate::remarks::{behind_end, warn_of_lines};
+use crate::remarks::{behind_end, odd_lines};
+use crate::report::{Refusal, add_warnings, add_why};
+use init_words::Memory;
 use program_io::{DEVICE_FAULT, REFUSED, Reason, Texts};
 use rc_header::{HeaderFault, second_keyword_line};
 use rc_links::{Script, is_name};
 use std::alloc::{AllocError, Global};
-use std::io::Write;
+use std::io::{ErrorKind, Write};
 use std::{fmt, io};
 use thiserror::Error;
 
@@ -46,6 +48,17 @@ impl fmt::Display for LineWords {
     }
 }
 
+impl From<Memory> for FileFault {
+    ghost use Rattle.std.specs.Prelude.{◌≡◌};
+    ghost use Rattle.rclinks_command.specs.declared.files.FileFault.TheVariants.{Memory as NoRoom};
+
+    ghost from_gives = { λ _ fault. fault ≡ NoRoom };
+
+    fn from(_error: Memory) -> FileFault {
+        FileFault::Memory
+    }
+}
+
 impl FileFault {
     /// The exit status.
     pub fn status(&self) -> u8
@@ -55,6 +68,16 @@ impl FileFault {
             FileFault::Unread(_) | FileFault::Memory => DEVICE_FAULT,
             FileFault::Name | FileFault::Header(_, _) => REFUSED,
         }
+    }
+}
+
+/// The refusal of a run for such a fault.
+pub(crate) fn refusal_for(fault: &FileFault) -> Refusal
+    ensures { refusal_status result ≡ file_status fault.now }
+{
+    match fault {
+        FileFault::Unread(_) | FileFault::Memory => Refusal::Failed,
+        FileFault::Name | FileFault::Header(_, _) => Refusal::Refused,
     }
 }
 
@@ -101,9 +124,10 @@ pub fn script_in(alloc: Global, name: &str, text: &[u8]) -> Result<Script, FileF
     }
 }
 
-/// Tells the reason why a file of this text gives no script, the line of the file that it is about, and what to write in
-/// its place; and that it is left out, where it is.
-fn tell_reason<E: Write>(path: &str, text: &[u8], fault: &FileFault, skips: bool, more: &mut E) {
+/// The reason why a file of this text gives no script, the line of the file that it is about, and what to write in its
+/// place; and that it is left out, where it is.
+fn reason_lines(alloc: Global, path: &str, text: &[u8], fault: &FileFault, skips: bool) -> Vec<u8> {
+    let mut more = Vec::new(alloc);
     let _ = match behind_end(text, fault) {
         Some((number, behind)) => writeln!(
             more,
@@ -114,6 +138,7 @@ fn tell_reason<E: Write>(path: &str, text: &[u8], fault: &FileFault, skips: bool
     if skips {
         let _ = writeln!(more, "{path}: left out");
     }
+    more
 }
 
 /// The word in front of the path of a file that gives no script.
@@ -127,53 +152,54 @@ fn word_of(fault: &FileFault) -> &'static str
 }
 
 /// Tells why a file of this text gives no script: a line that is always the same, and the reason.
-fn tell_refusal<E: Write>(
+fn add_refusal(
     alloc: Global,
     path: &str,
     text: &[u8],
     fault: &FileFault,
     skips: bool,
-    err: &mut E,
-)
-    ensures { file_status fault.now ≡ 1
-        → TellsWhy (codes "bad header: ") path.now (E.contents err.old) (E.contents err.new) }
+    report: &mut Vec<u8>,
+) -> Result<(), Memory>
+    ensures { OnOk result (file_status fault.now ≡ 1
+        → TellsWhy (codes "bad header: ") path.now report.old.items report.new.items) }
 {
     if let FileFault::Memory = fault {
-        return;
+        return Ok(());
     }
-    let mut more = Vec::new(alloc);
-    tell_reason(path, text, fault, skips, &mut more);
-    tell_why(word_of(fault), path, more.as_slice(), err);
+    let more = reason_lines(alloc, path, text, fault, skips);
+    add_why(report, word_of(fault), path, more.as_slice())
 }
 
 /// Reads the script of a path. What is odd in the lines of its header is told, and why it gives none.
-pub(crate) fn script_of<T: Texts, E: Write>(
+pub(crate) fn script_of<T: Texts>(
     texts: &T,
     alloc: Global,
     path: &str,
     skips: bool,
-    err: &mut E,
+    report: &mut Vec<u8>,
 ) -> Result<Script, FileFault>
     ensures script { IfOk result (IsScriptAt (T.text_at texts.now) path.now) }
-    ensures fault { IfErr result (IsNoScriptAt (T.text_at texts.now) path.now) }
-    ensures warned { IfOk result (λ _. Warns (E.contents err.old) (E.contents err.new)) }
+    ensures fault { IfErr result (IsNotRead (T.text_at texts.now) path.now) }
+    ensures warned { OnOk result (Warns report.old.items report.new.items) }
     ensures told { IfErr result (λ fault. file_status fault ≡ 1
-        → ReportsWhy (codes "bad header: ") path.now (E.contents err.old) (E.contents err.new)) }
+        → ReportsWhy (codes "bad header: ") path.now report.old.items report.new.items) }
 {
     match texts.read_file(alloc, path) {
         Ok(text) => {
-            warn_of_lines(alloc, path, text.as_slice(), err);
+            let odd = odd_lines(alloc, path, text.as_slice());
+            add_warnings(report, odd.as_slice())?;
             match script_in(alloc, last_part(path), text.as_slice()) {
                 Ok(script) => Ok(script),
                 Err(fault) => {
-                    tell_refusal(alloc, path, text.as_slice(), &fault, skips, err);
+                    add_refusal(alloc, path, text.as_slice(), &fault, skips, report)?;
                     Err(fault)
                 }
             }
         }
+        Err(error) if error.kind() == ErrorKind::OutOfMemory => Err(FileFault::Memory),
         Err(error) => {
             let fault = FileFault::Unread(error);
-            tell_refusal(alloc, path, &[], &fault, skips, err);
+            add_refusal(alloc, path, &[], &fault, skips, report)?;
             Err(fault)
         }
     }

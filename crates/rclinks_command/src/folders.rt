@@ -1,6 +1,7 @@
 //! The folders of the runlevels, where their links are listed and changed.
 
-ghost use Rattle.std.specs.Prelude.{◌≡◌, IfOk, IfSome, OnOk, OnErr, string_bytes};
+ghost use Rattle.std.specs.Prelude.{◌≡◌, ◌++◌, ◌∷◌, [], List, Option, IfOk, IfSome, OnOk, OnErr, codes, string_bytes};
+ghost use Rattle.rclinks_command.specs.Asked.{Asks, LinkCall, MakeFolder, MakeLink, RemoveFile, calls_for, folder_path};
 ghost use Rattle.rclinks_command.specs.Folders.{Becomes, KnownFolders, KnownScripts, Stays, changed_in};
 
 use init_words::Level;
@@ -41,8 +42,62 @@ pub trait LinkFolders {
         ensures refused { OnErr result (Stays (held self.old) (held self.new)) };
 }
 
-/// The folders of the operating system. Nothing is known of what they hold.
-impl<R: Files + Alloc + Clone + Drop> LinkFolders for R {
+/// What asks the system for the changes of its files, each by one call.
+///
+/// A contract sees of it what was asked.
+pub trait LinkCalls {
+    /// What was asked, the newest first; None where that isn't told.
+    ghost asked: { Self → Option (List LinkCall) };
+
+    /// Takes the file at a path away.
+    fn remove(&mut self, path: &str) -> io::Result<()>
+        ensures { Asks (asked self.old) (asked self.new) (RemoveFile path.now ∷ []) };
+
+    /// Makes a folder at a path.
+    fn make_folder(&mut self, path: &str) -> io::Result<()>
+        ensures { Asks (asked self.old) (asked self.new) (MakeFolder path.now ∷ []) };
+
+    /// Makes a symbolic link at a path, which leads to a place.
+    fn make_link(&mut self, place: &str, path: &str) -> io::Result<()>
+        ensures { Asks (asked self.old) (asked self.new) (MakeLink place.now path.now ∷ []) };
+}
+
+/// The operating system, which tells nothing of what was asked.
+impl<R: Files> LinkCalls for R {
+    ghost use Rattle.std.specs.Prelude.{None};
+
+    ghost asked = { λ _. None };
+
+    fn remove(&mut self, path: &str) -> io::Result<()> {
+        fs::remove_file(self, path)
+    }
+
+    fn make_folder(&mut self, path: &str) -> io::Result<()> {
+        fs::create_dir(self, path)
+    }
+
+    fn make_link(&mut self, place: &str, path: &str) -> io::Result<()> {
+        symlink(self, place, path)
+    }
+}
+
+/// The folders of the operating system, and what asks it for their changes. Nothing is known of what they hold.
+#[derive(Drop)]
+pub struct SystemFolders<R, C> {
+    rt: R,
+    calls: C,
+}
+
+impl<R: Files + Alloc + Clone + Drop, C: LinkCalls> SystemFolders<R, C> {
+    /// The folders that are read by the one, and changed by the other.
+    pub fn new(rt: R, calls: C) -> SystemFolders<R, C>
+        ensures { result.calls ≡ calls }
+    {
+        SystemFolders { rt, calls }
+    }
+}
+
+impl<R: Files + Alloc + Clone + Drop, C: LinkCalls> LinkFolders for SystemFolders<R, C> {
     ghost use Rattle.std.specs.Prelude.{None};
 
     ghost held = { λ _ _ _. None };
@@ -51,27 +106,32 @@ impl<R: Files + Alloc + Clone + Drop> LinkFolders for R {
 
     fn entries(&self, alloc: Global, dir: &str, level: Level) -> io::Result<Vec<FolderEntry>> {
         let path = folder_path(alloc, dir, level)?;
-        if is_absent(self, path.as_str()) {
-            fs::metadata(self, dir)?;
+        if is_absent(&self.rt, path.as_str()) {
+            fs::metadata(&self.rt, dir)?;
             return Ok(Vec::new(alloc));
         }
-        entries_at(self, alloc, path.as_str())
+        entries_at(&self.rt, alloc, path.as_str())
     }
 
     fn scripts(&self, alloc: Global, dir: &str) -> io::Result<Vec<FolderEntry>> {
         let path = format!(in alloc; "{dir}/init.d")?;
-        entries_at(self, alloc, path.as_str())
+        entries_at(&self.rt, alloc, path.as_str())
     }
 
-    fn change(&mut self, alloc: Global, dir: &str, change: &LinkChange) -> io::Result<()> {
+    /// It asks for what the change takes, in order, and for nothing else.
+    fn change(&mut self, alloc: Global, dir: &str, change: &LinkChange) -> io::Result<()>
+        ensures { OnOk result (Asks (C.asked self.old.calls) (C.asked self.new.calls)
+            (calls_for dir.now change.now)) }
+    {
         let folder = folder_path(alloc, dir, change.level())?;
         let name = text_of(change.entry().name())?;
-        let path = format!(in alloc; "{folder}/{name}")?;
+        let path = path_in(alloc, folder.as_str(), name)?;
         match change.act() {
-            LinkAction::Remove => fs::remove_file(self, path.as_str()),
+            LinkAction::Remove => self.calls.remove(path.as_str()),
             LinkAction::Make => {
-                make_folder(self, folder.as_str())?;
-                symlink(self, text_of(change.entry().leads())?, path.as_str())
+                make_missing(&mut self.calls, folder.as_str())?;
+                let place = text_of(change.entry().leads())?;
+                self.calls.make_link(place, path.as_str())
             }
         }
     }
@@ -91,13 +151,24 @@ fn entries_at<R: Files + Alloc + Clone + Drop>(
 }
 
 /// The path of a runlevel's folder.
-fn folder_path(alloc: Global, dir: &str, level: Level) -> Result<String, AllocError> {
+fn folder_path(alloc: Global, dir: &str, level: Level) -> Result<String, AllocError>
+    ensures { IfOk result (λ path. string_bytes path ≡ folder_path dir.now level) }
+{
     let code = char::from(level.code());
     format!(in alloc; "{dir}/rc{code}.d")
 }
 
+/// The path of a name in a folder.
+fn path_in(alloc: Global, folder: &str, name: &str) -> Result<String, AllocError>
+    ensures { IfOk result (λ path. string_bytes path ≡ folder.now ++ (codes "/" ++ name.now)) }
+{
+    format!(in alloc; "{folder}/{name}")
+}
+
 /// A name or a place as text.
-fn text_of(bytes: &[u8]) -> io::Result<&str> {
+fn text_of(bytes: &[u8]) -> io::Result<&str>
+    ensures { IfOk result (λ text. text.now ≡ bytes.now) }
+{
     match std::str::from_utf8(bytes) {
         Ok(text) => Ok(text),
         Err(_) => Err(io::Error::from(ErrorKind::InvalidFilename)),
@@ -113,8 +184,10 @@ fn is_absent<R: Files>(rt: &R, path: &str) -> bool {
 }
 
 /// Makes a folder where there is none.
-fn make_folder<R: Files>(rt: &R, path: &str) -> io::Result<()> {
-    match fs::create_dir(rt, path) {
+fn make_missing<C: LinkCalls>(calls: &mut C, folder: &str) -> io::Result<()>
+    ensures { Asks (C.asked calls.old) (C.asked calls.new) (MakeFolder folder.now ∷ []) }
+{
+    match calls.make_folder(folder) {
         Err(error) if error.kind() != ErrorKind::AlreadyExists => Err(error),
         _ => Ok(()),
     }

@@ -2,19 +2,21 @@
 //! runlevels' folders by the least numbers that their headers allow (LSB Core 5.0).
 #![tactic(auto)]
 
+mod answer;
 mod command;
 mod facilities;
 mod faulty;
 mod files;
 mod folders;
-mod lines;
+mod line;
 mod planned;
 mod reading;
 mod remarks;
+mod report;
 mod skipping;
 mod telling;
 mod writing;
 
 pub use command::{SHORT_USAGE, USAGE, run_words};
 pub use files::{FileFault, script_in};
-pub use folders::LinkFolders;
+pub use folders::{LinkCalls, LinkFolders, SystemFolders};

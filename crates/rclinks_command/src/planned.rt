@@ -4,11 +4,13 @@ ghost use Rattle.std.specs.Prelude.{◌≡◌, ◌++◌, true, flat_map, IfOk, O
 ghost use Rattle.std.specs.List.{list_any};
 ghost use Rattle.rc_links.specs.Changes.{targets_of, is_taken};
 ghost use Rattle.rc_links.specs.Kept.{is_gone};
+ghost use Rattle.rclinks_command.specs.Refusals.{refusal_status};
 ghost use Rattle.rclinks_command.specs.Writing.{AreFolders, AreTargets, InFolders, IsFolder, all_levels, gone_at, has_taken, link_entry, planned_at, target_of, targets_in};
 
 use crate::folders::LinkFolders;
+use crate::report::Refusal;
 use init_words::{Level, Memory};
-use program_io::{DEVICE_FAULT, Reason, report_no_memory};
+use program_io::Reason;
 use rc_links::{Folder, FolderEntry, LEVELS, Plan, is_gone, is_taken, linked_name};
 use std::alloc::Global;
 use std::io;
@@ -31,22 +33,26 @@ impl From<Memory> for FoldersFault {
     }
 }
 
-/// Reports such a fault, and gives the exit status.
-pub(crate) fn report_unlisted<E: Write>(dir: &str, fault: &FoldersFault, err: &mut E) -> u8
-    ensures { result ≡ DEVICE_FAULT }
+/// Tells such a fault, but for lack of memory, and gives the refusal.
+pub(crate) fn refuse_unlisted(dir: &str, fault: &FoldersFault, report: &mut Vec<u8>) -> Refusal
+    ensures { refusal_status result ≡ 4 }
 {
     let (level, error) = match fault {
-        FoldersFault::Memory => return report_no_memory("rclinks", err),
+        FoldersFault::Memory => return Refusal::Memory,
         FoldersFault::Scripts(error) => (None, error),
         FoldersFault::Level(level, error) => (Some(*level), error),
     };
-    let _ = write!(err, "rclinks: {dir}/");
+    let _ = write!(report, "rclinks: {dir}/");
     let _ = match level {
-        Some(level) => write!(err, "rc{}.d", char::from(level.code())),
-        None => write!(err, "init.d"),
+        Some(level) => write!(report, "rc{}.d", char::from(level.code())),
+        None => write!(report, "init.d"),
     };
-    let _ = writeln!(err, ": cannot list: {}; nothing was changed", Reason(error));
-    DEVICE_FAULT
+    let _ = writeln!(
+        report,
+        ": cannot list: {}; nothing was changed",
+        Reason(error)
+    );
+    Refusal::Failed
 }
 
 /// Where the link of a script leads.
@@ -208,7 +214,7 @@ pub(crate) fn targets_for<F: LinkFolders>(
 }
 
 /// Tells the entries of a folder by which a name of the plan is taken, and whether there is one.
-fn tell_taken_at<E: Write>(dir: &str, targets: &[Vec<u8>], folder: &Folder, err: &mut E) -> bool
+fn tell_taken_at(dir: &str, targets: &[Vec<u8>], folder: &Folder, report: &mut Vec<u8>) -> bool
     ensures { result ≡ list_any (is_taken (targets_of targets.now) folder.now.planned)
         folder.now.held }
 {
@@ -218,7 +224,7 @@ fn tell_taken_at<E: Write>(dir: &str, targets: &[Vec<u8>], folder: &Folder, err:
             let code = char::from(folder.level().code());
             let name = std::str::from_utf8(entry.name()).unwrap_or("?");
             let _ = writeln!(
-                err,
+                report,
                 "rclinks: {dir}/rc{code}.d/{name}: it is no link to a planned script, and the plan needs the name: move it away; nothing was changed"
             );
             found = true;
@@ -228,17 +234,17 @@ fn tell_taken_at<E: Write>(dir: &str, targets: &[Vec<u8>], folder: &Folder, err:
 }
 
 /// Tells the entries by which a name of the plan is taken, and whether there is one.
-pub(crate) fn tell_taken<E: Write>(
+pub(crate) fn tell_taken(
     dir: &str,
     targets: &[Vec<u8>],
     folders: &[Folder],
-    err: &mut E,
+    report: &mut Vec<u8>,
 ) -> bool
     ensures { result ≡ has_taken (targets_of targets.now) folders.now }
 {
     let mut found = false;
     for folder in folders {
-        if tell_taken_at(dir, targets, folder, err) {
+        if tell_taken_at(dir, targets, folder, report) {
             found = true;
         }
     }

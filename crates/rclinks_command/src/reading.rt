@@ -1,38 +1,60 @@
 //! All files of a command line, read; what can't be read is told.
 
 ghost use Rattle.std.specs.Prelude.{◌≡◌, ◌&&◌, [], false, not, map, IfOk, OnOk};
+ghost use Rattle.rclinks_command.specs.Command.{goes_on};
 ghost use Rattle.rclinks_command.specs.Reading.{ReadsOne, ReadsTo, has_faults};
 ghost use Rattle.rclinks_command.specs.Reports.{TellsFiles, TellsOne};
+ghost use Rattle.rclinks_command.specs.Said.{line_said};
 
 use crate::files::{FileFault, script_of};
-use crate::remarks::warn_of_header;
+use crate::line::Line;
+use crate::remarks::odd_header;
+use crate::report::add_warnings;
 use init_words::Memory;
 use program_io::Texts;
 use rc_links::Script;
 use std::alloc::Global;
-use std::io::Write;
+
+/// The scripts that files gave, and what is told of the files and the scripts.
+#[derive(Drop)]
+pub(crate) struct Reading<'w> {
+    /// The scripts, but for those that are left out.
+    pub(crate) scripts: Vec<Script>,
+    /// The path of each script.
+    pub(crate) paths: Vec<&'w str>,
+    /// The scripts that are left out, since there is no plan with them.
+    pub(crate) outs: Vec<Script>,
+    /// What is told.
+    pub(crate) report: Vec<u8>,
+}
+
+impl<'w> Reading<'w> {
+    /// The path of the script at a place.
+    pub(crate) fn path_at(&self, place: usize) -> &'w str {
+        self.paths.as_slice().get(place).copied().unwrap_or("")
+    }
+}
 
 /// Reads the script of a path; a file that gives none is told.
-fn read_one<'w, T: Texts, E: Write>(
+fn read_one<'w, T: Texts>(
     texts: &T,
     alloc: Global,
     path: &'w str,
     skips: bool,
-    scripts: &mut Vec<Script>,
-    paths: &mut Vec<&'w str>,
+    reading: &mut Reading<'w>,
     faults: &mut Vec<FileFault>,
-    err: &mut E,
 ) -> Result<(), Memory>
-    ensures read { OnOk result (ReadsOne (T.text_at texts.now) path.now scripts.old.items
-        scripts.new.items faults.old.items faults.new.items) }
+    ensures read { OnOk result (ReadsOne (T.text_at texts.now) path.now reading.old.scripts.items
+        reading.new.scripts.items faults.old.items faults.new.items) }
     ensures told { OnOk result (TellsOne (T.text_at texts.now) path.now faults.old.items
-        faults.new.items (E.contents err.old) (E.contents err.new)) }
+        faults.new.items reading.old.report.items reading.new.report.items) }
 {
-    match script_of(texts, alloc, path, skips, err) {
+    match script_of(texts, alloc, path, skips, &mut reading.report) {
         Ok(script) => {
-            warn_of_header(alloc, path, script.header(), err);
-            scripts.push(script)?;
-            paths.push(path)?;
+            let odd = odd_header(alloc, path, script.header());
+            add_warnings(&mut reading.report, odd.as_slice())?;
+            reading.scripts.push(script)?;
+            reading.paths.push(path)?;
         }
         Err(FileFault::Memory) => return Err(Memory),
         Err(fault) => faults.push(fault)?,
@@ -47,27 +69,26 @@ fn is_over(goes_on: bool, faults: &[FileFault]) -> bool
     !goes_on && matches!(faults, [_, ..])
 }
 
-/// Reads the scripts of the paths, in order, and gives the faults of the files that give none, which are told. Where it
-/// doesn't go on, the first fault is the last that is read.
-pub(crate) fn read_files<'w, T: Texts, E: Write>(
+/// Reads the scripts of a line's files, in order, and gives the faults of the files that give none, which are told.
+/// Where it doesn't go on, nothing is read behind the first.
+pub(crate) fn read_files<'w, T: Texts>(
     texts: &T,
     alloc: Global,
-    files: &[&'w str],
-    skips: bool,
-    goes_on: bool,
-    scripts: &mut Vec<Script>,
-    paths: &mut Vec<&'w str>,
-    err: &mut E,
+    line: &Line<'_, 'w>,
+    reading: &mut Reading<'w>,
 ) -> Result<Vec<FileFault>, Memory>
-    requires { scripts.old.items ≡ [] }
-    ensures read { IfOk result (λ faults. ReadsTo goes_on (T.text_at texts.now)
-        (map (λ file. file.now) files.now) scripts.new.items faults.items) }
-    ensures told { IfOk result (λ faults. goes_on ≡ false → TellsFiles (T.text_at texts.now)
-        (map (λ file. file.now) files.now) faults.items (E.contents err.old) (E.contents err.new)) }
+    requires { reading.old.scripts.items ≡ [] }
+    ensures read { IfOk result (λ faults. ReadsTo (goes_on (line_said line.now))
+        (T.text_at texts.now) (map (λ file. file.now) line.now.files.now)
+        reading.new.scripts.items faults.items) }
+    ensures told { IfOk result (λ faults. goes_on (line_said line.now) ≡ false
+        → TellsFiles (T.text_at texts.now) (map (λ file. file.now) line.now.files.now)
+        faults.items reading.old.report.items reading.new.report.items) }
 {
     let mut faults = Vec::new(alloc);
-    for path in files {
-        read_one(texts, alloc, path, skips, scripts, paths, &mut faults, err)?;
+    let goes_on = line.goes_on();
+    for path in line.files {
+        read_one(texts, alloc, path, line.skips, reading, &mut faults)?;
         let over = is_over(goes_on, faults.as_slice());
         if over {
             return Ok(faults);

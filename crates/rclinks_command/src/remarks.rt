@@ -1,9 +1,6 @@
 //! Warnings: what stands in a header and counts for nothing. Each is a line without the words in front of it.
 
-ghost use Rattle.rclinks_command.specs.Reports.{Warns};
-
 use crate::files::FileFault;
-use crate::lines::tell_lines;
 use init_words::Level;
 use rc_header::{Header, HeaderFault, Keyword, block_line, find_header, known_of};
 use std::alloc::Global;
@@ -11,29 +8,23 @@ use std::io::Write;
 use std::str;
 use text_lines::next_word;
 
-/// Warns of what is odd in the lines of a file's header, whether or not it can be read.
-pub(crate) fn warn_of_lines<E: Write>(alloc: Global, path: &str, text: &[u8], err: &mut E)
-    ensures { Warns (E.contents err.old) (E.contents err.new) }
-{
+/// What is odd in the lines of a file's header, whether or not it can be read.
+pub(crate) fn odd_lines(alloc: Global, path: &str, text: &[u8]) -> Vec<u8> {
     let mut odd = Vec::new(alloc);
-    tell_odd_lines(path, text, &mut odd);
-    tell_lines("warning: ", odd.as_slice(), err);
-}
-
-fn tell_odd_lines<E: Write>(path: &str, text: &[u8], odd: &mut E) {
     let Some((begin, body)) = find_header(text) else {
-        return;
+        return odd;
     };
     let mut number = begin;
     let mut rest = body;
     while let Some((line, more)) = block_line(rest) {
         number = number.saturating_add(1);
-        tell_odd_line(path, number, line, odd);
+        tell_odd_line(path, number, line, &mut odd);
         rest = more;
     }
+    odd
 }
 
-/// What stands behind the words of the line by which a header that has this fault would end, and the number of that line.
+/// What stands behind the words of the line by which a header that has this fault would end, and that line's number.
 pub(crate) fn behind_end<'t>(text: &'t [u8], fault: &FileFault) -> Option<(usize, &'t str)> {
     let last = match fault {
         FileFault::Header(HeaderFault::NoEnd, _) => usize::MAX,
@@ -56,7 +47,7 @@ pub(crate) fn behind_end<'t>(text: &'t [u8], fault: &FileFault) -> Option<(usize
 }
 
 /// Tells what is odd in a line of a header.
-fn tell_odd_line<E: Write>(path: &str, number: usize, line: &[u8], odd: &mut E) {
+fn tell_odd_line(path: &str, number: usize, line: &[u8], odd: &mut Vec<u8>) {
     if let [b'#', b'\t', ..] = line {
         let _ = writeln!(
             odd,
@@ -72,7 +63,7 @@ fn tell_odd_line<E: Write>(path: &str, number: usize, line: &[u8], odd: &mut E) 
 }
 
 /// Tells the words that are no runlevels of the system.
-fn tell_odd_levels<E: Write>(path: &str, number: usize, levels: &[u8], odd: &mut E) {
+fn tell_odd_levels(path: &str, number: usize, levels: &[u8], odd: &mut Vec<u8>) {
     let mut rest = levels;
     while let Some((word, more)) = next_word(rest) {
         if let Some(reason) = odd_level(word) {
@@ -92,16 +83,9 @@ fn odd_level(word: &[u8]) -> Option<&'static str> {
     }
 }
 
-/// Warns of the runlevels that stand in both lists of a header that was read.
-pub(crate) fn warn_of_header<E: Write>(alloc: Global, path: &str, header: &Header, err: &mut E)
-    ensures { Warns (E.contents err.old) (E.contents err.new) }
-{
+/// The runlevels that stand in both lists of a header that was read.
+pub(crate) fn odd_header(alloc: Global, path: &str, header: &Header) -> Vec<u8> {
     let mut odd = Vec::new(alloc);
-    tell_odd_header(path, header, &mut odd);
-    tell_lines("warning: ", odd.as_slice(), err);
-}
-
-fn tell_odd_header<E: Write>(path: &str, header: &Header, odd: &mut E) {
     for level in header.default_start() {
         if header.default_stop().contains(level) {
             let code = char::from(level.code());
@@ -111,4 +95,5 @@ fn tell_odd_header<E: Write>(path: &str, header: &Header, odd: &mut E) {
             );
         }
     }
+    odd
 }

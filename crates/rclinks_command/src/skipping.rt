@@ -1,110 +1,111 @@
 //! The plan of what is left where faulty scripts are left out.
 
-ghost use Rattle.std.specs.Prelude.{◌≡◌, ◌⊎◌, ◌<◌, ◌+◌, ◌++◌, [], IfOk, IfErr, length, take, drop};
+ghost use Rattle.std.specs.Prelude.{◌≡◌, ◌<◌, ◌+◌, ◌++◌, [], IfOk, IfErr, OnOk, length, take, drop};
 ghost use Rattle.rc_links.specs.FaultTexts.{fault_text};
-ghost use Rattle.rc_links.specs.Plans.{IsPlan, IsRefused};
-ghost use Rattle.rclinks_command.specs.Command.{plan_status};
+ghost use Rattle.rc_links.specs.Plans.{IsPlan};
+ghost use Rattle.rclinks_command.specs.Command.{HasNoPlan, plan_status};
+ghost use Rattle.rclinks_command.specs.Refusals.{refusal_status};
 ghost use Rattle.rclinks_command.specs.Reports.{TellsWhy};
 ghost use Rattle.rclinks_command.specs.Skipping.{LeavesSome};
 
-use crate::faulty::place_of;
-use crate::lines::{tell_lines, tell_why};
-use crate::telling::{tell_fault, tell_last, tell_who};
+use crate::faulty::{is_provided, place_of};
+use crate::reading::Reading;
+use crate::report::{Refusal, add_lines, add_why};
+use crate::telling::{last_lines, who_lines};
 use init_words::Memory;
-use program_io::{DEVICE_FAULT, REFUSED, report_no_memory};
-use rc_links::{Plan, PlanFault, Script, plan};
+use program_io::REFUSED;
+use rc_links::{Plan, PlanFault, plan};
 use std::alloc::Global;
 use std::io::Write;
 
-/// The exit status of a fault of the plan.
-pub(crate) fn status_of(fault: &PlanFault) -> u8
-    ensures { result ≡ plan_status fault.now }
+/// The refusal of a run for a fault of the plan.
+pub(crate) fn refusal_of(fault: &PlanFault) -> Refusal
+    ensures { refusal_status result ≡ plan_status fault.now }
 {
     match fault {
-        PlanFault::Memory => DEVICE_FAULT,
-        _ => REFUSED,
+        PlanFault::Memory => Refusal::Failed,
+        _ => Refusal::Refused,
     }
 }
 
-/// Reports a fault of scripts that have no plan, and who is at fault, and gives the exit status.
-pub(crate) fn report_first<E: Write>(
+/// Tells a fault of scripts that have no plan, and who is at fault.
+pub(crate) fn add_first(
     alloc: Global,
     fault: &PlanFault,
-    scripts: &[Script],
-    paths: &[&str],
-    err: &mut E,
-) -> u8
-    ensures status { (result ≡ DEVICE_FAULT) ⊎ (result ≡ plan_status fault.now) }
-    ensures told { result ≡ REFUSED
-        → TellsWhy [] (fault_text fault.now) (E.contents err.old) (E.contents err.new) }
+    reading: &mut Reading,
+) -> Result<(), Memory>
+    ensures { OnOk result (TellsWhy [] (fault_text fault.now) reading.old.report.items
+        reading.new.report.items) }
 {
-    let Ok(why) = format!(in alloc; "{fault}") else {
-        return report_no_memory("rclinks", err);
+    let why = format!(in alloc; "{fault}")?;
+    let more = match place_of(reading.scripts.as_slice(), fault) {
+        Some(place) => who_lines(alloc, fault, reading, place, true),
+        None => last_lines(alloc, fault),
     };
-    let mut more = Vec::new(alloc);
-    match place_of(scripts, fault) {
-        Some(place) => tell_who(fault, scripts, paths, place, &[], true, &mut more),
-        None => tell_last(fault, &mut more),
+    add_why(&mut reading.report, "", why.as_str(), more.as_slice())
+}
+
+/// Tells a fault of scripts that have no plan, and who is at fault with whom: the script at the place. Of what names a
+/// script that is left out nothing is told but where that is asked for.
+fn tell_fault(
+    alloc: Global,
+    fault: &PlanFault,
+    place: usize,
+    skips: bool,
+    reading: &mut Reading,
+) -> Result<(), Memory>
+    ensures { reading.new.scripts ≡ reading.old.scripts }
+{
+    if let PlanFault::Missing(name) = fault
+        && !skips
+        && is_provided(reading.outs.as_slice(), name.as_str())
+    {
+        return Ok(());
     }
-    tell_why("", why.as_str(), more.as_slice(), err);
-    status_of(fault)
+    let more = who_lines(alloc, fault, reading, place, false);
+    let path = reading.path_at(place);
+    let _ = writeln!(reading.report, "rclinks: {fault}");
+    add_lines(&mut reading.report, "", more.as_slice())?;
+    if skips {
+        let _ = writeln!(reading.report, "rclinks: {path}: left out");
+    }
+    Ok(())
 }
 
 /// Takes a script out, with its path, and keeps it among those that are left out.
-fn leave_out<'w>(
-    scripts: &mut Vec<Script>,
-    paths: &mut Vec<&'w str>,
-    place: usize,
-    outs: &mut Vec<Script>,
-) -> Result<(), Memory>
-    requires { place < length scripts.old.items }
-    ensures { scripts.new.items
-        ≡ take place scripts.old.items ++ drop (place + 1) scripts.old.items }
+fn leave_out(reading: &mut Reading, place: usize) -> Result<(), Memory>
+    requires { place < length reading.old.scripts.items }
+    ensures { reading.new.scripts.items
+        ≡ take place reading.old.scripts.items ++ drop (place + 1) reading.old.scripts.items }
 {
-    if place < paths.len() {
-        paths.remove(place);
+    if place < reading.paths.len() {
+        reading.paths.remove(place);
     }
-    let script = scripts.remove(place);
-    outs.push(script)?;
+    let script = reading.scripts.remove(place);
+    reading.outs.push(script)?;
     Ok(())
 }
 
 /// Plans the scripts; where they have no plan, a script at fault is left out and told, and so on until the others have
 /// one. Where none is at fault they have none.
-pub(crate) fn plan_rest<'w, E: Write>(
-    alloc: Global,
-    scripts: &mut Vec<Script>,
-    paths: &mut Vec<&'w str>,
-    skips: bool,
-    err: &mut E,
-) -> Result<Plan, PlanFault>
-    ensures planned { IfOk result (IsPlan scripts.new.items) }
-    ensures refused { IfErr result (IsRefused scripts.new.items) }
-    ensures left { LeavesSome scripts.old.items scripts.new.items }
+pub(crate) fn plan_rest(alloc: Global, skips: bool, reading: &mut Reading) -> Result<Plan, Refusal>
+    ensures planned { IfOk result (IsPlan reading.new.scripts.items) }
+    ensures refused { IfErr result (λ refusal. refusal_status refusal ≡ REFUSED
+        → HasNoPlan reading.new.scripts.items) }
+    ensures left { LeavesSome reading.old.scripts.items reading.new.scripts.items }
 {
-    let mut outs = Vec::new(alloc);
     loop {
-        let fault = match plan(alloc, scripts.as_slice()) {
+        let fault = match plan(alloc, reading.scripts.as_slice()) {
             Ok(plan) => return Ok(plan),
             Err(fault) => fault,
         };
-        let Some(place) = place_of(scripts.as_slice(), &fault) else {
-            let _ = writeln!(err, "rclinks: {fault}");
-            let mut more = Vec::new(alloc);
-            tell_last(&fault, &mut more);
-            tell_lines("", more.as_slice(), err);
-            return Err(fault);
+        let Some(place) = place_of(reading.scripts.as_slice(), &fault) else {
+            let _ = writeln!(reading.report, "rclinks: {fault}");
+            let more = last_lines(alloc, &fault);
+            add_lines(&mut reading.report, "", more.as_slice())?;
+            return Err(refusal_of(&fault));
         };
-        tell_fault(
-            alloc,
-            &fault,
-            scripts.as_slice(),
-            paths.as_slice(),
-            place,
-            outs.as_slice(),
-            skips,
-            err,
-        );
-        leave_out(scripts, paths, place, &mut outs)?;
+        tell_fault(alloc, &fault, place, skips, reading)?;
+        leave_out(reading, place)?;
     }
 }

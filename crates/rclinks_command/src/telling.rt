@@ -1,9 +1,7 @@
 //! Who needs what: the faults of a plan, told with names and paths.
 
-ghost use Rattle.rclinks_command.specs.Reports.{Warns};
-
 use crate::faulty::is_provided;
-use crate::lines::tell_lines;
+use crate::reading::Reading;
 use rc_header::Header;
 use rc_links::{PlanFault, Script, has_name};
 use std::alloc::Global;
@@ -12,89 +10,53 @@ use std::io::Write;
 /// A keyword, and the name after it by which a script needs another.
 type Naming<'s> = (&'static str, &'s str);
 
-/// The path of the file at a place.
-fn path_at<'w>(paths: &[&'w str], place: usize) -> &'w str {
-    paths.get(place).copied().unwrap_or("")
-}
-
-/// Tells a fault of scripts that have no plan, and who is at fault with whom: the script at the place. `outs` are the
-/// scripts that are left out; of what names them nothing is told but where that is asked for.
-pub(crate) fn tell_fault<E: Write>(
+/// What is told of a fault of scripts that have no plan, behind the line that says it: who is at fault with whom, the
+/// script at the place; of the names that it misses the first alone, or all.
+pub(crate) fn who_lines(
     alloc: Global,
     fault: &PlanFault,
-    scripts: &[Script],
-    paths: &[&str],
+    reading: &Reading,
     place: usize,
-    outs: &[Script],
-    skips: bool,
-    err: &mut E,
-) {
-    if let PlanFault::Missing(name) = fault
-        && !skips
-        && is_provided(outs, name.as_str())
-    {
-        return;
-    }
-    let _ = writeln!(err, "rclinks: {fault}");
-    let mut more = Vec::new(alloc);
-    tell_who(fault, scripts, paths, place, outs, false, &mut more);
-    tell_lines("", more.as_slice(), err);
-    if skips {
-        let path = path_at(paths, place);
-        let _ = writeln!(err, "rclinks: {path}: left out");
-    }
-}
-
-/// Tells who is at fault with whom: the script at the place; of the names that it misses the first alone, or all.
-pub(crate) fn tell_who<E: Write>(
-    fault: &PlanFault,
-    scripts: &[Script],
-    paths: &[&str],
-    place: usize,
-    outs: &[Script],
     first: bool,
-    more: &mut E,
-) {
-    let Some(script) = scripts.get(place) else {
-        return;
+) -> Vec<u8> {
+    let mut more = Vec::new(alloc);
+    let Some(script) = reading.scripts.as_slice().get(place) else {
+        return more;
     };
-    let path = path_at(paths, place);
     match fault {
-        PlanFault::DoubleProvide(name) => {
-            tell_double(name.as_str(), scripts, paths, place, path, more);
-        }
+        PlanFault::DoubleProvide(name) => tell_double(name.as_str(), reading, place, &mut more),
         PlanFault::Missing(name) => {
             let only = if first { Some(name.as_str()) } else { None };
-            tell_missing(script, path, only, scripts, outs, more);
+            tell_missing(script, reading.path_at(place), only, reading, &mut more);
         }
-        PlanFault::Cycle(names) => tell_cycle(names.as_slice(), scripts, more),
+        PlanFault::Cycle(names) => {
+            tell_cycle(names.as_slice(), reading.scripts.as_slice(), &mut more);
+        }
         PlanFault::TooDeep | PlanFault::Memory => {}
     }
+    more
 }
 
-/// Tells more of a fault of scripts for which none of them can be left out.
-pub(crate) fn tell_last<E: Write>(fault: &PlanFault, more: &mut E) {
+/// The same where none of the scripts can be left out.
+pub(crate) fn last_lines(alloc: Global, fault: &PlanFault) -> Vec<u8> {
+    let mut more = Vec::new(alloc);
     if let PlanFault::TooDeep = fault {
         let _ = writeln!(more, "more than 99 scripts need each the next");
     }
+    more
 }
 
 /// Tells the two files of a name that both provide, or have.
-fn tell_double<E: Write>(
-    name: &str,
-    scripts: &[Script],
-    paths: &[&str],
-    place: usize,
-    path: &str,
-    more: &mut E,
-) {
+fn tell_double(name: &str, reading: &Reading, place: usize, more: &mut Vec<u8>) {
+    let scripts = reading.scripts.as_slice();
+    let path = reading.path_at(place);
     let is_named = match scripts.get(place) {
         Some(script) => has_name(name, script.header().provides()),
         None => false,
     };
     for earlier in 0..place.min(scripts.len()) {
         let other = &scripts[earlier];
-        let first = path_at(paths, earlier);
+        let first = reading.path_at(earlier);
         if is_named && has_name(name, other.header().provides()) {
             let _ = writeln!(more, "{first} and {path} provide {name}");
             return;
@@ -107,13 +69,12 @@ fn tell_double<E: Write>(
 }
 
 /// Tells the names that a script requires and that no script provides, or only the one.
-fn tell_missing<E: Write>(
+fn tell_missing(
     script: &Script,
     path: &str,
     only: Option<&str>,
-    scripts: &[Script],
-    outs: &[Script],
-    more: &mut E,
+    reading: &Reading,
+    more: &mut Vec<u8>,
 ) {
     let header = script.header();
     for (keyword, names) in [
@@ -123,12 +84,12 @@ fn tell_missing<E: Write>(
         for name in names {
             let name = name.as_str();
             if name.starts_with('$')
-                || is_provided(scripts, name)
+                || is_provided(reading.scripts.as_slice(), name)
                 || only.is_some_and(|one| one != name)
             {
                 continue;
             }
-            let reason = if is_provided(outs, name) {
+            let reason = if is_provided(reading.outs.as_slice(), name) {
                 "which is left out"
             } else {
                 "which no file provides"
@@ -139,7 +100,7 @@ fn tell_missing<E: Write>(
 }
 
 /// Tells the way of a cycle, name by name.
-fn tell_cycle<E: Write>(names: &[String], scripts: &[Script], more: &mut E) {
+fn tell_cycle(names: &[String], scripts: &[Script], more: &mut Vec<u8>) {
     let starts = is_start_cycle(names, scripts);
     for at in 0..names.len() {
         let Some((from, to)) = step_of(names, scripts, at) else {
@@ -218,34 +179,24 @@ fn first_provided<'s>(
     Some((keyword, name.as_str()))
 }
 
-/// Warns of the names of the system that scripts name and none provides, of each once.
-pub(crate) fn warn_of_names<E: Write>(
-    alloc: Global,
-    scripts: &[Script],
-    paths: &[&str],
-    err: &mut E,
-)
-    ensures { Warns (E.contents err.old) (E.contents err.new) }
-{
+/// The names of the system that scripts name and none provides, each once.
+pub(crate) fn odd_names(alloc: Global, reading: &Reading) -> Vec<u8> {
     let mut odd = Vec::new(alloc);
-    tell_system_names(scripts, paths, &mut odd);
-    tell_lines("warning: ", odd.as_slice(), err);
-}
-
-fn tell_system_names<E: Write>(scripts: &[Script], paths: &[&str], odd: &mut E) {
+    let scripts = reading.scripts.as_slice();
     for place in 0..scripts.len() {
         let header = scripts[place].header();
-        let path = path_at(paths, place);
-        tell_system(header.required_start(), path, scripts, place, odd);
-        tell_system(header.should_start(), path, scripts, place, odd);
+        let path = reading.path_at(place);
+        tell_system(header.required_start(), path, scripts, place, &mut odd);
+        tell_system(header.should_start(), path, scripts, place, &mut odd);
         if !is_provided(scripts, "$all") {
-            tell_all(header, path, odd);
+            tell_all(header, path, &mut odd);
         }
     }
+    odd
 }
 
 /// Tells the keywords of a script that name `$all`.
-fn tell_all<E: Write>(header: &Header, path: &str, odd: &mut E) {
+fn tell_all(header: &Header, path: &str, odd: &mut Vec<u8>) {
     for (keyword, names) in [
         ("Required-Start", header.required_start()),
         ("Should-Start", header.should_start()),
@@ -262,13 +213,7 @@ fn tell_all<E: Write>(header: &Header, path: &str, odd: &mut E) {
 }
 
 /// Tells those of a script's names that are the system's, and that no script provides and none before it names.
-fn tell_system<E: Write>(
-    names: &[String],
-    path: &str,
-    scripts: &[Script],
-    place: usize,
-    odd: &mut E,
-) {
+fn tell_system(names: &[String], path: &str, scripts: &[Script], place: usize, odd: &mut Vec<u8>) {
     for name in names {
         let name = name.as_str();
         if name.starts_with('$')

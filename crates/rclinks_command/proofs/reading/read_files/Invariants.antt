@@ -4,6 +4,7 @@ use Rattle.rclinks_command.proofs.reading.read_files.Given as goal
 -- the paths up to here are read; where a fault ends it, there is none
 abbrev pub invariant-loop-path : goal.invariant-loop-path
 invariant-loop-path g l = record {
-  read : Reads (g.T.Texts.text_at l.texts) (map (λ file. file.now) (take l.path-index l.files)) l.scripts.items l.faults.items;
-  told : l.goes_on ≡ false → (l.faults.items ≡ []) × Warns (g.E.Write.contents l.fn.err) (g.E.Write.contents l.err);
+  read : Reads (g.T.Texts.text_at l.texts)
+      (map (λ file. file.now) (take l.path-index l.line.files.now)) l.reading.scripts.items l.faults.items;
+  told : l.goes_on ≡ false → (l.faults.items ≡ []) × Warns l.fn.reading.report.items l.reading.report.items;
 }

@@ -4,4 +4,4 @@ use Rattle.rclinks_command.proofs.reading.read_one.Goals as goal
 
 pub returns-in_ok-push-in-Ok-2-clause-told : goal.returns-in_ok-push-in-Ok-2-clause-told
 returns-in_ok-push-in-Ok-2-clause-told g c =
-    inl (refl, tells-then (codes "warning: ") _ _ _ c.in-Ok.ensures.warned c.warn_of_header.ensures)
+    inl (refl, tells-then (codes "warning: ") _ _ _ c.in-Ok.ensures.warned c.in_ok-add_warnings-in-Ok.ensures)

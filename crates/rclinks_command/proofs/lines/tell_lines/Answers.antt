@@ -1,8 +1,0 @@
-use Rattle.rclinks_command.proofs.ReportLemmas.{tells_more, tells_none}
-use Rattle.rclinks_command.proofs.lines.tell_lines.Goals as goal
-
-pub loop-line-init : goal.loop-line-init
-loop-line-init g c = tells_none _ _
-
-pub loop-line-preserved : goal.loop-line-preserved
-loop-line-preserved g c = tells_more _ _ _ _ _ c.loop-line.invariant c.write_line.ensures.part

@@ -1,5 +1,0 @@
-use Rattle.rclinks_command.proofs.Words.{length}
-use Rattle.rclinks_command.proofs.remarks.tell_odd_lines.Given as goal
-
-abbrev pub decreases-loop-line : goal.decreases-loop-line
-decreases-loop-line g l = length l.rest

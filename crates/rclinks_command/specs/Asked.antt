@@ -1,0 +1,35 @@
+-- What is asked of the system for a change of a runlevel's folder.
+use Rattle.std.specs.Prelude.{◌≡◌, ℕ, List, [], ◌∷◌, ◌++◌, codes, Option, Some, IfSome}
+use Rattle.init_words.specs.declared.levels.Level.{Level}
+use Rattle.init_words.specs.Levels.{level_code}
+use Rattle.rc_links.specs.ChangeText.{ChangeText}
+use Rattle.rc_links.specs.EntryText.{EntryText}
+use Rattle.rc_links.specs.declared.folders.LinkAction.{LinkAction}
+use Rattle.rc_links.specs.declared.folders.LinkAction.TheVariants.{Make, Remove}
+
+-- the file at a path is taken away, a folder is made there, or a symbolic link is, which leads to a place
+pub data LinkCall : Type 0 where
+  RemoveFile : List ℕ → LinkCall
+  MakeFolder : List ℕ → LinkCall
+  MakeLink : List ℕ → List ℕ → LinkCall
+
+-- these calls, the newest first, were made since then, where they are told
+abbrev pub Asks : Option (List LinkCall) → Option (List LinkCall) → List LinkCall → Type 0
+Asks old new calls = IfSome new (λ all. (before : List LinkCall) × (old ≡ Some before) × (all ≡ calls ++ before))
+
+-- the path of a runlevel's folder in a directory, and of an entry in it
+abbrev pub folder_path : List ℕ → Level → List ℕ
+folder_path dir level = dir ++ (codes "/rc" ++ level_code level ∷ codes ".d")
+
+abbrev pub entry_path : List ℕ → Level → EntryText → List ℕ
+entry_path dir level entry = folder_path dir level ++ (codes "/" ++ entry.name)
+
+-- an entry is taken away; or its folder is made, and in it a link under the entry's name to where it leads
+abbrev pub calls_by : LinkAction → List ℕ → Level → EntryText → List LinkCall
+calls_by Remove dir level entry = RemoveFile (entry_path dir level entry) ∷ []
+calls_by Make dir level entry =
+    MakeLink entry.leads (entry_path dir level entry) ∷ MakeFolder (folder_path dir level) ∷ []
+
+-- what a change in a directory asks
+abbrev pub calls_for : List ℕ → ChangeText → List LinkCall
+calls_for dir c = calls_by c.act dir c.level c.entry

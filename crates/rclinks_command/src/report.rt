@@ -1,0 +1,89 @@
+//! The report of a run, a text of lines: warnings, and why the run is refused.
+//!
+//! Tested by `tools/pages.d/rclinks`. What a line says behind its word is made by `remarks` and `telling`.
+
+ghost use Rattle.std.specs.Prelude.{◌≡◌, ◌++◌, OnOk};
+ghost use Rattle.rclinks_command.specs.Reports.{TellsLines, TellsWhy, Warns, line_of};
+ghost use Rattle.rclinks_command.specs.Refusals.{refusal_status};
+
+use init_words::Memory;
+use program_io::{DEVICE_FAULT, REFUSED};
+use text_lines::next_line;
+
+/// Why a run does nothing.
+#[derive(Clone, Copy)]
+pub(crate) enum Refusal {
+    /// A file, the scripts or a name of a link are refused, of which the report says why.
+    Refused,
+    /// A file can't be read, or a folder can't be listed, of which the report says why.
+    Failed,
+    /// Out of memory.
+    Memory,
+}
+
+impl From<Memory> for Refusal {
+    ghost use Rattle.std.specs.Prelude.{◌≡◌};
+    ghost use Rattle.rclinks_command.specs.declared.report.Refusal.TheVariants.{Memory as NoRoom};
+
+    ghost from_gives = { λ _ refusal. refusal ≡ NoRoom };
+
+    fn from(_error: Memory) -> Refusal {
+        Refusal::Memory
+    }
+}
+
+impl Refusal {
+    /// The exit status.
+    pub(crate) fn status(self) -> u8
+        ensures { result ≡ refusal_status self }
+    {
+        match self {
+            Refusal::Refused => REFUSED,
+            Refusal::Failed | Refusal::Memory => DEVICE_FAULT,
+        }
+    }
+}
+
+/// Adds a line of the program: a word, and what stands behind it.
+fn add_line(report: &mut Vec<u8>, word: &str, rest: &[u8]) -> Result<(), Memory>
+    ensures { OnOk result (report.new.items ≡ report.old.items ++ line_of word.now rest.now) }
+{
+    report.extend_from_slice(b"rclinks: ")?;
+    report.extend_from_slice(word.as_bytes())?;
+    report.extend_from_slice(rest)?;
+    report.push(b'\n')?;
+    Ok(())
+}
+
+/// Adds each of these lines behind a word.
+pub(crate) fn add_lines(report: &mut Vec<u8>, word: &str, lines: &[u8]) -> Result<(), Memory>
+    ensures { OnOk result (TellsLines word.now report.old.items report.new.items) }
+{
+    let mut rest = lines;
+    while let Some((line, more)) = next_line(rest) {
+        add_line(report, word, line)?;
+        rest = more;
+    }
+    Ok(())
+}
+
+/// Adds these lines as warnings.
+pub(crate) fn add_warnings(report: &mut Vec<u8>, odd: &[u8]) -> Result<(), Memory>
+    ensures { OnOk result (Warns report.old.items report.new.items) }
+{
+    add_lines(report, "warning: ", odd)
+}
+
+/// Adds why a run is refused, in a line, and behind it the lines that say more.
+pub(crate) fn add_why(
+    report: &mut Vec<u8>,
+    word: &str,
+    rest: &str,
+    more: &[u8],
+) -> Result<(), Memory>
+    ensures { OnOk result
+        (TellsWhy word.now rest.now report.old.items report.new.items) }
+{
+    add_line(report, word, rest.as_bytes())?;
+    add_lines(report, "", more)
+}
