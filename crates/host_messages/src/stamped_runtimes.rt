@@ -5,7 +5,6 @@ use std::alloc::{AllocError, Allocator, Global};
 use std::fmt::Display;
 use std::fs::{Metadata, OpenOptions, Permissions};
 use std::path::PathBuf;
-use std::process::{Child, Command, Processes, Stdio};
 use std::rt::{Clock, Files};
 use std::time::Duration;
 use std::{fmt, io};
@@ -114,20 +113,6 @@ impl<R: Clock + Clone + Drop> Clock for StampedRuntime<R> {
 
     fn sleep(&self, duration: Duration) {
         self.runtime.sleep(duration)
-    }
-}
-
-impl<R: Processes + Clone + Drop> Processes for StampedRuntime<R> {
-    type Started = R::Started;
-
-    fn spawn<B: Allocator + Clone>(
-        &self,
-        command: &Command<B>,
-        stdin: &Stdio,
-        stdout: &Stdio,
-        stderr: &Stdio,
-    ) -> io::Result<Child<R::Started>> {
-        self.runtime.spawn(command, stdin, stdout, stderr)
     }
 }
 

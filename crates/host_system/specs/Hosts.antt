@@ -1,21 +1,25 @@
 -- What is known of a host over the operating system.
-use Rattle.std.specs.Prelude.{ℕ, Bool, true, false, List}
+use Rattle.std.specs.Prelude.{ℕ, Bool, true, false, List, Option}
 use Rattle.init_words.specs.declared.orders.Answer.{Answer}
 use Rattle.init_words.specs.declared.orders.Answer.TheVariants.{Born, NotBorn, Ended, Alive, NoLook, Hit, Miss}
 use Rattle.host_calls.specs.declared.calls.Reply.{Reply}
 use Rattle.host_calls.specs.declared.calls.Reply.TheVariants.{Now, Later}
 use Rattle.host_calls.specs.Calls.{HostCall}
 use Rattle.host_calls.specs.Held.{HeldChildren}
+use Rattle.host_system.specs.Systems.{SystemCall}
 
--- how many of its calls failed; whether its init takes no inittab with a faulty line; whether it tells what children do;
--- whether it passes over the requests from before; the children that it holds; and its calls, the newest first
+-- how many of its calls failed; whether its init takes no inittab with a faulty line; whether it tells what children
+-- do; whether it passes over the requests from before; the folder of the children's output, where that goes to logs;
+-- the children that it holds; its calls, and those that the system was asked, the newest first
 pub record HostState : Type 0 where
   pub faults : ℕ
   pub strict : Bool
   pub verbose : Bool
   pub fresh : Bool
+  pub logs : Option (List ℕ)
   pub held : HeldChildren
   pub calls : List HostCall
+  pub asked : List SystemCall
 
 -- the answers that there are to a start, to a look and to a signal
 abbrev pub is_start_answer : Answer → Bool

@@ -1,3 +1,5 @@
+pub mod Asking
 pub mod Commands
 pub mod Hosts
 pub mod Logs
+pub mod Systems

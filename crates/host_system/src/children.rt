@@ -1,15 +1,19 @@
 //! The children of a host: started, looked at, signalled.
 
-ghost use Rattle.std.specs.Prelude.{◌≡◌, ◌++◌, ◌∷◌, [], IsTrue, IfOk, OnOk, OnErr, true, false};
+ghost use Rattle.std.specs.Prelude.{◌≡◌, ◌++◌, ◌∷◌, [], IsTrue, IfOk, OnOk, OnErr, true, false, option_map, string_bytes};
 ghost use Rattle.host_calls.specs.declared.calls.Reply.TheVariants.{Now};
 ghost use Rattle.host_calls.specs.Held.{Looks, Signals, holds_child, without_child};
+ghost use Rattle.host_system.specs.Asking.{AsksHelpers, AsksLook, AsksSignal, AsksSpawn, AsksStart, AsksWait, number_of};
+ghost use Rattle.host_system.specs.Commands.{words_in};
 ghost use Rattle.host_system.specs.Hosts.{is_look_answer, is_signal_answer};
+ghost use Rattle.host_system.specs.Systems.{start_answer, status_of, waited};
 
-use crate::commands::{BoxedCommand, command_of, needs_shell};
+use crate::commands::needs_shell;
 use crate::held::HeldChild;
 use crate::host_options::HostOptions;
 use crate::logs::Logs;
-use crate::terms::{TermSender, check_sending};
+use crate::systems::System;
+use crate::terms::check_sending;
 use host_files::boxed;
 use host_messages::{ChildLine, ChildMessages, Escaped, escape};
 use indexmap::IndexMap;
@@ -18,31 +22,28 @@ use inittab_text::Table;
 use program_io::Reason;
 use std::alloc::{AllocError, Allocator};
 use std::hash::{BuildHasherDefault, FoldHasher};
+use std::io;
 use std::io::ErrorKind;
 use std::marker::Model;
-use std::process::{Command, ExitStatus, Processes};
+use std::process::{Command, ExitStatus};
 use std::rt::Files;
-use std::{io, str};
 use text_lines::next_word;
 
 /// The children of a host, each under its id.
 #[derive(Drop)]
-pub(crate) struct Children<R: Processes, A: Allocator> {
+pub(crate) struct Children<S: System, A: Allocator> {
     alloc: A,
     /// The name of the program that says what is said of them.
     program: &'static str,
-    handles: IndexMap<Id, HeldChild<R::Started>, BuildHasherDefault<FoldHasher>, A>,
-    terms: TermSender<R::Started>,
+    handles: IndexMap<Id, HeldChild<S>, BuildHasherDefault<FoldHasher>, A>,
     /// The stage, and that in which an inittab was read again last.
     stage: Option<Stage>,
     read_in: Option<Stage>,
     /// What is told of them.
     messages: ChildMessages<A>,
-    /// Where their output goes, where it goes to logs.
-    logs: Option<Logs<A>>,
 }
 
-impl<R: Processes, A: Allocator> Model for Children<R, A> {
+impl<S: System, A: Allocator> Model for Children<S, A> {
     ghost use Rattle.host_calls.specs.Held.{HeldChildren};
 
     ghost Value = { HeldChildren };
@@ -50,34 +51,30 @@ impl<R: Processes, A: Allocator> Model for Children<R, A> {
     ghost view = { λ children. children.handles.entries };
 }
 
-impl<R: Processes, A: Allocator + Copy> Children<R, A> {
-    /// No children. The options say what is told of them, and where their output goes.
-    pub(crate) fn new(alloc: A, options: &HostOptions) -> Result<Box<Children<R, A>, A>, Memory>
+impl<S: System, A: Allocator + Copy> Children<S, A> {
+    /// No children. The options say what is told of them.
+    pub(crate) fn new(alloc: A, options: &HostOptions) -> Result<Box<Children<S, A>, A>, Memory>
         ensures { IfOk result (λ children. children.value ≡ []) }
     {
-        let logs = match options.logs {
-            Some(folder) => Some(Logs::new(alloc, folder)?),
-            None => None,
-        };
         let children = Children {
             alloc,
             program: options.program,
             handles: IndexMap::new(alloc),
-            terms: TermSender::new(),
             stage: None,
             read_in: None,
             messages: ChildMessages::new(alloc, options.program, options.verbose),
-            logs,
         };
         Ok(boxed(alloc, children)?)
     }
 
-    /// Says on standard error where none can be sent TERM.
-    pub(crate) fn tell_unsendable(&self, rt: &R)
-    where
-        R: Eprint,
+    /// Says on standard error where none can be sent TERM, where the options want it.
+    pub(crate) fn tell_unsendable<R: Eprint>(&self, rt: &R, system: &mut S, options: &HostOptions)
+        ensures { AsksHelpers (S.told system.old) (S.told system.new) }
     {
-        if let Err(error) = check_sending(rt, self.alloc) {
+        if !options.sends_term {
+            return;
+        }
+        if let Err(error) = check_sending(system, self.alloc) {
             let program = self.program;
             let _ = eprintln!(rt;
                 "{program}: no child can be sent TERM: {}: start it with a PATH that has sh and kill",
@@ -86,25 +83,28 @@ impl<R: Processes, A: Allocator + Copy> Children<R, A> {
         }
     }
 
-    /// Starts a child for an id that has none, and gives its number.
-    pub(crate) fn start<B: Allocator + Copy>(
+    /// Starts a child for an id that has none, with its output in the logs where there are any, and gives its number.
+    pub(crate) fn start<R: Files + Eprint, B: Allocator + Copy>(
         &mut self,
         rt: &R,
+        system: &mut S,
+        logs: &mut Logs<A>,
         alloc: B,
         id: Id,
         text: &[u8],
     ) -> io::Result<ChildNumber>
-    where
-        R: Files + Eprint,
         ensures unheld { OnOk result (holds_child id self.old ≡ false) }
         ensures born { IfOk result (λ number. self.new ≡ self.old ++ (id, number) ∷ []) }
         ensures not_born { OnErr result (self.new ≡ self.old) }
+        ensures logs { logs.new.folder ≡ logs.old.folder }
+        ensures asked { AsksStart (option_map string_bytes logs.old.folder) id text.now
+            (start_answer result) (S.told system.old) (S.told system.new) }
     {
         if self.holds(&id) {
             return Err(io::Error::from(ErrorKind::AlreadyExists));
         }
-        let mut command = self.command(rt, alloc, &id, text)?;
-        let number = self.spawn(rt, id, &mut command)?;
+        let mut command = logs.command(rt, alloc, &id, text)?;
+        let number = self.spawn(system, id, &mut command)?;
         self.messages.tell_start(rt, &id, number);
         Ok(number)
     }
@@ -124,16 +124,19 @@ impl<R: Processes, A: Allocator + Copy> Children<R, A> {
     /// Starts a child by the command, and gives its number. There is room for its handle before it is born.
     fn spawn<B: Allocator + Copy>(
         &mut self,
-        rt: &R,
+        system: &mut S,
         id: Id,
         command: &mut Command<B>,
     ) -> io::Result<ChildNumber>
         requires { holds_child id self.old ≡ false }
         ensures born { IfOk result (λ number. self.new ≡ self.old ++ (id, number) ∷ []) }
         ensures not_born { OnErr result (self.new ≡ self.old) }
+        ensures asked { AsksSpawn (words_in command.old) (start_answer result)
+            (S.told system.old) (S.told system.new) }
     {
         self.handles.reserve(1)?;
-        let held = HeldChild::new(command.spawn(rt)?, self.program);
+        let process = system.spawn(command)?;
+        let held = HeldChild::new(&*system, process, self.program);
         let number = held.number();
         let Ok(_) = self.handles.insert(id, held) else {
             unreachable!()
@@ -141,47 +144,19 @@ impl<R: Processes, A: Allocator + Copy> Children<R, A> {
         Ok(number)
     }
 
-    /// The command that starts a process text. There is none where it has no word, and where it isn't UTF-8.
-    fn command<B: Allocator + Copy>(
-        &mut self,
-        rt: &R,
-        alloc: B,
-        id: &Id,
-        text: &[u8],
-    ) -> io::Result<BoxedCommand<B>>
-    where
-        R: Files + Eprint,
-        ensures { self.new ≡ self.old }
-    {
-        let Ok(text) = str::from_utf8(text) else {
-            return Err(io::Error::from(ErrorKind::InvalidInput));
-        };
-        let command = match &mut self.logs {
-            Some(logs) => logs.command(rt, alloc, id, text)?,
-            None => command_of(alloc, text)?,
-        };
-        match command {
-            Some(command) => Ok(command),
-            None => Err(io::Error::from(ErrorKind::InvalidInput)),
-        }
-    }
-
     /// Says on standard error why a child was not born.
-    pub(crate) fn tell_not_born(&self, rt: &R, id: &Id, text: &[u8], error: &io::Error)
-    where
-        R: Eprint,
-    {
+    pub(crate) fn tell_not_born(&self, rt: &impl Eprint, id: &Id, text: &[u8], error: &io::Error) {
         self.messages.tell_not_born(rt, id, program_of(text), error);
     }
 
     /// Reaps the id's child if it has ended.
-    pub(crate) fn look(&mut self, rt: &R, id: &Id) -> Answer
-    where
-        R: Eprint,
+    pub(crate) fn look<R: Eprint>(&mut self, rt: &R, system: &mut S, id: &Id) -> Answer
         ensures kind { IsTrue (is_look_answer result) }
         ensures held { Looks self.old self.new id.now (Now result) }
+        ensures asked { AsksLook (number_of id.now self.old) result
+            (S.told system.old) (S.told system.new) }
     {
-        match self.try_wait(id) {
+        match self.try_wait(system, id) {
             Ok(Some(status)) => {
                 self.release(id);
                 self.messages.note_end(rt, id, &status);
@@ -193,14 +168,16 @@ impl<R: Processes, A: Allocator + Copy> Children<R, A> {
     }
 
     /// How the id's child ended, where it has. An id without child has none to wait for.
-    fn try_wait(&mut self, id: &Id) -> io::Result<Option<ExitStatus>>
+    fn try_wait(&mut self, system: &mut S, id: &Id) -> io::Result<Option<ExitStatus>>
         ensures held { OnOk result (IsTrue (holds_child id.now self.old)) }
         ensures same { self.new ≡ self.old }
+        ensures asked { AsksWait (number_of id.now self.old) (waited result)
+            (S.told system.old) (S.told system.new) }
     {
         let Some(held) = self.handles.get_mut(id) else {
             return Err(io::Error::from(ErrorKind::NotFound));
         };
-        held.try_wait()
+        held.try_wait(system)
     }
 
     /// Holds the id's child no longer.
@@ -211,10 +188,7 @@ impl<R: Processes, A: Allocator + Copy> Children<R, A> {
     }
 
     /// Says on standard error how the id's last child ended, and what that mostly means.
-    pub(crate) fn tell_last_end(&self, rt: &R, id: &Id)
-    where
-        R: Eprint,
-    {
+    pub(crate) fn tell_last_end(&self, rt: &impl Eprint, id: &Id) {
         self.messages.tell_last_end(rt, id);
     }
 
@@ -235,7 +209,7 @@ impl<R: Processes, A: Allocator + Copy> Children<R, A> {
         self.read_in = Some(stage);
         // All are kept: `retain` says what is written to each, as `iter_mut` doesn't.
         self.handles.retain(
-            |id: &Id, held: &mut HeldChild<R::Started>| -> bool
+            |id: &Id, held: &mut HeldChild<S>| -> bool
                 ensures { (result ≡ true) × (held.new ≡ held.old) }
             {
                 held.note(ChildLine::of(table.get(id), stage));
@@ -244,25 +218,24 @@ impl<R: Processes, A: Allocator + Copy> Children<R, A> {
         );
     }
 
-    /// The turn is over.
-    pub(crate) fn end_turn(&mut self)
-        ensures { self.new ≡ self.old }
-    {
-        let _ = self.terms.end();
-    }
-
     /// Sends the id's child the signal.
-    pub(crate) fn signal(&mut self, rt: &R, id: &Id, signal: SignalKind) -> Answer
-    where
-        R: Eprint,
+    pub(crate) fn signal<R: Eprint>(
+        &mut self,
+        rt: &R,
+        system: &mut S,
+        id: &Id,
+        signal: SignalKind,
+    ) -> Answer
         ensures kind { IsTrue (is_signal_answer result) }
         ensures held { Signals self.old self.new id.now (Now result) }
+        ensures asked { AsksSignal (number_of id.now self.old) signal result
+            (S.told system.old) (S.told system.new) }
     {
         let is_same_stage = self.stage == self.read_in;
         let Some(held) = self.handles.get_mut(id) else {
             return Answer::Miss;
         };
-        if !held.send(rt, self.alloc, &mut self.terms, id, signal) {
+        if !held.send(system, rt, self.alloc, id, signal) {
             return Answer::Miss;
         }
         held.tell_cost(rt, &self.messages, id, is_same_stage);
@@ -272,7 +245,9 @@ impl<R: Processes, A: Allocator + Copy> Children<R, A> {
 }
 
 /// How a child ended that has this status.
-fn status_of(status: &ExitStatus) -> Status {
+fn status_of(status: &ExitStatus) -> Status
+    ensures { result ≡ status_of status.now }
+{
     match status.code() {
         Some(code) => Status::Exit(u8::try_from(code).unwrap_or(u8::MAX)),
         None => Status::Killed,

@@ -7,11 +7,17 @@ mod children;
 mod commands;
 mod held;
 mod host_options;
+mod laws;
 mod logs;
+mod noting;
 mod os_hosts;
 mod pauses;
 mod steady_clocks;
+mod systems;
 mod terms;
 
 pub use host_options::{HostOptions, Pace};
+pub use laws::law_of_asked_calls;
+pub use noting::{SystemCallList, nothing_asked};
 pub use os_hosts::OsHost;
+pub use systems::{OsSystem, System};

@@ -1,49 +1,88 @@
 //! Files for the output of the children.
 
 ghost use Rattle.std.specs.List.{list_all};
-ghost use Rattle.std.specs.Prelude.{◌≡◌};
-ghost use Rattle.host_system.specs.Logs.{is_log_byte, is_log_name};
+ghost use Rattle.std.specs.Prelude.{◌≡◌, IfOk, option_map, string_bytes};
+ghost use Rattle.host_system.specs.Asking.{AreStarted};
+ghost use Rattle.host_system.specs.Commands.{words_at, words_in};
+ghost use Rattle.host_system.specs.Logs.{is_log_byte, is_log_name, log_name, log_path};
 
 use crate::commands::{BoxedCommand, command_of, logged_command};
 use host_files::is_hidden;
-use host_messages::{shown, tell_log, tell_no_log};
+use host_messages::{tell_log, tell_no_log};
 use indexmap::IndexSet;
 use init_words::{Id, Memory};
 use program_io::refuse_special;
-use std::alloc::Allocator;
+use std::alloc::{AllocError, Allocator};
 use std::fs::OpenOptions;
 use std::hash::{BuildHasherDefault, FoldHasher};
-use std::io;
-use std::process::Stdio;
+use std::io::ErrorKind;
+use std::process::{Command, Stdio};
 use std::rt::Files;
+use std::{io, str};
 
-/// The folder of the files that have the output of the children.
+/// The folder of the files that have the output of the children, where it goes to logs.
 #[derive(Drop)]
 pub(crate) struct Logs<A: Allocator> {
-    folder: String<A>,
+    pub(crate) folder: Option<String<A>>,
     /// The ids of which it was told that they are no names of files.
     told: IndexSet<Id, BuildHasherDefault<FoldHasher>, A>,
 }
 
 impl<A: Allocator + Copy> Logs<A> {
-    /// The logs in this folder.
-    pub(crate) fn new(alloc: A, folder: &str) -> Result<Logs<A>, Memory> {
+    /// The logs in this folder, or none.
+    pub(crate) fn new(alloc: A, folder: Option<&str>) -> Result<Logs<A>, Memory>
+        ensures { IfOk result (λ logs.
+            option_map string_bytes logs.folder ≡ option_map (λ path. path.now) folder.entry) }
+    {
+        let folder = match folder {
+            Some(folder) => Some(String::from_str(alloc, folder)?),
+            None => None,
+        };
         Ok(Logs {
-            folder: String::from_str(alloc, folder)?,
+            folder,
             told: IndexSet::new(alloc),
         })
     }
 
-    /// The command that starts a process text with its output in the id's log and no input; as it is started without
-    /// logs, where the log can't be opened, which is told on standard error.
+    /// The command that starts a process text. There is none where it has no word, and where it isn't UTF-8.
     pub(crate) fn command<R: Files + Eprint, B: Allocator + Copy>(
         &mut self,
         rt: &R,
         alloc: B,
         id: &Id,
+        text: &[u8],
+    ) -> io::Result<BoxedCommand<B>>
+        ensures words { IfOk result (λ command. AreStarted
+            (option_map string_bytes self.old.folder) id.now text.now (words_in command.value)) }
+        ensures same { self.new.folder ≡ self.old.folder }
+    {
+        let Ok(text) = str::from_utf8(text) else {
+            return Err(io::Error::from(ErrorKind::InvalidInput));
+        };
+        match self.logged(rt, alloc, id, text)? {
+            Some(command) => Ok(command),
+            None => Err(io::Error::from(ErrorKind::InvalidInput)),
+        }
+    }
+
+    /// The command that starts a process text, with its output in the id's log and no input where there are logs; as it
+    /// is started without them, where the log can't be opened, which is told on standard error.
+    fn logged<R: Files + Eprint, B: Allocator + Copy>(
+        &mut self,
+        rt: &R,
+        alloc: B,
+        id: &Id,
         text: &str,
-    ) -> io::Result<Option<BoxedCommand<B>>> {
-        let log = self.path(rt, alloc, id)?;
+    ) -> io::Result<Option<BoxedCommand<B>>>
+        ensures words { IfOk result (λ command. AreStarted
+            (option_map string_bytes self.old.folder) id.now text.now (words_at command)) }
+        ensures same { self.new.folder ≡ self.old.folder }
+    {
+        let Some(folder) = &self.folder else {
+            return Ok(command_of(alloc, text)?);
+        };
+        let log = log_path(alloc, folder.as_str(), id)?;
+        self.tell(rt, id, log.as_str());
         if let Err(error) = made_ready(rt, log.as_str()) {
             tell_no_log(rt, id, log.as_str(), &error);
             return Ok(command_of(alloc, text)?);
@@ -51,27 +90,44 @@ impl<A: Allocator + Copy> Logs<A> {
         let Some(mut command) = logged_command(alloc, log.as_str(), text)? else {
             return Ok(None);
         };
-        command.stdin(Stdio::null());
+        close_input(&mut command);
         Ok(Some(command))
     }
 
-    /// The path of the id's log. That it is `_.log`, since the id is no name of a file, is told once.
-    fn path<B: Allocator + Copy>(
-        &mut self,
-        rt: &impl Eprint,
-        alloc: B,
-        id: &Id,
-    ) -> io::Result<String<B>> {
-        if is_log_name(id.as_bytes()) {
-            let name = shown(id.as_bytes());
-            return Ok(format!(in alloc; "{}/{name}.log", self.folder)?);
+    /// Tells once that the id's log is this one, since the id is no name of a file.
+    fn tell(&mut self, rt: &impl Eprint, id: &Id, log: &str)
+        ensures { self.new.folder ≡ self.old.folder }
+    {
+        if !is_log_name(id.as_bytes()) && !matches!(self.told.insert(*id), Ok(false)) {
+            tell_log(rt, id, log);
         }
-        let path = format!(in alloc; "{}/_.log", self.folder)?;
-        if !matches!(self.told.insert(*id), Ok(false)) {
-            tell_log(rt, id, path.as_str());
-        }
-        Ok(path)
     }
+}
+
+/// The path of the id's log in a folder.
+fn log_path<A: Allocator + Copy>(alloc: A, folder: &str, id: &Id) -> Result<String<A>, AllocError>
+    ensures { IfOk result (λ path. string_bytes path ≡ log_path folder.now id.now) }
+{
+    let name = log_name(id);
+    format!(in alloc; "{folder}/{name}.log")
+}
+
+/// The name of the id's log, without `.log`.
+fn log_name(id: &Id) -> &str
+    ensures { result.now ≡ log_name id.now }
+{
+    if is_log_name(id.as_bytes()) {
+        id.as_str()
+    } else {
+        "_"
+    }
+}
+
+/// Starts the command with no input.
+fn close_input<A: Allocator + Copy>(command: &mut Command<A>)
+    ensures { words_in command.new ≡ words_in command.old }
+{
+    command.stdin(Stdio::null());
 }
 
 /// Makes the file, where it isn't there, and finds whether it can be appended to.

@@ -1,12 +1,16 @@
 //! The host over the operating system.
 
-ghost use Rattle.std.specs.Prelude.{◌≡◌, List, [], Ok, IfOk, OnErr, IsErr, true, false};
+ghost use Rattle.std.specs.Prelude.{◌≡◌, List, [], Ok, IfOk, OnErr, IsErr, true, false, option_map, string_bytes};
+ghost use Rattle.host_system.specs.Asking.{AsksHelpers};
 
 use crate::bell_making::make_bell;
 use crate::children::Children;
 use crate::host_options::HostOptions;
+use crate::logs::Logs;
+use crate::noting::SystemCallList;
 use crate::pauses::{Pauses, has_stirred};
 use crate::steady_clocks::SteadyClock;
+use crate::systems::System;
 use host_calls::{Host, HostFault, Reply, counted, is_failed_reply};
 use host_files::{Channel, InittabFiles, StateFile, boxed};
 use host_messages::{Output, tell_refused};
@@ -19,11 +23,11 @@ use std::fs::File;
 use std::io;
 use std::io::ErrorKind;
 use std::marker::Model;
-use std::process::Processes;
 use std::rt::{Clock, Files};
 use trace_events::{Happening, HappeningIn};
 
-/// A host that asks the operating system. It tells its calls, which proofs alone can read, and answers each order at once.
+/// A host that asks the operating system. It tells its calls, and those that it asked the system for them, which proofs
+/// alone can read, and answers each order at once.
 ///
 /// A process text is executed by `sh` where it has a character that a shell reads; any other is split at blanks and
 /// tabs and started directly. A start for an id that has a child is refused. A child is looked at by waitpid(2)
@@ -40,21 +44,25 @@ use trace_events::{Happening, HappeningIn};
 /// on standard error.
 #[derive(Drop)]
 pub struct OsHost<
-    R: Processes + Files<File = File> + Clock + Print + Eprint + Drop,
+    R: Files<File = File> + Clock + Print + Eprint + Drop,
+    S: System + Drop,
     A: Allocator = Global,
 > {
-    host: Box<OsHostParts<R, A>, A>,
+    host: Box<OsHostParts<R, S, A>, A>,
 }
 
 /// What a host has, which is on the heap: so a host is one word to whoever owns it.
 #[derive(Drop)]
 struct OsHostParts<
-    R: Processes + Files<File = File> + Clock + Print + Eprint + Drop,
+    R: Files<File = File> + Clock + Print + Eprint + Drop,
+    S: System + Drop,
     A: Allocator,
 > {
     rt: R,
+    system: S,
     alloc: A,
-    children: Box<Children<R, A>, A>,
+    children: Box<Children<S, A>, A>,
+    logs: Logs<A>,
     channel: Box<Channel<A>, A>,
     inittab: Box<InittabFiles<A>, A>,
     state: Box<StateFile<A>, A>,
@@ -68,20 +76,22 @@ struct OsHostParts<
     told: Noted<CallList>,
 }
 
-impl<R: Processes + Files<File = File> + Clock + Print + Eprint + Drop, A: Allocator> Model
-    for OsHost<R, A> {
-    ghost use Rattle.host_calls.specs.Held.{AreOwn};
+impl<R: Files<File = File> + Clock + Print + Eprint + Drop, S: System + Drop, A: Allocator> Model
+    for OsHost<R, S, A> {
+    ghost use Rattle.host_system.specs.Asking.{AreAsked};
     ghost use Rattle.host_system.specs.Hosts.{HostState};
 
     ghost Value = { HostState };
 
     ghost view = { λ os. os.host.value };
 
-    ghost invariant = { λ os. AreOwn os.host.value.calls os.host.value.held };
+    ghost invariant = { λ os. let host = os.host.value in
+        AreAsked host.logs host.calls host.held host.asked };
 }
 
-impl<R: Processes + Files<File = File> + Clock + Print + Eprint + Drop, A: Allocator> Model
-    for OsHostParts<R, A> {
+impl<R: Files<File = File> + Clock + Print + Eprint + Drop, S: System + Drop, A: Allocator> Model
+    for OsHostParts<R, S, A> {
+    ghost use Rattle.std.specs.Prelude.{option_map, string_bytes};
     ghost use Rattle.host_system.specs.Hosts.{HostState};
 
     ghost Value = { HostState };
@@ -91,34 +101,48 @@ impl<R: Processes + Files<File = File> + Clock + Print + Eprint + Drop, A: Alloc
       strict = host.strict;
       verbose = host.verbose;
       fresh = host.fresh;
+      logs = option_map string_bytes host.logs.folder;
       held = host.children.value;
       calls = host.told.value;
+      asked = S.told host.system;
     } };
 }
 
-impl<R: Processes + Files<File = File> + Clock + Print + Eprint + Drop, A: Allocator + Copy> OsHost<
-    R,
-    A,
-> {
-    ghost use Rattle.host_calls.specs.Held.{AreOwn};
+impl<
+    R: Files<File = File> + Clock + Print + Eprint + Drop,
+    S: System + Drop,
+    A: Allocator + Copy,
+> OsHost<R, S, A> {
+    ghost use Rattle.host_system.specs.Asking.{AreAsked};
 
-    /// A host without children.
-    pub fn new(rt: R, alloc: A, options: &HostOptions) -> Result<OsHost<R, A>, Memory>
-        ensures { IfOk result (λ host. host ≡ record {
+    /// A host without children, which has a system over the source to itself.
+    pub fn new(
+        rt: R,
+        source: S::Source,
+        alloc: A,
+        options: &HostOptions,
+    ) -> Result<OsHost<R, S, A>, Memory>
+        ensures asked { IfOk result (λ host. AsksHelpers [] host.asked) }
+        ensures value { IfOk result (λ host. host ≡ record {
           faults = 0;
           strict = options.now.strict;
           verbose = options.now.verbose;
           fresh = options.now.fresh;
+          logs = option_map (λ path. path.now) options.now.logs;
           held = [];
           calls = [];
+          asked = host.asked;
         }) }
     {
         let children = Children::new(alloc, options)?;
+        let logs = Logs::new(alloc, options.logs)?;
         let (channel, inittab, state) = files_of(alloc, options)?;
         let parts = OsHostParts {
             rt,
+            system: S::over(source),
             alloc,
             children,
+            logs,
             channel,
             inittab,
             state,
@@ -138,7 +162,7 @@ impl<R: Processes + Files<File = File> + Clock + Print + Eprint + Drop, A: Alloc
 
     /// The host that holds this lock of its channel, and takes that of each other file that comes to stand at the
     /// channel's path. Where another init has that one, it is told, and nothing is read.
-    pub fn holding(mut self, lock: ChannelLock) -> OsHost<R, A>
+    pub fn holding(mut self, lock: ChannelLock) -> OsHost<R, S, A>
         ensures { result ≡ self }
     {
         let host = &mut *self.host;
@@ -149,10 +173,18 @@ impl<R: Processes + Files<File = File> + Clock + Print + Eprint + Drop, A: Alloc
     /// The calls that were made of it.
     pub fn calls(&self) -> Noted<CallList>
         ensures value { result.value ≡ self.now.calls }
-        ensures own { AreOwn self.now.calls self.now.held }
+        ensures own { AreAsked self.now.logs self.now.calls self.now.held self.now.asked }
     {
         let host = &*self.host;
         host.told.again()
+    }
+
+    /// What it asked the system.
+    pub fn asked(&self) -> Noted<SystemCallList>
+        ensures { result.value ≡ self.now.asked }
+    {
+        let host = &*self.host;
+        host.system.calls()
     }
 
     /// All could be printed that it was to print: announcements, and faults of the inittab's lines.
@@ -179,25 +211,26 @@ fn files_of<A: Allocator + Copy>(alloc: A, options: &HostOptions) -> Result<Host
 }
 
 impl<
-    R: Processes + Files<File = File> + Clock + Print + Eprint + Drop,
+    R: Files<File = File> + Clock + Print + Eprint + Drop,
+    S: System + Drop,
     A: Allocator + Copy,
-> OsHostParts<R, A> {
+> OsHostParts<R, S, A> {
     /// Does what is asked for before the first call.
     fn begin(&mut self, options: &HostOptions)
-        ensures { self.new ≡ self.old }
+        ensures same { self.new ≡ record self.old { asked = self.new.asked } }
+        ensures asked { AsksHelpers self.old.asked self.new.asked }
     {
-        if options.bell {
-            make_bell(&self.rt, self.alloc, &self.channel);
-        }
-        if options.spared.is_some() {
-            let inittab = self.inittab.path();
-            let _ = self
-                .state
-                .tell_blocked(&self.rt, inittab, self.channel.path());
-        }
-        if options.sends_term {
-            self.children.tell_unsendable(&self.rt);
-        }
+        make_bell(
+            &self.rt,
+            &mut self.system,
+            self.alloc,
+            &self.channel,
+            options,
+        );
+        let paths = (self.inittab.path(), self.channel.path());
+        tell_blocked(&self.rt, &mut self.state, paths, options);
+        self.children
+            .tell_unsendable(&self.rt, &mut self.system, options);
         if options.verbose {
             self.inittab.tell_all(&self.rt);
         }
@@ -226,6 +259,18 @@ impl<
     }
 }
 
+/// Tells, where the options spare a path, that no text of the state could be put in its place as things stand.
+fn tell_blocked<R: Files<File = File> + Eprint, A: Allocator + Copy>(
+    rt: &R,
+    state: &mut StateFile<A>,
+    paths: (&str, &str),
+    options: &HostOptions,
+) {
+    if options.spared.is_some() {
+        let _ = state.tell_blocked(rt, paths.0, paths.1);
+    }
+}
+
 /// What the system gave, or the fault that its error is.
 fn host_result<T>(outcome: io::Result<T>) -> Result<T, HostFault>
     ensures ok { IfOk result (λ value. outcome ≡ Ok value) }
@@ -238,12 +283,16 @@ fn host_result<T>(outcome: io::Result<T>) -> Result<T, HostFault>
     }
 }
 
-impl<R: Processes + Files<File = File> + Clock + Print + Eprint + Drop, A: Allocator + Copy> Host
-    for OsHost<R, A> {
+impl<
+    R: Files<File = File> + Clock + Print + Eprint + Drop,
+    S: System + Drop,
+    A: Allocator + Copy,
+> Host for OsHost<R, S, A> {
     ghost use Rattle.std.specs.Prelude.{◌≡◌, ◌≤◌, ◌∷◌, length, Some, None, IfOk, is_err, false, IsTrue};
     ghost use Rattle.host_calls.specs.declared.calls.Call.TheVariants as call;
     ghost use Rattle.host_calls.specs.Calls.{HasCause, front_read, is_failed_reply, parts_read, text_read};
     ghost use Rattle.host_calls.specs.Held.{Starts, Looks, Signals};
+    ghost use Rattle.host_system.specs.Asking.{AsksLook, AsksSignal, AsksStart, OnNow, number_of};
     ghost use Rattle.host_system.specs.Hosts.{HostState, is_start_answer, is_look_answer, is_signal_answer, answers_by};
 
     ghost told = { λ (host : HostState). Some host.calls };
@@ -256,14 +305,25 @@ impl<R: Processes + Files<File = File> + Clock + Print + Eprint + Drop, A: Alloc
         ensures cause { HasCause self.old.faults self.new.faults (is_failed_reply result) }
         ensures kind { IsTrue (answers_by is_start_answer result) }
         ensures held { Starts self.old.held self.new.held id result }
+        ensures asked { OnNow result (λ answer.
+            AsksStart self.old.logs id command.now answer self.old.asked self.new.asked) }
         ensures kept { self.new ≡ record self.old {
           faults = self.new.faults;
           held = self.new.held;
+          asked = self.new.asked;
           calls = call.Start id command.now result ∷ self.old.calls;
         } }
     {
         let host = &mut *self.host;
-        let reply = match host.children.start(&host.rt, alloc, id, command) {
+        let started = host.children.start(
+            &host.rt,
+            &mut host.system,
+            &mut host.logs,
+            alloc,
+            id,
+            command,
+        );
+        let reply = match started {
             Ok(number) => Reply::Now(Answer::Born(number)),
             Err(error) => {
                 host.children.tell_not_born(&host.rt, &id, command, &error);
@@ -280,14 +340,17 @@ impl<R: Processes + Files<File = File> + Clock + Print + Eprint + Drop, A: Alloc
         ensures cause { HasCause self.old.faults self.new.faults (is_failed_reply result) }
         ensures kind { IsTrue (answers_by is_look_answer result) }
         ensures held { Looks self.old.held self.new.held id result }
+        ensures asked { OnNow result (λ answer.
+            AsksLook (number_of id self.old.held) answer self.old.asked self.new.asked) }
         ensures kept { self.new ≡ record self.old {
           faults = self.new.faults;
           held = self.new.held;
+          asked = self.new.asked;
           calls = call.Look id result ∷ self.old.calls;
         } }
     {
         let host = &mut *self.host;
-        let reply = Reply::Now(host.children.look(&host.rt, &id));
+        let reply = Reply::Now(host.children.look(&host.rt, &mut host.system, &id));
         host.pauses.note(has_stirred(&reply));
         host.faults = counted(host.faults, is_failed_reply(&reply));
         host.told = adding::with::<_, adding::Look>(&host.told, (&id, &reply));
@@ -298,14 +361,20 @@ impl<R: Processes + Files<File = File> + Clock + Print + Eprint + Drop, A: Alloc
         ensures cause { HasCause self.old.faults self.new.faults (is_failed_reply result) }
         ensures kind { IsTrue (answers_by is_signal_answer result) }
         ensures held { Signals self.old.held self.new.held id result }
+        ensures asked { OnNow result (λ answer. AsksSignal
+            (number_of id self.old.held) signal answer self.old.asked self.new.asked) }
         ensures kept { self.new ≡ record self.old {
           faults = self.new.faults;
           held = self.new.held;
+          asked = self.new.asked;
           calls = call.Signal id signal result ∷ self.old.calls;
         } }
     {
         let host = &mut *self.host;
-        let reply = Reply::Now(host.children.signal(&host.rt, &id, signal));
+        let answer = host
+            .children
+            .signal(&host.rt, &mut host.system, &id, signal);
+        let reply = Reply::Now(answer);
         host.pauses.note(has_stirred(&reply));
         host.faults = counted(host.faults, is_failed_reply(&reply));
         host.told = adding::with::<_, adding::Signal>(&host.told, (&id, signal, &reply));
@@ -412,7 +481,7 @@ impl<R: Processes + Files<File = File> + Clock + Print + Eprint + Drop, A: Alloc
             ≡ record self.old { calls = call.Pause ∷ self.old.calls } }
     {
         let host = &mut *self.host;
-        host.children.end_turn();
+        host.system.end_turn();
         let length = host.pauses.next(&host.rt, host.children.count());
         host.channel.rest(&host.rt, length);
         host.pauses.begin_turn(&host.rt);

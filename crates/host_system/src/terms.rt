@@ -1,6 +1,9 @@
 //! The helper that sends TERM to children: one shell for all of a turn.
 
+ghost use Rattle.host_system.specs.Asking.{AsksHelpers};
+
 use crate::commands::{BoxedCommand, shell_command};
+use crate::systems::System;
 use program_io::write_text;
 use std::alloc::Allocator;
 use std::io;
@@ -17,7 +20,7 @@ const FINDS_KILL: &str = "command -v kill >/dev/null";
 
 /// The shell that sends TERM, where it was started since the last pause.
 #[derive(Drop)]
-pub(crate) struct TermSender<P: OpenProcess + Drop> {
+pub struct TermSender<P: OpenProcess + Drop> {
     shell: Option<Child<P>>,
 }
 
@@ -71,12 +74,17 @@ impl<P: OpenProcess + Drop> TermSender<P> {
 }
 
 /// Why no process can be sent TERM: there is no `sh`, or it finds no `kill`.
-pub(crate) fn check_sending<R: Processes, A: Allocator + Copy>(rt: &R, alloc: A) -> io::Result<()> {
-    let mut shell = started(rt, shell_command(alloc, FINDS_KILL)?)?;
-    if shell.wait()?.success() {
-        Ok(())
-    } else {
-        Err(no_kill())
+pub(crate) fn check_sending<S: System, A: Allocator + Copy>(
+    system: &mut S,
+    alloc: A,
+) -> io::Result<()>
+    ensures { AsksHelpers (S.told system.old) (S.told system.new) }
+{
+    let mut shell = shell_command(alloc, FINDS_KILL)?;
+    match system.run(&mut shell) {
+        Ok(status) if status.success() => Ok(()),
+        Ok(_) => Err(no_kill()),
+        Err(error) => Err(of_shell(error)),
     }
 }
 
@@ -85,11 +93,15 @@ fn started<R: Processes, A: Allocator + Copy>(
     rt: &R,
     mut command: BoxedCommand<A>,
 ) -> io::Result<Child<R::Started>> {
-    match command.spawn(rt) {
-        Err(error) if error.kind() == ErrorKind::NotFound => {
-            Err(Error::new(ErrorKind::NotFound, "sh: not found in PATH"))
-        }
-        spawned => spawned,
+    command.spawn(rt).map_err(of_shell)
+}
+
+/// Why a shell was not started.
+fn of_shell(error: Error) -> Error {
+    if error.kind() == ErrorKind::NotFound {
+        Error::new(ErrorKind::NotFound, "sh: not found in PATH")
+    } else {
+        error
     }
 }
 

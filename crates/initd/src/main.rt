@@ -4,6 +4,7 @@
 use initd_command::{OsHosts, SHORT_USAGE, run_words};
 use program_io::{StandardFiles, report_unread_words, words};
 use std::process::ExitCode;
+use trace_files::OsTraces;
 
 fn main(rt: HostRuntime) -> ExitCode {
     let _standard = StandardFiles::hold(&rt);
@@ -12,6 +13,7 @@ fn main(rt: HostRuntime) -> ExitCode {
             &rt,
             &rt,
             &mut OsHosts::new(rt),
+            &mut OsTraces::new(&rt, rt.alloc()),
             rt.alloc(),
             words,
             &mut rt.stdout(),

@@ -1,37 +1,115 @@
 -- Which calls a run made, by how it ended: none but where it came to its turns.
-use Rattle.initd_command.proofs.Words.{◌≡◌, refl, Bool, List, [], ◌∷◌, Option, Some, None, ⊤, Entry, KnownTexts, Event, LogState, HostCall, Since, InitdSaid, judges, runs, simulates, version, RunSaid, IsOpeningOf, OpeningState, Spoken, refused, turned, End, HasInittab, TakesParts, is_unled, table_in, told_of, AsksSaid, MakesLogged, MakesTurns, RanBy, RunTold}
+use Rattle.initd_command.proofs.Words.{◌≡◌, refl, sym, subst, ℕ, Bool, true, false, is_some, List, [], ◌∷◌, ◌++◌}
+use Rattle.initd_command.proofs.Words.{Option, Some, None, ⊤, Entry, KnownTexts, Event, LogState, HostCall}
+use Rattle.initd_command.proofs.Words.{Since, InitdSaid, judges, runs, simulates, version, RunSaid, IsOpeningOf}
+use Rattle.initd_command.proofs.Words.{OpeningState, Spoken, refused, turned, End, HasInittab, TakesParts, is_unled}
+use Rattle.initd_command.proofs.Words.{table_in, told_of, AsksSaid, MakesLogged, MakesTraced, LogEnds, RanBy, RunTold}
+use Rattle.std.proofs.Common.{true≢false, ◌∙◌}
+use Rattle.std.proofs.lemmas.Option.{none-some}
 use Rattle.std.specs.Prelude.{IfSome}
+use Rattle.trace_files.specs.Filed.{KnowsEnd}
+use Rattle.trace_log_wrappers.specs.Keeping.{EndsBrief, brief_first}
+use Rattle.initd_command.specs.Ran.{IsWritten, MakesTurns}
 use Rattle.initd_command.specs.Services.{EndsTold}
 use Rattle.initd_command.specs.declared.run.Obstacle.TheVariants.{Memory}
 
--- turns over a log that was fresh
-pub made_fresh : {L fresh : Type 0} (state : L → LogState) (has_ended : Bool → List Event → Type 0) (service : RunSaid) (table : List Entry) (end : End) (calls : List HostCall)
-    → fresh → MakesLogged state fresh has_ended service table end calls → MakesTurns ⊤ service table end calls
-made_fresh state has_ended service table end calls is (made, ended, had) = record {
-  served = made.served;
-  noted = made.noted;
-  turns = made.turns;
-  fronts = made.fronts;
-  drains = made.drains;
-  notes = λ so. made.notes is;
-  most = made.most;
-  asked = made.asked;
-  ends = made.ends;
-}
+-- what is so of a log's end is so of one of which more is said
+log_ends_so : (A B : Bool → List Event → Type 0) (logged : Bool) (trace : List Event)
+    → ((whole : Bool) (written : List Event) → A whole written → B whole written)
+    → LogEnds A logged trace → LogEnds B logged trace
+log_ends_so A B true trace so ends = so true trace ends
+log_ends_so A B false trace so (taken, missed, parts, whole, ends) = (taken, missed, parts, whole, so whole taken ends)
+
+brief_ends_so : (A B : Bool → List Event → Type 0) (whole : Bool) (trace : List Event)
+    → ((all : Bool) (written : List Event) → A all written → B all written)
+    → EndsBrief A whole trace → EndsBrief B whole trace
+brief_ends_so A B true trace so ends = so true (brief_first trace) ends
+brief_ends_so A B false trace so (written, part, (all, ends)) = (written, part, (all, so all written ends))
+
+-- what is so of a value, where there is one, is so of the one that is there
+pub some_known : {A : Type 0} (known : Option A) (x : A) (P : A → Type 0) → known ≡ Some x → IfSome known P → P x
+some_known known x P is so = subst (λ k. IfSome k P) is so
+
+-- files whose bytes are these, where they are known, have them at their end
+module _ (known : Option (List ℕ)) (bytes : List ℕ) (is : IfSome known (λ taken. taken ≡ bytes)) where
+  known_so : (whole : Bool) (trace : List Event) → KnowsEnd whole trace known → KnowsEnd whole trace (Some bytes)
+  known_so whole trace ends = by known is ends
+    where
+      by : (known : Option (List ℕ)) → IfSome known (λ taken. taken ≡ bytes) → KnowsEnd whole trace known
+          → KnowsEnd whole trace (Some bytes)
+      by None is ends = absurd ends
+      by (Some taken) is ends = subst (λ text. KnowsEnd whole trace (Some text)) is ends
+
+  pub plain_written : (brief : Bool) → brief ≡ false → (whole : Bool) (trace : List Event) → KnowsEnd whole trace known
+      → IsWritten brief bytes whole trace
+  plain_written brief not whole trace ends =
+      subst (λ b. IsWritten b bytes whole trace) (sym not) (known_so whole trace ends)
+
+  pub brief_written : (brief : Bool) → brief ≡ true → (whole : Bool) (trace : List Event)
+      → EndsBrief (λ all written. KnowsEnd all written known) whole trace → IsWritten brief bytes whole trace
+  brief_written brief so whole trace ends =
+      subst (λ b. IsWritten b bytes whole trace) (sym so)
+      (brief_ends_so (λ all written. KnowsEnd all written known)
+      (λ all written. KnowsEnd all written (Some bytes)) whole trace known_so ends)
+
+some_none : {A : Type 0} (given : Option A) → is_some given ≡ true → given ≡ None → ⊥
+some_none None some none = true≢false (sym some)
+some_none (Some x) some none = none-some x (sym none)
+
+module _ {L fresh : Type 0} (state : L → LogState) (has_ended : Bool → List Event → Type 0) (service : RunSaid)
+    (table : List Entry) (end : End) (is : fresh) where
+  -- turns over a log that was fresh
+  abbrev made_now : (calls : List HostCall) → MakesTurns fresh service table end calls
+      → MakesTurns ⊤ service table end calls
+  made_now calls made = record {
+    served = made.served;
+    noted = made.noted;
+    turns = made.turns;
+    fronts = made.fronts;
+    drains = made.drains;
+    notes = λ so. made.notes is;
+    most = made.most;
+    asked = made.asked;
+    ends = made.ends;
+  }
+
+  -- in files whose bytes are these
+  pub made_traced : (bytes : List ℕ) (calls : List HostCall) → is_some service.trace ≡ true
+      → ((whole : Bool) (trace : List Event) → has_ended whole trace → IsWritten service.brief bytes whole trace)
+      → MakesLogged state fresh has_ended service table end calls → MakesTraced service table end bytes calls
+  made_traced bytes calls some so (made, ended, had) = (
+    made_now calls made,
+    λ none. absurd (some_none service.trace some none),
+    λ some allowed carried. log_ends_so has_ended (IsWritten service.brief bytes) made.served.logged _ so
+        (ended is allowed carried),
+  )
+
+  -- and of a run that writes no trace
+  pub made_untraced : (calls : List HostCall) → is_some service.trace ≡ false
+      → MakesLogged state fresh has_ended service table end calls → MakesTraced service table end [] calls
+  made_untraced calls none (made, ended, had) =
+      (made_now calls made, λ _. refl, λ some. absurd (true≢false (sym some ∙ none)))
 
 -- what a run makes over each table that its opening is of, it makes over the inittab at its paths
-pub ran_to : (text_at : KnownTexts) (service : RunSaid) (own : List HostCall → Type 0) (opening : OpeningState) (spoken : Spoken) (end : End) (old new : RunTold)
-    → HasInittab text_at service (λ parts. TakesParts service parts × (spoken.unled ≡ is_unled service.level (table_in parts)) × IsOpeningOf service.level (table_in parts) opening × EndsTold service (told_of parts) spoken.told end old.out new.out)
+pub ran_to : (text_at : KnownTexts) (service : RunSaid) (own : Type 0) (opening : OpeningState) (spoken : Spoken)
+    (end : End) (bytes : List ℕ) (old new : RunTold)
+    → HasInittab text_at service (λ parts. TakesParts service parts
+    × (spoken.unled ≡ is_unled service.level (table_in parts)) × IsOpeningOf service.level (table_in parts) opening
+    × EndsTold service (told_of parts) spoken.told end old.out new.out)
     → Since old.opened new.opened (λ saids. saids ≡ service ∷ [])
-    → ((table : List Entry) → IsOpeningOf service.level table opening → Since old.calls new.calls (MakesTurns ⊤ service table end))
-    → IfSome new.calls own → RanBy text_at service own (turned spoken end) old new
-ran_to text_at service own opening spoken end old new (parts, are, read, (taken, led, opens, (served, told))) by made is =
-    ((parts, are, read, (taken, led, made (table_in parts) opens, told)), by, is)
+    → new.trace ≡ old.trace ++ bytes
+    → ((table : List Entry) → IsOpeningOf service.level table opening
+    → Since old.calls new.calls (MakesTraced service table end bytes))
+    → own → RanBy text_at service own (turned spoken end) old new
+ran_to text_at service own opening spoken end bytes old new (parts, are, read, (taken, led, opens, (served, told)))
+    by grown made is =
+    ((parts, are, read, (taken, led, bytes, grown, made (table_in parts) opens, told)), by, is)
 
 -- where memory ran out nothing is asked, whatever the arguments say
-pub none_asked : (text_at : KnownTexts) (said : Option InitdSaid) (own : List HostCall → Type 0) (now : RunTold) → AsksSaid text_at said own (refused Memory) now now
-none_asked text_at None own now = refl
-none_asked text_at (Some version) own now = refl
-none_asked text_at (Some (simulates run)) own now = refl
-none_asked text_at (Some (judges path)) own now = refl
-none_asked text_at (Some (runs service)) own now = refl
+pub none_asked : (text_at : KnownTexts) (said : Option InitdSaid) (own : Type 0) (now : RunTold)
+    → AsksSaid text_at said own (refused Memory) now now
+none_asked text_at None own now = (refl, refl)
+none_asked text_at (Some version) own now = (refl, refl)
+none_asked text_at (Some (simulates run)) own now = (refl, refl)
+none_asked text_at (Some (judges path)) own now = (refl, refl)
+none_asked text_at (Some (runs service)) own now = (refl, refl)

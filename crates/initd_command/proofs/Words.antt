@@ -1,12 +1,19 @@
 -- The words of the proofs of this crate.
-pub use Rattle.std.proofs.Common.{◌≡◌, refl, sym, ap, subst, ◌∙◌, Result, Ok, Err, IfErr, OnOk, ◌⊎◌, inl, inr, List, [], ℕ, true, Option, Some, None, Bool, false, not, ◌&&◌, if◌then◌else◌, ◌++◌, reverse, is_some, ◌∷◌, IfOk, OnErr, string_bytes, rules, map, codes, arith, ◌+◌, ◌*◌, ◌/◌, ◌%◌, length}
+pub use Rattle.std.proofs.Common.{◌≡◌, refl, sym, ap, subst, ◌∙◌, Result, Ok, Err, IfErr, OnOk, ◌⊎◌, inl, inr, List, []}
+pub use Rattle.std.proofs.Common.{ℕ, true, Option, Some, None, Bool, false, not, ◌&&◌, if◌then◌else◌, ◌++◌, reverse}
+pub use Rattle.std.proofs.Common.{is_some, ◌∷◌, IfOk, OnErr, string_bytes, rules, map, codes, arith, ◌+◌, ◌*◌, ◌/◌, ◌%◌}
+pub use Rattle.std.proofs.Common.{length}
 pub use Rattle.std.specs.Prelude.{unwrap_or, ⊤, option_map}
 pub use Rattle.std.specs.Io.KnownBytes.{Keeps, Appends}
 pub use Rattle.program_io.specs.Known.{KnownTexts, IsTextAt}
 pub use Rattle.std.proofs.KnownBytes.{Appends-kept, Keeps-trans, Keeps-refl}
 pub use Rattle.simulator.specs.Simulation.{Done, Ends, Scenario, past_text, scenario}
-pub use Rattle.initd_command.specs.Endings.{Spoken, refused, turned, count_message, unlawful, unwritten, Judged, torn, lawful, unfinished, Ending, usage, usage_named, done, unversioned, stopped, unflushed}
-pub use Rattle.initd_command.specs.Services.{HasInittab, IsInittab, TakesParts, is_taken, told_of, IsNoted, IsServed, LogEnds, TurnsFrom, judgement_for, noted_of, is_unled, table_in, end_of, Writes, IsInWay, AreFiles, StandBy, own_paths}
+pub use Rattle.initd_command.specs.Endings.{Spoken, refused, turned, count_message, unlawful, unwritten, Judged, torn}
+pub use Rattle.initd_command.specs.Endings.{lawful, unfinished, Ending, usage, usage_named, done, unversioned, stopped}
+pub use Rattle.initd_command.specs.Endings.{unflushed}
+pub use Rattle.initd_command.specs.Services.{HasInittab, IsInittab, TakesParts, is_taken, told_of, IsNoted, IsServed}
+pub use Rattle.initd_command.specs.Services.{LogEnds, TurnsFrom, judgement_for, noted_of, is_unled, table_in, end_of}
+pub use Rattle.initd_command.specs.Services.{Writes, IsInWay, AreFiles, StandBy, own_paths}
 pub use Rattle.initd_options.specs.Options.{RunSaid, run_of}
 pub use Rattle.std.proofs.lemmas.List.{append-nil, reverse-append, reverse-reverse, length-drop}
 pub use Rattle.init_words.specs.declared.entries.Entry.{Entry}
@@ -21,9 +28,11 @@ pub use Rattle.init_turns.specs.Opening.{IsOpening, opening_point, IsOpeningOf, 
 pub use Rattle.trace_log_wrappers.specs.declared.judgements.Judgement.{Judgement}
 pub use Rattle.trace_log_wrappers.specs.Judgements.{Finds}
 pub use Rattle.host_calls.specs.Record.{Since}
-pub use Rattle.initd_options.specs.CommandLine.{InitdSaid, judges, runs, simulates, version, CheckSaid, check_of, initd_read_of, simulation_of}
+pub use Rattle.initd_options.specs.CommandLine.{InitdSaid, judges, runs, simulates, version, CheckSaid, check_of}
+pub use Rattle.initd_options.specs.CommandLine.{initd_read_of, simulation_of}
 pub use Rattle.initd_command.specs.Turned.{End, ReportsText, listed_after}
-pub use Rattle.initd_command.specs.Ran.{AsksSaid, MakesLogged, MakesTurns, RanBy, RunTold, AsksBy}
+pub use Rattle.initd_command.specs.Ran.{AsksSaid, MakesLogged, MakesTraced, RanBy, RunTold, AsksBy}
 pub use Rattle.program_io.specs.Writing.{AppendsPrefix}
-pub use Rattle.initd_command.specs.Verdicts.{cut_at, within_of, breach_message, unlawful_text, EndsFound, judged_of, verdict_of}
+pub use Rattle.initd_command.specs.Verdicts.{cut_at, within_of, breach_message, unlawful_text, EndsFound, judged_of}
+pub use Rattle.initd_command.specs.Verdicts.{verdict_of}
 pub use Rattle.std.proofs.lemmas.Result.{IfOk-weaker}

@@ -1,16 +1,19 @@
 -- What init hears of a request that telinit appended to its channel (telinit(8), initreq.h).
-use Rattle.std.specs.Prelude.{◌≡◌, ℕ, List, [], ◌∷◌, ◌++◌, Some}
+use Rattle.std.specs.Prelude.{◌≡◌, ℕ, ◌%◌, List, [], ◌∷◌, ◌++◌, length, Some}
+use Rattle.initctl_frame.specs.declared.frames.TheConstants.{BLOCK}
 use Rattle.initctl_frame.specs.declared.requests.HeardRequest.{HeardRequest}
 use Rattle.initctl_frame.specs.Blocks.{gots_of}
 use Rattle.initctl_frame.specs.Frames.{heard_of}
 use Rattle.initd_command.specs.Words.{HostCall, Point, point_after, IsAsked, KnownBytes}
 use Rattle.host_trace.specs.Requests.{bytes_of, requests_in}
 
--- calls by which init took just these bytes, from where it stood within no block, bring the requests of those that stood
--- there, and this one behind them
+-- Calls by which init took all that these bytes have behind a front of whole requests, from where it stood within no
+-- block, bring the requests that stood behind that front, and this one behind them. The front is what init passed over,
+-- as with --fresh; or nothing.
 abbrev pub BringsNext : List ℕ → HeardRequest → List ℕ → Type 0
-BringsNext stood request bytes = (calls : List HostCall) (p : Point) → p.over ≡ [] → bytes_of calls ≡ bytes
-    → requests_in (point_after calls p).past ≡ requests_in p.past ++ (gots_of stood ++ request ∷ [])
+BringsNext stood request bytes = (front behind : List ℕ) (calls : List HostCall) (p : Point)
+    → stood ≡ front ++ behind → length front % BLOCK ≡ 0 → p.over ≡ [] → front ++ bytes_of calls ≡ bytes
+    → requests_in (point_after calls p).past ≡ requests_in p.past ++ (gots_of behind ++ request ∷ [])
 
 -- of the channel that words name, whose bytes were known, the request that they ask for is the next behind those that
 -- stood there

@@ -1,16 +1,32 @@
--- Which host the words of a run name.
-use Rattle.std.specs.Prelude.{[]}
+-- Which host the words of a run name, and what is known of the hosts over the operating system.
+use Rattle.std.specs.Prelude.{List, [], Option, ℕ}
+use Rattle.host_calls.specs.Held.{HeldChildren}
+use Rattle.host_system.specs.Asking.{AreAsked}
 use Rattle.host_system.specs.Hosts.{HostState}
-use Rattle.initd_command.specs.Words.{RunSaid}
+use Rattle.host_system.specs.Systems.{SystemCall}
+use Rattle.initd_command.specs.Words.{HostCall, RunSaid}
 
--- one that is strict, tells of its children and passes over the requests from before where the words say so; none of its
--- calls failed, and it holds no child
-abbrev pub host_said : RunSaid → HostState
-host_said service = record {
+-- one that is strict, tells of its children and passes over the requests from before where the words say so, with its
+-- logs where they say; none of its calls failed, and it holds no child; what its system was asked the words don't say
+abbrev pub host_said : List SystemCall → RunSaid → HostState
+host_said asked service = record {
   faults = 0;
   strict = service.strict;
   verbose = service.verbose;
   fresh = service.fresh;
+  logs = service.logs;
   held = [];
   calls = [];
+  asked = asked;
 }
+
+-- the calls that a host was asked, and those that it asked the system, the newest first
+pub record HostsState : Type 0 where
+  pub calls : List HostCall
+  pub asked : List SystemCall
+
+-- The calls are those of a host that held no child before them, and has its logs, if any, in one folder; and for them,
+-- in their order, behind helpers alone, the system was asked just this.
+abbrev pub IsOfSystem : HostsState → Type 0
+IsOfSystem hosts =
+    (logs : Option (List ℕ)) × (held : HeldChildren) × AreAsked logs hosts.calls held hosts.asked

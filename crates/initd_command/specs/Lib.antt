@@ -7,4 +7,5 @@ pub mod Runs
 pub mod Services
 pub mod Turned
 pub mod Verdicts
+pub mod Watching
 pub mod Words

@@ -1,13 +1,19 @@
 -- Which calls a run of init makes of its host.
-use Rattle.std.specs.Prelude.{◌≡◌, ℕ, Bool, true, List, [], ◌∷◌, reverse, Option, Some, None, IfSome, ⊤}
-use Rattle.initd_command.specs.Words.{Entry, KnownTexts, InitdSaid, initd_read_of, runs, RunSaid, Event, LogState, HostCall, Since, UpTo, WentWell, Level, CoreState, opening_goal, is_drained, FitsAll, ServesTurns, IsOpening, Served}
+use Rattle.std.specs.Prelude.{◌≡◌, ℕ, Bool, true, false, List, [], ◌∷◌, ◌++◌, reverse, Option, Some, None, is_some, ⊤}
+use Rattle.initd_command.specs.Words.{Entry, KnownTexts, InitdSaid, initd_read_of, runs, RunSaid, Event, LogState}
+use Rattle.initd_command.specs.Words.{HostCall, Since, UpTo, WentWell, Level, CoreState, opening_goal, is_drained}
+use Rattle.initd_command.specs.Words.{FitsAll, ServesTurns, IsOpening, Served}
 use Rattle.host_trace.specs.Edges.{HadAll}
 use Rattle.host_trace.specs.Fronts.{EachFront}
+use Rattle.trace_files.specs.Filed.{KnowsEnd}
+use Rattle.trace_log_wrappers.specs.Keeping.{EndsBrief}
 use Rattle.initd_command.specs.Turned.{End}
 use Rattle.initd_command.specs.Endings.{Ending, turned}
-use Rattle.initd_command.specs.Services.{HasInittab, IsJudged, IsNoted, IsServed, LogEnds, Noted, TakesParts, TurnsFrom, Writes, end_of, is_unled, table_in, told_of}
+use Rattle.initd_command.specs.Services.{HasInittab, IsJudged, IsNoted, IsServed, LogEnds, Noted, TakesParts, TurnsFrom}
+use Rattle.initd_command.specs.Services.{Writes, end_of, is_unled, table_in, told_of}
 
--- after these calls from the opening on init is drained, as far as the answers were possible: a core that fits there is so
+-- after these calls from the opening on init is drained, as far as the answers were possible: so is a core that fits
+-- there
 abbrev pub EndsDrained : Option Level → List Entry → List HostCall → Type 0
 EndsDrained level table calls = TurnsFrom level table calls (λ past.
     (core : CoreState) × FitsAll core (opening_goal level table) past × (is_drained core ≡ true))
@@ -35,28 +41,50 @@ MakesLogged state fresh has_ended service table end calls = (made : MakesTurns f
     × (fresh → TurnsFrom service.level table calls (λ past. LogEnds has_ended made.served.logged (reverse past)))
     × (fresh → HadAll state (IsOpening service.level table) calls)
 
--- what is told of a run: the arguments by which its hosts were opened, the calls that these were asked, and what it wrote
+-- The bytes are the text of this trace, the oldest happening first, or that of its brief form; or where not all of it
+-- was written, a front of that.
+abbrev pub IsWritten : Bool → List ℕ → Bool → List Event → Type 0
+IsWritten false bytes whole trace = KnowsEnd whole trace (Some bytes)
+IsWritten true bytes whole trace = EndsBrief (λ all written. KnowsEnd all written (Some bytes)) whole trace
+
+-- Such turns, of whose trace these bytes came into files: where the run is to write one, they are what is written of
+-- the trace of the calls, whole if the turns ended with their log whole; and else none.
+abbrev pub MakesTraced : RunSaid → List Entry → End → List ℕ → List HostCall → Type 0
+MakesTraced service table end bytes calls = (made : MakesTurns ⊤ service table end calls)
+    × (service.trace ≡ None → bytes ≡ [])
+    × (is_some service.trace ≡ true → TurnsFrom service.level table calls (λ past.
+    LogEnds (IsWritten service.brief bytes) made.served.logged (reverse past)))
+
+-- what is told of a run: the arguments by which its hosts were opened, the calls that these were asked, the bytes that
+-- files of traces took, and what it wrote
 pub record RunTold : Type 0 where
   pub opened : Option (List RunSaid)
   pub calls : Option (List HostCall)
+  pub trace : List ℕ
   pub out : Option (List ℕ)
 
+-- no host was asked anything, and no file of a trace took a byte
+abbrev pub AsksNothing : RunTold → RunTold → Type 0
+AsksNothing old new = (new.calls ≡ old.calls) × (new.trace ≡ old.trace)
+
 -- A run that comes to its turns makes them over the inittab at its paths, which it takes, whose faults it tells, and of
--- which it says whether it names the level, by a host that is opened by its arguments; and of all the calls that are told
--- then `own` is so. Any other asks nothing of a host.
-abbrev pub RanBy : KnownTexts → RunSaid → (List HostCall → Type 0) → Ending → RunTold → RunTold → Type 0
+-- which it says whether it names the level, by a host that is opened by its arguments, of which `own` is so then. The
+-- files of its trace take the text of that, behind what was told before. Any other asks nothing of a host, and writes
+-- no trace.
+abbrev pub RanBy : KnownTexts → RunSaid → Type 0 → Ending → RunTold → RunTold → Type 0
 RanBy text_at service own (turned spoken end) old new =
     HasInittab text_at service (λ parts. TakesParts service parts
     × (spoken.unled ≡ is_unled service.level (table_in parts))
-    × Since old.calls new.calls (MakesTurns ⊤ service (table_in parts) end)
+    × (bytes : List ℕ) × (new.trace ≡ old.trace ++ bytes)
+    × Since old.calls new.calls (MakesTraced service (table_in parts) end bytes)
     × Writes spoken.told (told_of parts) old.out new.out)
-    × Since old.opened new.opened (λ saids. saids ≡ service ∷ []) × IfSome new.calls own
-RanBy text_at service own _ old new = new.calls ≡ old.calls
+    × Since old.opened new.opened (λ saids. saids ≡ service ∷ []) × own
+RanBy text_at service own _ old new = AsksNothing old new
 
--- what arguments ask of hosts: those of a run what the run asks, any others nothing
-abbrev pub AsksSaid : KnownTexts → Option InitdSaid → (List HostCall → Type 0) → Ending → RunTold → RunTold → Type 0
+-- what arguments ask of hosts, and write of a trace: those of a run what the run does, any others nothing
+abbrev pub AsksSaid : KnownTexts → Option InitdSaid → Type 0 → Ending → RunTold → RunTold → Type 0
 AsksSaid text_at (Some (runs service)) own ending old new = RanBy text_at service own ending old new
-AsksSaid text_at _ own ending old new = new.calls ≡ old.calls
+AsksSaid text_at _ own ending old new = AsksNothing old new
 
-abbrev pub AsksBy : KnownTexts → List (List ℕ) → (List HostCall → Type 0) → Ending → RunTold → RunTold → Type 0
+abbrev pub AsksBy : KnownTexts → List (List ℕ) → Type 0 → Ending → RunTold → RunTold → Type 0
 AsksBy text_at words own ending old new = AsksSaid text_at (initd_read_of words) own ending old new

@@ -18,6 +18,7 @@ use std::alloc::Global;
 use std::fs::File;
 use std::io::Write;
 use std::rt::{Clock, Files};
+use trace_files::Traces;
 
 /// What standard error gets where help with a command is asked for.
 const RUN_USAGE: &str = "usage: initd run [OPTION]..
@@ -99,11 +100,12 @@ const UNVERSIONED: &str = "initd: the version could not be written\n";
 /// trace or the output fails or memory runs out; of a run with `--result` that ends drained, the last status of that
 /// entry. The trace of a simulated run, the verdict on a trace, the faults of the inittab of a run or the version are
 /// written on `out`, and a fault is reported on `err`. The turns of a run are made over a host of the source of hosts,
-/// which takes it back.
-pub fn run_words<R, T, H, S, W, E>(
+/// and its trace is written to files of the source of these; each takes back what it gave.
+pub fn run_words<R, T, H, S, F, W, E>(
     rt: &R,
     texts: &T,
     hosts: &mut S,
+    traces: &mut F,
     alloc: Global,
     words: Vec<String>,
     out: &mut W,
@@ -114,23 +116,35 @@ where
     T: Texts,
     H: Host + Drop,
     S: Hosts<H>,
+    F: Traces,
     W: Write,
     E: Write,
-    // it ends for a reason of which its status, output and report are; and of hosts a run asks what its turns ask, and
-    // nothing else asks anything
+    // it ends for a reason of which its status, output and report are; of hosts a run asks what its turns ask, and nothing
+    // else asks anything; and the files of a run's trace took the text of the trace of these calls, or where its log
+    // failed a front of that, and nothing else
     ensures { (ending : Ending) × (result ≡ status_of ending)
         × EndsBy (T.text_at texts.now) (map string_bytes words.items) ending
         (W.contents out.old) (W.contents out.new)
         × Reports ending (E.contents err.old) (E.contents err.new)
-        × AsksBy (T.text_at texts.now) (map string_bytes words.items) S.own ending
-        (record { opened = S.opened hosts.old; calls = S.told hosts.old; out = W.contents out.old })
-        (record { opened = S.opened hosts.new; calls = S.told hosts.new; out = W.contents out.new }) }
+        × AsksBy (T.text_at texts.now) (map string_bytes words.items) (S.own hosts.new) ending
+        (record {
+          opened = S.opened hosts.old;
+          calls = S.told hosts.old;
+          trace = F.told traces.old;
+          out = W.contents out.old;
+        })
+        (record {
+          opened = S.opened hosts.new;
+          calls = S.told hosts.new;
+          trace = F.told traces.new;
+          out = W.contents out.new;
+        }) }
 {
     match read_words(alloc, words.as_slice()) {
         Ok(Words::Version) => tell_version(out, err),
         Ok(Words::Simulate(said)) => simulate_files(texts, alloc, &said, out, err),
         Ok(Words::Check(said)) => check_files(rt, texts, alloc, &said, out, err),
-        Ok(Words::Run(said)) => run_files(rt, texts, hosts, alloc, &said, out, err),
+        Ok(Words::Run(said)) => run_files(rt, texts, hosts, traces, alloc, &said, out, err),
         Err(WordFault::Usage(reason)) => report_refused(words.as_slice(), reason.as_str(), err),
         Err(WordFault::Memory) => report_memory(err),
     }

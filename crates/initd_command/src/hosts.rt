@@ -1,6 +1,6 @@
 //! Where the host of a run comes from.
 
-ghost use Rattle.std.specs.Prelude.{◌≡◌, ◌∷◌, [], List, Option, IfOk, IfSome, OnErr, OnOk};
+ghost use Rattle.std.specs.Prelude.{◌≡◌, ◌∷◌, [], List, Option, IfOk, OnErr, OnOk};
 ghost use Rattle.initd_command.specs.Words.{HostCall, Since, RunSaid, run_of};
 
 use host_calls::Host;
@@ -11,8 +11,8 @@ use std::alloc::Global;
 
 /// Where the host of a run comes from, and who takes it back behind the turns.
 ///
-/// A contract sees of it the calls that its hosts were asked, where they tell them, and what is so of them by what these
-/// hosts are.
+/// A contract sees of it the calls that its hosts were asked, where they tell them, and what these hosts asked the system
+/// for them.
 pub trait Hosts<H: Host> {
     /// The calls of its hosts with their answers, the newest first. None from the first call that isn't told.
     ghost told: { Self → Option (List HostCall) };
@@ -20,8 +20,8 @@ pub trait Hosts<H: Host> {
     /// The arguments by which its hosts were opened, the newest first. None from the first opening that isn't told.
     ghost opened: { Self → Option (List RunSaid) };
 
-    /// What is so of all the calls that its hosts were asked, where they are told.
-    ghost own: { List HostCall → Type 0 };
+    /// What is so of the calls that its hosts were asked, and of what these asked the system for them.
+    ghost own: { Self → Type 0 };
 
     /// The host that the arguments of a run name, under the lock of its channel. It tells what was told before.
     fn open(&mut self, alloc: Global, said: &RunWords, lock: ChannelLock) -> Result<H, Memory>
@@ -33,8 +33,8 @@ pub trait Hosts<H: Host> {
 
     /// Takes a host back. Gives whether all could be printed that it was to print.
     fn close(&mut self, host: H) -> bool
-        // it tells what the host told, and of all these calls what is so of its hosts is so
+        // it tells what the host told, and what is so of its hosts is so
         ensures told { told self.new ≡ H.told host }
         ensures opened { opened self.new ≡ opened self.old }
-        ensures own { IfSome (told self.new) own };
+        ensures own { own self.new };
 }

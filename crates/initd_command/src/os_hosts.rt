@@ -7,7 +7,7 @@ ghost use Rattle.initd_command.specs.Hosts.{host_said};
 use crate::hosts::Hosts;
 use crate::run::{folder_of, trace_of};
 use host_messages::StampedRuntime;
-use host_system::{HostOptions, OsHost, Pace};
+use host_system::{HostOptions, OsHost, OsSystem, Pace, SystemCallList, nothing_asked};
 use host_telling::{CallList, Noted, no_calls};
 use init_words::Memory;
 use initd_options::RunWords;
@@ -18,7 +18,8 @@ use std::marker::Model;
 use std::process::Processes;
 use std::rt::{Clock, Files};
 
-/// The host that asks the operating system: one, which tells the calls that it was asked. Proofs alone can read them.
+/// The host that asks the operating system: one, which tells the calls that it was asked, and those that it asked the
+/// system for them. Proofs alone can read them.
 ///
 /// It is opened once. Another would hold none of the children of the first, so there is none: it is refused, as where
 /// memory is lacking, and so it is behind an opening that failed.
@@ -27,16 +28,20 @@ pub struct OsHosts<R: Processes + Files<File = File> + Clock + Print + Eprint + 
     /// The runtime of the host, before that is opened.
     rt: Option<R>,
     calls: Noted<CallList>,
+    asked: Noted<SystemCallList>,
 }
+
+/// The host.
+type RunHost<R> = OsHost<StampedRuntime<R>, OsSystem<R>>;
 
 impl<R: Processes + Files<File = File> + Clock + Print + Eprint + Clone + Drop> Model
     for OsHosts<R> {
-    ghost use Rattle.std.specs.Prelude.{◌≡◌, List, [], IsSome};
-    ghost use Rattle.initd_command.specs.Words.{HostCall};
+    ghost use Rattle.std.specs.Prelude.{◌≡◌, [], IsSome};
+    ghost use Rattle.initd_command.specs.Hosts.{HostsState};
 
-    ghost Value = { List HostCall };
+    ghost Value = { HostsState };
 
-    ghost view = { λ hosts. hosts.calls.value };
+    ghost view = { λ hosts. record { calls = hosts.calls.value; asked = hosts.asked.value } };
 
     ghost invariant = { λ hosts. IsSome hosts.rt → hosts.calls.value ≡ [] };
 }
@@ -44,58 +49,57 @@ impl<R: Processes + Files<File = File> + Clock + Print + Eprint + Clone + Drop> 
 impl<R: Processes + Files<File = File> + Clock + Print + Eprint + Clone + Drop> OsHosts<R> {
     /// The host, of which no call was asked yet.
     pub fn new(rt: R) -> OsHosts<R>
-        ensures { result ≡ [] }
+        ensures { result ≡ record { calls = []; asked = [] } }
     {
         OsHosts {
             rt: Some(rt),
             calls: no_calls(),
+            asked: nothing_asked(),
         }
     }
 }
 
-impl<R: Processes + Files<File = File> + Clock + Print + Eprint + Clone + Drop> Hosts<
-    OsHost<StampedRuntime<R>>,
-> for OsHosts<R> {
+impl<R: Processes + Files<File = File> + Clock + Print + Eprint + Clone + Drop> Hosts<RunHost<R>>
+    for OsHosts<R> {
     ghost use Rattle.std.specs.Prelude.{◌≡◌, Some, None, IfOk};
-    ghost use Rattle.host_calls.specs.Held.{AreOwn, HeldChildren};
     ghost use Rattle.initd_command.specs.Words.{run_of};
-    ghost use Rattle.initd_command.specs.Hosts.{host_said};
+    ghost use Rattle.initd_command.specs.Hosts.{IsOfSystem, host_said};
 
-    ghost told = { λ hosts. Some hosts };
+    ghost told = { λ hosts. Some hosts.calls };
 
     ghost opened = { λ _. None };
 
-    ghost own = { λ calls. (held : HeldChildren) × AreOwn calls held };
+    ghost own = { IsOfSystem };
 
     fn open(
         &mut self,
         alloc: Global,
         said: &RunWords,
         lock: ChannelLock,
-    ) -> Result<OsHost<StampedRuntime<R>>, Memory>
-        ensures told { IfOk result (λ host. Some host.calls ≡ Some self.old) }
+    ) -> Result<RunHost<R>, Memory>
+        ensures told { IfOk result (λ host. Some host.calls ≡ Some self.old.calls) }
         ensures err { self.new ≡ self.old }
-        ensures words { IfOk result (λ host. host ≡ host_said (run_of said.now)) }
+        ensures words { IfOk result (λ host. host ≡ host_said host.asked (run_of said.now)) }
     {
         let Some(rt) = self.rt.take() else {
             return Err(Memory);
         };
-        let stamped = StampedRuntime::new(rt, alloc, said.stamp);
-        Ok(host_of(&stamped, alloc, said)?.holding(lock))
+        Ok(host_of(rt, alloc, said)?.holding(lock))
     }
 
-    fn close(&mut self, host: OsHost<StampedRuntime<R>>) -> bool {
+    fn close(&mut self, host: RunHost<R>) -> bool {
         self.rt = None;
         self.calls = host.calls();
+        self.asked = host.asked();
         host.has_printed()
     }
 }
 
 /// The host that words name.
-fn host_of<R>(rt: &R, alloc: Global, said: &RunWords) -> Result<OsHost<R>, Memory>
+fn host_of<R>(rt: R, alloc: Global, said: &RunWords) -> Result<RunHost<R>, Memory>
 where
     R: Processes + Files<File = File> + Clock + Print + Eprint + Clone + Drop,
-    ensures { IfOk result (λ host. host ≡ host_said (run_of said.now)) }
+    ensures { IfOk result (λ host. host ≡ host_said host.asked (run_of said.now)) }
 {
     let pace = Pace::UpTo {
         hundredths: said.pause,
@@ -116,7 +120,8 @@ where
         strict: said.strict,
         sends_term: true,
     };
-    OsHost::new(rt.clone()?, alloc, &options)
+    let stamped = StampedRuntime::new(rt.clone()?, alloc, said.stamp);
+    OsHost::new(stamped, rt, alloc, &options)
 }
 
 /// The trace of the run has its looks: there is one, and it isn't brief.

@@ -1,15 +1,15 @@
 //! `initd run`: what it stands on, and its turns.
 
-ghost use Rattle.std.specs.Prelude.{◌≡◌, ◌∷◌, ◌&&◌, if◌then◌else◌, true, List, None, Some, [], option_map, unwrap_or, IfErr, IfOk, IfSome, OnErr, OnOk, ⊤};
+ghost use Rattle.std.specs.Prelude.{◌≡◌, ◌∷◌, ◌++◌, ◌&&◌, if◌then◌else◌, ℕ, true, List, None, Some, [], is_some, option_map, unwrap_or, IfErr, IfOk, IfSome, OnErr, OnOk};
 ghost use Rattle.initd_command.specs.Words.{KnownTexts, NamedText, Entry, Since, IsOpeningOf, RunSaid, run_of};
 ghost use Rattle.initd_command.specs.Endings.{Ending, Reports, ReportsObstacle, Spoken, obstacle_status, status_of, turned};
-ghost use Rattle.initd_command.specs.Ran.{MakesLogged, MakesTurns, RanBy};
+ghost use Rattle.initd_command.specs.Ran.{MakesLogged, MakesTraced, RanBy};
 ghost use Rattle.initd_command.specs.Turned.{End, ReportsEnd, end_status};
 ghost use Rattle.initd_command.specs.Services.{AreFiles, EndsRun, EndsServed, EndsTold, HasInittab, IsInWay, IsInittab, IsReadOf, StandBy, TakesParts, is_taken, is_unled, own_paths, table_in, told_of};
 
 use crate::ends::report_end;
 use crate::hosts::Hosts;
-use crate::logs::{FileLog, NoLog, takes_lock};
+use crate::logs::NoLog;
 use crate::reports::{
     report_busy, report_cannot, report_fault, report_flawed, report_memory, report_shared,
     report_too_many, report_unlisted, report_where, tell,
@@ -32,6 +32,7 @@ use std::fs::{File, OpenOptions, canonicalize, metadata, remove_file};
 use std::io;
 use std::io::{ErrorKind, Write};
 use std::rt::{Clock, Files};
+use trace_files::{FileLog, TraceFiles, Traces, takes_lock};
 use trace_log::EndedLog;
 use trace_log_wrappers::{BriefLog, WatchedLog};
 
@@ -100,10 +101,11 @@ struct Run<H> {
 
 /// Runs init over the operating system: reads the inittab, opens the trace, takes the lock of the channel, and makes the
 /// turns.
-pub(crate) fn run_files<R, T: Texts, H: Host + Drop, S: Hosts<H>, W: Write, E: Write>(
+pub(crate) fn run_files<R, T: Texts, H: Host + Drop, S: Hosts<H>, F: Traces, W: Write, E: Write>(
     rt: &R,
     texts: &T,
     hosts: &mut S,
+    traces: &mut F,
     alloc: Global,
     said: &RunWords,
     out: &mut W,
@@ -115,12 +117,22 @@ where
         × EndsRun (T.text_at texts.now) (run_of said.now) ending
         (W.contents out.old) (W.contents out.new)
         × Reports ending (E.contents err.old) (E.contents err.new)
-        × RanBy (T.text_at texts.now) (run_of said.now) S.own ending
-        (record { opened = S.opened hosts.old; calls = S.told hosts.old; out = W.contents out.old })
-        (record { opened = S.opened hosts.new; calls = S.told hosts.new; out = W.contents out.new }) }
+        × RanBy (T.text_at texts.now) (run_of said.now) (S.own hosts.new) ending
+        (record {
+          opened = S.opened hosts.old;
+          calls = S.told hosts.old;
+          trace = F.told traces.old;
+          out = W.contents out.old;
+        })
+        (record {
+          opened = S.opened hosts.new;
+          calls = S.told hosts.new;
+          trace = F.told traces.new;
+          out = W.contents out.new;
+        }) }
 {
     match open_run(rt, texts, hosts, alloc, said) {
-        Ok(run) => make_run(rt, hosts, alloc, said, run, out, err),
+        Ok(run) => make_run(rt, hosts, traces, alloc, said, run, out, err),
         Err(why) => report_obstacle(alloc, &why, err),
     }
 }
@@ -144,6 +156,8 @@ where
     ensures host { IfOk result (λ run. H.told run.host ≡ S.told hosts.old) }
     ensures opened { OnOk result (Since (S.opened hosts.old) (S.opened hosts.new)
         (λ saids. saids ≡ run_of said.now ∷ [])) }
+    ensures trace { IfOk result (λ run.
+        is_some run.trace ≡ is_some (run_of said.now).trace) }
     ensures err { IfErr result (IsInWay (T.text_at texts.now) (run_of said.now)) }
     ensures unasked { OnErr result (S.told hosts.new ≡ S.told hosts.old) }
 {
@@ -353,7 +367,9 @@ fn open_trace<R: Files<File = File>>(
     alloc: Global,
     said: &RunWords,
 ) -> Result<(Option<File>, bool), Obstacle>
-    ensures { (text_at : KnownTexts)
+    ensures ok { IfOk result (λ opened.
+        is_some opened.0 ≡ is_some (run_of said.now).trace) }
+    ensures err { (text_at : KnownTexts)
         → HasInittab text_at (run_of said.now) (TakesParts (run_of said.now))
         → IfErr result (IsInWay text_at (run_of said.now)) }
 {
@@ -414,9 +430,10 @@ pub(crate) fn trace_of(said: &RunWords) -> &str
 
 /// Tells the faults of the inittab's lines, and makes the turns. Where these faults, or what the host was to print, could
 /// not be written, the exit status is 4.
-fn make_run<R, H: Host + Drop, S: Hosts<H>, W: Write, E: Write>(
+fn make_run<R, H: Host + Drop, S: Hosts<H>, F: Traces, W: Write, E: Write>(
     rt: &R,
     hosts: &mut S,
+    traces: &mut F,
     alloc: Global,
     said: &RunWords,
     run: Run<H>,
@@ -425,15 +442,17 @@ fn make_run<R, H: Host + Drop, S: Hosts<H>, W: Write, E: Write>(
 ) -> u8
 where
     R: Files<File = File> + Alloc + Eprint + Clock,
+    requires { is_some run.trace ≡ is_some (run_of said.now).trace }
     ensures ended { (spoken : Spoken) × (spoken.unled ≡ run.is_unled) × (end : End)
         × (result ≡ status_of (turned spoken end))
         × EndsTold (run_of said.now) run.faults.items spoken.told end
         (W.contents out.old) (W.contents out.new)
         × Reports (turned spoken end) (E.contents err.old) (E.contents err.new)
+        × (bytes : List ℕ) × (F.told traces.new ≡ F.told traces.old ++ bytes)
         × ((table : List Entry) → IsOpeningOf (run_of said.now).level table run.opening
         → Since (H.told run.host) (S.told hosts.new)
-        (MakesTurns ⊤ (run_of said.now) table end)) }
-    ensures own { IfSome (S.told hosts.new) S.own }
+        (MakesTraced (run_of said.now) table end bytes)) }
+    ensures own { S.own hosts.new }
     ensures opened { S.opened hosts.new ≡ S.opened hosts.old }
 {
     let Run {
@@ -448,7 +467,7 @@ where
     report_where(is_unled, UNLED, err);
     tell_endless(rt, said);
     let stamped = StampedRuntime::new(rt, alloc, said.stamp);
-    let (status, host) = make_traced(&stamped, alloc, said, opening, host, trace, err);
+    let (status, host) = make_traced(&stamped, traces, alloc, said, opening, host, trace, err);
     let is_printed = hosts.close(host);
     status_where(is_told, is_printed, status)
 }
@@ -478,8 +497,9 @@ fn tell_endless(rt: &impl Eprint, said: &RunWords) {
 }
 
 /// Makes the turns, and writes the trace where there is a file for it.
-fn make_traced<R, H: Host, E: Write>(
+fn make_traced<R: Files + Eprint, H: Host, F: Traces, E: Write>(
     rt: &R,
+    traces: &mut F,
     alloc: Global,
     said: &RunWords,
     opening: Opening,
@@ -487,45 +507,48 @@ fn make_traced<R, H: Host, E: Write>(
     trace: Option<File>,
     err: &mut E,
 ) -> (u8, H)
-where
-    R: Files<File = File> + Eprint,
+    requires { is_some trace ≡ is_some (run_of said.now).trace }
     ensures { (end : End) × (result.0 ≡ end_status end) × EndsServed (run_of said.now) end
         × ReportsEnd end (E.contents err.old) (E.contents err.new)
+        × (bytes : List ℕ) × (F.told traces.new ≡ F.told traces.old ++ bytes)
         × ((table : List Entry) → IsOpeningOf (run_of said.now).level table opening
-        → Since (H.told host) (H.told result.1) (MakesTurns ⊤ (run_of said.now) table end)) }
+        → Since (H.told host) (H.told result.1)
+        (MakesTraced (run_of said.now) table end bytes)) }
 {
     let Some(file) = trace else {
-        return make_over(rt, alloc, said, opening, host, NoLog {}, err);
+        let (status, host, ()) = make_turns(rt, alloc, said, opening, host, NoLog {}, err);
+        return (status, host);
     };
-    let log = FileLog::new(rt, alloc, trace_of(said), file, said.trace_size);
-    if said.brief {
-        let log = BriefLog::new(log);
-        return make_over(rt, alloc, said, opening, host, log, err);
-    }
-    make_over(rt, alloc, said, opening, host, log, err)
+    let files = traces.open(file);
+    let (status, host, files) = make_over(rt, alloc, said, opening, host, files, err);
+    traces.close(files);
+    (status, host)
 }
 
-/// Makes the turns over a log, of which nothing is kept.
-fn make_over<R: Files + Eprint, H: Host, L: EndedLog, E: Write>(
+/// Makes the turns over a log in the files of their trace, and gives these back.
+fn make_over<R: Files + Eprint, H: Host, S: TraceFiles, E: Write>(
     rt: &R,
     alloc: Global,
     said: &RunWords,
     opening: Opening,
     host: H,
-    log: L,
+    files: S,
     err: &mut E,
-) -> (u8, H)
-where
-    L: Drop,
-    L::Left: Drop,
+) -> (u8, H, S)
+    requires trace { is_some (run_of said.now).trace ≡ true }
+    requires nothing { S.contents files ≡ Some [] }
     ensures { (end : End) × (result.0 ≡ end_status end) × EndsServed (run_of said.now) end
         × ReportsEnd end (E.contents err.old) (E.contents err.new)
-        × ((L.state log).taken [] → (table : List Entry)
-        → IsOpeningOf (run_of said.now).level table opening
-        → Since (H.told host) (H.told result.1) (MakesTurns ⊤ (run_of said.now) table end)) }
+        × ((bytes : List ℕ) → IfSome (S.contents result.2) (λ taken. taken ≡ bytes)
+        → (table : List Entry) → IsOpeningOf (run_of said.now).level table opening
+        → Since (H.told host) (H.told result.1)
+        (MakesTraced (run_of said.now) table end bytes)) }
 {
-    let (status, host, _) = make_turns(rt, alloc, said, opening, host, log, err);
-    (status, host)
+    let log = FileLog::new(rt, alloc, trace_of(said), files, said.trace_size);
+    if said.brief {
+        return make_turns(rt, alloc, said, opening, host, BriefLog::new(log), err);
+    }
+    make_turns(rt, alloc, said, opening, host, log, err)
 }
 
 /// Makes the turns of a run, from its opening on, ends its log, and reports how they ended: the exit status is 0, or that
@@ -541,8 +564,6 @@ pub fn make_turns<R: Files + Eprint, H: Host, L: EndedLog, E: Write>(
     log: L,
     err: &mut E,
 ) -> (u8, H, L::Left)
-where
-    L: Drop,
     // the exit status and what is reported are those of an end of turns; over the table of the opening the calls made are
     // those of init's turns, which ended so; and if the log was fresh, so has it, and when each call was made, it had
     // taken the whole trace until then, or had failed

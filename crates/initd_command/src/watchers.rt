@@ -1,7 +1,10 @@
 //! What is said between turns, on standard error: of waited entries that failed, of a channel whose folder is gone, and,
 //! on request, of a stage that isn't settled for long.
 
-use core_steps::Core;
+ghost use Rattle.std.specs.Prelude.{◌≡◌};
+ghost use Rattle.initd_command.specs.Watching.{bad_end, failure_of, holds_child, is_let_end};
+
+use core_steps::{Core, Record};
 use core_waiting::waiting_lines;
 use init_turns::Watch;
 use init_words::{Act, ChildNumber, Entry, Id, Stage, Status, lives};
@@ -136,19 +139,42 @@ impl<'a, R: Files + Eprint> Watch<Global> for Watcher<'a, R> {
 
 /// How the child of this number that init waited for ended, where it failed: nothing where it goes on, or where a
 /// reading of inittab or another level stopped it.
-fn failure(core: &Core, id: &Id, number: ChildNumber) -> Option<Status> {
+fn failure(core: &Core, id: &Id, number: ChildNumber) -> Option<Status>
+    ensures { result ≡ failure_of core.now id.now number }
+{
     let entry = core.table().get(id)?;
-    if core.slots().by_id(id)?.child() == Some(number) || !is_meant(entry, core.stage()?) {
+    let slot = core.slots().by_id(id)?;
+    let stage = core.stage()?;
+    if is_child(slot, number) || !is_meant(entry, stage) {
         return None;
     }
-    match core.last(id)? {
-        Status::Exit(0) => None,
-        status => Some(status),
+    bad_end(slot.last())
+}
+
+/// The child of the record has this number.
+fn is_child(slot: &Record, number: ChildNumber) -> bool
+    ensures { result ≡ holds_child number slot.now }
+{
+    match slot.child() {
+        Some(held) => held == number,
+        None => false,
+    }
+}
+
+/// Another end than by 0.
+fn bad_end(last: Option<Status>) -> Option<Status>
+    ensures { result ≡ bad_end last }
+{
+    match last {
+        Some(Status::Exit(0)) => None,
+        last => last,
     }
 }
 
 /// No stop of the stage was for the entry's child: it lives there, or belongs to stages that init leaves behind its end.
-fn is_meant(entry: &Entry, stage: Stage) -> bool {
+fn is_meant(entry: &Entry, stage: Stage) -> bool
+    ensures { result ≡ is_let_end entry.now stage }
+{
     matches!(entry.act, Act::Sysinit | Act::Bootwait) || lives(entry, stage)
 }
 

@@ -3,6 +3,7 @@
 
 ghost use Rattle.std.specs.Prelude.{⊤, None, option_and_then};
 
+use crate::turns_tests;
 use host_calls::Host;
 use host_scripted::MemoryHost;
 use init_words::Memory;
@@ -13,6 +14,7 @@ use std::alloc::Global;
 use std::fs;
 use std::test::Fail;
 use test_support::{Slow, boxed, fields_of, host_of, letters_of, line_words};
+use trace_files::OsTraces;
 
 /// A source of one host, which is there again behind the turns.
 #[derive(Drop)]
@@ -133,7 +135,17 @@ fn answers(rt: &HostRuntime, row: &str, out: &mut Slow) -> Result<bool, Fail> {
     };
     let words = line_words(alloc, line)?;
     let mut err: Vec<u8> = Vec::new(alloc);
-    let ended = run_words(rt, &kept, &mut *hosts, alloc, words, out, &mut err);
+    let mut traces = OsTraces::new(rt, alloc);
+    let ended = run_words(
+        rt,
+        &kept,
+        &mut *hosts,
+        &mut traces,
+        alloc,
+        words,
+        out,
+        &mut err,
+    );
     Ok(
         status.parse::<u8>() == Ok(ended)
             && is_text(out.taken.as_slice(), printed)
@@ -148,6 +160,52 @@ fn lines_are_answered(rt: HostRuntime) -> Result<(), Fail> {
         let mut out = Slow::new(rt.alloc(), 100_000, true, false);
         assert!(rt; answers(&rt, row, &mut out)?, "{row}");
     }
+    let _ = fs::remove_file(&rt, "host-ctl");
+    Ok(())
+}
+
+/// A run of three turns whose trace goes to the file `host-trace`, and that trace.
+const TRACED: &[(&str, &[u8])] = &[
+    (
+        "run --inittab tab --initctl host-ctl --level 3 --turns 3 --trace host-trace",
+        turns_tests::TRACE,
+    ),
+    (
+        "run --inittab tab --initctl host-ctl --level 3 --turns 3 --trace host-trace --brief",
+        turns_tests::BRIEF,
+    ),
+];
+
+/// What the file of the trace has behind a run.
+fn traced(rt: &HostRuntime, line: &str) -> Result<Vec<u8>, Fail> {
+    let alloc = rt.alloc();
+    let mut kept = KeptTexts::new(alloc);
+    kept.keep("tab", turns_tests::INITTAB)?;
+    let mut hosts = source_of(alloc, "start birth 10", true).ok_or("no host")?;
+    let words = line_words(alloc, line)?;
+    let mut traces = OsTraces::new(rt, alloc);
+    let mut out: Vec<u8> = Vec::new(alloc);
+    let mut err: Vec<u8> = Vec::new(alloc);
+    let _ = run_words(
+        rt,
+        &kept,
+        &mut *hosts,
+        &mut traces,
+        alloc,
+        words,
+        &mut out,
+        &mut err,
+    );
+    Ok(fs::read(rt, "host-trace")?)
+}
+
+#[test]
+fn the_file_of_a_trace_has_its_text(rt: HostRuntime) -> Result<(), Fail> {
+    for (line, want) in TRACED {
+        let text = traced(&rt, line)?;
+        assert!(rt; text.as_slice() == *want, "{line}: {text:?}");
+    }
+    let _ = fs::remove_file(&rt, "host-trace");
     let _ = fs::remove_file(&rt, "host-ctl");
     Ok(())
 }

@@ -10,16 +10,16 @@ use test_support::{boxed, host_of, line_words};
 use trace_log::{EndedLog, StreamLog};
 use trace_log_wrappers::BriefLog;
 
-const INITTAB: &[u8] = b"r:3:respawn:x\n";
+pub(crate) const INITTAB: &[u8] = b"r:3:respawn:x\n";
 
 /// Three turns: a child is born in the first, and lives at the looks of the others.
-const TRACE: &[u8] =
+pub(crate) const TRACE: &[u8] =
     b"use 1\nr:3:respawn:x\nclock 0\nnudge\nenter sysinit 5\nenter boot 5\nenter 3 5\n\
     ask r start\nbirth r 10\ntold r\nsettle 3\n\
     clock 0\nnudge\nask r look\nstill r\ntold r\nclock 0\nnudge\nask r look\nstill r\ntold r\n";
 
 /// Its brief form: of the idle rounds the last reading of the clock and the last round are left.
-const BRIEF: &[u8] =
+pub(crate) const BRIEF: &[u8] =
     b"use 1\nr:3:respawn:x\nclock 0\nnudge\nenter sysinit 5\nenter boot 5\nenter 3 5\n\
     ask r start\nbirth r 10\ntold r\nsettle 3\nclock 0\nnudge\n";
 

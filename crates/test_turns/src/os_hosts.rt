@@ -5,7 +5,7 @@
 //! `lacks` memory, and counts a fault just then. All orders are about one id.
 
 use host_calls::{Host, HostFault, Reply};
-use host_system::{HostOptions, OsHost, Pace};
+use host_system::{HostOptions, OsHost, OsSystem, Pace};
 use init_words::{Answer, Id, Memory, Part, SignalKind, Stage};
 use std::alloc::Allocator;
 use std::fs;
@@ -21,7 +21,7 @@ pub(crate) type Paths = (
 );
 
 /// A host over the system that the tests run on.
-pub(crate) type SystemHost<A> = OsHost<HostRuntime, A>;
+pub(crate) type SystemHost<A> = OsHost<HostRuntime, OsSystem<HostRuntime>, A>;
 
 /// A host of these paths: that passes over what stands in its channel, tells of its children, has logs, or pauses by what
 /// a turn costs; none of these where nothing is said.
@@ -55,7 +55,7 @@ pub(crate) fn host_of<A: Allocator + Copy>(
         verbose: kind == "verbose",
         ..HostOptions::of("initd")
     };
-    Ok(boxed(rt.alloc(), OsHost::new(*rt, alloc, &options)?)?)
+    Ok(boxed(rt.alloc(), OsHost::new(*rt, *rt, alloc, &options)?)?)
 }
 
 fn word_of(reply: Reply) -> &'static str {

@@ -1,4 +1,6 @@
-use Rattle.initd_command.proofs.Words.{arith, ◌≡◌, refl, sym, ◌∙◌, ap, subst, ℕ, ◌+◌, ◌*◌, ◌/◌, ◌%◌, Bool, true, if◌then◌else◌, List, [], ◌∷◌, ◌++◌, length, option_map, length-drop}
+use Rattle.initd_command.proofs.Words.{arith, ◌≡◌, refl, sym, ◌∙◌, ap, subst, ℕ, ◌+◌, ◌*◌, ◌/◌, ◌%◌, Bool, true}
+use Rattle.initd_command.proofs.Words.{if◌then◌else◌, List, [], ◌∷◌, ◌++◌, length, option_map, length-drop}
+use Rattle.std.proofs.lemmas.List.{append_cancel_left, append_assoc, length-append}
 use Rattle.std.specs.Prelude.{IfSome}
 use Rattle.std.specs.Str.{bytes_eq}
 use Rattle.std.proofs.lemmas.Slice.Eq.{bytes_eq-Decides}
@@ -7,8 +9,9 @@ use Rattle.initctl_frame.specs.declared.requests.Request.TheVariants as request
 use Rattle.initctl_frame.specs.Frames.{block_of, heard_of}
 use Rattle.initctl_frame.specs.Blocks.{gots_of, over_of}
 use Rattle.initctl_frame.proofs.BlockLemmas.{gots_grow}
-use Rattle.host_trace.specs.Requests.{Brings, requests_in}
+use Rattle.host_trace.specs.Requests.{Brings, bytes_of, requests_in}
 use Rattle.host_trace.proofs.Requests.{calls_bring}
+use Rattle.initd_command.specs.Words.{HostCall, Point, point_after}
 use Rattle.initd_command.specs.Heard.{BringsNext}
 use Rattle.initd_command.proofs.laws.law_of_telinit.Goals as goal
 
@@ -24,13 +27,25 @@ none_of : (xs : List ℕ) → length xs ≡ 0 → xs ≡ []
 none_of [] h = refl
 none_of (x ∷ xs) h = absurd (omega (arith, h))
 
-brings_next : (stood block : List ℕ) → length stood % 384 ≡ 0 → length block ≡ 384 → BringsNext stood (heard_of block) (stood ++ block)
-brings_next stood block whole long calls p none took =
+next_of : (stood block : List ℕ) (calls : List HostCall) (p : Point) → length stood % 384 ≡ 0 → length block ≡ 384
+    → p.over ≡ [] → bytes_of calls ≡ stood ++ block
+    → requests_in (point_after calls p).past ≡ requests_in p.past ++ (gots_of stood ++ heard_of block ∷ [])
+next_of stood block calls p whole long none took =
     let over : length (over_of stood) ≡ 0 = omega (arith, length-drop (384 * (length stood / 384)) stood, whole) in
     let brings : Brings [] calls p = calls_bring calls [] p none in
     let grown : gots_of (stood ++ block) ≡ gots_of stood ++ heard_of block ∷ [] =
-    gots_grow stood block (omega (arith, over, long)) ∙ ap (λ xs. gots_of stood ++ heard_of (xs ++ block) ∷ []) (none_of (over_of stood) over) in
+    gots_grow stood block (omega (arith, over, long))
+    ∙ ap (λ xs. gots_of stood ++ heard_of (xs ++ block) ∷ []) (none_of (over_of stood) over) in
     brings.past ∙ ap (λ more. requests_in p.past ++ more) (sym brings.gots ∙ ap gots_of took ∙ grown)
+
+brings_next : (stood block : List ℕ) → length stood % 384 ≡ 0 → length block ≡ 384
+    → BringsNext stood (heard_of block) (stood ++ block)
+brings_next stood block whole long front behind calls p parts passed none took =
+    let fits : length (front ++ behind) % 384 ≡ 0 = subst (λ xs. length xs % 384 ≡ 0) parts whole in
+    let rest : length behind % 384 ≡ 0 = omega (arith, fits, passed, length-append front behind) in
+    next_of behind block calls p rest long none
+    (append_cancel_left front (bytes_of calls) (behind ++ block)
+    (took ∙ ap (λ xs. xs ++ block) parts ∙ append_assoc front behind block))
 
 same : (path : List ℕ) → bytes_eq path path ≡ true
 same path = (bytes_eq-Decides path path).1 refl
@@ -42,7 +57,9 @@ returns c home words old new (path, block, (said, read, at, frame), whole, gaine
   (said, read, at, frame),
   λ stood was. (
     stood ++ block,
-    gained path ∙ ap (λ (b : Bool). if b then option_map (λ bytes. bytes ++ block) (old path) else old path) (same path) ∙ ap (option_map (λ bytes. bytes ++ block)) was,
-    brings_next stood block (subst (λ o. IfSome o (λ bytes. length bytes % 384 ≡ 0)) was whole) (ap length (sym frame) ∙ whole_block said.request),
+    gained path ∙ ap (λ (b : Bool). if b then option_map (λ bytes. bytes ++ block) (old path) else old path) (same path)
+        ∙ ap (option_map (λ bytes. bytes ++ block)) was,
+    brings_next stood block (subst (λ o. IfSome o (λ bytes. length bytes % 384 ≡ 0)) was whole)
+        (ap length (sym frame) ∙ whole_block said.request),
   ),
 )

@@ -1,9 +1,30 @@
-use Rattle.initd_command.proofs.Words.{run_of}
+use Rattle.initd_command.proofs.Words.{[], run_of}
 use Rattle.host_calls.proofs.Record.{Since-map}
-use Rattle.initd_command.proofs.Ran.{made_fresh}
+use Rattle.initd_command.proofs.Ran.{brief_written, made_traced, plain_written, some_known}
 use Rattle.initd_command.proofs.run.make_over.Goals as goal
+
+pub returns-then-said : goal.returns-then-said
+returns-then-said g c =
+    let (end, status, served, reported, made) = c.make_turns.ensures in
+    let taken = some_known (g.S.Write.contents c.args.files) [] _ c.requires.nothing c.new-log.ensures.nothing in (
+      end,
+      status,
+      served,
+      reported,
+      λ bytes is table opens. Since-map _ _ _ _ (made table opens) (λ calls.
+          made_traced _ _ (run_of c.args.said.now) table end (c.new.ensures.nothing taken) bytes calls c.requires.trace
+          (brief_written _ bytes is c.args.said.now.brief c.if-said.true)),
+    )
 
 pub returns : goal.returns
 returns g c =
-    let (end, status, served, reported, made) = c.make_turns-status.ensures in
-    (end, status, served, reported, λ fresh table opens. Since-map _ _ _ _ (made table opens) (λ calls turns. made_fresh _ _ (run_of c.args.said.now) table end calls fresh turns))
+    let (end, status, served, reported, made) = c.make_turns-2.ensures in
+    let taken = some_known (g.S.Write.contents c.args.files) [] _ c.requires.nothing c.new-log.ensures.nothing in (
+      end,
+      status,
+      served,
+      reported,
+      λ bytes is table opens. Since-map _ _ _ _ (made table opens) (λ calls.
+          made_traced _ _ (run_of c.args.said.now) table end taken bytes calls c.requires.trace
+          (plain_written _ bytes is c.args.said.now.brief c.if-said.false)),
+    )

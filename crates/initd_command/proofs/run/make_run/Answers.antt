@@ -1,23 +1,38 @@
-use Rattle.initd_command.proofs.Words.{◌≡◌, refl, sym, ◌∙◌, ap, subst, ◌&&◌, if◌then◌else◌, Bool, true, false, List, ℕ, Option, ⊤, Appends, AppendsPrefix, Since, run_of, MakesTurns, Writes}
+use Rattle.initd_command.proofs.Words.{◌≡◌, refl, sym, ◌∙◌, ap, subst, ◌&&◌, if◌then◌else◌, Bool, true, false, List, ℕ}
+use Rattle.initd_command.proofs.Words.{Option, Appends, AppendsPrefix, Since, run_of, MakesTraced, Writes}
 use Rattle.initd_command.proofs.run.make_run.Goals as goal
 
 -- a text that was told was written, any other in part
-writes : (told : Bool) (text : List ℕ) (old new : Option (List ℕ)) → (told ≡ true → Appends old new text) → AppendsPrefix old new text → Writes told text old new
+writes : (told : Bool) (text : List ℕ) (old new : Option (List ℕ)) → (told ≡ true → Appends old new text)
+    → AppendsPrefix old new text → Writes told text old new
 writes true text old new whole part = whole refl
 writes false text old new whole part = part
 
 pub returns-clause-ended : goal.returns-clause-ended
 returns-clause-ended g c =
-    let (end, status, served, reported, made) = c.make_traced-status.ensures in (
+    let (end, status, served, reported, bytes, grown, made) = c.make_traced-status.ensures in (
       record { unled = c.args.run.is_unled; told = c.tell-is_told.result; printed = c.close-is_printed.result },
       refl,
       end,
-      c.status_where.ensures ∙ ap (λ (s : ℕ). if c.tell-is_told.result && c.close-is_printed.result then s else 4) status,
+      c.status_where.ensures
+          ∙ ap (λ (s : ℕ). if c.tell-is_told.result && c.close-is_printed.result then s else 4) status,
       (
         served,
-        subst (λ text. Writes c.tell-is_told.result text (g.W.Write.contents c.args.out.now) (g.W.Write.contents c.tell-is_told.new.out)) c.deref.ensures.value
-            (writes c.tell-is_told.result c.deref.result.now (g.W.Write.contents c.args.out.now) (g.W.Write.contents c.tell-is_told.new.out) c.tell-is_told.ensures.whole c.tell-is_told.ensures.part),
+        subst (λ text. Writes c.tell-is_told.result text (g.W.Write.contents c.args.out.now)
+            (g.W.Write.contents c.tell-is_told.new.out)) c.deref.ensures.value
+            (writes c.tell-is_told.result c.deref.result.now (g.W.Write.contents c.args.out.now)
+            (g.W.Write.contents c.tell-is_told.new.out) c.tell-is_told.ensures.whole c.tell-is_told.ensures.part),
       ),
-      (g.E.Write.contents c.report_where.new.err, c.report_where.ensures, g.E.Write.contents c.report_where-2.new.err, c.report_where-2.ensures, reported),
-      λ table opens. subst (λ now. Since (g.H.Host.told c.args.run.host) now (MakesTurns ⊤ (run_of c.args.said.now) table end)) (sym c.close-is_printed.ensures.told) (made table opens),
+      (
+        g.E.Write.contents c.report_where.new.err,
+        c.report_where.ensures,
+        g.E.Write.contents c.report_where-2.new.err,
+        c.report_where-2.ensures,
+        reported,
+      ),
+      bytes,
+      grown,
+      λ table opens. subst (λ now. Since (g.H.Host.told c.args.run.host) now
+          (MakesTraced (run_of c.args.said.now) table end bytes)) (sym c.close-is_printed.ensures.told)
+          (made table opens),
     )

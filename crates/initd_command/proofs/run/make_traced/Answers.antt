@@ -1,6 +1,25 @@
+use Rattle.initd_command.proofs.Words.{◌≡◌, ◌++◌, ◌∙◌, [], ap, append-nil, is_some, run_of, subst, sym}
+use Rattle.host_calls.proofs.Record.{Since-map}
+use Rattle.initd_command.proofs.Ran.{made_untraced}
 use Rattle.initd_command.proofs.run.make_traced.Goals as goal
 
-pub returns-then-said : goal.returns-then-said
-returns-then-said g c =
-    let (end, status, served, reported, made) = c.make_over-then-said.ensures in
-    (end, status, served, reported, made (c.new-log-then-said.ensures.nothing tt))
+pub returns-in_default : goal.returns-in_default
+returns-in_default g c =
+    let (end, status, served, reported, made) = c.make_turns-status.ensures in
+    let none = sym (append-nil (g.F.Traces.told c.args.traces.now)) in (
+      end,
+      status,
+      served,
+      reported,
+      [],
+      none,
+      λ table opens. Since-map _ _ _ _ (made table opens) (λ calls.
+          made_untraced _ _ (run_of c.args.said.now) table end tt calls (sym c.requires ∙ ap is_some c.in_default.is)),
+    )
+
+pub returns : goal.returns
+returns g c =
+    let (end, status, served, reported, made) = c.make_over-status.ensures in
+    let (bytes, grown, taken) = c.close.ensures in
+    let told = subst (λ before. g.F.Traces.told c.close.new.self ≡ before ++ bytes) c.open-files.ensures.told grown in
+    (end, status, served, reported, bytes, told, made bytes taken)

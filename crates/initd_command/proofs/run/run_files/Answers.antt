@@ -1,4 +1,5 @@
-use Rattle.initd_command.proofs.Words.{◌≡◌, ◌∙◌, refl, sym, subst, [], ◌∷◌, inl, inr, ⊤, Keeps-refl, Since, run_of, refused, turned, MakesTurns}
+use Rattle.initd_command.proofs.Words.{◌≡◌, ◌∙◌, refl, sym, subst, [], ◌∷◌, inl, inr, Keeps-refl, Since, run_of}
+use Rattle.initd_command.proofs.Words.{refused, turned, MakesTraced}
 use Rattle.initd_command.specs.Services.{EndsTold}
 use Rattle.initd_command.proofs.Ran.{ran_to}
 use Rattle.initd_command.proofs.run.run_files.Goals as goal
@@ -10,22 +11,40 @@ returns-in-Ok g c =
     let run = c.in-Ok.run' in
     let out = g.W.Write.contents c.args.out.now in
     let now_out = g.W.Write.contents c.make_run.new.out in
-    let (spoken, unled, end, status, told, reported, ran) = c.make_run.ensures.ended in
+    let (spoken, unled, end, status, told, reported, bytes, grown, ran) = c.make_run.ensures.ended in
     let (parts, are, read, (lines, led, taken, opens)) = c.in-Ok.ensures.ok in
     let tells = subst (λ text. EndsTold service text spoken.told end out now_out) lines told in (
       turned spoken end,
       status,
       inr (parts, are, read, (taken, spoken, unled ∙ led, end, refl, tells)),
       reported,
-      ran_to text_at service g.S.Hosts.own run.opening spoken end
-          (record { opened = g.S.Hosts.opened c.args.hosts.now; calls = g.S.Hosts.told c.args.hosts.now; out = out })
-          (record { opened = g.S.Hosts.opened c.make_run.new.hosts; calls = g.S.Hosts.told c.make_run.new.hosts; out = now_out })
+      ran_to text_at service (g.S.Hosts.own c.make_run.new.hosts) run.opening spoken end bytes
+          (record {
+            opened = g.S.Hosts.opened c.args.hosts.now;
+            calls = g.S.Hosts.told c.args.hosts.now;
+            trace = g.F.Traces.told c.args.traces.now;
+            out = out;
+          })
+          (record {
+            opened = g.S.Hosts.opened c.make_run.new.hosts;
+            calls = g.S.Hosts.told c.make_run.new.hosts;
+            trace = g.F.Traces.told c.make_run.new.traces;
+            out = now_out;
+          })
           (parts, are, read, (taken, unled ∙ led, opens, tells))
-          (subst (λ now. Since (g.S.Hosts.opened c.args.hosts.now) now (λ saids. saids ≡ service ∷ [])) (sym c.make_run.ensures.opened) c.in-Ok.ensures.opened)
-          (λ table opening. subst (λ now. Since now (g.S.Hosts.told c.make_run.new.hosts) (MakesTurns ⊤ service table end)) c.in-Ok.ensures.host (ran table opening))
+          (subst (λ now. Since (g.S.Hosts.opened c.args.hosts.now) now (λ saids. saids ≡ service ∷ []))
+          (sym c.make_run.ensures.opened) c.in-Ok.ensures.opened)
+          grown
+          (λ table opening. subst (λ now. Since now (g.S.Hosts.told c.make_run.new.hosts)
+          (MakesTraced service table end bytes)) c.in-Ok.ensures.host (ran table opening))
           c.make_run.ensures.own,
     )
 
 pub returns-in-Err : goal.returns-in-Err
-returns-in-Err g c =
-    (refused c.in-Err.why, c.report_obstacle.ensures.status, inl (c.in-Err.why, refl, c.in-Err.ensures.err, Keeps-refl (g.W.Write.contents c.args.out.now)), c.report_obstacle.ensures.reported, c.in-Err.ensures.unasked)
+returns-in-Err g c = (
+  refused c.in-Err.why,
+  c.report_obstacle.ensures.status,
+  inl (c.in-Err.why, refl, c.in-Err.ensures.err, Keeps-refl (g.W.Write.contents c.args.out.now)),
+  c.report_obstacle.ensures.reported,
+  (c.in-Err.ensures.unasked, refl),
+)

@@ -1,0 +1,121 @@
+//! A record of the system's calls that proofs alone can read, and a call more: one type for each kind of call.
+
+ghost use Rattle.std.specs.Prelude.{◌≡◌, []};
+
+use host_telling::{Noted, Reads};
+use std::alloc::Allocator;
+use std::io;
+use std::marker::{Model, PhantomData};
+use std::process::{Command, ExitStatus};
+
+/// A list of calls, the newest first. None is ever made: it is the type of what is noted.
+pub struct SystemCallList {
+    marker: PhantomData<()>,
+}
+
+impl Model for SystemCallList {
+    ghost use Rattle.std.specs.Prelude.{List, []};
+    ghost use Rattle.host_system.specs.Systems.{SystemCall};
+
+    ghost Value = { List SystemCall };
+
+    ghost view = { λ _. [] };
+}
+
+/// How the record of no calls is read.
+struct Empty;
+
+impl Reads<(), SystemCallList> for Empty {
+    ghost use Rattle.std.specs.Prelude.{[]};
+
+    ghost value = { λ _. [] };
+}
+
+/// The record of no calls.
+pub fn nothing_asked() -> Noted<SystemCallList>
+    ensures { result.value ≡ [] }
+{
+    Noted::of::<(), Empty>(&())
+}
+
+/// The record of before with what is noted.
+pub(crate) fn noted<'a, X: Copy, M: Reads<(&'a Noted<SystemCallList>, X), SystemCallList>>(
+    before: &'a Noted<SystemCallList>,
+    call: X,
+) -> Noted<SystemCallList>
+    ensures { result.value ≡ M.value (record { 0 = before.entry; 1 = call }) }
+{
+    Noted::of::<(&'a Noted<SystemCallList>, X), M>(&(before, call))
+}
+
+/// A program is to be started by a command: it could not be, so far.
+pub(crate) struct Spawned;
+
+impl<'a, A: Allocator> Reads<(&'a Noted<SystemCallList>, &'a Command<A>), SystemCallList>
+    for Spawned {
+    ghost use Rattle.std.specs.Prelude.{◌∷◌, None};
+    ghost use Rattle.host_system.specs.Commands.{words_in};
+    ghost use Rattle.host_system.specs.Systems.SystemCall.{spawn};
+
+    ghost value = { λ asked. spawn (words_in asked.1.now) None ∷ asked.0.now.value };
+}
+
+/// It was started, and is the process of this number.
+pub(crate) struct Started;
+
+impl<'a> Reads<(&'a Noted<SystemCallList>, u32), SystemCallList> for Started {
+    ghost use Rattle.host_system.specs.Systems.{born};
+
+    ghost value = { λ asked. born asked.1 asked.0.now.value };
+}
+
+/// The process of a number was waited for.
+pub(crate) struct Waited;
+
+impl<'a> Reads<
+    (
+        &'a Noted<SystemCallList>,
+        (u32, &'a io::Result<Option<ExitStatus>>),
+    ),
+    SystemCallList,
+> for Waited {
+    ghost use Rattle.std.specs.Prelude.{◌∷◌};
+    ghost use Rattle.host_system.specs.Systems.{waited};
+    ghost use Rattle.host_system.specs.Systems.SystemCall.{try_wait};
+
+    ghost value = { λ asked. try_wait asked.1.0 (waited asked.1.1.now) ∷ asked.0.now.value };
+}
+
+/// It was sent KILL.
+pub(crate) struct Killed;
+
+impl<'a> Reads<(&'a Noted<SystemCallList>, (u32, &'a io::Result<()>)), SystemCallList> for Killed {
+    ghost use Rattle.std.specs.Prelude.{◌∷◌, is_ok};
+    ghost use Rattle.init_words.specs.declared.orders.SignalKind.TheVariants.{Kill};
+    ghost use Rattle.host_system.specs.Systems.SystemCall.{send};
+
+    ghost value = { λ asked. send Kill asked.1.0 (is_ok asked.1.1.now) ∷ asked.0.now.value };
+}
+
+/// It was sent TERM.
+pub(crate) struct Terminated;
+
+impl<'a> Reads<(&'a Noted<SystemCallList>, (u32, &'a io::Result<()>)), SystemCallList>
+    for Terminated {
+    ghost use Rattle.std.specs.Prelude.{◌∷◌, is_ok};
+    ghost use Rattle.init_words.specs.declared.orders.SignalKind.TheVariants.{Term};
+    ghost use Rattle.host_system.specs.Systems.SystemCall.{send};
+
+    ghost value = { λ asked. send Term asked.1.0 (is_ok asked.1.1.now) ∷ asked.0.now.value };
+}
+
+/// A program is run to its end by a command.
+pub(crate) struct Ran;
+
+impl<'a, A: Allocator> Reads<(&'a Noted<SystemCallList>, &'a Command<A>), SystemCallList> for Ran {
+    ghost use Rattle.std.specs.Prelude.{◌∷◌};
+    ghost use Rattle.host_system.specs.Commands.{words_in};
+    ghost use Rattle.host_system.specs.Systems.SystemCall.{run};
+
+    ghost value = { λ asked. run (words_in asked.1.now) ∷ asked.0.now.value };
+}

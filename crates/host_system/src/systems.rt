@@ -1,0 +1,156 @@
+//! What starts processes, waits for them and signals them.
+
+ghost use Rattle.std.specs.Prelude.{◌≡◌, List, [], ◌∷◌, Some, None, is_ok, IfOk, OnErr, ℕ};
+ghost use Rattle.init_words.specs.declared.orders.SignalKind.TheVariants.{Kill, Term};
+ghost use Rattle.host_system.specs.Commands.{words_in};
+ghost use Rattle.host_system.specs.Systems.{SystemCall, waited};
+ghost use Rattle.host_system.specs.Systems.SystemCall.{run, send, spawn, try_wait};
+
+use crate::noting::{
+    Killed, Ran, Spawned, Started, SystemCallList, Terminated, Waited, noted, nothing_asked,
+};
+use crate::terms::TermSender;
+use host_telling::Noted;
+use std::alloc::Allocator;
+use std::io;
+use std::process::{Child, Command, ExitStatus, OpenProcess, Processes};
+
+/// What starts processes, waits for them and signals them.
+///
+/// A contract sees of it the calls that it was asked, with what it answered. Whoever knows no more of it than this has no
+/// other way to a process.
+pub trait System {
+    /// The calls with their answers, the newest first.
+    ghost told: { Self → List SystemCall };
+
+    /// What it stands on.
+    type Source: Drop;
+
+    /// A process that it started.
+    type Started: Drop;
+
+    /// Its number.
+    ghost number: { Self.Started → ℕ };
+
+    /// A system over this source, of which nothing was asked yet.
+    fn over(source: Self::Source) -> Self
+        ensures { told result ≡ [] };
+
+    /// The record of its calls, which proofs alone can read.
+    fn calls(&self) -> Noted<SystemCallList>
+        ensures { result.value ≡ told self.now };
+
+    /// Starts a program.
+    fn spawn<A: Allocator + Copy>(&mut self, command: &mut Command<A>) -> io::Result<Self::Started>
+        ensures ok { IfOk result (λ process. told self.new
+            ≡ spawn (words_in command.old) (Some (number process)) ∷ told self.old) }
+        ensures err { OnErr result
+            (told self.new ≡ spawn (words_in command.old) None ∷ told self.old) };
+
+    /// The number of a process.
+    fn number_of(&self, process: &Self::Started) -> u32
+        ensures { result ≡ number process.now };
+
+    /// How a process ended, where it has (waitpid(2) with WNOHANG).
+    fn try_wait(&mut self, process: &mut Self::Started) -> io::Result<Option<ExitStatus>>
+        ensures told { told self.new
+            ≡ try_wait (number process.old) (waited result) ∷ told self.old }
+        ensures same { number process.new ≡ number process.old };
+
+    /// Sends a process KILL (kill(2)).
+    fn kill(&mut self, process: &mut Self::Started) -> io::Result<()>
+        ensures told { told self.new
+            ≡ send Kill (number process.old) (is_ok result) ∷ told self.old }
+        ensures same { number process.new ≡ number process.old };
+
+    /// Sends TERM to the process of a number (kill(1)).
+    fn terminate<A: Allocator + Copy>(&mut self, alloc: A, to: u32) -> io::Result<()>
+        ensures { told self.new ≡ send Term to (is_ok result) ∷ told self.old };
+
+    /// The turn is over.
+    fn end_turn(&mut self)
+        ensures { told self.new ≡ told self.old };
+
+    /// Runs a program to its end.
+    fn run<A: Allocator + Copy>(&mut self, command: &mut Command<A>) -> io::Result<ExitStatus>
+        ensures { told self.new ≡ run (words_in command.old) ∷ told self.old };
+}
+
+/// A process of the operating system, with the number that it was born with.
+#[derive(Drop)]
+pub struct Process<P: OpenProcess + Drop> {
+    number: u32,
+    child: Child<P>,
+}
+
+/// The operating system. Each call asks it for one thing, and notes what it asked and what was answered.
+#[derive(Drop)]
+pub struct OsSystem<R: Processes + Drop> {
+    rt: R,
+    sender: TermSender<R::Started>,
+    told: Noted<SystemCallList>,
+}
+
+impl<R: Processes + Drop> System for OsSystem<R> {
+    ghost told = { λ system. system.told.value };
+
+    type Source = R;
+
+    type Started = Process<R::Started>;
+
+    ghost number = { λ process. process.number };
+
+    fn over(source: R) -> OsSystem<R> {
+        OsSystem {
+            rt: source,
+            sender: TermSender::new(),
+            told: nothing_asked(),
+        }
+    }
+
+    fn calls(&self) -> Noted<SystemCallList> {
+        self.told.again()
+    }
+
+    fn spawn<A: Allocator + Copy>(
+        &mut self,
+        command: &mut Command<A>,
+    ) -> io::Result<Process<R::Started>> {
+        self.told = noted::<_, Spawned>(&self.told, &*command);
+        let child = command.spawn(&self.rt)?;
+        let number = child.id();
+        self.told = noted::<_, Started>(&self.told, number);
+        Ok(Process { number, child })
+    }
+
+    fn number_of(&self, process: &Process<R::Started>) -> u32 {
+        process.number
+    }
+
+    fn try_wait(&mut self, process: &mut Process<R::Started>) -> io::Result<Option<ExitStatus>> {
+        let said = process.child.try_wait();
+        self.told = noted::<_, Waited>(&self.told, (process.number, &said));
+        said
+    }
+
+    fn kill(&mut self, process: &mut Process<R::Started>) -> io::Result<()> {
+        let sent = process.child.kill();
+        self.told = noted::<_, Killed>(&self.told, (process.number, &sent));
+        sent
+    }
+
+    fn terminate<A: Allocator + Copy>(&mut self, alloc: A, to: u32) -> io::Result<()> {
+        let sent = self.sender.send(&self.rt, alloc, to);
+        self.told = noted::<_, Terminated>(&self.told, (to, &sent));
+        sent
+    }
+
+    fn end_turn(&mut self) {
+        let _ = self.sender.end();
+    }
+
+    fn run<A: Allocator + Copy>(&mut self, command: &mut Command<A>) -> io::Result<ExitStatus> {
+        self.told = noted::<_, Ran>(&self.told, &*command);
+        command.status(&self.rt)
+    }
+}

@@ -1,4 +1,0 @@
-use Rattle.initd_command.proofs.os_hosts.OsHostsHostsOsHostStampedRuntime.close.Goals as goal
-
-pub returns-clause-own : goal.returns-clause-own
-returns-clause-own g c = rw c.calls.ensures.value (c.args.host.held, c.calls.ensures.own)

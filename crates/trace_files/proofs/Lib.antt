@@ -1,0 +1,2 @@
+pub mod FiledLemmas
+pub mod LeftLemmas

@@ -1,0 +1,34 @@
+//! The front of a text, written and let go.
+
+ghost use Rattle.std.specs.Prelude.{◌≡◌, ◌≤◌, length, take, drop, IfNone};
+ghost use Rattle.std.specs.Io.KnownBytes.{Appends};
+
+use std::io;
+use std::io::{ErrorKind, Write};
+
+/// Writes a text as far as it is taken. Gives how many of its bytes were, and why not all.
+pub(crate) fn write_front<W: Write>(out: &mut W, text: &[u8]) -> (usize, Option<io::Error>)
+    ensures written { Appends (W.contents out.old) (W.contents out.new) (take result.0 text.now) }
+    ensures most { result.0 ≤ length text.now }
+    ensures all { IfNone result.1 (result.0 ≡ length text.now) }
+{
+    let mut done = 0;
+    while done < text.len() {
+        match out.write(&text[done..]) {
+            Ok(0) => return (done, Some(io::Error::from(ErrorKind::WriteZero))),
+            Ok(taken) => done += taken,
+            Err(error) => return (done, Some(error)),
+        }
+    }
+    (done, None)
+}
+
+/// Lets the first bytes go.
+pub(crate) fn drop_front(bytes: &mut Vec<u8>, count: usize)
+    requires { count ≤ length bytes.old.items }
+    ensures { bytes.new.items ≡ drop count bytes.old.items }
+{
+    let rest = bytes.len() - count;
+    bytes.rotate_left(count);
+    bytes.truncate(rest);
+}
