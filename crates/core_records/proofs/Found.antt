@@ -68,10 +68,10 @@ placed id kept slots own is None h = tt
 placed id kept slots own is (Some i) h = ap (λ s. slice_get s i) (sym is) ∙ h ∙ looked_up id kept slots own is
 
 -- the record at a place
-pub at_place : (kept : Kept) (place : ℕ) (id : List ℕ) (slot : RecordState) → Some (id, slot) ≡ slice_get kept place → Some slot ≡ slice_get (values_of kept) place
-at_place [] place id slot is = absurd (cc)
-at_place (e ∷ kept) zero id slot is = let same : (id, slot) ≡ e = cc in ap (λ (x : List ℕ × RecordState). Some x.1) same
-at_place (e ∷ kept) (suc place) id slot is = at_place kept place id slot is
+pub at_position : (kept : Kept) (position : ℕ) (id : List ℕ) (slot : RecordState) → Some (id, slot) ≡ slice_get kept position → Some slot ≡ slice_get (values_of kept) position
+at_position [] position id slot is = absurd (cc)
+at_position (e ∷ kept) zero id slot is = let same : (id, slot) ≡ e = cc in ap (λ (x : List ℕ × RecordState). Some x.1) same
+at_position (e ∷ kept) (suc position) id slot is = at_position kept position id slot is
 
 -- where no record is found, none is that of the id
 pub none_found : (id : List ℕ) (slots : List RecordState) → record_by_id id slots ≡ None → is_listed id slots ≡ false

@@ -45,10 +45,10 @@ pub timely_found : (now : ℕ) (id : List ℕ) (slot : RecordState) (slots : Lis
 timely_found now id slot [] all is = absurd (cc)
 timely_found now id slot (first ∷ slots) all is = grind (arith, timely_found now id slot slots)
 
-pub timely_at : (now : ℕ) (slot : RecordState) (slots : List RecordState) (place : ℕ) → are_timely now slots ≡ true → slice_get slots place ≡ Some slot → is_timely now slot ≡ true
-timely_at now slot [] place all is = absurd (cc)
+pub timely_at : (now : ℕ) (slot : RecordState) (slots : List RecordState) (position : ℕ) → are_timely now slots ≡ true → slice_get slots position ≡ Some slot → is_timely now slot ≡ true
+timely_at now slot [] position all is = absurd (cc)
 timely_at now slot (first ∷ slots) zero all is = grind arith
-timely_at now slot (first ∷ slots) (suc place) all is = timely_at now slot slots place (and_parts (is_timely now first) (are_timely now slots) all).1 is
+timely_at now slot (first ∷ slots) (suc position) all is = timely_at now slot slots position (and_parts (is_timely now first) (are_timely now slots) all).1 is
 
 past_pushed : (now limit : ℕ) → now ≤ limit → (starts : List ℕ) → are_past limit starts ≡ true → are_past limit (starts ++ now ∷ []) ≡ true
 past_pushed now limit h [] all = and_from (nat_le now limit) true (le-leb now limit h) refl

@@ -49,8 +49,8 @@ impl<A: Allocator> Records<A> {
         requires { are_distinct (self.old ++ entry_records table.now before.now) ≡ true }
         ensures { OnOk result (self.new ≡ self.old ++ entry_records table.now before.now) }
     {
-        for place in 0..table.len() {
-            self.push(adopted_record(table, place, before))?;
+        for position in 0..table.len() {
+            self.push(adopted_record(table, position, before))?;
         }
         Ok(())
     }
@@ -59,8 +59,8 @@ impl<A: Allocator> Records<A> {
         requires { are_distinct (self.old ++ left_records table.now before.now) ≡ true }
         ensures { OnOk result (self.new ≡ self.old ++ left_records table.now before.now) }
     {
-        for place in 0..before.len() {
-            self.push_any(left_record(table, before, place))?;
+        for position in 0..before.len() {
+            self.push_any(left_record(table, before, position))?;
         }
         Ok(())
     }
@@ -78,25 +78,29 @@ impl<A: Allocator> Records<A> {
 }
 
 /// The record of the entry at a place of another table.
-fn adopted_record<A: Allocator>(table: &Table<A>, place: usize, before: &Records<A>) -> Record
-    requires { place < length table.now }
+fn adopted_record<A: Allocator>(table: &Table<A>, position: usize, before: &Records<A>) -> Record
+    requires { position < length table.now }
     ensures value { Some result
         ≡ option_map (λ (e : Entry). adopted e (record_by_id e.id before.now))
-        (slice_get table.now place) }
+        (slice_get table.now position) }
     ensures timely { is_timely CLOCK_LIMIT result ≡ true }
 {
-    let Some(entry) = table.at(place) else {
+    let Some(entry) = table.at(position) else {
         unreachable!()
     };
     Record::adopted(entry, before.by_id(&entry.id))
 }
 
 /// The record at a place, as it stays without an entry, if it does.
-fn left_record<A: Allocator>(table: &Table<A>, before: &Records<A>, place: usize) -> Option<Record>
-    ensures value { result ≡ left_one table.now (slice_get before.now place) }
+fn left_record<A: Allocator>(
+    table: &Table<A>,
+    before: &Records<A>,
+    position: usize,
+) -> Option<Record>
+    ensures value { result ≡ left_one table.now (slice_get before.now position) }
     ensures timely { IfSome result (λ s. is_timely CLOCK_LIMIT s ≡ true) }
 {
-    let slot = before.at(place)?;
+    let slot = before.at(position)?;
     if slot.is_left_over(table) {
         Some(slot.left_over())
     } else {

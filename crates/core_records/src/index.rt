@@ -74,10 +74,10 @@ fn first_from(items: &[Keyed], key: u64) -> usize
     items.partition_point(|item: &Keyed| item.key < key)
 }
 
-fn has_key(items: &[Keyed], place: usize, key: u64) -> bool
-    ensures { result ≡ is_at key (slice_get items.now place) }
+fn has_key(items: &[Keyed], position: usize, key: u64) -> bool
+    ensures { result ≡ is_at key (slice_get items.now position) }
 {
-    match items.get(place) {
+    match items.get(position) {
         Some(item) => item.key == key,
         None => false,
     }
@@ -121,10 +121,10 @@ pub(crate) fn make_room<A: Allocator>(
 }
 
 /// The item at the place is that of the id.
-fn is_for(items: &[Keyed], place: usize, id: &Id) -> bool
-    ensures { result ≡ is_for id.now (slice_get items.now place) }
+fn is_for(items: &[Keyed], position: usize, id: &Id) -> bool
+    ensures { result ≡ is_for id.now (slice_get items.now position) }
 {
-    match items.get(place) {
+    match items.get(position) {
         Some(item) => *id == item.id,
         None => false,
     }
@@ -141,12 +141,12 @@ pub(crate) fn forget<A: Allocator>(items: &mut Vec<Keyed, A>, id: &Id, item: Opt
     let Some(item) = item else {
         return;
     };
-    let place = first_from(items.as_slice(), item.key);
-    if place >= items.len() || !is_for(items.as_slice(), place, id) {
+    let position = first_from(items.as_slice(), item.key);
+    if position >= items.len() || !is_for(items.as_slice(), position, id) {
         items.retain(|item: &Keyed| item.id != *id);
         return;
     }
-    let _ = items.remove(place);
+    let _ = items.remove(position);
 }
 
 /// Puts in an item, if it is one, where there is room. It takes no memory.
@@ -160,8 +160,8 @@ pub(crate) fn put<A: Allocator>(items: &mut Vec<Keyed, A>, item: Option<Keyed>)
     ensures room { vec_capacity items.old ≤ vec_capacity items.new }
 {
     if let Some(item) = item {
-        let place = first_from(items.as_slice(), item.key);
-        if items.insert(place, item).is_err() {
+        let position = first_from(items.as_slice(), item.key);
+        if items.insert(position, item).is_err() {
             unreachable!()
         }
     }

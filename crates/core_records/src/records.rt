@@ -102,11 +102,11 @@ impl<A: Allocator> Records<A> {
     }
 
     /// The record at a place, counted from 0 in record order.
-    pub fn at(&self, place: usize) -> Option<&Record>
-        ensures value { option_copied result ≡ slice_get self.now place }
+    pub fn at(&self, position: usize) -> Option<&Record>
+        ensures value { option_copied result ≡ slice_get self.now position }
         ensures timely { IfSome result (λ slot. is_timely CLOCK_LIMIT slot.now ≡ true) }
     {
-        let (_, slot) = self.records.get_index(place)?;
+        let (_, slot) = self.records.get_index(position)?;
         Some(slot)
     }
 
@@ -131,8 +131,8 @@ impl<A: Allocator> Records<A> {
     /// The place of the record of an id, counted from 0 in record order.
     pub fn place_of(&self, id: &Id) -> Option<usize>
         ensures found { is_some result ≡ has_record_of id.now self.now }
-        ensures place { IfSome result (λ place.
-            slice_get self.now place ≡ record_by_id id.now self.now) }
+        ensures position { IfSome result (λ position.
+            slice_get self.now position ≡ record_by_id id.now self.now) }
     {
         self.records.get_index_of(id)
     }

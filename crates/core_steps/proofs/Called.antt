@@ -8,11 +8,11 @@ found : (id : List ℕ) (slot : RecordState) (slots : List RecordState) (b : Boo
 found id slot slots true h = refl
 found id slot slots false h = h
 
-pub entry_record : (table : List Entry) (slots : List RecordState) (place : ℕ) (e : Entry) → IsInOrder table slots → slice_get table place ≡ Some e → has_record_of e.id slots ≡ true
-entry_record [] slots place e order at = cc
-entry_record (x ∷ table) [] place e order at = absurd order
+pub entry_record : (table : List Entry) (slots : List RecordState) (position : ℕ) (e : Entry) → IsInOrder table slots → slice_get table position ≡ Some e → has_record_of e.id slots ≡ true
+entry_record [] slots position e order at = cc
+entry_record (x ∷ table) [] position e order at = absurd order
 entry_record (x ∷ table) (slot ∷ slots) zero e order at = let same : x ≡ e = cc in ap (λ (b : Bool). is_some (cond b (Some slot) (record_by_id e.id slots))) (ap (same_id e.id) (order.0 ∙ ap (λ (y : Entry). y.id) same) ∙ same_id-self e.id)
-entry_record (x ∷ table) (slot ∷ slots) (suc place) e order at = found e.id slot slots (same_id e.id slot.id) (entry_record table slots place e order.2 at)
+entry_record (x ∷ table) (slot ∷ slots) (suc position) e order at = found e.id slot slots (same_id e.id slot.id) (entry_record table slots position e order.2 at)
 
 pub still_record : (named : Entry → Bool) (table : List Entry) (id : List ℕ) (slots : List RecordState) → has_record_of id (with_called named table slots) ≡ has_record_of id slots
 still_record named table id [] = grind arith

@@ -13,7 +13,7 @@ use Rattle.core_steps.proofs.Places.{KeepsSeen, KeepsPassed, seen_map, seen_chan
 
 -- the record at the place is that of the id
 abbrev pub is_place : List ℕ → ℕ → List RecordState → Bool
-is_place id place slots = option_map_or (is_record_of id) (slice_get slots place) false
+is_place id position slots = option_map_or (is_record_of id) (slice_get slots position) false
 
 -- rounds, holds and calls
 nudge_passes : (stage : Option Stage) (now : ℕ) (slot : RecordState) → KeepsPassed stage now after_begin_round slot
@@ -78,17 +78,17 @@ other_before : (id : List ℕ) (slot : RecordState) (slots : List RecordState) (
 other_before id slot slots i distinct at = grind (arith, is_record_of, Bool, others, listed_at)
 
 module _ (stage : Option Stage) (now : ℕ) (id : List ℕ) where
-  elsewhere : (change : RecordState → RecordState) (table : List Entry) (slots : List RecordState) (i place : ℕ) → are_distinct slots ≡ true → is_place id place slots ≡ true → i ≢ place → is_passed_at stage now (zip table (with_changed id change slots)) i ≡ is_passed_at stage now (zip table slots) i
-  elsewhere change [] slots i place distinct at other = refl
-  elsewhere change (e ∷ table) [] i place distinct at other = refl
+  elsewhere : (change : RecordState → RecordState) (table : List Entry) (slots : List RecordState) (i position : ℕ) → are_distinct slots ≡ true → is_place id position slots ≡ true → i ≢ position → is_passed_at stage now (zip table (with_changed id change slots)) i ≡ is_passed_at stage now (zip table slots) i
+  elsewhere change [] slots i position distinct at other = refl
+  elsewhere change (e ∷ table) [] i position distinct at other = refl
   elsewhere change (e ∷ table) (slot ∷ slots) zero zero distinct at other = absurd (other refl)
-  elsewhere change (e ∷ table) (slot ∷ slots) zero (suc place) distinct at other = rw (other_before id slot slots place distinct at) refl
+  elsewhere change (e ∷ table) (slot ∷ slots) zero (suc position) distinct at other = rw (other_before id slot slots position distinct at) refl
   elsewhere change (e ∷ table) (slot ∷ slots) (suc i) zero distinct at other = rw (unchanged id change slots (others id slot slots distinct at)) refl
-  elsewhere change (e ∷ table) (slot ∷ slots) (suc i) (suc place) distinct at other = elsewhere change table slots i place (rest_distinct slot slots distinct) at (λ is. other (ap suc is))
+  elsewhere change (e ∷ table) (slot ∷ slots) (suc i) (suc position) distinct at other = elsewhere change table slots i position (rest_distinct slot slots distinct) at (λ is. other (ap suc is))
 
-  pub passed_ordered : (ask : OrderKind) (table : List Entry) (slots : List RecordState) (places : Places) (place : ℕ) → are_distinct slots ≡ true → is_place id place slots ≡ true → ArePassed stage now places table slots
-      → AllBut (λ i. i == place || is_passed_at stage now (zip table (with_changed id (after_order ask now) slots)) i) places
-  passed_ordered ask table slots places place distinct at passed = all_but (is_passed_at stage now (zip table slots)) (is_passed_at stage now (zip table (with_changed id (after_order ask now) slots))) places place (λ i other. elsewhere (after_order ask now) table slots i place distinct at other) passed
+  pub passed_ordered : (ask : OrderKind) (table : List Entry) (slots : List RecordState) (places : Places) (position : ℕ) → are_distinct slots ≡ true → is_place id position slots ≡ true → ArePassed stage now places table slots
+      → AllBut (λ i. i == position || is_passed_at stage now (zip table (with_changed id (after_order ask now) slots)) i) places
+  passed_ordered ask table slots places position distinct at passed = all_but (is_passed_at stage now (zip table slots)) (is_passed_at stage now (zip table (with_changed id (after_order ask now) slots))) places position (λ i other. elsewhere (after_order ask now) table slots i position distinct at other) passed
 
   pairs_left : (answer : Answer) (table : List Entry) (slots : List RecordState) → IsInOrder table slots → is_over_in id answer slots ≡ true → zip table (without id slots) ≡ zip table slots
   pairs_left answer (e ∷ table) (slot ∷ slots) order over = by (is_record_of id slot) over (pairs_left answer table slots order.2)
@@ -98,13 +98,13 @@ module _ (stage : Option Stage) (now : ℕ) (id : List ℕ) where
       by false later rest = ap (λ ps. (e, slot) ∷ ps) (rest later)
   pairs_left answer table slots order over = grind arith
 
-  pub passed_told : (answer : Answer) (table : List Entry) (slots : List RecordState) (places : Places) (place : ℕ) → IsInOrder table slots → are_distinct slots ≡ true → is_place id place slots ≡ true → ArePassed stage now places table slots
-      → AllBut (λ i. i == place || is_passed_at stage now (zip table (after_told id answer now slots)) i) places
-  passed_told answer table slots places place order distinct at passed = all_but (is_passed_at stage now (zip table slots)) (is_passed_at stage now (zip table (after_told id answer now slots))) places place (λ i other. by i other (is_over_in id answer slots) refl) passed
+  pub passed_told : (answer : Answer) (table : List Entry) (slots : List RecordState) (places : Places) (position : ℕ) → IsInOrder table slots → are_distinct slots ≡ true → is_place id position slots ≡ true → ArePassed stage now places table slots
+      → AllBut (λ i. i == position || is_passed_at stage now (zip table (after_told id answer now slots)) i) places
+  passed_told answer table slots places position order distinct at passed = all_but (is_passed_at stage now (zip table slots)) (is_passed_at stage now (zip table (after_told id answer now slots))) places position (λ i other. by i other (is_over_in id answer slots) refl) passed
     where
-      by : (i : ℕ) → i ≢ place → (over : Bool) → is_over_in id answer slots ≡ over → is_passed_at stage now (zip table (cond over (without id slots) (with_changed id (after_answer answer now) slots))) i ≡ is_passed_at stage now (zip table slots) i
+      by : (i : ℕ) → i ≢ position → (over : Bool) → is_over_in id answer slots ≡ over → is_passed_at stage now (zip table (cond over (without id slots) (with_changed id (after_answer answer now) slots))) i ≡ is_passed_at stage now (zip table slots) i
       by i other true over = rw (pairs_left answer table slots order over) refl
-      by i other false over = elsewhere (after_answer answer now) table slots i place distinct at other
+      by i other false over = elsewhere (after_answer answer now) table slots i position distinct at other
 
 -- orders but a start, and answers that change no start, keep passed what was passed, where no start is open
 module _ (stage : Option Stage) (now : ℕ) (id : List ℕ) (change : RecordState → RecordState) (keeps : (slot : RecordState) → is_order Start slot.order ≡ false → KeepsPassed stage now change slot) where
@@ -198,8 +198,8 @@ found_own : (id : List ℕ) (slots : List RecordState) (slot : RecordState) → 
 found_own id [] slot is = grind arith
 found_own id (first ∷ slots) slot is = grind (arith, found_own id slots slot)
 
-pub at_place : (id : List ℕ) (slots : List RecordState) (place : ℕ) → slice_get slots place ≡ record_by_id id slots → true ≡ has_record_of id slots → is_place id place slots ≡ true
-at_place id slots place is has =
+pub at_position : (id : List ℕ) (slots : List RecordState) (position : ℕ) → slice_get slots position ≡ record_by_id id slots → true ≡ has_record_of id slots → is_place id position slots ≡ true
+at_position id slots position is has =
     grind (arith, record_by_id, Option, RecordState, is_some, true≢false, is_record_of, found_own)
 
 -- a start that may be ordered is of an id that has a record

@@ -3,22 +3,22 @@ use Rattle.core_steps.proofs.Words.{◌≡◌, ◌≢◌, refl, Bool, true, fals
 use Rattle.trace_events.specs.declared.steps.Step.{Step}
 
 -- all before the next place, but for that at the first and that at a place
-but : (i place : ℕ) (b : Bool) → i ≢ place → (i == place || b) ≡ true → b ≡ true
-but i place b other h = grind arith
+but : (i position : ℕ) (b : Bool) → i ≢ position → (i == position || b) ≡ true → b ≡ true
+but i position b other h = grind arith
 
-pub narrower : (passed : ℕ → Bool) (old new : Places) (place : ℕ) → new.first ≤ new.next
-    → ((i : ℕ) → i < new.next → i ≢ new.first → (i < old.next) × (i ≢ old.first) × (i ≢ place))
-    → AllBut (λ i. i == place || passed i) old → AllBut passed new
-narrower passed old new place h each all = (h, λ i lt other. let to = each i lt other in but i place (passed i) to.2 (all.1 i to.0 to.1))
+pub narrower : (passed : ℕ → Bool) (old new : Places) (position : ℕ) → new.first ≤ new.next
+    → ((i : ℕ) → i < new.next → i ≢ new.first → (i < old.next) × (i ≢ old.first) × (i ≢ position))
+    → AllBut (λ i. i == position || passed i) old → AllBut passed new
+narrower passed old new position h each all = (h, λ i lt other. let to = each i lt other in but i position (passed i) to.2 (all.1 i to.0 to.1))
 
 -- what holds at each other place holds of all but that at a place
-pub all_but : (test later : ℕ → Bool) (places : Places) (place : ℕ) → ((i : ℕ) → i ≢ place → later i ≡ test i)
-    → AllBut test places → AllBut (λ i. i == place || later i) places
-all_but test later places place same all = (all.0, λ i lt other. by i (i == place) refl (all.1 i lt other))
+pub all_but : (test later : ℕ → Bool) (places : Places) (position : ℕ) → ((i : ℕ) → i ≢ position → later i ≡ test i)
+    → AllBut test places → AllBut (λ i. i == position || later i) places
+all_but test later places position same all = (all.0, λ i lt other. by i (i == position) refl (all.1 i lt other))
   where
-    by : (i : ℕ) (b : Bool) → (i == place) ≡ b → test i ≡ true → (b || later i) ≡ true
+    by : (i : ℕ) (b : Bool) → (i == position) ≡ b → test i ≡ true → (b || later i) ≡ true
     by i true is h = refl
-    by i false is h = rw (same i (λ e. false≢true (sym is ∙ eq-eqb i place e))) h
+    by i false is h = rw (same i (λ e. false≢true (sym is ∙ eq-eqb i position e))) h
 
 pub none_behind : {test : ℕ → Bool} → AllBut test (record { first = 0; next = 0 })
 none_behind = (omega arith, λ i lt other. absurd (omega arith))

@@ -17,7 +17,7 @@ is_seen_record slot = not (is_some slot.child && slot.look)
 
 -- so it is with each record before the place
 abbrev pub are_seen : ℕ → List RecordState → Bool
-are_seen place slots = list_all is_seen_record (take place slots)
+are_seen position slots = list_all is_seen_record (take position slots)
 
 -- the limit holds the entry now
 abbrev pub is_held_back : ℕ → Entry → RecordState → Bool
@@ -36,12 +36,12 @@ is_passed_in (Some stage) now e slot = is_passed_record stage now e slot
 
 -- so it is with the entry and the record at the place, if there are both
 abbrev pub is_passed_at : Option Stage → ℕ → List (Entry × RecordState) → ℕ → Bool
-is_passed_at stage now pairs place =
-    option_map_or (λ (p : Entry × RecordState). is_passed_in stage now p.0 p.1) (slice_get pairs place) true
+is_passed_at stage now pairs position =
+    option_map_or (λ (p : Entry × RecordState). is_passed_in stage now p.0 p.1) (slice_get pairs position) true
 
 abbrev pub ArePassedFrom : Option Stage → ℕ → List (Entry × RecordState) → ℕ → ℕ → Type 0
 ArePassedFrom stage now pairs from to =
-    (place : ℕ) → from ≤ place → place < to → is_passed_at stage now pairs place ≡ true
+    (position : ℕ) → from ≤ position → position < to → is_passed_at stage now pairs position ≡ true
 
 -- it is so of each entry before the next place, but for that at the first
 abbrev pub ArePassed : Option Stage → ℕ → Places → List Entry → List RecordState → Type 0

@@ -49,8 +49,8 @@ pub(crate) fn call_named<A: Allocator>(
     requires { IsInOrder table.now slots.old }
     ensures { slots.new ≡ with_called (is_named step.now stage) table.now slots.old }
 {
-    for place in 0..table.len() {
-        let Some(entry) = table.at(place) else {
+    for position in 0..table.len() {
+        let Some(entry) = table.at(position) else {
             return;
         };
         call_one(slots, entry, step, stage);

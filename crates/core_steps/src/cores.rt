@@ -2,7 +2,7 @@
 
 ghost use Rattle.std.specs.Prelude.{◌≡◌, IfOk, OnOk, OnErr};
 
-use crate::state::BareCore;
+use crate::state::CoreValues;
 use core_model::CoreFields;
 use core_records::Records;
 use init_words::{Answer, Id, Level, Memory, Refusal, Stage, Status};
@@ -16,7 +16,7 @@ use trace_events::{Goal, Step};
 /// is told, it keeps the rules that init is held to.
 #[derive(Drop)]
 pub struct Core<A: Allocator = Global> {
-    bare: BareCore<A>,
+    bare: CoreValues<A>,
 }
 
 impl<A: Allocator> Model for Core<A> {
@@ -43,7 +43,7 @@ impl<A: Allocator + Copy> Core<A> {
             Fits core (opening_goal level table) (NewTable table ∷ [])
             × HasLasts core (NewTable table ∷ [])) }
     {
-        let bare = BareCore::new_by_state(alloc, table, level)?;
+        let bare = CoreValues::new_by_state(alloc, table, level)?;
         Ok(Core { bare })
     }
 
@@ -69,7 +69,7 @@ impl<A: Allocator> Core<A> {
     ghost use Rattle.core_steps.specs.Words.{Handed, answered_of, due, first, is_rest, RecordState, order_in, refusal_of, record_by_id, decide, is_drained, after_step, after_told, after_round, after_clock, after_got, after_not_read, after_handed, after_handed_on, StillFits, OnEachTrace, with_step, IsFit, work_left};
 
     /// The core that keeps these.
-    pub(crate) fn of(bare: BareCore<A>) -> Core<A>
+    pub(crate) fn of(bare: CoreValues<A>) -> Core<A>
         requires { IsFit bare }
         ensures { result ≡ bare }
     {

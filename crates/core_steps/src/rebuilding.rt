@@ -8,7 +8,7 @@ ghost use Rattle.core_steps.specs.declared.rebuilding.Rebuild.TheVariants as reb
 
 use crate::cores::Core;
 use crate::rules::{is_kept, never_fall};
-use crate::state::BareCore;
+use crate::state::CoreValues;
 use core_model::{CoreFields, Parts, PlainRecord};
 use core_records::{KnownChild, Record, Records};
 use init_words::{Act, ChildNumber, Entry, Memory};
@@ -122,8 +122,8 @@ fn records_along<A: Allocator + Copy>(
         return Err(Rebuild::Unfit);
     }
     let mut slots = Vec::with_capacity(alloc, records.len())?;
-    for (place, record) in records.iter().enumerate() {
-        let Some(slot) = record_read(table.at(place), record) else {
+    for (position, record) in records.iter().enumerate() {
+        let Some(slot) = record_read(table.at(position), record) else {
             return Err(Rebuild::Unfit);
         };
         slots.push(slot)?;
@@ -143,19 +143,19 @@ impl<A: Allocator + Copy> Core<A> {
             table,
             records,
         } = parts;
-        let bare = BareCore::made(alloc, fields, table, &records)?;
+        let bare = CoreValues::made(alloc, fields, table, &records)?;
         Ok(Core::of(bare))
     }
 }
 
-impl<A: Allocator + Copy> BareCore<A> {
+impl<A: Allocator + Copy> CoreValues<A> {
     /// The core that keeps these, if they keep the rules.
     fn made(
         alloc: A,
         fields: CoreFields,
         table: Table<A>,
         records: &[PlainRecord],
-    ) -> Result<BareCore<A>, Rebuild>
+    ) -> Result<CoreValues<A>, Rebuild>
         ensures made { IfOk result (λ core.
             (state_of core ≡ record { fields = fields; table = table; records = records.now })
             × IsFit core) }
@@ -167,6 +167,6 @@ impl<A: Allocator + Copy> BareCore<A> {
             return Err(Rebuild::Unfit);
         }
         let slots = Records::rebuilt(alloc, slots)?;
-        Ok(BareCore::of(fields, table, slots))
+        Ok(CoreValues::of(fields, table, slots))
     }
 }

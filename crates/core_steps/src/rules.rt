@@ -91,8 +91,8 @@ fn are_starts_along<A: Allocator>(stage: Stage, table: &Table<A>, slots: &[Recor
     ensures { result ≡ are_starts_in (Some stage) table.now slots.now }
 {
     let mut owed = false;
-    for (place, slot) in slots.iter().enumerate() {
-        let Some(entry) = table.at(place) else {
+    for (position, slot) in slots.iter().enumerate() {
+        let Some(entry) = table.at(position) else {
             return true;
         };
         if !is_start_in_turn(owed, stage, entry, slot) {
@@ -267,8 +267,8 @@ fn has_id(slots: &[Record], id: Id) -> bool
 fn are_distinct(slots: &[Record]) -> bool
     ensures { result ≡ are_distinct slots.now }
 {
-    for (place, slot) in slots.iter().enumerate() {
-        if has_id(&slots[place + 1..], slot.id()) {
+    for (position, slot) in slots.iter().enumerate() {
+        if has_id(&slots[position + 1..], slot.id()) {
             return false;
         }
     }

@@ -6,7 +6,8 @@ use crate::calling::{call_named, judge_in};
 use crate::deciding::{changes_starts, is_past, is_start, level_step, next_stage};
 use crate::walk_places::Places;
 use crate::walking::{
-    all_done, all_served, any_busy, look_among, moved, seen_to, start_among, stop_among,
+    advanced_places, all_done, all_served, any_busy, look_among, seen_until, start_among,
+    stop_among,
 };
 use core_model::CoreFields;
 use core_records::Records;
@@ -21,7 +22,7 @@ use trace_events::{Goal, Step};
 /// What a core keeps, and what each of its calls makes of that. Each value may stand here; that the rules of init are
 /// kept is said of a `Core` alone.
 #[derive(Drop)]
-pub(crate) struct BareCore<A: Allocator> {
+pub(crate) struct CoreValues<A: Allocator> {
     table: Table<A>,
     slots: Records<A>,
     fields: CoreFields,
@@ -30,7 +31,7 @@ pub(crate) struct BareCore<A: Allocator> {
     starts: Places,
 }
 
-impl<A: Allocator> Model for BareCore<A> {
+impl<A: Allocator> Model for CoreValues<A> {
     ghost use Rattle.std.specs.Prelude.{◌≡◌, ◌≤◌, true};
     ghost use Rattle.core_steps.specs.Words.{CLOCK_LIMIT, are_timely, IsInOrder, CoreState};
     ghost use Rattle.core_steps.specs.Places.{are_seen, ArePassed};
@@ -45,7 +46,7 @@ impl<A: Allocator> Model for BareCore<A> {
         × ArePassed c.fields.stage c.fields.time c.starts c.table c.slots };
 }
 
-impl<A: Allocator + Copy> BareCore<A> {
+impl<A: Allocator + Copy> CoreValues<A> {
     ghost use Rattle.std.specs.Prelude.{[], ◌∷◌, IfErr, Err, true, false, if◌then◌else◌};
     ghost use Rattle.init_words.specs.declared.refusals.Refusal.TheVariants as refusal;
     ghost use Rattle.core_steps.specs.Words.{NewTable, is_quiet, opening_goal, opening_state, after_adopt, Fits, OnEachTrace};
@@ -55,14 +56,14 @@ impl<A: Allocator + Copy> BareCore<A> {
         alloc: A,
         table: Table<A>,
         level: Option<Level>,
-    ) -> Result<BareCore<A>, Memory>
+    ) -> Result<CoreValues<A>, Memory>
         ensures state { IfOk result (λ core.
             core ≡ opening_state table (opening_goal level table)) }
         ensures distinct { is_distinct table ≡ true }
     {
         let level = level.or(table.default_level()).unwrap_or(Level::S);
         let slots = Records::new(alloc, &table)?;
-        Ok(BareCore {
+        Ok(CoreValues {
             table,
             slots,
             fields: CoreFields::opening(Goal {
@@ -96,7 +97,7 @@ impl<A: Allocator + Copy> BareCore<A> {
     }
 }
 
-impl<A: Allocator> BareCore<A> {
+impl<A: Allocator> CoreValues<A> {
     ghost use Rattle.std.specs.Prelude.{◌≤◌, ◌^◌, ◌+◌, IsTrue, IsOk, List, ◌∷◌, ◌<◌, Some, true, false, ℕ};
     ghost use Rattle.core_steps.specs.Words.{Stage};
     ghost use Rattle.trace_events.specs.declared.happenings.Happening.TheVariants as happening;
@@ -106,13 +107,13 @@ impl<A: Allocator> BareCore<A> {
     ghost use Rattle.core_steps.specs.Words.{Handed, after_step, after_told, after_round, after_clock, after_got, after_not_read, after_handed, after_handed_on, Fits, OnEachTrace, with_step, work_left, are_timely, CLOCK_LIMIT};
 
     /// The core that keeps these, which stand in record order, and no time later than now.
-    pub(crate) fn of(fields: CoreFields, table: Table<A>, slots: Records<A>) -> BareCore<A>
+    pub(crate) fn of(fields: CoreFields, table: Table<A>, slots: Records<A>) -> CoreValues<A>
         requires clock { fields.time ≤ CLOCK_LIMIT }
         requires timely { are_timely fields.time slots ≡ true }
         requires order { IsInOrder table slots }
         ensures { result ≡ record { table = table; slots = slots; fields = fields } }
     {
-        BareCore {
+        CoreValues {
             table,
             slots,
             fields,
@@ -341,9 +342,9 @@ impl<A: Allocator> BareCore<A> {
         ensures { self.new ≡ self.old }
     {
         let slots = self.slots.as_slice();
-        self.looks_from = seen_to(slots, self.looks_from);
+        self.looks_from = seen_until(slots, self.looks_from);
         if let Some(stage) = self.fields.stage {
-            self.starts = moved(self.starts, stage, self.fields.time, &self.table, slots);
+            self.starts = advanced_places(self.starts, stage, self.fields.time, &self.table, slots);
         }
     }
 
@@ -368,11 +369,11 @@ impl<A: Allocator> BareCore<A> {
         requires distinct { are_distinct self.old.slots ≡ true }
         ensures { self.new ≡ after_step (Step.Order id ask) self.old }
     {
-        let Some(place) = self.slots.place_of(&id) else {
+        let Some(position) = self.slots.place_of(&id) else {
             unreachable!()
         };
         self.slots.ask(id, ask, self.fields.time);
-        self.starts = self.starts.with_if(place, is_start(ask));
+        self.starts = self.starts.with_if(position, is_start(ask));
     }
 
     /// The step is taken, as it was decided on.
@@ -417,7 +418,7 @@ impl<A: Allocator> BareCore<A> {
         ensures refused { result ≡ refusal_of (order_in id self.old.slots) answer }
         ensures unchanged { OnErr result (self.new ≡ self.old) }
     {
-        let Some(place) = self.slots.place_of(&id) else {
+        let Some(position) = self.slots.place_of(&id) else {
             return Err(Refusal::NotAsked);
         };
         // `len` says that no id has two records, as `told` doesn't.
@@ -425,7 +426,7 @@ impl<A: Allocator> BareCore<A> {
         self.slots.told(id, answer, self.fields.time)?;
         // An end may take a record out.
         self.looks_from = self.looks_from.saturating_sub(1);
-        self.starts = self.starts.with_if(place, changes_starts(&answer));
+        self.starts = self.starts.with_if(position, changes_starts(&answer));
         Ok(())
     }
 

@@ -20,32 +20,32 @@ impl Places {
     }
 
     /// The entry at the place too.
-    pub(crate) fn with(self, place: usize) -> Places
-        ensures { (passed : ℕ → Bool) → AllBut (λ i. i == place || passed i) self
+    pub(crate) fn with(self, position: usize) -> Places
+        ensures { (passed : ℕ → Bool) → AllBut (λ i. i == position || passed i) self
             → AllBut passed result }
     {
-        if place >= self.next || place == self.first {
+        if position >= self.next || position == self.first {
             return self;
         }
-        if place < self.first {
+        if position < self.first {
             return Places {
-                first: place,
+                first: position,
                 next: self.first,
             };
         }
         Places {
             first: self.first,
-            next: place,
+            next: position,
         }
     }
 
     /// The entry at the place too, if it counts.
-    pub(crate) fn with_if(self, place: usize, counts: bool) -> Places
+    pub(crate) fn with_if(self, position: usize, counts: bool) -> Places
         ensures { (passed : ℕ → Bool)
-            → (counts ≡ true → AllBut (λ i. i == place || passed i) self)
+            → (counts ≡ true → AllBut (λ i. i == position || passed i) self)
             → (counts ≡ false → AllBut passed self) → AllBut passed result }
     {
-        if counts { self.with(place) } else { self }
+        if counts { self.with(position) } else { self }
     }
 
     /// All entries, if the walk is to begin anew.

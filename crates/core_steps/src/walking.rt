@@ -33,17 +33,17 @@ fn is_passed_at<A: Allocator>(
     now: u64,
     table: &Table<A>,
     slots: &[Record],
-    place: usize,
+    position: usize,
 ) -> bool
-    ensures { result ≡ is_passed_at (Some stage) now (zip table.now slots.now) place }
+    ensures { result ≡ is_passed_at (Some stage) now (zip table.now slots.now) position }
 {
-    let Some(entry) = table.at(place) else {
+    let Some(entry) = table.at(position) else {
         return true;
     };
-    if place >= slots.len() {
+    if position >= slots.len() {
         return true;
     }
-    is_passed(stage, now, entry, &slots[place])
+    is_passed(stage, now, entry, &slots[position])
 }
 
 /// How far the entries are passed from a place on.
@@ -57,16 +57,16 @@ fn passed_to<A: Allocator>(
     ensures behind { from ≤ result }
     ensures passed { ArePassedFrom (Some stage) now (zip table.now slots.now) from result }
 {
-    for place in from..slots.len() {
-        if !is_passed_at(stage, now, table, slots, place) {
-            return place;
+    for position in from..slots.len() {
+        if !is_passed_at(stage, now, table, slots, position) {
+            return position;
         }
     }
     slots.len().max(from)
 }
 
 /// The places go on after all entries that are passed now.
-pub(crate) fn moved<A: Allocator>(
+pub(crate) fn advanced_places<A: Allocator>(
     places: Places,
     stage: Stage,
     now: u64,
@@ -93,21 +93,21 @@ fn start_at<A: Allocator>(
     now: u64,
     table: &Table<A>,
     slots: &[Record],
-    place: usize,
+    position: usize,
 ) -> Option<Option<Step>>
     requires { now ≤ CLOCK_LIMIT }
     ensures ends { IfSome result (λ found.
-        found ≡ start_along stage now (drop place (zip table.now slots.now))) }
-    ensures goes_on { result ≡ None → start_along stage now (drop place (zip table.now slots.now))
-        ≡ start_along stage now (drop (place + 1) (zip table.now slots.now)) }
+        found ≡ start_along stage now (drop position (zip table.now slots.now))) }
+    ensures goes_on { result ≡ None → start_along stage now (drop position (zip table.now slots.now))
+        ≡ start_along stage now (drop (position + 1) (zip table.now slots.now)) }
 {
-    let Some(entry) = table.at(place) else {
+    let Some(entry) = table.at(position) else {
         return Some(None);
     };
-    if place >= slots.len() {
+    if position >= slots.len() {
         return Some(None);
     }
-    let slot = &slots[place];
+    let slot = &slots[position];
     if let Some(step) = start_step(stage, now, entry, slot) {
         return Some(Some(step));
     }
@@ -128,8 +128,8 @@ fn start_from<A: Allocator>(
     requires { now ≤ CLOCK_LIMIT }
     ensures { result ≡ start_along stage now (drop from (zip table.now slots.now)) }
 {
-    for place in from..slots.len() {
-        if let Some(found) = start_at(stage, now, table, slots, place) {
+    for position in from..slots.len() {
+        if let Some(found) = start_at(stage, now, table, slots, position) {
             return found;
         }
     }
@@ -174,17 +174,17 @@ fn is_unserved_at<A: Allocator>(
     now: u64,
     table: &Table<A>,
     slots: &[Record],
-    place: usize,
+    position: usize,
 ) -> bool
     ensures { result ≡ true → all_served level now table.now slots.now ≡ false }
 {
-    let Some(entry) = table.at(place) else {
+    let Some(entry) = table.at(position) else {
         return false;
     };
-    if place >= slots.len() {
+    if position >= slots.len() {
         return false;
     }
-    !is_served(level, now, entry, &slots[place])
+    !is_served(level, now, entry, &slots[position])
 }
 
 /// No entry keeps the level from being settled. That at the place, which it may wait for, is asked first.
@@ -193,11 +193,11 @@ pub(crate) fn all_served<A: Allocator>(
     now: u64,
     table: &Table<A>,
     slots: &[Record],
-    place: usize,
+    position: usize,
 ) -> bool
     ensures { result ≡ all_served level now table.now slots.now }
 {
-    if is_unserved_at(level, now, table, slots, place) {
+    if is_unserved_at(level, now, table, slots, position) {
         return false;
     }
     table
@@ -208,16 +208,16 @@ pub(crate) fn all_served<A: Allocator>(
 }
 
 /// From a place on that records were seen up to, how far they are seen now.
-pub(crate) fn seen_to(slots: &[Record], from: usize) -> usize
+pub(crate) fn seen_until(slots: &[Record], from: usize) -> usize
     requires { are_seen from slots.now ≡ true }
     ensures { are_seen result slots.now ≡ true }
 {
     let mut seen = from;
-    for place in from..slots.len() {
-        if !is_seen(&slots[place]) {
+    for position in from..slots.len() {
+        if !is_seen(&slots[position]) {
             return seen;
         }
-        seen = place + 1;
+        seen = position + 1;
     }
     seen
 }
@@ -227,8 +227,8 @@ pub(crate) fn look_among(slots: &[Record], from: usize) -> Option<Step>
     requires { are_seen from slots.now ≡ true }
     ensures { result ≡ look_among slots.now }
 {
-    for place in from..slots.len() {
-        let slot = &slots[place];
+    for position in from..slots.len() {
+        let slot = &slots[position];
         if can_look(slot) {
             return Some(Step::Order(slot.id(), OrderKind::Look));
         }

@@ -82,12 +82,12 @@ pub steps : (v : Version) (state : SavedState) (text more : List ℕ) → is_sta
 unfolding fields_text
 steps v state text more is same =
     let kept = state_parts v state is in
-    let behind = fields_text state.fields ++ (table_text state.table ++ (records_text v state.records ++ more)) in
-    let whole : text ≡ begun v behind =
+    let after_prefix = fields_text state.fields ++ (table_text state.table ++ (records_text v state.records ++ more)) in
+    let whole : text ≡ begun v after_prefix =
     sym same ∙ ap (λ t. t ++ more) (body_parts v state) ∙ append_assoc (version_line v ++ 10 ∷ []) (fields_text state.fields ++ (table_text state.table ++ records_text v state.records)) more
     ∙ ap (begun v) (append_assoc (fields_text state.fields) (table_text state.table ++ records_text v state.records) more ∙ ap (λ t. fields_text state.fields ++ t) (append_assoc (table_text state.table) (records_text v state.records) more)) in
     record {
-      begins = ap version_read whole ∙ version_front.back v behind refl;
+      begins = ap version_read whole ∙ version_front.back v after_prefix refl;
       fields = fields_front.back state.fields (table_text state.table ++ (records_text v state.records ++ more)) kept.fields;
       table = table_back v state.table (records_text v state.records ++ more) kept.table kept.holds;
     }
@@ -184,11 +184,11 @@ lined zero text rest is = record { lines = []; whole = sym (same_Some text rest 
 lined (suc n) text rest is =
     option_and_then_some (λ (parts : List ℕ × List ℕ). after_lines n parts.1) (cut 10 text) rest is (λ parts at more.
     let first = cut-parts 10 text parts.0 parts.1 at in
-    let behind = lined n parts.1 rest more in
+    let after_prefix = lined n parts.1 rest more in
     record {
-      lines = parts.0 ∷ behind.lines;
-      whole = append_assoc (parts.0 ++ 10 ∷ []) (text_of_lines behind.lines) rest ∙ ap (λ t. (parts.0 ++ 10 ∷ []) ++ t) behind.whole ∙ append_assoc parts.0 (10 ∷ []) parts.1 ∙ sym first.0;
-      are = more_lines_are parts.0 behind.lines first.1 behind.are;
+      lines = parts.0 ∷ after_prefix.lines;
+      whole = append_assoc (parts.0 ++ 10 ∷ []) (text_of_lines after_prefix.lines) rest ∙ ap (λ t. (parts.0 ++ 10 ∷ []) ++ t) after_prefix.whole ∙ append_assoc parts.0 (10 ∷ []) parts.1 ∙ sym first.0;
+      are = more_lines_are parts.0 after_prefix.lines first.1 after_prefix.are;
     })
 
 -- the split of a whole text

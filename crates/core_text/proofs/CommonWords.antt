@@ -21,7 +21,7 @@ pub use Rattle.core_text.specs.declared.versions.Version.{Version}
 pub use Rattle.core_text.specs.Versions.{holds_table, holds_id}
 pub use Rattle.core_text.specs.Lines.{body_lines, head_lines, slot_line, table_line, text_of_lines, version_line, end_line, bit, or_word, clock_line, flags_line, generation_line, goal_line, goal_word, or_dash, stage_line, starts_word, status_word, stop_word, wish_line, state_lines, state_text, text_in, bits}
 pub use Rattle.core_text.specs.Range.{are_fields, is_record, is_state, passes, are_starts, is_child, is_generation, is_goal, is_last_status, is_seconds, is_stage, is_stop, is_time, has_ranged_words, has_short_seconds}
-pub use Rattle.core_text.specs.Reading.{OnLine, end_split, fields_read, last_line, table_read, version_read, checked_by, pair, pair_read, behind, named_read, or_read, bit_read, first_bit, line_read, then_read, made_read, EndWords, FlagWords, LimitWords, MarkWords, PlaceWords, SlotWords, TimeWords, WishWords, clock_line_read, dash_read, ends_read, without_status, status_read, starts_read, flags_line_read, flags_read, four_bits, generation_line_read, generation_read, goal_line_read, goal_made, goal_read, fields_made, limits_read, marks_read, one_bit, places_read, reread_read, slot_line_read, slot_made, slot_words_read, stage_line_read, stage_pair_read, stop_read, table_line_read, end_line_read, three_bits, time_read, times_read, two_bits, version_of_line, wish_line_read, wishes_read, generation_of, all_read, table_in, id_in_read, signal_read}
+pub use Rattle.core_text.specs.Reading.{OnLine, end_split, fields_read, last_line, table_read, version_read, checked_by, pair, pair_read, after_prefix, named_read, or_read, bit_read, first_bit, line_read, then_read, made_read, EndWords, FlagWords, LimitWords, MarkWords, PlaceWords, SlotWords, TimeWords, WishWords, clock_line_read, dash_read, ends_read, without_status, status_read, starts_read, flags_line_read, flags_read, four_bits, generation_line_read, generation_read, goal_line_read, goal_made, goal_read, fields_made, limits_read, marks_read, one_bit, places_read, reread_read, slot_line_read, slot_made, slot_words_read, stage_line_read, stage_pair_read, stop_read, table_line_read, end_line_read, three_bits, time_read, times_read, two_bits, version_of_line, wish_line_read, wishes_read, generation_of, all_read, table_in, id_in_read, signal_read}
 pub use Rattle.core_text.specs.Refused.{AreRecords, IsBody, IsBodyIn, NoBody, NoRecords, RefusedBody, is_line, IsTextOf, Whole, IsTextIn, BeginsAs, BeginsAsKnown, IsCut, IsOtherVersion, Refused, SaysNone}
 pub use Rattle.std.proofs.lemmas.Slice.Eq.{starts_is, bytes_eq-Decides}
 pub use Rattle.init_words.specs.Actions.{word_of, act_read, acts}

@@ -1,5 +1,5 @@
 -- Written forms that are read exactly: what is written is read as it was, and what is read is written so.
-use Rattle.core_text.proofs.CommonWords.{arith, ◌≡◌, ◌⊎◌, inl, inr, ℕ, Bool, true, false, cond, ◌&&◌, ◌==◌, List, [], ◌∷◌, ◌++◌, Option, Some, None, refl, sym, ap, ◌∙◌, subst, and_parts, and_from, or_from, eqb-true, append_assoc, option_and_then_some, same_Some, cut, has_byte, cut-parts, cut-append, has_byte-append, same_id, same_id-is, same_id-self, option_map_some, both, both_some, bit, or_word, passes, checked_by, pair, pair_read, behind, named_read, or_read, bit_read, first_bit, line_read, then_read, made_read}
+use Rattle.core_text.proofs.CommonWords.{arith, ◌≡◌, ◌⊎◌, inl, inr, ℕ, Bool, true, false, cond, ◌&&◌, ◌==◌, List, [], ◌∷◌, ◌++◌, Option, Some, None, refl, sym, ap, ◌∙◌, subst, and_parts, and_from, or_from, eqb-true, append_assoc, option_and_then_some, same_Some, cut, has_byte, cut-parts, cut-append, has_byte-append, same_id, same_id-is, same_id-self, option_map_some, both, both_some, bit, or_word, passes, checked_by, pair, pair_read, after_prefix, named_read, or_read, bit_read, first_bit, line_read, then_read, made_read}
 use Rattle.std.specs.Option.{option_map}
 
 pub record Form {X : Type 0} (ok : X → Bool) (write : X → List ℕ) (read : List ℕ → Option X) : Type 0 where
@@ -50,7 +50,7 @@ pair_lacks byte mark okx wx oky wy other first second = λ p is.
     has_byte-append byte (wx p.0) (mark ∷ wy p.1) (first p.0 parts.0) (or_from (mark == byte) (has_byte byte (wy p.1)) other (second p.1 parts.1))
 
 -- a text behind a name and a byte
-pub behind_some : {P : Type 0} (name : List ℕ) (mark : ℕ) (text rest : List ℕ) → behind name mark text ≡ Some rest → (name ++ mark ∷ rest ≡ text → P) → P
+pub behind_some : {P : Type 0} (name : List ℕ) (mark : ℕ) (text rest : List ℕ) → after_prefix name mark text ≡ Some rest → (name ++ mark ∷ rest ≡ text → P) → P
 behind_some {P} name mark text rest is next =
     option_and_then_some (λ (parts : List ℕ × List ℕ). cond (same_id parts.0 name) (Some parts.1) None) (cut mark text) rest is (λ parts at found. by parts at (same_id parts.0 name) refl found)
   where
@@ -60,14 +60,14 @@ behind_some {P} name mark text rest is next =
         next (rw (← this, ← same_id-is parts.0 name same) (sym (cut-parts mark text parts.0 parts.1 at).0))
     by parts at false same found = absurd (cc)
 
-pub behind_back : (name : List ℕ) (mark : ℕ) (rest : List ℕ) → has_byte mark name ≡ false → behind name mark (name ++ mark ∷ rest) ≡ Some rest
+pub behind_back : (name : List ℕ) (mark : ℕ) (rest : List ℕ) → has_byte mark name ≡ false → after_prefix name mark (name ++ mark ∷ rest) ≡ Some rest
 behind_back name mark rest lacks = rw (cut-append mark name rest lacks, same_id-self name) refl
 
 pub named_form : {X : Type 0} (name : List ℕ) (mark : ℕ) (ok : X → Bool) (write : X → List ℕ) (read : List ℕ → Option X)
     → has_byte mark name ≡ false → Form ok write read → Form ok (λ x. name ++ mark ∷ write x) (named_read name mark read)
 named_form name mark ok write read lacks form = record {
   back = λ x is. rw (behind_back name mark (write x) lacks) (form.back x is);
-  own = λ text x is. option_and_then_some read (behind name mark text) x is (λ rest at found. behind_some name mark text rest at (λ whole.
+  own = λ text x is. option_and_then_some read (after_prefix name mark text) x is (λ rest at found. behind_some name mark text rest at (λ whole.
       let own = form.own rest x found in (ap (λ t. name ++ mark ∷ t) own.0 ∙ whole, own.1)));
 }
 

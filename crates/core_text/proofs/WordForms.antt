@@ -1,5 +1,5 @@
 -- Each word of a state text is read exactly, and no blank and no newline stands in it.
-use Rattle.core_text.proofs.CommonWords.{◌≡◌, ◌⊎◌, inl, inr, ℕ, ◌+◌, ◌<◌, ◌≤◌, ◌^◌, Bool, true, false, not, ◌&&◌, ◌==◌, nat_lt, nat_le, List, [], ◌∷◌, ◌++◌, length, map, find, codes, decimal, Some, None, refl, sym, ap, ◌∙◌, subst, arith, lit<, list_all, join_with_byte, and_parts, and_from, or_from, ltb-true, bytes_eq-Decides, option_and_then_some, same_Some, cut, has_byte, pieces_of, cut-parts, has_byte-append, pieces_of-joined, Act, Status, Exit, id_parts, OrderKind, Stage, acts, word_of, id_read, is_id, same_id, same_id-is, option_map_some, act_back, level_word, order_word, stage_word, is_status, level_of_word, order_of_word, seconds_of_word, stage_of_word, child_of_word, code_of_word, both_some, choice, id_own, level_own, named, nothing, order_own, stage_own, STARTS, Stop, Due, Termed, Killed, Version, V1, V2, holds_id, bit, starts_word, status_word, stop_word, version_line, are_starts, is_child, is_generation, is_seconds, is_stop, is_time, all_read, behind, generation_read, id_in_read, one_bit, signal_read, starts_read, status_read, stop_read, time_read, version_of_line}
+use Rattle.core_text.proofs.CommonWords.{◌≡◌, ◌⊎◌, inl, inr, ℕ, ◌+◌, ◌<◌, ◌≤◌, ◌^◌, Bool, true, false, not, ◌&&◌, ◌==◌, nat_lt, nat_le, List, [], ◌∷◌, ◌++◌, length, map, find, codes, decimal, Some, None, refl, sym, ap, ◌∙◌, subst, arith, lit<, list_all, join_with_byte, and_parts, and_from, or_from, ltb-true, bytes_eq-Decides, option_and_then_some, same_Some, cut, has_byte, pieces_of, cut-parts, has_byte-append, pieces_of-joined, Act, Status, Exit, id_parts, OrderKind, Stage, acts, word_of, id_read, is_id, same_id, same_id-is, option_map_some, act_back, level_word, order_word, stage_word, is_status, level_of_word, order_of_word, seconds_of_word, stage_of_word, child_of_word, code_of_word, both_some, choice, id_own, level_own, named, nothing, order_own, stage_own, STARTS, Stop, Due, Termed, Killed, Version, V1, V2, holds_id, bit, starts_word, status_word, stop_word, version_line, are_starts, is_child, is_generation, is_seconds, is_stop, is_time, all_read, after_prefix, generation_read, id_in_read, one_bit, signal_read, starts_read, status_read, stop_read, time_read, version_of_line}
 use Rattle.std.specs.Str.{bytes_eq}
 use Rattle.std.proofs.lemmas.List.Splits.{join_with_byte-slice_split}
 use Rattle.text_lines.specs.Numbers.{number_read}
@@ -204,7 +204,7 @@ status_back status is = grind (arith, code_form)
 status_own : (word : List ℕ) (status : Status) → status_read word ≡ Some status → (status_word status ≡ word) × (is_status status ≡ true)
 status_own word status is =
     named word (codes "killed") _ _ status is (λ same made. let this : KilledBySignal ≡ status = same_Some KilledBySignal status made in subst (λ s. (status_word s ≡ word) × (is_status s ≡ true)) this (sym same, refl)) (λ is.
-    option_and_then_some code_of_word (behind (codes "exit") 58 word) status is (λ rest at found.
+    option_and_then_some code_of_word (after_prefix (codes "exit") 58 word) status is (λ rest at found.
     behind_some (codes "exit") 58 word rest at (λ whole.
     option_map_some Exit (number_read 256 rest) status found (λ code was this.
     let own = code_form.own rest code was in

@@ -30,11 +30,11 @@ abbrev pub pair_read : {X Y : Type 0} → ℕ → (List ℕ → Option X) → (L
 pair_read mark first second text = option_and_then (λ parts. both pair (first parts.0) (second parts.1)) (cut mark text)
 
 -- the text after a name and such a byte
-abbrev pub behind : List ℕ → ℕ → List ℕ → Option (List ℕ)
-behind name mark text = option_and_then (λ parts. if same_id parts.0 name then Some parts.1 else None) (cut mark text)
+abbrev pub after_prefix : List ℕ → ℕ → List ℕ → Option (List ℕ)
+after_prefix name mark text = option_and_then (λ parts. if same_id parts.0 name then Some parts.1 else None) (cut mark text)
 
 abbrev pub named_read : {X : Type 0} → List ℕ → ℕ → (List ℕ → Option X) → List ℕ → Option X
-named_read name mark read text = option_and_then read (behind name mark text)
+named_read name mark read text = option_and_then read (after_prefix name mark text)
 
 -- a word that says that there is none, or what another says
 abbrev pub or_read : {X : Type 0} → List ℕ → (List ℕ → Option X) → List ℕ → Option (Option X)

@@ -3,7 +3,7 @@
 ghost use Rattle.std.specs.Prelude.{◌≡◌};
 ghost use Rattle.std.specs.Option.{option_map};
 ghost use Rattle.core_text.specs.declared.versions.Version.TheVariants.{V1, V2};
-ghost use Rattle.core_text.specs.Reading.{limits_read, marks_read, slot_words_read, generation_line_read, wishes_read, stage_pair_read, end_line_read, slot_line_read, ends_read, reread_read, pair_read, three_bits, slot_made, record_made, behind};
+ghost use Rattle.core_text.specs.Reading.{limits_read, marks_read, slot_words_read, generation_line_read, wishes_read, stage_pair_read, end_line_read, slot_line_read, ends_read, reread_read, pair_read, three_bits, slot_made, record_made, after_prefix};
 
 use crate::versions::Version;
 use crate::words::{
@@ -21,8 +21,8 @@ use trace_events::Goal;
 use trace_text::words::{is, read_seconds};
 
 /// The text after the name and a blank.
-pub(crate) fn behind<'a>(name: &[u8], line: &'a [u8]) -> Option<&'a [u8]>
-    ensures { option_map (λ rest. rest.now) result ≡ behind name.now 32 line.now }
+pub(crate) fn after_prefix<'a>(name: &[u8], line: &'a [u8]) -> Option<&'a [u8]>
+    ensures { option_map (λ rest. rest.now) result ≡ after_prefix name.now 32 line.now }
 {
     let (word, rest) = cut(b' ', line)?;
     if is(word, name) { Some(rest) } else { None }
@@ -31,7 +31,7 @@ pub(crate) fn behind<'a>(name: &[u8], line: &'a [u8]) -> Option<&'a [u8]>
 pub(crate) fn read_generation_line(line: &[u8]) -> Option<u64>
     ensures { result ≡ generation_line_read line.now }
 {
-    read_generation(behind(b"generation", line)?)
+    read_generation(after_prefix(b"generation", line)?)
 }
 
 pub(crate) fn read_stage_pair(words: &[u8]) -> Option<(Option<Stage>, u16)>
@@ -82,7 +82,7 @@ pub(crate) fn read_wishes(words: &[u8]) -> Option<WishFields>
 pub(crate) fn read_end_line(line: &[u8]) -> Option<u64>
     ensures { result ≡ end_line_read line.now }
 {
-    read_number(behind(b"end", line)?)
+    read_number(after_prefix(b"end", line)?)
 }
 
 /// The last starts, and how the last child ended.
@@ -168,5 +168,5 @@ fn read_slot(version: Version, words: &[u8]) -> Option<PlainRecord>
 pub(crate) fn read_slot_line(version: Version, line: &[u8]) -> Option<PlainRecord>
     ensures { result ≡ slot_line_read version line.now }
 {
-    read_slot(version, behind(b"slot", line)?)
+    read_slot(version, after_prefix(b"slot", line)?)
 }

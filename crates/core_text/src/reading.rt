@@ -6,11 +6,11 @@ ghost use Rattle.std.specs.Option.{option_map};
 ghost use Rattle.std.specs.Result.{MatchResult};
 ghost use Rattle.core_text.specs.CommonWords.{cut, Entry, SavedState};
 ghost use Rattle.core_text.specs.Versions.{holds_id, holds_table};
-ghost use Rattle.core_text.specs.Reading.{end_split, UnreadState, times_read, places_read, flags_read, fields_made, fields_read, table_read, table_in, version_read, generation_of, line_read, behind, slot_line_read, end_line_read, checked_by, OnLine};
+ghost use Rattle.core_text.specs.Reading.{end_split, UnreadState, times_read, places_read, flags_read, fields_made, fields_read, table_read, table_in, version_read, generation_of, line_read, after_prefix, slot_line_read, end_line_read, checked_by, OnLine};
 ghost use Rattle.core_text.specs.Refused.{AreRecords, NoRecords, IsBody, IsCut, IsOtherVersion, RefusedBody, IsTextOf, Refused};
 
 use crate::fields::{
-    WishFields, behind, read_end_line, read_generation_line, read_slot_line, read_stage_pair,
+    WishFields, after_prefix, read_end_line, read_generation_line, read_slot_line, read_stage_pair,
     read_wishes,
 };
 use crate::state_fault::StateFault;
@@ -54,11 +54,11 @@ fn take_words<'a>(
     name: &[u8],
 ) -> Result<(&'a [u8], &'a [u8]), StateFault>
     ensures ok { IfOk result (λ found.
-        line_read (behind name.now 32) text.now ≡ Some (found.0.now, found.1.now)) }
-    ensures err { IfErr result (λ why. UnreadState (line_read (behind name.now 32) text.now) why) }
+        line_read (after_prefix name.now 32) text.now ≡ Some (found.0.now, found.1.now)) }
+    ensures err { IfErr result (λ why. UnreadState (line_read (after_prefix name.now 32) text.now) why) }
 {
     let (line, rest) = take_line(text, number)?;
-    let words = behind(name, line).ok_or(StateFault::Line(number))?;
+    let words = after_prefix(name, line).ok_or(StateFault::Line(number))?;
     Ok((words, rest))
 }
 

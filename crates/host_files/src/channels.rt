@@ -290,9 +290,9 @@ impl<A: Allocator + Copy> Channel<A> {
     }
 
     /// Goes on at this byte, where a request begins.
-    fn go_to(&mut self, place: u64) {
-        if self.heard != place {
-            self.heard = place;
+    fn go_to(&mut self, position: u64) {
+        if self.heard != position {
+            self.heard = position;
             self.torn = 0;
             self.told_torn = false;
         }

@@ -16,10 +16,10 @@ is_off _ = false
 abbrev pub line_of : Option Entry → Stage → ChildLine
 line_of None stage = line.Gone
 line_of (Some entry) stage =
-    if is_off entry.act then line.Off else if lives_of entry stage then line.Here else line.Elsewhere
+    if is_off entry.act then line.Off else if lives_of entry stage then line.StopsChild else line.OtherAction
 
 -- a line that is gone or off costs the child; any other costs it where the stage is that of the reading
-abbrev pub is_cost : ChildLine → Bool → Bool
-is_cost line.Gone same = true
-is_cost line.Off same = true
-is_cost _ same = same
+abbrev pub stops_child : ChildLine → Bool → Bool
+stops_child line.Gone same = true
+stops_child line.Off same = true
+stops_child _ same = same

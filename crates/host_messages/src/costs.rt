@@ -1,7 +1,7 @@
 //! What is said of a child that a reading of the inittab costs.
 
 ghost use Rattle.std.specs.Prelude.{◌≡◌, option_copied};
-ghost use Rattle.host_messages.specs.Costs.{is_cost, line_of};
+ghost use Rattle.host_messages.specs.Costs.{stops_child, line_of};
 
 use init_words::{Act, Entry, Stage, lives};
 use std::fmt;
@@ -14,9 +14,9 @@ pub enum ChildLine {
     /// Its line is off.
     Off,
     /// Its line runs, in the stage.
-    Here,
+    StopsChild,
     /// Its line runs, and not in the stage.
-    Elsewhere,
+    OtherAction,
 }
 
 impl ChildLine {
@@ -27,14 +27,14 @@ impl ChildLine {
         match entry {
             None => ChildLine::Gone,
             Some(entry) if matches!(entry.act, Act::Off) => ChildLine::Off,
-            Some(entry) if lives(entry, stage) => ChildLine::Here,
-            Some(_) => ChildLine::Elsewhere,
+            Some(entry) if lives(entry, stage) => ChildLine::StopsChild,
+            Some(_) => ChildLine::OtherAction,
         }
     }
 
     /// It costs a child that is stopped: a change of the stage since the reading does not.
-    pub fn is_cost(self, is_same_stage: bool) -> bool
-        ensures { result ≡ is_cost self is_same_stage }
+    pub fn stops_child(self, is_same_stage: bool) -> bool
+        ensures { result ≡ stops_child self is_same_stage }
     {
         is_same_stage || matches!(self, ChildLine::Gone | ChildLine::Off)
     }
@@ -45,8 +45,8 @@ impl fmt::Display for ChildLine {
         f.write_str(match self {
             ChildLine::Gone => "no line any more",
             ChildLine::Off => "its line is off",
-            ChildLine::Here => "its line has another action",
-            ChildLine::Elsewhere => "its line does not run in this level",
+            ChildLine::StopsChild => "its line has another action",
+            ChildLine::OtherAction => "its line does not run in this level",
         })
     }
 }

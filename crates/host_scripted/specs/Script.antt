@@ -45,4 +45,4 @@ taken_of room (Err fault) = Err fault
 
 -- pieces of which the first has been taken up to a place
 abbrev pub pieces_from : ℕ → List ℕ → List TextRead → List TextRead
-pieces_from place under_way pieces = left_of place (Ok under_way) ++ pieces
+pieces_from position under_way pieces = left_of position (Ok under_way) ++ pieces

@@ -103,7 +103,7 @@ impl<S: System> HeldChild<S> {
         ensures { self.new ≡ self.old }
     {
         match self.line.take() {
-            Some(line) if line.is_cost(is_same_stage) => messages.tell_cost(
+            Some(line) if line.stops_child(is_same_stage) => messages.tell_cost(
                 rt,
                 id,
                 self.number,

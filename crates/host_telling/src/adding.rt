@@ -51,7 +51,7 @@ impl<'a, X, M: Reads<X, Call>> Reads<(&'a Noted<CallList>, X), CallList> for ByC
 }
 
 /// The record with a call added: what it was asked, and what was answered.
-pub fn with<X: Copy, M: Reads<X, Call>>(before: &Noted<CallList>, call: X) -> Noted<CallList>
+pub fn and_call<X: Copy, M: Reads<X, Call>>(before: &Noted<CallList>, call: X) -> Noted<CallList>
     ensures { result.value ≡ M.value call ∷ before.now.value }
 {
     Noted::of::<(&Noted<CallList>, X), ByCall<M>>(&(before, call))

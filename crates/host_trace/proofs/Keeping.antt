@@ -2,7 +2,7 @@
 use Rattle.host_trace.proofs.Words.{arith, ◌≡◌, refl, sym, ap, subst, true, List, [], ◌∷◌, ◌++◌, Option, Some, None, and_parts, OrderKind, Goal, Event, is_sound, LogState, Announce, HostCall, Point, announced, point_after, Leads, Logs, Took, UpTo, Went, WentWell, are_seconds_short, is_allowed, are_short, is_seconds, past_of}
 use Rattle.trace_events.specs.declared.happenings.Happening.TheVariants.{Asked}
 use Rattle.host_calls.specs.Record.{Since}
-use Rattle.host_trace.specs.Edges.{AddsMade, Kept, KeptAt, Made, calls_of, trace_at}
+use Rattle.host_trace.specs.Edges.{AddsStamped, Kept, KeptAt, Made, calls_of, trace_at}
 use Rattle.host_trace.specs.Fronts.{Began, Fronts}
 use Rattle.host_trace.proofs.Fronts.{Began-then}
 use Rattle.host_trace.proofs.Leading.{UpTo-map, UpTo-then, allowed_rest}
@@ -16,13 +16,13 @@ calls_of-append [] xs = refl
 calls_of-append (made ∷ ys) xs = ap (λ l. made.call ∷ l) (calls_of-append ys xs)
 
 -- a call was made, whether it is told or not
-pub Since-made : {L : Type 0} (old new : Option (List (Made L))) (call : HostCall) (log : L) (P : List (Made L) → Type 0) → AddsMade old new call log → P (record { call = call; log = log } ∷ []) → Since old new P
+pub Since-made : {L : Type 0} (old new : Option (List (Made L))) (call : HostCall) (log : L) (P : List (Made L) → Type 0) → AddsStamped old new call log → P (record { call = call; log = log } ∷ []) → Since old new P
 Since-made old None call log P adds p = (record { call = call; log = log } ∷ [], tt, p)
 Since-made old (Some all) call log P adds p = (record { call = call; log = log } ∷ [], adds, p)
 
 -- the same between records that are equal
-pub AddsMade-same : {L : Type 0} (old before behind new : Option (List (Made L))) (call : HostCall) (log : L) → before ≡ old → new ≡ behind → AddsMade before behind call log → AddsMade old new call log
-AddsMade-same old before behind new call log same_before same_behind adds = subst (λ t. AddsMade old t call log) (sym same_behind) (subst (λ t. AddsMade t behind call log) same_before adds)
+pub AddsStamped-same : {L : Type 0} (old before behind new : Option (List (Made L))) (call : HostCall) (log : L) → before ≡ old → new ≡ behind → AddsStamped before behind call log → AddsStamped old new call log
+AddsStamped-same old before behind new call log same_before same_behind adds = subst (λ t. AddsStamped old t call log) (sym same_behind) (subst (λ t. AddsStamped t behind call log) same_before adds)
 
 -- ---- at each call
 

@@ -66,13 +66,13 @@ went_well goal p calls in_place sound = record { in_place = in_place; sound = so
 
 -- a call that comes to what was heard, in its place
 pub Leads-heard : (fitted fit : Goal → Point → Type 0) (old new : LogState) (call : HostCall) (more : List Event → List Event) → Hears fitted fit old new more → ((p : Point) → after call p ≡ gone_on more p) → ((goal : Goal) (p : Point) → is_sound goal p.past ≡ true → fitted goal p → is_in_place goal call [] p.past ≡ true) → ((goal : Goal) (p : Point) → AreTexts goal (call ∷ []) p) → Leads fitted fit old new (call ∷ [])
-Leads-heard fitted fit old new call more hears comes place texts goal p sound fits allowed = (
+Leads-heard fitted fit old new call more hears comes position texts goal p sound fits allowed = (
   texts goal p,
   λ carried.
       let heard : Heard fit old new goal p (gone_on more p) = hears goal p sound fits (ap (λ (q : Point). is_allowed goal q.past) (sym (comes p)) ∙ allowed) in
       let behind : Heard fit old new goal p (after call p) = subst (Heard fit old new goal p) (sym (comes p)) heard in
       record {
-        well = went_well goal p (call ∷ []) (has_trace-one goal call p (ap (λ (q : Point). q.generation) (comes p)) (place goal p sound fits)) behind.sound;
+        well = went_well goal p (call ∷ []) (has_trace-one goal call p (ap (λ (q : Point). q.generation) (comes p)) (position goal p sound fits)) behind.sound;
         fits = behind.fits;
         log = logged goal (call ∷ []) p old new behind.sound behind.log;
       },
@@ -173,10 +173,10 @@ Leads-frame f₀ f₁ K old new calls none leads = Leads-beside f₀ f₁ (λ go
 
 -- a call that comes to nothing
 pub Leads-still : (fit : Goal → Point → Type 0) (log : LogState) (call : HostCall) → ((p : Point) → after call p ≡ p) → ((goal : Goal) (so_far : List Event) → is_in_place goal call [] so_far ≡ true) → ((goal : Goal) (p : Point) → AreTexts goal (call ∷ []) p) → Leads fit fit log log (call ∷ [])
-Leads-still fit log call still place texts goal p sound fits allowed = (
+Leads-still fit log call still position texts goal p sound fits allowed = (
   texts goal p,
   λ carried. record {
-    well = went_well goal p (call ∷ []) (has_trace-one goal call p (ap (λ (q : Point). q.generation) (still p)) (place goal p.past)) (ap (λ (q : Point). is_sound goal q.past) (still p) ∙ sound);
+    well = went_well goal p (call ∷ []) (has_trace-one goal call p (ap (λ (q : Point). q.generation) (still p)) (position goal p.past)) (ap (λ (q : Point). is_sound goal q.past) (still p) ∙ sound);
     fits = subst (fit goal) (sym (still p)) fits;
     log = λ short. subst (λ (q : Point). Took log log p.past q.past) (sym (still p)) (Took-none log p.past);
   },

@@ -50,8 +50,8 @@ are_in_place-append : (goal : Goal) (ys xs : List HostCall) (p : Point) → tell
 are_in_place-append goal [] xs p told later earlier = earlier
 are_in_place-append goal (call ∷ ys) xs p told later earlier =
     let both = and_parts (is_in_place goal call ys (point_after ys (point_after xs p)).past) (are_in_place goal ys (point_after xs p)) later in
-    let place : is_in_place goal call ys (point_after (ys ++ xs) p).past ≡ true = ap (λ (q : Point). is_in_place goal call ys q.past) (point_after-append ys xs p) ∙ both.0 in
-    and_from (is_in_place goal call (ys ++ xs) (point_after (ys ++ xs) p).past) (are_in_place goal (ys ++ xs) p) (more_place goal call ys xs (point_after (ys ++ xs) p).past told place) (are_in_place-append goal ys xs p told both.1 earlier)
+    let position : is_in_place goal call ys (point_after (ys ++ xs) p).past ≡ true = ap (λ (q : Point). is_in_place goal call ys q.past) (point_after-append ys xs p) ∙ both.0 in
+    and_from (is_in_place goal call (ys ++ xs) (point_after (ys ++ xs) p).past) (are_in_place goal (ys ++ xs) p) (more_place goal call ys xs (point_after (ys ++ xs) p).past told position) (are_in_place-append goal ys xs p told both.1 earlier)
 
 -- what came of the texts is told in two parts
 said_then : (how : HandOver) (xs : List HostCall) → tells_outcomes xs ≡ true → tells_outcomes (Announce (past.Handed how) ∷ xs) ≡ true
@@ -75,4 +75,4 @@ called_once : (call : HostCall) (p : Point) → (after call p).generation ≡ p.
 called_once call p same = grind arith
 
 pub has_trace-one : (goal : Goal) (call : HostCall) (p : Point) → (after call p).generation ≡ p.generation → is_in_place goal call [] p.past ≡ true → has_trace goal (call ∷ []) p ≡ true
-has_trace-one goal call p same place = and_from (tells_outcomes (call ∷ [])) (are_in_place goal (call ∷ []) p) (called_once call p same) (and_from (is_in_place goal call [] p.past) true place refl)
+has_trace-one goal call p same position = and_from (tells_outcomes (call ∷ [])) (are_in_place goal (call ∷ []) p) (called_once call p same) (and_from (is_in_place goal call [] p.past) true position refl)

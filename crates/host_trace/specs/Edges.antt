@@ -23,8 +23,8 @@ pub record EdgeState (H L : Type 0) : Type 0 where
   pub told : Option (List (Made L))
 
 -- where an edge tells its record now, it told it before, and the record has gained this call, made with this log
-abbrev pub AddsMade : {L : Type 0} → Option (List (Made L)) → Option (List (Made L)) → HostCall → L → Type 0
-AddsMade old new call log = IfSome new (λ all. (before : List (Made _)) × (old ≡ Some before)
+abbrev pub AddsStamped : {L : Type 0} → Option (List (Made L)) → Option (List (Made L)) → HostCall → L → Type 0
+AddsStamped old new call log = IfSome new (λ all. (before : List (Made _)) × (old ≡ Some before)
     × (all ≡ record { call = call; log = log } ∷ before))
 
 -- the calls that a host tells, each made with this log

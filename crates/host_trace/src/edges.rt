@@ -3,11 +3,11 @@
 ghost use Rattle.std.specs.Prelude.{◌≡◌, ◌∷◌, ◌≤◌, List, IfOk, length, true};
 ghost use Rattle.std.specs.Option.{option_map};
 ghost use Rattle.host_trace.specs.Words.{Event, is_short, text_read, parts_read, front_read};
-ghost use Rattle.host_trace.specs.Edges.{AddsMade, calls_of, first_told};
+ghost use Rattle.host_trace.specs.Edges.{AddsStamped, calls_of, first_told};
 ghost use Rattle.host_trace.specs.Grows.{Grows};
 ghost use Rattle.host_trace.specs.Leads.{Logs};
 
-use crate::noting::{MadeList, told_before, with};
+use crate::noting::{StampedCalls, and_call, calls_until};
 use host_calls::{Call, Host, HostFault, Reply};
 use host_telling::Noted;
 use init_words::{Answer, Id, Part, SignalKind};
@@ -25,7 +25,7 @@ use trace_log::Log;
 pub struct Edge<H: Host, L: Log> {
     host: H,
     log: L,
-    told: Noted<MadeList<L>>,
+    told: Noted<StampedCalls<L>>,
 }
 
 impl<H: Host, L: Log> Model for Edge<H, L> {
@@ -46,7 +46,7 @@ impl<H: Host, L: Log> Edge<H, L> {
         ensures { result
             ≡ record { host = host; log = log; told = first_told (H.told host) log } }
     {
-        let told = told_before(&host, &log);
+        let told = calls_until(&host, &log);
         Edge { host, log, told }
     }
 
@@ -85,65 +85,65 @@ impl<H: Host, L: Log> Edge<H, L> {
 
     /// Starts a child for the id by the command of an entry.
     pub fn start<A: Allocator + Copy>(&mut self, alloc: A, id: Id, command: &[u8]) -> Reply
-        ensures adds { AddsMade self.old.told self.new.told (Call.Start id command.now result)
+        ensures adds { AddsStamped self.old.told self.new.told (Call.Start id command.now result)
             self.old.log }
         ensures log { self.new.log ≡ self.old.log }
     {
         let reply = self.host.start(alloc, id, command);
-        self.told = with(&self.told, &self.host, &self.log);
+        self.told = and_call(&self.told, &self.host, &self.log);
         reply
     }
 
     /// Looks whether the id's child has ended.
     pub fn look(&mut self, id: Id) -> Reply
-        ensures adds { AddsMade self.old.told self.new.told (Call.Look id result) self.old.log }
+        ensures adds { AddsStamped self.old.told self.new.told (Call.Look id result) self.old.log }
         ensures log { self.new.log ≡ self.old.log }
     {
         let reply = self.host.look(id);
-        self.told = with(&self.told, &self.host, &self.log);
+        self.told = and_call(&self.told, &self.host, &self.log);
         reply
     }
 
     /// Sends the id's child a signal.
     pub fn signal(&mut self, id: Id, signal: SignalKind) -> Reply
-        ensures adds { AddsMade self.old.told self.new.told (Call.Signal id signal result)
+        ensures adds { AddsStamped self.old.told self.new.told (Call.Signal id signal result)
             self.old.log }
         ensures log { self.new.log ≡ self.old.log }
     {
         let reply = self.host.signal(id, signal);
-        self.told = with(&self.told, &self.host, &self.log);
+        self.told = and_call(&self.told, &self.host, &self.log);
         reply
     }
 
     /// The answer to an order whose reply was `Later`.
     pub fn late(&mut self) -> Option<(Id, Answer)>
-        ensures adds { AddsMade self.old.told self.new.told (Call.Late result) self.old.log }
+        ensures adds { AddsStamped self.old.told self.new.told (Call.Late result) self.old.log }
         ensures log { self.new.log ≡ self.old.log }
     {
         let late = self.host.late();
-        self.told = with(&self.told, &self.host, &self.log);
+        self.told = and_call(&self.told, &self.host, &self.log);
         late
     }
 
     /// The time, in seconds.
     pub fn clock(&mut self) -> Result<u64, HostFault>
-        ensures adds { AddsMade self.old.told self.new.told (Call.Clock result) self.old.log }
+        ensures adds { AddsStamped self.old.told self.new.told (Call.Clock result) self.old.log }
         ensures log { self.new.log ≡ self.old.log }
     {
         let reading = self.host.clock();
-        self.told = with(&self.told, &self.host, &self.log);
+        self.told = and_call(&self.told, &self.host, &self.log);
         reading
     }
 
     /// Takes the next bytes of requests into the front of the buffer, and gives how many.
     pub fn take_bytes(&mut self, buffer: &mut [u8]) -> Result<usize, HostFault>
         ensures within { IfOk result (λ count. count ≤ length buffer.old) }
-        ensures adds { AddsMade self.old.told self.new.told
+        ensures adds { AddsStamped self.old.told self.new.told
             (Call.TakeBytes (length buffer.old) (front_read result buffer.new)) self.old.log }
         ensures log { self.new.log ≡ self.old.log }
     {
         let taken = self.host.take_bytes(buffer);
-        self.told = with(&self.told, &self.host, &self.log);
+        self.told = and_call(&self.told, &self.host, &self.log);
         taken
     }
 
@@ -152,12 +152,12 @@ impl<H: Host, L: Log> Edge<H, L> {
         &mut self,
         alloc: A,
     ) -> Result<Vec<Part<A>, A>, HostFault>
-        ensures adds { AddsMade self.old.told self.new.told
+        ensures adds { AddsStamped self.old.told self.new.told
             (Call.ReadTables (parts_read (λ parts. parts.items) result)) self.old.log }
         ensures log { self.new.log ≡ self.old.log }
     {
         let parts = self.host.read_tables(alloc);
-        self.told = with(&self.told, &self.host, &self.log);
+        self.told = and_call(&self.told, &self.host, &self.log);
         parts
     }
 
@@ -167,32 +167,32 @@ impl<H: Host, L: Log> Edge<H, L> {
         alloc: A,
         text: &[u8],
     ) -> Result<Vec<u8, A>, HostFault>
-        ensures adds { AddsMade self.old.told self.new.told
+        ensures adds { AddsStamped self.old.told self.new.told
             (Call.Carry text.now (text_read (λ back. back.items) result)) self.old.log }
         ensures log { self.new.log ≡ self.old.log }
     {
         let back = self.host.carry(alloc, text);
-        self.told = with(&self.told, &self.host, &self.log);
+        self.told = and_call(&self.told, &self.host, &self.log);
         back
     }
 
     /// Says what happened, where init says something of it.
     pub fn announce<A: Allocator>(&mut self, happening: &HappeningIn<A>)
-        ensures adds { AddsMade self.old.told self.new.told (Call.Announce happening.now)
+        ensures adds { AddsStamped self.old.told self.new.told (Call.Announce happening.now)
             self.old.log }
         ensures log { self.new.log ≡ self.old.log }
     {
         self.host.announce(happening);
-        self.told = with(&self.told, &self.host, &self.log);
+        self.told = and_call(&self.told, &self.host, &self.log);
     }
 
     /// Lets some time pass.
     pub fn pause(&mut self)
-        ensures adds { AddsMade self.old.told self.new.told Call.Pause self.old.log }
+        ensures adds { AddsStamped self.old.told self.new.told Call.Pause self.old.log }
         ensures log { self.new.log ≡ self.old.log }
     {
         self.host.pause();
-        self.told = with(&self.told, &self.host, &self.log);
+        self.told = and_call(&self.told, &self.host, &self.log);
     }
 
     /// Hands the log a happening, unless it has failed.

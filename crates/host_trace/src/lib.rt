@@ -11,7 +11,7 @@ mod noting;
 
 pub use edges::Edge;
 pub use laws::{law_of_children, law_of_parts, law_of_requests, law_of_texts};
-pub use noting::MadeList;
+pub use noting::StampedCalls;
 
 /// How many bytes of requests a turn takes at most.
 pub const BYTE_LIMIT: usize = 4_096;

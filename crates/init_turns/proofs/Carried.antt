@@ -1,5 +1,5 @@
 -- What a step leads to that is only said, and what comes of steps that were due.
-use Rattle.init_turns.proofs.Words.{arith, ◌≡◌, refl, sym, ◌∙◌, ap, subst, ℕ, Bool, true, false, ◌||◌, List, [], ◌∷◌, Option, Some, Result, Ok, Err, OnOk, OnErr, is_ok, option_and_then, Answer, Ended, false≢true, Begun, Goal, Step, Event, is_sound, child_number, order_in, refusal_of, record_by_id, CoreState, after_told, Fits, FitsAll, StillFits, OnEachTrace, with_step, unreaped_recorded, LogState, AddsMade, EdgeState, AddsMade-same, Made, trace_at, kept_asked, Hears-order, ordered, Announce, HostCall, Point, point_after, last_birth, acted, answered, announced, is_announcement, Gave, gone_on, Hears, Lasts, Leads, Logs, Tracks, is_allowed, Leads-heard, Leads-map, Leads-weaken, Logs-none, Hears-answer, Hears-step, Hears-tracks, tracks, is_reread, AndRests, IsReread, IsStep, IsStepUnless, Left, Makes, MakesOver, SaysStep, is_end}
+use Rattle.init_turns.proofs.Words.{arith, ◌≡◌, refl, sym, ◌∙◌, ap, subst, ℕ, Bool, true, false, ◌||◌, List, [], ◌∷◌, Option, Some, Result, Ok, Err, OnOk, OnErr, is_ok, option_and_then, Answer, Ended, false≢true, Begun, Goal, Step, Event, is_sound, child_number, order_in, refusal_of, record_by_id, CoreState, after_told, Fits, FitsAll, StillFits, OnEachTrace, with_step, unreaped_recorded, LogState, AddsStamped, EdgeState, AddsStamped-same, Made, trace_at, kept_asked, Hears-order, ordered, Announce, HostCall, Point, point_after, last_birth, acted, answered, announced, is_announcement, Gave, gone_on, Hears, Lasts, Leads, Logs, Tracks, is_allowed, Leads-heard, Leads-map, Leads-weaken, Logs-none, Hears-answer, Hears-step, Hears-tracks, tracks, is_reread, AndRests, IsReread, IsStep, IsStepUnless, Left, Makes, MakesOver, SaysStep, is_end}
 use Rattle.init_words.specs.declared.orders.OrderKind.{OrderKind}
 use Rattle.init_words.specs.declared.refusals.Refusal.{Refusal}
 use Rattle.trace_events.specs.declared.happenings.Happening.TheVariants as past
@@ -18,7 +18,7 @@ announced_said : (happening : Event) (so_far : List Event) → is_announcement h
 announced_said happening so_far said = grind arith
 
 pub Leads-said : (c : CoreState) (l₀ l₁ : LogState) (made : Step) (happening : Event) → SaysStep made happening → ((so_far : List Event) → Logs l₀ l₁ so_far (happening ∷ so_far)) → Leads (Gave (Tracks c) made) (Tracks c) l₀ l₁ (Announce happening ∷ [])
-Leads-said c l₀ l₁ made happening says took = Leads-heard (Gave (Tracks c) made) (Tracks c) l₀ l₁ (Announce happening) (with_step made) (Hears-step (Tracks c) l₀ l₁ made (λ so_far. subst (Logs l₀ l₁ so_far) (sym (says.step so_far)) (took so_far))) (λ p. ap (λ l. record p { past = l }) (announced_said happening p.past says.said ∙ sym (says.step p.past))) (λ goal p sound gave. says.place goal [] p.past gave.0) (λ goal p. tt)
+Leads-said c l₀ l₁ made happening says took = Leads-heard (Gave (Tracks c) made) (Tracks c) l₀ l₁ (Announce happening) (with_step made) (Hears-step (Tracks c) l₀ l₁ made (λ so_far. subst (Logs l₀ l₁ so_far) (sym (says.step so_far)) (took so_far))) (λ p. ap (λ l. record p { past = l }) (announced_said happening p.past says.said ∙ sym (says.step p.past))) (λ goal p sound gave. says.position goal [] p.past gave.0) (λ goal p. tt)
 
 -- ---- answers
 
@@ -47,7 +47,7 @@ end_known goal so_far c id _ sound fits allowed ends = absurd (false≢true ends
 
 -- init noted the order, gave it, and heard the reply
 pub Makes-ordered : {H L : Type 0} (state : L → LogState) (old asked made new : EdgeState H L) (c behind : CoreState) (call : HostCall) (id : List ℕ) (order : OrderKind) (reply : Reply)
-    → asked.told ≡ old.told → AddsMade asked.told made.told call asked.log → made.log ≡ asked.log → new.told ≡ made.told → IsStep (call ∷ [])
+    → asked.told ≡ old.told → AddsStamped asked.told made.told call asked.log → made.log ≡ asked.log → new.told ≡ made.told → IsStep (call ∷ [])
     → ((so_far : List Event) → trace_at call so_far ≡ past.Asked id order ∷ so_far) → ((so_far : List Event) → Logs (state old.log) (state asked.log) so_far (past.Asked id order ∷ so_far))
     → Hears (Tracks c) (Tracks behind) (state made.log) (state new.log) (replied id reply)
     → (Hears (Gave (Tracks c) (step.Order id order)) (Tracks behind) (state old.log) (state new.log) (ordered id order reply) → Leads (Gave (Tracks c) (step.Order id order)) (Tracks behind) (state old.log) (state new.log) (call ∷ []))
@@ -55,7 +55,7 @@ pub Makes-ordered : {H L : Type 0} (state : L → LogState) (old asked made new 
 Makes-ordered state old asked made new c behind call id order reply same adds kept heard_told shape asks notes hears leads =
     let before : Goal → Point → Type 0 = Gave (Tracks c) (step.Order id order) in
     Makes-one state old.told new.told (state old.log) (state new.log) asked.log call IsStep before (Tracks behind)
-    (AddsMade-same old.told asked.told made.told new.told call asked.log same heard_told adds) shape
+    (AddsStamped-same old.told asked.told made.told new.told call asked.log same heard_told adds) shape
     (leads (Hears-order c behind (state old.log) (state asked.log) (state new.log) id order reply notes
     (subst (λ l. Hears (Tracks c) (Tracks behind) (state l) (state new.log) (replied id reply)) kept hears)))
     (kept_asked before (state old.log) (state asked.log) call id order asks notes)

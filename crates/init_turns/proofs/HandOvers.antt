@@ -1,5 +1,5 @@
 -- What comes of a state text that is carried.
-use Rattle.init_turns.proofs.Words.{◌≡◌, refl, sym, ap, ◌∙◌, subst, ℕ, Bool, true, false, ◌==◌, ◌||◌, not, nat_lt, List, [], ◌∷◌, ◌++◌, length, drop, append-nil, Option, Some, Ok, arith, length-append, starts_with, option_map_or, false≢true, and_from, and_parts, eq-eqb, eqb-true, ltb-true, same_Some, same_id-self, Event, StillFits, OnEachTrace, SavedState, state_of, IsFit, CoreState, after_handed_on, V2, IsCut, IsOther, IsTextIn, IsTextOf, generation_said, LogState, AddsMade, KeptAt, Made, kept_led, kept_still, Goal, Point, Announce, Carry, TextRead, past_of, came_cut, carrying, is_of_generation, is_outcome, same_text, Gave, Leads, Logs, Tracks, comes_back, HandedOn, Leads-carried, ComesTo, IsStep, MakesOver, Saying}
+use Rattle.init_turns.proofs.Words.{◌≡◌, refl, sym, ap, ◌∙◌, subst, ℕ, Bool, true, false, ◌==◌, ◌||◌, not, nat_lt, List, [], ◌∷◌, ◌++◌, length, drop, append-nil, Option, Some, Ok, arith, length-append, starts_with, option_map_or, false≢true, and_from, and_parts, eq-eqb, eqb-true, ltb-true, same_Some, same_id-self, Event, StillFits, OnEachTrace, SavedState, state_of, IsFit, CoreState, after_handed_on, V2, IsCut, IsOther, IsTextIn, IsTextOf, generation_said, LogState, AddsStamped, KeptAt, Made, kept_led, kept_still, Goal, Point, Announce, Carry, TextRead, past_of, came_cut, carrying, is_of_generation, is_outcome, same_text, Gave, Leads, Logs, Tracks, comes_back, HandedOn, Leads-carried, ComesTo, IsStep, MakesOver, Saying}
 use Rattle.std.proofs.lemmas.Bool.Decides.{Decides-eqb}
 use Rattle.std.proofs.lemmas.Slice.Eq.{starts_is}
 use Rattle.trace_events.specs.declared.happenings.Handed.{Handed as HandOver}
@@ -65,7 +65,7 @@ older_said text back own g says names other = and_from (is_of_generation g back)
 -- ---- the calls of a hand-over
 
 -- the state was handed over as a text, which was carried, and what came of it was said
-pub Makes-carried : {L : Type 0} (state : L → LogState) (old mid new : Option (List (Made L))) (l₀ l₁ : L) (c next behind : CoreState) (how : HandOver) (text : List ℕ) (back : TextRead) → AddsMade old mid (Carry text back) l₀ → Saying how mid new l₁
+pub Makes-carried : {L : Type 0} (state : L → LogState) (old mid new : Option (List (Made L))) (l₀ l₁ : L) (c next behind : CoreState) (how : HandOver) (text : List ℕ) (back : TextRead) → AddsStamped old mid (Carry text back) l₀ → Saying how mid new l₁
     → next ≡ after_handed_on c → OnEachTrace c (λ goal so_far. (h : HandOver) → StillFits c next goal so_far (past.Handed h ∷ so_far))
     → (range.has_short_seconds c ≡ true → IsTextIn V2 text (state_of next) × IsFit next) → ComesTo how text back next behind
     → ((so_far : List Event) → Logs (state l₀) (state l₁) so_far (past.Handed how ∷ so_far))
@@ -84,14 +84,14 @@ Makes-carried {L = L} state old mid new l₀ l₁ c next behind how text back ad
     carried : KeptAt past_of before (state l₀) (state l₀) (Carry text back) []
     carried = kept_still before (state l₀) (Carry text back) (λ so_far. refl)
 
-    refused : (h : HandOver) → IsStep (Announce (past.Handed h) ∷ Carry text back ∷ []) → AddsMade old mid (Carry text back) l₀ → AddsMade mid new (Announce (past.Handed h)) l₁ → Leads before (Tracks behind) (state l₀) (state l₁) (Announce (past.Handed h) ∷ Carry text back ∷ [])
+    refused : (h : HandOver) → IsStep (Announce (past.Handed h) ∷ Carry text back ∷ []) → AddsStamped old mid (Carry text back) l₀ → AddsStamped mid new (Announce (past.Handed h)) l₁ → Leads before (Tracks behind) (state l₀) (state l₁) (Announce (past.Handed h) ∷ Carry text back ∷ [])
         → MakesOver state old new (state l₀) (state l₁) IsStep before (Tracks behind)
     refused h shape first second goes = Makes-two state old mid new (state l₀) (state l₁) l₀ l₁ (Carry text back) (Announce (past.Handed h)) IsStep before (Tracks behind) refl first second shape goes carried
         (kept_led before (Tracks behind) (state l₀) (state l₁) (past.Handed h) (Carry text back ∷ []) goes)
 
-    by : (h : HandOver) → AddsMade old mid (Carry text back) l₀ → Saying h mid new l₁ → Leads before (Tracks behind) (state l₀) (state l₁) (carrying h text back)
+    by : (h : HandOver) → AddsStamped old mid (Carry text back) l₀ → Saying h mid new l₁ → Leads before (Tracks behind) (state l₀) (state l₁) (carrying h text back)
         → MakesOver state old new (state l₀) (state l₁) IsStep before (Tracks behind)
-    by handed.Whole first none goes = Makes-one state old new (state l₀) (state l₁) l₀ (Carry text back) IsStep before (Tracks behind) (subst (λ t. AddsMade old t (Carry text back) l₀) (sym none) first) refl goes carried
+    by handed.Whole first none goes = Makes-one state old new (state l₀) (state l₁) l₀ (Carry text back) IsStep before (Tracks behind) (subst (λ t. AddsStamped old t (Carry text back) l₀) (sym none) first) refl goes carried
     by (handed.Cut bytes) first second goes = refused (handed.Cut bytes) refl first second goes
     by (handed.Older generation) first second goes = refused (handed.Older generation) refl first second goes
     by handed.Failed first second goes = refused handed.Failed refl first second goes

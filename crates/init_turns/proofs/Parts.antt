@@ -1,16 +1,16 @@
 -- Parts of a turn, one behind the other.
-use Rattle.init_turns.proofs.Words.{◌≡◌, refl, sym, subst, ℕ, suc, ◌+◌, ◌≤◌, Bool, true, false, inl, inr, List, [], ◌∷◌, ◌++◌, Option, arith, Goal, is_sound, LogState, HostCall, AddsMade, Kept, KeptAt, Made, calls_of, Point, Fronts, says_of, Grows, Leads, Took, are_seconds_short, past_of, STEP_LIMIT, AreSteps, Since-none, Since-map, Since-then, Took-none, fronts_from, fronts_none, fronts_one, fronts_then, fronts_two, Leads-none, Leads-then, Kept-then, Since-made, calls_of-append, kept_from, AreAllSteps, IsStepUnless, MakesOver}
+use Rattle.init_turns.proofs.Words.{◌≡◌, refl, sym, subst, ℕ, suc, ◌+◌, ◌≤◌, Bool, true, false, inl, inr, List, [], ◌∷◌, ◌++◌, Option, arith, Goal, is_sound, LogState, HostCall, AddsStamped, Kept, KeptAt, Made, calls_of, Point, Fronts, says_of, Grows, Leads, Took, are_seconds_short, past_of, STEP_LIMIT, AreSteps, Since-none, Since-map, Since-then, Took-none, fronts_from, fronts_none, fronts_one, fronts_then, fronts_two, Leads-none, Leads-then, Kept-then, Since-made, calls_of-append, kept_from, AreAllSteps, IsStepUnless, MakesOver}
 
 module _ {L : Type 0} (state : L → LogState) where
   -- what is so of calls that were made
   abbrev pub AreMade : LogState → LogState → (List HostCall → Type 0) → (Goal → Point → Type 0) → (Goal → Point → Type 0) → List (Made L) → Type 0
   AreMade l₀ l₁ Shape f₀ f₁ mades = Shape (calls_of mades) × Leads f₀ f₁ l₀ l₁ (calls_of mades) × Fronts past_of f₀ l₀ l₁ (calls_of mades) × Kept state past_of f₀ l₀ mades
 
-  pub Makes-one : (old new : Option (List (Made L))) (l₀ l₁ : LogState) (log : L) (call : HostCall) (Shape : List HostCall → Type 0) (f₀ f₁ : Goal → Point → Type 0) → AddsMade old new call log → Shape (call ∷ []) → Leads f₀ f₁ l₀ l₁ (call ∷ []) → KeptAt past_of f₀ l₀ (state log) call [] → MakesOver state old new l₀ l₁ Shape f₀ f₁
+  pub Makes-one : (old new : Option (List (Made L))) (l₀ l₁ : LogState) (log : L) (call : HostCall) (Shape : List HostCall → Type 0) (f₀ f₁ : Goal → Point → Type 0) → AddsStamped old new call log → Shape (call ∷ []) → Leads f₀ f₁ l₀ l₁ (call ∷ []) → KeptAt past_of f₀ l₀ (state log) call [] → MakesOver state old new l₀ l₁ Shape f₀ f₁
   Makes-one old new l₀ l₁ log call Shape f₀ f₁ adds shape leads kept = Since-made old new call log (AreMade l₀ l₁ Shape f₀ f₁) adds (shape, leads, fronts_one f₀ l₀ l₁ call, (kept, tt))
 
   -- two calls, of which the second says what came of the first
-  pub Makes-two : (old mid new : Option (List (Made L))) (l₀ l₁ : LogState) (log₁ log₂ : L) (one two : HostCall) (Shape : List HostCall → Type 0) (f₀ f₁ : Goal → Point → Type 0) → says_of two one ≡ true → AddsMade old mid one log₁ → AddsMade mid new two log₂ → Shape (two ∷ one ∷ []) → Leads f₀ f₁ l₀ l₁ (two ∷ one ∷ []) → KeptAt past_of f₀ l₀ (state log₁) one [] → KeptAt past_of f₀ l₀ (state log₂) two (one ∷ []) → MakesOver state old new l₀ l₁ Shape f₀ f₁
+  pub Makes-two : (old mid new : Option (List (Made L))) (l₀ l₁ : LogState) (log₁ log₂ : L) (one two : HostCall) (Shape : List HostCall → Type 0) (f₀ f₁ : Goal → Point → Type 0) → says_of two one ≡ true → AddsStamped old mid one log₁ → AddsStamped mid new two log₂ → Shape (two ∷ one ∷ []) → Leads f₀ f₁ l₀ l₁ (two ∷ one ∷ []) → KeptAt past_of f₀ l₀ (state log₁) one [] → KeptAt past_of f₀ l₀ (state log₂) two (one ∷ []) → MakesOver state old new l₀ l₁ Shape f₀ f₁
   Makes-two old mid new l₀ l₁ log₁ log₂ one two Shape f₀ f₁ says first second shape leads kept_one kept_two =
       Since-then old mid new (IsMade one log₁) (IsMade two log₂) (AreMade l₀ l₁ Shape f₀ f₁)
       (Since-made old mid one log₁ (IsMade one log₁) first refl) (Since-made mid new two log₂ (IsMade two log₂) second refl)

@@ -1,5 +1,5 @@
 -- The parts of a turn, and turns one behind the other.
-use Rattle.init_turns.proofs.Words.{arith, ◌≡◌, refl, sym, ap, ◌∙◌, subst, ℕ, zero, suc, Bool, true, false, not, ◌&&◌, ◌||◌, List, [], ◌∷◌, ◌++◌, drop, length, Option, Result, list_all, false≢true, and_from, and_parts, list_all-append, Begun, Stands, Goal, is_sound, CoreState, is_drained, unreaped_recorded, LogState, Clock, TakeBytes, Pause, HostCall, AddsMade, Made, calls_of, kept_still, Point, point_after, Brings, has_short_seconds, Grows, HasRead, Counted, IsOver, Leads, Took, Tracks, UpTo, Went, past_of, AreSteps, AreTurns, IsTurn, MadeTurns, Turned, are_full, are_lates, are_takes, bytes_taken, has_come, is_busy, is_room, is_reread, is_step, takes_none, Grows-none, UpTo-then, Leads-map, Leads-beside, Leads-frame, Leads-still, Leads-weaken, bytes_counted, Since-map, Since-none, Since-then, AndRests, AreAllSteps, Fresh, IsReading, Left, LeftBy, MakesOver}
+use Rattle.init_turns.proofs.Words.{arith, ◌≡◌, refl, sym, ap, ◌∙◌, subst, ℕ, zero, suc, Bool, true, false, not, ◌&&◌, ◌||◌, List, [], ◌∷◌, ◌++◌, drop, length, Option, Result, list_all, false≢true, and_from, and_parts, list_all-append, Begun, Stands, Goal, is_sound, CoreState, is_drained, unreaped_recorded, LogState, Clock, TakeBytes, Pause, HostCall, AddsStamped, Made, calls_of, kept_still, Point, point_after, Brings, has_short_seconds, Grows, HasRead, Counted, IsOver, Leads, Took, Tracks, UpTo, Went, past_of, AreSteps, AreTurns, IsTurn, MadeTurns, Turned, are_full, are_lates, are_takes, bytes_taken, has_come, is_busy, is_room, is_reread, is_step, takes_none, Grows-none, UpTo-then, Leads-map, Leads-beside, Leads-frame, Leads-still, Leads-weaken, bytes_counted, Since-map, Since-none, Since-then, AndRests, AreAllSteps, Fresh, IsReading, Left, LeftBy, MakesOver}
 use Rattle.trace_events.specs.Due.{due, first}
 use Rattle.host_calls.specs.declared.calls.HostFault.{HostFault}
 use Rattle.host_calls.specs.Record.{Since}
@@ -123,7 +123,7 @@ IsLast strict drain done c₀ c n saw now_saw calls = (last earlier : List HostC
     × UpTo (Fresh c₀) (Turned done c earlier) (last ++ earlier) × Going strict drain (Fresh c₀) n saw now_saw earlier
 
 -- a turn more, a look, and the pause behind it
-pub turns_more : {L : Type 0} (state : L → LogState) (strict drain done : Bool) (n : ℕ) (t₀ t₁ t₂ t₃ : Option (List (Made L))) (l₀ l₁ : LogState) (log now : L) (s₀ s₁ s₂ : Option (List CoreState)) (c₀ c c' : CoreState) (b b' : Begun) → MakesOver state t₀ t₁ l₀ l₁ (Going strict drain (Fresh c₀) n s₀ s₁) (Fresh c₀) (At c b) → MakesOver state t₁ t₂ l₁ (state log) (IsTurn strict done) (At c b) (Left done c' b') → (has_short_seconds c₀ ≡ true → Grows l₁ (state log)) → Since s₁ s₂ (λ cores. cores ≡ c' ∷ []) → AddsMade t₂ t₃ Pause log → now ≡ log → MakesOver state t₀ t₃ l₀ (state now) (Gone strict drain (Fresh c₀) n c' s₀ s₂) (Fresh c₀) (At c' b')
+pub turns_more : {L : Type 0} (state : L → LogState) (strict drain done : Bool) (n : ℕ) (t₀ t₁ t₂ t₃ : Option (List (Made L))) (l₀ l₁ : LogState) (log now : L) (s₀ s₁ s₂ : Option (List CoreState)) (c₀ c c' : CoreState) (b b' : Begun) → MakesOver state t₀ t₁ l₀ l₁ (Going strict drain (Fresh c₀) n s₀ s₁) (Fresh c₀) (At c b) → MakesOver state t₁ t₂ l₁ (state log) (IsTurn strict done) (At c b) (Left done c' b') → (has_short_seconds c₀ ≡ true → Grows l₁ (state log)) → Since s₁ s₂ (λ cores. cores ≡ c' ∷ []) → AddsStamped t₂ t₃ Pause log → now ≡ log → MakesOver state t₀ t₃ l₀ (state now) (Gone strict drain (Fresh c₀) n c' s₀ s₂) (Fresh c₀) (At c' b')
 turns_more {L = L} state strict drain done n t₀ t₁ t₂ t₃ l₀ l₁ log now s₀ s₁ s₂ c₀ c c' b b' before turn grows look pause same =
     subst (λ (l : L). MakesOver state t₀ t₃ l₀ (state l) (Gone strict drain (Fresh c₀) n c' s₀ s₂) (Fresh c₀) (At c' b')) (sym same)
     (Makes-then state t₀ t₂ t₃ l₀ l₂ l₂ Last IsPause (Gone strict drain (Fresh c₀) n c' s₀ s₂) (Fresh c₀) (Left done c' b') (At c' b') (λ goal p fits. Grows-none l₂)

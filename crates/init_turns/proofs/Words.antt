@@ -51,11 +51,11 @@ pub use Rattle.core_text.specs.declared.versions.Version.TheVariants.{V2}
 pub use Rattle.core_text.proofs.Prefixes.{generation_said}
 pub use Rattle.host_trace.proofs.Calling.{HandedOn, Leads-carried, Leads-clock, Hears-last, Hears-more, Leads-late, Hears-order, first_is, Leads-start, Leads-not_handed, Leads-not_read, Leads-used}
 pub use Rattle.inittab_text.specs.Tables.{entry_of, is_distinct}
-pub use Rattle.host_trace.specs.Edges.{AddsMade, EdgeState, Kept, KeptAt, Made, calls_of, trace_at}
+pub use Rattle.host_trace.specs.Edges.{AddsStamped, EdgeState, Kept, KeptAt, Made, calls_of, trace_at}
 pub use Rattle.host_trace.specs.Fronts.{Fronts, says_of, EachFront}
 pub use Rattle.host_calls.proofs.Record.{Since-map, Since-none, Since-then}
 pub use Rattle.host_trace.proofs.Fronts.{fronts_none, fronts_one, fronts_then, fronts_two}
-pub use Rattle.host_trace.proofs.Keeping.{AddsMade-same, Kept-then, Since-made, calls_of-append, fronts_from, kept_asked, kept_from, kept_led, kept_still, leads_from}
+pub use Rattle.host_trace.proofs.Keeping.{AddsStamped-same, Kept-then, Since-made, calls_of-append, fronts_from, kept_asked, kept_from, kept_led, kept_still, leads_from}
 pub use Rattle.host_trace.specs.Requests.{Brings, requested}
 pub use Rattle.core_handover.specs.Taken.{NotTaken}
 pub use Rattle.trace_events.specs.Agreement.{is_unreaped}

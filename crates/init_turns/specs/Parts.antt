@@ -1,6 +1,6 @@
 -- What each part of a turn makes of init's host, log and core (init(8)).
 use Rattle.std.specs.Prelude.{◌≡◌, ◌≤◌, ◌⊎◌, ◌||◌, ℕ, Bool, true, false, IsTrue, List, [], ◌∷◌, Option, Result, is_some}
-use Rattle.init_turns.specs.Words.{Entry, Ended, entry_of, Handed, Goal, Step, Event, is_seconds, CoreState, with_step, state_of, IsTextOf, LogState, Late, Clock, TakeBytes, Announce, HostCall, TextRead, STEP_LIMIT, Point, is_last, is_outcome, is_announcement, may_announce, Since, AddsMade, EdgeState, Kept, Made, calls_of, At, Tracks, UpTo, Went, comes_back, past_of, AreSteps, bytes_in, is_reread, is_room, is_step}
+use Rattle.init_turns.specs.Words.{Entry, Ended, entry_of, Handed, Goal, Step, Event, is_seconds, CoreState, with_step, state_of, IsTextOf, LogState, Late, Clock, TakeBytes, Announce, HostCall, TextRead, STEP_LIMIT, Point, is_last, is_outcome, is_announcement, may_announce, Since, AddsStamped, EdgeState, Kept, Made, calls_of, At, Tracks, UpTo, Went, comes_back, past_of, AreSteps, bytes_in, is_reread, is_room, is_step}
 use Rattle.init_words.specs.declared.orders.Answer.{Answer}
 use Rattle.init_words.specs.declared.orders.OrderKind.TheVariants as ask
 use Rattle.initctl_frame.specs.Blocks.{Begun}
@@ -75,7 +75,7 @@ ComesTo how text back old new = IsFit old → IsTextOf text (state_of old)
 -- a refusal is announced, with this log
 abbrev pub Saying : {L : Type 0} → HandOver → Option (List (Made L)) → Option (List (Made L)) → L → Type 0
 Saying handed.Whole told now_told log = now_told ≡ told
-Saying how told now_told log = AddsMade told now_told (Announce (Handed how)) log
+Saying how told now_told log = AddsStamped told now_told (Announce (Handed how)) log
 
 -- nothing is due
 abbrev pub is_idle : Step → Bool
@@ -90,7 +90,7 @@ AndRests done fit goal p = fit goal p × (IsTrue done → first (due goal p.past
 pub record SaysStep (made : Step) (happening : Event) : Type 0 where
   pub step : (past : List Event) → with_step made past ≡ happening ∷ past
   pub said : is_announcement happening ≡ true
-  pub place : (goal : Goal) (earlier : List HostCall) (past : List Event) → first (due goal past) ≡ made
+  pub position : (goal : Goal) (earlier : List HostCall) (past : List Event) → first (due goal past) ≡ made
       → may_announce goal happening earlier past ≡ true
 
 -- What is so after a turn: init's core tracks the trace, and the reader of requests stands where it does; the children

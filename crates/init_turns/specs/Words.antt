@@ -13,7 +13,7 @@ pub use Rattle.host_trace.specs.Turns.{MadeTurns, AreSteps, bytes_in, is_reread,
 pub use Rattle.inittab_text.specs.Tables.{is_distinct, entry_of}
 pub use Rattle.trace_events.specs.declared.happenings.Happening.TheVariants.{NewTable, Handed, Told}
 pub use Rattle.trace_log.specs.Logs.{LogState}
-pub use Rattle.host_trace.specs.Edges.{Made, AddsMade, EdgeState, Kept, calls_of}
+pub use Rattle.host_trace.specs.Edges.{Made, AddsStamped, EdgeState, Kept, calls_of}
 pub use Rattle.init_words.specs.declared.orders.Answer.TheVariants.{Ended}
 pub use Rattle.trace_events.specs.declared.steps.Step.{Step}
 pub use Rattle.trace_events.specs.Range.{is_seconds, is_short, is_request}

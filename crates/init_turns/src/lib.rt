@@ -17,4 +17,4 @@ mod stepping;
 
 pub use laws::{law_of_a_crash, law_of_held_looks, law_of_openings};
 pub use opening::Opening;
-pub use serving::{Served, Unwatched, Watch, serve, turn};
+pub use serving::{Served, TurnObserver, Unwatched, serve, turn};

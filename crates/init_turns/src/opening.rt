@@ -5,7 +5,7 @@ ghost use Rattle.init_turns.specs.Words.{is_drained, opening_goal, opening_state
 ghost use Rattle.init_turns.specs.Arriving.{ServesTurns};
 ghost use Rattle.init_turns.specs.Opening.{IsOpeningOf, Opens};
 
-use crate::serving::{Served, Watch, serve};
+use crate::serving::{Served, TurnObserver, serve};
 use core_steps::Core;
 use host_calls::Host;
 use host_trace::Edge;
@@ -46,7 +46,7 @@ impl<A: Allocator + Copy> Opening<A> {
 
     /// Makes the given number of turns from the opening on, and gives back what init keeps after them. The log is handed
     /// the table in force first. A strict init takes no inittab that is read again of which a line is faulty.
-    pub fn serve<H: Host, L: Log, W: Watch<A>>(
+    pub fn serve<H: Host, L: Log, W: TurnObserver<A>>(
         self,
         alloc: A,
         edge: &mut Edge<H, L>,

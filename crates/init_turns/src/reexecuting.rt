@@ -3,7 +3,7 @@
 ghost use Rattle.std.specs.Prelude.{◌≡◌, ◌∷◌, ℕ, IsTrue, true, List, Some, Ok};
 ghost use Rattle.trace_events.specs.declared.happenings.Happening.TheVariants as happening;
 ghost use Rattle.trace_events.specs.declared.steps.Step.TheVariants as step;
-ghost use Rattle.init_turns.specs.Words.{Event, SavedState, IsCut, IsOther, IsTextOf, TextRead, Carry, AddsMade, Grows, GrowsBy, Gave, Logs, Tracks, is_outcome};
+ghost use Rattle.init_turns.specs.Words.{Event, SavedState, IsCut, IsOther, IsTextOf, TextRead, Carry, AddsStamped, Grows, GrowsBy, Gave, Logs, Tracks, is_outcome};
 ghost use Rattle.core_text.specs.Range.{has_short_seconds};
 ghost use Rattle.core_text.specs.Reading.{generation_of};
 ghost use Rattle.core_text.specs.declared.state_fault.StateFault.TheVariants as fault;
@@ -76,7 +76,7 @@ fn carry<A: Allocator + Copy, H: Host, L: Log>(
     text: &[u8],
 ) -> Handed
     ensures comes { (back : TextRead)
-        × AddsMade edge.old.told edge.new.told (Carry text.now back) edge.old.log
+        × AddsStamped edge.old.told edge.new.told (Carry text.now back) edge.old.log
         × ComesTo result text.now back core.old core.new }
     ensures short { has_short_seconds core.old ≡ true → has_short_seconds core.new ≡ true }
     ensures log { edge.new.log ≡ edge.old.log }

@@ -3,7 +3,7 @@
 ghost use Rattle.std.specs.Prelude.{◌≡◌, ◌∷◌, [], true, false, List, Ok};
 ghost use Rattle.init_words.specs.Parts.{texts_of};
 ghost use Rattle.inittab_text.specs.Parts.{table_of_texts};
-ghost use Rattle.init_turns.specs.Words.{NewTable, Event, is_quiet, ReadTables, PartsRead, StillFits, OnEachTrace, AddsMade, GrowsBy, Gave, Lasts, Logs, Tracks, may_take};
+ghost use Rattle.init_turns.specs.Words.{NewTable, Event, is_quiet, ReadTables, PartsRead, StillFits, OnEachTrace, AddsStamped, GrowsBy, Gave, Lasts, Logs, Tracks, may_take};
 ghost use Rattle.trace_events.specs.declared.steps.Step.TheVariants as step;
 ghost use Rattle.init_turns.specs.Parts.{IsReread, Makes};
 
@@ -65,7 +65,7 @@ fn use_table<A: Allocator + Copy, H: Host, L: Log>(
     ensures used { result ≡ true → Makes L.state edge.old edge.new
         (IsReread strict) (Gave (Tracks core.old) step.Reread) (Tracks core.new) }
     ensures read { result ≡ false → (parts : PartsRead)
-        × AddsMade edge.old.told edge.new.told (ReadTables parts) edge.old.log }
+        × AddsStamped edge.old.told edge.new.told (ReadTables parts) edge.old.log }
     ensures core { result ≡ false → core.new ≡ core.old }
     ensures log { result ≡ false → edge.new.log ≡ edge.old.log }
     ensures grows { GrowsBy core.old core.new (L.state edge.old.log) (L.state edge.new.log) }

@@ -15,7 +15,7 @@ use std::alloc::Allocator;
 use trace_log::Log;
 
 /// Somebody who looks at what init keeps after each turn, before the pause.
-pub trait Watch<A: Allocator> {
+pub trait TurnObserver<A: Allocator> {
     /// What init kept at each look, the newest first. None from the first look on that isn't told.
     ghost seen: { Self → Option (List CoreState) };
 
@@ -28,7 +28,7 @@ pub trait Watch<A: Allocator> {
 /// Nobody looks.
 pub struct Unwatched {}
 
-impl<A: Allocator> Watch<A> for Unwatched {
+impl<A: Allocator> TurnObserver<A> for Unwatched {
     ghost use Rattle.std.specs.Prelude.{None};
 
     ghost seen = { λ _. None };
@@ -100,7 +100,7 @@ fn served_so_far<A: Allocator, H: Host, L: Log>(
 
 /// Makes the given number of turns, with a look and a pause after each. With `drain` it ends after the first turn that
 /// leaves nothing to do and nothing running. A strict init takes no inittab of which a line is faulty.
-pub fn serve<A: Allocator + Copy, H: Host, L: Log, W: Watch<A>>(
+pub fn serve<A: Allocator + Copy, H: Host, L: Log, W: TurnObserver<A>>(
     alloc: A,
     core: &mut Core<A>,
     edge: &mut Edge<H, L>,

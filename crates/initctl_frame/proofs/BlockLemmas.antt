@@ -103,10 +103,10 @@ from_four xs ys same =
     cc
 
 -- an int is read from its own four bytes
-int_in_front : (n place : ℕ) (bytes : List ℕ) → place + 4 ≤ n → int_at place (take n bytes) ≡ int_at place bytes
-int_in_front n place bytes within =
-    ap (cast_signed w32) (from_four (drop place (take n bytes)) (drop place bytes) (λ i below.
-    get_or-drop place (take n bytes) i 0 ∙ get_or-take n bytes (place + i) 0 (omega arith) ∙ sym (get_or-drop place bytes i 0)))
+int_in_front : (n position : ℕ) (bytes : List ℕ) → position + 4 ≤ n → int_at position (take n bytes) ≡ int_at position bytes
+int_in_front n position bytes within =
+    ap (cast_signed w32) (from_four (drop position (take n bytes)) (drop position bytes) (λ i below.
+    get_or-drop position (take n bytes) i 0 ∙ get_or-take n bytes (position + i) 0 (omega arith) ∙ sym (get_or-drop position bytes i 0)))
 
 pub heard_of_front : (n : ℕ) (block : List ℕ) → 16 ≤ n → heard_of (take n block) ≡ heard_of block
 heard_of_front n block within =

@@ -16,7 +16,7 @@ use Rattle.initctl_frame.specs.Signs.{heard_of_sign}
 
 -- the int whose four bytes begin at this place, the lowest byte first
 abbrev pub int_at : ℕ → List ℕ → ℤ
-int_at place bytes = cast_signed w32 (from_le_bytes w32 (drop place bytes))
+int_at position bytes = cast_signed w32 (from_le_bytes w32 (drop position bytes))
 
 -- the seconds of a sleeptime: below 0 it counts as 0, above 3,600 as 3,600
 abbrev pub seconds_of : ℤ → ℕ

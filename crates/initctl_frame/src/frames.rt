@@ -60,15 +60,15 @@ pub(crate) fn decode_front(front: &[u8]) -> HeardRequest
 }
 
 /// The int whose four bytes begin at this place.
-fn int_at(bytes: &[u8], place: usize) -> i32
-    requires { place + 4 ≤ length bytes.now }
-    ensures { result ≡ int_at place bytes.now }
+fn int_at(bytes: &[u8], position: usize) -> i32
+    requires { position + 4 ≤ length bytes.now }
+    ensures { result ≡ int_at position bytes.now }
 {
     i32::from_le_bytes([
-        bytes[place],
-        bytes[place + 1],
-        bytes[place + 2],
-        bytes[place + 3],
+        bytes[position],
+        bytes[position + 1],
+        bytes[position + 2],
+        bytes[position + 3],
     ])
 }
 

@@ -2,7 +2,7 @@
 use Rattle.initd_command.proofs.Words.{◌≡◌, refl, sym, subst, ℕ, Bool, true, false, is_some, List, [], ◌∷◌, ◌++◌}
 use Rattle.initd_command.proofs.Words.{Option, Some, None, ⊤, Entry, KnownTexts, Event, LogState, HostCall}
 use Rattle.initd_command.proofs.Words.{Since, InitdSaid, judges, runs, simulates, version, RunSaid, IsOpeningOf}
-use Rattle.initd_command.proofs.Words.{OpeningState, Spoken, refused, turned, End, HasInittab, TakesParts, is_unled}
+use Rattle.initd_command.proofs.Words.{OpeningState, Spoken, refused, turned, End, HasInittab, TakesParts, has_no_level}
 use Rattle.initd_command.proofs.Words.{table_in, told_of, AsksSaid, MakesLogged, MakesTraced, LogEnds, RanBy, RunTold}
 use Rattle.std.proofs.Common.{true≢false, ◌∙◌}
 use Rattle.std.proofs.lemmas.Option.{none-some}
@@ -94,7 +94,7 @@ module _ {L fresh : Type 0} (state : L → LogState) (has_ended : Bool → List 
 pub ran_to : (text_at : KnownTexts) (service : RunSaid) (own : Type 0) (opening : OpeningState) (spoken : Spoken)
     (end : End) (bytes : List ℕ) (old new : RunTold)
     → HasInittab text_at service (λ parts. TakesParts service parts
-    × (spoken.unled ≡ is_unled service.level (table_in parts)) × IsOpeningOf service.level (table_in parts) opening
+    × (spoken.unled ≡ has_no_level service.level (table_in parts)) × IsOpeningOf service.level (table_in parts) opening
     × EndsTold service (told_of parts) spoken.told end old.out new.out)
     → Since old.opened new.opened (λ saids. saids ≡ service ∷ [])
     → new.trace ≡ old.trace ++ bytes
@@ -106,8 +106,8 @@ ran_to text_at service own opening spoken end bytes old new (parts, are, read, (
     ((parts, are, read, (taken, led, bytes, grown, made (table_in parts) opens, told)), by, is)
 
 -- where memory ran out nothing is asked, whatever the arguments say
-pub none_asked : (text_at : KnownTexts) (said : Option InitdSaid) (own : Type 0) (now : RunTold)
-    → AsksSaid text_at said own (refused Memory) now now
+pub none_asked : (text_at : KnownTexts) (options : Option InitdSaid) (own : Type 0) (now : RunTold)
+    → AsksSaid text_at options own (refused Memory) now now
 none_asked text_at None own now = (refl, refl)
 none_asked text_at (Some version) own now = (refl, refl)
 none_asked text_at (Some (simulates run)) own now = (refl, refl)

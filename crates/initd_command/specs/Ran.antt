@@ -10,7 +10,7 @@ use Rattle.trace_log_wrappers.specs.Keeping.{EndsBrief}
 use Rattle.initd_command.specs.Turned.{End}
 use Rattle.initd_command.specs.Endings.{Ending, turned}
 use Rattle.initd_command.specs.Services.{HasInittab, IsJudged, IsNoted, IsServed, LogEnds, Noted, TakesParts, TurnsFrom}
-use Rattle.initd_command.specs.Services.{Writes, end_of, is_unled, table_in, told_of}
+use Rattle.initd_command.specs.Services.{Writes, end_of, has_no_level, table_in, told_of}
 
 -- after these calls from the opening on init is drained, as far as the answers were possible: so is a core that fits
 -- there
@@ -74,7 +74,7 @@ AsksNothing old new = (new.calls ≡ old.calls) × (new.trace ≡ old.trace)
 abbrev pub RanBy : KnownTexts → RunSaid → Type 0 → Ending → RunTold → RunTold → Type 0
 RanBy text_at service own (turned spoken end) old new =
     HasInittab text_at service (λ parts. TakesParts service parts
-    × (spoken.unled ≡ is_unled service.level (table_in parts))
+    × (spoken.unled ≡ has_no_level service.level (table_in parts))
     × (bytes : List ℕ) × (new.trace ≡ old.trace ++ bytes)
     × Since old.calls new.calls (MakesTraced service (table_in parts) end bytes)
     × Writes spoken.told (told_of parts) old.out new.out)

@@ -31,7 +31,7 @@ EndsVersion _ old new = ⊥
 
 -- the texts at the paths of traces that are judged: nothing is known of one with the pieces that were put away before it
 abbrev pub judged_at : KnownTexts → CheckSaid → KnownTexts
-judged_at text_at said = if said.pieces then (λ _. None) else text_at
+judged_at text_at options = if options.pieces then (λ _. None) else text_at
 
 -- how a command line ends that was read
 abbrev pub EndsSaid : KnownTexts → InitdSaid → Ending → Option (List ℕ) → Option (List ℕ) → Type 0
@@ -45,7 +45,7 @@ abbrev pub EndsRead : KnownTexts → List (List ℕ) → Option InitdSaid → En
     → Type 0
 EndsRead text_at words None ending old new =
     (reason : List ℕ) × (ending ≡ usage (usage_named words) reason) × Keeps old new
-EndsRead text_at words (Some said) ending old new = EndsSaid text_at said ending old new
+EndsRead text_at words (Some options) ending old new = EndsSaid text_at options ending old new
 
 -- how words end: so, or memory ran out to read them
 abbrev pub EndsBy : KnownTexts → List (List ℕ) → Ending → Option (List ℕ) → Option (List ℕ) → Type 0

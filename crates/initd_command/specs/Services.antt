@@ -19,9 +19,9 @@ use Rattle.host_files.specs.Folders.{IsWithin}
 use Rattle.host_messages.specs.LineFaults.{faults_text}
 
 -- nothing names the level that init goes to: neither the words nor the table
-abbrev pub is_unled : Option Level → List Entry → Bool
-is_unled (Some level) table = false
-is_unled None table = is_none (default_level_of table)
+abbrev pub has_no_level : Option Level → List Entry → Bool
+has_no_level (Some level) table = false
+has_no_level None table = is_none (default_level_of table)
 
 -- a run that takes no faulty line has lines that tell faults
 abbrev pub is_flawed : RunSaid → List ℕ → Bool
@@ -178,7 +178,7 @@ abbrev pub EndsRun : KnownTexts → RunSaid → Ending → Option (List ℕ) →
 EndsRun text_at service ending old new =
     ((obstacle : Obstacle) × (ending ≡ refused obstacle) × IsInWay text_at service obstacle × Keeps old new)
     ⊎ HasInittab text_at service (λ parts. TakesParts service parts
-    × (spoken : Spoken) × (spoken.unled ≡ is_unled service.level (table_in parts))
+    × (spoken : Spoken) × (spoken.unled ≡ has_no_level service.level (table_in parts))
     × (end : End) × (ending ≡ turned spoken end)
     × EndsTold service (told_of parts) spoken.told end old new)
 

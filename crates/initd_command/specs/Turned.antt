@@ -39,7 +39,7 @@ drained_status (Some entry) = result_status entry.last
 -- a breach, and that not all was judged, as an exit status
 abbrev pub judgement_status : Judgement → Option ℕ
 judgement_status (Lawful count) = None
-judgement_status (Breach place law) = Some UNLAWFUL
+judgement_status (Breach position law) = Some UNLAWFUL
 judgement_status Unjudged = Some DEVICE_FAULT
 
 -- the exit status of turns that would have this one: what was found of them stands in place of 0, and of the limit
@@ -84,13 +84,13 @@ lawful_text true count = codes "initd: the run was lawful: " ++ (decimal count +
 lawful_text false count = codes "initd: what was judged of the run was lawful: " ++ (decimal count ++ codes " happenings\n")
 
 abbrev pub breach_text : ℕ → List ℕ → List ℕ
-breach_text place why =
-    codes "initd: the run was unlawful: happening " ++ (decimal place ++ (codes ": " ++ (why ++ codes "\n")))
+breach_text position why =
+    codes "initd: the run was unlawful: happening " ++ (decimal position ++ (codes ": " ++ (why ++ codes "\n")))
 
 -- what was found of a run, which was logged whole or not, as it is reported
 abbrev pub judgement_text : Bool → Judgement → List ℕ
 judgement_text whole (Lawful count) = lawful_text whole count
-judgement_text whole (Breach place law) = breach_text place (law_words law)
+judgement_text whole (Breach position law) = breach_text position (law_words law)
 judgement_text whole Unjudged = UNJUDGED.now
 
 -- the text is reported, as far as the writer takes it, or that there was no memory for it

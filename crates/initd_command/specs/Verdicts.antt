@@ -23,11 +23,11 @@ abbrev pub lawful_text : List ℕ
 lawful_text = codes "lawful\n"
 
 abbrev pub verdict_text : ℕ → ℕ → List ℕ
-verdict_text place law =
-    codes "unlawful: happening " ++ (decimal place ++ (codes ", law " ++ (decimal law ++ codes "\n")))
+verdict_text position law =
+    codes "unlawful: happening " ++ (decimal position ++ (codes ", law " ++ (decimal law ++ codes "\n")))
 
 abbrev pub unlawful_text : Named → List ℕ
-unlawful_text breach = verdict_text breach.place (law_number breach.law)
+unlawful_text breach = verdict_text breach.position (law_number breach.law)
 
 -- the verdict by what is found; on a text of which a line is none there is none
 abbrev pub verdict_of : Finding Named → List ℕ
@@ -91,15 +91,15 @@ EndsTold (Some line) finding judged ending old new = EndsUnfinished line finding
 
 -- how a text ends: by the answer on it
 abbrev pub EndsTrace : CheckSaid → List ℕ → Ending → Option (List ℕ) → Option (List ℕ) → Type 0
-EndsTrace said text ending old new = (finding : Finding Named) × (left : Option ℕ) × (count : ℕ)
+EndsTrace options text ending old new = (finding : Finding Named) × (left : Option ℕ) × (count : ℕ)
     × Answers text finding left count
-    × EndsTold (cut_at said.growing left) finding (record {
-      within = within_of said.trace (slice_get text 0) count;
+    × EndsTold (cut_at options.growing left) finding (record {
+      within = within_of options.trace (slice_get text 0) count;
       left = left;
       count = count;
     }) ending old new
 
 -- how the text at a path ends: it is not read, or it ends so
 abbrev pub EndsCheck : KnownTexts → CheckSaid → Ending → Option (List ℕ) → Option (List ℕ) → Type 0
-EndsCheck text_at said ending old new = EndsUnread said.trace ending old new
-    ⊎ ((text : List ℕ) × IsTextAt text_at said.trace text × EndsTrace said text ending old new)
+EndsCheck text_at options ending old new = EndsUnread options.trace ending old new
+    ⊎ ((text : List ℕ) × IsTextAt text_at options.trace text × EndsTrace options text ending old new)

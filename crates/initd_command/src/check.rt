@@ -67,39 +67,39 @@ pub(crate) fn check_files<R: Files<File = File> + Eprint, T: Texts, W: Write, E:
     rt: &R,
     texts: &T,
     alloc: Global,
-    said: &CheckWords,
+    options: &CheckWords,
     out: &mut W,
     err: &mut E,
 ) -> u8
     ensures { (ending : Ending) × (result ≡ status_of ending)
-        × EndsCheck (judged_at (T.text_at texts.now) (check_of said.now)) (check_of said.now) ending
+        × EndsCheck (judged_at (T.text_at texts.now) (check_of options.now)) (check_of options.now) ending
         (W.contents out.old) (W.contents out.new)
         × Reports ending (E.contents err.old) (E.contents err.new) }
 {
-    if said.pieces {
+    if options.pieces {
         let pieces = PiecedFiles::new(rt, alloc, "initd", false);
-        return check_file(&pieces, alloc, said, out, err);
+        return check_file(&pieces, alloc, options, out, err);
     }
-    check_file(texts, alloc, said, out, err)
+    check_file(texts, alloc, options, out, err)
 }
 
 /// Reads a trace and judges it.
 fn check_file<T: Texts, W: Write, E: Write>(
     texts: &T,
     alloc: Global,
-    said: &CheckWords,
+    options: &CheckWords,
     out: &mut W,
     err: &mut E,
 ) -> u8
     ensures { (ending : Ending) × (result ≡ status_of ending)
-        × EndsCheck (T.text_at texts.now) (check_of said.now) ending
+        × EndsCheck (T.text_at texts.now) (check_of options.now) ending
         (W.contents out.old) (W.contents out.new)
         × Reports ending (E.contents err.old) (E.contents err.new) }
 {
     match file_judge(alloc) {
-        Ok(mut file) => judge_text(texts, alloc, said, &mut file, out, err),
+        Ok(mut file) => judge_text(texts, alloc, options, &mut file, out, err),
         Err(error) => {
-            let path = said.trace.as_str();
+            let path = options.trace.as_str();
             report_cannot(alloc, "read", path, &io::Error::from(error), err)
         }
     }
@@ -109,18 +109,18 @@ fn check_file<T: Texts, W: Write, E: Write>(
 fn judge_text<T: Texts, W: Write, E: Write>(
     texts: &T,
     alloc: Global,
-    said: &CheckWords,
+    options: &CheckWords,
     file: &mut FileJudge,
     out: &mut W,
     err: &mut E,
 ) -> u8
     requires { IsJudge file.old.judge file.old.first [] }
     ensures { (ending : Ending) × (result ≡ status_of ending)
-        × EndsCheck (T.text_at texts.now) (check_of said.now) ending
+        × EndsCheck (T.text_at texts.now) (check_of options.now) ending
         (W.contents out.old) (W.contents out.new)
         × Reports ending (E.contents err.old) (E.contents err.new) }
 {
-    let path = said.trace.as_str();
+    let path = options.trace.as_str();
     match texts.read_pieces(path, file) {
         Ok(()) => {
             let (finding, left, count) = file.judge.answer();
@@ -130,7 +130,7 @@ fn judge_text<T: Texts, W: Write, E: Write>(
                 left,
                 count,
             };
-            tell_text(alloc, said.growing, finding, judged, out, err)
+            tell_text(alloc, options.growing, finding, judged, out, err)
         }
         Err(error) => report_cannot(alloc, "read", path, &error, err),
     }
@@ -228,7 +228,7 @@ fn tell_breach<W: Write, E: Write>(
         (W.contents out.old) (W.contents out.new)
         × Reports ending (E.contents err.old) (E.contents err.new) }
 {
-    let Ok(verdict) = verdict_text(alloc, breach.place(), breach.law().number()) else {
+    let Ok(verdict) = verdict_text(alloc, breach.position(), breach.law().number()) else {
         return report_memory(err);
     };
     let Ok(message) = breach_message(alloc, breach) else {
@@ -244,10 +244,10 @@ fn tell_breach<W: Write, E: Write>(
 }
 
 /// The verdict on a trace whose happening of this place, from 0, breaks this law.
-fn verdict_text(alloc: Global, place: u64, law: u8) -> Result<String, AllocError>
-    ensures { IfOk result (λ text. string_bytes text ≡ verdict_text place law) }
+fn verdict_text(alloc: Global, position: u64, law: u8) -> Result<String, AllocError>
+    ensures { IfOk result (λ text. string_bytes text ≡ verdict_text position law) }
 {
-    format!(in alloc; "unlawful: happening {place}, law {law}\n")
+    format!(in alloc; "unlawful: happening {position}, law {law}\n")
 }
 
 /// The verdict by what is found.
@@ -256,7 +256,7 @@ fn verdict_of(alloc: Global, finding: &Finding) -> Result<String, AllocError>
 {
     match finding {
         Finding::Lawful => String::from_str(alloc, "lawful\n"),
-        Finding::Breach(breach) => verdict_text(alloc, breach.place(), breach.law().number()),
+        Finding::Breach(breach) => verdict_text(alloc, breach.position(), breach.law().number()),
         Finding::Torn(_) => Ok(String::new(alloc)),
     }
 }

@@ -142,9 +142,9 @@ where
 {
     match read_words(alloc, words.as_slice()) {
         Ok(Words::Version) => tell_version(out, err),
-        Ok(Words::Simulate(said)) => simulate_files(texts, alloc, &said, out, err),
-        Ok(Words::Check(said)) => check_files(rt, texts, alloc, &said, out, err),
-        Ok(Words::Run(said)) => run_files(rt, texts, hosts, traces, alloc, &said, out, err),
+        Ok(Words::Simulate(options)) => simulate_files(texts, alloc, &options, out, err),
+        Ok(Words::Check(options)) => check_files(rt, texts, alloc, &options, out, err),
+        Ok(Words::Run(options)) => run_files(rt, texts, hosts, traces, alloc, &options, out, err),
         Err(WordFault::Usage(reason)) => report_refused(words.as_slice(), reason.as_str(), err),
         Err(WordFault::Memory) => report_memory(err),
     }

@@ -35,20 +35,20 @@ const KILLED: u8 = 137;
 /// Reports how the turns of a run ended, and gives its exit status.
 pub(crate) fn report_end<E: Write>(
     alloc: Global,
-    said: &RunWords,
+    options: &RunWords,
     served: &Served,
     notes: &RunNotes,
     core: &Core,
     judgement: Option<Judgement>,
     err: &mut E,
 ) -> u8
-    ensures status { result ≡ end_status (end_of (run_of said.now)
+    ensures status { result ≡ end_status (end_of (run_of options.now)
         (noted_of notes.now (waiting_text core.now) judgement) served.now) }
-    ensures reported { ReportsEnd (end_of (run_of said.now)
+    ensures reported { ReportsEnd (end_of (run_of options.now)
         (noted_of notes.now (waiting_text core.now) judgement) served.now)
         (E.contents err.old) (E.contents err.new) }
 {
-    let status = report_turns(alloc, said, served, notes, core, err);
+    let status = report_turns(alloc, options, served, notes, core, err);
     report_judgement(alloc, served.logged, judgement, err);
     judged_status(judgement, status)
 }
@@ -56,18 +56,18 @@ pub(crate) fn report_end<E: Write>(
 /// Reports how turns ended, and gives the exit status that they have by themselves.
 fn report_turns<E: Write>(
     alloc: Global,
-    said: &RunWords,
+    options: &RunWords,
     served: &Served,
     notes: &RunNotes,
     core: &Core,
     err: &mut E,
 ) -> u8
-    ensures status { result ≡ turns_status (turns_at (run_of said.now)
+    ensures status { result ≡ turns_status (turns_at (run_of options.now)
         (noted_of notes.now (waiting_text core.now) None) served.now.logged
-        ((run_of said.now).drain && served.now.drained)) }
-    ensures reported { ReportsTurns (turns_at (run_of said.now)
+        ((run_of options.now).drain && served.now.drained)) }
+    ensures reported { ReportsTurns (turns_at (run_of options.now)
         (noted_of notes.now (waiting_text core.now) None) served.now.logged
-        ((run_of said.now).drain && served.now.drained))
+        ((run_of options.now).drain && served.now.drained))
         (E.contents err.old) (E.contents err.new) }
 {
     if !served.logged {
@@ -75,8 +75,8 @@ fn report_turns<E: Write>(
         report_waiting(alloc, core, err);
         return DEVICE_FAULT;
     }
-    if said.drain && served.drained {
-        return report_result(alloc, said.result, notes, err);
+    if options.drain && served.drained {
+        return report_result(alloc, options.result, notes, err);
     }
     report(LIMITED, err);
     report_running(alloc, notes, err);
@@ -120,7 +120,7 @@ fn judgement_text(alloc: Global, whole: bool, judgement: Judgement) -> Result<St
 {
     match judgement {
         Judgement::Lawful(count) => lawful_text(alloc, whole, count),
-        Judgement::Breach(place, law) => breach_text(alloc, place, law.words()),
+        Judgement::Breach(position, law) => breach_text(alloc, position, law.words()),
         Judgement::Unjudged => String::from_str(alloc, UNJUDGED),
     }
 }
@@ -134,10 +134,10 @@ fn lawful_text(alloc: Global, whole: bool, count: u64) -> Result<String, AllocEr
     format!(in alloc; "initd: what was judged of the run was lawful: {count} happenings\n")
 }
 
-fn breach_text(alloc: Global, place: u64, why: &str) -> Result<String, AllocError>
-    ensures { IfOk result (λ text. string_bytes text ≡ breach_text place why.now) }
+fn breach_text(alloc: Global, position: u64, why: &str) -> Result<String, AllocError>
+    ensures { IfOk result (λ text. string_bytes text ≡ breach_text position why.now) }
 {
-    format!(in alloc; "initd: the run was unlawful: happening {place}: {why}\n")
+    format!(in alloc; "initd: the run was unlawful: happening {position}: {why}\n")
 }
 
 /// Reports how the last child of an entry ended, where a run has an entry's result, and gives the exit status.

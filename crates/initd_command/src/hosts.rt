@@ -24,11 +24,11 @@ pub trait Hosts<H: Host> {
     ghost own: { Self → Type 0 };
 
     /// The host that the arguments of a run name, under the lock of its channel. It tells what was told before.
-    fn open(&mut self, alloc: Global, said: &RunWords, lock: ChannelLock) -> Result<H, Memory>
+    fn open(&mut self, alloc: Global, options: &RunWords, lock: ChannelLock) -> Result<H, Memory>
         ensures told { IfOk result (λ host. H.told host ≡ told self.old) }
         // it tells that it was opened by these arguments, or tells none from here on
         ensures opened { OnOk result (Since (opened self.old) (opened self.new)
-            (λ saids. saids ≡ run_of said.now ∷ [])) }
+            (λ saids. saids ≡ run_of options.now ∷ [])) }
         ensures err { OnErr result (told self.new ≡ told self.old) };
 
     /// Takes a host back. Gives whether all could be printed that it was to print.

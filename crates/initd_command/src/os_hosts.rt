@@ -74,17 +74,17 @@ impl<R: Processes + Files<File = File> + Clock + Print + Eprint + Clone + Drop> 
     fn open(
         &mut self,
         alloc: Global,
-        said: &RunWords,
+        run_options: &RunWords,
         lock: ChannelLock,
     ) -> Result<RunHost<R>, Memory>
         ensures told { IfOk result (λ host. Some host.calls ≡ Some self.old.calls) }
         ensures err { self.new ≡ self.old }
-        ensures words { IfOk result (λ host. host ≡ host_said host.asked (run_of said.now)) }
+        ensures words { IfOk result (λ host. host ≡ host_said host.asked (run_of run_options.now)) }
     {
         let Some(rt) = self.rt.take() else {
             return Err(Memory);
         };
-        Ok(host_of(rt, alloc, said)?.holding(lock))
+        Ok(host_of(rt, alloc, run_options)?.holding(lock))
     }
 
     fn close(&mut self, host: RunHost<R>) -> bool {
@@ -96,35 +96,35 @@ impl<R: Processes + Files<File = File> + Clock + Print + Eprint + Clone + Drop> 
 }
 
 /// The host that words name.
-fn host_of<R>(rt: R, alloc: Global, said: &RunWords) -> Result<RunHost<R>, Memory>
+fn host_of<R>(rt: R, alloc: Global, run_options: &RunWords) -> Result<RunHost<R>, Memory>
 where
     R: Processes + Files<File = File> + Clock + Print + Eprint + Clone + Drop,
-    ensures { IfOk result (λ host. host ≡ host_said host.asked (run_of said.now)) }
+    ensures { IfOk result (λ host. host ≡ host_said host.asked (run_of run_options.now)) }
 {
     let pace = Pace::UpTo {
-        hundredths: said.pause,
-        by_cost: !writes_looks(said),
+        hundredths: run_options.pause,
+        by_cost: !writes_looks(run_options),
     };
     let options = HostOptions {
         program: "initd",
-        inittab: said.inittab.as_str(),
-        folder: folder_of(said),
-        channel: said.initctl.as_str(),
-        state: said.state.as_str(),
-        spared: Some(trace_of(said)),
-        logs: said.logs.as_ref().map(String::as_str),
+        inittab: run_options.inittab.as_str(),
+        folder: folder_of(run_options),
+        channel: run_options.initctl.as_str(),
+        state: run_options.state.as_str(),
+        spared: Some(trace_of(run_options)),
+        logs: run_options.logs.as_ref().map(String::as_str),
         pace,
-        bell: said.bell,
-        fresh: said.fresh,
-        verbose: said.verbose,
-        strict: said.strict,
+        bell: run_options.bell,
+        fresh: run_options.fresh,
+        verbose: run_options.verbose,
+        strict: run_options.strict,
         sends_term: true,
     };
-    let stamped = StampedRuntime::new(rt.clone()?, alloc, said.stamp);
+    let stamped = StampedRuntime::new(rt.clone()?, alloc, run_options.stamp);
     OsHost::new(stamped, rt, alloc, &options)
 }
 
 /// The trace of the run has its looks: there is one, and it isn't brief.
-fn writes_looks(said: &RunWords) -> bool {
-    said.trace.is_some() && !said.brief
+fn writes_looks(run_options: &RunWords) -> bool {
+    run_options.trace.is_some() && !run_options.brief
 }

@@ -5,7 +5,7 @@ ghost use Rattle.initd_command.specs.Words.{KnownTexts, NamedText, Entry, Since,
 ghost use Rattle.initd_command.specs.Endings.{Ending, Reports, ReportsObstacle, Spoken, obstacle_status, status_of, turned};
 ghost use Rattle.initd_command.specs.Ran.{MakesLogged, MakesTraced, RanBy};
 ghost use Rattle.initd_command.specs.Turned.{End, ReportsEnd, end_status};
-ghost use Rattle.initd_command.specs.Services.{AreFiles, EndsRun, EndsServed, EndsTold, HasInittab, IsInWay, IsInittab, IsReadOf, StandBy, TakesParts, is_taken, is_unled, own_paths, table_in, told_of};
+ghost use Rattle.initd_command.specs.Services.{AreFiles, EndsRun, EndsServed, EndsTold, HasInittab, IsInWay, IsInittab, IsReadOf, StandBy, TakesParts, is_taken, has_no_level, own_paths, table_in, told_of};
 
 use crate::ends::report_end;
 use crate::hosts::Hosts;
@@ -14,7 +14,7 @@ use crate::reports::{
     report_busy, report_cannot, report_fault, report_flawed, report_memory, report_shared,
     report_too_many, report_unlisted, report_where, tell,
 };
-use crate::watchers::Watcher;
+use crate::watchers::Progress;
 use host_calls::Host;
 use host_files::{FolderFault, PassedNames, with_folder};
 use host_messages::{StampedRuntime, faults_text};
@@ -34,7 +34,7 @@ use std::io::{ErrorKind, Write};
 use std::rt::{Clock, Files};
 use trace_files::{FileLog, TraceFiles, Traces, takes_lock};
 use trace_log::EndedLog;
-use trace_log_wrappers::{BriefLog, WatchedLog};
+use trace_log_wrappers::{BriefLog, NotingLog};
 
 /// What is reported where the faults of inittab's lines could not be written.
 const UNTOLD: &str = "initd: the faults of the inittab could not be written\n";
@@ -96,7 +96,7 @@ struct Run<H> {
     /// The lines that tell the faults of the inittab.
     faults: Vec<u8>,
     /// Nothing names a level.
-    is_unled: bool,
+    has_no_level: bool,
 }
 
 /// Runs init over the operating system: reads the inittab, opens the trace, takes the lock of the channel, and makes the
@@ -107,17 +107,17 @@ pub(crate) fn run_files<R, T: Texts, H: Host + Drop, S: Hosts<H>, F: Traces, W: 
     hosts: &mut S,
     traces: &mut F,
     alloc: Global,
-    said: &RunWords,
+    options: &RunWords,
     out: &mut W,
     err: &mut E,
 ) -> u8
 where
     R: Files<File = File> + Alloc + Eprint + Clock,
     ensures { (ending : Ending) × (result ≡ status_of ending)
-        × EndsRun (T.text_at texts.now) (run_of said.now) ending
+        × EndsRun (T.text_at texts.now) (run_of options.now) ending
         (W.contents out.old) (W.contents out.new)
         × Reports ending (E.contents err.old) (E.contents err.new)
-        × RanBy (T.text_at texts.now) (run_of said.now) (S.own hosts.new) ending
+        × RanBy (T.text_at texts.now) (run_of options.now) (S.own hosts.new) ending
         (record {
           opened = S.opened hosts.old;
           calls = S.told hosts.old;
@@ -131,8 +131,8 @@ where
           out = W.contents out.new;
         }) }
 {
-    match open_run(rt, texts, hosts, alloc, said) {
-        Ok(run) => make_run(rt, hosts, traces, alloc, said, run, out, err),
+    match open_run(rt, texts, hosts, alloc, options) {
+        Ok(run) => make_run(rt, hosts, traces, alloc, options, run, out, err),
         Err(why) => report_obstacle(alloc, &why, err),
     }
 }
@@ -144,34 +144,34 @@ fn open_run<R, T: Texts, H: Host + Drop, S: Hosts<H>>(
     texts: &T,
     hosts: &mut S,
     alloc: Global,
-    said: &RunWords,
+    options: &RunWords,
 ) -> Result<Run<H>, Obstacle>
 where
     R: Files<File = File> + Alloc + Eprint,
-    ensures ok { IfOk result (λ run. HasInittab (T.text_at texts.now) (run_of said.now)
+    ensures ok { IfOk result (λ run. HasInittab (T.text_at texts.now) (run_of options.now)
         (λ parts. (run.faults.items ≡ told_of parts)
-        × (run.is_unled ≡ is_unled said.now.level (table_in parts))
-        × TakesParts (run_of said.now) parts
-        × IsOpeningOf said.now.level (table_in parts) run.opening)) }
+        × (run.has_no_level ≡ has_no_level options.now.level (table_in parts))
+        × TakesParts (run_of options.now) parts
+        × IsOpeningOf options.now.level (table_in parts) run.opening)) }
     ensures host { IfOk result (λ run. H.told run.host ≡ S.told hosts.old) }
     ensures opened { OnOk result (Since (S.opened hosts.old) (S.opened hosts.new)
-        (λ saids. saids ≡ run_of said.now ∷ [])) }
+        (λ saids. saids ≡ run_of options.now ∷ [])) }
     ensures trace { IfOk result (λ run.
-        is_some run.trace ≡ is_some (run_of said.now).trace) }
-    ensures err { IfErr result (IsInWay (T.text_at texts.now) (run_of said.now)) }
+        is_some run.trace ≡ is_some (run_of options.now).trace) }
+    ensures err { IfErr result (IsInWay (T.text_at texts.now) (run_of options.now)) }
     ensures unasked { OnErr result (S.told hosts.new ≡ S.told hosts.old) }
 {
-    refuse_shared(rt, alloc, said)?;
-    let Inittab { table, faults } = read_inittab(rt, texts, alloc, said)?;
-    let is_unled = is_unled(said.level, &table);
-    let Ok(opening) = Opening::new(alloc, table, said.level) else {
+    refuse_shared(rt, alloc, options)?;
+    let Inittab { table, faults } = read_inittab(rt, texts, alloc, options)?;
+    let has_no_level = has_no_level(options.level, &table);
+    let Ok(opening) = Opening::new(alloc, table, options.level) else {
         return Err(Obstacle::Memory);
     };
-    let (trace, made_trace) = open_trace(rt, alloc, said)?;
-    let host = match open_host(rt, hosts, alloc, said) {
+    let (trace, made_trace) = open_trace(rt, alloc, options)?;
+    let host = match open_host(rt, hosts, alloc, options) {
         Ok(host) => host,
         Err(fault) => {
-            take_away(rt, trace_of(said), made_trace);
+            remove_made(rt, trace_of(options), made_trace);
             return Err(fault);
         }
     };
@@ -180,7 +180,7 @@ where
         host,
         trace,
         faults,
-        is_unled,
+        has_no_level,
     })
 }
 
@@ -189,32 +189,35 @@ fn open_host<R: Files<File = File> + Alloc, H: Host + Drop, S: Hosts<H>>(
     rt: &R,
     hosts: &mut S,
     alloc: Global,
-    said: &RunWords,
+    options: &RunWords,
 ) -> Result<H, Obstacle>
     ensures host { IfOk result (λ host. H.told host ≡ S.told hosts.old) }
     ensures opened { OnOk result (Since (S.opened hosts.old) (S.opened hosts.new)
-        (λ saids. saids ≡ run_of said.now ∷ [])) }
+        (λ saids. saids ≡ run_of options.now ∷ [])) }
     ensures unasked { OnErr result (S.told hosts.new ≡ S.told hosts.old) }
-    ensures err { (text_at : KnownTexts) → IfErr result (IsInWay text_at (run_of said.now)) }
+    ensures err { (text_at : KnownTexts) → IfErr result (IsInWay text_at (run_of options.now)) }
 {
-    let path = said.initctl.as_str();
+    let path = options.initctl.as_str();
     let lock = match lock_channel(rt, path) {
         Ok(Some(lock)) => lock,
-        Ok(None) => return Err(Obstacle::Busy(said.initctl.clone()?, lock_holder(rt, alloc, path))),
-        Err(error) => return Err(Obstacle::Unlocked(said.initctl.clone()?, error)),
+        Ok(None) => return Err(Obstacle::Busy(
+            options.initctl.clone()?,
+            lock_holder(rt, alloc, path),
+        )),
+        Err(error) => return Err(Obstacle::Unlocked(options.initctl.clone()?, error)),
     };
     let was_made = lock.was_made();
-    match hosts.open(alloc, said, lock) {
+    match hosts.open(alloc, options, lock) {
         Ok(host) => Ok(host),
         Err(Memory) => {
-            take_away(rt, path, was_made);
+            remove_made(rt, path, was_made);
             Err(Obstacle::Memory)
         }
     }
 }
 
 /// Removes a file that the run made, where it did. Where a link leads to it, the link stays.
-fn take_away<R: Files + Alloc>(rt: &R, path: &str, was_made: bool) {
+fn remove_made<R: Files + Alloc>(rt: &R, path: &str, was_made: bool) {
     if !was_made {
         return;
     }
@@ -224,8 +227,8 @@ fn take_away<R: Files + Alloc>(rt: &R, path: &str, was_made: bool) {
 }
 
 /// Nothing names a level: neither the words nor the table.
-fn is_unled(level: Option<Level>, table: &Table) -> bool
-    ensures { result ≡ is_unled level table.now }
+fn has_no_level(level: Option<Level>, table: &Table) -> bool
+    ensures { result ≡ has_no_level level table.now }
 {
     match level {
         Some(_) => false,
@@ -234,13 +237,13 @@ fn is_unled(level: Option<Level>, table: &Table) -> bool
 }
 
 /// Refuses two paths of the run that lead to one file: what is written to one would be lost in the other.
-fn refuse_shared<R: Files>(rt: &R, alloc: Global, said: &RunWords) -> Result<(), Obstacle>
-    ensures { (text_at : KnownTexts) → IfErr result (IsInWay text_at (run_of said.now)) }
+fn refuse_shared<R: Files>(rt: &R, alloc: Global, options: &RunWords) -> Result<(), Obstacle>
+    ensures { (text_at : KnownTexts) → IfErr result (IsInWay text_at (run_of options.now)) }
 {
-    let inittab = said.inittab.as_str();
-    let initctl = said.initctl.as_str();
-    let state = said.state.as_str();
-    let trace = trace_of(said);
+    let inittab = options.inittab.as_str();
+    let initctl = options.initctl.as_str();
+    let state = options.state.as_str();
+    let trace = trace_of(options);
     refuse_pair(rt, alloc, inittab, initctl)?;
     refuse_pair(rt, alloc, inittab, state)?;
     refuse_pair(rt, alloc, inittab, trace)?;
@@ -264,10 +267,10 @@ fn refuse_pair<R: Files>(rt: &R, alloc: Global, one: &str, other: &str) -> Resul
 }
 
 /// The folder of the inittab's further files, where words name one.
-pub(crate) fn folder_of(said: &RunWords) -> Option<&str>
-    ensures { option_map (λ path. path.now) result ≡ (run_of said.now).inittab_dir }
+pub(crate) fn folder_of(options: &RunWords) -> Option<&str>
+    ensures { option_map (λ path. path.now) result ≡ (run_of options.now).inittab_dir }
 {
-    match &said.inittab_dir {
+    match &options.inittab_dir {
         Some(folder) => Some(folder.as_str()),
         None => None,
     }
@@ -278,20 +281,23 @@ fn files_of<R: Files + Eprint, T: Texts>(
     rt: &R,
     texts: &T,
     alloc: Global,
-    said: &RunWords,
+    options: &RunWords,
 ) -> Result<Vec<Part>, Obstacle>
     ensures ok { IfOk result (λ parts.
-        AreFiles (T.text_at texts.now) (run_of said.now) parts.items) }
-    ensures err { IfErr result (IsInWay (T.text_at texts.now) (run_of said.now)) }
+        AreFiles (T.text_at texts.now) (run_of options.now) parts.items) }
+    ensures err { IfErr result (IsInWay (T.text_at texts.now) (run_of options.now)) }
 {
-    let bytes = match texts.read_file(alloc, said.inittab.as_str()) {
+    let bytes = match texts.read_file(alloc, options.inittab.as_str()) {
         Ok(bytes) => bytes,
-        Err(error) => return Err(Obstacle::Unread(said.inittab.clone()?, hinted(said, error))),
+        Err(error) => return Err(Obstacle::Unread(
+            options.inittab.clone()?,
+            with_hint(options, error),
+        )),
     };
-    let name = String::from_str(alloc, said.inittab.as_str())?;
+    let name = String::from_str(alloc, options.inittab.as_str())?;
     let own = Part { name, bytes };
-    let mut passed = PassedNames::new(alloc, said.verbose);
-    match with_folder(rt, alloc, own, folder_of(said), &mut passed) {
+    let mut passed = PassedNames::new(alloc, options.verbose);
+    match with_folder(rt, alloc, own, folder_of(options), &mut passed) {
         Ok(parts) => Ok(parts),
         Err(FolderFault::Unread(path, error)) => Err(Obstacle::Unread(path, error)),
         Err(FolderFault::Memory) => Err(Obstacle::Memory),
@@ -299,8 +305,8 @@ fn files_of<R: Files + Eprint, T: Texts>(
 }
 
 /// Why the inittab wasn't read, with what to do where a run was meant for the files of its folder alone.
-fn hinted(said: &RunWords, error: io::Error) -> io::Error {
-    if said.inittab_dir.is_none() || error.kind() != ErrorKind::NotFound {
+fn with_hint(options: &RunWords, error: io::Error) -> io::Error {
+    if options.inittab_dir.is_none() || error.kind() != ErrorKind::NotFound {
         return error;
     }
     io::Error::new(
@@ -311,17 +317,17 @@ fn hinted(said: &RunWords, error: io::Error) -> io::Error {
 
 /// The inittab, where the run takes it: one with faults where it is not strict, and one that has an entry of the id
 /// whose result the run's is to be.
-fn taken(said: &RunWords, inittab: Inittab) -> Result<Inittab, Obstacle>
+fn taken(options: &RunWords, inittab: Inittab) -> Result<Inittab, Obstacle>
     ensures ok { IfOk result (λ given. (given ≡ inittab)
-        × (is_taken (run_of said.now) inittab.faults.items inittab.table ≡ true)) }
+        × (is_taken (run_of options.now) inittab.faults.items inittab.table ≡ true)) }
     ensures err { (text_at : KnownTexts) (parts : List NamedText)
-        → AreFiles text_at (run_of said.now) parts → IsReadOf parts inittab
-        → IfErr result (IsInWay text_at (run_of said.now)) }
+        → AreFiles text_at (run_of options.now) parts → IsReadOf parts inittab
+        → IfErr result (IsInWay text_at (run_of options.now)) }
 {
-    if said.strict && !inittab.faults.is_empty() {
+    if options.strict && !inittab.faults.is_empty() {
         return Err(Obstacle::Flawed(inittab.faults));
     }
-    let Some(id) = said.result else {
+    let Some(id) = options.result else {
         return Ok(inittab);
     };
     if inittab.table.get(&id).is_none() {
@@ -351,29 +357,29 @@ fn read_inittab<R: Files + Eprint, T: Texts>(
     rt: &R,
     texts: &T,
     alloc: Global,
-    said: &RunWords,
+    options: &RunWords,
 ) -> Result<Inittab, Obstacle>
-    ensures ok { IfOk result (IsInittab (T.text_at texts.now) (run_of said.now)) }
-    ensures err { IfErr result (IsInWay (T.text_at texts.now) (run_of said.now)) }
+    ensures ok { IfOk result (IsInittab (T.text_at texts.now) (run_of options.now)) }
+    ensures err { IfErr result (IsInWay (T.text_at texts.now) (run_of options.now)) }
 {
-    let parts = files_of(rt, texts, alloc, said)?;
+    let parts = files_of(rt, texts, alloc, options)?;
     let inittab = inittab_of(alloc, &parts)?;
-    taken(said, inittab)
+    taken(options, inittab)
 }
 
 /// The file of the trace as it is, under its lock, where one is to be written, and whether it was made.
 fn open_trace<R: Files<File = File>>(
     rt: &R,
     alloc: Global,
-    said: &RunWords,
+    options: &RunWords,
 ) -> Result<(Option<File>, bool), Obstacle>
     ensures ok { IfOk result (λ opened.
-        is_some opened.0 ≡ is_some (run_of said.now).trace) }
+        is_some opened.0 ≡ is_some (run_of options.now).trace) }
     ensures err { (text_at : KnownTexts)
-        → HasInittab text_at (run_of said.now) (TakesParts (run_of said.now))
-        → IfErr result (IsInWay text_at (run_of said.now)) }
+        → HasInittab text_at (run_of options.now) (TakesParts (run_of options.now))
+        → IfErr result (IsInWay text_at (run_of options.now)) }
 {
-    let Some(path) = &said.trace else {
+    let Some(path) = &options.trace else {
         return Ok((None, false));
     };
     match opened(rt, path.as_str()) {
@@ -419,10 +425,10 @@ fn report_obstacle<E: Write>(alloc: Global, why: &Obstacle, err: &mut E) -> u8
 }
 
 /// The path of the trace; nothing where none is to be written.
-pub(crate) fn trace_of(said: &RunWords) -> &str
-    ensures { result.now ≡ unwrap_or (run_of said.now).trace [] }
+pub(crate) fn trace_of(options: &RunWords) -> &str
+    ensures { result.now ≡ unwrap_or (run_of options.now).trace [] }
 {
-    match &said.trace {
+    match &options.trace {
         Some(path) => path.as_str(),
         None => "",
     }
@@ -435,23 +441,23 @@ fn make_run<R, H: Host + Drop, S: Hosts<H>, F: Traces, W: Write, E: Write>(
     hosts: &mut S,
     traces: &mut F,
     alloc: Global,
-    said: &RunWords,
+    options: &RunWords,
     run: Run<H>,
     out: &mut W,
     err: &mut E,
 ) -> u8
 where
     R: Files<File = File> + Alloc + Eprint + Clock,
-    requires { is_some run.trace ≡ is_some (run_of said.now).trace }
-    ensures ended { (spoken : Spoken) × (spoken.unled ≡ run.is_unled) × (end : End)
+    requires { is_some run.trace ≡ is_some (run_of options.now).trace }
+    ensures ended { (spoken : Spoken) × (spoken.unled ≡ run.has_no_level) × (end : End)
         × (result ≡ status_of (turned spoken end))
-        × EndsTold (run_of said.now) run.faults.items spoken.told end
+        × EndsTold (run_of options.now) run.faults.items spoken.told end
         (W.contents out.old) (W.contents out.new)
         × Reports (turned spoken end) (E.contents err.old) (E.contents err.new)
         × (bytes : List ℕ) × (F.told traces.new ≡ F.told traces.old ++ bytes)
-        × ((table : List Entry) → IsOpeningOf (run_of said.now).level table run.opening
+        × ((table : List Entry) → IsOpeningOf (run_of options.now).level table run.opening
         → Since (H.told run.host) (S.told hosts.new)
-        (MakesTraced (run_of said.now) table end bytes)) }
+        (MakesTraced (run_of options.now) table end bytes)) }
     ensures own { S.own hosts.new }
     ensures opened { S.opened hosts.new ≡ S.opened hosts.old }
 {
@@ -460,14 +466,14 @@ where
         host,
         trace,
         faults,
-        is_unled,
+        has_no_level,
     } = run;
     let is_told = tell(&faults, out);
     report_where(!is_told, UNTOLD, err);
-    report_where(is_unled, UNLED, err);
-    tell_endless(rt, said);
-    let stamped = StampedRuntime::new(rt, alloc, said.stamp);
-    let (status, host) = make_traced(&stamped, traces, alloc, said, opening, host, trace, err);
+    report_where(has_no_level, UNLED, err);
+    tell_endless(rt, options);
+    let stamped = StampedRuntime::new(rt, alloc, options.stamp);
+    let (status, host) = make_traced(&stamped, traces, alloc, options, opening, host, trace, err);
     let is_printed = hosts.close(host);
     status_where(is_told, is_printed, status)
 }
@@ -484,9 +490,9 @@ fn status_where(is_told: bool, is_printed: bool, status: u8) -> u8
 }
 
 /// Says of a run that is to give an entry's result, and isn't ended where it is drained, that it goes on behind that.
-fn tell_endless(rt: &impl Eprint, said: &RunWords) {
-    match &said.result {
-        Some(id) if !said.drain => {
+fn tell_endless(rt: &impl Eprint, options: &RunWords) {
+    match &options.result {
+        Some(id) if !options.drain => {
             let id = id.as_str();
             let _ = eprintln!(rt;
                 "initd: --result {id}: without --drain the run goes on when {id} has ended"
@@ -501,26 +507,26 @@ fn make_traced<R: Files + Eprint, H: Host, F: Traces, E: Write>(
     rt: &R,
     traces: &mut F,
     alloc: Global,
-    said: &RunWords,
+    options: &RunWords,
     opening: Opening,
     host: H,
     trace: Option<File>,
     err: &mut E,
 ) -> (u8, H)
-    requires { is_some trace ≡ is_some (run_of said.now).trace }
-    ensures { (end : End) × (result.0 ≡ end_status end) × EndsServed (run_of said.now) end
+    requires { is_some trace ≡ is_some (run_of options.now).trace }
+    ensures { (end : End) × (result.0 ≡ end_status end) × EndsServed (run_of options.now) end
         × ReportsEnd end (E.contents err.old) (E.contents err.new)
         × (bytes : List ℕ) × (F.told traces.new ≡ F.told traces.old ++ bytes)
-        × ((table : List Entry) → IsOpeningOf (run_of said.now).level table opening
+        × ((table : List Entry) → IsOpeningOf (run_of options.now).level table opening
         → Since (H.told host) (H.told result.1)
-        (MakesTraced (run_of said.now) table end bytes)) }
+        (MakesTraced (run_of options.now) table end bytes)) }
 {
     let Some(file) = trace else {
-        let (status, host, ()) = make_turns(rt, alloc, said, opening, host, NoLog {}, err);
+        let (status, host, ()) = make_turns(rt, alloc, options, opening, host, NoLog {}, err);
         return (status, host);
     };
     let files = traces.open(file);
-    let (status, host, files) = make_over(rt, alloc, said, opening, host, files, err);
+    let (status, host, files) = make_over(rt, alloc, options, opening, host, files, err);
     traces.close(files);
     (status, host)
 }
@@ -529,26 +535,26 @@ fn make_traced<R: Files + Eprint, H: Host, F: Traces, E: Write>(
 fn make_over<R: Files + Eprint, H: Host, S: TraceFiles, E: Write>(
     rt: &R,
     alloc: Global,
-    said: &RunWords,
+    options: &RunWords,
     opening: Opening,
     host: H,
     files: S,
     err: &mut E,
 ) -> (u8, H, S)
-    requires trace { is_some (run_of said.now).trace ≡ true }
+    requires trace { is_some (run_of options.now).trace ≡ true }
     requires nothing { S.contents files ≡ Some [] }
-    ensures { (end : End) × (result.0 ≡ end_status end) × EndsServed (run_of said.now) end
+    ensures { (end : End) × (result.0 ≡ end_status end) × EndsServed (run_of options.now) end
         × ReportsEnd end (E.contents err.old) (E.contents err.new)
         × ((bytes : List ℕ) → IfSome (S.contents result.2) (λ taken. taken ≡ bytes)
-        → (table : List Entry) → IsOpeningOf (run_of said.now).level table opening
+        → (table : List Entry) → IsOpeningOf (run_of options.now).level table opening
         → Since (H.told host) (H.told result.1)
-        (MakesTraced (run_of said.now) table end bytes)) }
+        (MakesTraced (run_of options.now) table end bytes)) }
 {
-    let log = FileLog::new(rt, alloc, trace_of(said), files, said.trace_size);
-    if said.brief {
-        return make_turns(rt, alloc, said, opening, host, BriefLog::new(log), err);
+    let log = FileLog::new(rt, alloc, trace_of(options), files, options.trace_size);
+    if options.brief {
+        return make_turns(rt, alloc, options, opening, host, BriefLog::new(log), err);
     }
-    make_turns(rt, alloc, said, opening, host, log, err)
+    make_turns(rt, alloc, options, opening, host, log, err)
 }
 
 /// Makes the turns of a run, from its opening on, ends its log, and reports how they ended: the exit status is 0, or that
@@ -558,7 +564,7 @@ fn make_over<R: Files + Eprint, H: Host, S: TraceFiles, E: Write>(
 pub fn make_turns<R: Files + Eprint, H: Host, L: EndedLog, E: Write>(
     rt: &R,
     alloc: Global,
-    said: &RunWords,
+    options: &RunWords,
     opening: Opening,
     host: H,
     log: L,
@@ -567,21 +573,21 @@ pub fn make_turns<R: Files + Eprint, H: Host, L: EndedLog, E: Write>(
     // the exit status and what is reported are those of an end of turns; over the table of the opening the calls made are
     // those of init's turns, which ended so; and if the log was fresh, so has it, and when each call was made, it had
     // taken the whole trace until then, or had failed
-    ensures { (end : End) × (result.0 ≡ end_status end) × EndsServed (run_of said.now) end
+    ensures { (end : End) × (result.0 ≡ end_status end) × EndsServed (run_of options.now) end
         × ReportsEnd end (E.contents err.old) (E.contents err.new)
-        × ((table : List Entry) → IsOpeningOf (run_of said.now).level table opening
+        × ((table : List Entry) → IsOpeningOf (run_of options.now).level table opening
         → Since (H.told host) (H.told result.1) (MakesLogged L.state ((L.state log).taken [])
-        (L.has_ended result.2) (run_of said.now) table end)) }
+        (L.has_ended result.2) (run_of options.now) table end)) }
 {
-    let watched = WatchedLog::new(rt, alloc, log, said.result, said.judge);
+    let watched = NotingLog::new(rt, alloc, log, options.result, options.judge);
     let mut edge = Edge::new(host, watched);
-    let mut watch = Watcher::new(rt, alloc, said.verbose, said.initctl.as_str());
+    let mut watch = Progress::new(rt, alloc, options.verbose, options.initctl.as_str());
     let (served, core) = opening.serve(
         alloc,
         &mut edge,
-        said.turns,
-        said.drain,
-        said.strict,
+        options.turns,
+        options.drain,
+        options.strict,
         &mut watch,
     );
     edge.law_of_calls();
@@ -589,8 +595,8 @@ pub fn make_turns<R: Files + Eprint, H: Host, L: EndedLog, E: Write>(
     let (log, notes, found) = watched.into_parts();
     let (left, whole) = log.end();
     let served = ended_with(served, whole);
-    let judgement = said.judge.then_some(found);
-    let status = report_end(alloc, said, &served, &notes, &core, judgement, err);
+    let judgement = options.judge.then_some(found);
+    let status = report_end(alloc, options, &served, &notes, &core, judgement, err);
     (status, host, left)
 }
 

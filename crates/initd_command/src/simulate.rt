@@ -17,23 +17,23 @@ use std::io::Write;
 pub(crate) fn simulate_files<T: Texts, W: Write, E: Write>(
     texts: &T,
     alloc: Global,
-    said: &SimulateWords,
+    options: &SimulateWords,
     out: &mut W,
     err: &mut E,
 ) -> u8
     ensures { (ending : Ending) × (result ≡ status_of ending)
-        × EndsSimulate (T.text_at texts.now) (simulation_of said.now) ending
+        × EndsSimulate (T.text_at texts.now) (simulation_of options.now) ending
         (W.contents out.old) (W.contents out.new)
         × Reports ending (E.contents err.old) (E.contents err.new) }
 {
-    let table = said.table.as_str();
+    let table = options.table.as_str();
     let inittab = match texts.read(alloc, table) {
         Ok(inittab) => inittab,
         Err(error) => return report_cannot(alloc, "read", table, &error, err),
     };
-    let path = said.script.as_str();
+    let path = options.script.as_str();
     match texts.read(alloc, path) {
-        Ok(script) => simulate_texts(alloc, &inittab, said.level, &script, out, err),
+        Ok(script) => simulate_texts(alloc, &inittab, options.level, &script, out, err),
         Err(error) => report_cannot(alloc, "read", path, &error, err),
     }
 }

@@ -6,7 +6,7 @@ ghost use Rattle.initd_command.specs.Watching.{bad_end, failure_of, holds_child,
 
 use core_steps::{Core, Record};
 use core_waiting::waiting_lines;
-use init_turns::Watch;
+use init_turns::TurnObserver;
 use init_words::{Act, ChildNumber, Entry, Id, Stage, Status, lives};
 use std::alloc::Global;
 use std::io::ErrorKind;
@@ -18,7 +18,7 @@ const PATIENCE: u64 = 60;
 
 /// Looks at init between its turns.
 #[derive(Drop)]
-pub(crate) struct Watcher<'a, R> {
+pub(crate) struct Progress<'a, R> {
     rt: &'a R,
     alloc: Global,
     /// Each end of a child is told by itself, and what an unsettled stage waits for.
@@ -33,15 +33,15 @@ pub(crate) struct Watcher<'a, R> {
     is_gone: bool,
 }
 
-impl<'a, R: Files + Eprint> Watcher<'a, R> {
+impl<'a, R: Files + Eprint> Progress<'a, R> {
     /// One that looks for the folder of the channel at this path. Where all ends are told it tells no failure.
     pub(crate) fn new(
         rt: &'a R,
         alloc: Global,
         is_verbose: bool,
         channel: &'a str,
-    ) -> Watcher<'a, R> {
-        Watcher {
+    ) -> Progress<'a, R> {
+        Progress {
             rt,
             alloc,
             is_verbose,
@@ -120,7 +120,7 @@ impl<'a, R: Files + Eprint> Watcher<'a, R> {
     }
 }
 
-impl<'a, R: Files + Eprint> Watch<Global> for Watcher<'a, R> {
+impl<'a, R: Files + Eprint> TurnObserver<Global> for Progress<'a, R> {
     ghost use Rattle.std.specs.Prelude.{None};
 
     ghost seen = { λ _. None };

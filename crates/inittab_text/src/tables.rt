@@ -78,10 +78,10 @@ impl<A: Allocator> Table<A> {
     }
 
     /// The entry at a place, counted from 0.
-    pub fn at(&self, place: usize) -> Option<&Entry>
-        ensures { option_copied result ≡ slice_get self.now place }
+    pub fn at(&self, position: usize) -> Option<&Entry>
+        ensures { option_copied result ≡ slice_get self.now position }
     {
-        let (_, entry) = self.entries.get_index(place)?;
+        let (_, entry) = self.entries.get_index(position)?;
         Some(entry)
     }
 
@@ -90,8 +90,8 @@ impl<A: Allocator> Table<A> {
         ensures { IfOk result (λ copy. copy ≡ self.now) }
     {
         let mut copy = Table::new(alloc);
-        for place in 0..self.len() {
-            let entry = self.entry(place).clone()?;
+        for position in 0..self.len() {
+            let entry = self.entry(position).clone()?;
             copy.push(entry)?;
         }
         Ok(copy)
@@ -108,8 +108,8 @@ impl<A: Allocator> Table<A> {
     pub fn default_level(&self) -> Option<Level>
         ensures { result ≡ default_level_of self.now }
     {
-        for place in 0..self.len() {
-            if let Some(level) = default_of(self.entry(place)) {
+        for position in 0..self.len() {
+            if let Some(level) = default_of(self.entry(position)) {
                 return Some(level);
             }
         }
@@ -117,11 +117,11 @@ impl<A: Allocator> Table<A> {
     }
 
     /// The entry at a place below the length.
-    pub(crate) fn entry(&self, place: usize) -> &Entry
-        requires { place < length self.now }
-        ensures { slice_get self.now place ≡ Some result.now }
+    pub(crate) fn entry(&self, position: usize) -> &Entry
+        requires { position < length self.now }
+        ensures { slice_get self.now position ≡ Some result.now }
     {
-        let Some(entry) = self.at(place) else {
+        let Some(entry) = self.at(position) else {
             unreachable!()
         };
         entry

@@ -83,8 +83,8 @@ pub fn write<A: Allocator + Copy, B: Allocator>(
     ensures short { IfOk result (λ text. length text.items ≤ TEXT_LIMIT) }
 {
     let mut text = Vec::new(alloc);
-    for place in 0..table.len() {
-        write_line(&mut text, table.entry(place))?;
+    for position in 0..table.len() {
+        write_line(&mut text, table.entry(position))?;
     }
     Ok(text)
 }

@@ -10,7 +10,7 @@ use initview_lines::Line;
 use initview_timeline::{Marks, Seen, timeline_of};
 use std::alloc::{AllocError, Global};
 use text_lines::read_below;
-use trace_view::{SeenText, TraceView};
+use trace_view::{ObservedTrace, TraceView};
 
 /// How many columns lines have where none are named, at least, and at most.
 pub const WIDTH: u64 = 80;
@@ -80,7 +80,7 @@ impl Query for Form {
     fn answer(
         self,
         alloc: Global,
-        text: &mut SeenText<Marks>,
+        text: &mut ObservedTrace<Marks>,
         shown: &TraceOutcome,
     ) -> Result<Answer, Memory> {
         let drawn = draw(alloc, self, text.seen(), text.view())?;

@@ -11,7 +11,7 @@ ghost use Rattle.initview_command.specs.Showing.{Writes};
 use crate::asking::{Command, files_of, matched, path_of, what_of};
 use crate::explaining::ReasonOf;
 use crate::following::follow_file;
-use crate::growing::GrowingTexts;
+use crate::growing::LiveTraces;
 use crate::planning::TimingTo;
 use crate::refusals::{report_fault, report_refusal};
 use crate::reloading::ReloadTo;
@@ -83,7 +83,7 @@ pub const USAGE: &str = "usage: initview why [--inittab-dir DIR] ID TRACE [TABLE
 /// followed is read on in `growing` until it ends, and each of its lines is written when it comes. Of an inittab the
 /// status is 1 where it isn't read for its size, of `lint` also where it has faults, and 2 where it has warnings alone.
 /// Faults of files are told on `err`.
-pub fn run_words<T: Texts, G: GrowingTexts, S: Says, E: Write>(
+pub fn run_words<T: Texts, G: LiveTraces, S: Says, E: Write>(
     texts: &T,
     growing: &G,
     alloc: Global,
@@ -125,7 +125,7 @@ fn say_version<S: Says, E: Write>(alloc: Global, out: &mut S, err: &mut E) -> u8
 }
 
 /// Runs initview on what its words give.
-fn run_matches<T: Texts, G: GrowingTexts, S: Says, E: Write>(
+fn run_matches<T: Texts, G: LiveTraces, S: Says, E: Write>(
     texts: &T,
     growing: &G,
     alloc: Global,
@@ -146,7 +146,7 @@ fn run_matches<T: Texts, G: GrowingTexts, S: Says, E: Write>(
 }
 
 /// The same, by the words that are no options.
-fn run_given<'a, T: Texts, G: GrowingTexts, S: Says, E: Write>(
+fn run_given<'a, T: Texts, G: LiveTraces, S: Says, E: Write>(
     texts: &T,
     growing: &G,
     alloc: Global,
@@ -173,7 +173,7 @@ fn run_given<'a, T: Texts, G: GrowingTexts, S: Says, E: Write>(
 }
 
 /// Does what is asked of the trace at a path, or of files and the programs of folders.
-fn run_asked<T: Texts, G: GrowingTexts, S: Says, E: Write>(
+fn run_asked<T: Texts, G: LiveTraces, S: Says, E: Write>(
     texts: &T,
     growing: &G,
     alloc: Global,

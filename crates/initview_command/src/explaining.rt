@@ -13,7 +13,7 @@ use inittab_text::TableFault;
 use initview_lines::{Chain, Line, chain_of, id_lines, why_lines};
 use std::alloc::{AllocError, Global};
 use std::io::Write;
-use trace_view::{LastLines, SeenText, TraceView};
+use trace_view::{LastLines, ObservedTrace, TraceView};
 
 /// Why the id isn't started is asked, with what the files have of it.
 #[derive(Drop)]
@@ -59,7 +59,7 @@ impl Query for Reason {
     fn answer(
         self,
         alloc: Global,
-        text: &mut SeenText<LastLines>,
+        text: &mut ObservedTrace<LastLines>,
         shown: &TraceOutcome,
     ) -> Result<Answer, Memory> {
         let Reason { id, mut told } = self;

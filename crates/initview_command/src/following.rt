@@ -6,7 +6,7 @@ ghost use Rattle.initview_lines.specs.declared.lines.Line.{Line};
 ghost use Rattle.initview_command.specs.Following.{AreLinesOf, Follows, FollowsAll, FollowsPart, HasLines, HasWritten, IsAllOf, IsFor, Start, WritesAll, WritesPart, begins_run, judges};
 ghost use Rattle.initview_command.specs.Taking.{FirstReader, HasFollowed, HasKept, MayKeep, there_limit};
 
-use crate::growing::{GrowingText, GrowingTexts};
+use crate::growing::{LiveTrace, LiveTraces};
 use crate::showing::{stop_status, tell_stop};
 use crate::telling::{report_unread, report_unsaid};
 use init_words::Memory;
@@ -215,7 +215,7 @@ fn keep_last(lines: &mut Vec<Line>, count: usize) -> Result<(), Memory>
 }
 
 /// Takes what is there of a text already, and keeps the last of its lines.
-fn take_there<R: GrowingText>(
+fn take_there<R: LiveTrace>(
     from: &mut R,
     reader: &mut Reader,
     alloc: Global,
@@ -275,7 +275,7 @@ fn tell_part<E: Write>(path: &str, reader: &Reader, err: &mut E) {
 }
 
 /// Writes the last lines of what is there of a text, and all that come.
-fn follow_last<R: GrowingText, S: Says, E: Write>(
+fn follow_last<R: LiveTrace, S: Says, E: Write>(
     from: &mut R,
     alloc: Global,
     path: &str,
@@ -314,7 +314,7 @@ fn follow_all<R: Read, S: Says>(
 }
 
 /// Writes the lines of a text, or those from the last so many of what is there on.
-fn follow<R: GrowingText, S: Says, E: Write>(
+fn follow<R: LiveTrace, S: Says, E: Write>(
     from: &mut R,
     alloc: Global,
     path: &str,
@@ -334,7 +334,7 @@ fn follow<R: GrowingText, S: Says, E: Write>(
 }
 
 /// The same, with the exit status.
-fn follow_text<R: GrowingText, S: Says, E: Write>(
+fn follow_text<R: LiveTrace, S: Says, E: Write>(
     from: &mut R,
     alloc: Global,
     path: &str,
@@ -355,7 +355,7 @@ fn follow_text<R: GrowingText, S: Says, E: Write>(
 
 /// Follows the trace at a path, from the last so many lines of what is there on, where that is asked for, and gives the
 /// exit status.
-pub(crate) fn follow_file<G: GrowingTexts, S: Says, E: Write>(
+pub(crate) fn follow_file<G: LiveTraces, S: Says, E: Write>(
     growing: &G,
     alloc: Global,
     path: &str,

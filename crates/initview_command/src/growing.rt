@@ -31,7 +31,7 @@ pub enum Writer {
 }
 
 /// A text that may grow while it is read.
-pub trait GrowingText: Read {
+pub trait LiveTrace: Read {
     /// Reads of what is there already, and gives no byte where it has to wait for more.
     fn read_there(&mut self, buf: &mut [u8]) -> io::Result<usize>
         ensures bound { ReadsAtMost result buf.new }
@@ -42,7 +42,7 @@ pub trait GrowingText: Read {
 /// What opens a text to follow it while it grows, knows who writes it, and reads folders.
 ///
 /// A contract sees of it the text that stands at a path, all of it, which ends, and its writer, where they are known.
-pub trait GrowingTexts {
+pub trait LiveTraces {
     /// The text at a path; None where it isn't known.
     ghost text_at: { Self → KnownTexts };
 
@@ -50,7 +50,7 @@ pub trait GrowingTexts {
     ghost writer_at: { Self → KnownWriters };
 
     /// A text that is followed. A read waits for more, and gives no byte where nothing more can come.
-    type Growing: GrowingText + Drop;
+    type Growing: LiveTrace + Drop;
 
     /// Opens the text at a path.
     fn open(&self, alloc: Global, path: &str) -> io::Result<Self::Growing>
@@ -89,7 +89,7 @@ impl<'a, R> GrowingFiles<'a, R> {
     }
 }
 
-impl<'a, R: Files<File = File> + Clock + Eprint> GrowingTexts for GrowingFiles<'a, R> {
+impl<'a, R: Files<File = File> + Clock + Eprint> LiveTraces for GrowingFiles<'a, R> {
     ghost use Rattle.std.specs.Prelude.{None};
 
     ghost text_at = { λ _ _. None };
@@ -229,7 +229,7 @@ impl<R: Files<File = File> + Eprint> Read for GrowingFile<'_, R> {
     }
 }
 
-impl<R: Files<File = File> + Eprint> GrowingText for GrowingFile<'_, R> {
+impl<R: Files<File = File> + Eprint> LiveTrace for GrowingFile<'_, R> {
     fn read_there(&mut self, buf: &mut [u8]) -> io::Result<usize> {
         match self {
             GrowingFile::Ends(file) => file.read(buf),

@@ -21,5 +21,5 @@ mod with_files;
 pub use asking::{Command, LAST_LIMIT, TableQuestion, TraceQuery};
 pub use charting::{Form, WIDTH, WIDTH_LEAST, WIDTH_LIMIT};
 pub use command::{USAGE, run_words};
-pub use growing::{GrowingFile, GrowingFiles, GrowingText, GrowingTexts, Writer};
+pub use growing::{GrowingFile, GrowingFiles, LiveTrace, LiveTraces, Writer};
 pub use printing::Printed;

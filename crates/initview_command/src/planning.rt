@@ -13,7 +13,7 @@ use initview_lines::{Line, add_path_times};
 use initview_timeline::{Marks, TimelineMark};
 use std::alloc::{AllocError, Global};
 use std::io::Write;
-use trace_view::SeenText;
+use trace_view::ObservedTrace;
 
 /// The plan of an inittab is asked, and the times of its critical path.
 #[derive(Drop)]
@@ -54,7 +54,7 @@ impl Query for Timing {
     fn answer(
         self,
         alloc: Global,
-        text: &mut SeenText<Marks>,
+        text: &mut ObservedTrace<Marks>,
         shown: &TraceOutcome,
     ) -> Result<Answer, Memory> {
         let said = timed_plan(alloc, self.level, &self.table, text.seen().as_slice())?;

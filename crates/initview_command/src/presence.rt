@@ -9,10 +9,13 @@ use init_words::Memory;
 use std::alloc::Global;
 use std::io::Write;
 use trace_events::{Happening, HappeningIn};
-use trace_view::{SeenText, Sees, ViewEnd};
+use trace_view::{ObservedTrace, TraceObserver, ViewEnd};
 
 /// Shows the view that the clock has gone on by these seconds.
-fn show_clock<S: Sees<Global> + Drop>(text: &mut SeenText<S>, seconds: u64) -> Result<(), Memory>
+fn show_clock<S: TraceObserver<Global> + Drop>(
+    text: &mut ObservedTrace<S>,
+    seconds: u64,
+) -> Result<(), Memory>
     ensures { OnOk result ((past : List Event) → Viewed text.old.viewing.viewing past
         → Viewed text.new.viewing.viewing
         (Clock (min (time_of past + seconds) (2 ^ 64 - 1)) ∷ past)) }
@@ -24,8 +27,8 @@ fn show_clock<S: Sees<Global> + Drop>(text: &mut SeenText<S>, seconds: u64) -> R
 }
 
 /// Shows the view how the trace stands by now.
-pub(crate) fn show_present<S: Sees<Global> + Drop>(
-    text: &mut SeenText<S>,
+pub(crate) fn show_present<S: TraceObserver<Global> + Drop>(
+    text: &mut ObservedTrace<S>,
     writer: Writer,
     stop: Option<ViewEnd>,
 ) -> Result<(), Memory>

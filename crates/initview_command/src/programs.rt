@@ -4,7 +4,7 @@ ghost use Rattle.std.specs.Prelude.{◌≡◌, true, IfOk, OnOk};
 ghost use Rattle.std.specs.List.{list_all};
 ghost use Rattle.initview_command.specs.Words.{is_missing};
 
-use crate::growing::GrowingTexts;
+use crate::growing::LiveTraces;
 use init_words::Part;
 use inittab_lint::{LineWarning, Warning, program_of};
 use std::alloc::{AllocError, Global};
@@ -12,7 +12,7 @@ use std::str;
 use text_lines::first_line;
 
 /// The program isn't in the folders. One that is no text isn't looked for.
-fn is_missing<G: GrowingTexts>(
+fn is_missing<G: LiveTraces>(
     growing: &G,
     alloc: Global,
     folders: &str,
@@ -25,7 +25,7 @@ fn is_missing<G: GrowingTexts>(
 }
 
 /// Adds a warning for each line of a file whose program isn't in the folders.
-fn add_text<G: GrowingTexts>(
+fn add_text<G: LiveTraces>(
     found: &mut Vec<LineWarning>,
     growing: &G,
     alloc: Global,
@@ -51,7 +51,7 @@ fn add_text<G: GrowingTexts>(
 }
 
 /// Warnings about the lines of files whose program isn't in the folders.
-pub(crate) fn missing<G: GrowingTexts>(
+pub(crate) fn missing<G: LiveTraces>(
     growing: &G,
     alloc: Global,
     folders: &str,

@@ -13,7 +13,7 @@ use initview_lines::reload_lines;
 use std::alloc::Global;
 use std::io::Write;
 use trace_events::{Happening, HappeningIn};
-use trace_view::SeenText;
+use trace_view::ObservedTrace;
 
 /// What becomes of what runs is asked, where init reads the second of two inittabs in the place of the first, and goes to
 /// the level.
@@ -31,7 +31,7 @@ pub(crate) struct Reload {
 }
 
 /// Shows the view that a level is asked for, where one is named.
-fn ask(text: &mut SeenText<()>, level: Option<Level>) -> Result<(), Memory>
+fn ask(text: &mut ObservedTrace<()>, level: Option<Level>) -> Result<(), Memory>
     ensures { OnOk result ((past : List Event) → Viewed text.old.viewing.viewing past
         → Viewed text.new.viewing.viewing (with_request level past)) }
 {
@@ -45,7 +45,7 @@ fn ask(text: &mut SeenText<()>, level: Option<Level>) -> Result<(), Memory>
 }
 
 /// Shows the view that init goes on to a level that is asked for.
-fn go_on(text: &mut SeenText<()>) -> Result<(), Memory>
+fn go_on(text: &mut ObservedTrace<()>) -> Result<(), Memory>
     ensures { OnOk result ((past : List Event) → Viewed text.old.viewing.viewing past
         → Viewed text.new.viewing.viewing (gone_on past)) }
 {
@@ -57,7 +57,7 @@ fn go_on(text: &mut SeenText<()>) -> Result<(), Memory>
     Ok(())
 }
 
-fn show_table(alloc: Global, text: &mut SeenText<()>, table: &Table) -> Result<(), Memory>
+fn show_table(alloc: Global, text: &mut ObservedTrace<()>, table: &Table) -> Result<(), Memory>
     ensures { OnOk result ((past : List Event) → Viewed text.old.viewing.viewing past
         → Viewed text.new.viewing.viewing (NewTable table.now ∷ past)) }
 {
@@ -70,7 +70,7 @@ fn show_table(alloc: Global, text: &mut SeenText<()>, table: &Table) -> Result<(
 /// forbids either at any time.
 fn read_anew(
     alloc: Global,
-    text: &mut SeenText<()>,
+    text: &mut ObservedTrace<()>,
     table: &Table,
     level: Option<Level>,
 ) -> Result<(), Memory>
@@ -94,7 +94,7 @@ impl Query for Reload {
     fn answer(
         self,
         alloc: Global,
-        text: &mut SeenText<()>,
+        text: &mut ObservedTrace<()>,
         shown: &TraceOutcome,
     ) -> Result<Answer, Memory> {
         read_anew(alloc, text, &self.new, self.level)?;

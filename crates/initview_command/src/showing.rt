@@ -8,7 +8,7 @@ ghost use Rattle.initview_command.specs.declared.growing.Writer.{Writer};
 ghost use Rattle.initview_command.specs.Showing.{Shows, ShowsOf, Writes, is_within, lsb_status, row_status, running_status, said, status_by, stop_status};
 
 use crate::asking::TraceQuery;
-use crate::growing::{GrowingTexts, Writer};
+use crate::growing::{LiveTraces, Writer};
 use crate::presence::{show_present, tell_writer};
 use crate::telling::{report_memory, report_packed, report_unread, report_unsaid};
 use init_words::{Id, Memory};
@@ -16,7 +16,7 @@ use initview_lines::{Line, Says, is_starting, left_lines, row_line, status_lines
 use program_io::{DEVICE_FAULT, DONE, PieceTaker, REFUSED, Texts, UNLAWFUL};
 use std::alloc::{AllocError, Global};
 use std::io::Write;
-use trace_view::{Row, SeenText, Sees, TraceView, ViewEnd};
+use trace_view::{ObservedTrace, Row, TraceObserver, TraceView, ViewEnd};
 
 /// The trace of a path that was shown, who writes it, and why it is shown no further.
 #[derive(Clone, Copy)]
@@ -32,7 +32,7 @@ pub(crate) type Answer = (Vec<Line>, u8);
 /// What is asked of a trace.
 pub(crate) trait Query: Drop {
     /// What sees the happenings for it.
-    type Seen: Sees<Global> + Drop;
+    type Seen: TraceObserver<Global> + Drop;
 
     /// What is written and the exit status, by the path of the trace, who writes it, why it is shown no further, and its
     /// past.
@@ -50,7 +50,7 @@ pub(crate) trait Query: Drop {
     fn answer(
         self,
         alloc: Global,
-        text: &mut SeenText<Self::Seen>,
+        text: &mut ObservedTrace<Self::Seen>,
         shown: &TraceOutcome,
     ) -> Result<Answer, Memory>
         ensures { IfOk result (λ given. (past : List Event) → Viewed text.old.viewing.viewing past
@@ -63,8 +63,8 @@ pub(crate) trait Query: Drop {
 
 /// The text of a trace that is read in pieces.
 #[derive(Drop)]
-struct FileText<S: Sees<Global> + Drop> {
-    text: SeenText<S>,
+struct FileText<S: TraceObserver<Global> + Drop> {
+    text: ObservedTrace<S>,
     begun: bool,
     /// The program that unpacks it, where it is compressed.
     unpacker: Option<&'static str>,
@@ -81,18 +81,18 @@ fn unpacker(piece: &[u8]) -> Option<&'static str> {
 }
 
 /// A text of which nothing was taken, nor seen, on the heap: a function that has one in its frame is dear to prove.
-fn file_text<S: Sees<Global> + Drop>(alloc: Global) -> Result<Box<FileText<S>>, AllocError>
+fn file_text<S: TraceObserver<Global> + Drop>(alloc: Global) -> Result<Box<FileText<S>>, AllocError>
     ensures { IfOk result (λ file. HasSeenText S.has_seen file.value.text []) }
 {
     let file = FileText {
-        text: SeenText::new(alloc),
+        text: ObservedTrace::new(alloc),
         begun: false,
         unpacker: None,
     };
     Ok(Box::new(alloc, file)?)
 }
 
-impl<S: Sees<Global> + Drop> PieceTaker for FileText<S> {
+impl<S: TraceObserver<Global> + Drop> PieceTaker for FileText<S> {
     ghost use Rattle.trace_view.specs.SeenTexts.{HasSeenText};
 
     ghost has_taken = { λ file text. HasSeenText S.has_seen file.text text };
@@ -215,7 +215,7 @@ impl Query for TraceQuery {
     fn answer(
         self,
         alloc: Global,
-        text: &mut SeenText<()>,
+        text: &mut ObservedTrace<()>,
         shown: &TraceOutcome,
     ) -> Result<Answer, Memory> {
         show_present(text, shown.writer, shown.stop)?;
@@ -226,7 +226,7 @@ impl Query for TraceQuery {
 }
 
 /// Reads the trace of a path, writes what is asked of it, and gives the exit status.
-pub(crate) fn show_file<T: Texts, G: GrowingTexts, Q: Query, S: Says, E: Write>(
+pub(crate) fn show_file<T: Texts, G: LiveTraces, Q: Query, S: Says, E: Write>(
     texts: &T,
     growing: &G,
     alloc: Global,
@@ -245,7 +245,7 @@ pub(crate) fn show_file<T: Texts, G: GrowingTexts, Q: Query, S: Says, E: Write>(
 }
 
 /// Hands the text of a path to what has taken none, and writes what is asked of it.
-fn show_text<T: Texts, G: GrowingTexts, Q: Query, S: Says, E: Write>(
+fn show_text<T: Texts, G: LiveTraces, Q: Query, S: Says, E: Write>(
     texts: &T,
     growing: &G,
     alloc: Global,
@@ -299,7 +299,7 @@ fn is_within(stop: Option<ViewEnd>) -> bool
 fn show_seen<Q: Query, S: Says, E: Write>(
     alloc: Global,
     asked: Q,
-    text: &mut SeenText<Q::Seen>,
+    text: &mut ObservedTrace<Q::Seen>,
     shown: &TraceOutcome,
     out: &mut S,
     err: &mut E,

@@ -6,7 +6,7 @@ ghost use Rattle.initview_command.specs.declared.asking.TableQuestion.TheVariant
 ghost use Rattle.initview_command.specs.Tables.{Answers, AnswersOf, AreFiles, AreFilesAt, AreNone, FailsBy, IsAnswer, IsRefused, NoneOf, fault_status, found_status, level_asked, lint_by, old_of, plan_by, table_in};
 
 use crate::asking::TableQuestion;
-use crate::growing::GrowingTexts;
+use crate::growing::LiveTraces;
 use crate::programs::missing;
 use crate::showing::write_answer;
 use crate::telling::report_unread;
@@ -53,7 +53,7 @@ fn read_named<T: Texts, E: Write>(
 
 /// Reads the files of the paths, in their order, and behind them those of a folder, where one is named. One that can't be
 /// read is told, and none is given.
-pub(crate) fn read_files<T: Texts, G: GrowingTexts, E: Write>(
+pub(crate) fn read_files<T: Texts, G: LiveTraces, E: Write>(
     texts: &T,
     growing: &G,
     alloc: Global,
@@ -150,7 +150,7 @@ fn lint_answer(
 }
 
 /// The same, with warnings of programs that aren't found in folders.
-fn programs_answer<G: GrowingTexts>(
+fn programs_answer<G: LiveTraces>(
     growing: &G,
     alloc: Global,
     folders: &str,
@@ -201,7 +201,7 @@ pub(crate) fn plan_of(
 }
 
 /// What is answered of inittabs, and the exit status.
-fn answer<G: GrowingTexts, E: Write>(
+fn answer<G: LiveTraces, E: Write>(
     growing: &G,
     alloc: Global,
     folders: &str,
@@ -289,7 +289,7 @@ pub(crate) fn report_fault<E: Write>(fault: TableFault, err: &mut E) -> u8
 }
 
 /// Writes what is answered of inittabs, and gives the exit status.
-fn show_parts<G: GrowingTexts, S: Says, E: Write>(
+fn show_parts<G: LiveTraces, S: Says, E: Write>(
     growing: &G,
     alloc: Global,
     folders: &str,
@@ -307,7 +307,7 @@ fn show_parts<G: GrowingTexts, S: Says, E: Write>(
 }
 
 /// Reads the files of inittabs, writes what is answered of them, and gives the exit status.
-pub(crate) fn show_files<T: Texts, G: GrowingTexts, S: Says, E: Write>(
+pub(crate) fn show_files<T: Texts, G: LiveTraces, S: Says, E: Write>(
     texts: &T,
     growing: &G,
     alloc: Global,

@@ -7,7 +7,7 @@ ghost use Rattle.initview_command.specs.declared.growing.Writer.{Writer};
 ghost use Rattle.initview_command.specs.Tables.{FailsBy};
 ghost use Rattle.initview_command.specs.WithFiles.{ShowsWith, ShowsWithFiles};
 
-use crate::growing::GrowingTexts;
+use crate::growing::LiveTraces;
 use crate::showing::{Query, show_file};
 use crate::tables::{read_files, report_fault};
 use init_words::Part;
@@ -43,7 +43,7 @@ pub(crate) trait NeedsFiles {
 
 /// Reads the files of the paths, and those of a folder, where one is named, and the trace of a path, writes what is asked
 /// of it, and gives the exit status.
-pub(crate) fn show_with_files<T: Texts, G: GrowingTexts, Q: NeedsFiles, S: Says, E: Write>(
+pub(crate) fn show_with_files<T: Texts, G: LiveTraces, Q: NeedsFiles, S: Says, E: Write>(
     texts: &T,
     growing: &G,
     alloc: Global,
@@ -65,7 +65,7 @@ pub(crate) fn show_with_files<T: Texts, G: GrowingTexts, Q: NeedsFiles, S: Says,
     }
 }
 
-fn show_with<T: Texts, G: GrowingTexts, Q: NeedsFiles, S: Says, E: Write>(
+fn show_with<T: Texts, G: LiveTraces, Q: NeedsFiles, S: Says, E: Write>(
     texts: &T,
     growing: &G,
     alloc: Global,

@@ -8,8 +8,8 @@ use Rattle.initview_timeline.specs.declared.lives.Life.{Life}
 use Rattle.initview_timeline.specs.declared.marks.TimelineMark.{TimelineMark}
 use Rattle.initview_lines.specs.declared.plans.Waited.{Waited}
 use Rattle.initview_lines.specs.declared.times.Timed.{Timed}
-use Rattle.initview_lines.specs.declared.times.Took.{Took}
-use Rattle.initview_lines.specs.declared.times.Took.TheVariants as took
+use Rattle.initview_lines.specs.declared.times.TimeTaken.{TimeTaken}
+use Rattle.initview_lines.specs.declared.times.TimeTaken.TheVariants as took
 use Rattle.initview_lines.specs.Plans.{waited_in}
 use Rattle.initview_timeline.specs.Frames.{plus}
 use Rattle.initview_timeline.specs.Lives.{lives_of, marks_for}
@@ -39,20 +39,20 @@ abbrev pub longest_of : List Timed → ℕ
 longest_of timed = fold (λ longest (t : Timed). max longest (seconds_of t.life)) 0 timed
 
 -- an entry, and how long it took, or why that is unknown
-abbrev pub seconds_took : ℕ → ℕ → Took
+abbrev pub seconds_took : ℕ → ℕ → TimeTaken
 seconds_took longest seconds =
     if nat_lt 0 seconds && seconds == longest then took.Longest seconds else took.Seconds seconds
 
-abbrev pub end_took : ℕ → ℕ → Option Ending → Took
+abbrev pub end_took : ℕ → ℕ → Option Ending → TimeTaken
 end_took longest from None = took.RunsStill
 end_took longest from (Some ending) = seconds_took longest (ending.time - from)
 
-abbrev pub took_of : ℕ → Option Life → Took
+abbrev pub took_of : ℕ → Option Life → TimeTaken
 took_of longest None = took.NotStarted
 took_of longest (Some life) = end_took longest life.from life.end
 
 abbrev pub time_line : ℕ → Timed → Line
-time_line longest t = line.Took t.entry.id t.entry.act (took_of longest t.life)
+time_line longest t = line.TimeTaken t.entry.id t.entry.act (took_of longest t.life)
 
 -- init waits for one after the other, so that the way to the level takes as long as all of them
 abbrev pub times_by : Level → List Timed → List Line

@@ -35,8 +35,8 @@ fn sign_of(what: Drawn, first: bool) -> u8 {
 fn last_in(frame: Frame, column: u64, ground: u8, pieces: &[Piece]) -> u8 {
     let mut found = ground;
     for piece in pieces {
-        let first = frame.place(piece.from);
-        if first <= column && column <= frame.place(piece.to) {
+        let first = frame.position(piece.from);
+        if first <= column && column <= frame.position(piece.to) {
             found = sign_of(piece.what, first == column);
         }
     }
@@ -107,8 +107,8 @@ pub(crate) fn ill(rows: &[Row]) -> u64 {
 }
 
 /// A time whose place isn't before this one.
-fn time_of_place(frame: Frame, place: u64) -> u64 {
-    let part = place.saturating_mul(frame.span());
+fn time_of_place(frame: Frame, position: u64) -> u64 {
+    let part = position.saturating_mul(frame.span());
     frame.start.saturating_add(part.div_ceil(frame.last.max(1)))
 }
 

@@ -42,5 +42,5 @@ pub use reloads::{law_of_reloads, reload_lines};
 pub use rows::{row_line, status_lines};
 pub use sayers::{SayFault, Says};
 pub use texts::Bytes;
-pub use times::{Took, add_path_times};
+pub use times::{TimeTaken, add_path_times};
 pub use wording::words_of;

@@ -6,7 +6,7 @@ ghost use Rattle.initview_lines.specs.declared.lines.Line.TheVariants as line;
 use crate::changes::Change;
 use crate::happenings::News;
 use crate::texts::Bytes;
-use crate::times::Took;
+use crate::times::TimeTaken;
 use init_words::{Act, ChildNumber, Id, Level, Stage};
 use inittab_lint::Warning;
 use inittab_text::LineKind;
@@ -120,7 +120,7 @@ pub enum Line {
     /// What follows is how long each entry of the critical path took in a trace.
     PathTimes,
     /// How long an entry of it took.
-    Took(Id, Act, Took),
+    TimeTaken(Id, Act, TimeTaken),
     /// How long they all took on the way to the level.
     Whole(Level, u64),
     /// What is told of the file of a name.

@@ -115,11 +115,11 @@ fn add_pieces(
         add_number(text, b"", frame.width(bar.from, bar.to), b"\"/></g>\n")?;
     }
     for sign in pieces.signs.as_slice() {
-        let place = frame.place(sign.from);
+        let position = frame.position(sign.from);
         add_tip(text, id, sign)?;
-        add_number(text, b"", place, b"\"/>")?;
+        add_number(text, b"", position, b"\"/>")?;
         if let Drawn::Name(stage, to) = sign.what {
-            add_number(text, NAME_AT, place, b"\">")?;
+            add_number(text, NAME_AT, position, b"\">")?;
             add_name(text, frame.width(sign.from, to), stage)?;
             put(text, b"</text>")?;
         }
@@ -173,7 +173,12 @@ fn add_ticks(text: &mut Vec<u8>, frame: Frame) -> Result<(), AllocError> {
     for number in 0..TICKS {
         let time = tick_time(frame, number);
         if time <= frame.end {
-            add_number(text, b"<g transform=\"translate(", frame.place(time), TICK)?;
+            add_number(
+                text,
+                b"<g transform=\"translate(",
+                frame.position(time),
+                TICK,
+            )?;
             add_axis_time(text, frame, time, TOP_HOURS, TOP_SECONDS)?;
             add_axis_time(text, frame, time, LOW_HOURS, LOW_SECONDS)?;
             put(text, b"</g>\n")?;

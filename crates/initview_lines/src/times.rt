@@ -13,7 +13,7 @@ use trace_view::Ending;
 
 /// How long an entry took for whose end init waits, from its first birth to its end, in seconds.
 #[derive(Clone, Copy)]
-pub enum Took {
+pub enum TimeTaken {
     NotStarted,
     RunsStill,
     Seconds(u64),
@@ -118,26 +118,26 @@ fn longest_of(timed: &[Timed]) -> u64
         .fold(0u64, |longest, one| longest.max(seconds_of(one.life)))
 }
 
-fn end_took(longest: u64, from: u64, end: Option<Ending>) -> Took
+fn end_took(longest: u64, from: u64, end: Option<Ending>) -> TimeTaken
     ensures { result ≡ end_took longest from end }
 {
     let Some(ending) = end else {
-        return Took::RunsStill;
+        return TimeTaken::RunsStill;
     };
     let seconds = ending.time.saturating_sub(from);
     if 0 < seconds && seconds == longest {
-        Took::Longest(seconds)
+        TimeTaken::Longest(seconds)
     } else {
-        Took::Seconds(seconds)
+        TimeTaken::Seconds(seconds)
     }
 }
 
-fn took_of(longest: u64, life: Option<Life>) -> Took
+fn took_of(longest: u64, life: Option<Life>) -> TimeTaken
     ensures { result ≡ took_of longest life }
 {
     match life {
         Some(life) => end_took(longest, life.from, life.end),
-        None => Took::NotStarted,
+        None => TimeTaken::NotStarted,
     }
 }
 
@@ -146,7 +146,7 @@ fn time_lines(alloc: Global, longest: u64, timed: &[Timed]) -> Result<Vec<Line>,
 {
     timed
         .iter()
-        .map(|one| Line::Took(one.entry.id, one.entry.act, took_of(longest, one.life)))
+        .map(|one| Line::TimeTaken(one.entry.id, one.entry.act, took_of(longest, one.life)))
         .collect(alloc)
 }
 

@@ -7,7 +7,7 @@ use crate::json;
 use crate::lines::{FileLine, Head, IdRow, Line, Reason, RowFormat};
 use crate::phrases::{Value, fill};
 use crate::svg::add_svg;
-use crate::times::Took;
+use crate::times::TimeTaken;
 use crate::words::put;
 use init_words::{Act, ChildNumber, Id, Letter, Level, OrderKind, PowerKind, Stage};
 use initctl_frame::{Cause, HeardRequest};
@@ -46,7 +46,7 @@ fn add_line(text: &mut Vec<u8>, alloc: Global, line: &Line) -> Result<(), AllocE
         Line::OnPath(id, act, before) => add_on_path(text, id, *act, before),
         Line::Reached(level, before) => add_reached(text, *level, before),
         Line::PathTimes => put(text, b"critical path in the trace\n"),
-        Line::Took(id, act, took) => add_took(text, id, *act, *took),
+        Line::TimeTaken(id, act, took) => add_took(text, id, *act, *took),
         Line::Whole(level, seconds) => {
             let level = [b'l', b'e', b'v', b'e', b'l', b' ', level.code()];
             let columns = [Value::Padded(23, &level), Value::Number(*seconds)];
@@ -70,8 +70,8 @@ fn add_file_line(text: &mut Vec<u8>, alloc: Global, told: &FileLine) -> Result<(
         FileLine::LeftOut(line, kind, field, meant) => {
             let kind = *kind;
             let reason = format!(in alloc; "{kind}")?;
-            let place = Value::Number(u64::from(*line));
-            fill(text, b":@: @", &[place, Value::Text(reason.as_bytes())])?;
+            let position = Value::Number(u64::from(*line));
+            fill(text, b":@: @", &[position, Value::Text(reason.as_bytes())])?;
             add_hint(text, kind, field.as_slice(), *meant)
         }
         FileLine::Warned(line, kind) => fill(
@@ -124,13 +124,13 @@ fn add_hint(
     }
 }
 
-fn add_took(text: &mut Vec<u8>, id: &Id, act: Act, took: Took) -> Result<(), AllocError> {
+fn add_took(text: &mut Vec<u8>, id: &Id, act: Act, took: TimeTaken) -> Result<(), AllocError> {
     add_columns(text, id, Some(act))?;
     match took {
-        Took::NotStarted => put(text, b"was not started\n"),
-        Took::RunsStill => put(text, b"runs still\n"),
-        Took::Seconds(seconds) => fill(text, b"@ s\n", &[Value::Number(seconds)]),
-        Took::Longest(seconds) => fill(text, b"@ s, the longest\n", &[Value::Number(seconds)]),
+        TimeTaken::NotStarted => put(text, b"was not started\n"),
+        TimeTaken::RunsStill => put(text, b"runs still\n"),
+        TimeTaken::Seconds(seconds) => fill(text, b"@ s\n", &[Value::Number(seconds)]),
+        TimeTaken::Longest(seconds) => fill(text, b"@ s, the longest\n", &[Value::Number(seconds)]),
     }
 }
 

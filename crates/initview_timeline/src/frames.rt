@@ -34,7 +34,7 @@ impl Frame {
     }
 
     /// The place of a time, from the first to the last.
-    pub fn place(self, time: u64) -> u64
+    pub fn position(self, time: u64) -> u64
         ensures { result ≡ place_of self time }
     {
         scaled(time.saturating_sub(self.start), self.span(), self.last).min(self.last)
@@ -44,7 +44,7 @@ impl Frame {
     pub fn width(self, from: u64, to: u64) -> u64
         ensures { result ≡ width_of self from to }
     {
-        let width = self.place(to).saturating_sub(self.place(from));
+        let width = self.position(to).saturating_sub(self.position(from));
         width.max(BAR_LEAST)
     }
 
@@ -53,6 +53,6 @@ impl Frame {
         ensures { result ≡ left_of self from to }
     {
         let room = self.last.saturating_sub(self.width(from, to));
-        self.place(from).min(room)
+        self.position(from).min(room)
     }
 }

@@ -10,7 +10,7 @@ use init_words::{ChildNumber, Id, Level, Memory, OrderKind, SignalKind, Stage, S
 use std::alloc::{Allocator, Global};
 use std::marker::Model;
 use trace_events::{Happening, HappeningIn};
-use trace_view::{Sees, TraceView};
+use trace_view::{TraceObserver, TraceView};
 
 /// What a timeline shows.
 #[derive(Clone, Copy)]
@@ -142,7 +142,7 @@ impl<A: Allocator> Marks<A> {
     }
 }
 
-impl<A: Allocator + Copy> Sees<A> for Marks<A> {
+impl<A: Allocator + Copy> TraceObserver<A> for Marks<A> {
     ghost use Rattle.std.specs.Prelude.{◌≡◌};
     ghost use Rattle.initview_timeline.specs.Marks.{seen_of};
 

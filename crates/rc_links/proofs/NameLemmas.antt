@@ -1,5 +1,5 @@
 -- Tables of names, and what the scripts before a place provide.
-use Rattle.rc_links.proofs.Words.{or-false, or_assoc, ◌≡◌, ℕ, zero, suc, ◌+◌, ◌<◌, Bool, true, false, cond, not, ◌&&◌, ◌||◌, if◌then◌else◌, List, [], ◌∷◌, ◌++◌, length, find, get_or, take, drop, Option, Some, None, is_some, Result, Ok, Err, IfErr, refl, sym, ap, ◌∙◌, subst, arith, option_or, bytes_eq, bytes_eq-Decides, true≢false, ScriptText, place_from, place_of, has_script, is_system, doubled, double_from, missing_of, missing_from}
+use Rattle.rc_links.proofs.Words.{or-false, or_assoc, ◌≡◌, ℕ, zero, suc, ◌+◌, ◌<◌, Bool, true, false, cond, not, ◌&&◌, ◌||◌, if◌then◌else◌, List, [], ◌∷◌, ◌++◌, length, find, get_or, take, drop, Option, Some, None, is_some, Result, Ok, Err, IfErr, refl, sym, ap, ◌∙◌, subst, arith, option_or, bytes_eq, bytes_eq-Decides, true≢false, ScriptText, position_from, place_of, has_script, is_system, doubled, double_from, missing_of, missing_from}
 use Rattle.std.specs.Bool.{Decides, one_answer}
 use Rattle.std.specs.Result.{IsErrAnd}
 use Rattle.rc_links.specs.Scripts.{has_name}
@@ -16,21 +16,21 @@ same_cond false x = refl
 
 -- what a table has for a name after these names were given the place
 abbrev pub put_all : ℕ → List (List ℕ) → List ℕ → Option ℕ → Option ℕ
-put_all place [] bs found = found
-put_all place (name ∷ names) bs found = put_all place names bs (if bytes_eq name bs then Some place else found)
+put_all position [] bs found = found
+put_all position (name ∷ names) bs found = put_all position names bs (if bytes_eq name bs then Some position else found)
 
-put_all-kept : (place : ℕ) (names : List (List ℕ)) (bs : List ℕ) → put_all place names bs (Some place) ≡ Some place
-put_all-kept place [] bs = refl
-put_all-kept place (name ∷ names) bs = rw (same_cond (bytes_eq name bs) (Some place)) (put_all-kept place names bs)
+put_all-kept : (position : ℕ) (names : List (List ℕ)) (bs : List ℕ) → put_all position names bs (Some position) ≡ Some position
+put_all-kept position [] bs = refl
+put_all-kept position (name ∷ names) bs = rw (same_cond (bytes_eq name bs) (Some position)) (put_all-kept position names bs)
 
-put_all-by : (place : ℕ) (name : List ℕ) (names : List (List ℕ)) (bs : List ℕ) (found : Option ℕ) (y : Bool) → bytes_eq name bs ≡ y → put_all place names bs found ≡ (if has_name bs names then Some place else found) → put_all place names bs (cond y (Some place) found) ≡ (if bytes_eq bs name || has_name bs names then Some place else found)
-put_all-by place name names bs found true e rest = rw (bytes_eq-sym bs name ∙ e) (put_all-kept place names bs)
-put_all-by place name names bs found false e rest = rw (bytes_eq-sym bs name ∙ e) rest
+put_all-by : (position : ℕ) (name : List ℕ) (names : List (List ℕ)) (bs : List ℕ) (found : Option ℕ) (y : Bool) → bytes_eq name bs ≡ y → put_all position names bs found ≡ (if has_name bs names then Some position else found) → put_all position names bs (cond y (Some position) found) ≡ (if bytes_eq bs name || has_name bs names then Some position else found)
+put_all-by position name names bs found true e rest = rw (bytes_eq-sym bs name ∙ e) (put_all-kept position names bs)
+put_all-by position name names bs found false e rest = rw (bytes_eq-sym bs name ∙ e) rest
 
 -- it has the place for these, and what it had for the others
-pub put_all-is : (place : ℕ) (names : List (List ℕ)) (bs : List ℕ) (found : Option ℕ) → put_all place names bs found ≡ (if has_name bs names then Some place else found)
-put_all-is place [] bs found = refl
-put_all-is place (name ∷ names) bs found = put_all-by place name names bs found (bytes_eq name bs) refl (put_all-is place names bs found)
+pub put_all-is : (position : ℕ) (names : List (List ℕ)) (bs : List ℕ) (found : Option ℕ) → put_all position names bs found ≡ (if has_name bs names then Some position else found)
+put_all-is position [] bs found = refl
+put_all-is position (name ∷ names) bs found = put_all-by position name names bs found (bytes_eq name bs) refl (put_all-is position names bs found)
 
 -- tests that agree find the same
 pub find-ext : {X : Type 0} (p q : X → Bool) (xs : List X) → ((x : X) → p x ≡ q x) → find p xs ≡ find q xs
@@ -38,13 +38,13 @@ find-ext p q [] same = refl
 find-ext p q (x ∷ xs) same = rw (same x, find-ext p q xs same) refl
 
 -- the place of a name, with one more script behind
-last_by : (place : ℕ) (before : List ScriptText) (s : ScriptText) (bs : List ℕ) (y : Bool) → place_from (place + 1) (before ++ s ∷ []) bs ≡ option_or (place_from (place + 1) before bs) (if has_name bs s.header.provides then Some (place + 1 + length before) else None) → cond y (Some place) (place_from (place + 1) (before ++ s ∷ []) bs) ≡ option_or (cond y (Some place) (place_from (place + 1) before bs)) (if has_name bs s.header.provides then Some (place + suc (length before)) else None)
-last_by place before s bs true rest = refl
-last_by place before s bs false rest = let e : place + suc (length before) ≡ place + 1 + length before = omega arith in rw e rest
+last_by : (position : ℕ) (before : List ScriptText) (s : ScriptText) (bs : List ℕ) (y : Bool) → position_from (position + 1) (before ++ s ∷ []) bs ≡ option_or (position_from (position + 1) before bs) (if has_name bs s.header.provides then Some (position + 1 + length before) else None) → cond y (Some position) (position_from (position + 1) (before ++ s ∷ []) bs) ≡ option_or (cond y (Some position) (position_from (position + 1) before bs)) (if has_name bs s.header.provides then Some (position + suc (length before)) else None)
+last_by position before s bs true rest = refl
+last_by position before s bs false rest = let e : position + suc (length before) ≡ position + 1 + length before = omega arith in rw e rest
 
-place_from-last : (place : ℕ) (before : List ScriptText) (s : ScriptText) (bs : List ℕ) → place_from place (before ++ s ∷ []) bs ≡ option_or (place_from place before bs) (if has_name bs s.header.provides then Some (place + length before) else None)
-place_from-last place [] s bs = let e : place + 0 ≡ place = omega arith in rw e refl
-place_from-last place (x ∷ before) s bs = last_by place before s bs (has_name bs x.header.provides) (place_from-last (place + 1) before s bs)
+position_from-last : (position : ℕ) (before : List ScriptText) (s : ScriptText) (bs : List ℕ) → position_from position (before ++ s ∷ []) bs ≡ option_or (position_from position before bs) (if has_name bs s.header.provides then Some (position + length before) else None)
+position_from-last position [] s bs = let e : position + 0 ≡ position = omega arith in rw e refl
+position_from-last position (x ∷ before) s bs = last_by position before s bs (has_name bs x.header.provides) (position_from-last (position + 1) before s bs)
 
 -- a name of a list none of which passes the test
 unfound_by : (test : List ℕ → Bool) (bs name : List ℕ) (names : List (List ℕ)) (x y : Bool) → test name ≡ x → bytes_eq bs name ≡ y → cond x (Some name) (find test names) ≡ None → y || has_name bs names ≡ true → (find test names ≡ None → has_name bs names ≡ true → test bs ≡ false) → test bs ≡ false
@@ -64,16 +64,16 @@ or_none : (o : Option ℕ) → option_or o None ≡ o
 or_none None = refl
 or_none (Some x) = refl
 
-place-next_by : (n : ℕ) (o : Option ℕ) (y : Bool) → (y ≡ true → is_some o ≡ false) → option_or o (if y then Some n else None) ≡ (if y then Some n else o)
-place-next_by n o true new = none_or o (Some n) (new refl)
-place-next_by n o false new = or_none o
+position-next_by : (n : ℕ) (o : Option ℕ) (y : Bool) → (y ≡ true → is_some o ≡ false) → option_or o (if y then Some n else None) ≡ (if y then Some n else o)
+position-next_by n o true new = none_or o (Some n) (new refl)
+position-next_by n o false new = or_none o
 
 -- the places after one more script, none of whose names is known
-pub place-next : (before : List ScriptText) (s : ScriptText) (bs : List ℕ) → find (λ name. is_some (place_of before name)) s.header.provides ≡ None → place_of (before ++ s ∷ []) bs ≡ (if has_name bs s.header.provides then Some (length before) else place_of before bs)
-place-next before s bs new =
-    let first = place_from-last 0 before s bs in
+pub position-next : (before : List ScriptText) (s : ScriptText) (bs : List ℕ) → find (λ name. is_some (place_of before name)) s.header.provides ≡ None → place_of (before ++ s ∷ []) bs ≡ (if has_name bs s.header.provides then Some (length before) else place_of before bs)
+position-next before s bs new =
+    let first = position_from-last 0 before s bs in
     let e : 0 + length before ≡ length before = omega arith in
-    (rw e at first) ∙ place-next_by (length before) (place_of before bs) (has_name bs s.header.provides) (unfound (λ name. is_some (place_of before name)) bs s.header.provides new)
+    (rw e at first) ∙ position-next_by (length before) (place_of before bs) (has_name bs s.header.provides) (unfound (λ name. is_some (place_of before name)) bs s.header.provides new)
 
 -- the names of scripts, with one more behind
 named-next_by : (x y : Bool) (o : Option ℕ) (n : ℕ) → is_some o ≡ x → is_some (if y then Some n else o) ≡ x || y

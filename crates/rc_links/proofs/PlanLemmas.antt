@@ -5,15 +5,15 @@ use Rattle.rc_links.specs.declared.faults.PlanFault.{PlanFault}
 use Rattle.rc_links.specs.declared.faults.PlanFault.TheVariants as fault
 
 -- the name at a place
-pub name_is : (scripts : List ScriptText) (place : ℕ) (s : ScriptText) → place < length scripts → s ≡ get_or scripts place s → get_or (map (λ t. t.name) scripts) place [] ≡ s.name
-name_is [] place s within is = absurd (omega arith)
+pub name_is : (scripts : List ScriptText) (position : ℕ) (s : ScriptText) → position < length scripts → s ≡ get_or scripts position s → get_or (map (λ t. t.name) scripts) position [] ≡ s.name
+name_is [] position s within is = absurd (omega arith)
 name_is (x ∷ scripts) zero s within is = ap (λ t. t.name) (sym is)
-name_is (x ∷ scripts) (suc place) s within is = name_is scripts place s (omega arith) is
+name_is (x ∷ scripts) (suc position) s within is = name_is scripts position s (omega arith) is
 
-pub names-step : (scripts : List ScriptText) (place : ℕ) (rest : List ℕ) (names whole : List (List ℕ)) (s : ScriptText) → place < length scripts → s ≡ get_or scripts place s → names ++ names_at scripts (place ∷ rest) ≡ whole → (names ++ s.name ∷ []) ++ names_at scripts rest ≡ whole
-names-step scripts place rest names whole s within is same =
+pub names-step : (scripts : List ScriptText) (position : ℕ) (rest : List ℕ) (names whole : List (List ℕ)) (s : ScriptText) → position < length scripts → s ≡ get_or scripts position s → names ++ names_at scripts (position ∷ rest) ≡ whole → (names ++ s.name ∷ []) ++ names_at scripts rest ≡ whole
+names-step scripts position rest names whole s within is same =
     let P : List ℕ → Type 0 = λ name. names ++ name ∷ names_at scripts rest ≡ whole in
-    append_assoc names (s.name ∷ []) (names_at scripts rest) ∙ subst P (name_is scripts place s within is) same
+    append_assoc names (s.name ∷ []) (names_at scripts rest) ∙ subst P (name_is scripts position s within is) same
 
 -- one more script of a plan
 pub planned-step : (plan whole : List PlannedText) (s : ScriptText) (scripts : List ScriptText) (start stop : ℕ) (starts stops : List ℕ) → plan ++ planned_all (s ∷ scripts) (start ∷ starts) (stop ∷ stops) ≡ whole → (plan ++ planned s start stop ∷ []) ++ planned_all scripts starts stops ≡ whole
@@ -32,10 +32,10 @@ Says-weaker fault.TooDeep more said = more _ said
 Says-weaker fault.Memory more said = tt
 
 -- a number that is too great, of all
-pub any_deep : (starts stops : List ℕ) (place : ℕ) (wrong : Wrong) → IsTooDeep (get_or starts place 0) (get_or stops place 0) wrong → IsAnyDeep starts stops wrong
-any_deep starts stops place wrong deep = elim deep.1 [
-  | inl high ↦ (deep.0, inl (place, high))
-  | inr high ↦ (deep.0, inr (place, high))
+pub any_deep : (starts stops : List ℕ) (position : ℕ) (wrong : Wrong) → IsTooDeep (get_or starts position 0) (get_or stops position 0) wrong → IsAnyDeep starts stops wrong
+any_deep starts stops position wrong deep = elim deep.1 [
+  | inl high ↦ (deep.0, inl (position, high))
+  | inr high ↦ (deep.0, inr (position, high))
 ]
 
 -- the fields of a plan

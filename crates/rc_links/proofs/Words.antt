@@ -9,7 +9,7 @@ pub use Rattle.rc_links.specs.Links.{in_byte_order, is_before, placed, linked_na
 pub use Rattle.std.proofs.lemmas.List.{append-nil, drop_all, drop_more, take_all}
 pub use Rattle.init_words.specs.declared.levels.Level.{Level}
 pub use Rattle.rc_links.specs.ChangeText.{ChangeText}
-pub use Rattle.rc_links.specs.Changes.{changes_of, is_in_way, is_left_over, is_missing, is_ours, is_stale, making, removal, settled, goes, targets_of}
+pub use Rattle.rc_links.specs.Changes.{changes_of, is_in_way, is_left_over, is_missing, is_ours, is_stale, making, removal, settled, is_removed, targets_of}
 pub use Rattle.rc_links.specs.Entries.{same_entry, entry_of}
 pub use Rattle.rc_links.specs.EntryText.{EntryText}
 pub use Rattle.rc_links.specs.FolderText.{FolderText}
@@ -20,10 +20,10 @@ pub use Rattle.rc_links.specs.PlannedText.{PlannedText}
 pub use Rattle.init_words.specs.declared.levels.Level.TheVariants.{L2, L3, L5, L0}
 pub use Rattle.std.specs.Option.{option_or, unwrap_or}
 pub use Rattle.rc_links.specs.ScriptText.{ScriptText}
-pub use Rattle.rc_links.specs.Scripts.{place_from, place_of, has_script, is_system, doubled, double_from, missing_of, missing_from, named, need, needs_from, needs_of, places_of}
+pub use Rattle.rc_links.specs.Scripts.{position_from, place_of, has_script, is_system, doubled, double_from, missing_of, missing_from, named, need, needs_from, needs_of, places_of}
 pub use Rattle.rc_links.specs.declared.needs.Phase.{Phase}
 pub use Rattle.rc_numbers.specs.Numbering.{InRange, HasNoNumbering, IsCycle}
 pub use Rattle.rc_links.specs.Faults.{Wrong, Round, IsAnyDeep, IsRound, IsTooDeep, Says, IsDouble}
 pub use Rattle.rc_links.specs.Plans.{AreLeast, IsCycleOf, IsPlan, IsProvided, IsRefused, IsShort, names_at, planned, planned_all}
 pub use Rattle.rc_links.specs.AllLast.{other_names}
-pub use Rattle.rc_links.specs.Tables.{place_in, known_again, HasPlaces, is_known, is_unknown}
+pub use Rattle.rc_links.specs.Tables.{position_in, known_again, HasPlaces, is_known, is_unknown}

@@ -41,9 +41,9 @@ abbrev pub is_left_over : List (List ℕ) → List EntryText → EntryText → B
 is_left_over targets planned e = is_stale targets planned e && not (has_name e.name planned)
 
 -- those that have to go before, or those that can stay
-abbrev pub goes : Bool → List (List ℕ) → List EntryText → EntryText → Bool
-goes true targets planned e = is_in_way targets planned e
-goes false targets planned e = is_left_over targets planned e
+abbrev pub is_removed : Bool → List (List ℕ) → List EntryText → EntryText → Bool
+is_removed true targets planned e = is_in_way targets planned e
+is_removed false targets planned e = is_left_over targets planned e
 
 -- a link that the folder doesn't hold
 abbrev pub is_missing : List EntryText → EntryText → Bool

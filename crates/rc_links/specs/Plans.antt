@@ -23,7 +23,7 @@ pub record AreLeast (turn : Phase) (scripts : List ScriptText) (numbers : List �
 
 -- a number is too great for a link's two digits
 abbrev pub IsDeep : List ℕ → Type 0
-IsDeep numbers = (place : ℕ) × (NUMBER_LIMIT < get_or numbers place 0)
+IsDeep numbers = (position : ℕ) × (NUMBER_LIMIT < get_or numbers position 0)
 
 -- a script's numbers fit into a link's two digits
 abbrev pub IsShort : PlannedText → Type 0
@@ -58,7 +58,7 @@ planned_all (s ∷ scripts) (start ∷ starts) (stop ∷ stops) = planned s star
 
 -- the names of the scripts at these places
 abbrev pub names_at : List ScriptText → List ℕ → List (List ℕ)
-names_at scripts places = map (λ place. get_or (map (λ s. s.name) scripts) place []) places
+names_at scripts places = map (λ position. get_or (map (λ s. s.name) scripts) position []) places
 
 -- the names are those of a cycle, so that there are no numbers
 pub record IsCycleOf (turn : Phase) (scripts : List ScriptText) (names : List (List ℕ)) : Type 0 where

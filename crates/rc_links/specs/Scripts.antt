@@ -13,14 +13,14 @@ abbrev pub has_name : List ℕ → List (List ℕ) → Bool
 has_name name names = list_any (λ other. bytes_eq name other) names
 
 -- the place of the first script that provides the name; the first of these has this place
-abbrev pub place_from : ℕ → List ScriptText → List ℕ → Option ℕ
-place_from place [] name = None
-place_from place (s ∷ scripts) name =
-    if has_name name s.header.provides then Some place else place_from (place + 1) scripts name
+abbrev pub position_from : ℕ → List ScriptText → List ℕ → Option ℕ
+position_from position [] name = None
+position_from position (s ∷ scripts) name =
+    if has_name name s.header.provides then Some position else position_from (position + 1) scripts name
 
 -- the place of the script that provides the name
 abbrev pub place_of : List ScriptText → List ℕ → Option ℕ
-place_of scripts name = place_from 0 scripts name
+place_of scripts name = position_from 0 scripts name
 
 -- a script has the name
 abbrev pub has_script : List ScriptText → List ℕ → Bool
@@ -67,14 +67,14 @@ named phase.Stop header = header.required_stop ++ header.should_stop
 
 -- who needs whom, where a script names another: to start, it the other; to stop, the other it
 abbrev pub need : Phase → ℕ → ℕ → ℕ × ℕ
-need phase.Start place other = (place, other)
-need phase.Stop place other = (other, place)
+need phase.Start position other = (position, other)
+need phase.Stop position other = (other, position)
 
 -- the needs by the names of each script; the first of these has this place
 abbrev pub needs_from : Phase → List ScriptText → ℕ → List ScriptText → List (ℕ × ℕ)
-needs_from turn all place [] = []
-needs_from turn all place (s ∷ scripts) =
-    map (need turn place) (places_of all (named turn s.header)) ++ needs_from turn all (place + 1) scripts
+needs_from turn all position [] = []
+needs_from turn all position (s ∷ scripts) =
+    map (need turn position) (places_of all (named turn s.header)) ++ needs_from turn all (position + 1) scripts
 
 -- the needs of all scripts, to start or to stop
 abbrev pub needs_of : Phase → List ScriptText → List (ℕ × ℕ)

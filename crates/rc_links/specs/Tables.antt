@@ -14,30 +14,30 @@ abbrev pub PlaceTable : Type 0 → Type 0
 PlaceTable S = IndexMap (Bor (List ℕ)) ℕ S
 
 -- the place that a table has for a name
-abbrev pub place_in : {S : Type 0} → PlaceTable S → List ℕ → Option ℕ
-place_in table name = get_by (λ key. bytes_eq name key.now) table
+abbrev pub position_in : {S : Type 0} → PlaceTable S → List ℕ → Option ℕ
+position_in table name = get_by (λ key. bytes_eq name key.now) table
 
 -- the table has a place for the name
 abbrev pub is_known : {S : Type 0} → PlaceTable S → List ℕ → Bool
-is_known table name = is_some (place_in table name)
+is_known table name = is_some (position_in table name)
 
 -- the table has the places of the names that the scripts provide
 abbrev pub HasPlaces : {S : Type 0} → List ScriptText → PlaceTable S → Type 0
-HasPlaces scripts table = (name : List ℕ) → place_in table name ≡ place_of scripts name
+HasPlaces scripts table = (name : List ℕ) → position_in table name ≡ place_of scripts name
 
 -- the table has nothing
 abbrev pub HasNone : {S : Type 0} → PlaceTable S → Type 0
-HasNone table = (name : List ℕ) → place_in table name ≡ None
+HasNone table = (name : List ℕ) → position_in table name ≡ None
 
 -- the table gained this place for the name
 abbrev pub GivesPlace : {S : Type 0} → PlaceTable S → PlaceTable S → List ℕ → ℕ → Type 0
-GivesPlace old new given place =
-    (name : List ℕ) → place_in new name ≡ (if bytes_eq given name then Some place else place_in old name)
+GivesPlace old new given position =
+    (name : List ℕ) → position_in new name ≡ (if bytes_eq given name then Some position else position_in old name)
 
 -- the table gained this place for each of the names
 abbrev pub GivesPlaces : {S : Type 0} → PlaceTable S → PlaceTable S → List (List ℕ) → ℕ → Type 0
-GivesPlaces old new given place =
-    (name : List ℕ) → place_in new name ≡ (if has_name name given then Some place else place_in old name)
+GivesPlaces old new given position =
+    (name : List ℕ) → position_in new name ≡ (if has_name name given then Some position else position_in old name)
 
 -- the first of a script's provided names that is known, or else its own name if it is known as a script's
 abbrev pub known_again : {S T : Type 0} → PlaceTable S → PlaceTable T → ScriptText → Option (List ℕ)
@@ -57,4 +57,4 @@ unknown_of table script =
 
 -- the needs by these names, which the script at this place gives
 abbrev pub needs_by : {S : Type 0} → Phase → ℕ → PlaceTable S → List (List ℕ) → List (ℕ × ℕ)
-needs_by turn place table names = map (need turn place) (filter_map (place_in table) names)
+needs_by turn position table names = map (need turn position) (filter_map (position_in table) names)

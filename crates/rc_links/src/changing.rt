@@ -3,7 +3,7 @@
 ghost use Rattle.std.specs.Prelude.{◌≡◌, ◌++◌, ℕ, map, flat_map, take, IfOk, OnOk};
 ghost use Rattle.std.specs.List.{AllByRecursion, filter, list_any};
 ghost use Rattle.std.specs.Str.{bytes_eq};
-ghost use Rattle.rc_links.specs.Changes.{changes_of, goes, is_missing, is_numbered, is_ours, is_taken, making, removal, targets_of};
+ghost use Rattle.rc_links.specs.Changes.{changes_of, is_removed, is_missing, is_numbered, is_ours, is_taken, making, removal, targets_of};
 ghost use Rattle.rc_links.specs.Kept.{kept_script};
 ghost use Rattle.rc_links.specs.Mending.{AreApart, IsMended, Stays, behind};
 ghost use Rattle.rc_links.specs.PlannedText.{PlannedText};
@@ -56,13 +56,13 @@ pub fn is_taken<A: Allocator>(
 }
 
 /// A numbered link to a planned script, and none of the plan's, whose name one of the plan has, or none has.
-fn goes<A: Allocator>(
+fn is_removed<A: Allocator>(
     targets: &[Vec<u8, A>],
     folder: &Folder<A>,
     named: bool,
     entry: &FolderEntry<A>,
 ) -> bool
-    ensures { result ≡ goes named (targets_of targets.now) folder.now.planned entry.now }
+    ensures { result ≡ is_removed named (targets_of targets.now) folder.now.planned entry.now }
 {
     is_ours(targets, entry)
         && !has_entry(folder.planned(), entry)
@@ -78,10 +78,10 @@ fn add_removals<A: Allocator + Copy>(
     changes: &mut Vec<LinkChange<A>, A>,
 ) -> Result<(), Memory>
     ensures { OnOk result (changes.new.items ≡ changes.old.items ++ map (removal folder.now.level)
-        (filter (goes named (targets_of targets.now) folder.now.planned) folder.now.held)) }
+        (filter (is_removed named (targets_of targets.now) folder.now.planned) folder.now.held)) }
 {
     for entry in folder.held() {
-        if goes(targets, folder, named, entry) {
+        if is_removed(targets, folder, named, entry) {
             changes.push(LinkChange::new(LinkAction::Remove, folder.level(), entry.copy(alloc)?))?;
         }
     }

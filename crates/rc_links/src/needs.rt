@@ -6,7 +6,7 @@ ghost use Rattle.rc_links.specs.Scripts.{need, named, needs_of};
 ghost use Rattle.rc_links.specs.Tables.{HasPlaces, needs_by};
 
 use crate::scripts::Script;
-use crate::tables::{Providers, place_at};
+use crate::tables::{Providers, position_at};
 use init_words::Memory;
 use std::alloc::Allocator;
 
@@ -18,12 +18,12 @@ pub(crate) enum Phase {
 }
 
 /// Who needs whom, where the script at this place names another: to start, it the other; to stop, the other it.
-fn need(phase: Phase, place: usize, other: usize) -> (usize, usize)
-    ensures { result ≡ need phase place other }
+fn need(phase: Phase, position: usize, other: usize) -> (usize, usize)
+    ensures { result ≡ need phase position other }
 {
     match phase {
-        Phase::Start => (place, other),
-        Phase::Stop => (other, place),
+        Phase::Start => (position, other),
+        Phase::Stop => (other, position),
     }
 }
 
@@ -31,16 +31,16 @@ fn need(phase: Phase, place: usize, other: usize) -> (usize, usize)
 fn add_names<A: Allocator, B: Allocator>(
     edges: &mut Vec<(usize, usize), A>,
     phase: Phase,
-    place: usize,
+    position: usize,
     table: &Providers<'_, A>,
     names: &[String<B>],
 ) -> Result<(), Memory>
     ensures { OnOk result (edges.new.items ≡
-        edges.old.items ++ needs_by phase place table.now (map string_bytes names.now)) }
+        edges.old.items ++ needs_by phase position table.now (map string_bytes names.now)) }
 {
     for name in names {
-        if let Some(other) = place_at(table, name.as_bytes()) {
-            edges.push(need(phase, place, other))?;
+        if let Some(other) = position_at(table, name.as_bytes()) {
+            edges.push(need(phase, position, other))?;
         }
     }
     Ok(())
@@ -50,22 +50,22 @@ fn add_names<A: Allocator, B: Allocator>(
 fn add_script<A: Allocator>(
     edges: &mut Vec<(usize, usize), A>,
     phase: Phase,
-    place: usize,
+    position: usize,
     script: &Script<A>,
     table: &Providers<'_, A>,
 ) -> Result<(), Memory>
     ensures { OnOk result (edges.new.items ≡
-        edges.old.items ++ needs_by phase place table.now (named phase script.now.header)) }
+        edges.old.items ++ needs_by phase position table.now (named phase script.now.header)) }
 {
     let header = script.header();
     match phase {
         Phase::Start => {
-            add_names(edges, phase, place, table, header.required_start())?;
-            add_names(edges, phase, place, table, header.should_start())
+            add_names(edges, phase, position, table, header.required_start())?;
+            add_names(edges, phase, position, table, header.should_start())
         }
         Phase::Stop => {
-            add_names(edges, phase, place, table, header.required_stop())?;
-            add_names(edges, phase, place, table, header.should_stop())
+            add_names(edges, phase, position, table, header.required_stop())?;
+            add_names(edges, phase, position, table, header.should_stop())
         }
     }
 }
@@ -82,8 +82,8 @@ pub(crate) fn needs<A: Allocator + Copy>(
     ensures range { IfOk result (λ edges. InRange (length scripts.now) edges.items) }
 {
     let mut edges = Vec::new(alloc);
-    for place in 0..scripts.len() {
-        add_script(&mut edges, phase, place, &scripts[place], table)?;
+    for position in 0..scripts.len() {
+        add_script(&mut edges, phase, position, &scripts[position], table)?;
     }
     Ok(edges)
 }

@@ -30,8 +30,8 @@ fn names_at<A: Allocator + Copy>(
         map string_bytes names.items ≡ names_at scripts.now places.now) }
 {
     let mut names = Vec::new(alloc);
-    for place in places {
-        names.push(String::from_str(alloc, scripts[*place].name())?)?;
+    for position in places {
+        names.push(String::from_str(alloc, scripts[*position].name())?)?;
     }
     Ok(names)
 }
@@ -116,8 +116,8 @@ fn planned_all<A: Allocator + Copy>(
     ensures deep { IfErr result (Says (IsAnyDeep starts.now stops.now)) }
 {
     let mut plan = Vec::new(alloc);
-    for place in 0..scripts.len() {
-        let script = with_numbers(alloc, &scripts[place], starts[place], stops[place])?;
+    for position in 0..scripts.len() {
+        let script = with_numbers(alloc, &scripts[position], starts[position], stops[position])?;
         plan.push(script)?;
     }
     Ok(plan)

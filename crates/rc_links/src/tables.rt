@@ -4,7 +4,7 @@ ghost use Rattle.std.specs.Prelude.{◌≡◌, [], string_bytes, Some, find, map
 ghost use Rattle.std.specs.Option.{option_map};
 ghost use Rattle.rc_links.specs.Faults.{IsDouble, IsMissing, Says};
 ghost use Rattle.rc_links.specs.Scripts.{double_from, is_system, missing_from};
-ghost use Rattle.rc_links.specs.Tables.{GivesPlace, GivesPlaces, HasNone, HasPlaces, is_known, is_unknown, known_again, place_in, unknown_of};
+ghost use Rattle.rc_links.specs.Tables.{GivesPlace, GivesPlaces, HasNone, HasPlaces, is_known, is_unknown, known_again, position_in, unknown_of};
 
 use crate::faults::PlanFault;
 use crate::scripts::Script;
@@ -17,8 +17,8 @@ use std::hash::{BuildHasherDefault, FoldHasher};
 pub(crate) type Providers<'a, A> = IndexMap<&'a [u8], usize, BuildHasherDefault<FoldHasher>, A>;
 
 /// The place of a name.
-pub(crate) fn place_at<A: Allocator>(table: &Providers<'_, A>, name: &[u8]) -> Option<usize>
-    ensures { result ≡ place_in table.now name.now }
+pub(crate) fn position_at<A: Allocator>(table: &Providers<'_, A>, name: &[u8]) -> Option<usize>
+    ensures { result ≡ position_in table.now name.now }
 {
     table.get(name).copied()
 }
@@ -27,11 +27,11 @@ pub(crate) fn place_at<A: Allocator>(table: &Providers<'_, A>, name: &[u8]) -> O
 fn set_place<'a, A: Allocator + Clone>(
     table: &mut Providers<'a, A>,
     name: &'a [u8],
-    place: usize,
+    position: usize,
 ) -> Result<(), Memory>
-    ensures { OnOk result (GivesPlace table.old table.new name.now place) }
+    ensures { OnOk result (GivesPlace table.old table.new name.now position) }
 {
-    table.insert(name, place)?;
+    table.insert(name, position)?;
     Ok(())
 }
 
@@ -39,12 +39,12 @@ fn set_place<'a, A: Allocator + Clone>(
 fn add_provided<'a, A: Allocator + Clone>(
     table: &mut Providers<'a, A>,
     script: &'a Script<A>,
-    place: usize,
+    position: usize,
 ) -> Result<(), Memory>
-    ensures { OnOk result (GivesPlaces table.old table.new script.now.header.provides place) }
+    ensures { OnOk result (GivesPlaces table.old table.new script.now.header.provides position) }
 {
     for name in script.header().provides() {
-        set_place(table, name.as_bytes(), place)?;
+        set_place(table, name.as_bytes(), position)?;
     }
     Ok(())
 }
@@ -58,7 +58,7 @@ fn first_known<'s, A: Allocator, B: Allocator>(
         ≡ find (λ name. is_known table.now name) (map string_bytes names.now) }
 {
     for name in names {
-        if place_at(table, name.as_bytes()).is_some() {
+        if position_at(table, name.as_bytes()).is_some() {
             return Some(name.as_str());
         }
     }
@@ -76,7 +76,7 @@ fn doubled<'s, A: Allocator>(
     if let Some(name) = first_known(provided, script.header().provides()) {
         return Some(name);
     }
-    if place_at(names, script.name().as_bytes()).is_some() {
+    if position_at(names, script.name().as_bytes()).is_some() {
         return Some(script.name());
     }
     None
@@ -88,20 +88,20 @@ fn add_script<'a, A: Allocator + Copy>(
     provided: &mut Providers<'a, A>,
     names: &mut Providers<'a, A>,
     script: &'a Script<A>,
-    place: usize,
+    position: usize,
 ) -> Result<(), PlanFault<A>>
     ensures single { OnOk result (known_again provided.old names.old script.now ≡ None) }
     ensures provided { OnOk result
-        (GivesPlaces provided.old provided.new script.now.header.provides place) }
-    ensures named { OnOk result (GivesPlace names.old names.new script.now.name place) }
+        (GivesPlaces provided.old provided.new script.now.header.provides position) }
+    ensures named { OnOk result (GivesPlace names.old names.new script.now.name position) }
     ensures double { IfErr result
         (Says (IsDouble (known_again provided.old names.old script.now))) }
 {
     if let Some(name) = doubled(script, provided, names) {
         return Err(double_told(alloc, name));
     }
-    add_provided(provided, script, place)?;
-    set_place(names, script.name().as_bytes(), place)?;
+    add_provided(provided, script, position)?;
+    set_place(names, script.name().as_bytes(), position)?;
     Ok(())
 }
 
@@ -118,8 +118,8 @@ fn add_scripts<'a, A: Allocator + Copy>(
     ensures places { OnOk result (HasPlaces scripts.now provided.new) }
     ensures double { IfErr result (Says (IsDouble (double_from [] scripts.now))) }
 {
-    for place in 0..scripts.len() {
-        add_script(alloc, provided, names, &scripts[place], place)?;
+    for position in 0..scripts.len() {
+        add_script(alloc, provided, names, &scripts[position], position)?;
     }
     Ok(())
 }
@@ -178,7 +178,7 @@ fn missing_in<'s, A: Allocator, B: Allocator>(
         ≡ find (λ name. is_unknown table.now name) (map string_bytes names.now) }
 {
     for name in names {
-        if !is_system(name.as_bytes()) && place_at(table, name.as_bytes()).is_none() {
+        if !is_system(name.as_bytes()) && position_at(table, name.as_bytes()).is_none() {
             return Some(name.as_str());
         }
     }

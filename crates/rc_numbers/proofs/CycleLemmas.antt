@@ -35,9 +35,9 @@ Earliest-append w [] ys first second = second
 Earliest-append w (x ∷ xs) ys first second = (first.0, Earliest-append w xs ys first.1 second)
 
 -- a ring that begins elsewhere
-turned : (edges : List (ℕ × ℕ)) (before : List ℕ) (w : ℕ) (ys : List ℕ) → IsRing edges (before ++ w ∷ ys) → Walk edges w (ys ++ before) w
-turned edges [] w ys ring = rw append-nil ring
-turned edges (a ∷ xs) w ys ring = let parts = Walk-split edges a xs w ys a ring in Walk-join edges w ys a xs w parts.1 parts.0
+rotated : (edges : List (ℕ × ℕ)) (before : List ℕ) (w : ℕ) (ys : List ℕ) → IsRing edges (before ++ w ∷ ys) → Walk edges w (ys ++ before) w
+rotated edges [] w ys ring = rw append-nil ring
+rotated edges (a ∷ xs) w ys ring = let parts = Walk-split edges a xs w ys a ring in Walk-join edges w ys a xs w parts.1 parts.0
 
 Earliest-parts : (w : ℕ) (before : List ℕ) (x : ℕ) (ys : List ℕ) → ((k : ℕ) → k < length (before ++ x ∷ ys) → w ≤ get_or (before ++ x ∷ ys) k 0) → Earliest w before × Earliest w ys
 Earliest-parts w [] x [] all = (tt, tt)
@@ -53,8 +53,8 @@ parts_at (x ∷ xs) zero within = (refl, refl)
 parts_at (x ∷ xs) (suc k) within = let rest = parts_at xs k (omega arith) in (rest.0, ap (λ t. x ∷ t) rest.1)
 
 -- a ring, turned to its earliest place, is a cycle
-pub IsCycle-turned : (edges : List (ℕ × ℕ)) (ring : List ℕ) (k : ℕ) → k < length ring → ((j : ℕ) → j < length ring → get_or ring k 0 ≤ get_or ring j 0) → IsRing edges ring → IsCycle edges (drop k ring ++ take k ring)
-IsCycle-turned edges ring k within least is =
+pub IsCycle-rotated : (edges : List (ℕ × ℕ)) (ring : List ℕ) (k : ℕ) → k < length ring → ((j : ℕ) → j < length ring → get_or ring k 0 ≤ get_or ring j 0) → IsRing edges ring → IsCycle edges (drop k ring ++ take k ring)
+IsCycle-rotated edges ring k within least is =
     let w = get_or ring k 0 in
     let before = take k ring in
     let after = drop (suc k) ring in
@@ -62,7 +62,7 @@ IsCycle-turned edges ring k within least is =
     let P : List ℕ → Type 0 = λ xs. IsRing edges xs in
     let Q : List ℕ → Type 0 = λ xs. (j : ℕ) → j < length xs → w ≤ get_or xs j 0 in
     let early = Earliest-parts w before w after (subst Q parts.1 least) in
-    rw parts.0 (turned edges before w after (subst P parts.1 is), Earliest-append w after before early.1 early.0)
+    rw parts.0 (rotated edges before w after (subst P parts.1 is), Earliest-append w after before early.1 early.0)
 
 -- where there is a cycle there is no numbering
 Walk-rises : (edges : List (ℕ × ℕ)) (number : ℕ → ℕ) → IsNumbering edges number → (a : ℕ) (xs : List ℕ) (b : ℕ) → Walk edges a xs b → number b < number a

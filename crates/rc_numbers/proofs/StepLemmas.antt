@@ -85,9 +85,9 @@ AreSteps-met edges steps a b within need old = met_by edges steps a b (is_some (
 pub rest_at : (needs : List (ℕ × ℕ)) (first i : ℕ) → get_or (take (length needs - first) (drop first needs)) i (0, 0) ≡ get_or needs (first + i) (0, 0)
 rest_at needs first i = rw (take_rest, get_or-drop first needs i (0, 0)) refl
 
-some_place : (path : List ℕ) (at : ℕ) → 0 < length (path ++ at ∷ [])
-some_place [] at = omega arith
-some_place (x ∷ path) at = omega arith
+some_position : (path : List ℕ) (at : ℕ) → 0 < length (path ++ at ∷ [])
+some_position [] at = omega arith
+some_position (x ∷ path) at = omega arith
 
 -- the first place of a path that grows
 pub first_kept : (path : List ℕ) (at next : ℕ) → get_or ((path ++ at ∷ []) ++ next ∷ []) 0 0 ≡ get_or (path ++ at ∷ []) 0 0
@@ -95,6 +95,6 @@ first_kept [] at next = refl
 first_kept (x ∷ path) at next = refl
 
 -- a path that leads to its own first place
-pub path_closed : (edges : List (ℕ × ℕ)) (path : List ℕ) (at next place : ℕ) → Trail edges path at → Needs edges at next → get_or (path ++ at ∷ []) 0 0 ≡ place → next ≡ place → IsRing edges (path ++ at ∷ [])
-path_closed edges path at next place trail need first back =
-    Trail-ring edges (path ++ at ∷ []) next 0 (Trail-push edges path at next trail need) (some_place path at) (first ∙ sym back)
+pub path_closed : (edges : List (ℕ × ℕ)) (path : List ℕ) (at next position : ℕ) → Trail edges path at → Needs edges at next → get_or (path ++ at ∷ []) 0 0 ≡ position → next ≡ position → IsRing edges (path ++ at ∷ [])
+path_closed edges path at next position trail need first back =
+    Trail-ring edges (path ++ at ∷ []) next 0 (Trail-push edges path at next trail need) (some_position path at) (first ∙ sym back)

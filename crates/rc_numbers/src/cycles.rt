@@ -18,30 +18,30 @@ fn blockers<A: Allocator>(
     ensures value { IfOk result (λ found. AreBlockers edges.now numbers.now found.items) }
 {
     let mut found = vec![in alloc; 0; numbers.len()]?;
-    for (place, need) in edges {
+    for (position, need) in edges {
         if numbers[*need] == 0 {
-            found[*place] = *need;
+            found[*position] = *need;
         }
     }
     Ok(found)
 }
 
 /// The places of a path from this index on.
-fn part<A: Allocator>(alloc: A, path: &[usize], start: usize) -> Result<Vec<usize, A>, Memory>
+fn suffix<A: Allocator>(alloc: A, path: &[usize], start: usize) -> Result<Vec<usize, A>, Memory>
     requires { start ≤ length path.now }
-    ensures { IfOk result (λ part. part.items ≡ drop start path.now) }
+    ensures { IfOk result (λ suffix. suffix.items ≡ drop start path.now) }
 {
     Ok(Vec::from_slice(alloc, &path[start..])?)
 }
 
 /// The places of a ring, from this index on and round.
-fn turned<A: Allocator>(alloc: A, ring: &[usize], start: usize) -> Result<Vec<usize, A>, Memory>
+fn rotated<A: Allocator>(alloc: A, ring: &[usize], start: usize) -> Result<Vec<usize, A>, Memory>
     requires { start ≤ length ring.now }
-    ensures { IfOk result (λ turned. turned.items ≡ drop start ring.now ++ take start ring.now) }
+    ensures { IfOk result (λ rotated. rotated.items ≡ drop start ring.now ++ take start ring.now) }
 {
-    let mut turned = part(alloc, ring, start)?;
-    turned.extend_from_slice(&ring[..start])?;
-    Ok(turned)
+    let mut rotated = suffix(alloc, ring, start)?;
+    rotated.extend_from_slice(&ring[..start])?;
+    Ok(rotated)
 }
 
 /// The places from this one on, each needing the next, until one is needed that was there before: the ring from there.
@@ -67,7 +67,7 @@ fn ring<A: Allocator + Copy>(
         marks[at] = path.len();
         at = next[at];
     }
-    part(alloc, path.as_slice(), marks[at] - 1)
+    suffix(alloc, path.as_slice(), marks[at] - 1)
 }
 
 /// The needs, in the order of the places that are needed.
@@ -83,24 +83,24 @@ fn by_need<A: Allocator>(
 }
 
 /// Notes that a place needs another, where it is met for the first time.
-fn meet<A: Allocator>(
+fn join_paths<A: Allocator>(
     steps: &mut [Option<usize>],
     met: &mut Vec<usize, A>,
-    place: usize,
+    position: usize,
     need: usize,
 ) -> Result<(), Memory>
-    requires { place < length steps.old }
+    requires { position < length steps.old }
     ensures size { length steps.new ≡ length steps.old }
     ensures steps { OnOk result (steps.new ≡
-        (if is_some (get_or steps.old place None) then steps.old
-        else set steps.old place (Some need))) }
+        (if is_some (get_or steps.old position None) then steps.old
+        else set steps.old position (Some need))) }
     ensures met { OnOk result (met.new.items ≡
-        (if is_some (get_or steps.old place None) then met.old.items
-        else met.old.items ++ place ∷ [])) }
+        (if is_some (get_or steps.old position None) then met.old.items
+        else met.old.items ++ position ∷ [])) }
 {
-    if steps[place].is_none() {
-        met.push(place)?;
-        steps[place] = Some(need);
+    if steps[position].is_none() {
+        met.push(position)?;
+        steps[position] = Some(need);
     }
     Ok(())
 }
@@ -110,18 +110,18 @@ fn meet_all<A: Allocator>(
     needs: &[(usize, usize)],
     steps: &mut [Option<usize>],
     met: &mut Vec<usize, A>,
-    place: usize,
+    position: usize,
 ) -> Result<(), Memory>
     requires { InRange (length steps.old) needs.now }
     ensures size { length steps.new ≡ length steps.old }
     ensures steps { OnOk result (AreSteps needs.now steps.old → AreSteps needs.now steps.new) }
 {
-    let first = needs.partition_point(|need: &(usize, usize)| need.1 < place);
+    let first = needs.partition_point(|need: &(usize, usize)| need.1 < position);
     for (other, need) in &needs[first..] {
-        if *need != place {
+        if *need != position {
             break;
         }
-        meet(steps, met, *other, *need)?;
+        join_paths(steps, met, *other, *need)?;
     }
     Ok(())
 }
@@ -132,18 +132,18 @@ fn steps_to<A: Allocator + Copy>(
     alloc: A,
     needs: &[(usize, usize)],
     count: usize,
-    place: usize,
+    position: usize,
 ) -> Result<Vec<Option<usize>, A>, Memory>
     requires range { InRange count needs.now }
-    requires place { place < count }
+    requires position { position < count }
     ensures size { IfOk result (λ steps. length steps.items ≡ count) }
     ensures steps { IfOk result (λ steps. AreSteps needs.now steps.items) }
 {
     let mut steps = vec![in alloc; None; count]?;
     let mut met = Vec::new(alloc);
-    met.push(place)?;
+    met.push(position)?;
     for turn in 0..count {
-        if turn >= met.len() || steps[place].is_some() {
+        if turn >= met.len() || steps[position].is_some() {
             break;
         }
         let next = met[turn];
@@ -156,9 +156,9 @@ fn steps_to<A: Allocator + Copy>(
 fn ring_along<A: Allocator>(
     alloc: A,
     steps: &[Option<usize>],
-    place: usize,
+    position: usize,
 ) -> Result<Option<Vec<usize, A>>, Memory>
-    requires place { place < length steps.now }
+    requires position { position < length steps.now }
     requires range { (a b : ℕ) → get_or steps.now a None ≡ Some b → b < length steps.now }
     ensures ring { IfOk result (λ found. IfSome found
         (λ ring. (edges : List (ℕ × ℕ)) → AreSteps edges steps.now → IsRing edges ring.items)) }
@@ -166,13 +166,13 @@ fn ring_along<A: Allocator>(
         IfSome found (λ ring. AllBelow (length steps.now) ring.items)) }
 {
     let mut ring = Vec::new(alloc);
-    let mut at = place;
+    let mut at = position;
     'steps: for _ in 0..steps.len() {
         ring.push(at)?;
         match steps[at] {
             None => return Ok(None),
             Some(need) => {
-                if need == place {
+                if need == position {
                     return Ok(Some(ring));
                 }
                 at = need;
@@ -187,15 +187,15 @@ fn ring_through<A: Allocator + Copy>(
     alloc: A,
     needs: &[(usize, usize)],
     count: usize,
-    place: usize,
+    position: usize,
 ) -> Result<Option<Vec<usize, A>>, Memory>
     requires range { InRange count needs.now }
-    requires place { place < count }
+    requires position { position < count }
     ensures ring { IfOk result (λ found. IfSome found (λ ring. IsRing needs.now ring.items)) }
     ensures below { IfOk result (λ found. IfSome found (λ ring. AllBelow count ring.items)) }
 {
-    let steps = steps_to(alloc, needs, count, place)?;
-    ring_along(alloc, steps.as_slice(), place)
+    let steps = steps_to(alloc, needs, count, position)?;
+    ring_along(alloc, steps.as_slice(), position)
 }
 
 /// A shortest ring through the earliest place that is on one.
@@ -210,9 +210,9 @@ fn earliest_ring<A: Allocator + Copy>(
         IfSome found (λ ring. AllBelow (length numbers.now) ring.items)) }
 {
     let needs = by_need(alloc, edges)?;
-    for place in 0..numbers.len() {
-        if numbers[place] == 0 {
-            if let Some(ring) = ring_through(alloc, needs.as_slice(), numbers.len(), place)? {
+    for position in 0..numbers.len() {
+        if numbers[position] == 0 {
+            if let Some(ring) = ring_through(alloc, needs.as_slice(), numbers.len(), position)? {
                 return Ok(Some(ring));
             }
         }
@@ -222,7 +222,7 @@ fn earliest_ring<A: Allocator + Copy>(
 
 /// A shortest ring through the earliest place that is on one, or, where none is found, the one to which this place
 /// leads.
-fn told_ring<A: Allocator + Copy>(
+fn named_cycle<A: Allocator + Copy>(
     alloc: A,
     edges: &[(usize, usize)],
     numbers: &[usize],
@@ -249,9 +249,9 @@ fn least_at(places: &[usize]) -> usize
         → get_or places.now result 0 ≤ get_or places.now k 0 }
 {
     let mut best = 0;
-    for place in 0..places.len() {
-        if places[place] < places[best] {
-            best = place;
+    for position in 0..places.len() {
+        if places[position] < places[best] {
+            best = position;
         }
     }
     best
@@ -271,6 +271,6 @@ pub(crate) fn cycle<A: Allocator + Copy>(
     ensures cycle { IfOk result (λ cycle. IsCycle edges.now cycle.items) }
     ensures below { IfOk result (λ cycle. AllBelow (length numbers.now) cycle.items) }
 {
-    let ring = told_ring(alloc, edges, numbers, first)?;
-    turned(alloc, ring.as_slice(), least_at(ring.as_slice()))
+    let ring = named_cycle(alloc, edges, numbers, first)?;
+    rotated(alloc, ring.as_slice(), least_at(ring.as_slice()))
 }

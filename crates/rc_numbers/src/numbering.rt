@@ -10,14 +10,14 @@ use std::alloc::Allocator;
 
 /// The first place without a number.
 fn first_without(numbers: &[usize]) -> Option<usize>
-    ensures some { IfSome result (λ place.
-        (place < length numbers.now) × (get_or numbers.now place 0 ≡ 0)) }
+    ensures some { IfSome result (λ position.
+        (position < length numbers.now) × (get_or numbers.now position 0 ≡ 0)) }
     ensures all { IfNone result
-        ((place : ℕ) → place < length numbers.now → 0 < get_or numbers.now place 0) }
+        ((position : ℕ) → position < length numbers.now → 0 < get_or numbers.now position 0) }
 {
-    for place in 0..numbers.len() {
-        if numbers[place] == 0 {
-            return Some(place);
+    for position in 0..numbers.len() {
+        if numbers[position] == 0 {
+            return Some(position);
         }
     }
     None

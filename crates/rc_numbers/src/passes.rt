@@ -31,8 +31,8 @@ fn heights<A: Allocator>(
     ensures value { IfOk result (λ heights. AreHeights edges.now numbers.now heights.items) }
 {
     let mut heights = vec![in alloc; 1; numbers.len()]?;
-    for (place, need) in edges {
-        heights[*place] = raised(heights[*place], numbers[*need]);
+    for (position, need) in edges {
+        heights[*position] = raised(heights[*position], numbers[*need]);
     }
     Ok(heights)
 }
@@ -54,8 +54,8 @@ fn settled<A: Allocator>(
     ensures { IfOk result (λ next. next.items ≡ settled numbers.now heights.now) }
 {
     let mut next = Vec::new(alloc);
-    for place in 0..numbers.len() {
-        next.push(settled_at(numbers[place], heights[place]))?;
+    for position in 0..numbers.len() {
+        next.push(settled_at(numbers[position], heights[position]))?;
     }
     Ok(next)
 }

@@ -17,11 +17,11 @@ all_scripts text_at (path ∷ paths) scripts read = elim read [
 ]
 
 -- where no file has a fault, or all paths are read whatever comes, all were read
-pub all_read : (goes_on : Bool) (text_at : KnownTexts) (paths : List (List ℕ)) (scripts : List ScriptText) (faults : List FileFault)
-    → ReadsTo goes_on text_at paths scripts faults → (goes_on ≡ true) ⊎ (faults ≡ []) → Reads text_at paths scripts faults
-all_read goes_on text_at paths scripts faults reads whole = elim reads.4 [
+pub all_read : (keeps_going : Bool) (text_at : KnownTexts) (paths : List (List ℕ)) (scripts : List ScriptText) (faults : List FileFault)
+    → ReadsTo keeps_going text_at paths scripts faults → (keeps_going ≡ true) ⊎ (faults ≡ []) → Reads text_at paths scripts faults
+all_read keeps_going text_at paths scripts faults reads whole = elim reads.4 [
   | inl none ↦ subst (λ ps. Reads text_at ps scripts faults) (sym (reads.2 ∙ ap (λ l. reads.0 ++ l) none ∙ append-nil reads.0)) reads.3
-  | inr part ↦ absurd (elim whole [ inl on ↦ both_ways goes_on part.0 on | inr none ↦ part.1 none ])
+  | inr part ↦ absurd (elim whole [ inl on ↦ both_ways keeps_going part.0 on | inr none ↦ part.1 none ])
 ]
 
 -- the first fault is that of the first path that gives no script

@@ -97,13 +97,13 @@ refused_told text_at paths faults more fault old new tells first status = elim t
 ]
 
 -- where nothing is read behind these faults, there are some
-pub over_parts : (goes_on : Bool) (faults : List FileFault) → (not goes_on && has_faults faults) ≡ true
-    → (goes_on ≡ false) × (faults ≡ [] → ⊥)
+pub over_parts : (keeps_going : Bool) (faults : List FileFault) → (not keeps_going && has_faults faults) ≡ true
+    → (keeps_going ≡ false) × (faults ≡ [] → ⊥)
 over_parts true faults is = absurd (true≢false (sym is))
 over_parts false [] is = absurd (true≢false (sym is))
 over_parts false (found ∷ faults) is = (refl, λ none. nil_is_no_cons found faults (sym none))
 
-pub not_over : (goes_on : Bool) (faults : List FileFault) → (not goes_on && has_faults faults) ≡ false → goes_on ≡ false
+pub not_over : (keeps_going : Bool) (faults : List FileFault) → (not keeps_going && has_faults faults) ≡ false → keeps_going ≡ false
     → faults ≡ []
 not_over true faults is plain = absurd (true≢false plain)
 not_over false [] is plain = refl

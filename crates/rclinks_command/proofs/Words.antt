@@ -4,7 +4,7 @@ pub use Rattle.std.proofs.Common.{◌∷◌, length, drop, get_or, arith, ◌⊎
 pub use Rattle.std.proofs.Common.{subst, ◌∙◌, append_assoc, map, string_bytes, take, not, Option, codes, ◌||◌, cond}
 pub use Rattle.std.proofs.Common.{flat_map, option_map, IfSome, rules, Result, Ok, Err, IfErr, IfOk}
 pub use Rattle.clap.specs.Words.{is_simple_and_free, found_of, rows_of}
-pub use Rattle.rclinks_command.specs.Command.{command_line, HasRefused, Line, goes_on}
+pub use Rattle.rclinks_command.specs.Command.{command_line, HasRefused, Line, keeps_going}
 pub use Rattle.rclinks_command.specs.Command.{HasNoPlan, asked_by}
 pub use Rattle.std.specs.List.{list_any, AllByRecursion, filter}
 pub use Rattle.std.specs.Str.{bytes_eq}

@@ -3,19 +3,19 @@ use Rattle.rclinks_command.proofs.Words.{◌≡◌, ℕ, Bool, true, false, ◌+
 use Rattle.rclinks_command.proofs.SettledLemmas.{changed_by-append, settles}
 
 -- what one more of a list gives by two steps, and those after it
-pub mapped-next : {X Y Z : Type 0} (f : Y → Z) (h : X → Y) (all : List X) (place : ℕ) (x : X) (z : Z) (old new whole : List Z) → place < length all → x ≡ get_or all place x
-    → z ≡ f (h x) → new ≡ old ++ z ∷ [] → old ++ map f (map h (drop place all)) ≡ whole → new ++ map f (map h (drop (place + 1) all)) ≡ whole
-mapped-next f h all place x z old new whole within at is added so_far =
-    let rest = map f (map h (drop (place + 1) all)) in
+pub mapped-next : {X Y Z : Type 0} (f : Y → Z) (h : X → Y) (all : List X) (position : ℕ) (x : X) (z : Z) (old new whole : List Z) → position < length all → x ≡ get_or all position x
+    → z ≡ f (h x) → new ≡ old ++ z ∷ [] → old ++ map f (map h (drop position all)) ≡ whole → new ++ map f (map h (drop (position + 1) all)) ≡ whole
+mapped-next f h all position x z old new whole within at is added so_far =
+    let rest = map f (map h (drop (position + 1) all)) in
     ap (λ ys. ys ++ rest) added ∙ append_assoc old (z ∷ []) rest ∙ ap (λ y. old ++ y ∷ rest) is
-    ∙ ap (λ xs. old ++ map f (map h xs)) (sym (cut_at all place x within at).0) ∙ so_far
+    ∙ ap (λ xs. old ++ map f (map h xs)) (sym (cut_at all position x within at).0) ∙ so_far
 
 -- one more change was made
-pub changed-next : (old before after : KnownFolders) (dir : List ℕ) (changes : List ChangeText) (place : ℕ) (c : ChangeText) → place < length changes → c ≡ get_or changes place c
-    → Becomes old before (changed_by dir (take place changes)) → Becomes before after (changed_in dir c) → Becomes old after (changed_by dir (take (place + 1) changes))
-changed-next old before after dir changes place c within at so_far one = λ other level es is.
-    one other level (changed_by dir (take place changes) other level es) (so_far other level es is)
-    ∙ ap Some (sym (ap (λ cs. changed_by dir cs other level es) (cut_at changes place c within at).1 ∙ changed_by-append dir (take place changes) (c ∷ []) other level es))
+pub changed-next : (old before after : KnownFolders) (dir : List ℕ) (changes : List ChangeText) (position : ℕ) (c : ChangeText) → position < length changes → c ≡ get_or changes position c
+    → Becomes old before (changed_by dir (take position changes)) → Becomes before after (changed_in dir c) → Becomes old after (changed_by dir (take (position + 1) changes))
+changed-next old before after dir changes position c within at so_far one = λ other level es is.
+    one other level (changed_by dir (take position changes) other level es) (so_far other level es is)
+    ∙ ap Some (sym (ap (λ cs. changed_by dir cs other level es) (cut_at changes position c within at).1 ∙ changed_by-append dir (take position changes) (c ∷ []) other level es))
 
 -- what is so of a plan in folders has what follows from it
 pub in_folders : (keeps : Bool) (known : KnownFolders) (dir : List ℕ) (plan : List PlannedText) (P Q : List PlannedText → Type 0)

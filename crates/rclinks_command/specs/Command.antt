@@ -59,8 +59,8 @@ pub record Line : Type 0 where
   pub files : List (List ℕ)
 
 -- a fault doesn't end the run
-abbrev pub goes_on : Line → Bool
-goes_on line = line.skips || line.all
+abbrev pub keeps_going : Line → Bool
+keeps_going line = line.skips || line.all
 
 abbrev pub command_line : App
 command_line = line_of (codes "rclinks") (written OPTIONS.now)

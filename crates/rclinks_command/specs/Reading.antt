@@ -27,5 +27,5 @@ has_faults (found ∷ faults) = true
 
 -- the same of all paths; or, where it doesn't go on behind a fault, of those up to the first one
 abbrev pub ReadsTo : Bool → KnownTexts → List (List ℕ) → List ScriptText → List FileFault → Type 0
-ReadsTo goes_on text_at paths scripts faults = (read later : List (List ℕ)) × (paths ≡ read ++ later)
-    × Reads text_at read scripts faults × ((later ≡ []) ⊎ (goes_on ≡ false) × (faults ≢ []))
+ReadsTo keeps_going text_at paths scripts faults = (read later : List (List ℕ)) × (paths ≡ read ++ later)
+    × Reads text_at read scripts faults × ((later ≡ []) ⊎ (keeps_going ≡ false) × (faults ≢ []))

@@ -30,13 +30,13 @@ is_at_fault before fault.Memory s = false
 
 -- the script at the place is one that the fault is about
 abbrev pub IsFaultAt : {A : Type 0} → List ScriptText → PlanFault A → ℕ → Type 0
-IsFaultAt scripts found place = (s : ScriptText) × (drop place scripts ≡ s ∷ drop (place + 1) scripts)
-    × (is_at_fault (take place scripts) found s ≡ true)
+IsFaultAt scripts found position = (s : ScriptText) × (drop position scripts ≡ s ∷ drop (position + 1) scripts)
+    × (is_at_fault (take position scripts) found s ≡ true)
 
 -- scripts have no plan, and one that their fault is about is left out
 abbrev pub LeavesOne : List ScriptText → List ScriptText → Type 0
-LeavesOne scripts rest = (found : PlanFault Global) × (place : ℕ) × IsRefused scripts found × IsFaultAt scripts found place
-    × (rest ≡ take place scripts ++ drop (place + 1) scripts)
+LeavesOne scripts rest = (found : PlanFault Global) × (position : ℕ) × IsRefused scripts found × IsFaultAt scripts found position
+    × (rest ≡ take position scripts ++ drop (position + 1) scripts)
 
 -- some scripts are left out so, one after the other, until these are the rest; the later ones stand first
 abbrev pub LeavesOut : List (List ScriptText) → List ScriptText → List ScriptText → Type 0

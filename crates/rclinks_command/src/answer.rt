@@ -6,7 +6,7 @@ ghost use Rattle.program_io.specs.Writing.{AppendsPrefix};
 ghost use Rattle.rc_links.specs.AllLast.{with_all};
 ghost use Rattle.rc_links.specs.Plans.{IsPlan};
 ghost use Rattle.rclinks_command.specs.Answers.{Did, DidPart, IsRefusal, IsWork, makes, prints};
-ghost use Rattle.rclinks_command.specs.Command.{HasNoPlan, IsRefusedBy, IsRefusedFor, PlanOf, ScriptsOf, TakenBy, goes_on};
+ghost use Rattle.rclinks_command.specs.Command.{HasNoPlan, IsRefusedBy, IsRefusedFor, PlanOf, ScriptsOf, TakenBy, keeps_going};
 ghost use Rattle.rclinks_command.specs.Folders.{Becomes, changed_by};
 ghost use Rattle.rclinks_command.specs.Refusals.{refusal_status};
 ghost use Rattle.rclinks_command.specs.Reports.{ReportsRefused, TellsPlan};
@@ -92,7 +92,7 @@ fn plan_of<'w, T: Texts>(
     ensures refused { IfErr result (λ refusal. refusal_status refusal ≡ REFUSED
         → IsRefusedFor (T.text_at texts.now) line.now.skips line.now.last
         (map (λ file. file.now) line.now.files.now)) }
-    ensures told { goes_on (line_said line.now) ≡ false
+    ensures told { keeps_going (line_said line.now) ≡ false
         → IfErr result (λ refusal. refusal_status refusal ≡ REFUSED
         → ReportsRefused (T.text_at texts.now) line.now.last
         (map (λ file. file.now) line.now.files.now) reading.old.report.items
@@ -102,7 +102,7 @@ fn plan_of<'w, T: Texts>(
     add_last(alloc, line.last, reading)?;
     let first = faults.first();
     if let Some(fault) = first
-        && !line.goes_on()
+        && !line.keeps_going()
     {
         return Err(refusal_for(fault));
     }
@@ -161,7 +161,7 @@ pub(crate) fn answer_of<'w, T: Texts, F: LinkFolders>(
     ensures refused { IfErr result.work (λ refusal. refusal_status refusal ≡ REFUSED
         → IsRefusedBy (T.text_at texts.now) (line_said line.now) (F.scripts_in folders.now)
         (F.held folders.now)) }
-    ensures told { goes_on (line_said line.now) ≡ false
+    ensures told { keeps_going (line_said line.now) ≡ false
         → IfErr result.work (λ refusal. refusal_status refusal ≡ REFUSED
         → ReportsRefused (T.text_at texts.now) line.now.last
         (map (λ file. file.now) line.now.files.now) [] result.report.items

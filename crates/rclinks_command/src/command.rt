@@ -6,7 +6,7 @@ ghost use Rattle.command_words.specs.CommandLines.{asks_version};
 ghost use Rattle.command_words.specs.Faults.{ReportsUsage};
 ghost use Rattle.command_words.specs.VersionLine.{PrintsVersion};
 ghost use Rattle.rclinks_command.specs.Said.{line_said};
-ghost use Rattle.rclinks_command.specs.Command.{goes_on, Does, DoesPart, IsRefusedBy, Says, TellsRefused, asked_by, line_with, rclinks_read_of, writes_by};
+ghost use Rattle.rclinks_command.specs.Command.{keeps_going, Does, DoesPart, IsRefusedBy, Says, TellsRefused, asked_by, line_with, rclinks_read_of, writes_by};
 
 use crate::answer::{answer_of, write};
 use crate::facilities::files_with;
@@ -135,7 +135,7 @@ pub fn run_words<'w, T: Texts, F: LinkFolders, W: Write, E: Write>(
     // Without --all and --skip warnings are told, then a file's path or the plan's first fault, unless a name is taken.
     ensures told { asks_version (map string_bytes words.now) ≡ false → result ≡ REFUSED
         → (rclinks_read_of (map string_bytes words.now) ≡ None)
-        ⊎ Says (map string_bytes words.now) (λ line. goes_on line ≡ false
+        ⊎ Says (map string_bytes words.now) (λ line. keeps_going line ≡ false
         → TellsRefused (T.text_at texts.now) (line_with (map string_bytes facilities.now) line)
         (F.scripts_in folders.old) (F.held folders.old) (E.contents err.old) (E.contents err.new)) }
     ensures quiet { result ≡ REFUSED → (out.new ≡ out.old) × (folders.new ≡ folders.old) }

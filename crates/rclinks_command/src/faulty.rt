@@ -57,13 +57,13 @@ fn is_at_fault(before: &[Script], fault: &PlanFault, script: &Script) -> bool
 /// The place of a script that a fault of the plan is about: the first, and of a cycle the last. None where there is no
 /// such script.
 pub(crate) fn place_of(scripts: &[Script], fault: &PlanFault) -> Option<usize>
-    ensures within { IfSome result (λ place. place < length scripts.now) }
+    ensures within { IfSome result (λ position. position < length scripts.now) }
     ensures fault { IfSome result (IsFaultAt scripts.now fault.now) }
 {
     let mut found = None;
-    for place in 0..scripts.len() {
-        if is_at_fault(&scripts[..place], fault, &scripts[place]) {
-            found = Some(place);
+    for position in 0..scripts.len() {
+        if is_at_fault(&scripts[..position], fault, &scripts[position]) {
+            found = Some(position);
             if !matches!(fault, PlanFault::Cycle(_)) {
                 return found;
             }

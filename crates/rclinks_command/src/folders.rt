@@ -58,8 +58,8 @@ pub trait LinkCalls {
         ensures { Asks (asked self.old) (asked self.new) (MakeFolder path.now ∷ []) };
 
     /// Makes a symbolic link at a path, which leads to a place.
-    fn make_link(&mut self, place: &str, path: &str) -> io::Result<()>
-        ensures { Asks (asked self.old) (asked self.new) (MakeLink place.now path.now ∷ []) };
+    fn make_link(&mut self, position: &str, path: &str) -> io::Result<()>
+        ensures { Asks (asked self.old) (asked self.new) (MakeLink position.now path.now ∷ []) };
 }
 
 /// The operating system, which tells nothing of what was asked.
@@ -76,8 +76,8 @@ impl<R: Files> LinkCalls for R {
         fs::create_dir(self, path)
     }
 
-    fn make_link(&mut self, place: &str, path: &str) -> io::Result<()> {
-        symlink(self, place, path)
+    fn make_link(&mut self, position: &str, path: &str) -> io::Result<()> {
+        symlink(self, position, path)
     }
 }
 
@@ -130,8 +130,8 @@ impl<R: Files + Alloc + Clone + Drop, C: LinkCalls> LinkFolders for SystemFolder
             LinkAction::Remove => self.calls.remove(path.as_str()),
             LinkAction::Make => {
                 make_missing(&mut self.calls, folder.as_str())?;
-                let place = text_of(change.entry().leads())?;
-                self.calls.make_link(place, path.as_str())
+                let position = text_of(change.entry().leads())?;
+                self.calls.make_link(position, path.as_str())
             }
         }
     }
@@ -219,7 +219,7 @@ fn add_entry<R: Files + Alloc + Drop, A: Allocator>(
 /// Where a symbolic link leads; to no byte where that is not UTF-8, since no link of a plan leads there.
 fn place_of<R: Files + Alloc>(rt: &R, alloc: Global, path: Path<'_>) -> io::Result<Vec<u8>> {
     match read_link(rt, path) {
-        Ok(place) => Ok(Vec::from_slice(alloc, place.as_path().as_str().as_bytes())?),
+        Ok(position) => Ok(Vec::from_slice(alloc, position.as_path().as_str().as_bytes())?),
         Err(error) if error.kind() == ErrorKind::InvalidFilename => Ok(Vec::new(alloc)),
         Err(error) => Err(error),
     }

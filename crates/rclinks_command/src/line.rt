@@ -1,7 +1,7 @@
 //! What the words of a command line ask for.
 
 ghost use Rattle.std.specs.Prelude.{◌≡◌};
-ghost use Rattle.rclinks_command.specs.Command.{goes_on};
+ghost use Rattle.rclinks_command.specs.Command.{keeps_going};
 ghost use Rattle.rclinks_command.specs.Said.{line_said};
 
 /// What words ask for.
@@ -29,8 +29,8 @@ pub(crate) struct Line<'f, 'w> {
 
 impl<'f, 'w> Line<'f, 'w> {
     /// A fault doesn't end the run.
-    pub(crate) fn goes_on(&self) -> bool
-        ensures { result ≡ goes_on (line_said self.now) }
+    pub(crate) fn keeps_going(&self) -> bool
+        ensures { result ≡ keeps_going (line_said self.now) }
     {
         self.skips || self.all
     }

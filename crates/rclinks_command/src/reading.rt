@@ -1,7 +1,7 @@
 //! All files of a command line, read; what can't be read is told.
 
 ghost use Rattle.std.specs.Prelude.{◌≡◌, ◌&&◌, [], false, not, map, IfOk, OnOk};
-ghost use Rattle.rclinks_command.specs.Command.{goes_on};
+ghost use Rattle.rclinks_command.specs.Command.{keeps_going};
 ghost use Rattle.rclinks_command.specs.Reading.{ReadsOne, ReadsTo, has_faults};
 ghost use Rattle.rclinks_command.specs.Reports.{TellsFiles, TellsOne};
 ghost use Rattle.rclinks_command.specs.Said.{line_said};
@@ -30,8 +30,8 @@ pub(crate) struct Reading<'w> {
 
 impl<'w> Reading<'w> {
     /// The path of the script at a place.
-    pub(crate) fn path_at(&self, place: usize) -> &'w str {
-        self.paths.as_slice().get(place).copied().unwrap_or("")
+    pub(crate) fn path_at(&self, position: usize) -> &'w str {
+        self.paths.as_slice().get(position).copied().unwrap_or("")
     }
 }
 
@@ -63,10 +63,10 @@ fn read_one<'w, T: Texts>(
 }
 
 /// The files behind a fault are not read.
-fn is_over(goes_on: bool, faults: &[FileFault]) -> bool
-    ensures { result ≡ (not goes_on && has_faults faults.now) }
+fn is_over(keeps_going: bool, faults: &[FileFault]) -> bool
+    ensures { result ≡ (not keeps_going && has_faults faults.now) }
 {
-    !goes_on && matches!(faults, [_, ..])
+    !keeps_going && matches!(faults, [_, ..])
 }
 
 /// Reads the scripts of a line's files, in order, and gives the faults of the files that give none, which are told.
@@ -78,18 +78,18 @@ pub(crate) fn read_files<'w, T: Texts>(
     reading: &mut Reading<'w>,
 ) -> Result<Vec<FileFault>, Memory>
     requires { reading.old.scripts.items ≡ [] }
-    ensures read { IfOk result (λ faults. ReadsTo (goes_on (line_said line.now))
+    ensures read { IfOk result (λ faults. ReadsTo (keeps_going (line_said line.now))
         (T.text_at texts.now) (map (λ file. file.now) line.now.files.now)
         reading.new.scripts.items faults.items) }
-    ensures told { IfOk result (λ faults. goes_on (line_said line.now) ≡ false
+    ensures told { IfOk result (λ faults. keeps_going (line_said line.now) ≡ false
         → TellsFiles (T.text_at texts.now) (map (λ file. file.now) line.now.files.now)
         faults.items reading.old.report.items reading.new.report.items) }
 {
     let mut faults = Vec::new(alloc);
-    let goes_on = line.goes_on();
+    let keeps_going = line.keeps_going();
     for path in line.files {
         read_one(texts, alloc, path, line.skips, reading, &mut faults)?;
-        let over = is_over(goes_on, faults.as_slice());
+        let over = is_over(keeps_going, faults.as_slice());
         if over {
             return Ok(faults);
         }

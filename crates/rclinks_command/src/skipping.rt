@@ -39,7 +39,7 @@ pub(crate) fn add_first(
 {
     let why = format!(in alloc; "{fault}")?;
     let more = match place_of(reading.scripts.as_slice(), fault) {
-        Some(place) => who_lines(alloc, fault, reading, place, true),
+        Some(position) => who_lines(alloc, fault, reading, position, true),
         None => last_lines(alloc, fault),
     };
     add_why(&mut reading.report, "", why.as_str(), more.as_slice())
@@ -50,7 +50,7 @@ pub(crate) fn add_first(
 fn tell_fault(
     alloc: Global,
     fault: &PlanFault,
-    place: usize,
+    position: usize,
     skips: bool,
     reading: &mut Reading,
 ) -> Result<(), Memory>
@@ -62,8 +62,8 @@ fn tell_fault(
     {
         return Ok(());
     }
-    let more = who_lines(alloc, fault, reading, place, false);
-    let path = reading.path_at(place);
+    let more = who_lines(alloc, fault, reading, position, false);
+    let path = reading.path_at(position);
     let _ = writeln!(reading.report, "rclinks: {fault}");
     add_lines(&mut reading.report, "", more.as_slice())?;
     if skips {
@@ -73,15 +73,15 @@ fn tell_fault(
 }
 
 /// Takes a script out, with its path, and keeps it among those that are left out.
-fn leave_out(reading: &mut Reading, place: usize) -> Result<(), Memory>
-    requires { place < length reading.old.scripts.items }
+fn leave_out(reading: &mut Reading, position: usize) -> Result<(), Memory>
+    requires { position < length reading.old.scripts.items }
     ensures { reading.new.scripts.items
-        ≡ take place reading.old.scripts.items ++ drop (place + 1) reading.old.scripts.items }
+        ≡ take position reading.old.scripts.items ++ drop (position + 1) reading.old.scripts.items }
 {
-    if place < reading.paths.len() {
-        reading.paths.remove(place);
+    if position < reading.paths.len() {
+        reading.paths.remove(position);
     }
-    let script = reading.scripts.remove(place);
+    let script = reading.scripts.remove(position);
     reading.outs.push(script)?;
     Ok(())
 }
@@ -99,13 +99,13 @@ pub(crate) fn plan_rest(alloc: Global, skips: bool, reading: &mut Reading) -> Re
             Ok(plan) => return Ok(plan),
             Err(fault) => fault,
         };
-        let Some(place) = place_of(reading.scripts.as_slice(), &fault) else {
+        let Some(position) = place_of(reading.scripts.as_slice(), &fault) else {
             let _ = writeln!(reading.report, "rclinks: {fault}");
             let more = last_lines(alloc, &fault);
             add_lines(&mut reading.report, "", more.as_slice())?;
             return Err(refusal_of(&fault));
         };
-        tell_fault(alloc, &fault, place, skips, reading)?;
-        leave_out(reading, place)?;
+        tell_fault(alloc, &fault, position, skips, reading)?;
+        leave_out(reading, position)?;
     }
 }

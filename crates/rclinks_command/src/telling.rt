@@ -16,18 +16,18 @@ pub(crate) fn who_lines(
     alloc: Global,
     fault: &PlanFault,
     reading: &Reading,
-    place: usize,
+    position: usize,
     first: bool,
 ) -> Vec<u8> {
     let mut more = Vec::new(alloc);
-    let Some(script) = reading.scripts.as_slice().get(place) else {
+    let Some(script) = reading.scripts.as_slice().get(position) else {
         return more;
     };
     match fault {
-        PlanFault::DoubleProvide(name) => tell_double(name.as_str(), reading, place, &mut more),
+        PlanFault::DoubleProvide(name) => tell_double(name.as_str(), reading, position, &mut more),
         PlanFault::Missing(name) => {
             let only = if first { Some(name.as_str()) } else { None };
-            tell_missing(script, reading.path_at(place), only, reading, &mut more);
+            tell_missing(script, reading.path_at(position), only, reading, &mut more);
         }
         PlanFault::Cycle(names) => {
             tell_cycle(names.as_slice(), reading.scripts.as_slice(), &mut more);
@@ -47,14 +47,14 @@ pub(crate) fn last_lines(alloc: Global, fault: &PlanFault) -> Vec<u8> {
 }
 
 /// Tells the two files of a name that both provide, or have.
-fn tell_double(name: &str, reading: &Reading, place: usize, more: &mut Vec<u8>) {
+fn tell_double(name: &str, reading: &Reading, position: usize, more: &mut Vec<u8>) {
     let scripts = reading.scripts.as_slice();
-    let path = reading.path_at(place);
-    let is_named = match scripts.get(place) {
+    let path = reading.path_at(position);
+    let is_named = match scripts.get(position) {
         Some(script) => has_name(name, script.header().provides()),
         None => false,
     };
-    for earlier in 0..place.min(scripts.len()) {
+    for earlier in 0..position.min(scripts.len()) {
         let other = &scripts[earlier];
         let first = reading.path_at(earlier);
         if is_named && has_name(name, other.header().provides()) {
@@ -183,11 +183,11 @@ fn first_provided<'s>(
 pub(crate) fn odd_names(alloc: Global, reading: &Reading) -> Vec<u8> {
     let mut odd = Vec::new(alloc);
     let scripts = reading.scripts.as_slice();
-    for place in 0..scripts.len() {
-        let header = scripts[place].header();
-        let path = reading.path_at(place);
-        tell_system(header.required_start(), path, scripts, place, &mut odd);
-        tell_system(header.should_start(), path, scripts, place, &mut odd);
+    for position in 0..scripts.len() {
+        let header = scripts[position].header();
+        let path = reading.path_at(position);
+        tell_system(header.required_start(), path, scripts, position, &mut odd);
+        tell_system(header.should_start(), path, scripts, position, &mut odd);
         if !is_provided(scripts, "$all") {
             tell_all(header, path, &mut odd);
         }
@@ -213,13 +213,19 @@ fn tell_all(header: &Header, path: &str, odd: &mut Vec<u8>) {
 }
 
 /// Tells those of a script's names that are the system's, and that no script provides and none before it names.
-fn tell_system(names: &[String], path: &str, scripts: &[Script], place: usize, odd: &mut Vec<u8>) {
+fn tell_system(
+    names: &[String],
+    path: &str,
+    scripts: &[Script],
+    position: usize,
+    odd: &mut Vec<u8>,
+) {
     for name in names {
         let name = name.as_str();
         if name.starts_with('$')
             && name != "$all"
             && !is_provided(scripts, name)
-            && !is_named(&scripts[..place.min(scripts.len())], name)
+            && !is_named(&scripts[..position.min(scripts.len())], name)
         {
             let _ = writeln!(
                 odd,

@@ -18,7 +18,7 @@ use std::io::Write;
 #[derive(Drop)]
 pub(crate) struct Failure {
     /// Its place among the changes.
-    place: usize,
+    position: usize,
     error: io::Error,
 }
 
@@ -77,7 +77,7 @@ pub(crate) fn failure_lines(
     failure: &Failure,
 ) -> Vec<u8> {
     let mut told = Vec::new(alloc);
-    let (done, rest) = changes.split_at(failure.place.min(changes.len()));
+    let (done, rest) = changes.split_at(failure.position.min(changes.len()));
     let reason = Reason(&failure.error);
     let _ = writeln!(told, "rclinks: {dir}: a change failed: {reason}");
     tell_changes(alloc, "done", done, &mut told);
@@ -97,9 +97,9 @@ pub(crate) fn make_changes<F: LinkFolders>(
     ensures part { (count : ℕ) × Becomes (F.held folders.old) (F.held folders.new)
         (changed_by dir.now (take count changes.now)) }
 {
-    for place in 0..changes.len() {
-        if let Err(error) = folders.change(alloc, dir, &changes[place]) {
-            return Err(Failure { place, error });
+    for position in 0..changes.len() {
+        if let Err(error) = folders.change(alloc, dir, &changes[position]) {
+            return Err(Failure { position, error });
         }
     }
     Ok(())

@@ -104,12 +104,12 @@ module _ {X : Type 0} (f : X → List ℕ) where
 
 -- a text more
 more_made : (texts : List (List ℕ)) (text : List ℕ) → AreMade texts → IsOfGeneration text (length texts + 1) → AreMade (texts ++ text ∷ [])
-more_made texts text are own place less = split (cases_lt place (length texts))
+more_made texts text are own position less = split (cases_lt position (length texts))
   where
-    split : (place < length texts) ⊎ (length texts ≤ place) → IsOfGeneration (get_or (texts ++ text ∷ []) place []) (place + 1)
-    split (inl before) = subst (λ t. IsOfGeneration t (place + 1)) (sym (get_or_append_left texts (text ∷ []) [] place before)) (are place before)
+    split : (position < length texts) ⊎ (length texts ≤ position) → IsOfGeneration (get_or (texts ++ text ∷ []) position []) (position + 1)
+    split (inl before) = subst (λ t. IsOfGeneration t (position + 1)) (sym (get_or_append_left texts (text ∷ []) [] position before)) (are position before)
     split (inr behind) =
-        let last : length texts ≡ place = omega (arith, behind, less, length-append texts (text ∷ [])) in
+        let last : length texts ≡ position = omega (arith, behind, less, length-append texts (text ∷ [])) in
         subst (λ k. IsOfGeneration (get_or (texts ++ text ∷ []) k []) (k + 1)) last
         (subst (λ t. IsOfGeneration t (length texts + 1)) (sym (get_or-append_seam texts text [] [])) own)
 

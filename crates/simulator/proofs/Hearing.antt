@@ -36,10 +36,10 @@ none_said goal past side sound follows rests = at
     waits : (may : Bool) → may ≡ (is_rest (first (due goal past)) && may)
     waits may = ap (λ b. b && may) (sym rests)
 
-    hand : (next holds : Bool) (given other : Objection) → is_none (cond next (cond holds None (Some given)) (Some other)) ≡ (next && holds && is_rest (first (due goal past)) && true)
-    hand true true given other = sym (ap (λ b. b && true) rests)
-    hand true false given other = refl
-    hand false holds given other = refl
+    hand_core : (next holds : Bool) (given other : Objection) → is_none (cond next (cond holds None (Some given)) (Some other)) ≡ (next && holds && is_rest (first (due goal past)) && true)
+    hand_core true true given other = sym (ap (λ b. b && true) rests)
+    hand_core true false given other = refl
+    hand_core false holds given other = refl
 
     whole : (next : Bool) (other : Objection) → is_none (cond next None (Some other)) ≡ (next && is_rest (first (due goal past)) && true)
     whole true other = sym (ap (λ b. b && true) rests)
@@ -48,8 +48,8 @@ none_said goal past side sound follows rests = at
     handing : (how : HandOver) → is_none (objection_now goal past side (event.Handed how)) ≡ may_be_scripted goal (event.Handed how) past
     handing handed.Failed = sym (ap (λ b. b && true) rests)
     handing handed.Whole = whole (has_next (made_in past)) objection.Worn
-    handing (handed.Cut bytes) = hand (has_next (made_in past)) (nat_lt bytes (length (text_at goal past))) (objection.NotCut bytes) objection.Worn
-    handing (handed.Older generation) = hand (has_next (made_in past)) (is_made generation (made_in past)) (objection.NoneOlder generation) objection.Worn
+    handing (handed.Cut bytes) = hand_core (has_next (made_in past)) (nat_lt bytes (length (text_at goal past))) (objection.NotCut bytes) objection.Worn
+    handing (handed.Older generation) = hand_core (has_next (made_in past)) (is_made generation (made_in past)) (objection.NoneOlder generation) objection.Worn
 
     at : (happening : Event) → is_in_range happening ≡ true → is_none (objection_now goal past side happening) ≡ may_be_scripted goal happening past
     at (event.Handed how) ranged = handing how

@@ -10,7 +10,7 @@ IsOfGeneration text generation = (state : SavedState) × IsTextOf text state × 
 
 -- the first text is that of a state of generation 1, and each other that of a generation more than the one before
 abbrev pub AreMade : List (List ℕ) → Type 0
-AreMade texts = (place : ℕ) → place < length texts → IsOfGeneration (get_or texts place []) (place + 1)
+AreMade texts = (position : ℕ) → position < length texts → IsOfGeneration (get_or texts position []) (position + 1)
 
 -- these are the texts that were made up to a core of the generation
 pub record HasTexts (texts : List (List ℕ)) (generation : ℕ) : Type 0 where

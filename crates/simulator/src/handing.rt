@@ -144,7 +144,7 @@ fn go_on_as<A: Allocator>(core: &mut Core<A>, taken: Option<Core<A>>)
 
 /// Hands the core over as the line says, and keeps the text that it made. Where the text comes back whole, the core is
 /// the one that was taken over; where it does not, it is refused, and the core is the old one.
-pub(crate) fn hand<A: Allocator + Copy>(
+pub(crate) fn hand_core<A: Allocator + Copy>(
     alloc: A,
     core: &mut Core<A>,
     made: &mut Vec<Vec<u8, A>, A>,

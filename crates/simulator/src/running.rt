@@ -10,7 +10,7 @@ ghost use Rattle.simulator.specs.Moments.{Breaks, ComesToRest, FromMoment, FromO
 ghost use Rattle.simulator.specs.Said.{may_be_scripted, objection_in};
 ghost use Rattle.simulator.specs.Simulation.{Done, Ends, IsTooLong, scenario};
 
-use crate::handing::{hand, objection_handed};
+use crate::handing::{hand_core, objection_handed};
 use crate::objections::Objection;
 use crate::simulated::SimulatedSystem;
 use crate::writers::WritesOn;
@@ -233,7 +233,7 @@ fn pass_on<A: Allocator + Copy>(
         Happening::Clock(reading) => core.clock(*reading),
         Happening::Nudge => core.begin_round(),
         Happening::Got(request) => core.receive(*request),
-        Happening::Handed(how) => hand(alloc, core, made, *how)?,
+        Happening::Handed(how) => hand_core(alloc, core, made, *how)?,
         _ => {}
     }
     Ok(())

@@ -188,19 +188,19 @@ fn links_of(own: Global, words: &str) -> Result<Links, AllocError> {
 /// The folder of a runlevel in a directory holds just those of these entries that are its own, in order.
 fn holds(own: Global, links: &Links, words: &str, dir: &'static str, level: Level) -> Option<bool> {
     let found = links.entries(own, dir, level).ok()?;
-    let mut place = 0usize;
+    let mut position = 0usize;
     for word in words.split_ascii_whitespace() {
         for (name, its_dir, its_level, link, leads) in ENTRIES {
             if *name == word && *its_dir == dir && *its_level == level {
-                let entry = found.get(place)?;
+                let entry = found.get(position)?;
                 if entry.name() != link.as_bytes() || entry.leads() != leads.as_bytes() {
                     return Some(false);
                 }
-                place = place.wrapping_add(1);
+                position = position.wrapping_add(1);
             }
         }
     }
-    Some(place == found.len())
+    Some(position == found.len())
 }
 
 fn hold(own: Global, links: &Links, words: &str) -> bool {

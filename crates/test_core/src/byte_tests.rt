@@ -191,8 +191,8 @@ fn has(bytes: Bytes, byte: u8) -> bool {
 /// What is answered where the byte stands at this line and column. A row's columns are counted with its ends.
 fn wanted(part: &Part, line: usize, column: usize, byte: u8) -> Option<StateFault> {
     for rows in part.2 {
-        for (own, first, last, bytes, want) in *rows {
-            if *own == line && *first <= column && column <= *last && has(*bytes, byte) {
+        for (global, first, last, bytes, want) in *rows {
+            if *global == line && *first <= column && column <= *last && has(*bytes, byte) {
                 return *want;
             }
         }
@@ -201,11 +201,11 @@ fn wanted(part: &Part, line: usize, column: usize, byte: u8) -> Option<StateFaul
 }
 
 /// Whether the changed text is answered so, and where it is taken over, handed over again as it stands.
-fn is_right(own: Global, part: &Part, text: &[u8], want: Option<StateFault>) -> bool {
+fn is_right(global: Global, part: &Part, text: &[u8], want: Option<StateFault>) -> bool {
     let front = text.len().saturating_sub(part.1.len());
-    match taken(own, own, text, 1) {
+    match taken(global, global, text, 1) {
         Ok(mut core) => match str::from_utf8(text.get(front..).unwrap_or(b"")) {
-            Ok(lines) => want.is_none() && handed(own, &mut core, 2, lines).is_some(),
+            Ok(lines) => want.is_none() && handed(global, &mut core, 2, lines).is_some(),
             Err(_) => false,
         },
         Err(why) => want == Some(why),
@@ -215,20 +215,20 @@ fn is_right(own: Global, part: &Part, text: &[u8], want: Option<StateFault>) -> 
 /// The first byte, in place of its own at this place, line and column, with which a text is answered otherwise than the
 /// rows say.
 fn wrong_byte(
-    own: Global,
+    global: Global,
     part: &Part,
     text: &[u8],
     at: usize,
     (line, column): (usize, usize),
 ) -> Option<u8> {
-    let mut changed = Vec::from_slice(own, text).ok()?;
+    let mut changed = Vec::from_slice(global, text).ok()?;
     let old = *text.get(at)?;
     for byte in 0..=255u8 {
-        if let Some(place) = changed.get_mut(at) {
-            *place = byte;
+        if let Some(position) = changed.get_mut(at) {
+            *position = byte;
         }
         let want = wanted(part, line, column, byte);
-        if byte != old && !is_right(own, part, &changed, want) {
+        if byte != old && !is_right(global, part, &changed, want) {
             return Some(byte);
         }
     }
@@ -238,7 +238,7 @@ fn wrong_byte(
 /// The first place of these lines at which the text is answered otherwise than the rows say, and the byte there, or
 /// none where the front before it isn't cut.
 fn wrong_in(
-    own: Global,
+    global: Global,
     part: &Part,
     text: &[u8],
     first: usize,
@@ -247,10 +247,10 @@ fn wrong_in(
     let (mut line, mut column) = (1usize, 0usize);
     for (at, byte) in text.iter().enumerate() {
         if first <= line && line <= last {
-            if !is_answered(own, text.get(..at)?, 1, Some(Cut)) {
+            if !is_answered(global, text.get(..at)?, 1, Some(Cut)) {
                 return Some((at, None));
             }
-            let wrong = wrong_byte(own, part, text, at, (line, column));
+            let wrong = wrong_byte(global, part, text, at, (line, column));
             if wrong.is_some() {
                 return Some((at, wrong));
             }
@@ -264,10 +264,10 @@ fn wrong_in(
     None
 }
 
-fn are_right<R: Abort>(rt: &R, own: Global, first: usize, last: usize) -> Result<(), Fail> {
+fn are_right<R: Abort>(rt: &R, global: Global, first: usize, last: usize) -> Result<(), Fail> {
     for part in PARTS {
-        let text = text_of(own, part.0, 1, part.1)?;
-        let wrong = wrong_in(own, part, text.as_bytes(), first, last);
+        let text = text_of(global, part.0, 1, part.1)?;
+        let wrong = wrong_in(global, part, text.as_bytes(), first, last);
         assert!(rt; wrong.is_none(), "{wrong:?}: {text}");
     }
     Ok(())

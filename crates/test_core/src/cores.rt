@@ -27,12 +27,12 @@ impl<'c, A: Allocator> CoreRun<'c, A> {
 }
 
 pub(crate) fn core_over<A: Allocator + Copy>(
-    own: Global,
+    global: Global,
     alloc: A,
     table: Table<A>,
     level: Option<Level>,
 ) -> Result<Box<Core<A>>, Memory> {
-    Ok(boxed(own, Core::new(alloc, table, level)?)?)
+    Ok(boxed(global, Core::new(alloc, table, level)?)?)
 }
 
 fn why_text(why: WhyAwaited) -> &'static str {
@@ -108,12 +108,12 @@ fn made_by(happening: &HappeningIn<Global>) -> Option<Step> {
     })
 }
 
-fn step_of(own: Global, line: &str) -> Option<Step> {
+fn step_of(global: Global, line: &str) -> Option<Step> {
     match line {
         "reread" => Some(Step::Reread),
         "reexec" => Some(Step::Reexec),
         "idle" => Some(Step::Idle),
-        _ => made_by(&happening_of(own, line)?),
+        _ => made_by(&happening_of(global, line)?),
     }
 }
 
@@ -138,19 +138,19 @@ fn told<A: Allocator>(
 
 /// How the core answers the call of a line; none where it is no call.
 fn answered<A: Allocator + Copy>(
-    own: Global,
+    global: Global,
     alloc: A,
     core: &mut Core<A>,
     line: &str,
 ) -> Option<Result<(), Refusal>> {
     match line.strip_prefix("use ") {
         Some(inittab) => Some(core.adopt(table_of(alloc, inittab)?)),
-        None => told(core, &happening_of(own, line)?),
+        None => told(core, &happening_of(global, line)?),
     }
 }
 
 impl<A: Allocator + Copy> Subject<A> for CoreRun<'_, A> {
-    fn goes(&mut self, own: Global, alloc: A, line: &str, want: Result<(), Refusal>) -> bool {
+    fn goes(&mut self, global: Global, alloc: A, line: &str, want: Result<(), Refusal>) -> bool {
         if let Some(is_so) = gives(self.core, line) {
             return is_so;
         }
@@ -158,7 +158,7 @@ impl<A: Allocator + Copy> Subject<A> for CoreRun<'_, A> {
             self.stays = None;
             return true;
         }
-        if let Some(step) = step_of(own, line) {
+        if let Some(step) = step_of(global, line) {
             let does_stay = matches!(step, Step::Reread | Step::Reexec);
             self.stays = Some(if does_stay { step } else { Step::Idle });
             return self.core.next() == step;
@@ -167,7 +167,7 @@ impl<A: Allocator + Copy> Subject<A> for CoreRun<'_, A> {
             return false;
         }
         self.stays = Some(Step::Idle);
-        answered(own, alloc, self.core, line) == Some(want)
+        answered(global, alloc, self.core, line) == Some(want)
     }
 
     fn rests(&mut self) -> bool {
@@ -180,21 +180,21 @@ impl<A: Allocator + Copy> Subject<A> for CoreRun<'_, A> {
 
 /// What comes of the lines of a run over a core is as they say.
 pub(crate) fn does<A: Allocator + Copy>(
-    own: Global,
+    global: Global,
     alloc: A,
     core: &mut Core<A>,
     run: &str,
 ) -> bool {
-    goes_on(own, alloc, &mut CoreRun::of(core), run)
+    goes_on(global, alloc, &mut CoreRun::of(core), run)
 }
 
 /// The core of an init that begins with an inittab, behind `>` for a level.
-pub(crate) fn opened(own: Global, inittab: &str) -> Option<Box<Core>> {
+pub(crate) fn opened(global: Global, inittab: &str) -> Option<Box<Core>> {
     let (inittab, level) = inittab.split_once(" > ").unwrap_or((inittab, ""));
     core_over(
-        own,
-        own,
-        table_of(own, inittab)?,
+        global,
+        global,
+        table_of(global, inittab)?,
         read_level(level.as_bytes()),
     )
     .ok()

@@ -56,7 +56,7 @@ const SCARCE: &[Scarce] = &[
 /// Two heaps: of the first so much is left, the other has ample room.
 #[derive(Drop)]
 struct Heaps<'a> {
-    own: Global,
+    global: Global,
     scarce: &'a LocalHeap,
     ample: &'a LocalHeap,
     room: usize,
@@ -68,12 +68,12 @@ fn is_refused<'a, S: Subject<&'a LocalHeap>>(
     subject: &mut S,
     row: &Scarce,
 ) -> Option<bool> {
-    let Heaps { own, ample, .. } = *heaps;
-    let _fillers = fill(own, heaps.scarce, heaps.room)?;
-    if !subject.goes(own, ample, row.call, Err(Refusal::Memory)) {
+    let Heaps { global, ample, .. } = *heaps;
+    let _fillers = fill(global, heaps.scarce, heaps.room)?;
+    if !subject.goes(global, ample, row.call, Err(Refusal::Memory)) {
         return Some(false);
     }
-    goes_on(own, ample, subject, row.refused).then_some(true)
+    goes_on(global, ample, subject, row.refused).then_some(true)
 }
 
 /// Whether an adoption is refused while so much is left; with all of it, it is made.
@@ -82,32 +82,32 @@ fn tried_on<'a, S: Subject<&'a LocalHeap>>(
     subject: &mut S,
     row: &Scarce,
 ) -> Option<bool> {
-    let Heaps { own, ample, .. } = *heaps;
-    if !goes_on(own, ample, subject, row.begun) {
+    let Heaps { global, ample, .. } = *heaps;
+    if !goes_on(global, ample, subject, row.begun) {
         return None;
     }
     let refused = is_refused(heaps, subject, row)?;
-    if refused && !subject.goes(own, ample, row.call, Ok(())) {
+    if refused && !subject.goes(global, ample, row.call, Ok(())) {
         return None;
     }
-    goes_on(own, ample, subject, row.made).then_some(refused)
+    goes_on(global, ample, subject, row.made).then_some(refused)
 }
 
 fn tried_in(heaps: &Heaps, row: &Scarce) -> Option<bool> {
     let table = table_of(heaps.ample, row.inittab)?;
     if row.what == "core" {
-        let mut core = core_over(heaps.own, heaps.scarce, table, None).ok()?;
+        let mut core = core_over(heaps.global, heaps.scarce, table, None).ok()?;
         return tried_on(heaps, &mut CoreRun::of(&mut core), row);
     }
-    let mut records = records_over(heaps.own, heaps.scarce, table).ok()?;
+    let mut records = records_over(heaps.global, heaps.scarce, table).ok()?;
     tried_on(heaps, &mut *records, row)
 }
 
-fn tried(own: Global, row: &Scarce, room: usize) -> Option<bool> {
-    let scarce = LocalHeap::new(own, 16_384).ok()?;
-    let ample = LocalHeap::new(own, 16_384).ok()?;
+fn tried(global: Global, row: &Scarce, room: usize) -> Option<bool> {
+    let scarce = LocalHeap::new(global, 16_384).ok()?;
+    let ample = LocalHeap::new(global, 16_384).ok()?;
     let heaps = Heaps {
-        own,
+        global,
         scarce: &scarce,
         ample: &ample,
         room,
@@ -153,12 +153,12 @@ fn is_rebuilt(heap: &LocalHeap, ample: &LocalHeap) -> Option<bool> {
 }
 
 /// Whether it has room on a heap, over a table that lies in another one.
-fn has_room(own: Global, heap: &LocalHeap, what: &str) -> Option<bool> {
-    let ample = LocalHeap::new(own, 16_384).ok()?;
+fn has_room(global: Global, heap: &LocalHeap, what: &str) -> Option<bool> {
+    let ample = LocalHeap::new(global, 16_384).ok()?;
     let table = table_of(&ample, "a:S:respawn:x\nb:S:off:y")?;
     match what {
-        "core" => Some(core_over(own, heap, table, None).is_ok()),
-        "records" => Some(records_over(own, heap, table).is_ok()),
+        "core" => Some(core_over(global, heap, table, None).is_ok()),
+        "records" => Some(records_over(global, heap, table).is_ok()),
         _ => is_rebuilt(heap, &ample),
     }
 }
@@ -166,8 +166,8 @@ fn has_room(own: Global, heap: &LocalHeap, what: &str) -> Option<bool> {
 #[test]
 fn what_has_no_room_is_not_made(rt: HostRuntime) {
     let rows = &[("core", 3), ("records", 3), ("rebuilt", 3)];
-    let wrong = first_unrefused(rt.alloc(), rows, |own, heap, what| {
-        has_room(own, heap, what).map(Outcome::of)
+    let wrong = first_unrefused(rt.alloc(), rows, |global, heap, what| {
+        has_room(global, heap, what).map(Outcome::of)
     });
     assert!(rt; wrong.is_none(), "{wrong:?}");
 }

@@ -10,28 +10,28 @@ use test_support::boxed;
 
 /// The core that a text of this generation gives, over the given memory.
 pub(crate) fn taken<A: Allocator + Copy>(
-    own: Global,
+    global: Global,
     alloc: A,
     text: &[u8],
     generation: u64,
 ) -> Result<Box<Core<A>>, StateFault> {
-    Ok(boxed(own, take_over(alloc, text, generation)?)?)
+    Ok(boxed(global, take_over(alloc, text, generation)?)?)
 }
 
 /// What a text of this generation says, over the given memory.
 pub(crate) fn parts_of<A: Allocator + Copy>(
-    own: Global,
+    global: Global,
     alloc: A,
     text: &[u8],
     generation: u64,
 ) -> Result<Box<Parts<A>>, StateFault> {
-    Ok(boxed(own, read_state(alloc, text, generation)?)?)
+    Ok(boxed(global, read_state(alloc, text, generation)?)?)
 }
 
 /// Whether a text of this generation is refused so, or taken over: what isn't read is not taken over, for the same
 /// reason.
 pub(crate) fn is_answered(
-    own: Global,
+    global: Global,
     text: &[u8],
     generation: u64,
     want: Option<StateFault>,
@@ -41,13 +41,13 @@ pub(crate) fn is_answered(
     } else {
         want
     };
-    parts_of(own, own, text, generation).err() == told
-        && taken(own, own, text, generation).err() == want
+    parts_of(global, global, text, generation).err() == told
+        && taken(global, global, text, generation).err() == want
 }
 
 /// Whether a text is of a generation and has these lines, each record of version 1 with the mark of no status behind it.
-pub(crate) fn is_text(own: Global, text: &[u8], generation: u64, lines: &str) -> Option<bool> {
-    let front = text_of(own, 2, generation, "").ok()?;
+pub(crate) fn is_text(global: Global, text: &[u8], generation: u64, lines: &str) -> Option<bool> {
+    let front = text_of(global, 2, generation, "").ok()?;
     let mut news = str::from_utf8(text)
         .ok()?
         .strip_prefix(front.as_str())?
@@ -64,11 +64,11 @@ pub(crate) fn is_text(own: Global, text: &[u8], generation: u64, lines: &str) ->
 
 /// The text that the core hands over, where it is of this generation and has these lines.
 pub(crate) fn handed<A: Allocator>(
-    own: Global,
+    global: Global,
     core: &mut Core<A>,
     generation: u64,
     lines: &str,
 ) -> Option<Vec<u8>> {
-    let text = hand_over(own, core).ok()?;
-    is_text(own, &text, generation, lines)?.then_some(text)
+    let text = hand_over(global, core).ok()?;
+    is_text(global, &text, generation, lines)?.then_some(text)
 }

@@ -86,31 +86,37 @@ const RUNS: &[Run] = &[
 ];
 
 /// The run is as it says. Its generation is the first behind an inittab, and else the second.
-fn is_made(own: Global, run: &Run) -> Option<bool> {
+fn is_made(global: Global, run: &Run) -> Option<bool> {
     let (version, from, before, lines, after) = *run;
     let generation = if version == 0 { 1 } else { 2 };
     let mut core = if version == 0 {
-        opened(own, from)?
+        opened(global, from)?
     } else {
-        taken(own, own, text_of(own, version, 1, from).ok()?.as_bytes(), 1).ok()?
+        taken(
+            global,
+            global,
+            text_of(global, version, 1, from).ok()?.as_bytes(),
+            1,
+        )
+        .ok()?
     };
-    if !before.is_empty() && !does(own, own, &mut core, before) {
+    if !before.is_empty() && !does(global, global, &mut core, before) {
         return None;
     }
-    let text = handed(own, &mut core, generation, lines)?;
-    let mut next = taken(own, own, &text, generation).ok()?;
+    let text = handed(global, &mut core, generation, lines)?;
+    let mut next = taken(global, global, &text, generation).ok()?;
     Some(
         generation_of(&text) == Some(generation)
-            && does(own, own, &mut core, after)
-            && does(own, own, &mut next, after),
+            && does(global, global, &mut core, after)
+            && does(global, global, &mut next, after),
     )
 }
 
 /// Whether the core of the last generation that there is hands nothing over, and stays as it is.
-fn is_worn(own: Global) -> Option<bool> {
-    let text = text_of(own, 2, u64::MAX, SETTLED).ok()?;
-    let mut core = taken(own, own, text.as_bytes(), u64::MAX).ok()?;
-    let is_refused = hand_over(own, &mut core) == Err(StateFault::Worn);
+fn is_worn(global: Global) -> Option<bool> {
+    let text = text_of(global, 2, u64::MAX, SETTLED).ok()?;
+    let mut core = taken(global, global, text.as_bytes(), u64::MAX).ok()?;
+    let is_refused = hand_over(global, &mut core) == Err(StateFault::Worn);
     Some(is_refused && core.generation() == u64::MAX)
 }
 

@@ -186,11 +186,11 @@ const CHANGES: &[(u64, &str, &str)] = &[
 ];
 
 /// The text with these lines in place of its own, from a first to a last.
-fn replaced(own: Global, whole: &str, places: (usize, usize), lines: &str) -> Option<String> {
-    let mut text = String::new(own);
+fn replaced(global: Global, whole: &str, places: (usize, usize), lines: &str) -> Option<String> {
+    let mut text = String::new(global);
     for (at, line) in whole.lines().enumerate() {
         if at + 1 == places.0 && !lines.is_empty() {
-            writeln!(text, "{}", lines.replace(own, "/", "\n").ok()?).ok()?;
+            writeln!(text, "{}", lines.replace(global, "/", "\n").ok()?).ok()?;
         }
         if at + 1 < places.0 || places.1 < at + 1 {
             writeln!(text, "{line}").ok()?;
@@ -211,14 +211,14 @@ fn answer_of(word: &str) -> Option<StateFault> {
 }
 
 /// What is answered to a text where the lines of a row stand in it is what the row says.
-fn is_row(own: Global, whole: &str, row: &str) -> Option<bool> {
+fn is_row(global: Global, whole: &str, row: &str) -> Option<bool> {
     let (head, items) = row.split_once(':')?;
     let (places, word) = head.split_once(' ')?;
     let (first, last) = places.split_once('-').unwrap_or((places, places));
     let places = (first.parse::<usize>().ok()?, last.parse::<usize>().ok()?);
     for lines in items.split('|') {
-        let text = replaced(own, whole, places, lines)?;
-        if !is_answered(own, text.as_bytes(), 1, answer_of(word)) {
+        let text = replaced(global, whole, places, lines)?;
+        if !is_answered(global, text.as_bytes(), 1, answer_of(word)) {
             return Some(false);
         }
     }
@@ -277,8 +277,8 @@ const ASKED: &[(u64, &str, u64, Option<StateFault>)] = &[
 ];
 
 /// A text of a version, of so many entries, and none of their records.
-fn large(own: Global, version: u64, entries: u64) -> Result<String, Fail> {
-    let mut text = text_of(own, version, 1, "")?;
+fn large(global: Global, version: u64, entries: u64) -> Result<String, Fail> {
+    let mut text = text_of(global, version, 1, "")?;
     let (fields, _) = OPENING.split_once("table").ok_or("no table")?;
     writeln!(text, "{fields}table {entries}")?;
     for number in 0..entries {

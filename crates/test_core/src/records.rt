@@ -21,7 +21,7 @@ pub(crate) struct RecordsRun<A: Allocator> {
 }
 
 pub(crate) fn records_over<A: Allocator + Copy>(
-    own: Global,
+    global: Global,
     alloc: A,
     table: Table<A>,
 ) -> Result<Box<RecordsRun<A>>, Memory> {
@@ -31,7 +31,7 @@ pub(crate) fn records_over<A: Allocator + Copy>(
         table,
         time: CLOCK_LIMIT,
     };
-    Ok(boxed(own, run)?)
+    Ok(boxed(global, run)?)
 }
 
 fn order_code(order: Option<OrderKind>) -> u8 {
@@ -177,7 +177,7 @@ fn adopted<A: Allocator + Copy>(run: &mut RecordsRun<A>, table: Table<A>) -> Res
 
 /// How the records answer the call of a line; none where it is no call.
 fn answered<A: Allocator + Copy>(
-    own: Global,
+    global: Global,
     alloc: A,
     run: &mut RecordsRun<A>,
     line: &str,
@@ -194,16 +194,16 @@ fn answered<A: Allocator + Copy>(
             let level = read_level(rest.as_bytes())?;
             run.slots.judge(&run.table, Stage::Run(level));
         }
-        _ => return told(run, &happening_of(own, line)?),
+        _ => return told(run, &happening_of(global, line)?),
     }
     Some(Ok(()))
 }
 
 impl<A: Allocator + Copy> Subject<A> for RecordsRun<A> {
-    fn goes(&mut self, own: Global, alloc: A, line: &str, want: Result<(), Refusal>) -> bool {
+    fn goes(&mut self, global: Global, alloc: A, line: &str, want: Result<(), Refusal>) -> bool {
         match gives(&self.slots, line) {
             Some(is_so) => is_so,
-            None => answered(own, alloc, self, line) == Some(want),
+            None => answered(global, alloc, self, line) == Some(want),
         }
     }
 
@@ -213,7 +213,7 @@ impl<A: Allocator + Copy> Subject<A> for RecordsRun<A> {
 }
 
 /// What comes of the lines of a run over the records of an inittab is as they say.
-pub(crate) fn is_records_run(own: Global, inittab: &str, run: &str) -> Option<bool> {
-    let mut subject = records_over(own, own, table_of(own, inittab)?).ok()?;
-    Some(goes_on::<Global, RecordsRun<Global>>(own, own, &mut subject, run))
+pub(crate) fn is_records_run(global: Global, inittab: &str, run: &str) -> Option<bool> {
+    let mut subject = records_over(global, global, table_of(global, inittab)?).ok()?;
+    Some(goes_on::<Global, RecordsRun<Global>>(global, global, &mut subject, run))
 }

@@ -30,12 +30,12 @@ const QUIET: &str = "clock 700\nstage 3 5\ngoal 3 5\nflags 11\nwish 10 4:8 101 0
 const NEXT: &[u8] = b"r:3:respawn:b\nn:3:once:c\nm:3:off:\nl:3:wait:d\n";
 
 /// The core hands its state over. Where there is no room for it, it hands the same over with room.
-fn hand_over_on(own: Global, heap: &LocalHeap, text: &[u8]) -> Option<Outcome> {
-    let mut core = taken(own, own, text, 1).ok()?;
+fn hand_over_on(global: Global, heap: &LocalHeap, text: &[u8]) -> Option<Outcome> {
+    let mut core = taken(global, global, text, 1).ok()?;
     match hand_over(heap, &mut core) {
-        Ok(text) => is_text(own, &text, 2, BUSY)?.then_some(Done),
+        Ok(text) => is_text(global, &text, 2, BUSY)?.then_some(Done),
         Err(StateFault::Memory) => {
-            let _same = handed(own, &mut core, 2, BUSY)?;
+            let _same = handed(global, &mut core, 2, BUSY)?;
             Some(Refused)
         }
         Err(_) => None,
@@ -43,18 +43,18 @@ fn hand_over_on(own: Global, heap: &LocalHeap, text: &[u8]) -> Option<Outcome> {
 }
 
 fn rebuilt<'h>(
-    own: Global,
+    global: Global,
     heap: &'h LocalHeap,
     parts: Box<Parts<&'h LocalHeap>>,
 ) -> Result<Box<Core<&'h LocalHeap>>, Rebuild> {
-    Ok(boxed(own, Core::rebuilt(heap, Box::into_inner(parts))?)?)
+    Ok(boxed(global, Core::rebuilt(heap, Box::into_inner(parts))?)?)
 }
 
-fn rebuild_on(own: Global, heap: &LocalHeap, text: &[u8]) -> Option<Outcome> {
-    let Ok(parts) = parts_of(own, heap, text, 1) else {
+fn rebuild_on(global: Global, heap: &LocalHeap, text: &[u8]) -> Option<Outcome> {
+    let Ok(parts) = parts_of(global, heap, text, 1) else {
         return Some(Unmade);
     };
-    match rebuilt(own, heap, parts) {
+    match rebuilt(global, heap, parts) {
         Ok(_) => Some(Done),
         Err(Rebuild::Memory) => Some(Refused),
         Err(_) => None,
@@ -62,8 +62,8 @@ fn rebuild_on(own: Global, heap: &LocalHeap, text: &[u8]) -> Option<Outcome> {
 }
 
 /// A core adopts a table. Where it has no room for it, it hands over what it would have before.
-fn adopt_on(own: Global, heap: &LocalHeap, text: &[u8]) -> Option<Outcome> {
-    let Ok(mut core) = taken(own, heap, text, 1) else {
+fn adopt_on(global: Global, heap: &LocalHeap, text: &[u8]) -> Option<Outcome> {
+    let Ok(mut core) = taken(global, heap, text, 1) else {
         return Some(Unmade);
     };
     let Ok((table, _)) = inittab_text::read(heap, NEXT) else {
@@ -72,19 +72,19 @@ fn adopt_on(own: Global, heap: &LocalHeap, text: &[u8]) -> Option<Outcome> {
     match core.adopt(table) {
         Ok(()) => (core.table().len() == 4 && core.slots().len() == 5).then_some(Done),
         Err(Refusal::Memory) => {
-            let _same = handed(own, &mut core, 2, QUIET)?;
+            let _same = handed(global, &mut core, 2, QUIET)?;
             Some(Refused)
         }
         Err(_) => None,
     }
 }
 
-fn outcome_on(own: Global, heap: &LocalHeap, what: &str, text: &[u8]) -> Option<Outcome> {
+fn outcome_on(global: Global, heap: &LocalHeap, what: &str, text: &[u8]) -> Option<Outcome> {
     match what {
-        "hand over" => hand_over_on(own, heap, text),
-        "rebuild" => rebuild_on(own, heap, text),
-        "adopt" => adopt_on(own, heap, text),
-        _ => match taken(own, heap, text, 1) {
+        "hand over" => hand_over_on(global, heap, text),
+        "rebuild" => rebuild_on(global, heap, text),
+        "adopt" => adopt_on(global, heap, text),
+        _ => match taken(global, heap, text, 1) {
             Ok(_) => Some(Done),
             Err(StateFault::Memory) => Some(Refused),
             Err(_) => None,
@@ -103,8 +103,8 @@ const REFUSED: &[(&str, &[(&str, usize)])] = &[
 fn what_has_no_room_is_refused(rt: HostRuntime) -> Result<(), Fail> {
     for (lines, calls) in REFUSED {
         let text = text_of(rt.alloc(), 2, 1, lines)?;
-        let wrong = first_unrefused(rt.alloc(), calls, |own, heap, what| {
-            outcome_on(own, heap, what, text.as_bytes())
+        let wrong = first_unrefused(rt.alloc(), calls, |global, heap, what| {
+            outcome_on(global, heap, what, text.as_bytes())
         });
         assert!(rt; wrong.is_none(), "{wrong:?}");
     }

@@ -227,16 +227,16 @@ const RECORDS: &[&str] = &[
      nudge / ask a look / reaped a 700 killed / termed none / shows b --------, c --------",
 ];
 
-fn is_core_run(own: Global, inittab: &str, run: &str) -> Option<bool> {
-    Some(does(own, own, &mut *opened(own, inittab)?, run))
+fn is_core_run(global: Global, inittab: &str, run: &str) -> Option<bool> {
+    Some(does(global, global, &mut *opened(global, inittab)?, run))
 }
 
 #[test]
 fn runs_of_cores(rt: HostRuntime) {
     let mut inittab = "";
     for row in CORES {
-        let (own, run) = row.split_once(" | ").unwrap_or((inittab, *row));
-        inittab = own;
+        let (global, run) = row.split_once(" | ").unwrap_or((inittab, *row));
+        inittab = global;
         assert!(rt;
             is_core_run(rt.alloc(), inittab, run) == Some(true),
             "{row}"
@@ -248,8 +248,8 @@ fn runs_of_cores(rt: HostRuntime) {
 fn runs_of_records(rt: HostRuntime) {
     let mut inittab = "";
     for row in RECORDS {
-        let (own, run) = row.split_once(" | ").unwrap_or((inittab, *row));
-        inittab = own;
+        let (global, run) = row.split_once(" | ").unwrap_or((inittab, *row));
+        inittab = global;
         assert!(rt;
             is_records_run(rt.alloc(), inittab, run) == Some(true),
             "{row}"

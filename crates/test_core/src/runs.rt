@@ -10,7 +10,7 @@ use std::alloc::{Allocator, Global};
 /// What a run is about: a core, or records by themselves, in memory of an allocator.
 pub(crate) trait Subject<A: Allocator + Copy> {
     /// Whether a line goes as it says: what it reads is so, it is done next, or its call is answered so.
-    fn goes(&mut self, own: Global, alloc: A, line: &str, want: Result<(), Refusal>) -> bool;
+    fn goes(&mut self, global: Global, alloc: A, line: &str, want: Result<(), Refusal>) -> bool;
 
     /// Nothing is done next but what the run says.
     fn rests(&mut self) -> bool;
@@ -33,14 +33,14 @@ fn want_of(refusal: &str) -> Result<(), Refusal> {
 
 /// The run goes as its lines say.
 pub(crate) fn goes_on<A: Allocator + Copy, S: Subject<A>>(
-    own: Global,
+    global: Global,
     alloc: A,
     subject: &mut S,
     run: &str,
 ) -> bool {
     for said in run.split(" / ") {
         let (line, refusal) = said.split_once(" ! ").unwrap_or((said, ""));
-        if !subject.goes(own, alloc, line, want_of(refusal)) {
+        if !subject.goes(global, alloc, line, want_of(refusal)) {
             return false;
         }
     }

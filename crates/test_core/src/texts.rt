@@ -27,10 +27,10 @@ pub(crate) const SETTLED: &str = "clock 7\nstage 3 5\ngoal 3 5\nflags 11\nwish 0
 
 /// The text of a version and a generation, with these lines.
 pub(crate) fn text_of(
-    own: Global,
+    global: Global,
     version: u64,
     generation: u64,
     lines: &str,
 ) -> Result<String, AllocError> {
-    format!(in own; "initd-state {version}\ngeneration {generation}\n{lines}")
+    format!(in global; "initd-state {version}\ngeneration {generation}\n{lines}")
 }

@@ -188,11 +188,11 @@ const SAID: &[Said] = &[
     (2, BUSY, BUSY_HEADS, BUSY_TABLE, BUSY_RECORDS),
 ];
 
-fn is_said(own: Global, said: &Said) -> Result<bool, StateFault> {
+fn is_said(global: Global, said: &Said) -> Result<bool, StateFault> {
     let (version, lines, fields, table, kept) = said;
-    let text = text_of(own, *version, fields.generation, lines)?;
-    let parts = parts_of(own, own, text.as_bytes(), fields.generation)?;
-    let written = inittab_text::write(own, &parts.table)?;
+    let text = text_of(global, *version, fields.generation, lines)?;
+    let parts = parts_of(global, global, text.as_bytes(), fields.generation)?;
+    let written = inittab_text::write(global, &parts.table)?;
     Ok(are_parts(&parts, fields, kept) && written.as_slice() == table.as_bytes())
 }
 
@@ -205,14 +205,14 @@ const WRITTEN: &[Written] = &[
     ("", "", BUSY_HEADS, BUSY_ALONE),
 ];
 
-fn is_written(own: Global, written: &Written) -> Option<bool> {
+fn is_written(global: Global, written: &Written) -> Option<bool> {
     let (inittab, steps, fields, lines) = written;
-    let mut core = opened(own, inittab)?;
-    let is_done = steps.is_empty() || does(own, own, &mut core, steps);
+    let mut core = opened(global, inittab)?;
+    let is_done = steps.is_empty() || does(global, global, &mut core, steps);
     let is_at = (core.time(), core.stage(), core.goal())
         == (fields.time, fields.stage, fields.goal);
-    let text = write_state(own, fields, core.table(), core.slots().as_slice()).ok()?;
-    Some(is_done && is_at != steps.is_empty() && is_text(own, &text, fields.generation, lines)?)
+    let text = write_state(global, fields, core.table(), core.slots().as_slice()).ok()?;
+    Some(is_done && is_at != steps.is_empty() && is_text(global, &text, fields.generation, lines)?)
 }
 
 #[test]

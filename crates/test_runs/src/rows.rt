@@ -19,12 +19,12 @@ pub(crate) struct Row {
 /// The text of a field, in which `\n` is a newline.
 fn text_of(alloc: Global, field: &[u8]) -> Result<Vec<u8>, AllocError> {
     let mut text = Vec::new(alloc);
-    for (place, part) in field.split(|byte| *byte == b'\\').enumerate() {
+    for (position, part) in field.split(|byte| *byte == b'\\').enumerate() {
         let line = match part {
-            [b'n', line @ ..] if place > 0 => line,
+            [b'n', line @ ..] if position > 0 => line,
             _ => part,
         };
-        if place > 0 {
+        if position > 0 {
             text.push(b'\n')?;
         }
         text.extend_from_slice(line)?;

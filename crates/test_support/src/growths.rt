@@ -35,13 +35,16 @@ impl Outcome {
 
 /// On how many heaps a call is refused, each with less more room than the least growth takes, before the first on which
 /// it is done; None where anything else comes of it.
-pub fn refusals<F: Fn(Global, &LocalHeap) -> Option<Outcome>>(own: Global, call: F) -> Option<usize>
+pub fn refusals<F: Fn(Global, &LocalHeap) -> Option<Outcome>>(
+    global: Global,
+    call: F,
+) -> Option<usize>
     requires { F.IsAlwaysCallable call }
 {
     let mut refused = 0usize;
     for step in 0..8192usize {
-        let heap = LocalHeap::new(own, 16 * step).ok()?;
-        match call(own, &heap)? {
+        let heap = LocalHeap::new(global, 16 * step).ok()?;
+        match call(global, &heap)? {
             Outcome::Unmade => {}
             Outcome::Refused => refused = refused.wrapping_add(1),
             Outcome::Done => return Some(refused),
@@ -52,14 +55,14 @@ pub fn refusals<F: Fn(Global, &LocalHeap) -> Option<Outcome>>(own: Global, call:
 
 /// The first row whose call isn't refused on more heaps than the row says, and done on the next.
 pub fn first_unrefused<'r, F: Fn(Global, &LocalHeap, &str) -> Option<Outcome>>(
-    own: Global,
+    global: Global,
     rows: &[(&'r str, usize)],
     call: F,
 ) -> Option<&'r str>
     requires { F.IsAlwaysCallable call }
 {
     for (what, least) in rows {
-        if refusals(own, |own, heap| call(own, heap, what)) <= Some(*least) {
+        if refusals(global, |global, heap| call(global, heap, what)) <= Some(*least) {
             return Some(what);
         }
     }

@@ -7,12 +7,12 @@ const SIZES: &[usize] = &[4096, 256, 64, 16];
 
 /// Takes what a heap has left but the given number of bytes, in blocks of falling sizes, up to 64 of each.
 pub fn fill<'a>(
-    own: Global,
+    global: Global,
     heap: &'a LocalHeap,
     room: usize,
 ) -> Option<Vec<Vec<u8, &'a LocalHeap>>> {
     let _kept = Vec::<u8, &LocalHeap>::with_capacity(heap, room).ok()?;
-    let mut fillers = Vec::new(own);
+    let mut fillers = Vec::new(global);
     for size in SIZES {
         for _ in 0..64 {
             let Ok(filler) = Vec::with_capacity(heap, *size) else {

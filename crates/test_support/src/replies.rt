@@ -76,22 +76,22 @@ pub fn blocks_of(alloc: Global, words: &str) -> Option<Vec<u8>> {
     Some(bytes)
 }
 
-fn text_of(own: Global, queue: &str, item: &str) -> Option<Vec<u8>> {
+fn text_of(global: Global, queue: &str, item: &str) -> Option<Vec<u8>> {
     match (item.strip_prefix('='), queue) {
-        (Some(text), _) => Vec::from_slice(own, text.as_bytes()).ok(),
-        (None, "bytes") => blocks_of(own, item),
-        (None, _) => Vec::from_slice(own, lines_of(own, item, "|").ok()?.as_bytes()).ok(),
+        (Some(text), _) => Vec::from_slice(global, text.as_bytes()).ok(),
+        (None, "bytes") => blocks_of(global, item),
+        (None, _) => Vec::from_slice(global, lines_of(global, item, "|").ok()?.as_bytes()).ok(),
     }
 }
 
 /// The bytes of an item of a queue, in memory of an allocator.
 pub fn bytes_of<A: Allocator + Copy>(
-    own: Global,
+    global: Global,
     alloc: A,
     queue: &str,
     item: &str,
 ) -> Option<Result<Bytes<A>, HostFault>> {
-    let text = text_of(own, queue, item)?;
+    let text = text_of(global, queue, item)?;
     given(item, Bytes::copy_of(alloc, text.as_slice()).ok())
 }
 
@@ -103,12 +103,12 @@ pub fn part_of<A: Allocator + Copy>(alloc: A, name: &str, text: &[u8]) -> Result
     })
 }
 
-fn parts_of<A: Allocator + Copy>(own: Global, alloc: A, text: &str) -> Option<PartList<A>> {
+fn parts_of<A: Allocator + Copy>(global: Global, alloc: A, text: &str) -> Option<PartList<A>> {
     let mut parts = Vec::new(alloc);
     match text {
         "none" => {}
         "long" => {
-            let text = vec![in own; b'#'; 1_048_577].ok()?;
+            let text = vec![in global; b'#'; 1_048_577].ok()?;
             parts
                 .push(part_of(alloc, "part", text.as_slice()).ok()?)
                 .ok()?;
@@ -121,7 +121,7 @@ fn parts_of<A: Allocator + Copy>(own: Global, alloc: A, text: &str) -> Option<Pa
         _ => {
             for part in text.split(" + ") {
                 let (name, lines) = part.split_once('@').unwrap_or(("part", part));
-                let text = text_of(own, "table", lines)?;
+                let text = text_of(global, "table", lines)?;
                 parts
                     .push(part_of(alloc, name, text.as_slice()).ok()?)
                     .ok()?;
@@ -133,11 +133,11 @@ fn parts_of<A: Allocator + Copy>(own: Global, alloc: A, text: &str) -> Option<Pa
 
 /// The files of an item, in memory of an allocator.
 pub fn table_of<A: Allocator + Copy>(
-    own: Global,
+    global: Global,
     alloc: A,
     item: &str,
 ) -> Option<Result<PartList<A>, HostFault>> {
-    given(item, parts_of(own, alloc, item))
+    given(item, parts_of(global, alloc, item))
 }
 
 fn give_lates<A: Allocator + Copy>(host: &mut MemoryHost<A>, number: u32) -> Option<()> {
@@ -150,7 +150,7 @@ fn give_lates<A: Allocator + Copy>(host: &mut MemoryHost<A>, number: u32) -> Opt
 
 /// Gives a host an item.
 pub fn give<A: Allocator + Copy>(
-    own: Global,
+    global: Global,
     alloc: A,
     host: &mut MemoryHost<A>,
     reply: &str,
@@ -163,23 +163,23 @@ pub fn give<A: Allocator + Copy>(
         "late" => host.give_late(late_of(item)?),
         "lates" => return give_lates(host, item.parse::<u32>().ok()?),
         "clock" => host.give_clock(given(item, item.parse::<u64>().ok())?),
-        "table" => host.give_table(table_of(own, alloc, item)?),
-        "bytes" => host.give_bytes(bytes_of(own, alloc, queue, item)?),
-        _ => host.give_carry(bytes_of(own, alloc, queue, item)?),
+        "table" => host.give_table(table_of(global, alloc, item)?),
+        "bytes" => host.give_bytes(bytes_of(global, alloc, queue, item)?),
+        _ => host.give_carry(bytes_of(global, alloc, queue, item)?),
     };
     given.ok()
 }
 
 /// Gives a host all items of a text.
 fn give_all<A: Allocator + Copy>(
-    own: Global,
+    global: Global,
     alloc: A,
     host: &mut MemoryHost<A>,
     replies: &str,
 ) -> Option<()> {
     if !replies.is_empty() {
         for reply in replies.split(" / ") {
-            give(own, alloc, host, reply)?;
+            give(global, alloc, host, reply)?;
         }
     }
     Some(())
@@ -187,19 +187,19 @@ fn give_all<A: Allocator + Copy>(
 
 /// A host that is given all items of a text.
 pub fn host_of<A: Allocator + Copy>(
-    own: Global,
+    global: Global,
     alloc: A,
     replies: &str,
 ) -> Option<Box<MemoryHost<A>>> {
-    let mut host = boxed(own, MemoryHost::new(alloc)).ok()?;
-    give_all(own, alloc, &mut host, replies)?;
+    let mut host = boxed(global, MemoryHost::new(alloc)).ok()?;
+    give_all(global, alloc, &mut host, replies)?;
     Some(host)
 }
 
 /// The letters of the calls that a host tells: `C`lock, `B`ytes, `L`ate answer, `T`able or none (`t`), `S`tart behind its
 /// command, l`O`ok, si`G`nal, carry `H`, a`N`nouncement, `P`ause.
-pub fn letters_of(own: Global, host: &MemoryHost) -> Option<String> {
-    let mut letters = String::new(own);
+pub fn letters_of(global: Global, host: &MemoryHost) -> Option<String> {
+    let mut letters = String::new(global);
     for call in host.calls()? {
         if let Call::Start(_, command, _) = call {
             letters

@@ -6,8 +6,8 @@ use trace_events::{Happening, HappeningIn};
 use trace_text::first_happening;
 
 /// The fields of a row, parted by ` | `; one that is `-` has nothing.
-pub fn fields_of<'r>(own: Global, row: &'r str) -> Result<Vec<&'r str>, AllocError> {
-    let mut fields = Vec::new(own);
+pub fn fields_of<'r>(global: Global, row: &'r str) -> Result<Vec<&'r str>, AllocError> {
+    let mut fields = Vec::new(global);
     for field in row.split(" | ") {
         fields.push(if field == "-" { "" } else { field })?;
     }
@@ -16,8 +16,8 @@ pub fn fields_of<'r>(own: Global, row: &'r str) -> Result<Vec<&'r str>, AllocErr
 
 /// The lines of a text, which are parted so, each ended by a newline; none of an empty one. A part `N x LINE, LINE` has its
 /// lines so often.
-pub fn lines_of(own: Global, text: &str, parted: &str) -> Result<String, AllocError> {
-    let mut lines = String::new(own);
+pub fn lines_of(global: Global, text: &str, parted: &str) -> Result<String, AllocError> {
+    let mut lines = String::new(global);
     if text.is_empty() {
         return Ok(lines);
     }
@@ -34,9 +34,9 @@ pub fn lines_of(own: Global, text: &str, parted: &str) -> Result<String, AllocEr
 }
 
 /// The happening of a line, if it is one.
-pub fn happening_of(own: Global, line: &str) -> Option<HappeningIn<Global>> {
-    let text = lines_of(own, line, " / ").ok()?;
-    let (happening, _) = first_happening(own, text.as_bytes()).ok()??;
+pub fn happening_of(global: Global, line: &str) -> Option<HappeningIn<Global>> {
+    let text = lines_of(global, line, " / ").ok()?;
+    let (happening, _) = first_happening(global, text.as_bytes()).ok()??;
     Some(happening)
 }
 

@@ -178,9 +178,9 @@ fn cuts_change_nothing(rt: HostRuntime) {
 
 /// A block of this byte alone has no magic number, and each block with this byte in it is what its own bytes ask for.
 fn are_ones(byte: u8) -> bool {
-    for place in 0..BLOCK {
+    for position in 0..BLOCK {
         let mut block = block_of(&RELOAD);
-        block[place] = byte;
+        block[position] = byte;
         if !is_one(&mut Blocks::new(), &block, decode(&block)) {
             return false;
         }

@@ -14,7 +14,7 @@ use trace_events::{HappeningIn, happening_copy};
 use trace_log::{ListLog, StreamLog};
 use trace_pass::Verdict;
 use trace_text::ReadFault;
-use trace_view::{LastLines, SeenText, Sees};
+use trace_view::{LastLines, ObservedTrace, TraceObserver};
 
 const INITTAB: &[u8] = b"id:3:initdefault:\nw:3:wait:prep\nr:3:respawn:serv\n";
 
@@ -47,8 +47,8 @@ clock 101\nnudge\nask a look\ndeath 10\n\
 reaped a 10 killed\ntold a\nask a start\nbirth a 11\ntold a\nclock 102\nnudge\nask a look\nstill a\n";
 
 /// A run writes the trace, or a front of it where a heap has no room for it.
-fn runs(own: Global, heap: &LocalHeap, trace: &[u8]) -> Result<bool, Memory> {
-    let mut out: Vec<u8> = Vec::new(own);
+fn runs(global: Global, heap: &LocalHeap, trace: &[u8]) -> Result<bool, Memory> {
+    let mut out: Vec<u8> = Vec::new(global);
     match simulate::<&LocalHeap, Vec<u8>, Untold>(heap, INITTAB, None, SCRIPT, &mut out) {
         Ok(()) => Ok(out.as_slice() == trace),
         Err(SimFault::Memory) if trace.starts_with(&out) => Err(Memory),
@@ -64,10 +64,10 @@ fn reads(heap: &LocalHeap, text: &[u8]) -> Result<bool, Memory> {
     }
 }
 
-fn judges(own: Global, heap: &LocalHeap, text: &[u8]) -> Result<bool, Memory> {
-    let mut judge = judge_over(own, heap)?;
+fn judges(global: Global, heap: &LocalHeap, text: &[u8]) -> Result<bool, Memory> {
+    let mut judge = judge_over(global, heap)?;
     hand_over(&mut judge, text, 7)?;
-    let is_found = match found(own, &judge) {
+    let is_found = match found(global, &judge) {
         Some(found) => found.as_str() == "7:4 line 10: birth b 11\n",
         None => false,
     };
@@ -75,11 +75,11 @@ fn judges(own: Global, heap: &LocalHeap, text: &[u8]) -> Result<bool, Memory> {
 }
 
 /// What sees the trace, handed over in pieces.
-fn seen_by<'h, S: Sees<&'h LocalHeap> + Drop>(
-    own: Global,
+fn seen_by<'h, S: TraceObserver<&'h LocalHeap> + Drop>(
+    global: Global,
     heap: &'h LocalHeap,
-) -> Result<Box<SeenText<S, &'h LocalHeap>>, Memory> {
-    let mut text = boxed(own, SeenText::new(heap))?;
+) -> Result<Box<ObservedTrace<S, &'h LocalHeap>>, Memory> {
+    let mut text = boxed(global, ObservedTrace::new(heap))?;
     for piece in SEEN.chunks(7) {
         text.take(piece)?;
     }
@@ -87,8 +87,8 @@ fn seen_by<'h, S: Sees<&'h LocalHeap> + Drop>(
 }
 
 /// The child of `r` is born at line 8.
-fn sees_lines(own: Global, heap: &LocalHeap) -> Result<bool, Memory> {
-    let mut text = seen_by::<LastLines<&LocalHeap>>(own, heap)?;
+fn sees_lines(global: Global, heap: &LocalHeap) -> Result<bool, Memory> {
+    let mut text = seen_by::<LastLines<&LocalHeap>>(global, heap)?;
     let Some(id) = Id::read(b"r") else {
         return Ok(false);
     };
@@ -97,15 +97,15 @@ fn sees_lines(own: Global, heap: &LocalHeap) -> Result<bool, Memory> {
 }
 
 /// There are a table, three stages, and two children.
-fn sees_marks(own: Global, heap: &LocalHeap) -> Result<bool, Memory> {
-    let mut text = seen_by::<Marks<&LocalHeap>>(own, heap)?;
+fn sees_marks(global: Global, heap: &LocalHeap) -> Result<bool, Memory> {
+    let mut text = seen_by::<Marks<&LocalHeap>>(global, heap)?;
     Ok(text.seen().as_slice().len() == 6 && text.end().0.is_none())
 }
 
 /// A log on a heap takes the whole brief form, or has a front of it.
-fn lists(own: Global, heap: &LocalHeap, trace: &[HappeningIn<Global>]) -> Result<bool, Memory> {
+fn lists(global: Global, heap: &LocalHeap, trace: &[HappeningIn<Global>]) -> Result<bool, Memory> {
     let (list, all) = finished(ListLog::new(heap), trace);
-    let text = trace_text::print(own, list.as_slice())?;
+    let text = trace_text::print(global, list.as_slice())?;
     let is_front = BRIEF.starts_with(&text) && all == (text.len() == BRIEF.len());
     if is_front && !all {
         return Err(Memory);
@@ -116,32 +116,32 @@ fn lists(own: Global, heap: &LocalHeap, trace: &[HappeningIn<Global>]) -> Result
 const TABLE: &[u8] = b"use 3\nid:3:initdefault:\nw:3:wait:prep\nr:3:respawn:serv\n";
 
 /// The first happening of the trace, a table, is copied.
-fn copies(own: Global, heap: &LocalHeap, trace: &[HappeningIn<Global>]) -> Result<bool, Memory> {
+fn copies(global: Global, heap: &LocalHeap, trace: &[HappeningIn<Global>]) -> Result<bool, Memory> {
     let [first, ..] = trace else {
         return Ok(false);
     };
-    let printed = trace_text::print_one(own, &happening_copy(heap, first)?)?;
+    let printed = trace_text::print_one(global, &happening_copy(heap, first)?)?;
     Ok(printed.as_slice() == TABLE)
 }
 
 /// What a call on a heap gives of a trace, and of its text, is right.
 fn is_right(
-    own: Global,
+    global: Global,
     heap: &LocalHeap,
     what: &str,
     trace: &[HappeningIn<Global>],
     text: &[u8],
 ) -> Result<bool, Memory> {
     match what {
-        "run" => runs(own, heap, text),
+        "run" => runs(global, heap, text),
         "print" => Ok(trace_text::print(heap, trace)?.as_slice() == text),
-        "copy" => copies(own, heap, trace),
+        "copy" => copies(global, heap, trace),
         "read" => reads(heap, text),
         "check" => Ok(trace_pass::check(heap, trace)? == Verdict::Breach(7, Law::BesideExcluded)),
-        "judge" => judges(own, heap, text),
-        "lines" => sees_lines(own, heap),
-        "marks" => sees_marks(own, heap),
-        _ => lists(own, heap, trace),
+        "judge" => judges(global, heap, text),
+        "lines" => sees_lines(global, heap),
+        "marks" => sees_marks(global, heap),
+        _ => lists(global, heap, trace),
     }
 }
 
@@ -157,8 +157,8 @@ fn what_has_no_room_is_refused(rt: HostRuntime) -> Result<(), Fail> {
     for (row, calls) in REFUSED {
         let text = lines_of(rt.alloc(), row, " / ")?;
         let trace = trace_text::read(rt.alloc(), text.as_bytes())?;
-        let wrong = first_unrefused(rt.alloc(), calls, |own, heap, what| {
-            Outcome::of_answer(is_right(own, heap, what, &trace, text.as_bytes()))
+        let wrong = first_unrefused(rt.alloc(), calls, |global, heap, what| {
+            Outcome::of_answer(is_right(global, heap, what, &trace, text.as_bytes()))
         });
         assert!(rt; wrong.is_none(), "{wrong:?}");
     }
@@ -166,10 +166,10 @@ fn what_has_no_room_is_refused(rt: HostRuntime) -> Result<(), Fail> {
 }
 
 /// The writer took of the brief form what it has room for, and the log all where that is the whole text.
-fn is_streamed(own: Global, room: usize, fails: bool) -> Option<bool> {
-    let text = lines_of(own, LONG, " / ").ok()?;
-    let trace = trace_text::read(own, text.as_bytes()).ok()?;
-    let log = StreamLog::new(own, Slow::new(own, room, fails, false));
+fn is_streamed(global: Global, room: usize, fails: bool) -> Option<bool> {
+    let text = lines_of(global, LONG, " / ").ok()?;
+    let trace = trace_text::read(global, text.as_bytes()).ok()?;
+    let log = StreamLog::new(global, Slow::new(global, room, fails, false));
     let (writer, all) = finished(log, &trace);
     Some(all == (room >= BRIEF.len()) && writer.taken.as_slice() == &BRIEF[..room.min(BRIEF.len())])
 }

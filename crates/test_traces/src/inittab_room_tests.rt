@@ -36,29 +36,39 @@ const WARNINGS: [LineWarning; 3] = [
 ];
 
 /// The table has these entries.
-fn is_table<A: Allocator>(own: Global, table: &Table<A>) -> Result<bool, Memory> {
-    Ok(inittab_text::write(own, table)?.as_slice() == WRITTEN)
+fn is_table<A: Allocator>(global: Global, table: &Table<A>) -> Result<bool, Memory> {
+    Ok(inittab_text::write(global, table)?.as_slice() == WRITTEN)
 }
 
 /// The answer of a call over two parts of the text is right.
-fn is_read(own: Global, heap: &LocalHeap, parts: &[Part], call: &str) -> Result<bool, TableFault> {
+fn is_read(
+    global: Global,
+    heap: &LocalHeap,
+    parts: &[Part],
+    call: &str,
+) -> Result<bool, TableFault> {
     if call == "read" {
         let (table, faults) = inittab_text::read(heap, TEXT)?;
-        return Ok(faults.len() == 2 && is_table(own, &table)?);
+        return Ok(faults.len() == 2 && is_table(global, &table)?);
     }
     let (table, faults) = read_parts(heap, parts)?;
-    Ok(faults.len() == 2 && is_table(own, &table)?)
+    Ok(faults.len() == 2 && is_table(global, &table)?)
 }
 
 /// The answer of a call over a table is right, and leaves it as it was.
-fn is_kept(own: Global, heap: &LocalHeap, table: &Table, call: &str) -> Result<bool, TableFault> {
+fn is_kept(
+    global: Global,
+    heap: &LocalHeap,
+    table: &Table,
+    call: &str,
+) -> Result<bool, TableFault> {
     match call {
         "write" => Ok(
-            inittab_text::write(heap, table)?.as_slice() == WRITTEN && is_table(own, table)?,
+            inittab_text::write(heap, table)?.as_slice() == WRITTEN && is_table(global, table)?,
         ),
-        "copy" => Ok(is_table(own, &table.copy(heap)?)? && is_table(own, table)?),
+        "copy" => Ok(is_table(global, &table.copy(heap)?)? && is_table(global, table)?),
         _ => match inittab_text::read_written(heap, WRITTEN)? {
-            Some(read) => Ok(is_table(own, &read)?),
+            Some(read) => Ok(is_table(global, &read)?),
             None => Ok(false),
         },
     }
@@ -92,7 +102,7 @@ const CALLS: &[(&str, usize)] = &[
 
 /// The call's answer on a heap is right.
 fn is_answered(
-    own: Global,
+    global: Global,
     heap: &LocalHeap,
     given: Given,
     call: &str,
@@ -103,14 +113,14 @@ fn is_answered(
         files,
     } = given;
     match call {
-        "read" | "read_parts" => is_read(own, heap, parts, call),
-        "write" | "read_written" | "copy" => is_kept(own, heap, table, call),
+        "read" | "read_parts" => is_read(global, heap, parts, call),
+        "write" | "read_written" | "copy" => is_kept(global, heap, table, call),
         _ => is_warned(heap, files),
     }
 }
 
-fn outcome_on(own: Global, heap: &LocalHeap, given: Given, call: &str) -> Option<Outcome> {
-    match is_answered(own, heap, given, call) {
+fn outcome_on(global: Global, heap: &LocalHeap, given: Given, call: &str) -> Option<Outcome> {
+    match is_answered(global, heap, given, call) {
         Ok(true) => Some(Outcome::Done),
         Err(TableFault::Memory) => Some(Outcome::Refused),
         _ => None,
@@ -133,8 +143,8 @@ fn each_growth_is_refused_once(rt: HostRuntime) -> Result<(), Fail> {
         parts: &parts,
         files: &files,
     };
-    let wrong = first_unrefused(rt.alloc(), CALLS, |own, heap, call| {
-        outcome_on(own, heap, given, call)
+    let wrong = first_unrefused(rt.alloc(), CALLS, |global, heap, call| {
+        outcome_on(global, heap, given, call)
     });
     assert!(rt; wrong.is_none(), "{wrong:?}");
     Ok(())

@@ -155,12 +155,15 @@ struct Want {
 }
 
 /// Adds what becomes of a line of a part, by its number.
-fn add_said(want: &mut Want, place: usize, number: usize, said: &[u8]) -> Result<(), Fail> {
+fn add_said(want: &mut Want, position: usize, number: usize, said: &[u8]) -> Result<(), Fail> {
     match said {
         [] => {}
         [b'!', fault @ ..] => {
             let fault = str::from_utf8(fault)?;
-            writeln!(want.faults, "inittab part {place} line {number}: {fault}")?;
+            writeln!(
+                want.faults,
+                "inittab part {position} line {number}: {fault}"
+            )?;
         }
         _ => {
             want.written.extend_from_slice(said)?;
@@ -171,7 +174,7 @@ fn add_said(want: &mut Want, place: usize, number: usize, said: &[u8]) -> Result
 }
 
 /// Adds a part, whose lines say what becomes of them.
-fn add_part(alloc: Global, want: &mut Want, place: usize, text: &[u8]) -> Result<(), Fail> {
+fn add_part(alloc: Global, want: &mut Want, position: usize, text: &[u8]) -> Result<(), Fail> {
     let mut bytes = Vec::new(alloc);
     for (at, line) in text.split(|byte| *byte == b'\n').enumerate() {
         let (line, said) = cut(b'>', line).unwrap_or((line, line));
@@ -179,7 +182,7 @@ fn add_part(alloc: Global, want: &mut Want, place: usize, text: &[u8]) -> Result
             bytes.push(b'\n')?;
         }
         bytes.extend_from_slice(line)?;
-        add_said(want, place, at.saturating_add(1), said)?;
+        add_said(want, position, at.saturating_add(1), said)?;
     }
     want.parts.push(part_of(alloc, "part", &bytes)?)?;
     Ok(())
@@ -193,8 +196,8 @@ fn want_of(alloc: Global, (parts, level): &Row) -> Result<Box<Want>, Fail> {
         level: *level,
     };
     let mut want = boxed(alloc, want)?;
-    for (place, text) in parts.iter().enumerate() {
-        add_part(alloc, &mut want, place, text)?;
+    for (position, text) in parts.iter().enumerate() {
+        add_part(alloc, &mut want, position, text)?;
     }
     Ok(want)
 }
@@ -278,14 +281,14 @@ const FOUND: &[(&[u8], Option<Act>)] = &[
 fn entries_are_found(rt: HostRuntime) -> Result<(), Fail> {
     let want = want_of(rt.alloc(), &(&[FIVE], None))?;
     let (table, _) = read_parts(rt.alloc(), &want.parts)?;
-    for (place, (id, act)) in FOUND.iter().enumerate() {
+    for (position, (id, act)) in FOUND.iter().enumerate() {
         let of_id = match Id::read(id) {
             Some(id) => table.get(&id).map(|entry| entry.act),
             None => None,
         };
         assert!(rt;
-            table.at(place).map(|entry| entry.act) == *act && of_id == *act,
-            "{place}"
+            table.at(position).map(|entry| entry.act) == *act && of_id == *act,
+            "{position}"
         );
     }
     Ok(())

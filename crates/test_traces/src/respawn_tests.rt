@@ -105,8 +105,8 @@ fn goes(limiter: &mut Limiter, call: &Call) -> bool {
 fn the_window_slides(rt: HostRuntime) {
     for run in RUNS {
         let mut limiter = Limiter::new();
-        for (place, call) in run.iter().enumerate() {
-            assert!(rt; goes(&mut limiter, call), "at {place}");
+        for (position, call) in run.iter().enumerate() {
+            assert!(rt; goes(&mut limiter, call), "at {position}");
         }
     }
 }

@@ -41,35 +41,35 @@ const RUNS: &[&str] = &[
 
 /// This is objected to the happening.
 fn is_refused(
-    own: Global,
+    global: Global,
     side: &SimulatedSystem,
     happening: &HappeningIn<Global>,
     text: &str,
 ) -> Option<bool> {
     let why = side.objection(happening)?;
-    let told = format!(in own; "{why}").ok()?;
+    let told = format!(in global; "{why}").ok()?;
     Some(!side.allows(happening) && told.as_str() == text)
 }
 
 /// The line goes as it says: its answer is under way, it is objected to, or it is an order or allowed, and taken.
-fn goes(own: Global, side: &mut SimulatedSystem, line: &str) -> Option<bool> {
+fn goes(global: Global, side: &mut SimulatedSystem, line: &str) -> Option<bool> {
     if let Some(owed) = line.strip_prefix("owes ") {
-        let (id, answer) = answer_of(&happening_of(own, owed)?)?;
+        let (id, answer) = answer_of(&happening_of(global, owed)?)?;
         return Some(side.answer(&id) == Some(answer));
     }
     let (said, why) = line.split_once(" ! ").unwrap_or((line, ""));
-    let happening = happening_of(own, said)?;
+    let happening = happening_of(global, said)?;
     if !why.is_empty() {
-        return is_refused(own, side, &happening, why);
+        return is_refused(global, side, &happening, why);
     }
     let may_come = matches!(happening, Happening::Asked(_, _)) || side.allows(&happening);
     Some(may_come && side.take(&happening).is_ok())
 }
 
-fn all_go(own: Global, run: &str) -> Option<bool> {
-    let mut side = boxed(own, SimulatedSystem::new(own)).ok()?;
+fn all_go(global: Global, run: &str) -> Option<bool> {
+    let mut side = boxed(global, SimulatedSystem::new(global)).ok()?;
     for line in run.split(" / ") {
-        if !goes(own, &mut side, line)? {
+        if !goes(global, &mut side, line)? {
             return Some(false);
         }
     }

@@ -89,21 +89,21 @@ const TEXTS: &[(&str, u64)] = &[
 
 /// The number of the line at which the text is no trace's, 0 where it is one's, which is printed again, whole and each
 /// happening by itself.
-fn fault_in(own: Global, text: &str) -> Option<u64> {
-    let trace = match trace_text::read(own, text.as_bytes()) {
+fn fault_in(global: Global, text: &str) -> Option<u64> {
+    let trace = match trace_text::read(global, text.as_bytes()) {
         Ok(trace) => trace,
         Err(ReadFault::Line(number)) => return Some(number),
         Err(ReadFault::Memory) => return None,
     };
-    let mut printed = Vec::new(own);
+    let mut printed = Vec::new(global);
     for happening in trace.as_slice() {
         let lines = match happening {
-            Happening::NewTable(table) => print_table(own, table),
-            _ => print_one(own, happening),
+            Happening::NewTable(table) => print_table(global, table),
+            _ => print_one(global, happening),
         };
         printed.extend_from_slice(lines.ok()?.as_slice()).ok()?;
     }
-    let is_so = is_printed(own, &trace, text).ok()? && printed.as_slice() == text.as_bytes();
+    let is_so = is_printed(global, &trace, text).ok()? && printed.as_slice() == text.as_bytes();
     is_so.then_some(0)
 }
 

@@ -38,15 +38,20 @@ fn add_changed(text: &mut String, line: &str, change: Change) -> Result<(), Allo
 }
 
 /// A text with its line at a place changed.
-fn changed(own: Global, text: &str, place: usize, change: Change) -> Result<String, AllocError> {
-    let mut made = String::new(own);
+fn changed(
+    global: Global,
+    text: &str,
+    position: usize,
+    change: Change,
+) -> Result<String, AllocError> {
+    let mut made = String::new(global);
     let mut held = None;
     for (at, line) in text.split_inclusive('\n').enumerate() {
-        if at == place && change == Change::Exchanged {
+        if at == position && change == Change::Exchanged {
             held = Some(line);
             continue;
         }
-        let here = if at == place { change } else { Change::None };
+        let here = if at == position { change } else { Change::None };
         add_changed(&mut made, line, here)?;
         if let Some(first) = held.take() {
             made.push_str(first)?;
@@ -74,59 +79,59 @@ pub(crate) fn finished<L: EndedLog>(log: L, trace: &[HappeningIn<Global>]) -> (L
 }
 
 /// How many happenings of the brief form of a trace are written before its end.
-fn written_before(own: Global, trace: &[HappeningIn<Global>]) -> usize {
-    let mut brief = BriefLog::new(ListLog::new(own));
+fn written_before(global: Global, trace: &[HappeningIn<Global>]) -> usize {
+    let mut brief = BriefLog::new(ListLog::new(global));
     takes_all(&mut brief, trace);
     brief.into_log().list().len()
 }
 
 /// `.` for a lawful trace, else the place of the first breach and its law.
-fn verdict_on(own: Global, trace: &[HappeningIn<Global>]) -> Result<String, Memory> {
-    match trace_pass::check(own, trace)? {
-        Verdict::Lawful => Ok(String::from_str(own, ".")?),
-        Verdict::Breach(place, law) => {
+fn verdict_on(global: Global, trace: &[HappeningIn<Global>]) -> Result<String, Memory> {
+    match trace_pass::check(global, trace)? {
+        Verdict::Lawful => Ok(String::from_str(global, ".")?),
+        Verdict::Breach(position, law) => {
             let number = law.number();
-            Ok(format!(in own; "{place}:{number}")?)
+            Ok(format!(in global; "{position}:{number}")?)
         }
     }
 }
 
 /// The brief form of a trace breaks the same law first as the trace itself, of which this is the verdict, or none.
-fn is_alike(own: Global, trace: &[HappeningIn<Global>], verdict: &str) -> Result<bool, Memory> {
-    let (brief, all) = finished(ListLog::new(own), trace);
-    let given = verdict_on(own, brief.as_slice())?;
+fn is_alike(global: Global, trace: &[HappeningIn<Global>], verdict: &str) -> Result<bool, Memory> {
+    let (brief, all) = finished(ListLog::new(global), trace);
+    let given = verdict_on(global, brief.as_slice())?;
     Ok(all && brief.len() <= trace.len() && given.split(':').last() == verdict.split(':').last())
 }
 
 /// The trace prints as the text.
 pub(crate) fn is_printed(
-    own: Global,
+    global: Global,
     trace: &[HappeningIn<Global>],
     text: &str,
 ) -> Result<bool, Memory> {
-    Ok(trace_text::print(own, trace)?.as_slice() == text.as_bytes())
+    Ok(trace_text::print(global, trace)?.as_slice() == text.as_bytes())
 }
 
 /// The verdict on a text is this, its trace prints as the text, and has a brief form like it; `?` and the number of a line
 /// that is none.
-fn is_judged(own: Global, text: &str, want: &str) -> Result<bool, Memory> {
-    match trace_text::read(own, text.as_bytes()) {
+fn is_judged(global: Global, text: &str, want: &str) -> Result<bool, Memory> {
+    match trace_text::read(global, text.as_bytes()) {
         Ok(trace) => Ok(
-            is_printed(own, &trace, text)?
-                && verdict_on(own, &trace)?.as_str() == want
-                && is_alike(own, &trace, want)?,
+            is_printed(global, &trace, text)?
+                && verdict_on(global, &trace)?.as_str() == want
+                && is_alike(global, &trace, want)?,
         ),
-        Err(ReadFault::Line(number)) => Ok(format!(in own; "?{number}")?.as_str() == want),
+        Err(ReadFault::Line(number)) => Ok(format!(in global; "?{number}")?.as_str() == want),
         Err(ReadFault::Memory) => Err(Memory),
     }
 }
 
 /// A judge over the given memory, in plain memory itself.
 pub(crate) fn judge_over<A: Allocator + Copy>(
-    own: Global,
+    global: Global,
     memory: A,
 ) -> Result<Box<TextJudge<A>>, AllocError> {
-    boxed(own, TextJudge::new(memory))
+    boxed(global, TextJudge::new(memory))
 }
 
 /// Hands a text to a judge in pieces of a size.
@@ -142,34 +147,34 @@ pub(crate) fn hand_over<A: Allocator + Copy>(
 }
 
 /// What a judge found: `.`, the place of the first breach, its law, its line and its text, or `?` and a line.
-pub(crate) fn found<A: Allocator + Copy>(own: Global, judge: &TextJudge<A>) -> Option<String> {
+pub(crate) fn found<A: Allocator + Copy>(global: Global, judge: &TextJudge<A>) -> Option<String> {
     match judge.answer().0 {
-        Finding::Lawful => String::from_str(own, ".").ok(),
+        Finding::Lawful => String::from_str(global, ".").ok(),
         Finding::Breach(breach) => {
-            let (place, law, line) = (breach.place(), breach.law().number(), breach.line());
+            let (position, law, line) = (breach.position(), breach.law().number(), breach.line());
             let text = std::str::from_utf8(breach.text()).ok()?;
-            format!(in own; "{place}:{law} line {line}: {text}").ok()
+            format!(in global; "{position}:{law} line {line}: {text}").ok()
         }
-        Finding::Torn(number) => format!(in own; "?{number}").ok(),
+        Finding::Torn(number) => format!(in global; "?{number}").ok(),
     }
 }
 
 /// What is found of a text in pieces of a size, and the line at which its last happening isn't finished, 0 for none.
-pub(crate) fn found_of(own: Global, text: &str, size: usize) -> Option<(String, u64)> {
-    let mut judge = judge_over(own, own).ok()?;
+pub(crate) fn found_of(global: Global, text: &str, size: usize) -> Option<(String, u64)> {
+    let mut judge = judge_over(global, global).ok()?;
     hand_over(&mut judge, text.as_bytes(), size).ok()?;
-    Some((found(own, &judge)?, judge.answer().1.unwrap_or(0)))
+    Some((found(global, &judge)?, judge.answer().1.unwrap_or(0)))
 }
 
 /// The trace of a row has its verdict, and its others with each of its lines changed so in turn, read whole and in pieces.
-pub(crate) fn are_judged(own: Global, row: &str) -> Option<bool> {
+pub(crate) fn are_judged(global: Global, row: &str) -> Option<bool> {
     let (trace, verdicts) = row.split_once("| ")?;
-    let text = lines_of(own, trace.trim_ascii_end(), " / ").ok()?;
+    let text = lines_of(global, trace.trim_ascii_end(), " / ").ok()?;
     for (change, said) in CHANGES.iter().zip(verdicts.split(" | ")) {
-        for (place, want) in said.split(' ').enumerate() {
-            let text = changed(own, text.as_str(), place, *change).ok()?;
-            let (found, _) = found_of(own, text.as_str(), 5)?;
-            if is_judged(own, text.as_str(), want) != Ok(true)
+        for (position, want) in said.split(' ').enumerate() {
+            let text = changed(global, text.as_str(), position, *change).ok()?;
+            let (found, _) = found_of(global, text.as_str(), 5)?;
+            if is_judged(global, text.as_str(), want) != Ok(true)
                 || found.split(' ').next() != Some(want)
             {
                 return Some(false);
@@ -180,33 +185,33 @@ pub(crate) fn are_judged(own: Global, row: &str) -> Option<bool> {
 }
 
 /// The lines of a trace, and those of its brief form, which are all but what stands in brackets.
-fn both_of(own: Global, row: &str) -> Option<(Vec<HappeningIn<Global>>, String)> {
-    let (mut whole, mut brief) = (String::new(own), String::new(own));
+fn both_of(global: Global, row: &str) -> Option<(Vec<HappeningIn<Global>>, String)> {
+    let (mut whole, mut brief) = (String::new(global), String::new(global));
     let mut is_left = false;
     for part in row.split(" / ") {
         let line = part.strip_prefix('[').unwrap_or(part);
         is_left = is_left || line.len() < part.len();
-        let line = lines_of(own, line.strip_suffix(']').unwrap_or(line), " / ").ok()?;
+        let line = lines_of(global, line.strip_suffix(']').unwrap_or(line), " / ").ok()?;
         whole.push_str(&line).ok()?;
         if !is_left {
             brief.push_str(&line).ok()?;
         }
         is_left = is_left && !part.ends_with(']');
     }
-    Some((trace_text::read(own, whole.as_bytes()).ok()?, brief))
+    Some((trace_text::read(global, whole.as_bytes()).ok()?, brief))
 }
 
 /// A trace and its brief form have the verdicts of a row, and so many happenings are held back at the end.
-pub(crate) fn is_shortened(own: Global, row: &str) -> Option<bool> {
+pub(crate) fn is_shortened(global: Global, row: &str) -> Option<bool> {
     let (said, trace) = row.split_once(" | ")?;
     let mut said = said.split(' ');
-    let (trace, brief) = both_of(own, trace)?;
-    let (list, all) = finished(ListLog::new(own), &trace);
-    let before = list.len().checked_sub(written_before(own, &trace))?;
+    let (trace, brief) = both_of(global, trace)?;
+    let (list, all) = finished(ListLog::new(global), &trace);
+    let before = list.len().checked_sub(written_before(global, &trace))?;
     Some(
-        all && is_printed(own, list.as_slice(), brief.as_str()) == Ok(true)
-            && said.next() == Some(verdict_on(own, &trace).ok()?.as_str())
-            && said.next() == Some(verdict_on(own, list.as_slice()).ok()?.as_str())
+        all && is_printed(global, list.as_slice(), brief.as_str()) == Ok(true)
+            && said.next() == Some(verdict_on(global, &trace).ok()?.as_str())
+            && said.next() == Some(verdict_on(global, list.as_slice()).ok()?.as_str())
             && said.next()?.parse::<usize>() == Ok(before),
     )
 }

@@ -8,7 +8,7 @@ use linked_list_allocator::LocalHeap;
 use std::alloc::{Allocator, Global};
 use test_support::{Slow, host_of};
 use trace_log::{ListLog, Log, StreamLog};
-use trace_log_wrappers::WatchedLog;
+use trace_log_wrappers::NotingLog;
 
 const INITTAB: &str = "id:3:initdefault:|r:3:respawn:serv";
 
@@ -23,8 +23,8 @@ ask r look\nstill r\ntold r\nclock 106\nnudge\nask r kill\nhit r\ntold r\nask r 
 clock 107\nnudge\nask r look\ndeath 10\nreaped r 10 killed\ntold r\nsettle 1\n";
 
 /// Makes the run, of four turns and 31 calls, one of which fails, and gives how it ended.
-fn served<L: Log>(own: Global, bench: &mut Bench<Global, Global, L>) -> Option<Served> {
-    let served = serve_on(own, bench, 9, true);
+fn served<L: Log>(global: Global, bench: &mut Bench<Global, Global, L>) -> Option<Served> {
+    let served = serve_on(global, bench, 9, true);
     let calls = bench.edge.host().calls()?;
     (bench.edge.host().faults() == 1 && calls.len() == 31).then_some(served)
 }
@@ -40,10 +40,21 @@ fn taken(text: &[u8], served: Served) -> Option<usize> {
 }
 
 /// How many bytes a log writes to a writer of so much room, each happening's text in memory of an allocator.
-fn streamed<A: Allocator + Copy>(own: Global, alloc: A, room: usize, fails: bool) -> Option<usize> {
-    let log = StreamLog::new(alloc, Slow::new(own, room, fails, false));
-    let mut bench = bench_of(own, host_of(own, own, GIFTS)?, own, INITTAB, log)?;
-    let served = served(own, &mut bench)?;
+fn streamed<A: Allocator + Copy>(
+    global: Global,
+    alloc: A,
+    room: usize,
+    fails: bool,
+) -> Option<usize> {
+    let log = StreamLog::new(alloc, Slow::new(global, room, fails, false));
+    let mut bench = bench_of(
+        global,
+        host_of(global, global, GIFTS)?,
+        global,
+        INITTAB,
+        log,
+    )?;
+    let served = served(global, &mut bench)?;
     taken(bench.edge.log().writer().taken.as_slice(), served)
 }
 
@@ -58,27 +69,33 @@ fn a_writer_that_is_full_ends_the_log(rt: HostRuntime) {
 }
 
 /// How many bytes there are of the list of a log on a heap.
-fn listed(own: Global, heap: &LocalHeap) -> Option<usize> {
+fn listed(global: Global, heap: &LocalHeap) -> Option<usize> {
     let mut bench = bench_of(
-        own,
-        host_of(own, own, GIFTS)?,
-        own,
+        global,
+        host_of(global, global, GIFTS)?,
+        global,
         INITTAB,
         ListLog::new(heap),
     )?;
-    let served = served(own, &mut bench)?;
-    let text = trace_text::print(own, bench.edge.log().list()).ok()?;
+    let served = served(global, &mut bench)?;
+    let text = trace_text::print(global, bench.edge.log().list()).ok()?;
     taken(text.as_slice(), served)
 }
 
 /// Whether notes on a heap in front of a log are complete; None where they say anything false, or the log behind them has
 /// not the whole trace.
-fn noted(rt: &impl Eprint, own: Global, heap: &LocalHeap) -> Option<bool> {
-    let log = WatchedLog::new(rt, heap, ListLog::new(own), Id::read(b"r"), false);
-    let mut bench = bench_of(own, host_of(own, own, GIFTS)?, own, INITTAB, log)?;
-    let served = served(own, &mut bench)?;
+fn noted(rt: &impl Eprint, global: Global, heap: &LocalHeap) -> Option<bool> {
+    let log = NotingLog::new(rt, heap, ListLog::new(global), Id::read(b"r"), false);
+    let mut bench = bench_of(
+        global,
+        host_of(global, global, GIFTS)?,
+        global,
+        INITTAB,
+        log,
+    )?;
+    let served = served(global, &mut bench)?;
     let (log, notes, _) = log_of(bench).into_parts();
-    let text = trace_text::print(own, log.list()).ok()?;
+    let text = trace_text::print(global, log.list()).ok()?;
     if taken(text.as_slice(), served) != Some(TRACE.len()) {
         return None;
     }
@@ -93,13 +110,13 @@ fn noted(rt: &impl Eprint, own: Global, heap: &LocalHeap) -> Option<bool> {
 /// else is said than that it has none.
 pub(crate) fn is_whole(
     rt: &impl Eprint,
-    own: Global,
+    global: Global,
     heap: &LocalHeap,
     what: &str,
 ) -> Option<bool> {
     match what {
-        "list" => Some(listed(own, heap)? == TRACE.len()),
-        "notes" => noted(rt, own, heap),
-        _ => Some(streamed(own, heap, TRACE.len(), true)? == TRACE.len()),
+        "list" => Some(listed(global, heap)? == TRACE.len()),
+        "notes" => noted(rt, global, heap),
+        _ => Some(streamed(global, heap, TRACE.len(), true)? == TRACE.len()),
     }
 }

@@ -87,8 +87,8 @@ fn are_files<A: Allocator>(rt: &HostRuntime, parts: &[Part<A>], names: &str) -> 
         }
     }
     match (names.next(), parts) {
-        (None, [own, ..]) => match fs::read_to_string(rt, own.name.as_str()) {
-            Ok(text) => own.bytes.as_slice() == text.as_bytes(),
+        (None, [global, ..]) => match fs::read_to_string(rt, global.name.as_str()) {
+            Ok(text) => global.bytes.as_slice() == text.as_bytes(),
             Err(_) => false,
         },
         _ => false,

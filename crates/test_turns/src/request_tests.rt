@@ -19,46 +19,46 @@ const REQUESTS: &[HeardRequest] = &[
 
 /// The log has the first requests, the given number of them, and no others.
 fn has_requests(list: &[HappeningIn<Global>], count: usize) -> bool {
-    let mut place = 0;
+    let mut position = 0;
     for happening in list {
         if let Happening::Got(request) = happening {
-            if REQUESTS.get(place) != Some(request) {
+            if REQUESTS.get(position) != Some(request) {
                 return false;
             }
-            place += 1;
+            position += 1;
         }
     }
-    place == count
+    position == count
 }
 
 /// Gives the host the bytes of the requests: those up to a place, and the others in pieces of one length, each in a turn
 /// of its own.
 fn give_pieces(
-    own: Global,
+    global: Global,
     host: &mut MemoryHost,
     front: &[u8],
     rest: &[u8],
     length: usize,
 ) -> Result<(), Memory> {
     if !front.is_empty() {
-        host.give_bytes(Ok(Bytes::copy_of(own, front)?))?;
+        host.give_bytes(Ok(Bytes::copy_of(global, front)?))?;
     }
     for piece in rest.chunks(length.max(1)) {
-        host.give_bytes(Ok(Bytes::new(own)))?;
-        host.give_bytes(Ok(Bytes::copy_of(own, piece)?))?;
+        host.give_bytes(Ok(Bytes::new(global)))?;
+        host.give_bytes(Ok(Bytes::copy_of(global, piece)?))?;
     }
-    host.give_bytes(Ok(Bytes::new(own)))
+    host.give_bytes(Ok(Bytes::new(global)))
 }
 
 /// After a turn over the bytes up to a place, those of whole blocks were heard, and no step is due; where there are none,
 /// there are five happenings: the time, the round, two stages, and the settled level.
 fn hears_whole_blocks(
-    own: Global,
+    global: Global,
     bench: &mut Bench<Global, Global, ListLog>,
     blocks: &mut Blocks,
     heard: usize,
 ) -> bool {
-    let is_done = init_turns::turn(own, &mut bench.core, &mut bench.edge, blocks, false);
+    let is_done = init_turns::turn(global, &mut bench.core, &mut bench.edge, blocks, false);
     let list = bench.edge.log().list();
     is_done
         && bench.core.drained()
@@ -69,22 +69,22 @@ fn hears_whole_blocks(
 
 /// All requests are heard in the given number of turns, where the bytes up to a place come first, and the others in pieces
 /// of this length; where no turns are given, in two, of which the first hears the blocks that came whole.
-fn are_heard(own: Global, place: usize, length: usize, turns: Option<u64>) -> Option<bool> {
-    let bytes = blocks_of(own, "q bad 2")?;
-    let (front, rest) = bytes.split_at_checked(place)?;
-    let mut host = host_of(own, own, "")?;
-    give_pieces(own, &mut host, front, rest, length).ok()?;
-    let mut bench = bench_of(own, host, own, "# none", ListLog::new(own))?;
+fn are_heard(global: Global, position: usize, length: usize, turns: Option<u64>) -> Option<bool> {
+    let bytes = blocks_of(global, "q bad 2")?;
+    let (front, rest) = bytes.split_at_checked(position)?;
+    let mut host = host_of(global, global, "")?;
+    give_pieces(global, &mut host, front, rest, length).ok()?;
+    let mut bench = bench_of(global, host, global, "# none", ListLog::new(global))?;
     match turns {
         Some(turns) => {
-            serve_on(own, &mut bench, turns, false);
+            serve_on(global, &mut bench, turns, false);
             Some(has_requests(bench.edge.log().list(), 3))
         }
         None => {
             let mut blocks = Blocks::new();
             Some(
-                hears_whole_blocks(own, &mut bench, &mut blocks, place)
-                    && hears_whole_blocks(own, &mut bench, &mut blocks, 1152),
+                hears_whole_blocks(global, &mut bench, &mut blocks, position)
+                    && hears_whole_blocks(global, &mut bench, &mut blocks, 1152),
             )
         }
     }
@@ -95,10 +95,10 @@ const LENGTHS: &[(usize, u64)] = &[(1, 1152), (7, 165), (255, 5), (256, 5), (257
 
 #[test]
 fn requests_are_those_of_all_bytes(rt: HostRuntime) {
-    for place in 0..1152usize {
+    for position in 0..1152usize {
         assert!(rt;
-            are_heard(rt.alloc(), place, 1152, None) == Some(true),
-            "at {place}"
+            are_heard(rt.alloc(), position, 1152, None) == Some(true),
+            "at {position}"
         );
     }
     for (length, turns) in LENGTHS {

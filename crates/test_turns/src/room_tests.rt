@@ -14,13 +14,13 @@ use test_support::{Outcome, boxed, fill, first_unrefused, host_of, letters_of, l
 use trace_log::ListLog;
 
 /// The run is as it says where the host has no room left to tell a call.
-fn is_untold(own: Global) -> Option<bool> {
-    let heap = LocalHeap::new(own, 16_384).ok()?;
+fn is_untold(global: Global) -> Option<bool> {
+    let heap = LocalHeap::new(global, 16_384).ok()?;
     let row = row_of(STOPPED)?;
-    let host = host_of(own, &heap, row.replies)?;
-    let mut bench = bench_of(own, host, own, row.inittab, ListLog::new(own))?;
-    let _fillers = fill(own, &heap, 0)?;
-    Some(is_run(own, &mut bench, &row, row.trace) && bench.edge.host().calls().is_none())
+    let host = host_of(global, &heap, row.replies)?;
+    let mut bench = bench_of(global, host, global, row.inittab, ListLog::new(global))?;
+    let _fillers = fill(global, &heap, 0)?;
+    Some(is_run(global, &mut bench, &row, row.trace) && bench.edge.host().calls().is_none())
 }
 
 const INITTAB: &str = "id:3:initdefault:|r:3:respawn:serv";
@@ -69,23 +69,23 @@ const HAND_OVER: &Scarce = &Scarce {
 type Scene<'a> = Bench<Global, &'a LocalHeap, ListLog>;
 
 /// Makes a turn, and gives the text of its trace.
-fn turn_text<'a>(own: Global, heap: &'a LocalHeap, bench: &mut Scene<'a>) -> Option<Vec<u8>> {
+fn turn_text<'a>(global: Global, heap: &'a LocalHeap, bench: &mut Scene<'a>) -> Option<Vec<u8>> {
     let before = bench.edge.log().list().len();
     serve_on(heap, bench, 1, false);
-    trace_text::print(own, bench.edge.log().list().get(before..)?).ok()
+    trace_text::print(global, bench.edge.log().list().get(before..)?).ok()
 }
 
 /// Init behind a turn in which the child is born.
-fn begun<'a>(own: Global, heap: &'a LocalHeap, scarce: &Scarce) -> Option<Box<Scene<'a>>> {
-    let host = host_of(own, own, scarce.replies)?;
-    let mut bench = bench_of(own, host, heap, INITTAB, ListLog::new(own))?;
-    turn_text(own, heap, &mut bench)?;
+fn begun<'a>(global: Global, heap: &'a LocalHeap, scarce: &Scarce) -> Option<Box<Scene<'a>>> {
+    let host = host_of(global, global, scarce.replies)?;
+    let mut bench = bench_of(global, host, heap, INITTAB, ListLog::new(global))?;
+    turn_text(global, heap, &mut bench)?;
     Some(bench)
 }
 
 /// The trace of the turn is this, and the entries behind it are so many, each with its record.
-fn is_made(own: Global, bench: &Scene, text: &[u8], want: (&str, usize)) -> Option<bool> {
-    let trace = lines_of(own, want.0, " / ").ok()?;
+fn is_made(global: Global, bench: &Scene, text: &[u8], want: (&str, usize)) -> Option<bool> {
+    let trace = lines_of(global, want.0, " / ").ok()?;
     Some(
         text == trace.as_bytes()
             && bench.core.table().len() == want.1
@@ -93,14 +93,14 @@ fn is_made(own: Global, bench: &Scene, text: &[u8], want: (&str, usize)) -> Opti
     )
 }
 
-fn outcome_of(own: Global, bench: &Scene, text: &[u8], scarce: &Scarce) -> Option<Outcome> {
-    if is_made(own, bench, text, scarce.done)? {
+fn outcome_of(global: Global, bench: &Scene, text: &[u8], scarce: &Scarce) -> Option<Outcome> {
+    if is_made(global, bench, text, scarce.done)? {
         return Some(Outcome::Done);
     }
-    if !is_made(own, bench, text, scarce.undone)? {
+    if !is_made(global, bench, text, scarce.undone)? {
         return None;
     }
-    let letters = letters_of(own, bench.edge.host())?;
+    let letters = letters_of(global, bench.edge.host())?;
     if letters.contains(scarce.call) {
         return Some(Outcome::Refused);
     }
@@ -108,23 +108,23 @@ fn outcome_of(own: Global, bench: &Scene, text: &[u8], scarce: &Scarce) -> Optio
 }
 
 /// What becomes of it with so much room left; with all of it, in the next turn, it is done.
-fn tried(own: Global, scarce: &Scarce, room: usize) -> Option<Outcome> {
-    let heap = LocalHeap::new(own, 32_768).ok()?;
-    let mut bench = begun(own, &heap, scarce)?;
-    let fillers = fill(own, &heap, room)?;
-    let text = turn_text(own, &heap, &mut bench)?;
+fn tried(global: Global, scarce: &Scarce, room: usize) -> Option<Outcome> {
+    let heap = LocalHeap::new(global, 32_768).ok()?;
+    let mut bench = begun(global, &heap, scarce)?;
+    let fillers = fill(global, &heap, room)?;
+    let text = turn_text(global, &heap, &mut bench)?;
     drop(fillers);
-    let outcome = outcome_of(own, &bench, text.as_slice(), scarce)?;
-    let text = turn_text(own, &heap, &mut bench)?;
-    is_made(own, &bench, text.as_slice(), scarce.done)?.then_some(outcome)
+    let outcome = outcome_of(global, &bench, text.as_slice(), scarce)?;
+    let text = turn_text(global, &heap, &mut bench)?;
+    is_made(global, &bench, text.as_slice(), scarce.done)?.then_some(outcome)
 }
 
 /// What has no room first of what a reading takes, one after another: the text of inittab, its table, the table's copy, the
 /// records of its entries, and nothing; the place in that.
-fn first(own: Global, room: usize) -> Option<usize> {
-    let heap = LocalHeap::new(own, 32_768).ok()?;
-    let mut bench = begun(own, &heap, READING)?;
-    let _fillers = fill(own, &heap, room)?;
+fn first(global: Global, room: usize) -> Option<usize> {
+    let heap = LocalHeap::new(global, 32_768).ok()?;
+    let mut bench = begun(global, &heap, READING)?;
+    let _fillers = fill(global, &heap, room)?;
     let Ok(parts) = bench.edge.read_tables(&heap) else {
         return Some(0);
     };
@@ -161,8 +161,8 @@ fn a_table_without_room_is_not_read(rt: HostRuntime) {
             tried(rt.alloc(), READING, 16 * step) == ANSWERS.get(first).copied(),
             "at {step}"
         );
-        if let Some(place) = seen.get_mut(first) {
-            *place = true;
+        if let Some(position) = seen.get_mut(first) {
+            *position = true;
         }
     }
     assert!(rt; seen == [true; 5]);
@@ -183,29 +183,29 @@ fn init_without_room_is_not_re_executed(rt: HostRuntime) {
 }
 
 fn opening_of<'a>(
-    own: Global,
+    global: Global,
     heap: &'a LocalHeap,
     table: Table<&'a LocalHeap>,
 ) -> Result<Box<Opening<&'a LocalHeap>>, Memory> {
-    Ok(boxed(own, Opening::new(heap, table, None)?)?)
+    Ok(boxed(global, Opening::new(heap, table, None)?)?)
 }
 
 /// Whether an opening has room on a heap, over a table that lies in another one.
-fn opens(own: Global, heap: &LocalHeap) -> Option<bool> {
-    let ample = LocalHeap::new(own, 16_384).ok()?;
+fn opens(global: Global, heap: &LocalHeap) -> Option<bool> {
+    let ample = LocalHeap::new(global, 16_384).ok()?;
     let (table, _) = inittab_text::read(
         &ample,
         b"id:3:initdefault:\nw:3:wait:prep\nr:3:respawn:serv\n",
     )
     .ok()?;
-    Some(opening_of(own, heap, table).is_ok())
+    Some(opening_of(global, heap, table).is_ok())
 }
 
-fn has_room_for(rt: &impl Eprint, own: Global, heap: &LocalHeap, what: &str) -> Option<bool> {
+fn has_room_for(rt: &impl Eprint, global: Global, heap: &LocalHeap, what: &str) -> Option<bool> {
     match what {
-        "opening" => opens(own, heap),
-        "table lacks" | "carry lacks" => has_room(own, heap, what),
-        _ => is_whole(rt, own, heap, what),
+        "opening" => opens(global, heap),
+        "table lacks" | "carry lacks" => has_room(global, heap, what),
+        _ => is_whole(rt, global, heap, what),
     }
 }
 
@@ -222,8 +222,8 @@ const REFUSED: &[(&str, usize)] = &[
 
 #[test]
 fn what_has_no_room_is_refused(rt: HostRuntime) {
-    let wrong = first_unrefused(rt.alloc(), REFUSED, |own, heap, what| {
-        has_room_for(&rt, own, heap, what).map(Outcome::of)
+    let wrong = first_unrefused(rt.alloc(), REFUSED, |global, heap, what| {
+        has_room_for(&rt, global, heap, what).map(Outcome::of)
     });
     assert!(rt; wrong.is_none(), "{wrong:?}");
     assert!(rt; is_untold(rt.alloc()) == Some(true), "calls");

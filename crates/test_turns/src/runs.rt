@@ -73,7 +73,7 @@ pub(crate) struct Bench<A: Allocator + Copy, B: Allocator, L: Log> {
 }
 
 fn bench_over<A: Allocator + Copy, B: Allocator + Copy, L: Log + Drop>(
-    own: Global,
+    global: Global,
     host: Box<MemoryHost<A>>,
     alloc: B,
     table: Table<B>,
@@ -82,20 +82,20 @@ fn bench_over<A: Allocator + Copy, B: Allocator + Copy, L: Log + Drop>(
     let core = Core::new(alloc, table, None)?;
     let edge = Edge::new(Box::into_inner(host), log);
     let strict = false;
-    Ok(boxed(own, Bench { core, edge, strict })?)
+    Ok(boxed(global, Bench { core, edge, strict })?)
 }
 
 /// A core over an inittab, with a host, each in memory of its own, and with a log.
 pub(crate) fn bench_of<A: Allocator + Copy, B: Allocator + Copy, L: Log + Drop>(
-    own: Global,
+    global: Global,
     host: Box<MemoryHost<A>>,
     alloc: B,
     inittab: &str,
     log: L,
 ) -> Option<Box<Bench<A, B, L>>> {
-    let lines = lines_of(own, inittab, "|").ok()?;
+    let lines = lines_of(global, inittab, "|").ok()?;
     let (table, _) = inittab_text::read(alloc, lines.as_bytes()).ok()?;
-    bench_over(own, host, alloc, table, log).ok()
+    bench_over(global, host, alloc, table, log).ok()
 }
 
 /// What is left of it: its log.
@@ -129,8 +129,8 @@ pub(crate) fn serve_on<A: Allocator + Copy, B: Allocator + Copy, L: Log>(
 }
 
 /// Hands the log the table in force.
-fn log_table<A: Allocator + Copy>(own: Global, bench: &mut Bench<A, Global, ListLog>) -> bool {
-    let Ok(table) = bench.core.table().copy(own) else {
+fn log_table<A: Allocator + Copy>(global: Global, bench: &mut Bench<A, Global, ListLog>) -> bool {
+    let Ok(table) = bench.core.table().copy(global) else {
         return false;
     };
     bench.edge.write(&Happening::NewTable(table));
@@ -138,61 +138,61 @@ fn log_table<A: Allocator + Copy>(own: Global, bench: &mut Bench<A, Global, List
 }
 
 /// The log's happenings after the opening table are these lines, and all of it is lawful.
-fn is_logged(own: Global, list: &[HappeningIn<Global>], trace: &str) -> Option<bool> {
+fn is_logged(global: Global, list: &[HappeningIn<Global>], trace: &str) -> Option<bool> {
     let [_, made @ ..] = list else {
         return None;
     };
-    let text = trace_text::print(own, made).ok()?;
-    let want = lines_of(own, trace, " / ").ok()?;
-    let verdict = trace_pass::check(own, list).ok()?;
+    let text = trace_text::print(global, made).ok()?;
+    let want = lines_of(global, trace, " / ").ok()?;
+    let verdict = trace_pass::check(global, list).ok()?;
     Some(text.as_slice() == want.as_bytes() && matches!(verdict, Verdict::Lawful))
 }
 
 /// The run of a row is as it says, with this trace.
 pub(crate) fn is_run<A: Allocator + Copy>(
-    own: Global,
+    global: Global,
     bench: &mut Bench<A, Global, ListLog>,
     row: &Row,
     trace: &str,
 ) -> bool {
-    log_table(own, bench)
-        && serve_on(own, bench, row.limit.0, row.limit.1) == row.ended
+    log_table(global, bench)
+        && serve_on(global, bench, row.limit.0, row.limit.1) == row.ended
         && bench.edge.host().faults() == row.faults
-        && is_logged(own, bench.edge.log().list(), trace) == Some(true)
+        && is_logged(global, bench.edge.log().list(), trace) == Some(true)
 }
 
 /// Makes the run of a row whose host is given this, and gives whether its calls have the letters that are asked; None where
 /// it is not as it says, with this trace.
-fn is_made(own: Global, row: &Row, replies: &str, trace: &str) -> Option<bool> {
-    let host = host_of(own, own, replies)?;
-    let mut bench = bench_of(own, host, own, row.inittab, ListLog::new(own))?;
+fn is_made(global: Global, row: &Row, replies: &str, trace: &str) -> Option<bool> {
+    let host = host_of(global, global, replies)?;
+    let mut bench = bench_of(global, host, global, row.inittab, ListLog::new(global))?;
     bench.strict = row.is_strict;
-    if !is_run(own, &mut bench, row, trace) {
+    if !is_run(global, &mut bench, row, trace) {
         return None;
     }
-    let letters = letters_of(own, bench.edge.host())?;
+    let letters = letters_of(global, bench.edge.host())?;
     Some(match row.letters {
         Some(want) => letters.as_bytes() == want.as_bytes(),
         None => true,
     })
 }
 
-pub(crate) fn passes(own: Global, row: &str) -> Option<bool> {
+pub(crate) fn passes(global: Global, row: &str) -> Option<bool> {
     let row = row_of(row)?;
-    is_made(own, &row, row.replies, row.trace)
+    is_made(global, &row, row.replies, row.trace)
 }
 
 /// The text, with what stands behind `=>` in the place of the part before it, which is there.
-fn changed(own: Global, text: &str, change: &str) -> Option<String> {
+fn changed(global: Global, text: &str, change: &str) -> Option<String> {
     let (part, other) = change.split_once(" => ")?;
     if !text.contains(part) {
         return None;
     }
-    text.replacen(own, part, other, 1).ok()
+    text.replacen(global, part, other, 1).ok()
 }
 
 /// The same of a row of which this is otherwise.
-pub(crate) fn passes_changed(own: Global, row: &str, change: &str) -> Option<bool> {
+pub(crate) fn passes_changed(global: Global, row: &str, change: &str) -> Option<bool> {
     let mut changes = change.split(" | ");
     let faults = changes.next()?.parse::<u64>().ok()?;
     let row = Row {
@@ -200,10 +200,10 @@ pub(crate) fn passes_changed(own: Global, row: &str, change: &str) -> Option<boo
         letters: None,
         ..row_of(row)?
     };
-    let replies = changed(own, row.replies, changes.next()?)?;
-    let mut trace = String::from_str(own, row.trace).ok()?;
+    let replies = changed(global, row.replies, changes.next()?)?;
+    let mut trace = String::from_str(global, row.trace).ok()?;
     for change in changes {
-        trace = changed(own, &trace, change)?;
+        trace = changed(global, &trace, change)?;
     }
-    is_made(own, &row, &replies, &trace)
+    is_made(global, &row, &replies, &trace)
 }

@@ -111,18 +111,18 @@ fn are_files<A: Allocator>(
 
 /// What a call gives that takes bytes with so much room.
 fn taken<B: Allocator + Copy>(
-    own: Global,
+    global: Global,
     host: &mut MemoryHost<B>,
     room: usize,
 ) -> Result<Vec<u8>, HostFault> {
     let mut buffer = [0; 8];
     let count = host.take_bytes(&mut buffer[..room.min(8)])?;
-    Vec::from_slice(own, &buffer[..count.min(8)]).map_err(|_| HostFault::Memory)
+    Vec::from_slice(global, &buffer[..count.min(8)]).map_err(|_| HostFault::Memory)
 }
 
 /// Whether a call, in memory of an allocator, gives this item.
 fn gives<A: Allocator + Copy, B: Allocator + Copy>(
-    own: Global,
+    global: Global,
     alloc: A,
     host: &mut MemoryHost<B>,
     call: &str,
@@ -136,17 +136,20 @@ fn gives<A: Allocator + Copy, B: Allocator + Copy>(
         "kill" => host.signal(id, SignalKind::Kill) == reply_of(item)?,
         "late" => host.late() == late_of(item)?,
         "clock" => host.clock() == given(item, item.parse::<u64>().ok())?,
-        "bytes" => is_text(taken(own, host, 4), bytes_of(own, own, "bytes", item)?),
+        "bytes" => is_text(
+            taken(global, host, 4),
+            bytes_of(global, global, "bytes", item)?,
+        ),
         "take" => {
             let (room, item) = item.split_once(' ').unwrap_or((item, "="));
-            let want = bytes_of(own, own, "bytes", item)?;
-            is_text(taken(own, host, room.parse::<usize>().ok()?), want)
+            let want = bytes_of(global, global, "bytes", item)?;
+            is_text(taken(global, host, room.parse::<usize>().ok()?), want)
         }
-        "table" => are_files(host.read_tables(alloc), table_of(own, own, item)?),
+        "table" => are_files(host.read_tables(alloc), table_of(global, global, item)?),
         "carry" => {
             let want = match item {
-                "" => Ok(Bytes::copy_of(own, STATE).ok()?),
-                _ => bytes_of(own, own, word, item)?,
+                "" => Ok(Bytes::copy_of(global, STATE).ok()?),
+                _ => bytes_of(global, global, word, item)?,
             };
             is_text(host.carry(alloc, STATE), want)
         }
@@ -163,15 +166,15 @@ fn gives<A: Allocator + Copy, B: Allocator + Copy>(
 }
 
 /// Whether a host that is given so much gives what the calls say, so many of them faults, and tells each.
-fn is_followed(own: Global, replies: &str, calls: &str, faults: u64) -> Option<bool> {
-    let mut host = host_of(own, own, replies)?;
-    let full = LocalHeap::new(own, 0).ok()?;
+fn is_followed(global: Global, replies: &str, calls: &str, faults: u64) -> Option<bool> {
+    let mut host = host_of(global, global, replies)?;
+    let full = LocalHeap::new(global, 0).ok()?;
     let mut count = 0usize;
     for call in calls.split(" / ") {
         let is_given = if call.ends_with("lacks") {
-            gives(own, &full, &mut host, call)?
+            gives(global, &full, &mut host, call)?
         } else {
-            gives(own, own, &mut host, call)?
+            gives(global, global, &mut host, call)?
         };
         if !is_given {
             return None;
@@ -192,9 +195,9 @@ fn calls_take_the_first_of_their_queue(rt: HostRuntime) {
 }
 
 /// Whether a text has room on a heap; None where the call that lacks it counts and tells something else.
-pub(crate) fn has_room(own: Global, heap: &LocalHeap, call: &str) -> Option<bool> {
-    let mut host = host_of(own, own, TABLES)?;
-    let is_lacking = gives(own, heap, &mut host, call)?;
+pub(crate) fn has_room(global: Global, heap: &LocalHeap, call: &str) -> Option<bool> {
+    let mut host = host_of(global, global, TABLES)?;
+    let is_lacking = gives(global, heap, &mut host, call)?;
     match (is_lacking, host.faults(), host.calls()?.len()) {
         (false, 0, 1) => Some(true),
         (true, 1, 1) => Some(false),
@@ -204,7 +207,7 @@ pub(crate) fn has_room(own: Global, heap: &LocalHeap, call: &str) -> Option<bool
 
 /// How many times, at most so many, the host is given the item, or gives it.
 fn times<'a>(
-    own: Global,
+    global: Global,
     heap: &'a LocalHeap,
     host: &mut MemoryHost<&'a LocalHeap>,
     item: &str,
@@ -213,9 +216,9 @@ fn times<'a>(
 ) -> usize {
     for count in 0..most {
         let is_done = if is_call {
-            gives(own, own, host, item) == Some(true)
+            gives(global, global, host, item) == Some(true)
         } else {
-            give(own, heap, host, item).is_some()
+            give(global, heap, host, item).is_some()
         };
         if !is_done {
             return count;
@@ -226,14 +229,14 @@ fn times<'a>(
 
 /// The same while the heap is full.
 fn times_full<'a>(
-    own: Global,
+    global: Global,
     heap: &'a LocalHeap,
     host: &mut MemoryHost<&'a LocalHeap>,
     item: &str,
     is_call: bool,
 ) -> Option<usize> {
-    let _fillers = fill(own, heap, 0)?;
-    Some(times(own, heap, host, item, is_call, 100))
+    let _fillers = fill(global, heap, 0)?;
+    Some(times(global, heap, host, item, is_call, 100))
 }
 
 /// Items of which each is another queue's.
@@ -250,13 +253,13 @@ const ITEMS: &[&str] = &[
 
 /// A queue that has had so many of the items is given more while the heap is full, and one where there is room again: it
 /// has all that it took, and no more.
-fn refuses(own: Global, item: &str, before: usize) -> Option<bool> {
-    let heap = LocalHeap::new(own, 4096).ok()?;
-    let mut host = host_of(own, &heap, "")?;
-    let had = times(own, &heap, &mut host, item, false, before);
-    let more = times_full(own, &heap, &mut host, item, false)?;
-    give(own, &heap, &mut host, item)?;
-    let all = times(own, &heap, &mut host, item, true, 200);
+fn refuses(global: Global, item: &str, before: usize) -> Option<bool> {
+    let heap = LocalHeap::new(global, 4096).ok()?;
+    let mut host = host_of(global, &heap, "")?;
+    let had = times(global, &heap, &mut host, item, false, before);
+    let more = times_full(global, &heap, &mut host, item, false)?;
+    give(global, &heap, &mut host, item)?;
+    let all = times(global, &heap, &mut host, item, true, 200);
     Some(had == before && more < 100 && all == before.wrapping_add(more).wrapping_add(1))
 }
 
@@ -275,13 +278,13 @@ const CALLS: &[&str] = &[
 ];
 
 /// A call that there is no room to keep is not told, and none after it, although there is room again.
-fn is_last(own: Global, call: &str) -> Option<bool> {
-    let heap = LocalHeap::new(own, 4096).ok()?;
-    let mut host = host_of(own, &heap, "")?;
-    let is_first = gives(own, own, &mut host, call)? && host.calls().is_some();
-    let made = times_full(own, &heap, &mut host, call, true)?;
+fn is_last(global: Global, call: &str) -> Option<bool> {
+    let heap = LocalHeap::new(global, 4096).ok()?;
+    let mut host = host_of(global, &heap, "")?;
+    let is_first = gives(global, global, &mut host, call)? && host.calls().is_some();
+    let made = times_full(global, &heap, &mut host, call, true)?;
     let is_untold = made == 100 && host.calls().is_none();
-    Some(is_first && is_untold && gives(own, own, &mut host, call)? && host.calls().is_none())
+    Some(is_first && is_untold && gives(global, global, &mut host, call)? && host.calls().is_none())
 }
 
 #[test]

@@ -43,8 +43,8 @@ const LIVES: &[Life] = &[
 
 #[test]
 fn a_host_answers_and_counts(rt: HostRuntime) {
-    for (place, life) in LIVES.iter().enumerate() {
-        assert!(rt; lives(&rt, *life), "life {place}");
+    for (position, life) in LIVES.iter().enumerate() {
+        assert!(rt; lives(&rt, *life), "life {position}");
     }
 }
 

@@ -139,8 +139,8 @@ abbrev sooner : Option ℕ → Option ℕ → Option ℕ
 sooner None later = later
 sooner (Some law) later = Some law
 
-law_step : (o : Option Fault) (place : ℕ) (law : Option ℕ) → law_broken_by (earlier o (breach_at place law)) ≡ sooner (law_broken_by o) law
-law_step o place law = grind arith
+law_step : (o : Option Fault) (position : ℕ) (law : Option ℕ) → law_broken_by (earlier o (breach_at position law)) ≡ sooner (law_broken_by o) law
+law_step o position law = grind arith
 
 law_cons : (happening : Event) (past : List Event) → law_broken_by (first_breach (happening ∷ past)) ≡ sooner (law_broken_by (first_breach past)) (broken happening past)
 law_cons happening past = law_step (first_breach past) (length past) (broken happening past)

@@ -45,29 +45,29 @@ judged_more happening old new distinct flawless took after past judged = record 
 }
 
 -- one more happening of a trace is the newest of the past
-pub one_more : (trace : List Event) (place : ℕ) (happening : Event) → place < length trace → happening ≡ get_or trace place happening → reverse (take (place + 1) trace) ≡ happening ∷ reverse (take place trace)
-one_more trace place happening within is = ap reverse (take_more trace place happening within) ∙ reverse-append (take place trace) (get_or trace place happening ∷ []) ∙ ap (λ x. x ∷ reverse (take place trace)) (sym is)
+pub one_more : (trace : List Event) (position : ℕ) (happening : Event) → position < length trace → happening ≡ get_or trace position happening → reverse (take (position + 1) trace) ≡ happening ∷ reverse (take position trace)
+one_more trace position happening within is = ap reverse (take_more trace position happening within) ∙ reverse-append (take position trace) (get_or trace position happening ∷ []) ∙ ap (λ x. x ∷ reverse (take position trace)) (sym is)
 
 -- a breach stays the first
 pub kept_breach : (newer older : List Event) (fault : Fault) → first_breach older ≡ Some fault → first_breach (newer ++ older) ≡ Some fault
 kept_breach [] older fault is = is
 kept_breach (happening ∷ newer) older fault is = ap (λ o. earlier o (breach_at (length (newer ++ older)) (broken happening (newer ++ older)))) (kept_breach newer older fault is)
 
-whole : (trace : List Event) (place : ℕ) → reverse trace ≡ reverse (drop place trace) ++ reverse (take place trace)
-whole trace place = ap reverse (sym (take-append-drop place trace)) ∙ reverse-append (take place trace) (drop place trace)
+whole : (trace : List Event) (position : ℕ) → reverse trace ≡ reverse (drop position trace) ++ reverse (take position trace)
+whole trace position = ap reverse (sym (take-append-drop position trace)) ∙ reverse-append (take position trace) (drop position trace)
 
 -- the breach of a happening behind a lawful past is the first
-pub breach_here : (happening : Event) (past : List Event) (law : ℕ) → first_breach past ≡ None → Some law ≡ broken happening past → first_breach (happening ∷ past) ≡ Some (record { place = length past; law = law })
+pub breach_here : (happening : Event) (past : List Event) (law : ℕ) → first_breach past ≡ None → Some law ≡ broken happening past → first_breach (happening ∷ past) ≡ Some (record { position = length past; law = law })
 breach_here happening past law lawful broke = ap (λ o. earlier o (breach_at (length past) (broken happening past))) lawful ∙ ap (breach_at (length past)) (sym broke)
 
-pub breach_found : (trace : List Event) (place law : ℕ) (happening : Event) → first_breach (reverse (take place trace)) ≡ None → place < length trace → happening ≡ get_or trace place happening → Some law ≡ broken happening (reverse (take place trace)) → Some (record { place = place; law = law }) ≡ first_breach (reverse trace)
-breach_found trace place law happening lawful within is broke = sym (ap first_breach (whole trace (place + 1)) ∙ kept_breach (reverse (drop (place + 1) trace)) (reverse (take (place + 1) trace)) (record { place = place; law = law }) here) where
+pub breach_found : (trace : List Event) (position law : ℕ) (happening : Event) → first_breach (reverse (take position trace)) ≡ None → position < length trace → happening ≡ get_or trace position happening → Some law ≡ broken happening (reverse (take position trace)) → Some (record { position = position; law = law }) ≡ first_breach (reverse trace)
+breach_found trace position law happening lawful within is broke = sym (ap first_breach (whole trace (position + 1)) ∙ kept_breach (reverse (drop (position + 1) trace)) (reverse (take (position + 1) trace)) (record { position = position; law = law }) here) where
   past : List Event
-  past = reverse (take place trace)
+  past = reverse (take position trace)
 
-  here : first_breach (reverse (take (place + 1) trace)) ≡ Some (record { place = place; law = law })
+  here : first_breach (reverse (take (position + 1) trace)) ≡ Some (record { position = position; law = law })
   here = grind (arith, one_more, breach_here, past, length-reverse, length-take-le)
 
 -- where all are passed there is no breach
-pub passed_all : (trace : List Event) (place : ℕ) → first_breach (reverse (take place trace)) ≡ None → length trace ≤ place → None ≡ first_breach (reverse trace)
-passed_all trace place lawful all = sym (ap (λ xs. first_breach (reverse xs)) (sym (take_all place trace all)) ∙ lawful)
+pub passed_all : (trace : List Event) (position : ℕ) → first_breach (reverse (take position trace)) ≡ None → length trace ≤ position → None ≡ first_breach (reverse trace)
+passed_all trace position lawful all = sym (ap (λ xs. first_breach (reverse xs)) (sym (take_all position trace all)) ∙ lawful)

@@ -14,13 +14,13 @@ abbrev enter : Level → Event
 enter at = Enter (Run at) 5
 
 abbrev breach : ℕ → ℕ → Option Fault
-breach place law = Some (record { place = place; law = law })
+breach position law = Some (record { position = position; law = law })
 
 abbrev first_of : List Event → Option Fault
 first_of trace = first_breach (reverse trace)
 
-nothing : first_of [] ≡ None
-nothing = refl
+empty_map : first_of [] ≡ None
+empty_map = refl
 
 -- a level settled before anything
 settled_at_once : first_of (Settle level.L3 ∷ []) ≡ breach 0 5

@@ -6,4 +6,4 @@ use Rattle.trace_check.specs.Laws.{law_number}
 
 -- the breach of a law at a place
 abbrev pub fault_at : ℕ → Law → Fault
-fault_at place law = record { place = place; law = law_number law }
+fault_at position law = record { position = position; law = law_number law }

@@ -151,8 +151,8 @@ impl<A: Allocator> Judge<A> {
     pub(crate) fn first_owed<'a>(&self, table: &'a Table<A>, id: &Id) -> Option<&'a Entry>
         ensures { option_copied result ≡ first_owed_in table.now self.now id.now }
     {
-        for place in 0..table.len() {
-            let entry = entry_at(table, place);
+        for position in 0..table.len() {
+            let entry = entry_at(table, position);
             if *id == entry.id {
                 return None;
             }

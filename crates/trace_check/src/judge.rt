@@ -4,7 +4,7 @@ ghost use Rattle.std.specs.Prelude.{◌≡◌, OnOk, OnErr};
 
 use crate::children::{UnreapedChild, take_child};
 use crate::limits::{Starts, take_hold, take_start};
-use crate::maps::{ById, Ids, no_ids, nothing, room_for, room_for_one};
+use crate::maps::{ById, Ids, empty_map, no_ids, room_for, room_for_one};
 use crate::parts::{
     grace_after, stage_after, take_asked, take_called, take_kept, take_order, take_sent, time_after,
 };
@@ -65,15 +65,15 @@ impl<A: Allocator + Copy> Judge<A> {
             stage: None,
             grace: 0,
             time: 0,
-            orders: nothing(alloc),
+            orders: empty_map(alloc),
             kept: no_ids(alloc),
             asked: no_ids(alloc),
             called: no_ids(alloc),
             sent: no_ids(alloc),
-            starts: nothing(alloc),
-            holds: nothing(alloc),
-            children: nothing(alloc),
-            termed: nothing(alloc),
+            starts: empty_map(alloc),
+            holds: empty_map(alloc),
+            children: empty_map(alloc),
+            termed: empty_map(alloc),
         }
     }
 

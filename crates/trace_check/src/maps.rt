@@ -17,7 +17,7 @@ pub(crate) type ById<V, A> = IndexMap<Id, V, BuildHasherDefault<FoldHasher>, A>;
 pub(crate) type Ids<A> = IndexSet<Id, BuildHasherDefault<FoldHasher>, A>;
 
 /// Nothing of any id. It takes no memory.
-pub(crate) fn nothing<V, A: Allocator + Copy>(alloc: A) -> ById<V, A>
+pub(crate) fn empty_map<V, A: Allocator + Copy>(alloc: A) -> ById<V, A>
     ensures { result.entries ≡ [] }
 {
     IndexMap::new(alloc)
@@ -34,7 +34,7 @@ pub(crate) fn no_ids<A: Allocator + Copy>(alloc: A) -> Ids<A>
 pub(crate) fn forget_all<V: Drop, A: Allocator + Copy>(map: &mut ById<V, A>)
     ensures { map.new.entries ≡ [] }
 {
-    *map = nothing(*map.allocator());
+    *map = empty_map(*map.allocator());
 }
 
 /// Forgets all ids, and gives the memory back, so that they cost what was put in since.

@@ -106,8 +106,8 @@ fn drop_brought<A: Allocator, B: Allocator>(asked: &mut Ids<A>, before: &Table<A
         ≡ (not (list_any (λ e. has_id id e && is_changed e.id next.now before.now) next.now)
         && among id asked.old.keys) }
 {
-    for place in 0..next.len() {
-        let entry = entry_at(next, place);
+    for position in 0..next.len() {
+        let entry = entry_at(next, position);
         drop_if(asked, &entry.id, is_changed(next, before, &entry.id));
     }
 }
@@ -178,8 +178,8 @@ fn add_named<A: Allocator, B: Allocator>(
     ensures err { OnErr result (called.new.keys ≡ called.old.keys) }
 {
     room_for(called, table.len())?;
-    for place in 0..table.len() {
-        let entry = entry_at(table, place);
+    for position in 0..table.len() {
+        let entry = entry_at(table, position);
         add_if(called, &entry.id, is_called(happening, stage, entry));
     }
     Ok(())

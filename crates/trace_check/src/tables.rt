@@ -11,11 +11,11 @@ use std::alloc::Allocator;
 use trace_events::{Happening, HappeningIn};
 
 /// The entry at a place below the length.
-pub(crate) fn entry_at<B: Allocator>(table: &Table<B>, place: usize) -> &Entry
-    requires { place < length table.now }
-    ensures { slice_get table.now place ≡ Some result.now }
+pub(crate) fn entry_at<B: Allocator>(table: &Table<B>, position: usize) -> &Entry
+    requires { position < length table.now }
+    ensures { slice_get table.now position ≡ Some result.now }
 {
-    let Some(entry) = table.at(place) else {
+    let Some(entry) = table.at(position) else {
         unreachable!()
     };
     entry

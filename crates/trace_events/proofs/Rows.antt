@@ -369,7 +369,7 @@ two_rounds-rests = refl
 abbrev breach_of_turn : List Event
 breach_of_turn = Birth (codes "b") 11 ∷ Asked (codes "b") Start ∷ Enter (stage.Run level.L1) 5 ∷ Told (codes "a") ∷ Birth (codes "a") 10 ∷ Asked (codes "a") Start ∷ Enter (stage.Run level.L3) 5 ∷ NewTable ((entry (codes "a") ((At level.L3) ∷ []) act.Once (codes "x")) ∷ (entry (codes "b") ((At level.L1) ∷ []) act.Once (codes "y")) ∷ []) ∷ []
 
-breach_of_turn-breaks : first_breach breach_of_turn ≡ Some (record { place = 7; law = 4 })
+breach_of_turn-breaks : first_breach breach_of_turn ≡ Some (record { position = 7; law = 4 })
 breach_of_turn-breaks = refl
 
 breach_of_turn-not_sound : is_sound (opening level.L3) breach_of_turn ≡ false
@@ -379,7 +379,7 @@ breach_of_turn-not_sound = refl
 abbrev settle_of_nothing : List Event
 settle_of_nothing = Settle level.L3 ∷ []
 
-settle_of_nothing-breaks : first_breach settle_of_nothing ≡ Some (record { place = 0; law = 5 })
+settle_of_nothing-breaks : first_breach settle_of_nothing ≡ Some (record { position = 0; law = 5 })
 settle_of_nothing-breaks = refl
 
 settle_of_nothing-not_sound : is_sound (opening level.L3) settle_of_nothing ≡ false
@@ -389,7 +389,7 @@ settle_of_nothing-not_sound = refl
 abbrev birth_of_nothing : List Event
 birth_of_nothing = Birth (codes "a") 1 ∷ []
 
-birth_of_nothing-breaks : first_breach birth_of_nothing ≡ Some (record { place = 0; law = 2 })
+birth_of_nothing-breaks : first_breach birth_of_nothing ≡ Some (record { position = 0; law = 2 })
 birth_of_nothing-breaks = refl
 
 birth_of_nothing-not_sound : is_sound (opening level.L3) birth_of_nothing ≡ false
@@ -399,7 +399,7 @@ birth_of_nothing-not_sound = refl
 abbrev hold_of_once : List Event
 hold_of_once = Hold (codes "a") ∷ NewTable ((entry (codes "a") ((At level.L3) ∷ []) act.Once (codes "x")) ∷ []) ∷ []
 
-hold_of_once-breaks : first_breach hold_of_once ≡ Some (record { place = 1; law = 6 })
+hold_of_once-breaks : first_breach hold_of_once ≡ Some (record { position = 1; law = 6 })
 hold_of_once-breaks = refl
 
 hold_of_once-not_sound : is_sound (opening level.L3) hold_of_once ≡ false
@@ -409,7 +409,7 @@ hold_of_once-not_sound = refl
 abbrev kill_of_nobody : List Event
 kill_of_nobody = Asked (codes "a") Kill ∷ Enter (stage.Run level.L3) 5 ∷ NewTable ((entry (codes "a") ((At level.L3) ∷ []) act.Respawn (codes "x")) ∷ []) ∷ []
 
-kill_of_nobody-breaks : first_breach kill_of_nobody ≡ Some (record { place = 2; law = 7 })
+kill_of_nobody-breaks : first_breach kill_of_nobody ≡ Some (record { position = 2; law = 7 })
 kill_of_nobody-breaks = refl
 
 kill_of_nobody-not_sound : is_sound (opening level.L3) kill_of_nobody ≡ false
@@ -419,7 +419,7 @@ kill_of_nobody-not_sound = refl
 abbrev eleventh_start : List Event
 eleventh_start = Asked (codes "r") Start ∷ Asked (codes "r") Start ∷ Asked (codes "r") Start ∷ Asked (codes "r") Start ∷ Asked (codes "r") Start ∷ Asked (codes "r") Start ∷ Asked (codes "r") Start ∷ Asked (codes "r") Start ∷ Asked (codes "r") Start ∷ Asked (codes "r") Start ∷ Asked (codes "r") Start ∷ Enter (stage.Run level.S) 5 ∷ NewTable ((entry (codes "r") ((At level.S) ∷ []) act.Respawn (codes "x")) ∷ []) ∷ []
 
-eleventh_start-breaks : first_breach eleventh_start ≡ Some (record { place = 12; law = 6 })
+eleventh_start-breaks : first_breach eleventh_start ≡ Some (record { position = 12; law = 6 })
 eleventh_start-breaks = refl
 
 eleventh_start-not_sound : is_sound (opening level.L3) eleventh_start ≡ false

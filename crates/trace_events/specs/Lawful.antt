@@ -70,12 +70,12 @@ is_lawful (happening ∷ past) = is_none (broken happening past) && is_lawful pa
 
 -- a breach: its place in the trace, from 0, and the least law broken there
 pub record Fault : Type 0 where
-  pub place : ℕ
+  pub position : ℕ
   pub law : ℕ
 
 abbrev pub breach_at : ℕ → Option ℕ → Option Fault
-breach_at place None = None
-breach_at place (Some law) = Some (record { place = place; law = law })
+breach_at position None = None
+breach_at position (Some law) = Some (record { position = position; law = law })
 
 abbrev pub earlier : Option Fault → Option Fault → Option Fault
 earlier None later = later

@@ -20,12 +20,12 @@ told_here p child (Told i) past within h = at_id (same_id child.id i) refl h whe
 told_here p child _ past within h = absurd (false≢true h)
 
 told_earlier : (p : Signal → Bool) (child : Child) (happening : Event) (past : List Event) → in_spell child happening past ≡ true → ToldAt p child past → ToldAt p child (happening ∷ past)
-told_earlier p child happening past within place = record {
-  since = happening ∷ place.since;
-  before = place.before;
-  told = ap (λ rest. happening ∷ rest) place.told;
-  passes = place.passes;
-  excluded = and_from (in_spell child happening ((place.since ++ Told child.id ∷ []) ++ place.before)) (stays_excluded child (place.since ++ Told child.id ∷ []) place.before) (ap (in_spell child happening) (append_assoc place.since (Told child.id ∷ []) place.before ∙ sym place.told) ∙ within) place.excluded;
+told_earlier p child happening past within position = record {
+  since = happening ∷ position.since;
+  before = position.before;
+  told = ap (λ rest. happening ∷ rest) position.told;
+  passes = position.passes;
+  excluded = and_from (in_spell child happening ((position.since ++ Told child.id ∷ []) ++ position.before)) (stays_excluded child (position.since ++ Told child.id ∷ []) position.before) (ap (in_spell child happening) (append_assoc position.since (Told child.id ∷ []) position.before ∙ sym position.told) ∙ within) position.excluded;
 }
 
 told_place : (p : Signal → Bool) (child : Child) (past : List Event) → list_any p (spell_hits child past) ≡ true → ToldAt p child past
@@ -49,7 +49,7 @@ ripe_told id grace now time orders h = (found.within (is_order Term) parts.0, le
   parts = and_parts (is_order Term found.item) (nat_le (time + grace) now) found.passes
 
 own_warned : (child : Child) (past : List Event) → is_unreaped child.id child.number past ≡ true → ToldAt (is_ripe (grace_of past) (time_of past)) child past → Warned child.id past
-own_warned child past there place = grind (arith, ripe_told, same_id-self)
+own_warned child past there position = grind (arith, ripe_told, same_id-self)
 
 pub kill_warned : (goal : Goal) (later past : List Event) (id : List ℕ) → is_sound goal (later ++ Asked id Kill ∷ past) ≡ true → Warned id past
 kill_warned goal later past id h = subst (λ x. Warned x past) (sym (same_id-is id found.item.id two.0)) (own_warned found.item past (found.within (is_child found.item.id found.item.number) own) (told_place ripe found.item past all.1)) where

@@ -10,13 +10,13 @@ use Rattle.trace_log_wrappers.specs.declared.judgements.Judgement.TheVariants.{L
 -- it is found of these happenings, the newest first: they break no law, and are so many; or this is their first breach
 abbrev pub Finds : Judgement → List Event → Type 0
 Finds (Lawful count) past = (first_breach past ≡ None) × (count ≡ length past)
-Finds (Breach place law) past = first_breach past ≡ Some (fault_at place law)
+Finds (Breach position law) past = first_breach past ≡ Some (fault_at position law)
 Finds Unjudged past = ⊤
 
 -- the same of a judge that goes on as long as no law is broken
 abbrev pub FindsBy : Judging → Judgement → List Event → Type 0
 FindsBy judge (Lawful count) past = Judged judge past × (count ≡ length past)
-FindsBy judge (Breach place law) past = first_breach past ≡ Some (fault_at place law)
+FindsBy judge (Breach position law) past = first_breach past ≡ Some (fault_at position law)
 FindsBy judge Unjudged past = ⊤
 
 -- what is found of nothing, where a judge is asked for or not

@@ -34,7 +34,7 @@ impl<L> Model for BriefLog<L> {
 }
 
 /// Hands the log one happening.
-fn hand<L: Log, B: Allocator>(log: &mut L, happening: &HappeningIn<B>) -> Result<(), LogFault>
+fn write_to<L: Log, B: Allocator>(log: &mut L, happening: &HappeningIn<B>) -> Result<(), LogFault>
     requires { (L.state log.old).failed ≡ false }
     ensures flag { (L.state log.new).failed ≡ is_err result }
     ensures ok { OnOk result (is_short happening.now ≡ true
@@ -59,7 +59,7 @@ fn write_reading<L: Log>(log: &mut L, reading: Option<u64>) -> Result<(), LogFau
         None => Ok(()),
         Some(reading) => {
             let happening: HappeningIn<Global> = Happening::Clock(reading);
-            hand(log, &happening)
+            write_to(log, &happening)
         }
     }
 }
@@ -77,7 +77,7 @@ fn write_round<L: Log>(log: &mut L, round: bool) -> Result<(), LogFault>
         return Ok(());
     }
     let happening: HappeningIn<Global> = Happening::Nudge;
-    hand(log, &happening)
+    write_to(log, &happening)
 }
 
 /// Hands the log a look that was held.
@@ -95,13 +95,13 @@ fn write_look<L: Log>(log: &mut L, look: &Option<HeldLook>) -> Result<(), LogFau
         None => Ok(()),
         Some(HeldLook::Ordered(id)) => {
             let order: HappeningIn<Global> = Happening::Asked(*id, OrderKind::Look);
-            hand(log, &order)
+            write_to(log, &order)
         }
         Some(HeldLook::FoundNothing(id)) => {
             let order: HappeningIn<Global> = Happening::Asked(*id, OrderKind::Look);
-            hand(log, &order)?;
+            write_to(log, &order)?;
             let still: HappeningIn<Global> = Happening::Still(*id);
-            hand(log, &still)
+            write_to(log, &still)
         }
     }
 }

@@ -11,4 +11,4 @@ mod watched_logs;
 pub use brief_logs::BriefLog;
 pub use judgements::Judgement;
 pub use run_notes::{Numbers, RunNotes};
-pub use watched_logs::WatchedLog;
+pub use watched_logs::NotingLog;

@@ -16,7 +16,7 @@ use trace_text::print_one;
 /// where a judge is asked for. Standard error is told of the first happening that breaks a law, of a request for a level
 /// that changes nothing, and of a level change that a later one passes over.
 #[derive(Drop)]
-pub struct WatchedLog<'a, R, L, A: Allocator = Global> {
+pub struct NotingLog<'a, R, L, A: Allocator = Global> {
     rt: &'a R,
     alloc: A,
     log: L,
@@ -26,7 +26,7 @@ pub struct WatchedLog<'a, R, L, A: Allocator = Global> {
     judgement: Judgement,
 }
 
-impl<'a, R, L, A: Allocator> Model for WatchedLog<'a, R, L, A> {
+impl<'a, R, L, A: Allocator> Model for NotingLog<'a, R, L, A> {
     ghost use Rattle.trace_log_wrappers.specs.Watching.{Watched};
 
     ghost Value = { Watched L };
@@ -39,7 +39,7 @@ impl<'a, R, L, A: Allocator> Model for WatchedLog<'a, R, L, A> {
     } };
 }
 
-impl<'a, R: Eprint, L: Log, A: Allocator + Copy> WatchedLog<'a, R, L, A> {
+impl<'a, R: Eprint, L: Log, A: Allocator + Copy> NotingLog<'a, R, L, A> {
     ghost use Rattle.std.specs.Prelude.{◌≡◌, [], List, reverse};
     ghost use Rattle.trace_events.specs.Event.{Event};
     ghost use Rattle.trace_log_wrappers.specs.Judgements.{Finds, found_first};
@@ -53,13 +53,13 @@ impl<'a, R: Eprint, L: Log, A: Allocator + Copy> WatchedLog<'a, R, L, A> {
         log: L,
         wanted: Option<Id>,
         is_judged: bool,
-    ) -> WatchedLog<'a, R, L, A>
+    ) -> NotingLog<'a, R, L, A>
         ensures log { result.log ≡ log }
         ensures wanted { result.notes.wanted ≡ wanted }
         ensures found { result.judgement ≡ found_first is_judged }
         ensures nothing { (L.state log).taken [] → (watched_state L.state result).taken [] }
     {
-        WatchedLog {
+        NotingLog {
             rt,
             alloc,
             log,
@@ -80,7 +80,7 @@ impl<'a, R: Eprint, L: Log, A: Allocator + Copy> WatchedLog<'a, R, L, A> {
         ensures found { (trace : List Event) → (watched_state L.state self.entry).taken trace
             → Finds result.2 (reverse trace) }
     {
-        let WatchedLog {
+        let NotingLog {
             rt: _,
             alloc: _,
             log,
@@ -96,8 +96,8 @@ impl<'a, R: Eprint, L: Log, A: Allocator + Copy> WatchedLog<'a, R, L, A> {
 
     /// Tells a breach where it is new.
     fn tell<B: Allocator>(&self, before: Judgement, happening: &HappeningIn<B>) {
-        if let (Judgement::Lawful(_), Judgement::Breach(place, law)) = (before, self.judgement) {
-            tell_breach(self.rt, self.alloc, place, law, happening);
+        if let (Judgement::Lawful(_), Judgement::Breach(position, law)) = (before, self.judgement) {
+            tell_breach(self.rt, self.alloc, position, law, happening);
         }
     }
 }
@@ -106,22 +106,22 @@ impl<'a, R: Eprint, L: Log, A: Allocator + Copy> WatchedLog<'a, R, L, A> {
 fn tell_breach<R: Eprint, A: Allocator + Copy, B: Allocator>(
     rt: &R,
     alloc: A,
-    place: u64,
+    position: u64,
     law: Law,
     happening: &HappeningIn<B>,
 ) {
     match print_one(alloc, happening) {
-        Ok(text) => tell_line(rt, place, str::from_utf8(&text).unwrap_or("?"), law),
-        Err(Memory) => tell_line(rt, place, "?", law),
+        Ok(text) => tell_line(rt, position, str::from_utf8(&text).unwrap_or("?"), law),
+        Err(Memory) => tell_line(rt, position, "?", law),
     }
 }
 
-fn tell_line<R: Eprint>(rt: &R, place: u64, line: &str, law: Law) {
+fn tell_line<R: Eprint>(rt: &R, position: u64, line: &str, law: Law) {
     let line = line.trim_end();
-    let _ = eprintln!(rt; "initd: happening {place}, {line}: {law}: init goes on");
+    let _ = eprintln!(rt; "initd: happening {position}, {line}: {law}: init goes on");
 }
 
-impl<R: Eprint, L: Log, A: Allocator + Copy> Log for WatchedLog<'_, R, L, A> {
+impl<R: Eprint, L: Log, A: Allocator + Copy> Log for NotingLog<'_, R, L, A> {
     ghost use Rattle.std.specs.Prelude.{◌≡◌, true, false, is_err, OnOk, OnErr};
     ghost use Rattle.trace_events.specs.Range.{is_in_range};
     ghost use Rattle.trace_log.specs.Logs.{Gains, Stays};

@@ -8,4 +8,4 @@ use Rattle.trace_pass.specs.declared.pass.Verdict.TheVariants.{Lawful, Breach}
 -- a lawful trace has no breach
 abbrev pub fault_of : Verdict → Option Fault
 fault_of Lawful = None
-fault_of (Breach place law) = Some (fault_at place law)
+fault_of (Breach position law) = Some (fault_at position law)

@@ -44,9 +44,9 @@ fn first_breach<A: Allocator + Copy, B: Allocator>(
     requires { Judged judge.old [] }
     ensures { IfOk result (λ verdict. fault_of verdict ≡ first_breach (reverse trace.now)) }
 {
-    for (place, happening) in trace.iter().enumerate() {
+    for (position, happening) in trace.iter().enumerate() {
         if let Some(law) = judge.take(happening)? {
-            return Ok(Verdict::Breach(place, law));
+            return Ok(Verdict::Breach(position, law));
         }
     }
     Ok(Verdict::Lawful)

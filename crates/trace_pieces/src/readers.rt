@@ -31,7 +31,7 @@ pub struct TraceReader<'a, R> {
     path: String,
     file: File,
     /// How many bytes of it were read.
-    place: u64,
+    position: u64,
     /// The file behind it: nothing is written to this one any more.
     next: Option<File>,
     /// The numbers of the first piece that is read and of the newest one, where any is.
@@ -48,7 +48,7 @@ impl<'a, R: Files<File = File> + Eprint> TraceReader<'a, R> {
             program: files.program,
             path: String::from_str(alloc, path)?,
             file,
-            place: 0,
+            position: 0,
             next: None,
             pieces: None,
         })
@@ -133,7 +133,7 @@ impl<'a, R: Files<File = File> + Eprint> TraceReader<'a, R> {
         };
         let own = self.file.metadata()?;
         if are_same(&found, &own) {
-            if found.len() < self.place {
+            if found.len() < self.position {
                 let message = "another run began it anew: follow it again";
                 return Err(Error::new(ErrorKind::InvalidData, message));
             }
@@ -165,7 +165,7 @@ impl<'a, R: Files<File = File> + Eprint> TraceReader<'a, R> {
     fn go_on(&mut self) -> io::Result<bool> {
         if let Some(file) = self.next.take() {
             self.file = file;
-            self.place = 0;
+            self.position = 0;
             return Ok(true);
         }
         self.next = self.successor()?;
@@ -188,7 +188,7 @@ impl<R: Files<File = File> + Eprint> Read for TraceReader<'_, R> {
         for _ in 0..PIECES_LIMIT {
             let count = self.file.read(buf)?;
             if count > 0 || buf.is_empty() {
-                self.place = self.place.saturating_add(count as u64);
+                self.position = self.position.saturating_add(count as u64);
                 return Ok(count);
             }
             if !self.go_on()? {

@@ -44,8 +44,8 @@ pub first_kept : (trace : List Event) (h : Event) (breach : Named) → IsFirst t
 first_kept trace h breach is = record {
   first = ap first_breach (past_push trace h) ∙ ap (λ o. earlier o (breach_at (length (reverse trace)) (broken h (reverse trace)))) is.first;
   within = omega (arith, is.within, length-append trace (h ∷ []));
-  line = is.line ∙ ap (λ t. newlines (trace_text t) + 1) (sym (take-append-le breach.place trace (h ∷ []) (omega (arith, is.within))));
-  text = is.text ∙ ap (λ o. option_map_or event_text o []) (sym (got_before trace (h ∷ []) breach.place is.within));
+  line = is.line ∙ ap (λ t. newlines (trace_text t) + 1) (sym (take-append-le breach.position trace (h ∷ []) (omega (arith, is.within))));
+  text = is.text ∙ ap (λ o. option_map_or event_text o []) (sym (got_before trace (h ∷ []) breach.position is.within));
 }
 
 pub found_kept : (finding : Finding Named) (judging : Judging) (trace : List Event) (h : Event) → (finding ≡ Lawful → ⊥) → IsFound finding judging trace → IsFound finding judging (trace ++ h ∷ [])
@@ -54,9 +54,9 @@ found_kept (Breach breach) judging trace h not found = first_kept trace h breach
 found_kept (Torn number) judging trace h not found = found
 
 pub found_breach : (trace : List Event) (h : Event) (judging : Judging) (law : Law) (breach : Named) → Judged judging (reverse trace) → Some (law_number law) ≡ broken h (reverse trace)
-    → breach ≡ record { place = length trace; law = law; line = newlines (trace_text trace) + 1; text = event_text h } → IsFirst (trace ++ h ∷ []) breach
+    → breach ≡ record { position = length trace; law = law; line = newlines (trace_text trace) + 1; text = event_text h } → IsFirst (trace ++ h ∷ []) breach
 found_breach trace h judging law breach judged broke is = subst (IsFirst (trace ++ h ∷ [])) (sym is) (record {
-  first = ap first_breach (past_push trace h) ∙ breach_here h (reverse trace) (law_number law) judged.lawful broke ∙ ap (λ n. Some (record { place = n; law = law_number law })) (length-reverse trace);
+  first = ap first_breach (past_push trace h) ∙ breach_here h (reverse trace) (law_number law) judged.lawful broke ∙ ap (λ n. Some (record { position = n; law = law_number law })) (length-reverse trace);
   within = omega (arith, length-append trace (h ∷ []));
   line = ap (λ t. newlines (trace_text t) + 1) (sym (take-append_seam trace (h ∷ [])));
   text = ap (λ o. option_map_or event_text o []) (sym (got_behind trace h));
@@ -89,12 +89,12 @@ taken_at (Breach breach) state text taken = (taken.0, taken.1)
 taken_at (Torn number) state text taken = taken
 
 -- a happening more
-pub read_next : (old new : TextState) (trace : List Event) (text : List ℕ) (h : Event) → length text < 2 ^ 64 → HasRead old trace text → ReadsNext old.reading new.reading (Some h) → new.place ≡ capped (old.place + 1) → IsFound new.finding new.judging (trace ++ h ∷ []) → HasRead new (trace ++ h ∷ []) text
-read_next old new trace text h small read next place found = record {
+pub read_next : (old new : TextState) (trace : List Event) (text : List ℕ) (h : Event) → length text < 2 ^ 64 → HasRead old trace text → ReadsNext old.reading new.reading (Some h) → new.position ≡ capped (old.position + 1) → IsFound new.finding new.judging (trace ++ h ∷ []) → HasRead new (trace ++ h ∷ []) text
+read_next old new trace text h small read next position found = record {
   are = are_in_range-push trace h read.are next.0;
   whole = whole;
   lines = next.2 ∙ ap (λ n. capped (n + line_count h)) read.lines ∙ capped_is (newlines (trace_text trace) + line_count h) (omega (arith, small, within, pushed)) ∙ sym pushed;
-  place = place ∙ ap (λ n. capped (n + 1)) read.place ∙ capped_is (length trace + 1) (omega (arith, small, within, few_happenings (trace ++ h ∷ []) are, longer)) ∙ sym longer;
+  position = position ∙ ap (λ n. capped (n + 1)) read.position ∙ capped_is (length trace + 1) (omega (arith, small, within, few_happenings (trace ++ h ∷ []) are, longer)) ∙ sym longer;
   found = found;
 } where
   are : are_in_range (trace ++ h ∷ []) ≡ true
@@ -137,9 +137,9 @@ left_is state trace text over small read is = grind (arith, next_line)
 front : (state : TextState) (trace : List Event) (text : List ℕ) (left : Option ℕ) → length text < 2 ^ 64 → HasRead state trace text → is_open state.reading.over ≡ true → left ≡ option_map capped (line_left state.reading.lines state.reading.over) → IsFront trace left text
 front state trace text left small read short is = grind (arith, left_is)
 
-pub told : (finding : Finding Named) (state : TextState) (text : List ℕ) (left : Option ℕ) → state.finding ≡ finding → length text < 2 ^ 64 → TakenBy finding state text → left ≡ left_of finding (option_map capped (line_left state.reading.lines state.reading.over)) → Answers text finding left state.place
+pub told : (finding : Finding Named) (state : TextState) (text : List ℕ) (left : Option ℕ) → state.finding ≡ finding → length text < 2 ^ 64 → TakenBy finding state text → left ≡ left_of finding (option_map capped (line_left state.reading.lines state.reading.over)) → Answers text finding left state.position
 told Lawful state text left is small taken at =
     let judged : Judged state.judging (reverse taken.0) = subst (λ f. IsFound f state.judging taken.0) is taken.1.found in
-    (taken.0, front state taken.0 text left small taken.1 taken.2 at, judged.lawful, taken.1.place)
-told (Breach breach) state text left is small taken at = (taken.0, front state taken.0 text left small taken.1 taken.2 at, subst (λ f. IsFound f state.judging taken.0) is taken.1.found, taken.1.place)
+    (taken.0, front state taken.0 text left small taken.1 taken.2 at, judged.lawful, taken.1.position)
+told (Breach breach) state text left is small taken at = (taken.0, front state taken.0 text left small taken.1 taken.2 at, subst (λ f. IsFound f state.judging taken.0) is taken.1.found, taken.1.position)
 told (Torn number) state text left is small taken at = (taken, at)

@@ -14,17 +14,17 @@ use Rattle.trace_verdict.specs.Fronts.{IsFront, IsTorn}
 -- a breach: its place in the trace, from 0, the least law broken there, its line in the text, from 1, and the text of
 -- its happening
 pub record Named : Type 0 where
-  pub place : ℕ
+  pub position : ℕ
   pub law : Law
   pub line : ℕ
   pub text : List ℕ
 
 -- it is the first of the trace
 pub record IsFirst (trace : List Event) (breach : Named) : Type 0 where
-  pub first : first_breach (reverse trace) ≡ Some (fault_at breach.place breach.law)
-  pub within : breach.place < length trace
-  pub line : breach.line ≡ newlines (trace_text (take breach.place trace)) + 1
-  pub text : breach.text ≡ option_map_or event_text (slice_get trace breach.place) []
+  pub first : first_breach (reverse trace) ≡ Some (fault_at breach.position breach.law)
+  pub within : breach.position < length trace
+  pub line : breach.line ≡ newlines (trace_text (take breach.position trace)) + 1
+  pub text : breach.text ≡ option_map_or event_text (slice_get trace breach.position) []
 
 -- what is found of a text, the line at which its last happening isn't finished, and how many are: a line that begins no
 -- happening, else the verdict on the trace that is whole

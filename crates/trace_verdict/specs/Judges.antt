@@ -16,7 +16,7 @@ use Rattle.trace_verdict.specs.Readers.{Reading}
 pub record TextState : Type 0 where
   pub reading : Reading
   pub judging : Judging
-  pub place : ℕ
+  pub position : ℕ
   pub finding : Finding Named
 
 -- what was found is right of the trace so far
@@ -30,7 +30,7 @@ pub record HasRead (state : TextState) (trace : List Event) (text : List ℕ) : 
   pub are : are_in_range trace ≡ true
   pub whole : trace_text trace ++ state.reading.over ≡ text
   pub lines : state.reading.lines ≡ newlines (trace_text trace)
-  pub place : state.place ≡ length trace
+  pub position : state.position ≡ length trace
   pub found : IsFound state.finding state.judging trace
 
 -- it is at work on the text: a line of it begins no happening, or it has read a trace

@@ -20,7 +20,7 @@ pub enum Finding<B = Breach> {
 /// The first happening of a trace that breaks a law.
 #[derive(Drop)]
 pub struct Breach<A: Allocator = Global> {
-    place: u64,
+    position: u64,
     law: Law,
     line: u64,
     text: Vec<u8, A>,
@@ -32,7 +32,7 @@ impl<A: Allocator> Model for Breach<A> {
     ghost Value = { Named };
 
     ghost view = { λ b. record {
-      place = b.place;
+      position = b.position;
       law = b.law;
       line = b.line;
       text = b.text.items;
@@ -40,11 +40,11 @@ impl<A: Allocator> Model for Breach<A> {
 }
 
 impl<A: Allocator> Breach<A> {
-    pub(crate) fn new(place: u64, law: Law, line: u64, text: Vec<u8, A>) -> Breach<A>
-        ensures { result ≡ record { place = place; law = law; line = line; text = text.items } }
+    pub(crate) fn new(position: u64, law: Law, line: u64, text: Vec<u8, A>) -> Breach<A>
+        ensures { result ≡ record { position = position; law = law; line = line; text = text.items } }
     {
         Breach {
-            place,
+            position,
             law,
             line,
             text,
@@ -52,10 +52,10 @@ impl<A: Allocator> Breach<A> {
     }
 
     /// Its place among the happenings, from 0.
-    pub fn place(&self) -> u64
-        ensures { result ≡ self.now.place }
+    pub fn position(&self) -> u64
+        ensures { result ≡ self.now.position }
     {
-        self.place
+        self.position
     }
 
     /// The least law that it breaks.

@@ -26,7 +26,7 @@ pub struct TextJudge<A: Allocator = Global> {
     alloc: A,
     reader: TextReader<A>,
     judge: TraceJudge<A>,
-    place: u64,
+    position: u64,
     finding: Finding<Breach<A>>,
 }
 
@@ -38,7 +38,7 @@ impl<A: Allocator> Model for TextJudge<A> {
     ghost view = { λ j. record {
       reading = j.reader;
       judging = j.judge;
-      place = j.place;
+      position = j.position;
       finding = j.finding;
     } };
 }
@@ -48,12 +48,12 @@ fn judge_next<A: Allocator + Copy>(
     alloc: A,
     judge: &mut TraceJudge<A>,
     finding: &mut Finding<Breach<A>>,
-    place: u64,
+    position: u64,
     line: u64,
     happening: &HappeningIn<A>,
 ) -> Result<(), Memory>
     ensures ok { OnOk result ((trace : List Event) → IsFound finding.old judge.old trace
-        → place ≡ length trace → line ≡ newlines (trace_text trace) + 1
+        → position ≡ length trace → line ≡ newlines (trace_text trace) + 1
         → IsFound finding.new judge.new (trace ++ happening.now ∷ [])) }
     ensures err { OnErr result ((finding.new ≡ finding.old) × (judge.new ≡ judge.old)) }
 {
@@ -63,7 +63,7 @@ fn judge_next<A: Allocator + Copy>(
     }
     if let Some(law) = judge.take(happening)? {
         let text = print_one(alloc, happening)?;
-        *finding = Finding::Breach(Breach::new(place, law, line, text));
+        *finding = Finding::Breach(Breach::new(position, law, line, text));
     }
     Ok(())
 }
@@ -77,7 +77,7 @@ impl<A: Allocator + Copy> TextJudge<A> {
             alloc,
             reader: TextReader::new(alloc),
             judge: TraceJudge::new(alloc),
-            place: 0,
+            position: 0,
             finding: Finding::Lawful,
         }
     }
@@ -113,12 +113,12 @@ impl<A: Allocator + Copy> TextJudge<A> {
                     self.alloc,
                     &mut self.judge,
                     &mut self.finding,
-                    self.place,
+                    self.position,
                     line,
                     &happening,
                 )?;
                 self.reader.skip(&happening, size);
-                self.place = self.place.saturating_add(1);
+                self.position = self.position.saturating_add(1);
                 Ok(true)
             }
             Ok(None) => Ok(false),
@@ -170,6 +170,6 @@ impl<A: Allocator + Copy> TextJudge<A> {
             → Answers text result.0.now result.1 result.2 }
     {
         let left = self.left();
-        (&self.finding, left, self.place)
+        (&self.finding, left, self.position)
     }
 }

@@ -5,8 +5,8 @@ ghost use Rattle.trace_view.specs.Words.{Event, stage_of, at};
 ghost use Rattle.trace_view.specs.LastLines.{Lined, born_in, early_in, held_in, is_entering, is_table, kinds_of, last_line, last_of, later, line_after, line_at_fault, line_behind, names, ordered_in, reaped_in, unborn_in, wish_line};
 
 use crate::children::{is_early, newborn};
-use crate::rows::{ById, nothing, of_id};
-use crate::seen_texts::Sees;
+use crate::rows::{ById, empty_map, of_id};
+use crate::seen_texts::TraceObserver;
 use crate::views::TraceView;
 use crate::whys::Why;
 use crate::wishes::Wish;
@@ -282,18 +282,18 @@ impl<A: Allocator> LastLines<A> {
     }
 }
 
-impl<A: Allocator + Copy> Sees<A> for LastLines<A> {
+impl<A: Allocator + Copy> TraceObserver<A> for LastLines<A> {
     ghost has_seen = { Lined };
 
     fn new(alloc: A) -> LastLines<A> {
         LastLines {
             kinds: KindLines::default(),
-            births: nothing(alloc),
-            early: nothing(alloc),
-            failures: nothing(alloc),
-            reapings: nothing(alloc),
-            orders: nothing(alloc),
-            holds: nothing(alloc),
+            births: empty_map(alloc),
+            early: empty_map(alloc),
+            failures: empty_map(alloc),
+            reapings: empty_map(alloc),
+            orders: empty_map(alloc),
+            holds: empty_map(alloc),
         }
     }
 

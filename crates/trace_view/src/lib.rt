@@ -20,7 +20,7 @@ pub use children::BornChild;
 pub use last_lines::LastLines;
 pub use laws::law_of_reasons;
 pub use rows::{Births, Ending, Row};
-pub use seen_texts::{SeenText, Sees};
+pub use seen_texts::{ObservedTrace, TraceObserver};
 pub use standings::{Excluded, Standing};
 pub use text_views::{TextView, ViewEnd};
 pub use views::TraceView;

@@ -52,7 +52,7 @@ pub struct Row {
 pub(crate) type ById<V, A> = IndexMap<Id, V, BuildHasherDefault<FoldHasher>, A>;
 
 /// Nothing of any id. It takes no memory.
-pub(crate) fn nothing<V, A: Allocator + Copy>(alloc: A) -> ById<V, A>
+pub(crate) fn empty_map<V, A: Allocator + Copy>(alloc: A) -> ById<V, A>
     ensures { result.entries ≡ [] }
 {
     IndexMap::new(alloc)

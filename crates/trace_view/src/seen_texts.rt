@@ -15,7 +15,7 @@ use trace_check::Law;
 use trace_events::HappeningIn;
 
 /// What sees the happenings of a trace, one after another, the oldest first.
-pub trait Sees<A: Allocator> {
+pub trait TraceObserver<A: Allocator> {
     /// It has seen this past, the newest happening first.
     ghost has_seen: { Self → List Event → Type 0 };
 
@@ -41,12 +41,12 @@ pub trait Sees<A: Allocator> {
 ///
 /// A contract sees of it which texts it has taken (`HasSeenText`).
 #[derive(Drop)]
-pub struct SeenText<S: Drop, A: Allocator = Global> {
+pub struct ObservedTrace<S: Drop, A: Allocator = Global> {
     view: TextView<A>,
     seen: S,
 }
 
-impl<S: Drop, A: Allocator> Model for SeenText<S, A> {
+impl<S: Drop, A: Allocator> Model for ObservedTrace<S, A> {
     ghost use Rattle.trace_view.specs.SeenTexts.{SeenState};
 
     ghost Value = { SeenState S };
@@ -54,12 +54,12 @@ impl<S: Drop, A: Allocator> Model for SeenText<S, A> {
     ghost view = { λ t. record { viewing = t.view; seen = t.seen } };
 }
 
-impl<S: Sees<A> + Drop, A: Allocator + Copy> SeenText<S, A> {
+impl<S: TraceObserver<A> + Drop, A: Allocator + Copy> ObservedTrace<S, A> {
     /// Nothing was taken yet, and nothing seen. It takes no memory.
-    pub fn new(alloc: A) -> SeenText<S, A>
+    pub fn new(alloc: A) -> ObservedTrace<S, A>
         ensures { HasSeenText S.has_seen result [] }
     {
-        SeenText {
+        ObservedTrace {
             view: TextView::new(alloc),
             seen: S::new(alloc),
         }
@@ -140,7 +140,7 @@ impl<S: Sees<A> + Drop, A: Allocator + Copy> SeenText<S, A> {
 }
 
 /// Nothing else sees the happenings.
-impl<A: Allocator> Sees<A> for () {
+impl<A: Allocator> TraceObserver<A> for () {
     ghost use Rattle.std.specs.Prelude.{⊤};
 
     ghost has_seen = { λ _ _. ⊤ };

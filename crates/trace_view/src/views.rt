@@ -13,7 +13,7 @@ use crate::children::{
     BornChild, child_of_id, excluded_of, excludes, gone_of, has_born_as, number_of_id, take_early,
     take_kept, take_unreaped,
 };
-use crate::rows::{Births, ById, Ending, Row, nothing, of_id, take_birth, take_end};
+use crate::rows::{Births, ById, Ending, Row, empty_map, of_id, take_birth, take_end};
 use crate::standings::Standing;
 use crate::whys::{Why, why_by};
 use crate::wishes::{Wish, Wishes};
@@ -139,9 +139,9 @@ impl<A: Allocator + Copy> TraceView<A> {
             kept: Vec::new(alloc),
             wishes: Wishes::default(),
             calls: CallSet::default(),
-            births: nothing(alloc),
+            births: empty_map(alloc),
             early: Vec::new(alloc),
-            ends: nothing(alloc),
+            ends: empty_map(alloc),
         }
     }
 

@@ -2,5 +2,5 @@ use Rattle.core_steps.proofs.Words.{◌≡◌, take, is_named, with_called}
 use Rattle.core_steps.proofs.calling.call_named.Given as goal
 
 -- the entries so far are called
-abbrev pub invariant-loop-place : goal.invariant-loop-place
-invariant-loop-place g l = l.slots ≡ with_called (is_named l.step l.stage) (take l.place l.table) l.fn.slots
+abbrev pub invariant-loop-position : goal.invariant-loop-position
+invariant-loop-position g l = l.slots ≡ with_called (is_named l.step l.stage) (take l.position l.table) l.fn.slots

@@ -2,5 +2,5 @@ use Rattle.core_steps.proofs.Words.{arith, zip, Some, is_passed_at}
 use Rattle.core_steps.proofs.Places.{one_further}
 use Rattle.core_steps.proofs.walking.passed_to.Goals as goal
 
-pub loop-place-preserved : goal.loop-place-preserved
-loop-place-preserved g c = (omega (arith, c.loop-place.invariant.0), one_further (is_passed_at (Some c.args.stage) c.args.now (zip c.args.table.now c.args.slots.now)) c.args.from c.loop-place.place c.loop-place.invariant.1 c.if-not-is_passed_at.ensures)
+pub loop-position-preserved : goal.loop-position-preserved
+loop-position-preserved g c = (omega (arith, c.loop-position.invariant.0), one_further (is_passed_at (Some c.args.stage) c.args.now (zip c.args.table.now c.args.slots.now)) c.args.from c.loop-position.position c.loop-position.invariant.1 c.if-not-is_passed_at.ensures)

@@ -1,4 +1,4 @@
-use Rattle.init_turns.proofs.Words.{rules, ◌≡◌, refl, sym, subst, List, ◌∷◌, Ok, Err, Clock, Counted, Event, Hears, Logs, Tracks, clocked, Hears-none, Hears-told, Hears-tracks, Leads-clock, AddsMade-same, IsReading, MakesOver, kept_still, Grows-none, GrowsBy, GrowsBy-call, GrowsBy-none, GrowsBy-one}
+use Rattle.init_turns.proofs.Words.{rules, ◌≡◌, refl, sym, subst, List, ◌∷◌, Ok, Err, Clock, Counted, Event, Hears, Logs, Tracks, clocked, Hears-none, Hears-told, Hears-tracks, Leads-clock, AddsStamped-same, IsReading, MakesOver, kept_still, Grows-none, GrowsBy, GrowsBy-call, GrowsBy-none, GrowsBy-one}
 use Rattle.trace_events.specs.declared.happenings.Happening.TheVariants as past
 use Rattle.init_turns.proofs.Lasting.{clock_lasts}
 use Rattle.init_turns.proofs.Parts.{Makes-one}
@@ -16,7 +16,7 @@ returns-in-Ok-clause-makes g c =
     let logs : (so_far : List Event) → Logs old new so_far (past.Clock c.in-Ok.reading ∷ so_far) =
     subst (λ l. (so_far : List Event) → Logs (g.L.Log.state l) new so_far (past.Clock c.in-Ok.reading ∷ so_far)) c.clock.ensures.log c.note.ensures.logs in
     Makes-one g.L.Log.state told c.note.new.self.told old new log (Clock c.clock.result) IsReading (Tracks core) (λ goal p. Tracks behind goal p × Counted 0 goal p)
-    (AddsMade-same told told c.clock.new.self.told c.note.new.self.told (Clock c.clock.result) log refl c.note.ensures.told c.clock.ensures.adds) (c.clock.result, refl)
+    (AddsStamped-same told told c.clock.new.self.told c.note.new.self.told (Clock c.clock.result) log refl c.note.ensures.told c.clock.ensures.adds) (c.clock.result, refl)
     (Leads-clock core behind old new c.clock.result
     (subst (λ r. Hears (Tracks core) (Tracks behind) old new (clocked r)) (sym is)
     (Hears-tracks core behind old new (clocked (Ok c.in-Ok.reading)) (clock_lasts core behind c.in-Ok.reading c.clock-in-Ok.ensures.state)

@@ -1,4 +1,4 @@
-use Rattle.init_turns.proofs.Words.{rules, ◌≡◌, ◌∙◌, ◌+◌, refl, sym, subst, true, false, Late, Counted, Hears, Tracks, come, Hears-last, Hears-more, Leads-late, AddsMade-same, IsLate, kept_still, Grows-none, GrowsBy-call, GrowsBy-then}
+use Rattle.init_turns.proofs.Words.{rules, ◌≡◌, ◌∙◌, ◌+◌, refl, sym, subst, true, false, Late, Counted, Hears, Tracks, come, Hears-last, Hears-more, Leads-late, AddsStamped-same, IsLate, kept_still, Grows-none, GrowsBy-call, GrowsBy-then}
 use Rattle.init_turns.proofs.Parts.{Makes-one}
 use Rattle.init_turns.proofs.Taken.{room_left}
 use Rattle.init_turns.proofs.hearing.hear_late.Goals as goal
@@ -15,7 +15,7 @@ returns-then-last-clause-lates g c =
     let now_told = c.begin_round.new.edge.told in
     let now : c.is_last-last.result ≡ true = search rules in
     Makes-one g.L.Log.state told now_told old new log (Late late) (IsLate c.args.asked c.is_last-last.result) (λ goal p. Tracks core goal p × Counted c.args.asked goal p) (λ goal p. Tracks c.begin_round.new.core goal p × Counted (c.args.asked + 1) goal p)
-    (AddsMade-same told told c.late-late.new.self.told now_told (Late late) log refl (c.begin_round.ensures.told ∙ c.hear_come.ensures.told) c.late-late.ensures.adds) (late, refl, c.is_last-last.ensures)
+    (AddsStamped-same told told c.late-late.new.self.told now_told (Late late) log refl (c.begin_round.ensures.told ∙ c.hear_come.ensures.told) c.late-late.ensures.adds) (late, refl, c.is_last-last.ensures)
     (Leads-late core c.begin_round.new.core old new late c.args.asked
     (Hears-last (Tracks core) (Tracks c.hear_come.new.core) (Tracks c.begin_round.new.core) old mid new late c.args.asked (sym c.is_last-last.ensures ∙ now)
     (subst (λ l. Hears (Tracks core) (Tracks c.hear_come.new.core) (g.L.Log.state l) mid (come late)) c.late-late.ensures.log c.hear_come.ensures.hears) c.begin_round.ensures.hears))
@@ -36,7 +36,7 @@ returns-else-last-clause-lates g c =
     let now_told = c.hear_come.new.edge.told in
     let more : c.is_last-last.result ≡ false = search rules in
     Makes-one g.L.Log.state told now_told old new log (Late late) (IsLate c.args.asked c.is_last-last.result) (λ goal p. Tracks core goal p × Counted c.args.asked goal p) (λ goal p. Tracks c.hear_come.new.core goal p × Counted (c.args.asked + 1) goal p)
-    (AddsMade-same told told c.late-late.new.self.told now_told (Late late) log refl c.hear_come.ensures.told c.late-late.ensures.adds) (late, refl, c.is_last-last.ensures)
+    (AddsStamped-same told told c.late-late.new.self.told now_told (Late late) log refl c.hear_come.ensures.told c.late-late.ensures.adds) (late, refl, c.is_last-last.ensures)
     (Leads-late core c.hear_come.new.core old new late c.args.asked
     (Hears-more (Tracks core) (Tracks c.hear_come.new.core) old new late c.args.asked (sym c.is_last-last.ensures ∙ more)
     (subst (λ l. Hears (Tracks core) (Tracks c.hear_come.new.core) (g.L.Log.state l) new (come late)) c.late-late.ensures.log c.hear_come.ensures.hears)))

@@ -1,4 +1,4 @@
-use Rattle.init_turns.proofs.Words.{rules, ◌≡◌, ◌∙◌, refl, sym, ap, subst, length, take, ◌∷◌, [], Ok, Err, arith, TakeBytes, front_read, Leads, bytes_in, Leads-still, AddsMade-same, IsTake, MakesOver, kept_still, GrowsReading, GrowsReading-none}
+use Rattle.init_turns.proofs.Words.{rules, ◌≡◌, ◌∙◌, refl, sym, ap, subst, length, take, ◌∷◌, [], Ok, Err, arith, TakeBytes, front_read, Leads, bytes_in, Leads-still, AddsStamped-same, IsTake, MakesOver, kept_still, GrowsReading, GrowsReading-none}
 use Rattle.std.proofs.lemmas.Grind.{common_steps}
 use Rattle.host_trace.specs.Leads.{At}
 use Rattle.init_turns.proofs.Parts.{Makes-one}
@@ -36,7 +36,7 @@ returns-clause-takes g c =
     let before = At c.args.core.now c.args.blocks.now in
     let behind = At c.hear_bytes.new.core c.hear_bytes.new.blocks in
     Makes-one g.L.Log.state told now_told old new log (TakeBytes room taken) (IsTake c.args.taken c.in-Ok.count) before behind
-    (AddsMade-same told told c.take_bytes.new.self.told now_told (TakeBytes room taken) log refl c.hear_bytes.ensures.told c.take_bytes.ensures.adds) (room, taken, refl, c.requires, ap bytes_in some ∙ whole)
+    (AddsStamped-same told told c.take_bytes.new.self.told now_told (TakeBytes room taken) log refl c.hear_bytes.ensures.told c.take_bytes.ensures.adds) (room, taken, refl, c.requires, ap bytes_in some ∙ whole)
     (subst (λ t. Leads before behind old new (TakeBytes room t ∷ [])) (sym some)
     (subst (λ l. Leads before behind (g.L.Log.state l) new (TakeBytes room (Ok (take c.in-Ok.count buffer)) ∷ [])) c.take_bytes.ensures.log (c.hear_bytes.ensures.leads room)))
     (kept_still before old (TakeBytes room taken) (λ so_far. refl))

@@ -1,4 +1,4 @@
-use Rattle.init_turns.proofs.Words.{rules, ◌≡◌, refl, sym, subst, List, ◌∷◌, [], false, StillFits, Announce, ReadTables, OnEachTrace, Event, Gave, Lasts, Leads, Logs, Tracks, Leads-not_read, AddsMade-same, IsReread, MakesOver, kept_led, kept_still, GrowsBy, GrowsBy-one, GrowsBy-then}
+use Rattle.init_turns.proofs.Words.{rules, ◌≡◌, refl, sym, subst, List, ◌∷◌, [], false, StillFits, Announce, ReadTables, OnEachTrace, Event, Gave, Lasts, Leads, Logs, Tracks, Leads-not_read, AddsStamped-same, IsReread, MakesOver, kept_led, kept_still, GrowsBy, GrowsBy-one, GrowsBy-then}
 use Rattle.trace_events.specs.declared.happenings.Happening.TheVariants as past
 use Rattle.trace_events.specs.declared.steps.Step.TheVariants as step
 use Rattle.init_turns.proofs.Parts.{Makes-two}
@@ -26,7 +26,7 @@ returns-clause-makes g c =
     (subst (λ l. (so_far : List Event) → Logs (g.L.Log.state l) now so_far (past.NotRead ∷ so_far)) (c.use_table.ensures.log failed) c.write.ensures.logs) in
     subst (λ l. MakesOver g.L.Log.state told now_told old (g.L.Log.state l) (IsReread c.args.strict) before (Tracks new)) (sym c.announce.ensures.log)
     (Makes-two g.L.Log.state told mid_told now_told old now log now_log (ReadTables read.0) (Announce past.NotRead) (IsReread c.args.strict) before (Tracks new)
-    refl read.1 (AddsMade-same mid_told c.write.new.self.told now_told now_told (Announce past.NotRead) now_log c.write.ensures.told refl c.announce.ensures.adds) refl leads
+    refl read.1 (AddsStamped-same mid_told c.write.new.self.told now_told now_told (Announce past.NotRead) now_log c.write.ensures.told refl c.announce.ensures.adds) refl leads
     (kept_still before old (ReadTables read.0) (λ so_far. refl)) (kept_led before (Tracks new) old now past.NotRead (ReadTables read.0 ∷ []) leads))
 
 pub returns-clause-grows : goal.returns-clause-grows

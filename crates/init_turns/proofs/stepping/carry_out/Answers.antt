@@ -8,31 +8,31 @@ pub returns-in-Enter-clause-makes : goal.returns-in-Enter-clause-makes
 returns-in-Enter-clause-makes g c =
     let is : c.args.step.now ≡ step.Enter c.in-Enter.stage c.in-Enter.grace = search rules in
     Makes-said g.L.Log.state c.args.strict c.args.edge.now.told c.tell.new.edge.told (g.L.Log.state c.args.edge.now.log) (g.L.Log.state c.tell.new.edge.log) c.args.core.now c.args.step.now (step.Enter c.in-Enter.stage c.in-Enter.grace) (past.Enter c.in-Enter.stage c.in-Enter.grace)
-    is refl (record { step = λ so_far. refl; said = refl; place = λ goal earlier so_far due_now. first_is goal so_far (step.Enter c.in-Enter.stage c.in-Enter.grace) due_now }) c.tell.ensures.makes
+    is refl (record { step = λ so_far. refl; said = refl; position = λ goal earlier so_far due_now. first_is goal so_far (step.Enter c.in-Enter.stage c.in-Enter.grace) due_now }) c.tell.ensures.makes
 
 pub returns-in-Call-clause-makes : goal.returns-in-Call-clause-makes
 returns-in-Call-clause-makes g c =
     let is : c.args.step.now ≡ step.Call c.in-Call.letter = search rules in
     Makes-said g.L.Log.state c.args.strict c.args.edge.now.told c.tell-in-Call.new.edge.told (g.L.Log.state c.args.edge.now.log) (g.L.Log.state c.tell-in-Call.new.edge.log) c.args.core.now c.args.step.now (step.Call c.in-Call.letter) (past.Call c.in-Call.letter)
-    is refl (record { step = λ so_far. refl; said = refl; place = λ goal earlier so_far due_now. first_is goal so_far (step.Call c.in-Call.letter) due_now }) c.tell-in-Call.ensures.makes
+    is refl (record { step = λ so_far. refl; said = refl; position = λ goal earlier so_far due_now. first_is goal so_far (step.Call c.in-Call.letter) due_now }) c.tell-in-Call.ensures.makes
 
 pub returns-in-Power-clause-makes : goal.returns-in-Power-clause-makes
 returns-in-Power-clause-makes g c =
     let is : c.args.step.now ≡ step.Power c.in-Power.kind = search rules in
     Makes-said g.L.Log.state c.args.strict c.args.edge.now.told c.tell-in-Power.new.edge.told (g.L.Log.state c.args.edge.now.log) (g.L.Log.state c.tell-in-Power.new.edge.log) c.args.core.now c.args.step.now (step.Power c.in-Power.kind) (past.Power c.in-Power.kind)
-    is refl (record { step = λ so_far. refl; said = refl; place = λ goal earlier so_far due_now. first_is goal so_far (step.Power c.in-Power.kind) due_now }) c.tell-in-Power.ensures.makes
+    is refl (record { step = λ so_far. refl; said = refl; position = λ goal earlier so_far due_now. first_is goal so_far (step.Power c.in-Power.kind) due_now }) c.tell-in-Power.ensures.makes
 
 pub returns-in-Hold-clause-makes : goal.returns-in-Hold-clause-makes
 returns-in-Hold-clause-makes g c =
     let is : c.args.step.now ≡ step.Hold c.in-Hold.id = search rules in
     Makes-said g.L.Log.state c.args.strict c.args.edge.now.told c.tell-in-Hold.new.edge.told (g.L.Log.state c.args.edge.now.log) (g.L.Log.state c.tell-in-Hold.new.edge.log) c.args.core.now c.args.step.now (step.Hold c.in-Hold.id) (past.Hold c.in-Hold.id)
-    is refl (record { step = λ so_far. refl; said = refl; place = λ goal earlier so_far due_now. first_is goal so_far (step.Hold c.in-Hold.id) due_now }) c.tell-in-Hold.ensures.makes
+    is refl (record { step = λ so_far. refl; said = refl; position = λ goal earlier so_far due_now. first_is goal so_far (step.Hold c.in-Hold.id) due_now }) c.tell-in-Hold.ensures.makes
 
 pub returns-in-Settle-clause-makes : goal.returns-in-Settle-clause-makes
 returns-in-Settle-clause-makes g c =
     let is : c.args.step.now ≡ step.Settle c.in-Settle.level = search rules in
     Makes-said g.L.Log.state c.args.strict c.args.edge.now.told c.tell-in-Settle.new.edge.told (g.L.Log.state c.args.edge.now.log) (g.L.Log.state c.tell-in-Settle.new.edge.log) c.args.core.now c.args.step.now (step.Settle c.in-Settle.level) (past.Settle c.in-Settle.level)
-    is refl (record { step = λ so_far. refl; said = refl; place = λ goal earlier so_far due_now. first_is goal so_far (step.Settle c.in-Settle.level) due_now }) c.tell-in-Settle.ensures.makes
+    is refl (record { step = λ so_far. refl; said = refl; position = λ goal earlier so_far due_now. first_is goal so_far (step.Settle c.in-Settle.level) due_now }) c.tell-in-Settle.ensures.makes
 
 pub returns-in-Idle-clause-makes : goal.returns-in-Idle-clause-makes
 returns-in-Idle-clause-makes g c =

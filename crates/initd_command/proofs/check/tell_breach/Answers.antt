@@ -17,5 +17,5 @@ pub returns : goal.returns
 returns g c =
     let verdict : c.as_bytes.result.now ≡ unlawful_text c.args.breach.now = search rules in
     let message : c.deref.result.now ≡ breach_message c.args.breach.now = search rules in
-    let said : Appends (g.W.Write.contents c.args.out.now) (g.W.Write.contents c.tell.new.out) (unlawful_text c.args.breach.now) = subst (λ text. Appends (g.W.Write.contents c.args.out.now) (g.W.Write.contents c.tell.new.out) text) verdict (c.tell.ensures.whole (search rules)) in
-    (unlawful c.deref.result.now _, refl, (message, refl, said), (g.E.Write.contents c.report_bytes.new.err, c.report_bytes.ensures, c.report_judged.ensures))
+    let options : Appends (g.W.Write.contents c.args.out.now) (g.W.Write.contents c.tell.new.out) (unlawful_text c.args.breach.now) = subst (λ text. Appends (g.W.Write.contents c.args.out.now) (g.W.Write.contents c.tell.new.out) text) verdict (c.tell.ensures.whole (search rules)) in
+    (unlawful c.deref.result.now _, refl, (message, refl, options), (g.E.Write.contents c.report_bytes.new.err, c.report_bytes.ensures, c.report_judged.ensures))

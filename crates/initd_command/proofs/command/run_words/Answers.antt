@@ -8,12 +8,12 @@ use Rattle.initd_command.proofs.Ran.{none_asked}
 use Rattle.initd_command.proofs.command.run_words.Goals as goal
 
 -- words that were read end, and ask, by what they say
-by_words : (text_at : KnownTexts) (words : List (List ℕ)) (said : Option InitdSaid) (own : Type 0) (ending : Ending)
+by_words : (text_at : KnownTexts) (words : List (List ℕ)) (options : Option InitdSaid) (own : Type 0) (ending : Ending)
     (old new : RunTold)
-    → initd_read_of words ≡ said → EndsRead text_at words said ending old.out new.out
-    → AsksSaid text_at said own ending old new
+    → initd_read_of words ≡ options → EndsRead text_at words options ending old.out new.out
+    → AsksSaid text_at options own ending old new
     → EndsBy text_at words ending old.out new.out × AsksBy text_at words own ending old new
-by_words text_at words said own ending old new is ends asks = (
+by_words text_at words options own ending old new is ends asks = (
   inr (subst (λ s. EndsRead text_at words s ending old.out new.out) (sym is) ends),
   subst (λ s. AsksSaid text_at s own ending old new) (sym is) asks,
 )
@@ -25,9 +25,9 @@ pub returns-in-Ok-Simulate : goal.returns-in-Ok-Simulate
 returns-in-Ok-Simulate g c =
     let (ending, status, ends, reported) = c.simulate_files.ensures in
     let is : initd_read_of (map string_bytes c.args.words.items)
-    ≡ Some (simulates (simulation_of c.in-Ok-Simulate.said)) = search rules in
+    ≡ Some (simulates (simulation_of c.in-Ok-Simulate.options)) = search rules in
     let so = by_words (g.T.Texts.text_at c.args.texts.now) (map string_bytes c.args.words.items)
-    (Some (simulates (simulation_of c.in-Ok-Simulate.said))) (g.S.Hosts.own c.args.hosts.now) ending
+    (Some (simulates (simulation_of c.in-Ok-Simulate.options))) (g.S.Hosts.own c.args.hosts.now) ending
     (told (g.S.Hosts.opened c.args.hosts.now) (g.S.Hosts.told c.args.hosts.now) (g.F.Traces.told c.args.traces.now)
     (g.W.Write.contents c.args.out.now))
     (told (g.S.Hosts.opened c.args.hosts.now) (g.S.Hosts.told c.args.hosts.now) (g.F.Traces.told c.args.traces.now)
@@ -37,10 +37,10 @@ returns-in-Ok-Simulate g c =
 pub returns-in-Ok-Check : goal.returns-in-Ok-Check
 returns-in-Ok-Check g c =
     let (ending, status, ends, reported) = c.check_files.ensures in
-    let is : initd_read_of (map string_bytes c.args.words.items) ≡ Some (judges (check_of c.in-Ok-Check.said)) =
+    let is : initd_read_of (map string_bytes c.args.words.items) ≡ Some (judges (check_of c.in-Ok-Check.options)) =
     search rules in
     let so = by_words (g.T.Texts.text_at c.args.texts.now) (map string_bytes c.args.words.items)
-    (Some (judges (check_of c.in-Ok-Check.said))) (g.S.Hosts.own c.args.hosts.now) ending
+    (Some (judges (check_of c.in-Ok-Check.options))) (g.S.Hosts.own c.args.hosts.now) ending
     (told (g.S.Hosts.opened c.args.hosts.now) (g.S.Hosts.told c.args.hosts.now) (g.F.Traces.told c.args.traces.now)
     (g.W.Write.contents c.args.out.now))
     (told (g.S.Hosts.opened c.args.hosts.now) (g.S.Hosts.told c.args.hosts.now) (g.F.Traces.told c.args.traces.now)
@@ -50,10 +50,10 @@ returns-in-Ok-Check g c =
 pub returns-in-Ok-Run : goal.returns-in-Ok-Run
 returns-in-Ok-Run g c =
     let (ending, status, ends, reported, ran) = c.run_files.ensures in
-    let is : initd_read_of (map string_bytes c.args.words.items) ≡ Some (runs (run_of c.in-Ok-Run.said)) =
+    let is : initd_read_of (map string_bytes c.args.words.items) ≡ Some (runs (run_of c.in-Ok-Run.options)) =
     search rules in
     let so = by_words (g.T.Texts.text_at c.args.texts.now) (map string_bytes c.args.words.items)
-    (Some (runs (run_of c.in-Ok-Run.said))) (g.S.Hosts.own c.run_files.new.hosts) ending
+    (Some (runs (run_of c.in-Ok-Run.options))) (g.S.Hosts.own c.run_files.new.hosts) ending
     (told (g.S.Hosts.opened c.args.hosts.now) (g.S.Hosts.told c.args.hosts.now) (g.F.Traces.told c.args.traces.now)
     (g.W.Write.contents c.args.out.now))
     (told (g.S.Hosts.opened c.run_files.new.hosts) (g.S.Hosts.told c.run_files.new.hosts)

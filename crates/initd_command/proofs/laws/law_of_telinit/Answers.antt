@@ -51,15 +51,15 @@ same : (path : List ℕ) → bytes_eq path path ≡ true
 same path = (bytes_eq-Decides path path).1 refl
 
 pub returns : goal.returns
-returns c home words old new (path, block, (said, read, at, frame), whole, gained) = (
+returns c home words old new (path, block, (options, read, at, frame), whole, gained) = (
   path,
   block,
-  (said, read, at, frame),
+  (options, read, at, frame),
   λ stood was. (
     stood ++ block,
     gained path ∙ ap (λ (b : Bool). if b then option_map (λ bytes. bytes ++ block) (old path) else old path) (same path)
         ∙ ap (option_map (λ bytes. bytes ++ block)) was,
     brings_next stood block (subst (λ o. IfSome o (λ bytes. length bytes % 384 ≡ 0)) was whole)
-        (ap length (sym frame) ∙ whole_block said.request),
+        (ap length (sym frame) ∙ whole_block options.request),
   ),
 )

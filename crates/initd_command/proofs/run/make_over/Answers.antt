@@ -3,8 +3,8 @@ use Rattle.host_calls.proofs.Record.{Since-map}
 use Rattle.initd_command.proofs.Ran.{brief_written, made_traced, plain_written, some_known}
 use Rattle.initd_command.proofs.run.make_over.Goals as goal
 
-pub returns-then-said : goal.returns-then-said
-returns-then-said g c =
+pub returns-then-options : goal.returns-then-options
+returns-then-options g c =
     let (end, status, served, reported, made) = c.make_turns.ensures in
     let taken = some_known (g.S.Write.contents c.args.files) [] _ c.requires.nothing c.new-log.ensures.nothing in (
       end,
@@ -12,8 +12,8 @@ returns-then-said g c =
       served,
       reported,
       λ bytes is table opens. Since-map _ _ _ _ (made table opens) (λ calls.
-          made_traced _ _ (run_of c.args.said.now) table end (c.new.ensures.nothing taken) bytes calls c.requires.trace
-          (brief_written _ bytes is c.args.said.now.brief c.if-said.true)),
+          made_traced _ _ (run_of c.args.options.now) table end (c.new.ensures.nothing taken) bytes calls c.requires.trace
+          (brief_written _ bytes is c.args.options.now.brief c.if-options.true)),
     )
 
 pub returns : goal.returns
@@ -25,6 +25,6 @@ returns g c =
       served,
       reported,
       λ bytes is table opens. Since-map _ _ _ _ (made table opens) (λ calls.
-          made_traced _ _ (run_of c.args.said.now) table end taken bytes calls c.requires.trace
-          (plain_written _ bytes is c.args.said.now.brief c.if-said.false)),
+          made_traced _ _ (run_of c.args.options.now) table end taken bytes calls c.requires.trace
+          (plain_written _ bytes is c.args.options.now.brief c.if-options.false)),
     )

@@ -11,7 +11,7 @@ writes false text old new whole part = part
 pub returns-clause-ended : goal.returns-clause-ended
 returns-clause-ended g c =
     let (end, status, served, reported, bytes, grown, made) = c.make_traced-status.ensures in (
-      record { unled = c.args.run.is_unled; told = c.tell-is_told.result; printed = c.close-is_printed.result },
+      record { unled = c.args.run.has_no_level; told = c.tell-is_told.result; printed = c.close-is_printed.result },
       refl,
       end,
       c.status_where.ensures
@@ -33,6 +33,6 @@ returns-clause-ended g c =
       bytes,
       grown,
       λ table opens. subst (λ now. Since (g.H.Host.told c.args.run.host) now
-          (MakesTraced (run_of c.args.said.now) table end bytes)) (sym c.close-is_printed.ensures.told)
+          (MakesTraced (run_of c.args.options.now) table end bytes)) (sym c.close-is_printed.ensures.told)
           (made table opens),
     )

@@ -7,7 +7,7 @@ use Rattle.initd_command.proofs.run.make_turns.Goals as goal
 
 pub returns : goal.returns
 returns g c =
-    let service = run_of c.args.said.now in
+    let service = run_of c.args.options.now in
     let state = g.L.Log.state in
     let has_ended = g.L.EndedLog.has_ended c.end-left.result.0 in
     let notes = c.into_parts-log.result.1 in

@@ -5,7 +5,7 @@ use Rattle.initd_command.proofs.run.open_run.Goals as goal
 pub returns-in_err-trace-clause-err : goal.returns-in_err-trace-clause-err
 returns-in_err-trace-clause-err g c =
     let text_at = g.T.Texts.text_at c.args.texts.now in
-    let service = run_of c.args.said.now in
+    let service = run_of c.args.options.now in
     handed_on c.from_residual-in_err-trace.result c.in_err-trace.field-0.0
     (IsInWay text_at service) c.from_residual-in_err-trace.ensures.1
     (c.in_err-trace.ensures.err text_at (read_taken text_at service c.in_ok-table.field-0 c.in_ok-table.ensures.ok))
@@ -17,4 +17,4 @@ pub returns-in_err-refuse_shared-clause-err : goal.returns-in_err-refuse_shared-
 returns-in_err-refuse_shared-clause-err g c =
     let text_at = g.T.Texts.text_at c.args.texts.now in
     handed_on c.from_residual.result c.in_err-refuse_shared.field-0.0
-    (IsInWay text_at (run_of c.args.said.now)) c.from_residual.ensures.1 (c.in_err-refuse_shared.ensures text_at)
+    (IsInWay text_at (run_of c.args.options.now)) c.from_residual.ensures.1 (c.in_err-refuse_shared.ensures text_at)

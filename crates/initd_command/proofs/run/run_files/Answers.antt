@@ -7,7 +7,7 @@ use Rattle.initd_command.proofs.run.run_files.Goals as goal
 pub returns-in-Ok : goal.returns-in-Ok
 returns-in-Ok g c =
     let text_at = g.T.Texts.text_at c.args.texts.now in
-    let service = run_of c.args.said.now in
+    let service = run_of c.args.options.now in
     let run = c.in-Ok.run' in
     let out = g.W.Write.contents c.args.out.now in
     let now_out = g.W.Write.contents c.make_run.new.out in

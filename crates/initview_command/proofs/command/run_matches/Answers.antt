@@ -5,8 +5,8 @@ use Rattle.initview_command.proofs.command.run_matches.Goals as goal
 pub returns-in-Some-clause-ends : goal.returns-in-Some-clause-ends
 returns-in-Some-clause-ends g c =
     let text_at = g.T.Texts.text_at c.args.texts.now in
-    let growing_at = g.G.GrowingTexts.text_at c.args.growing.now in
-    let writers = g.G.GrowingTexts.writer_at c.args.growing.now in
+    let growing_at = g.G.LiveTraces.text_at c.args.growing.now in
+    let writers = g.G.LiveTraces.writer_at c.args.growing.now in
     let old = g.S.Says.said c.args.out.now in
     let new = g.S.Says.said c.run_given.new.out in
     let rows = rows_of (found_of c.args.matches.now) in
@@ -16,8 +16,8 @@ returns-in-Some-clause-ends g c =
 pub returns-in-None-clause-ends : goal.returns-in-None-clause-ends
 returns-in-None-clause-ends g c =
     let text_at = g.T.Texts.text_at c.args.texts.now in
-    let growing_at = g.G.GrowingTexts.text_at c.args.growing.now in
-    let writers = g.G.GrowingTexts.writer_at c.args.growing.now in
+    let growing_at = g.G.LiveTraces.text_at c.args.growing.now in
+    let writers = g.G.LiveTraces.writer_at c.args.growing.now in
     let old = g.S.Says.said c.args.out.now in
     let new = g.S.Says.said c.run_given-in-None.new.out in
     let rows = rows_of (found_of c.args.matches.now) in

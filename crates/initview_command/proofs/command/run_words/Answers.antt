@@ -10,8 +10,8 @@ returns-then-is_version-clause-ends g c =
 pub returns-in-Ok-clause-ends : goal.returns-in-Ok-clause-ends
 returns-in-Ok-clause-ends g c =
     let text_at = g.T.Texts.text_at c.args.texts.now in
-    let growing_at = g.G.GrowingTexts.text_at c.args.growing.now in
-    let writers = g.G.GrowingTexts.writer_at c.args.growing.now in
+    let growing_at = g.G.LiveTraces.text_at c.args.growing.now in
+    let writers = g.G.LiveTraces.writer_at c.args.growing.now in
     let words = map string_bytes c.args.words.now in
     let old = g.S.Says.said c.args.out.now in
     let new = g.S.Says.said c.run_matches.new.out in
@@ -23,8 +23,8 @@ returns-in-Ok-clause-ends g c =
 pub returns-in-Err-clause-ends : goal.returns-in-Err-clause-ends
 returns-in-Err-clause-ends g c =
     let text_at = g.T.Texts.text_at c.args.texts.now in
-    let growing_at = g.G.GrowingTexts.text_at c.args.growing.now in
-    let writers = g.G.GrowingTexts.writer_at c.args.growing.now in
+    let growing_at = g.G.LiveTraces.text_at c.args.growing.now in
+    let writers = g.G.LiveTraces.writer_at c.args.growing.now in
     let words = map string_bytes c.args.words.now in
     let now = g.S.Says.said c.args.out.now in
     let other = sym c.is_version.ensures ∙ c.if-is_version.false in

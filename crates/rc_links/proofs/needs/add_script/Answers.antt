@@ -1,11 +1,11 @@
-use Rattle.rc_links.proofs.Words.{string_bytes, ◌≡◌, ◌∙◌, ◌++◌, ap, List, ℕ, Option, map, named, need, place_in}
+use Rattle.rc_links.proofs.Words.{string_bytes, ◌≡◌, ◌∙◌, ◌++◌, ap, List, ℕ, Option, map, named, need, position_in}
 use Rattle.rc_links.proofs.NeedLemmas.{names-twice, on_ok}
 use Rattle.rc_links.proofs.needs.add_script.Goals as goal
 
 pub returns-in_ok-add_names-in-Start : goal.returns-in_ok-add_names-in-Start
 returns-in_ok-add_names-in-Start g c =
-    let f = need c.args.phase c.args.place in
-    let h : List ℕ → Option ℕ = place_in c.args.table.now in
+    let f = need c.args.phase c.args.position in
+    let h : List ℕ → Option ℕ = position_in c.args.table.now in
     let header = c.args.script.now.header in
     let names : named c.args.phase header ≡ header.required_start ++ header.should_start = ap (λ turn. named turn header) c.in-Start.is in
     let required : map string_bytes c.required_start.result.now ≡ header.required_start = c.required_start.ensures ∙ ap (λ said. said.required_start) c.header-header.ensures in
@@ -14,8 +14,8 @@ returns-in_ok-add_names-in-Start g c =
 
 pub returns-in_ok-add_names-in-Stop : goal.returns-in_ok-add_names-in-Stop
 returns-in_ok-add_names-in-Stop g c =
-    let f = need c.args.phase c.args.place in
-    let h : List ℕ → Option ℕ = place_in c.args.table.now in
+    let f = need c.args.phase c.args.position in
+    let h : List ℕ → Option ℕ = position_in c.args.table.now in
     let header = c.args.script.now.header in
     let names : named c.args.phase header ≡ header.required_stop ++ header.should_stop = ap (λ turn. named turn header) c.in-Stop.is in
     let required : map string_bytes c.required_stop.result.now ≡ header.required_stop = c.required_stop.ensures ∙ ap (λ said. said.required_stop) c.header-header.ensures in

@@ -1,5 +1,5 @@
 use Rattle.rc_numbers.proofs.Words.{◌≡◌, ◌∙◌, ◌<◌, ◌≤◌, length, subst, List, ℕ, sym, get_or, IfOk-weaker, AllBelow, IsCycle, IsRing}
-use Rattle.rc_numbers.proofs.CycleLemmas.{IsCycle-turned, AllBelow-append, AllBelow-drop, AllBelow-take, ring_some}
+use Rattle.rc_numbers.proofs.CycleLemmas.{IsCycle-rotated, AllBelow-append, AllBelow-drop, AllBelow-take, ring_some}
 use Rattle.rc_numbers.proofs.cycles.cycle.Goals as goal
 
 pub least_at-requires : goal.least_at-requires
@@ -17,7 +17,7 @@ returns-clause-cycle g c =
     let R : List ℕ → Type 0 = λ xs. IsCycle edges xs in
     let least = subst P same (c.least_at.ensures.within, c.least_at.ensures.least) in
     let is = subst Q (sym c.as_slice.ensures.value) c.in_ok-ring.ensures.ring in
-    IfOk-weaker c.turned.result _ _ (λ t e. subst R (sym e) (IsCycle-turned edges ring c.least_at.result least.0 least.1 is)) c.turned.ensures
+    IfOk-weaker c.rotated.result _ _ (λ t e. subst R (sym e) (IsCycle-rotated edges ring c.least_at.result least.0 least.1 is)) c.rotated.ensures
 
 pub returns-clause-below : goal.returns-clause-below
 returns-clause-below g c =
@@ -25,4 +25,4 @@ returns-clause-below g c =
     let ring = c.as_slice.result.now in
     let P : List ℕ → Type 0 = λ xs. AllBelow count xs in
     let all = subst P (sym c.as_slice.ensures.value) c.in_ok-ring.ensures.below in
-    IfOk-weaker c.turned.result _ _ (λ t e. subst P (sym e) (AllBelow-append count _ _ (AllBelow-drop count ring c.least_at.result all) (AllBelow-take count ring c.least_at.result all))) c.turned.ensures
+    IfOk-weaker c.rotated.result _ _ (λ t e. subst P (sym e) (AllBelow-append count _ _ (AllBelow-drop count ring c.least_at.result all) (AllBelow-take count ring c.least_at.result all))) c.rotated.ensures

@@ -2,8 +2,8 @@ use Rattle.rc_numbers.proofs.Words.{◌<◌, ◌+◌, ◌-◌, arith, length, ge
 use Rattle.rc_numbers.proofs.StepLemmas.{AreSteps-met, need_at, rest_at}
 use Rattle.rc_numbers.proofs.cycles.meet_all.Goals as goal
 
-pub meet-requires : goal.meet-requires
-meet-requires g c =
+pub join_paths-requires : goal.join_paths-requires
+join_paths-requires g c =
     let needs = c.args.needs.now in
     let first = c.partition_point-first.result in
     let i = c.loop-other.other-index in
@@ -24,5 +24,5 @@ loop-other-preserved g c =
     let here : at.0 < length steps = rw (rest_at needs first i) (omega (arith, range.0, c.loop-other.invariant.size)) in
     record {
       size = grind (arith, common_steps);
-      steps = λ old. rw c.in_ok-meet.ensures.steps (AreSteps-met needs steps at.0 at.1 here need (c.loop-other.invariant.steps old));
+      steps = λ old. rw c.in_ok-join_paths.ensures.steps (AreSteps-met needs steps at.0 at.1 here need (c.loop-other.invariant.steps old));
     }

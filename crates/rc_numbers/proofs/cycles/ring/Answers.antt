@@ -49,8 +49,8 @@ steps-preserved g c =
           subst P (sym pushed) (Marked-push c.steps.marks.items path at c.len.result here counted c.steps.invariant.marked);
     }
 
-pub part-requires : goal.part-requires
-part-requires g c =
+pub suffix-requires : goal.suffix-requires
+suffix-requires g c =
     let at_n : get_or c.steps.marks.items c.steps.at 0 ≡ c.index-2.result.now = grind (arith, common_steps) in
     let some : 0 < c.index-2.result.now = grind (arith, common_steps) in
     let found = marked_at c.steps.marks.items c.steps.path.items c.steps.at c.index-2.result.now c.steps.invariant.marked at_n some in
@@ -63,4 +63,4 @@ returns-clause-ring g c =
     let found = marked_at c.steps.marks.items c.steps.path.items c.steps.at c.index-2.result.now c.steps.invariant.marked at_n some in
     let P : List ℕ → Type 0 = λ xs. IsRing c.args.edges.now xs in
     let ring = rw (← c.as_slice.ensures.value) at (Trail-ring c.args.edges.now c.steps.path.items c.steps.at (c.index-2.result.now - 1) c.steps.invariant.trail found.0 found.1) in
-    IfOk-weaker c.part.result _ _ (λ t e. subst P (sym e) ring) c.part.ensures
+    IfOk-weaker c.suffix.result _ _ (λ t e. subst P (sym e) ring) c.suffix.ensures

@@ -3,14 +3,14 @@ use Rattle.rc_numbers.proofs.CycleLemmas.{AllBelow-append, AllBelow-one, Trail, 
 use Rattle.rc_numbers.proofs.StepLemmas.{first_kept, path_closed}
 use Rattle.rc_numbers.proofs.cycles.ring_along.Goals as goal
 
-pub returns-then-need-place-clause-ring : goal.returns-then-need-place-clause-ring
-returns-then-need-place-clause-ring g c = λ edges are.
+pub returns-then-need-position-clause-ring : goal.returns-then-need-position-clause-ring
+returns-then-need-position-clause-ring g c = λ edges are.
     let path = c.steps.ring.items in
     let at = c.steps.at in
     let next = c.in-Some.need in
     let pushed : c.push.new.self.items ≡ path ++ at ∷ [] = grind (arith, common_steps) in
     let P : List ℕ → Type 0 = λ xs. IsRing edges xs in
-    subst P (sym pushed) (path_closed edges path at next c.args.place (c.steps.invariant.trail edges are) (are at next c.in-Some.is) c.steps.invariant.first c.if-need-place.true)
+    subst P (sym pushed) (path_closed edges path at next c.args.position (c.steps.invariant.trail edges are) (are at next c.in-Some.is) c.steps.invariant.first c.if-need-position.true)
 
 pub steps-preserved : goal.steps-preserved
 steps-preserved g c =

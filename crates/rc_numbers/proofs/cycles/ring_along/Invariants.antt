@@ -7,5 +7,5 @@ invariant-steps g l = record {
   at : l.at < length l.steps;
   below : AllBelow (length l.steps) l.ring.items;
   trail : (edges : List (ℕ × ℕ)) → AreSteps edges l.steps → Trail edges l.ring.items l.at;
-  first : get_or (l.ring.items ++ l.at ∷ []) 0 0 ≡ l.place;
+  first : get_or (l.ring.items ++ l.at ∷ []) 0 0 ≡ l.position;
 }

@@ -2,7 +2,7 @@ use Rattle.rclinks_command.proofs.Words.{◌≡◌, ◌∙◌, ℕ, Bool, List, 
 use Rattle.rclinks_command.proofs.Words.{or_parts}
 use Rattle.rclinks_command.proofs.Words.{AreScripts, FileFault, HasNoPlan, IsPlan, KnownTexts, Reads, ReadsTo}
 use Rattle.rclinks_command.proofs.Words.{ReportsFile}
-use Rattle.rclinks_command.proofs.Words.{ReportsPlan, ScriptText, Warns, goes_on}
+use Rattle.rclinks_command.proofs.Words.{ReportsPlan, ScriptText, Warns, keeps_going}
 use Rattle.std.proofs.lemmas.Result.{IfOk-weaker, IfErr-weaker}
 use Rattle.rclinks_command.specs.Said.{line_said}
 use Rattle.rclinks_command.proofs.ReadingLemmas.{all_read, all_scripts, none_first, refused_first, some_first}
@@ -10,12 +10,12 @@ use Rattle.rclinks_command.proofs.ReportLemmas.{refused_told, tells-then, warned
 use Rattle.rclinks_command.proofs.answer.plan_of.Goals as goal
 
 -- where no fault is the first, all paths give scripts
-all_given : (goes_on : Bool) (text_at : KnownTexts) (paths : List (List ℕ)) (scripts : List ScriptText)
+all_given : (keeps_going : Bool) (text_at : KnownTexts) (paths : List (List ℕ)) (scripts : List ScriptText)
     (faults : List FileFault)
-    → None ≡ slice_get faults 0 → ReadsTo goes_on text_at paths scripts faults → AreScripts text_at paths scripts
-all_given goes_on text_at paths scripts faults first reads =
+    → None ≡ slice_get faults 0 → ReadsTo keeps_going text_at paths scripts faults → AreScripts text_at paths scripts
+all_given keeps_going text_at paths scripts faults first reads =
     let none = none_first faults first in
-    let read = all_read goes_on text_at paths scripts faults reads (inr none) in
+    let read = all_read keeps_going text_at paths scripts faults reads (inr none) in
     all_scripts text_at paths scripts (subst (λ faults. Reads text_at paths scripts faults) none read)
 
 pub returns-clause-told : goal.returns-clause-told
@@ -32,7 +32,7 @@ returns-clause-told g c = λ plain is.
 pub returns-in-None-clause-planned : goal.returns-in-None-clause-planned
 returns-in-None-clause-planned g c =
     let scripts = c.read_files.new.reading.scripts.items in
-    let all = all_given (goes_on (line_said c.args.line.now)) (g.T.Texts.text_at c.args.texts.now)
+    let all = all_given (keeps_going (line_said c.args.line.now)) (g.T.Texts.text_at c.args.texts.now)
     (map (λ file. file.now) c.args.line.now.files.now) scripts c.in_ok-faults.faults.items
     (rw c.deref.ensures.value at c.in-None.ensures.value) c.in_ok-faults.ensures.read in
     rw c.if-line.false (IfOk-weaker c.plan_all.result _ _
@@ -42,7 +42,7 @@ returns-in-None-clause-planned g c =
 pub returns-in-None-clause-refused : goal.returns-in-None-clause-refused
 returns-in-None-clause-refused g c =
     let scripts = c.read_files.new.reading.scripts.items in
-    let all = all_given (goes_on (line_said c.args.line.now)) (g.T.Texts.text_at c.args.texts.now)
+    let all = all_given (keeps_going (line_said c.args.line.now)) (g.T.Texts.text_at c.args.texts.now)
     (map (λ file. file.now) c.args.line.now.files.now) scripts c.in_ok-faults.faults.items
     (rw c.deref.ensures.value at c.in-None.ensures.value) c.in_ok-faults.ensures.read in
     rw c.if-line.false (IfErr-weaker c.plan_all.result _ _
@@ -60,7 +60,7 @@ returns-in-None-clause-told g c = λ plain.
     let new = c.plan_all.new.reading.report.items in
     let first = rw c.deref.ensures.value at c.in-None.ensures.value in
     let all =
-    all_given (goes_on (line_said c.args.line.now)) text_at paths scripts faults first c.in_ok-faults.ensures.read in
+    all_given (keeps_going (line_said c.args.line.now)) text_at paths scripts faults first c.in_ok-faults.ensures.read in
     let warned = warned_told text_at paths faults old c.read_files.new.reading.report.items
     (c.in_ok-faults.ensures.told plain) (none_first faults first) in
     let same = subst (λ report. Warns old report.items) (sym c.add_last.ensures.untold) warned in
@@ -81,7 +81,7 @@ returns-2-clause-refused g c = λ is.
     let faults = c.in_ok-faults.faults.items in
     let fault = c.in-Some-first.fault.now in
     let first = some_first faults fault (rw c.deref.ensures.value at c.in-Some-first.ensures.value) in
-    let reads : ReadsTo (goes_on (line_said c.args.line.now)) text_at paths scripts faults =
+    let reads : ReadsTo (keeps_going (line_said c.args.line.now)) text_at paths scripts faults =
     c.in_ok-faults.ensures.read in
     inl (refused_first text_at paths reads.0 reads.1 scripts faults first.0 fault reads.2 reads.3 first.1
     (sym c.refusal_for-in-Some-first.ensures ∙ is))

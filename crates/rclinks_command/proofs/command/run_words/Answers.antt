@@ -1,5 +1,5 @@
 use Rattle.rclinks_command.proofs.Words.{◌∙◌, codes, inl, inr, ap, map, string_bytes, option_map, subst, found_of}
-use Rattle.rclinks_command.proofs.Words.{rows_of, asked_by, goes_on}
+use Rattle.rclinks_command.proofs.Words.{rows_of, asked_by, keeps_going}
 use Rattle.command_words.proofs.Refusals.{refused_by, reported_by}
 use Rattle.rclinks_command.proofs.AnswerLemmas.{does, does_part, refused, same_line, told}
 use Rattle.rclinks_command.proofs.FreeLine.{is_free_line}
@@ -69,7 +69,7 @@ returns-clause-told g c = λ _ is.
           (told (g.T.Texts.text_at c.args.texts.now) said (g.F.LinkFolders.scripts_in c.args.folders.now)
           (g.F.LinkFolders.held c.args.folders.now) (g.E.Write.contents c.args.err.now)
           (g.E.Write.contents c.write.new.err) c.answer_of-answer.result.report.items (c.write.ensures.refused is).1
-          (refused _ c.answer_of-answer.result.work (c.answer_of-answer.ensures.told (ap goes_on same ∙ plain))
+          (refused _ c.answer_of-answer.result.work (c.answer_of-answer.ensures.told (ap keeps_going same ∙ plain))
           (c.write.ensures.refused is).0)),
     )
 

@@ -6,5 +6,5 @@ abbrev pub invariant-loop-path : goal.invariant-loop-path
 invariant-loop-path g l = record {
   read : Reads (g.T.Texts.text_at l.texts)
       (map (λ file. file.now) (take l.path-index l.line.files.now)) l.reading.scripts.items l.faults.items;
-  told : l.goes_on ≡ false → (l.faults.items ≡ []) × Warns l.fn.reading.report.items l.reading.report.items;
+  told : l.keeps_going ≡ false → (l.faults.items ≡ []) × Warns l.fn.reading.report.items l.reading.report.items;
 }

@@ -67,14 +67,14 @@ returns-in-Got-clause-lasts g c goal past moment may =
     lasts_at goal past c.receive.new.self c.args.happening.now (event.Got c.in-Got.request) c.in-Got.is
     (lasts_got c.args.core.now c.receive.new.self goal past moment.lasts c.in-Got.request moment.fits (subst (λ h. is_in_range h ≡ true) c.in-Got.is c.requires.ranged) c.receive.ensures.state)
 
-pub returns-in_ok-hand-in-Handed-clause-fits : goal.returns-in_ok-hand-in-Handed-clause-fits
-returns-in_ok-hand-in-Handed-clause-fits g c goal past moment may =
-    fits_at goal past c.hand.new.core c.args.happening.now (event.Handed c.in-Handed.how) c.in-Handed.is (all_on c.args.core.now c.hand.new.core goal past (event.Handed c.in-Handed.how ∷ past) (c.in_ok-hand-in-Handed.ensures.fits goal past (run_sound goal past moment.runs) moment.fits.0) moment.fits)
+pub returns-in_ok-hand_core-in-Handed-clause-fits : goal.returns-in_ok-hand_core-in-Handed-clause-fits
+returns-in_ok-hand_core-in-Handed-clause-fits g c goal past moment may =
+    fits_at goal past c.hand_core.new.core c.args.happening.now (event.Handed c.in-Handed.how) c.in-Handed.is (all_on c.args.core.now c.hand_core.new.core goal past (event.Handed c.in-Handed.how ∷ past) (c.in_ok-hand_core-in-Handed.ensures.fits goal past (run_sound goal past moment.runs) moment.fits.0) moment.fits)
 
-pub returns-in_ok-hand-in-Handed-clause-lasts : goal.returns-in_ok-hand-in-Handed-clause-lasts
-returns-in_ok-hand-in-Handed-clause-lasts g c goal past moment may =
-    lasts_at goal past c.hand.new.core c.args.happening.now (event.Handed c.in-Handed.how) c.in-Handed.is
-    (lasts_hand c.args.core.now c.hand.new.core goal past moment.lasts c.in-Handed.how c.in_ok-hand-in-Handed.ensures.state)
+pub returns-in_ok-hand_core-in-Handed-clause-lasts : goal.returns-in_ok-hand_core-in-Handed-clause-lasts
+returns-in_ok-hand_core-in-Handed-clause-lasts g c goal past moment may =
+    lasts_at goal past c.hand_core.new.core c.args.happening.now (event.Handed c.in-Handed.how) c.in-Handed.is
+    (lasts_hand c.args.core.now c.hand_core.new.core goal past moment.lasts c.in-Handed.how c.in_ok-hand_core-in-Handed.ensures.state)
 
 pub returns-in_default : goal.returns-in_default
 returns-in_default g c = record {

@@ -1,5 +1,5 @@
 use Rattle.inittab_text.proofs.Words.{◌≡◌, ◌++◌, drop}
 use Rattle.inittab_text.proofs.tables.Table.copy.Given as goal
 
-abbrev pub invariant-loop-place : goal.invariant-loop-place
-invariant-loop-place g l = l.copy ++ drop l.place l.self ≡ l.self
+abbrev pub invariant-loop-position : goal.invariant-loop-position
+invariant-loop-position g l = l.copy ++ drop l.position l.self ≡ l.self

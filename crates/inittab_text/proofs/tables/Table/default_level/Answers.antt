@@ -4,12 +4,12 @@ use Rattle.inittab_text.proofs.tables.Table.default_level.Goals as goal
 
 pub returns-in-Some : goal.returns-in-Some
 returns-in-Some g c =
-    let rest = default_level_of (drop (c.loop-place.place + 1) c.args.self.now) in
+    let rest = default_level_of (drop (c.loop-position.position + 1) c.args.self.now) in
     ap (λ o. option_or o rest) c.in-Some.ensures
-    ∙ sym (default_level_of-drop c.args.self.now c.loop-place.place c.entry.result.now c.entry.ensures) ∙ c.loop-place.invariant
+    ∙ sym (default_level_of-drop c.args.self.now c.loop-position.position c.entry.result.now c.entry.ensures) ∙ c.loop-position.invariant
 
-pub loop-place-preserved : goal.loop-place-preserved
-loop-place-preserved g c =
-    let rest = default_level_of (drop (c.loop-place.place + 1) c.args.self.now) in
+pub loop-position-preserved : goal.loop-position-preserved
+loop-position-preserved g c =
+    let rest = default_level_of (drop (c.loop-position.position + 1) c.args.self.now) in
     ap (λ o. option_or o rest) (sym c.in_default.is ∙ c.default_of.ensures)
-    ∙ sym (default_level_of-drop c.args.self.now c.loop-place.place c.entry.result.now c.entry.ensures) ∙ c.loop-place.invariant
+    ∙ sym (default_level_of-drop c.args.self.now c.loop-position.position c.entry.result.now c.entry.ensures) ∙ c.loop-position.invariant

@@ -3,8 +3,8 @@ use Rattle.std.proofs.Common.{flat_map}
 use Rattle.std.proofs.lemmas.Grind.{common_steps}
 use Rattle.rc_links.proofs.plans.Plan.print.Goals as goal
 
-more : (f : Level → List ℕ) (levels : List Level) (place : ℕ) (d : Level) (text new whole : List ℕ) → place < length levels → text ++ flat_map f (drop place levels) ≡ whole → new ≡ text ++ f (get_or levels place d) → new ++ flat_map f (drop (place + 1) levels) ≡ whole
-more f levels place d text new whole below so_far added = grind (arith, common_steps)
+more : (f : Level → List ℕ) (levels : List Level) (position : ℕ) (d : Level) (text new whole : List ℕ) → position < length levels → text ++ flat_map f (drop position levels) ≡ whole → new ≡ text ++ f (get_or levels position d) → new ++ flat_map f (drop (position + 1) levels) ≡ whole
+more f levels position d text new whole below so_far added = grind (arith, common_steps)
 
 pub loop-level-preserved : goal.loop-level-preserved
 loop-level-preserved g c =
