@@ -8,14 +8,15 @@ use Rattle.command_words.specs.declared.faults.WordFault.{WordFault}
 use Rattle.command_words.specs.declared.faults.WordFault.TheVariants.{Usage, Memory}
 
 -- a fault that is reported as refused words is one of usage
-pub refused_by : {R X : Type 0} (fault : WordFault) (result : ℕ) → (IsSome (reason_of fault) → R) → (fault ≡ Memory → (result ≡ DEVICE_FAULT) × X)
-    → result ≡ REFUSED → R
+pub refused_by : {R X : Type 0} (fault : WordFault) (result : ℕ) → (IsSome (reason_of fault) → R)
+    → (fault ≡ Memory → (result ≡ DEVICE_FAULT) × X) → result ≡ REFUSED → R
 refused_by (Usage reason) result none memory is = none refl
 refused_by Memory result none memory is = let wrong = (memory refl).0 in absurd (cc)
 
 -- a fault is one of memory, or is reported with the usage
 pub reported_by : {X : Type 0} (fault : WordFault) (result : ℕ) (name whole short : List ℕ) (old new : Option (List ℕ))
-    → IfSome (reason_of fault) (λ reason. (result ≡ REFUSED) × AppendsPrefix old new (usage_report name reason whole short))
+    → IfSome (reason_of fault)
+    (λ reason. (result ≡ REFUSED) × AppendsPrefix old new (usage_report name reason whole short))
     → (fault ≡ Memory → (result ≡ DEVICE_FAULT) × X)
     → (result ≡ DEVICE_FAULT) ⊎ (result ≡ REFUSED) × ReportsUsage name whole short old new
 reported_by (Usage reason) result name whole short old new usage memory = inr (usage.0, (string_bytes reason, usage.1))

@@ -1,5 +1,7 @@
 -- No step and no request is a generation more.
-use Rattle.core_handover.proofs.Words.{◌≡◌, refl, Bool, true, false, cond, Option, Some, None, Stage, same_level, HeardRequest, Goal, Step, Enter, Call, Power, Reread, Order, Hold, Settle, Reexec, Idle, CoreFields, CoreState, after_got, after_step, heard_in}
+use Rattle.core_handover.proofs.Words.{◌≡◌, refl, Bool, true, false, cond, Option, Some, None, Stage, same_level}
+use Rattle.core_handover.proofs.Words.{HeardRequest, Goal, Step, Enter, Call, Power, Reread, Order, Hold, Settle}
+use Rattle.core_handover.proofs.Words.{Reexec, Idle, CoreFields, CoreState, after_got, after_step, heard_in}
 use Rattle.init_words.specs.declared.stages.Stage.TheVariants as stage
 use Rattle.initctl_frame.specs.declared.requests.HeardRequest.TheVariants as got
 
@@ -14,10 +16,12 @@ step_same Reread c = refl
 step_same Reexec c = refl
 step_same Idle c = refl
 
-heard_same : (now : Option Stage) (wish : Goal) (fields : CoreFields) → (heard_in now wish fields).generation ≡ fields.generation
+heard_same : (now : Option Stage) (wish : Goal) (fields : CoreFields)
+    → (heard_in now wish fields).generation ≡ fields.generation
 heard_same (Some (stage.Run level)) wish fields = by (same_level wish.level level)
   where
-    by : (b : Bool) → (cond b (record fields { level_wish = None }) (record fields { level_wish = Some wish; reread = true })).generation ≡ fields.generation
+    by : (b : Bool) → (cond b (record fields { level_wish = None })
+        (record fields { level_wish = Some wish; reread = true })).generation ≡ fields.generation
     by true = refl
     by false = refl
 heard_same (Some stage.Boot) wish fields = refl

@@ -1,5 +1,8 @@
 -- The seconds that init keeps stay an hour at most: those of its steps are of its goal, or of a wish for a level.
-use Rattle.core_handover.proofs.Words.{◌≡◌, refl, sym, ap, ◌∙◌, Bool, true, false, ◌&&◌, cond, Option, Some, None, Stage, same_level, HeardRequest, Goal, Step, Enter, Call, Power, Reread, Order, Hold, Settle, Reexec, Idle, CoreState, after_step, after_got, heard_in, wished, has_short_seconds, is_goal, is_seconds, is_stage, passes}
+use Rattle.core_handover.proofs.Words.{◌≡◌, refl, sym, ap, ◌∙◌, Bool, true, false, ◌&&◌, cond, Option, Some, None}
+use Rattle.core_handover.proofs.Words.{Stage, same_level, HeardRequest, Goal, Step, Enter, Call, Power, Reread, Order}
+use Rattle.core_handover.proofs.Words.{Hold, Settle, Reexec, Idle, CoreState, after_step, after_got, heard_in, wished}
+use Rattle.core_handover.proofs.Words.{has_short_seconds, is_goal, is_seconds, is_stage, passes}
 use Rattle.std.proofs.lemmas.Bool.{and_parts, and_from}
 use Rattle.init_words.specs.declared.stages.Stage.TheVariants as stage
 use Rattle.initctl_frame.specs.declared.requests.HeardRequest.TheVariants as got
@@ -12,7 +15,8 @@ abbrev is_short_step : Step → Bool
 is_short_step (Enter now grace) = is_seconds grace
 is_short_step _ = true
 
-each_short : (c : CoreState) → is_goal c.fields.goal ≡ true → passes is_goal c.fields.level_wish ≡ true → EachPasses is_short_step c
+each_short : (c : CoreState) → is_goal c.fields.goal ≡ true → passes is_goal c.fields.level_wish ≡ true
+    → EachPasses is_short_step c
 each_short c goal wish = record {
   orders = λ id ask. refl;
   holds = λ id. refl;
@@ -28,14 +32,20 @@ each_short c goal wish = record {
 
 -- ---- what a step and a request leave
 
-taken : (s : Step) (c : CoreState) → is_short_step s ≡ true → has_short_seconds c ≡ true → has_short_seconds (after_step s c) ≡ true
-taken (Enter now grace) c step short = and_from (is_seconds grace && is_goal (wished c.fields.level_wish c.fields.goal)) true
-    (and_from (is_seconds grace) (is_goal (wished c.fields.level_wish c.fields.goal)) step (by c.fields.level_wish (and_parts (is_stage c.fields.stage c.fields.grace) (is_goal c.fields.goal) parts.0).1 parts.1)) refl
+taken : (s : Step) (c : CoreState) → is_short_step s ≡ true → has_short_seconds c ≡ true
+    → has_short_seconds (after_step s c) ≡ true
+taken (Enter now grace) c step short =
+    and_from (is_seconds grace && is_goal (wished c.fields.level_wish c.fields.goal)) true
+    (and_from (is_seconds grace) (is_goal (wished c.fields.level_wish c.fields.goal)) step (by c.fields.level_wish
+    (and_parts (is_stage c.fields.stage c.fields.grace) (is_goal c.fields.goal) parts.0).1 parts.1)) refl
   where
-    parts : ((is_stage c.fields.stage c.fields.grace && is_goal c.fields.goal) ≡ true) × (passes is_goal c.fields.level_wish ≡ true)
-    parts = and_parts (is_stage c.fields.stage c.fields.grace && is_goal c.fields.goal) (passes is_goal c.fields.level_wish) short
+    parts : ((is_stage c.fields.stage c.fields.grace && is_goal c.fields.goal) ≡ true)
+        × (passes is_goal c.fields.level_wish ≡ true)
+    parts = and_parts (is_stage c.fields.stage c.fields.grace && is_goal c.fields.goal)
+        (passes is_goal c.fields.level_wish) short
 
-    by : (wish : Option Goal) → is_goal c.fields.goal ≡ true → passes is_goal wish ≡ true → is_goal (wished wish c.fields.goal) ≡ true
+    by : (wish : Option Goal) → is_goal c.fields.goal ≡ true → passes is_goal wish ≡ true
+        → is_goal (wished wish c.fields.goal) ≡ true
     by None goal h = goal
     by (Some wish) goal h = h
 taken (Call letter) c step short = short
@@ -50,30 +60,44 @@ taken Idle c step short = short
 -- behind the step that is decided they are as short
 pub step_lasts : (c : CoreState) → has_short_seconds c ≡ true → has_short_seconds (after_step (decide c) c) ≡ true
 step_lasts c short =
-    let outer = and_parts (is_stage c.fields.stage c.fields.grace && is_goal c.fields.goal) (passes is_goal c.fields.level_wish) short in
-    taken (decide c) c (decided is_short_step c (each_short c (and_parts (is_stage c.fields.stage c.fields.grace) (is_goal c.fields.goal) outer.0).1 outer.1)) short
+    let outer = and_parts (is_stage c.fields.stage c.fields.grace && is_goal c.fields.goal)
+    (passes is_goal c.fields.level_wish) short in
+    taken (decide c) c (decided is_short_step c
+    (each_short c (and_parts (is_stage c.fields.stage c.fields.grace) (is_goal c.fields.goal) outer.0).1 outer.1)) short
 
-goal_heard : (wish : Goal) (c : CoreState) → is_goal wish ≡ true → has_short_seconds c ≡ true → has_short_seconds (record c { fields = record c.fields { goal = wish; reread = true } }) ≡ true
+goal_heard : (wish : Goal) (c : CoreState) → is_goal wish ≡ true → has_short_seconds c ≡ true
+    → has_short_seconds (record c { fields = record c.fields { goal = wish; reread = true } }) ≡ true
 goal_heard wish c asks short =
-    let outer = and_parts (is_stage c.fields.stage c.fields.grace && is_goal c.fields.goal) (passes is_goal c.fields.level_wish) short in
-    and_from (is_stage c.fields.stage c.fields.grace && is_goal wish) (passes is_goal c.fields.level_wish) (and_from (is_stage c.fields.stage c.fields.grace) (is_goal wish) (and_parts (is_stage c.fields.stage c.fields.grace) (is_goal c.fields.goal) outer.0).0 asks) outer.1
+    let outer = and_parts (is_stage c.fields.stage c.fields.grace && is_goal c.fields.goal)
+    (passes is_goal c.fields.level_wish) short in
+    and_from (is_stage c.fields.stage c.fields.grace && is_goal wish) (passes is_goal c.fields.level_wish)
+    (and_from (is_stage c.fields.stage c.fields.grace) (is_goal wish)
+    (and_parts (is_stage c.fields.stage c.fields.grace) (is_goal c.fields.goal) outer.0).0 asks) outer.1
 
-asked : (now : Option Stage) (wish : Goal) (c : CoreState) → is_goal wish ≡ true → has_short_seconds c ≡ true → has_short_seconds (record c { fields = heard_in now wish c.fields }) ≡ true
+asked : (now : Option Stage) (wish : Goal) (c : CoreState) → is_goal wish ≡ true → has_short_seconds c ≡ true
+    → has_short_seconds (record c { fields = heard_in now wish c.fields }) ≡ true
 asked None wish c asks short = goal_heard wish c asks short
 asked (Some stage.Sysinit) wish c asks short = goal_heard wish c asks short
 asked (Some stage.Boot) wish c asks short = goal_heard wish c asks short
 asked (Some (stage.Run level)) wish c asks short = by (same_level wish.level level)
   where
-    parts : ((is_stage c.fields.stage c.fields.grace && is_goal c.fields.goal) ≡ true) × (passes is_goal c.fields.level_wish ≡ true)
-    parts = and_parts (is_stage c.fields.stage c.fields.grace && is_goal c.fields.goal) (passes is_goal c.fields.level_wish) short
+    parts : ((is_stage c.fields.stage c.fields.grace && is_goal c.fields.goal) ≡ true)
+        × (passes is_goal c.fields.level_wish ≡ true)
+    parts = and_parts (is_stage c.fields.stage c.fields.grace && is_goal c.fields.goal)
+        (passes is_goal c.fields.level_wish) short
 
-    by : (b : Bool) → has_short_seconds (record c { fields = cond b (record c.fields { level_wish = None }) (record c.fields { level_wish = Some wish; reread = true }) }) ≡ true
+    by : (b : Bool) → has_short_seconds (record c {
+      fields = cond b (record c.fields { level_wish = None })
+          (record c.fields { level_wish = Some wish; reread = true });
+    }) ≡ true
     by true = and_from (is_stage c.fields.stage c.fields.grace && is_goal c.fields.goal) true parts.0 refl
     by false = and_from (is_stage c.fields.stage c.fields.grace && is_goal c.fields.goal) (is_goal wish) parts.0 asks
 
 -- behind a request that names an hour at most
-pub request_lasts : (request : HeardRequest) (c : CoreState) → is_request request ≡ true → has_short_seconds c ≡ true → has_short_seconds (after_got request c) ≡ true
-request_lasts (got.Level level grace) c asks short = asked c.fields.stage (record { level = level; grace = grace }) c asks short
+pub request_lasts : (request : HeardRequest) (c : CoreState) → is_request request ≡ true → has_short_seconds c ≡ true
+    → has_short_seconds (after_got request c) ≡ true
+request_lasts (got.Level level grace) c asks short =
+    asked c.fields.stage (record { level = level; grace = grace }) c asks short
 request_lasts (got.Call letter) c asks short = short
 request_lasts got.Reload c asks short = short
 request_lasts got.Reexec c asks short = short

@@ -1,5 +1,10 @@
 -- There are at most as many records as entries and known children of ids without entry.
-use Rattle.core_model.proofs.Words.{◌≡◌, ◌≤◌, ◌+◌, refl, sym, ◌∙◌, ap, subst, ℕ, Bool, true, false, not, ◌&&◌, ◌||◌, cond, List, [], ◌∷◌, ◌++◌, filter, map, length, lit≤, le_trans, arith, and_parts, not-true, filter-append, list_any, Entry, same_id, same_id-is, same_id-sym, any_within, has_id, ids_of, is_distinct, NewTable, Goal, Event, Child, table_of, is_of, has_child, known_children, left_ids, record_ids, may_come, is_sound, sound_holds, sound_ind, left_apart, Fits, is_without_entry, CoreState}
+use Rattle.core_model.proofs.Words.{◌≡◌, ◌≤◌, ◌+◌, refl, sym, ◌∙◌, ap, subst, ℕ, Bool, true, false, not, ◌&&◌, ◌||◌}
+use Rattle.core_model.proofs.Words.{cond, List, [], ◌∷◌, ◌++◌, filter, map, length, lit≤, le_trans, arith, and_parts}
+use Rattle.core_model.proofs.Words.{not-true, filter-append, list_any, Entry, same_id, same_id-is, same_id-sym}
+use Rattle.core_model.proofs.Words.{any_within, has_id, ids_of, is_distinct, NewTable, Goal, Event, Child, table_of}
+use Rattle.core_model.proofs.Words.{is_of, has_child, known_children, left_ids, record_ids, may_come, is_sound}
+use Rattle.core_model.proofs.Words.{sound_holds, sound_ind, left_apart, Fits, is_without_entry, CoreState}
 use Rattle.std.proofs.lemmas.List.{length-append}
 use Rattle.core_model.specs.Fit.{record_of}
 

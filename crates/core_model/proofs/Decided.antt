@@ -1,5 +1,13 @@
 -- What is so of each step that is decided, where it is so of each kind of step.
-use Rattle.core_model.proofs.Words.{arith, ◌≡◌, refl, sym, ap, ◌∙◌, ℕ, Bool, true, false, not, ◌+◌, ◌&&◌, cond, List, [], ◌∷◌, zip, Option, Some, None, is_none, is_some, nat_le, false≢true, Entry, Letter, Level, Stage, OrderKind, Start, Look, Term, Kill, PowerKind, is_limited, may_of, Goal, Step, Reread, Order, Reexec, Idle, in_run, Stop, Due, Termed, Killed, RecordState, allows, CallSet, first_news, CoreState, or_else, or_idle, level_step, news_step, wished_step, stop_step, stop_among, signal_step, limited_step, start_step, start_along, start_among, stage_step, settle_step, calm_step, work_step, look_among, can_look_record, can_start_record, is_owed_record, is_over_among, all_served, has_excluded, stands, decide_in, decide}
+use Rattle.core_model.proofs.Words.{arith, ◌≡◌, refl, sym, ap, ◌∙◌, ℕ, Bool, true, false, not, ◌+◌, ◌&&◌, cond, List}
+use Rattle.core_model.proofs.Words.{[], ◌∷◌, zip, Option, Some, None, is_none, is_some, nat_le, false≢true, Entry}
+use Rattle.core_model.proofs.Words.{Letter, Level, Stage, OrderKind, Start, Look, Term, Kill, PowerKind, is_limited}
+use Rattle.core_model.proofs.Words.{may_of, Goal, Step, Reread, Order, Reexec, Idle, in_run, Stop, Due, Termed, Killed}
+use Rattle.core_model.proofs.Words.{RecordState, allows, CallSet, first_news, CoreState, or_else, or_idle, level_step}
+use Rattle.core_model.proofs.Words.{news_step, wished_step, stop_step, stop_among, signal_step, limited_step}
+use Rattle.core_model.proofs.Words.{start_step, start_along, start_among, stage_step, settle_step, calm_step, work_step}
+use Rattle.core_model.proofs.Words.{look_among, can_look_record, can_start_record, is_owed_record, is_over_among}
+use Rattle.core_model.proofs.Words.{all_served, has_excluded, stands, decide_in, decide}
 use Rattle.init_words.specs.declared.stages.Stage.TheVariants as stage
 use Rattle.init_words.specs.declared.levels.Letter.TheVariants as letter
 use Rattle.init_words.specs.declared.orders.PowerKind.TheVariants as power
@@ -39,19 +47,23 @@ module _ (test : Step → Bool) (c : CoreState) (each : EachPasses test c) where
 
   signals : (grace now : ℕ) (id : List ℕ) (stop : Option Stop) → Pass (signal_step grace now id stop)
   signals grace now id (Some Due) = each.orders id Term
-  signals grace now id (Some (Termed time)) = by_cond (nat_le (time + grace) now) (Some (Order id Kill)) None (λ _. each.orders id Kill) tt
+  signals grace now id (Some (Termed time)) =
+      by_cond (nat_le (time + grace) now) (Some (Order id Kill)) None (λ _. each.orders id Kill) tt
   signals grace now id (Some (Killed time)) = tt
   signals grace now id None = tt
 
   stops : (grace now : ℕ) (slots : List RecordState) → Pass (stop_among grace now slots)
   stops grace now [] = tt
   stops grace now (slot ∷ slots) = by_else (stop_step grace now slot) (stop_among grace now slots)
-      (by_cond (is_some slot.child && is_none slot.order && not slot.missed) (signal_step grace now slot.id slot.stop) None (λ _. signals grace now slot.id slot.stop) tt)
+      (by_cond (is_some slot.child && is_none slot.order && not slot.missed)
+      (signal_step grace now slot.id slot.stop) None (λ _. signals grace now slot.id slot.stop) tt)
       (stops grace now slots)
 
   limited : (now : ℕ) (e : Entry) (slot : RecordState) → Pass (limited_step now e slot)
-  limited now e slot = by_cond (is_limited e.act) (cond (is_held slot.limiter.held now) None (Some (cond (allows (may_of slot.limiter now)) (Order e.id Start) (Hold e.id)))) (Some (Order e.id Start))
-      (λ _. by_cond (is_held slot.limiter.held now) None (Some (cond (allows (may_of slot.limiter now)) (Order e.id Start) (Hold e.id))) (λ _. tt) (by (allows (may_of slot.limiter now)))) (each.orders e.id Start)
+  limited now e slot = by_cond (is_limited e.act) (cond (is_held slot.limiter.held now) None
+      (Some (cond (allows (may_of slot.limiter now)) (Order e.id Start) (Hold e.id)))) (Some (Order e.id Start))
+      (λ _. by_cond (is_held slot.limiter.held now) None (Some (cond (allows (may_of slot.limiter now))
+      (Order e.id Start) (Hold e.id))) (λ _. tt) (by (allows (may_of slot.limiter now)))) (each.orders e.id Start)
     where
       by : (b : Bool) → Pass (Some (cond b (Order e.id Start) (Hold e.id)))
       by true = each.orders e.id Start
@@ -59,32 +71,39 @@ module _ (test : Step → Bool) (c : CoreState) (each : EachPasses test c) where
 
   starts : (now : Stage) (time : ℕ) (ps : List (Entry × RecordState)) → Pass (start_along now time ps)
   starts now time [] = tt
-  starts now time (p ∷ ps) = by_else (start_step now time p.0 p.1) (cond (is_owed_record now p.0 p.1) None (start_along now time ps))
+  starts now time (p ∷ ps) =
+      by_else (start_step now time p.0 p.1) (cond (is_owed_record now p.0 p.1) None (start_along now time ps))
       (by_cond (can_start_record now p.0 p.1) (limited_step time p.0 p.1) None (λ _. limited time p.0 p.1) tt)
       (by_cond (is_owed_record now p.0 p.1) None (start_along now time ps) (λ _. tt) (starts now time ps))
 
   stages : (now : Stage) → Pass (stage_step now c.fields.goal c.table c.slots)
-  stages stage.Sysinit = by_cond (is_over_among stage.Sysinit c.table c.slots) (Some (Enter _ c.fields.goal.grace)) None (λ _. each.goal _) tt
-  stages stage.Boot = by_cond (is_over_among stage.Boot c.table c.slots) (Some (Enter _ c.fields.goal.grace)) None (λ _. each.goal _) tt
+  stages stage.Sysinit = by_cond (is_over_among stage.Sysinit c.table c.slots) (Some (Enter _ c.fields.goal.grace)) None
+      (λ _. each.goal _) tt
+  stages stage.Boot =
+      by_cond (is_over_among stage.Boot c.table c.slots) (Some (Enter _ c.fields.goal.grace)) None (λ _. each.goal _) tt
   stages (stage.Run level) = by_cond (is_over_among (stage.Run level) c.table c.slots) None None (λ _. tt) tt
 
   settled : (now : Stage) → Pass (settle_step now c.fields.announced c.fields.time c.table c.slots)
   settled stage.Sysinit = tt
   settled stage.Boot = tt
-  settled (stage.Run level) = by_cond (not c.fields.announced && is_idle c.slots && all_served level c.fields.time c.table c.slots) (Some (Settle level)) None (λ _. each.settles level) tt
+  settled (stage.Run level) = by_cond (not c.fields.announced && is_idle c.slots
+      && all_served level c.fields.time c.table c.slots) (Some (Settle level)) None (λ _. each.settles level) tt
 
   looks : (slots : List RecordState) → Pass (look_among slots)
   looks [] = tt
-  looks (slot ∷ slots) = by_cond (can_look_record slot) (Some (Order slot.id Look)) (look_among slots) (λ _. each.orders slot.id Look) (looks slots)
+  looks (slot ∷ slots) = by_cond (can_look_record slot) (Some (Order slot.id Look)) (look_among slots)
+      (λ _. each.orders slot.id Look) (looks slots)
 
-  levels : (booted : Bool) (wish : Option Goal) → ((w : Goal) → wish ≡ Some w → (now : Stage) → test (Enter now w.grace) ≡ true) → Pass (level_step booted wish)
+  levels : (booted : Bool) (wish : Option Goal)
+      → ((w : Goal) → wish ≡ Some w → (now : Stage) → test (Enter now w.grace) ≡ true) → Pass (level_step booted wish)
   levels booted None short = tt
   levels booted (Some wish) short = short wish refl _
 
   pending : (kept : CallSet) → Pass (first_news kept)
   pending kept = by kept.fail kept.fail_now kept.ok kept.a kept.b kept.c
     where
-      by : (fail fail_now ok a b c : Bool) → Pass (first_news (record { fail = fail; fail_now = fail_now; ok = ok; a = a; b = b; c = c }))
+      by : (fail fail_now ok a b c : Bool)
+          → Pass (first_news (record { fail = fail; fail_now = fail_now; ok = ok; a = a; b = b; c = c }))
       by true fail_now ok a b c = each.powers power.Fail
       by false true ok a b c = each.powers power.FailNow
       by false false true a b c = each.powers power.Ok
@@ -94,18 +113,26 @@ module _ (test : Step → Bool) (c : CoreState) (each : EachPasses test c) where
       by false false false false false false = tt
 
   wishes : (now : Stage) → Pass (wished_step now c)
-  wishes now = by_cond c.fields.reexec (Some Reexec) (cond c.fields.reread (Some Reread) (or_else (level_step c.fields.booted c.fields.level_wish) (news_step now c))) each.reexec
-      (by_cond c.fields.reread (Some Reread) (or_else (level_step c.fields.booted c.fields.level_wish) (news_step now c)) (λ _. each.reread)
-      (by_else (level_step c.fields.booted c.fields.level_wish) (news_step now c) (levels c.fields.booted c.fields.level_wish each.wish)
+  wishes now = by_cond c.fields.reexec (Some Reexec) (cond c.fields.reread (Some Reread)
+      (or_else (level_step c.fields.booted c.fields.level_wish) (news_step now c))) each.reexec
+      (by_cond c.fields.reread (Some Reread)
+      (or_else (level_step c.fields.booted c.fields.level_wish) (news_step now c)) (λ _. each.reread)
+      (by_else (level_step c.fields.booted c.fields.level_wish) (news_step now c)
+      (levels c.fields.booted c.fields.level_wish each.wish)
       (by_cond (in_run (Some now)) (first_news c.fields.pending) None (λ _. pending c.fields.pending) tt)))
 
   calm : (now : Stage) → Pass (calm_step now c)
-  calm now = by_else (start_among now c.fields.time c.table c.slots) (or_else (stage_step now c.fields.goal c.table c.slots) (settle_step now c.fields.announced c.fields.time c.table c.slots)) (starts now c.fields.time (zip c.table c.slots))
-      (by_else (stage_step now c.fields.goal c.table c.slots) (settle_step now c.fields.announced c.fields.time c.table c.slots) (stages now) (settled now))
+  calm now = by_else (start_among now c.fields.time c.table c.slots) (or_else
+      (stage_step now c.fields.goal c.table c.slots) (settle_step now c.fields.announced c.fields.time c.table c.slots))
+      (starts now c.fields.time (zip c.table c.slots))
+      (by_else (stage_step now c.fields.goal c.table c.slots)
+      (settle_step now c.fields.announced c.fields.time c.table c.slots) (stages now) (settled now))
 
   work : (now : Stage) → Pass (work_step now c)
-  work now = by_cond (stands now c) None (or_else (stop_among c.fields.grace c.fields.time c.slots) (cond (has_excluded c.slots) None (calm_step now c))) (λ _. tt)
-      (by_else (stop_among c.fields.grace c.fields.time c.slots) (cond (has_excluded c.slots) None (calm_step now c)) (stops c.fields.grace c.fields.time c.slots)
+  work now = by_cond (stands now c) None (or_else (stop_among c.fields.grace c.fields.time c.slots)
+      (cond (has_excluded c.slots) None (calm_step now c))) (λ _. tt)
+      (by_else (stop_among c.fields.grace c.fields.time c.slots) (cond (has_excluded c.slots) None (calm_step now c))
+      (stops c.fields.grace c.fields.time c.slots)
       (by_cond (has_excluded c.slots) None (calm_step now c) (λ _. tt) (calm now)))
 
   decided_in : (now : Option Stage) → test (decide_in now c) ≡ true

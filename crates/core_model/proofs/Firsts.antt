@@ -1,5 +1,6 @@
 -- The first of a list of steps, part by part.
-use Rattle.core_model.proofs.Words.{arith, Bool, true, false, ◌≡◌, List, [], ◌∷◌, ◌++◌, Option, Some, None, refl, cond, Step, step_if, steps_if, or_else}
+use Rattle.core_model.proofs.Words.{arith, Bool, true, false, ◌≡◌, List, [], ◌∷◌, ◌++◌, Option, Some, None, refl, cond}
+use Rattle.core_model.proofs.Words.{Step, step_if, steps_if, or_else}
 
 -- the first step, where there is one
 abbrev pub head : List Step → Option Step

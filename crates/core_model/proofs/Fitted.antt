@@ -1,5 +1,8 @@
 -- What a fit says of the records, and how what is read off the past goes on.
-use Rattle.core_model.proofs.Words.{◌≡◌, refl, sym, ◌∙◌, ap, ℕ, false, List, [], ◌∷◌, map, Goal, Event, stage_of, table_of, in_run, goal_of, record_ids, RecordState, CoreState, LastStatuses, Fits, HasLasts, FitsAll, StillFits, lasts_after, lasts_of, records_of, core_read, with_lasts}
+use Rattle.core_model.proofs.Words.{◌≡◌, refl, sym, ◌∙◌, ap, ℕ, false, List, [], ◌∷◌, map, Goal, Event, stage_of}
+use Rattle.core_model.proofs.Words.{table_of, in_run, goal_of, record_ids, RecordState, CoreState, LastStatuses, Fits}
+use Rattle.core_model.proofs.Words.{HasLasts, FitsAll, StillFits, lasts_after, lasts_of, records_of, core_read}
+use Rattle.core_model.proofs.Words.{with_lasts}
 use Rattle.core_model.specs.Fit.{record_of}
 
 -- under a fit the records, the table and the single values are those of the past
@@ -15,30 +18,38 @@ module _ (c : CoreState) (goal : Goal) (past : List Event) (fits : Fits c goal p
 
 -- the last statuses of the records that are read off the past with them
 module _ (past : List Event) (lasts : LastStatuses) where
-  lasts_read : (ids : List (List ℕ)) → map (λ (slot : RecordState). slot.last) (map (record_of lasts past) ids) ≡ map lasts ids
+  lasts_read : (ids : List (List ℕ))
+      → map (λ (slot : RecordState). slot.last) (map (record_of lasts past) ids) ≡ map lasts ids
   lasts_read [] = refl
   lasts_read (id ∷ ids) = ap (λ rest. lasts id ∷ rest) (lasts_read ids)
 
   module _ (others : LastStatuses) where
-    first_same : (id : List ℕ) (ids : List (List ℕ)) → map lasts (id ∷ ids) ≡ map others (id ∷ ids) → lasts id ≡ others id
+    first_same : (id : List ℕ) (ids : List (List ℕ)) → map lasts (id ∷ ids) ≡ map others (id ∷ ids)
+        → lasts id ≡ others id
     first_same id ids h = cc
 
-    rest_same : (id : List ℕ) (ids : List (List ℕ)) → map lasts (id ∷ ids) ≡ map others (id ∷ ids) → map lasts ids ≡ map others ids
+    rest_same : (id : List ℕ) (ids : List (List ℕ)) → map lasts (id ∷ ids) ≡ map others (id ∷ ids)
+        → map lasts ids ≡ map others ids
     rest_same id ids h = cc
 
-    read_same : (ids : List (List ℕ)) → map lasts ids ≡ map others ids → map (record_of lasts past) ids ≡ map (record_of others past) ids
+    read_same : (ids : List (List ℕ)) → map lasts ids ≡ map others ids
+        → map (record_of lasts past) ids ≡ map (record_of others past) ids
     read_same [] h = refl
-    read_same (id ∷ ids) h = λ i. record (record_of lasts past id) { last = first_same id ids h i } ∷ read_same ids (rest_same id ids h) i
+    read_same (id ∷ ids) h =
+        λ i. record (record_of lasts past id) { last = first_same id ids h i } ∷ read_same ids (rest_same id ids h) i
 
 -- a core with the last statuses of the past is read off the past with them
 pub own_read : (c : CoreState) (goal : Goal) (past : List Event) → Fits c goal past → HasLasts c past
     → c ≡ core_read (lasts_of past) past c.fields.goal c.fields.generation
 own_read c goal past fits has =
     fits.kept ∙ ap (λ slots. record (core_read fits.lasts past c.fields.goal c.fields.generation) { slots = slots })
-    (read_same past fits.lasts (lasts_of past) (record_ids past) (sym (ap (map (λ (slot : RecordState). slot.last)) (fit_records c goal past fits) ∙ lasts_read past fits.lasts (record_ids past)) ∙ has))
+    (read_same past fits.lasts (lasts_of past) (record_ids past) (sym (ap (map (λ (slot : RecordState). slot.last))
+    (fit_records c goal past fits) ∙ lasts_read past fits.lasts (record_ids past)) ∙ has))
 
-pub read_has : (c : CoreState) (past : List Event) → c ≡ core_read (lasts_of past) past c.fields.goal c.fields.generation → HasLasts c past
-read_has c past is = ap (λ (x : CoreState). map (λ (slot : RecordState). slot.last) x.slots) is ∙ lasts_read past (lasts_of past) (record_ids past)
+pub read_has : (c : CoreState) (past : List Event)
+    → c ≡ core_read (lasts_of past) past c.fields.goal c.fields.generation → HasLasts c past
+read_has c past is = ap (λ (x : CoreState). map (λ (slot : RecordState). slot.last) x.slots) is
+    ∙ lasts_read past (lasts_of past) (record_ids past)
 
 -- what makes of a core that is read off the past one that is read off the past with one happening more keeps the fit
 pub goes_on : (old new : CoreState) (goal : Goal) (happening : Event) (past : List Event) → Fits old goal past
@@ -53,14 +64,16 @@ goes_on old new goal happening past fits reads law = (
 
 -- with any other last statuses a core fits the same trace
 module _ (lasts : LastStatuses) (past : List Event) where
-  read_with : (before : LastStatuses) (ids : List (List ℕ)) → map (λ (slot : RecordState). record slot { last = lasts slot.id }) (map (record_of before past) ids) ≡ map (record_of lasts past) ids
+  read_with : (before : LastStatuses) (ids : List (List ℕ)) → map (λ (slot : RecordState).
+      record slot { last = lasts slot.id }) (map (record_of before past) ids) ≡ map (record_of lasts past) ids
   read_with before [] = refl
   read_with before (id ∷ ids) = ap (λ rest. record_of lasts past id ∷ rest) (read_with before ids)
 
   pub others_fit : (c : CoreState) (goal : Goal) → Fits c goal past → Fits (with_lasts lasts c) goal past
   others_fit c goal fits = record {
     lasts = lasts;
-    kept = ap (with_lasts lasts) fits.kept ∙ ap (λ slots. record (core_read lasts past c.fields.goal c.fields.generation) { slots = slots }) (read_with fits.lasts (record_ids past));
+    kept = ap (with_lasts lasts) fits.kept ∙ ap (λ slots. record (core_read lasts past c.fields.goal
+        c.fields.generation) { slots = slots }) (read_with fits.lasts (record_ids past));
     goal = fits.goal;
   }
 
@@ -69,5 +82,6 @@ pub still : (c : CoreState) (goal : Goal) (past : List Event) → Fits c goal pa
 still c goal past fits = (fits, λ has. has)
 
 -- so what fits with its last statuses goes on so
-pub all_on : (old new : CoreState) (goal : Goal) (past next : List Event) → StillFits old new goal past next → FitsAll old goal past → FitsAll new goal next
+pub all_on : (old new : CoreState) (goal : Goal) (past next : List Event) → StillFits old new goal past next
+    → FitsAll old goal past → FitsAll new goal next
 all_on old new goal past next goes all = (goes.0, goes.1 all.1)

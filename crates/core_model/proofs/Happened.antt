@@ -1,5 +1,19 @@
 -- What is read off a trace, said of its happenings: who was born and not reaped, started, ended, held.
-use Rattle.core_model.proofs.Words.{◌≡◌, refl, sym, ◌∙◌, ap, subst, ℕ, ◌+◌, Bool, true, false, not, ◌&&◌, ◌||◌, ◌==◌, cond, nat_lt, List, [], ◌∷◌, ◌++◌, arith, Option, Some, None, ◌⊎◌, inl, inr, false≢true, and_parts, and_from, not-true, ltb-true, list_any, list_all, HOLD, Entry, Act, Level, Mark, At, starts_by, served_by, wanted_by, names, Start, Stage, same_id, starts_of, waited_of, same_id-is, same_id-self, any_filter, any_less, any_within, falsely, not_from, or_either, has_id, entry_of, act_of, NewTable, Asked, Birth, Reaped, Told, Goal, Event, Child, table_of, stage_of, time_of, is_of, is_child, has_child, newborn, unreaped_children, kept_children, open_of, is_served, is_settled, is_level, may_come, is_sound, hold_times, same_acts, brings, is_asked, is_order, is_owed, may_live, entries_before, starts_now, starts_in, is_wanted, is_called, nothing_runs, is_owed_before, is_steady, is_reaping_of, asked_free, birth_in_turn, birth_spared, sound_step, step_at, due_facts, MaySettle, idle_none, told_finds, settle_settled, MayLive, AllMayLive, keeps_entry, is_told_of, WasStarted, WasEnded, starts_at_entry, IsThrough, AllThrough, HasChild, WasHeld, IsServed, IsReached}
+use Rattle.core_model.proofs.Words.{◌≡◌, refl, sym, ◌∙◌, ap, subst, ℕ, ◌+◌, Bool, true, false, not, ◌&&◌, ◌||◌, ◌==◌}
+use Rattle.core_model.proofs.Words.{cond, nat_lt, List, [], ◌∷◌, ◌++◌, arith, Option, Some, None, ◌⊎◌, inl, inr}
+use Rattle.core_model.proofs.Words.{false≢true, and_parts, and_from, not-true, ltb-true, list_any, list_all, HOLD}
+use Rattle.core_model.proofs.Words.{Entry, Act, Level, Mark, At, starts_by, served_by, wanted_by, names, Start, Stage}
+use Rattle.core_model.proofs.Words.{same_id, starts_of, waited_of, same_id-is, same_id-self, any_filter, any_less}
+use Rattle.core_model.proofs.Words.{any_within, falsely, not_from, or_either, has_id, entry_of, act_of, NewTable, Asked}
+use Rattle.core_model.proofs.Words.{Birth, Reaped, Told, Goal, Event, Child, table_of, stage_of, time_of, is_of}
+use Rattle.core_model.proofs.Words.{is_child, has_child, newborn, unreaped_children, kept_children, open_of, is_served}
+use Rattle.core_model.proofs.Words.{is_settled, is_level, may_come, is_sound, hold_times, same_acts, brings, is_asked}
+use Rattle.core_model.proofs.Words.{is_order, is_owed, may_live, entries_before, starts_now, starts_in, is_wanted}
+use Rattle.core_model.proofs.Words.{is_called, nothing_runs, is_owed_before, is_steady, is_reaping_of, asked_free}
+use Rattle.core_model.proofs.Words.{birth_in_turn, birth_spared, sound_step, step_at, due_facts, MaySettle, idle_none}
+use Rattle.core_model.proofs.Words.{told_finds, settle_settled, MayLive, AllMayLive, keeps_entry, is_told_of}
+use Rattle.core_model.proofs.Words.{WasStarted, WasEnded, starts_at_entry, IsThrough, AllThrough, HasChild, WasHeld}
+use Rattle.core_model.proofs.Words.{IsServed, IsReached}
 use Rattle.init_words.specs.declared.actions.Act.TheVariants as act
 use Rattle.init_words.specs.declared.stages.Stage.TheVariants.{Run}
 use Rattle.trace_events.specs.declared.happenings.Happening.TheVariants.{Enter, Hold, Settle}

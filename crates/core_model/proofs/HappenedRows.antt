@@ -1,5 +1,9 @@
 -- What births and announcements need, worked: a run that has it, and traces that lack it.
-use Rattle.core_model.proofs.Words.{◌≡◌, refl, sym, ◌∙◌, ap, ℕ, Bool, true, false, List, [], ◌∷◌, ◌++◌, arith, codes, false≢true, list_any, Entry, At, Start, Look, NewTable, Asked, Birth, Death, Reaped, Told, Nudge, length, filter, table_of, known_children, is_without_entry, same_id, ◌≤◌, ◌+◌, ◌⊎◌, inl, inr, HasChild, WasHeld, Goal, Event, newborn, is_sound, is_reaping_of, MayLive, AllMayLive, AllThrough, WasEnded, IsReached}
+use Rattle.core_model.proofs.Words.{◌≡◌, refl, sym, ◌∙◌, ap, ℕ, Bool, true, false, List, [], ◌∷◌, ◌++◌, arith, codes}
+use Rattle.core_model.proofs.Words.{false≢true, list_any, Entry, At, Start, Look, NewTable, Asked, Birth, Death, Reaped}
+use Rattle.core_model.proofs.Words.{Told, Nudge, length, filter, table_of, known_children, is_without_entry, same_id}
+use Rattle.core_model.proofs.Words.{◌≤◌, ◌+◌, ◌⊎◌, inl, inr, HasChild, WasHeld, Goal, Event, newborn, is_sound}
+use Rattle.core_model.proofs.Words.{is_reaping_of, MayLive, AllMayLive, AllThrough, WasEnded, IsReached}
 use Rattle.init_words.specs.declared.actions.Act.TheVariants as act
 use Rattle.init_words.specs.declared.children.Status.TheVariants.{Exit}
 use Rattle.init_words.specs.declared.levels.Level.TheVariants as level
@@ -97,7 +101,8 @@ is_order _ = false
 
 entered-is_not_reached : IsReached level.L3 entered → ⊥
 entered-is_not_reached all = let start = all.served [] (service ∷ []) wait refl refl in
-    false≢true (ap (list_any is_order) start.ordered ∙ any_behind is_order start.since (Asked (codes "w") Start ∷ start.before) refl)
+    false≢true (ap (list_any is_order) start.ordered
+    ∙ any_behind is_order start.since (Asked (codes "w") Start ∷ start.before) refl)
 
 -- nor is it where the wait entry is through, and the service has no child and was not held
 abbrev is_of_service : Event → Bool
@@ -117,7 +122,8 @@ is_unserved (inr hold) = false≢true (ap (list_any is_of_service) hold.held
 idle-is_not_reached : IsReached level.L3 idle → ⊥
 idle-is_not_reached all = is_unserved (all.served (wait ∷ []) [] service refl refl)
 
--- two entries have two records, and so has one whose table lost an entry that has a child still: a third is one too many
+-- two entries have two records, and so has one whose table lost an entry that has a child still: a third is one too
+-- many
 abbrev records_within : List Event → ℕ
 records_within past = length (table_of past) + length (filter (is_without_entry (table_of past)) (known_children past))
 

@@ -1,12 +1,19 @@
 -- The rules that a fit core keeps, one by one.
-use Rattle.core_model.proofs.Words.{arith, ◌≡◌, ◌≤◌, ℕ, Bool, true, not, ◌&&◌, ◌||◌, List, [], ◌∷◌, nat_le, Option, list_all, and_parts, leb-true, le-leb, Entry, Stage, CLOCK_LIMIT, in_run, RecordState, are_distinct, IsInOrder, is_timely, are_timely, IsFit, has_cause, is_birth_known, is_order_allowed, is_stop_judged, are_marks_due, is_limiter_kept, are_starts_in, are_starts_free, is_other_level, is_goal_reached, are_fields_kept, is_record_kept, are_records_kept, CoreState}
+use Rattle.core_model.proofs.Words.{arith, ◌≡◌, ◌≤◌, ℕ, Bool, true, not, ◌&&◌, ◌||◌, List, [], ◌∷◌, nat_le, Option}
+use Rattle.core_model.proofs.Words.{list_all, and_parts, leb-true, le-leb, Entry, Stage, CLOCK_LIMIT, in_run}
+use Rattle.core_model.proofs.Words.{RecordState, are_distinct, IsInOrder, is_timely, are_timely, IsFit, has_cause}
+use Rattle.core_model.proofs.Words.{is_birth_known, is_order_allowed, is_stop_judged, are_marks_due, is_limiter_kept}
+use Rattle.core_model.proofs.Words.{are_starts_in, are_starts_free, is_other_level, is_goal_reached, are_fields_kept}
+use Rattle.core_model.proofs.Words.{is_record_kept, are_records_kept, CoreState}
 
 -- tests of all records, one by one and together
-all_parts : (p q : RecordState → Bool) (slots : List RecordState) → list_all (λ (s : RecordState). p s && q s) slots ≡ true → (list_all p slots ≡ true) × (list_all q slots ≡ true)
+all_parts : (p q : RecordState → Bool) (slots : List RecordState)
+    → list_all (λ (s : RecordState). p s && q s) slots ≡ true → (list_all p slots ≡ true) × (list_all q slots ≡ true)
 all_parts p q [] h = grind arith
 all_parts p q (slot ∷ slots) h = grind (arith, all_parts p q slots)
 
-all_from : (p q : RecordState → Bool) (slots : List RecordState) → list_all p slots ≡ true → list_all q slots ≡ true → list_all (λ (s : RecordState). p s && q s) slots ≡ true
+all_from : (p q : RecordState → Bool) (slots : List RecordState) → list_all p slots ≡ true → list_all q slots ≡ true
+    → list_all (λ (s : RecordState). p s && q s) slots ≡ true
 all_from p q [] h k = grind arith
 all_from p q (slot ∷ slots) h k = grind (arith, all_from p q slots)
 
@@ -35,18 +42,30 @@ module _ (stage : Option Stage) (table : List Entry) (now : ℕ) where
       let fifth = all_parts to_limiter (is_timely now) slots h in
       let fourth = all_parts to_marks (is_limiter_kept now) slots fifth.0 in
       let third = all_parts to_stop are_marks_due slots fourth.0 in
-      let second = all_parts (λ (s : RecordState). has_cause s && is_birth_known s.child && is_order_allowed s) (is_stop_judged stage table) slots third.0 in
-      let first = all_parts (λ (s : RecordState). has_cause s && is_birth_known s.child) is_order_allowed slots second.0 in
+      let second = all_parts (λ (s : RecordState). has_cause s && is_birth_known s.child && is_order_allowed s)
+      (is_stop_judged stage table) slots third.0 in
+      let first =
+      all_parts (λ (s : RecordState). has_cause s && is_birth_known s.child) is_order_allowed slots second.0 in
       let own = all_parts has_cause (λ (s : RecordState). is_birth_known s.child) slots first.0 in
-      record { caused = own.0; births = own.1; orders = first.1; stops = second.1; marks = third.1; limiters = fourth.1; timely = fifth.1 }
+      record {
+        caused = own.0;
+        births = own.1;
+        orders = first.1;
+        stops = second.1;
+        marks = third.1;
+        limiters = fourth.1;
+        timely = fifth.1;
+      }
 
   all_kept : (slots : List RecordState) → EachKept slots → list_all (is_record_kept stage table now) slots ≡ true
   all_kept slots each =
       all_from to_limiter (is_timely now) slots
       (all_from to_marks (is_limiter_kept now) slots
       (all_from to_stop are_marks_due slots
-      (all_from (λ (s : RecordState). has_cause s && is_birth_known s.child && is_order_allowed s) (is_stop_judged stage table) slots
-      (all_from (λ (s : RecordState). has_cause s && is_birth_known s.child) is_order_allowed slots (all_from has_cause (λ (s : RecordState). is_birth_known s.child) slots each.caused each.births) each.orders) each.stops)
+      (all_from (λ (s : RecordState). has_cause s && is_birth_known s.child && is_order_allowed s)
+      (is_stop_judged stage table) slots
+      (all_from (λ (s : RecordState). has_cause s && is_birth_known s.child) is_order_allowed slots (all_from has_cause
+      (λ (s : RecordState). is_birth_known s.child) slots each.caused each.births) each.orders) each.stops)
       each.marks)
       each.limiters)
       each.timely
@@ -69,12 +88,19 @@ pub record Rules (c : CoreState) : Type 0 where
 
 pub rules_of : (c : CoreState) → IsFit c → Rules c
 rules_of c fit =
-    let both = and_parts (are_fields_kept c.fields) (are_records_kept c.fields.stage c.table c.fields.time c.slots) fit.kept in
-    let third = and_parts (nat_le c.fields.time CLOCK_LIMIT && is_other_level c.fields.stage c.fields.level_wish && (not c.fields.announced || in_run c.fields.stage)) (is_goal_reached c.fields.stage c.fields.goal c.fields.booted) both.0 in
-    let second = and_parts (nat_le c.fields.time CLOCK_LIMIT && is_other_level c.fields.stage c.fields.level_wish) (not c.fields.announced || in_run c.fields.stage) third.0 in
-    let first = and_parts (nat_le c.fields.time CLOCK_LIMIT) (is_other_level c.fields.stage c.fields.level_wish) second.0 in
-    let all = and_parts (are_distinct c.slots && are_starts_in c.fields.stage c.table c.slots && are_starts_free c.slots) (list_all (is_record_kept c.fields.stage c.table c.fields.time) c.slots) both.1 in
-    let some = and_parts (are_distinct c.slots && are_starts_in c.fields.stage c.table c.slots) (are_starts_free c.slots) all.0 in
+    let both =
+    and_parts (are_fields_kept c.fields) (are_records_kept c.fields.stage c.table c.fields.time c.slots) fit.kept in
+    let third = and_parts (nat_le c.fields.time CLOCK_LIMIT && is_other_level c.fields.stage c.fields.level_wish
+    && (not c.fields.announced || in_run c.fields.stage))
+    (is_goal_reached c.fields.stage c.fields.goal c.fields.booted) both.0 in
+    let second = and_parts (nat_le c.fields.time CLOCK_LIMIT && is_other_level c.fields.stage c.fields.level_wish)
+    (not c.fields.announced || in_run c.fields.stage) third.0 in
+    let first =
+    and_parts (nat_le c.fields.time CLOCK_LIMIT) (is_other_level c.fields.stage c.fields.level_wish) second.0 in
+    let all = and_parts (are_distinct c.slots && are_starts_in c.fields.stage c.table c.slots
+    && are_starts_free c.slots) (list_all (is_record_kept c.fields.stage c.table c.fields.time) c.slots) both.1 in
+    let some =
+    and_parts (are_distinct c.slots && are_starts_in c.fields.stage c.table c.slots) (are_starts_free c.slots) all.0 in
     let few = and_parts (are_distinct c.slots) (are_starts_in c.fields.stage c.table c.slots) some.0 in
     let each = each_kept c.fields.stage c.table c.fields.time c.slots all.1 in
     record {

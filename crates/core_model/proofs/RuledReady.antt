@@ -1,5 +1,11 @@
 -- A record at a quiet point, as a stage judges it and as a table adopts it, keeps the rules.
-use Rattle.core_model.proofs.Words.{arith, ◌≡◌, refl, sym, ap, ◌∙◌, Bool, true, false, not, ◌||◌, cond, ℕ, List, Option, Some, None, is_some, is_none, option_or, and_parts, unused, Entry, Stage, is_limited, entry_of, KnownChild, Stop, Due, RecordState, new_record, is_limited_record, adopted, left_over, is_left_over, after_enter, judged, judged_child, after_judge, is_busy, order-after_judge, has_cause, is_birth_known, is_order_allowed, is_child_excluded, is_stop_judged, may_be_signalled, is_limit_kept, is_unused, is_limiter_kept}
+use Rattle.core_model.proofs.Words.{arith, ◌≡◌, refl, sym, ap, ◌∙◌, Bool, true, false, not, ◌||◌, cond, ℕ, List, Option}
+use Rattle.core_model.proofs.Words.{Some, None, is_some, is_none, option_or, and_parts, unused, Entry, Stage}
+use Rattle.core_model.proofs.Words.{is_limited, entry_of, KnownChild, Stop, Due, RecordState, new_record}
+use Rattle.core_model.proofs.Words.{is_limited_record, adopted, left_over, is_left_over, after_enter, judged}
+use Rattle.core_model.proofs.Words.{judged_child, after_judge, is_busy, order-after_judge, has_cause, is_birth_known}
+use Rattle.core_model.proofs.Words.{is_order_allowed, is_child_excluded, is_stop_judged, may_be_signalled}
+use Rattle.core_model.proofs.Words.{is_limit_kept, is_unused, is_limiter_kept}
 use Rattle.core_records.specs.Judging.{is_excluded}
 use Rattle.core_model.proofs.RuledRecord.{IsRuled, IsMarked, marks_parts, marks_from, calm_order, stop_childless}
 
@@ -16,39 +22,55 @@ pub record IsReady (now : ℕ) (slot : RecordState) : Type 0 where
 abbrev pub IsCalm : Option Stage → List Entry → ℕ → RecordState → Type 0
 IsCalm stage table now slot = IsRuled stage table now slot × (is_busy slot.order ≡ false)
 
-pub judged_ruled : (stage : Stage) (table : List Entry) (now : ℕ) (slot : RecordState) → IsReady now slot → IsCalm (Some stage) table now (after_judge table stage slot)
-judged_ruled stage table now slot ready = (by_child slot.child refl, ap is_busy (order-after_judge table stage slot) ∙ ready.calm)
+pub judged_ruled : (stage : Stage) (table : List Entry) (now : ℕ) (slot : RecordState) → IsReady now slot
+    → IsCalm (Some stage) table now (after_judge table stage slot)
+judged_ruled stage table now slot ready =
+    (by_child slot.child refl, ap is_busy (order-after_judge table stage slot) ∙ ready.calm)
   where
     begun : (stop : Option Stop) → is_some (option_or stop (Some Due)) ≡ true
     begun stop = grind arith
 
-    signalled : (m : Bool) (stop : Option Stop) → (not m || may_be_signalled stop) ≡ true → (not m || may_be_signalled (option_or stop (Some Due))) ≡ true
+    signalled : (m : Bool) (stop : Option Stop) → (not m || may_be_signalled stop) ≡ true
+        → (not m || may_be_signalled (option_or stop (Some Due))) ≡ true
     signalled m stop h = grind arith
 
-    by : (child : KnownChild) → slot.child ≡ Some child → (b : Bool) → is_excluded stage child.act (entry_of slot.id table) ≡ b → IsRuled (Some stage) table now (judged b slot)
+    by : (child : KnownChild) → slot.child ≡ Some child → (b : Bool)
+        → is_excluded stage child.act (entry_of slot.id table) ≡ b → IsRuled (Some stage) table now (judged b slot)
     by child is true excluded = record {
       cause = ready.cause;
       birth = ready.birth;
       order = calm_order slot.order slot (judged true slot) ready.calm refl ready.order;
-      stop = ap (λ o. cond (is_child_excluded (Some stage) table slot o) (is_some (option_or slot.stop (Some Due))) (is_none (option_or slot.stop (Some Due)))) is ∙ ap (λ b. cond b (is_some (option_or slot.stop (Some Due))) (is_none (option_or slot.stop (Some Due)))) excluded ∙ begun slot.stop;
-      marks = marks_from (judged true slot) (record { look = ready.marks.look; missed = signalled slot.missed slot.stop ready.marks.missed; called = ready.marks.called });
+      stop = ap (λ o. cond (is_child_excluded (Some stage) table slot o) (is_some (option_or slot.stop (Some Due)))
+          (is_none (option_or slot.stop (Some Due)))) is ∙ ap (λ b. cond b (is_some (option_or slot.stop (Some Due)))
+          (is_none (option_or slot.stop (Some Due)))) excluded ∙ begun slot.stop;
+      marks = marks_from (judged true slot) (record {
+        look = ready.marks.look;
+        missed = signalled slot.missed slot.stop ready.marks.missed;
+        called = ready.marks.called;
+      });
       limiter = ready.limiter;
     }
     by child is false spared = record {
       cause = ready.cause;
       birth = ready.birth;
       order = calm_order slot.order slot (judged false slot) ready.calm refl ready.order;
-      stop = ap (λ o. cond (is_child_excluded (Some stage) table slot o) false true) is ∙ ap (λ b. cond b false true) spared;
-      marks = marks_from (judged false slot) (record { look = ready.marks.look; missed = refl; called = ready.marks.called });
+      stop =
+          ap (λ o. cond (is_child_excluded (Some stage) table slot o) false true) is
+          ∙ ap (λ b. cond b false true) spared;
+      marks =
+          marks_from (judged false slot)
+          (record { look = ready.marks.look; missed = refl; called = ready.marks.called });
       limiter = ready.limiter;
     }
 
-    by_child : (o : Option KnownChild) → slot.child ≡ o → IsRuled (Some stage) table now (judged_child stage table o slot)
+    by_child : (o : Option KnownChild) → slot.child ≡ o
+        → IsRuled (Some stage) table now (judged_child stage table o slot)
     by_child None is = record {
       cause = ready.cause;
       birth = ready.birth;
       order = ready.order;
-      stop = ap (λ o. cond (is_child_excluded (Some stage) table slot o) (is_some slot.stop) (is_none slot.stop)) is ∙ sym (ap (λ o. is_some o || is_none slot.stop) is) ∙ ready.childless;
+      stop = ap (λ o. cond (is_child_excluded (Some stage) table slot o) (is_some slot.stop) (is_none slot.stop)) is
+          ∙ sym (ap (λ o. is_some o || is_none slot.stop) is) ∙ ready.childless;
       marks = marks_from slot ready.marks;
       limiter = ready.limiter;
     }
@@ -60,7 +82,8 @@ fresh_limiter now true = refl
 fresh_limiter now false = refl
 
 -- the records of a quiet point, ready for a stage: as they are, of a table's entry, and left over
-pub ready_enter : (stage : Option Stage) (table : List Entry) (now : ℕ) (slot : RecordState) → IsCalm stage table now slot → IsReady now (after_enter slot)
+pub ready_enter : (stage : Option Stage) (table : List Entry) (now : ℕ) (slot : RecordState)
+    → IsCalm stage table now slot → IsReady now (after_enter slot)
 ready_enter stage table now slot calm =
     let marked = marks_parts slot calm.0.marks in
     record {
@@ -84,7 +107,8 @@ ready_new now e = record {
   limiter = fresh_limiter now (is_limited e.act);
 }
 
-pub ready_adopted : (stage : Option Stage) (table : List Entry) (now : ℕ) (e : Entry) (slot : RecordState) → IsCalm stage table now slot → IsReady now (adopted e (Some slot))
+pub ready_adopted : (stage : Option Stage) (table : List Entry) (now : ℕ) (e : Entry) (slot : RecordState)
+    → IsCalm stage table now slot → IsReady now (adopted e (Some slot))
 ready_adopted stage table now e slot calm =
     let marked = marks_parts slot calm.0.marks in
     record {
@@ -97,7 +121,8 @@ ready_adopted stage table now e slot calm =
       limiter = fresh_limiter now (is_limited e.act);
     }
 
-pub ready_left : (stage : Option Stage) (table next : List Entry) (now : ℕ) (slot : RecordState) → is_left_over next slot ≡ true → IsCalm stage table now slot → IsReady now (left_over slot)
+pub ready_left : (stage : Option Stage) (table next : List Entry) (now : ℕ) (slot : RecordState)
+    → is_left_over next slot ≡ true → IsCalm stage table now slot → IsReady now (left_over slot)
 ready_left stage table next now slot left calm =
     let marked = marks_parts slot calm.0.marks in
     record {
@@ -111,8 +136,21 @@ ready_left stage table next now slot left calm =
     }
 
 -- before the first stage each child stays excluded
-pub dawn_stop : (o : Option KnownChild) (table next : List Entry) (before after : RecordState) (stop : Option Stop) → cond (is_child_excluded None table before o) (is_some stop) (is_none stop) ≡ true → cond (is_child_excluded None next after o) (is_some stop) (is_none stop) ≡ true
+pub dawn_stop : (o : Option KnownChild) (table next : List Entry) (before after : RecordState) (stop : Option Stop)
+    → cond (is_child_excluded None table before o) (is_some stop) (is_none stop) ≡ true
+    → cond (is_child_excluded None next after o) (is_some stop) (is_none stop) ≡ true
 dawn_stop o table next before after stop h = grind arith
 
-pub dawn_ruled : (table : List Entry) (now : ℕ) (slot : RecordState) → IsReady now slot → is_stop_judged None table slot ≡ true → IsCalm None table now slot
-dawn_ruled table now slot ready stop = (record { cause = ready.cause; birth = ready.birth; order = ready.order; stop = stop; marks = marks_from slot ready.marks; limiter = ready.limiter }, ready.calm)
+pub dawn_ruled : (table : List Entry) (now : ℕ) (slot : RecordState) → IsReady now slot
+    → is_stop_judged None table slot ≡ true → IsCalm None table now slot
+dawn_ruled table now slot ready stop = (
+  record {
+    cause = ready.cause;
+    birth = ready.birth;
+    order = ready.order;
+    stop = stop;
+    marks = marks_from slot ready.marks;
+    limiter = ready.limiter;
+  },
+  ready.calm,
+)

@@ -1,5 +1,9 @@
 -- What the rules say of one record, and of which of its parts.
-use Rattle.core_model.proofs.Words.{arith, ◌≡◌, sym, ap, ◌∙◌, true, false, not, ◌&&◌, ◌||◌, cond, ℕ, List, Option, is_some, is_none, and_parts, and_from, Entry, OrderKind, Stage, KnownChild, Stop, RecordState, is_busy, has_cause, is_birth_known, allows_order, is_order_allowed, is_child_excluded, is_stop_judged, is_callable, may_be_signalled, are_marks_due, is_limiter_kept}
+use Rattle.core_model.proofs.Words.{arith, ◌≡◌, sym, ap, ◌∙◌, true, false, not, ◌&&◌, ◌||◌, cond, ℕ, List, Option}
+use Rattle.core_model.proofs.Words.{is_some, is_none, and_parts, and_from, Entry, OrderKind, Stage, KnownChild, Stop}
+use Rattle.core_model.proofs.Words.{RecordState, is_busy, has_cause, is_birth_known, allows_order, is_order_allowed}
+use Rattle.core_model.proofs.Words.{is_child_excluded, is_stop_judged, is_callable, may_be_signalled, are_marks_due}
+use Rattle.core_model.proofs.Words.{is_limiter_kept}
 
 pub record IsRuled (stage : Option Stage) (table : List Entry) (now : ℕ) (slot : RecordState) : Type 0 where
   pub cause : has_cause slot ≡ true
@@ -10,14 +14,20 @@ pub record IsRuled (stage : Option Stage) (table : List Entry) (now : ℕ) (slot
   pub limiter : is_limiter_kept now slot ≡ true
 
 -- whether a child is to be stopped is asked by its id
-pub excluded_same : (o : Option KnownChild) (stage : Option Stage) (table : List Entry) (before after : RecordState) → before.id ≡ after.id → is_child_excluded stage table before o ≡ is_child_excluded stage table after o
+pub excluded_same : (o : Option KnownChild) (stage : Option Stage) (table : List Entry) (before after : RecordState)
+    → before.id ≡ after.id → is_child_excluded stage table before o ≡ is_child_excluded stage table after o
 excluded_same o stage table before after same = grind arith
 
-pub stop_same : (o : Option KnownChild) (stage : Option Stage) (table : List Entry) (before after : RecordState) (stop : Option Stop) → before.id ≡ after.id → cond (is_child_excluded stage table before o) (is_some stop) (is_none stop) ≡ true → cond (is_child_excluded stage table after o) (is_some stop) (is_none stop) ≡ true
-stop_same o stage table before after stop same h = ap (λ b. cond b (is_some stop) (is_none stop)) (sym (excluded_same o stage table before after same)) ∙ h
+pub stop_same : (o : Option KnownChild) (stage : Option Stage) (table : List Entry) (before after : RecordState)
+    (stop : Option Stop) → before.id ≡ after.id → cond (is_child_excluded stage table before o) (is_some stop)
+    (is_none stop) ≡ true → cond (is_child_excluded stage table after o) (is_some stop) (is_none stop) ≡ true
+stop_same o stage table before after stop same h =
+    ap (λ b. cond b (is_some stop) (is_none stop)) (sym (excluded_same o stage table before after same)) ∙ h
 
 -- whether an order is allowed is asked by the action, the child and the stop
-pub allowed_same : (order : Option OrderKind) (before after : RecordState) → before.table_act ≡ after.table_act → before.child ≡ after.child → before.stop ≡ after.stop → allows_order order before ≡ true → allows_order order after ≡ true
+pub allowed_same : (order : Option OrderKind) (before after : RecordState) → before.table_act ≡ after.table_act
+    → before.child ≡ after.child → before.stop ≡ after.stop → allows_order order before ≡ true
+    → allows_order order after ≡ true
 allowed_same order before after act child stop h = grind arith
 
 -- the marks of a record, one by one
@@ -28,17 +38,23 @@ pub record IsMarked (slot : RecordState) : Type 0 where
 
 pub marks_parts : (slot : RecordState) → are_marks_due slot ≡ true → IsMarked slot
 marks_parts slot h =
-    let parts = and_parts ((not slot.look || is_some slot.child) && (not slot.missed || may_be_signalled slot.stop)) (not slot.called || is_callable slot.table_act) h in
-    let first = and_parts (not slot.look || is_some slot.child) (not slot.missed || may_be_signalled slot.stop) parts.0 in
+    let parts = and_parts ((not slot.look || is_some slot.child) && (not slot.missed || may_be_signalled slot.stop))
+    (not slot.called || is_callable slot.table_act) h in
+    let first =
+    and_parts (not slot.look || is_some slot.child) (not slot.missed || may_be_signalled slot.stop) parts.0 in
     record { look = first.0; missed = first.1; called = parts.1 }
 
 pub marks_from : (slot : RecordState) → IsMarked slot → are_marks_due slot ≡ true
-marks_from slot marked = and_from ((not slot.look || is_some slot.child) && (not slot.missed || may_be_signalled slot.stop)) (not slot.called || is_callable slot.table_act) (and_from (not slot.look || is_some slot.child) (not slot.missed || may_be_signalled slot.stop) marked.look marked.missed) marked.called
+marks_from slot marked = and_from ((not slot.look || is_some slot.child) && (not slot.missed || may_be_signalled
+    slot.stop)) (not slot.called || is_callable slot.table_act) (and_from (not slot.look || is_some slot.child)
+    (not slot.missed || may_be_signalled slot.stop) marked.look marked.missed) marked.called
 
 -- a look stays allowed where the child stays
-pub calm_order : (order : Option OrderKind) (before after : RecordState) → is_busy order ≡ false → is_some before.child ≡ is_some after.child → allows_order order before ≡ true → allows_order order after ≡ true
+pub calm_order : (order : Option OrderKind) (before after : RecordState) → is_busy order ≡ false
+    → is_some before.child ≡ is_some after.child → allows_order order before ≡ true → allows_order order after ≡ true
 calm_order order before after calm same h = grind arith
 
 -- without a child there is no stop
-pub stop_childless : (stage : Option Stage) (table : List Entry) (slot : RecordState) → is_stop_judged stage table slot ≡ true → (is_some slot.child || is_none slot.stop) ≡ true
+pub stop_childless : (stage : Option Stage) (table : List Entry) (slot : RecordState)
+    → is_stop_judged stage table slot ≡ true → (is_some slot.child || is_none slot.stop) ≡ true
 stop_childless stage table slot h = grind arith

@@ -1,7 +1,11 @@
 -- The step that init takes, as a function of what it keeps (init(8)).
-use Rattle.std.specs.Prelude.{ℕ, Bool, false, not, ◌&&◌, ◌||◌, ◌+◌, if◌then◌else◌, List, [], ◌∷◌, zip, nat_le, Option, Some, None, is_some, is_none}
+use Rattle.std.specs.Prelude.{ℕ, Bool, false, not, ◌&&◌, ◌||◌, ◌+◌, if◌then◌else◌, List, [], ◌∷◌, zip, nat_le, Option}
+use Rattle.std.specs.Prelude.{Some, None, is_some, is_none}
 use Rattle.std.specs.List.{list_any, list_all}
-use Rattle.core_model.specs.Words.{Entry, Level, S, At, Stage, Start, Look, Term, Kill, wanted_by, is_limited, served_by, starts_of, waited_of, same_level, names, may_of, is_held, Step, Order, Settle, Reread, Reexec, Idle, Goal, is_order, in_run, Stop, Due, Termed, RecordState, allows, is_quiet}
+use Rattle.core_model.specs.Words.{Entry, Level, S, At, Stage, Start, Look, Term, Kill, wanted_by, is_limited}
+use Rattle.core_model.specs.Words.{served_by, starts_of, waited_of, same_level, names, may_of, is_held, Step, Order}
+use Rattle.core_model.specs.Words.{Settle, Reread, Reexec, Idle, Goal, is_order, in_run, Stop, Due, Termed, RecordState}
+use Rattle.core_model.specs.Words.{allows, is_quiet}
 use Rattle.init_words.specs.declared.stages.Stage.TheVariants as stage
 use Rattle.trace_events.specs.declared.steps.Step.TheVariants.{Enter, Hold}
 use Rattle.trace_events.specs.CallSets.{has_news, first_news}
@@ -160,7 +164,8 @@ calm_step stage c =
 abbrev pub work_step : Stage → CoreState → Option Step
 work_step stage c =
     if stands stage c then None
-    else or_else (stop_among c.fields.grace c.fields.time c.slots) (if has_excluded c.slots then None else calm_step stage c)
+    else or_else (stop_among c.fields.grace c.fields.time c.slots)
+    (if has_excluded c.slots then None else calm_step stage c)
 
 -- the step: before the first stage Sysinit, where no start and no signal is open; then what is wished, what is to be
 -- done, a look, or nothing

@@ -1,8 +1,13 @@
 -- When a core fits a trace: what it keeps is what the definitions read off the past.
-use Rattle.std.specs.Prelude.{◌≡◌, ℕ, Bool, true, false, ◌&&◌, ◌+◌, IsTrue, if◌then◌else◌, List, [], ◌∷◌, map, find, reverse, Option, Some, None}
+use Rattle.std.specs.Prelude.{◌≡◌, ℕ, Bool, true, false, ◌&&◌, ◌+◌, IsTrue, if◌then◌else◌, List, [], ◌∷◌, map, find}
+use Rattle.std.specs.Prelude.{reverse, Option, Some, None}
 use Rattle.std.specs.List.{list_any}
 use Rattle.std.specs.Option.{option_map, option_map_or}
-use Rattle.core_model.specs.Words.{HOLD, LimiterState, unused, last_starts, Entry, Answer, Kill, is_limited, same_id, entry_of, act_of, Step, Goal, Event, Child, is_of, has_child, open_of, table_of, stage_of, grace_of, time_of, known_children, is_asked, is_called, is_order, in_run, goal_of, wants_reexec, wants_reread, level_wish, was_booted, is_sound, KnownChild, Stop, Due, Termed, Killed, RecordState}
+use Rattle.core_model.specs.Words.{HOLD, LimiterState, unused, last_starts, Entry, Answer, Kill, is_limited, same_id}
+use Rattle.core_model.specs.Words.{entry_of, act_of, Step, Goal, Event, Child, is_of, has_child, open_of, table_of}
+use Rattle.core_model.specs.Words.{stage_of, grace_of, time_of, known_children, is_asked, is_called, is_order, in_run}
+use Rattle.core_model.specs.Words.{goal_of, wants_reexec, wants_reread, level_wish, was_booted, is_sound, KnownChild}
+use Rattle.core_model.specs.Words.{Stop, Due, Termed, Killed, RecordState}
 use Rattle.init_words.specs.declared.children.Status.{Status}
 use Rattle.init_words.specs.declared.orders.Answer.TheVariants.{Ended}
 use Rattle.trace_events.specs.declared.happenings.Happening.TheVariants as happened
@@ -81,7 +86,8 @@ abbrev pub last_told : Option Answer → Option Status → Option Status
 last_told (Some (Ended status)) before = Some status
 last_told _ before = before
 
--- the last statuses after a happening: a told answer may bring one, and a table keeps those of the ids that had a record
+-- the last statuses after a happening: a told answer may bring one, and a table keeps those of the ids that had a
+-- record
 abbrev pub lasts_after : Event → List Event → LastStatuses → LastStatuses
 lasts_after (happened.NewTable table) past lasts =
     λ id. if list_any (same_id id) (record_ids past) then lasts id else None

@@ -2,7 +2,9 @@
 -- A trace is a list of happenings, the newest first: `since ++ happening ∷ before` is a trace in which it came.
 use Rattle.std.specs.Prelude.{◌≡◌, ◌<◌, ◌+◌, ◌⊎◌, ⊤, ℕ, Bool, true, false, not, ◌&&◌, IsTrue, List, [], ◌∷◌, ◌++◌, Some}
 use Rattle.std.specs.List.{list_any}
-use Rattle.core_model.specs.Words.{HOLD, Entry, Act, Level, Start, Stage, Run, same_id, starts_of, lives_of, waited_of, has_id, entry_of, act_of, NewTable, Asked, Birth, Told, Event, table_of, stage_of, time_of, same_acts, brings, is_steady, is_reaping_of}
+use Rattle.core_model.specs.Words.{HOLD, Entry, Act, Level, Start, Stage, Run, same_id, starts_of, lives_of, waited_of}
+use Rattle.core_model.specs.Words.{has_id, entry_of, act_of, NewTable, Asked, Birth, Told, Event, table_of, stage_of}
+use Rattle.core_model.specs.Words.{time_of, same_acts, brings, is_steady, is_reaping_of}
 use Rattle.init_words.specs.declared.actions.Act.TheVariants as act
 use Rattle.trace_events.specs.declared.happenings.Happening.TheVariants.{Enter, Hold}
 

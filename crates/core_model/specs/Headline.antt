@@ -1,7 +1,8 @@
 -- The children of the system are the core's records, corrected by the answers under way.
 use Rattle.std.specs.Prelude.{ℕ, Bool, not, ◌&&◌, ◌||◌, List}
 use Rattle.std.specs.List.{list_any}
-use Rattle.core_model.specs.Words.{Entry, has_id, Event, Child, has_untold_birth, has_untold_end, RecordState, is_record_of, is_numbered}
+use Rattle.core_model.specs.Words.{Entry, has_id, Event, Child, has_untold_birth, has_untold_end, RecordState}
+use Rattle.core_model.specs.Words.{is_record_of, is_numbered}
 use Rattle.core_model.specs.State.{CoreState}
 
 -- a record of the core has the child of this id and number

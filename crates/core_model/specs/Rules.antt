@@ -1,8 +1,11 @@
 -- The rules that whatever init keeps is held to (init(8), telinit(8)): it never comes to a state that breaks one, and
 -- the text of such a state is taken for no state of init's.
-use Rattle.std.specs.Prelude.{◌≡◌, ℕ, Bool, true, false, not, ◌&&◌, ◌||◌, ◌==◌, ◌+◌, if◌then◌else◌, List, [], ◌∷◌, length, zip, nat_le, Option, Some, None, is_some, is_none}
+use Rattle.std.specs.Prelude.{◌≡◌, ℕ, Bool, true, false, not, ◌&&◌, ◌||◌, ◌==◌, ◌+◌, if◌then◌else◌, List, [], ◌∷◌}
+use Rattle.std.specs.Prelude.{length, zip, nat_le, Option, Some, None, is_some, is_none}
 use Rattle.std.specs.List.{list_all, list_any}
-use Rattle.core_model.specs.Words.{Act, Entry, Start, Look, Term, Kill, Stage, is_called_by, is_ondemand, starts_of, same_level, entry_of, CLOCK_LIMIT, HOLD, STARTS, LimiterState, Goal, is_order, in_run, KnownChild, Stop, Due, Termed, RecordState, is_limited_record, are_distinct}
+use Rattle.core_model.specs.Words.{Act, Entry, Start, Look, Term, Kill, Stage, is_called_by, is_ondemand, starts_of}
+use Rattle.core_model.specs.Words.{same_level, entry_of, CLOCK_LIMIT, HOLD, STARTS, LimiterState, Goal, is_order}
+use Rattle.core_model.specs.Words.{in_run, KnownChild, Stop, Due, Termed, RecordState, is_limited_record, are_distinct}
 use Rattle.init_words.specs.declared.orders.OrderKind.{OrderKind}
 use Rattle.init_words.specs.declared.orders.PowerKind.TheVariants as power
 use Rattle.init_words.specs.declared.stages.Stage.TheVariants as stage
@@ -130,7 +133,8 @@ is_goal_reached (Some (stage.Run level)) goal booted = same_level goal.level lev
 is_goal_reached (Some stage.Boot) goal booted = booted
 is_goal_reached _ goal booted = not booted
 
--- the rules of the single values: no time later than the clock's limit, the wish for a level, the announcement, the goal
+-- the rules of the single values: no time later than the clock's limit, the wish for a level, the announcement, the
+-- goal
 abbrev pub are_fields_kept : CoreFields → Bool
 are_fields_kept fields = nat_le fields.time CLOCK_LIMIT && is_other_level fields.stage fields.level_wish
     && (not fields.announced || in_run fields.stage) && is_goal_reached fields.stage fields.goal fields.booted

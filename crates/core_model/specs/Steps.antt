@@ -1,7 +1,10 @@
 -- What init keeps after each of its steps, and after each thing that it is told (init(8), telinit(8)).
-use Rattle.std.specs.Prelude.{ℕ, Bool, true, false, ◌&&◌, ◌||◌, ◌+◌, if◌then◌else◌, List, map, max, min, Option, Some, None}
+use Rattle.std.specs.Prelude.{ℕ, Bool, true, false, ◌&&◌, ◌||◌, ◌+◌, if◌then◌else◌, List, map, max, min, Option, Some}
+use Rattle.std.specs.Prelude.{None}
 use Rattle.std.specs.List.{list_any}
-use Rattle.core_model.specs.Words.{Entry, OnCall, Stage, Answer, is_called_by, is_ondemand, same_level, names, has_id, CLOCK_LIMIT, Step, Call, Power, Order, Settle, Goal, starts_in, RecordState, after_order, after_hold, after_call, after_enter, after_begin_round, after_judge}
+use Rattle.core_model.specs.Words.{Entry, OnCall, Stage, Answer, is_called_by, is_ondemand, same_level, names, has_id}
+use Rattle.core_model.specs.Words.{CLOCK_LIMIT, Step, Call, Power, Order, Settle, Goal, starts_in, RecordState}
+use Rattle.core_model.specs.Words.{after_order, after_hold, after_call, after_enter, after_begin_round, after_judge}
 use Rattle.init_words.specs.declared.stages.Stage.TheVariants as stage
 use Rattle.initctl_frame.specs.declared.requests.HeardRequest.{HeardRequest}
 use Rattle.initctl_frame.specs.declared.requests.HeardRequest.TheVariants as got

@@ -25,7 +25,8 @@ pub use Rattle.init_words.specs.declared.orders.Answer.{Answer}
 pub use Rattle.init_words.specs.Ids.{same_id}
 pub use Rattle.inittab_text.specs.Tables.{entry_of, act_of, has_id, default_level_of}
 pub use Rattle.trace_events.specs.Event.{Event}
-pub use Rattle.trace_events.specs.Past.{Child, is_of, has_child, open_of, table_of, stage_of, grace_of, time_of, known_children, unreaped_children}
+pub use Rattle.trace_events.specs.Past.{Child, is_of, has_child, open_of, table_of, stage_of, grace_of, time_of}
+pub use Rattle.trace_events.specs.Past.{known_children, unreaped_children}
 pub use Rattle.trace_events.specs.Sound.{is_sound}
 pub use Rattle.core_records.specs.declared.children.KnownChild.{KnownChild}
 pub use Rattle.init_words.specs.declared.actions.Act.{Act}

@@ -1,5 +1,6 @@
 -- How much init may still do before the world moves: it falls with each step, so its own steps end.
-use Rattle.std.specs.Prelude.{ℕ, Bool, not, ◌+◌, ◌*◌, if◌then◌else◌, length, filter, Option, Some, None, is_some, is_none}
+use Rattle.std.specs.Prelude.{ℕ, Bool, not, ◌+◌, ◌*◌, if◌then◌else◌, length, filter, Option, Some, None, is_some}
+use Rattle.std.specs.Prelude.{is_none}
 use Rattle.core_model.specs.Words.{Stage, Sysinit, Boot, Run, is_held, RecordState}
 use Rattle.trace_events.specs.CallSets.{news_count}
 use Rattle.core_model.specs.State.{CoreState}

@@ -1,5 +1,10 @@
 -- The counts of the records: what each change of the records makes of them.
-use Rattle.core_records.proofs.Words.{◌≡◌, refl, sym, ◌∙◌, ap, subst, cond, Bool, true, false, not, ◌||◌, ℕ, ◌+◌, ◌-◌, ◌≤◌, ◌<◌, List, [], ◌∷◌, ◌++◌, map, length, Some, ◌==◌, ◌^◌, arith, list_any, count_by, false_from_ne_true, eqb-true, length-map, sum_by-cons, sum_by_push, count_by-le-length, values_of, lookup, remove_entry, IndexMap, IsUnique, index_map_len, same_id, Counts, RecordState, are_distinct, record_by_id, is_busy, changed, with_changed, is_stop_due, counts_of, plus, minus, IsWithin, AreSmall}
+use Rattle.core_records.proofs.Words.{◌≡◌, refl, sym, ◌∙◌, ap, subst, cond, Bool, true, false, not, ◌||◌, ℕ, ◌+◌, ◌-◌}
+use Rattle.core_records.proofs.Words.{◌≤◌, ◌<◌, List, [], ◌∷◌, ◌++◌, map, length, Some, ◌==◌, ◌^◌, arith, list_any}
+use Rattle.core_records.proofs.Words.{count_by, false_from_ne_true, eqb-true, length-map, sum_by-cons, sum_by_push}
+use Rattle.core_records.proofs.Words.{count_by-le-length, values_of, lookup, remove_entry, IndexMap, IsUnique}
+use Rattle.core_records.proofs.Words.{index_map_len, same_id, Counts, RecordState, are_distinct, record_by_id, is_busy}
+use Rattle.core_records.proofs.Words.{changed, with_changed, is_stop_due, counts_of, plus, minus, IsWithin, AreSmall}
 use Rattle.std.proofs.Common.{is_some}
 use Rattle.core_records.proofs.Found.{Kept, IsOwn, distinct_in, found_in, others, rest_distinct, unchanged}
 
@@ -12,10 +17,12 @@ module _ {X : Type 0} (p : X → Bool) where
       more : count_by p (x ∷ xs) ≡ cond (p x) 1 0 + count_by p xs
       more = sum_by-cons (λ y. cond (p y) 1 0) x xs
 
-      here : (b : Bool) → p x ≡ b → (count_by p xs == 0) ≡ not (list_any p xs) → (count_by p (x ∷ xs) == 0) ≡ not (b || list_any p xs)
+      here : (b : Bool) → p x ≡ b → (count_by p xs == 0) ≡ not (list_any p xs)
+          → (count_by p (x ∷ xs) == 0) ≡ not (b || list_any p xs)
       here true is later =
           let one : count_by p (x ∷ xs) ≡ 1 + count_by p xs = more ∙ ap (λ (c : Bool). cond c 1 0 + count_by p xs) is in
-          false_from_ne_true (count_by p (x ∷ xs) == 0) (λ none. let is_none : count_by p (x ∷ xs) ≡ 0 = eqb-true (count_by p (x ∷ xs)) 0 none in omega arith)
+          false_from_ne_true (count_by p (x ∷ xs) == 0)
+          (λ none. let is_none : count_by p (x ∷ xs) ≡ 0 = eqb-true (count_by p (x ∷ xs)) 0 none in omega arith)
       here false is later = grind arith
 
   pub some_counted : (xs : List X) → not (count_by p xs == 0) ≡ list_any p xs
@@ -23,32 +30,40 @@ module _ {X : Type 0} (p : X → Bool) where
 
 -- the records of one kind
 module _ (p : RecordState → Bool) where
-  count-cons : (slot : RecordState) (slots : List RecordState) → count_by p (slot ∷ slots) ≡ cond (p slot) 1 0 + count_by p slots
+  count-cons : (slot : RecordState) (slots : List RecordState)
+      → count_by p (slot ∷ slots) ≡ cond (p slot) 1 0 + count_by p slots
   count-cons slot slots = sum_by-cons (λ (s : RecordState). cond (p s) 1 0) slot slots
 
   count-one : (slot : RecordState) → count_by p (slot ∷ []) ≡ cond (p slot) 1 0
   count-one slot = count-cons slot [] ∙ omega arith
 
-  count_found : (id : List ℕ) (slot : RecordState) (slots : List RecordState) → record_by_id id slots ≡ Some slot → cond (p slot) 1 0 ≤ count_by p slots
+  count_found : (id : List ℕ) (slot : RecordState) (slots : List RecordState) → record_by_id id slots ≡ Some slot
+      → cond (p slot) 1 0 ≤ count_by p slots
   count_found id slot [] is = absurd (cc)
   count_found id slot (first ∷ slots) is = grind (arith, count-cons, count_found id slot slots)
 
-  count_changed : (id : List ℕ) (change : RecordState → RecordState) (slot : RecordState) (slots : List RecordState) → are_distinct slots ≡ true → record_by_id id slots ≡ Some slot
+  count_changed : (id : List ℕ) (change : RecordState → RecordState) (slot : RecordState) (slots : List RecordState)
+      → are_distinct slots ≡ true → record_by_id id slots ≡ Some slot
       → count_by p (with_changed id change slots) + cond (p slot) 1 0 ≡ count_by p slots + cond (p (change slot)) 1 0
   count_changed id change slot [] distinct is = absurd (cc)
-  count_changed id change slot (first ∷ slots) distinct is = grind (arith, rest_distinct, unchanged, others, count-cons, count_changed id change slot slots)
+  count_changed id change slot (first ∷ slots) distinct is =
+      grind (arith, rest_distinct, unchanged, others, count-cons, count_changed id change slot slots)
 
-  count_removed : (test : List ℕ → Bool) (slot : RecordState) (kept : Kept) → lookup test kept ≡ Some slot → count_by p (values_of (remove_entry test kept)) + cond (p slot) 1 0 ≡ count_by p (values_of kept)
+  count_removed : (test : List ℕ → Bool) (slot : RecordState) (kept : Kept) → lookup test kept ≡ Some slot
+      → count_by p (values_of (remove_entry test kept)) + cond (p slot) 1 0 ≡ count_by p (values_of kept)
   count_removed test slot [] is = absurd (cc)
   count_removed test slot (e ∷ kept) is = grind (arith, count-cons, count_removed test slot kept)
 
-  count_same : (change : RecordState → RecordState) → ((slot : RecordState) → p (change slot) ≡ p slot) → (slots : List RecordState) → count_by p (map change slots) ≡ count_by p slots
+  count_same : (change : RecordState → RecordState) → ((slot : RecordState) → p (change slot) ≡ p slot)
+      → (slots : List RecordState) → count_by p (map change slots) ≡ count_by p slots
   count_same change keeps [] = refl
   count_same change keeps (slot ∷ slots) = grind (arith, count-cons, count_same change keeps slots)
 
 -- a record that is found is counted
-pub found_within : (id : List ℕ) (slot : RecordState) (slots : List RecordState) → record_by_id id slots ≡ Some slot → IsWithin (counts_of (slot ∷ [])) (counts_of slots)
-found_within id slot slots is = (at (λ s. is_some s.order), at (λ s. is_busy s.order), at (λ s. is_some s.stop), at (λ s. is_stop_due s.stop))
+pub found_within : (id : List ℕ) (slot : RecordState) (slots : List RecordState) → record_by_id id slots ≡ Some slot
+    → IsWithin (counts_of (slot ∷ [])) (counts_of slots)
+found_within id slot slots is =
+    (at (λ s. is_some s.order), at (λ s. is_busy s.order), at (λ s. is_some s.stop), at (λ s. is_stop_due s.stop))
   where
     at : (p : RecordState → Bool) → count_by p (slot ∷ []) ≤ count_by p slots
     at p = omega (arith, count-one p slot, count_found p id slot slots is)
@@ -58,49 +73,84 @@ pub counts_small : (slots : List RecordState) → length slots < 2 ^ 63 → AreS
 counts_small slots few = grind (arith, count_by-le-length)
 
 -- the counts after the record of an id was changed, taken out, or added behind the others
-recounted : (id : List ℕ) (change : RecordState → RecordState) (slot : RecordState) (slots : List RecordState) → are_distinct slots ≡ true → record_by_id id slots ≡ Some slot
-    → plus (minus (counts_of slots) (counts_of (slot ∷ []))) (counts_of (change slot ∷ [])) ≡ counts_of (with_changed id change slots)
-recounted id change slot slots distinct is = λ i. record { orders = at (λ s. is_some s.order) i; busy = at (λ s. is_busy s.order) i; excluded = at (λ s. is_some s.stop) i; due = at (λ s. is_stop_due s.stop) i }
+recounted : (id : List ℕ) (change : RecordState → RecordState) (slot : RecordState) (slots : List RecordState)
+    → are_distinct slots ≡ true → record_by_id id slots ≡ Some slot
+    → plus (minus (counts_of slots) (counts_of (slot ∷ []))) (counts_of (change slot ∷ []))
+    ≡ counts_of (with_changed id change slots)
+recounted id change slot slots distinct is = λ i. record {
+  orders = at (λ s. is_some s.order) i;
+  busy = at (λ s. is_busy s.order) i;
+  excluded = at (λ s. is_some s.stop) i;
+  due = at (λ s. is_stop_due s.stop) i;
+}
   where
-    at : (p : RecordState → Bool) → count_by p slots - count_by p (slot ∷ []) + count_by p (change slot ∷ []) ≡ count_by p (with_changed id change slots)
-    at p = omega (arith, count-one p slot, count-one p (change slot), count_found p id slot slots is, count_changed p id change slot slots distinct is)
+    at : (p : RecordState → Bool) → count_by p slots - count_by p (slot ∷ []) + count_by p (change slot ∷ [])
+        ≡ count_by p (with_changed id change slots)
+    at p = omega (
+      arith,
+      count-one p slot,
+      count-one p (change slot),
+      count_found p id slot slots is,
+      count_changed p id change slot slots distinct is,
+    )
 
 -- the counts less those of the record that was found, and with those of the record that was left
 pub record Recount (slots : List RecordState) (counts : Counts) : Type 0 where
   pub exact : counts ≡ counts_of slots
   pub small : AreSmall counts
 
-pub recount : {S : Type 0} (m : IndexMap (List ℕ) RecordState S) (id : List ℕ) (change : RecordState → RecordState) (slot left : RecordState) (slots : List RecordState) (counts less fewer more : Counts)
-    → IsOwn m.entries → IsUnique same_id m → index_map_len m < 2 ^ 63 → values_of m.entries ≡ slots → Some slot ≡ lookup (same_id id) m.entries
-    → counts ≡ counts_of (values_of m.entries) → less ≡ counts_of (slot ∷ []) → fewer ≡ minus counts less → left ≡ change slot → more ≡ counts_of (left ∷ [])
-    → Recount (with_changed id change slots) (plus fewer more)
+pub recount : {S : Type 0} (m : IndexMap (List ℕ) RecordState S) (id : List ℕ) (change : RecordState → RecordState)
+    (slot left : RecordState) (slots : List RecordState) (counts less fewer more : Counts)
+    → IsOwn m.entries → IsUnique same_id m → index_map_len m < 2 ^ 63 → values_of m.entries ≡ slots
+    → Some slot ≡ lookup (same_id id) m.entries
+    → counts ≡ counts_of (values_of m.entries) → less ≡ counts_of (slot ∷ []) → fewer ≡ minus counts less
+    → left ≡ change slot → more ≡ counts_of (left ∷ []) → Recount (with_changed id change slots) (plus fewer more)
 recount m id change slot left slots counts less fewer more own unique few is found old one taken done put =
-    let exact : plus fewer more ≡ counts_of (with_changed id change slots) = rw (taken, one, put, done, old, is) (recounted id change slot slots (distinct_in m slots own unique is) (found_in id slot m.entries slots own is found)) in
+    let exact : plus fewer more ≡ counts_of (with_changed id change slots) =
+    rw (taken, one, put, done, old, is) (recounted id change slot slots (distinct_in m slots own unique is)
+    (found_in id slot m.entries slots own is found)) in
     let same : length (with_changed id change slots) ≡ length slots = length-map slots (changed id change) in
-    let many : length slots ≡ length m.entries = sym (ap length is) ∙ length-map m.entries (λ (e : List ℕ × RecordState). e.1) in
+    let many : length slots ≡ length m.entries =
+    sym (ap length is) ∙ length-map m.entries (λ (e : List ℕ × RecordState). e.1) in
     record {
       exact = exact;
       small = subst AreSmall (sym exact) (counts_small (with_changed id change slots) (omega arith));
     }
 
-pub removed_counts : (test : List ℕ → Bool) (slot : RecordState) (kept : Kept) → lookup test kept ≡ Some slot → minus (counts_of (values_of kept)) (counts_of (slot ∷ [])) ≡ counts_of (values_of (remove_entry test kept))
-removed_counts test slot kept is = λ i. record { orders = at (λ s. is_some s.order) i; busy = at (λ s. is_busy s.order) i; excluded = at (λ s. is_some s.stop) i; due = at (λ s. is_stop_due s.stop) i }
+pub removed_counts : (test : List ℕ → Bool) (slot : RecordState) (kept : Kept) → lookup test kept ≡ Some slot
+    → minus (counts_of (values_of kept)) (counts_of (slot ∷ [])) ≡ counts_of (values_of (remove_entry test kept))
+removed_counts test slot kept is = λ i. record {
+  orders = at (λ s. is_some s.order) i;
+  busy = at (λ s. is_busy s.order) i;
+  excluded = at (λ s. is_some s.stop) i;
+  due = at (λ s. is_stop_due s.stop) i;
+}
   where
-    at : (p : RecordState → Bool) → count_by p (values_of kept) - count_by p (slot ∷ []) ≡ count_by p (values_of (remove_entry test kept))
+    at : (p : RecordState → Bool)
+        → count_by p (values_of kept) - count_by p (slot ∷ []) ≡ count_by p (values_of (remove_entry test kept))
     at p = omega (arith, count-one p slot, count_removed p test slot kept is)
 
-pub pushed_count : {S : Type 0} (n : IndexMap (List ℕ) RecordState S) (slot : RecordState) (slots : List RecordState) (counts more : Counts)
-    → index_map_len n < 2 ^ 63 → values_of n.entries ≡ slots ++ slot ∷ [] → counts ≡ counts_of slots → more ≡ counts_of (slot ∷ []) → Recount (slots ++ slot ∷ []) (plus counts more)
+pub pushed_count : {S : Type 0} (n : IndexMap (List ℕ) RecordState S) (slot : RecordState) (slots : List RecordState)
+    (counts more : Counts)
+    → index_map_len n < 2 ^ 63 → values_of n.entries ≡ slots ++ slot ∷ [] → counts ≡ counts_of slots
+    → more ≡ counts_of (slot ∷ []) → Recount (slots ++ slot ∷ []) (plus counts more)
 pushed_count n slot slots counts more few is old put = grind (arith, count-one, sum_by_push, length-map, counts_small)
 
 -- a change that keeps orders and stops keeps the counts
-pub same_counts : (change : RecordState → RecordState) → ((slot : RecordState) → (change slot).order ≡ slot.order) → ((slot : RecordState) → (change slot).stop ≡ slot.stop) → (slots : List RecordState) → counts_of slots ≡ counts_of (map change slots)
+pub same_counts : (change : RecordState → RecordState) → ((slot : RecordState) → (change slot).order ≡ slot.order)
+    → ((slot : RecordState) → (change slot).stop ≡ slot.stop) → (slots : List RecordState)
+    → counts_of slots ≡ counts_of (map change slots)
 same_counts change orders stops slots = grind (arith, count_same)
 
-pub same_changed : (id : List ℕ) (change : RecordState → RecordState) → ((slot : RecordState) → (change slot).order ≡ slot.order) → ((slot : RecordState) → (change slot).stop ≡ slot.stop) → (slots : List RecordState) → counts_of slots ≡ counts_of (with_changed id change slots)
+pub same_changed : (id : List ℕ) (change : RecordState → RecordState) → ((slot : RecordState)
+    → (change slot).order ≡ slot.order) → ((slot : RecordState) → (change slot).stop ≡ slot.stop)
+    → (slots : List RecordState) → counts_of slots ≡ counts_of (with_changed id change slots)
 same_changed id change orders stops slots = grind (arith, same_counts)
 
 -- where the stops alone are counted anew
-pub judged_counts : (change : RecordState → RecordState) → ((slot : RecordState) → (change slot).order ≡ slot.order) → (slots : List RecordState) (counts : Counts) (excluded due : ℕ) → counts ≡ counts_of slots
-    → excluded ≡ count_by (λ (s : RecordState). is_some s.stop) (map change slots) → due ≡ count_by (λ (s : RecordState). is_stop_due s.stop) (map change slots) → record counts { excluded = excluded; due = due } ≡ counts_of (map change slots)
+pub judged_counts : (change : RecordState → RecordState) → ((slot : RecordState) → (change slot).order ≡ slot.order)
+    → (slots : List RecordState) (counts : Counts) (excluded due : ℕ) → counts ≡ counts_of slots
+    → excluded ≡ count_by (λ (s : RecordState). is_some s.stop) (map change slots)
+    → due ≡ count_by (λ (s : RecordState). is_stop_due s.stop) (map change slots)
+    → record counts { excluded = excluded; due = due } ≡ counts_of (map change slots)
 judged_counts change orders slots counts excluded due is stops dues = grind (arith, count_same)

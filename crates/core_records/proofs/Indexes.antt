@@ -1,19 +1,29 @@
 -- The index of the records by a key, whatever the key is: each change of the records, and what it makes of the index.
-use Rattle.core_records.proofs.Words.{◌≡◌, refl, sym, ◌∙◌, ap, subst, cond, Bool, true, false, not, ◌&&◌, ℕ, ◌+◌, ◌≤◌, ◌<◌, List, [], ◌∷◌, ◌++◌, map, filter, take, get_or, length, Option, Some, arith, count_by, cons_option, IfSome, vec_capacity, Vec, sum_by-cons, length-filter, count_by-le-length, length-map, length_push, length-take-le, take_more, same_id, Keyed, RecordState, are_distinct, record_by_id, changed, with_changed, without, are_sorted, AreKeysOf, IsIndex, passes, without_id}
+use Rattle.core_records.proofs.Words.{◌≡◌, refl, sym, ◌∙◌, ap, subst, cond, Bool, true, false, not, ◌&&◌, ℕ, ◌+◌, ◌≤◌}
+use Rattle.core_records.proofs.Words.{◌<◌, List, [], ◌∷◌, ◌++◌, map, filter, take, get_or, length, Option, Some, arith}
+use Rattle.core_records.proofs.Words.{count_by, cons_option, IfSome, vec_capacity, Vec, sum_by-cons, length-filter}
+use Rattle.core_records.proofs.Words.{count_by-le-length, length-map, length_push, length-take-le, take_more, same_id}
+use Rattle.core_records.proofs.Words.{Keyed, RecordState, are_distinct, record_by_id, changed, with_changed, without}
+use Rattle.core_records.proofs.Words.{are_sorted, AreKeysOf, IsIndex, passes, without_id}
 use Rattle.core_records.specs.Indexing.{keys_of}
 use Rattle.core_records.proofs.Found.{others, rest_distinct, unchanged, without_none}
 
-count-cons : (test : Keyed → Bool) (c : Keyed) (cs : List Keyed) → count_by test (c ∷ cs) ≡ cond (test c) 1 0 + count_by test cs
+count-cons : (test : Keyed → Bool) (c : Keyed) (cs : List Keyed)
+    → count_by test (c ∷ cs) ≡ cond (test c) 1 0 + count_by test cs
 count-cons test c cs = sum_by-cons (λ (d : Keyed). cond (test d) 1 0) c cs
 
-count-option : (test : Keyed → Bool) (o : Option Keyed) (cs : List Keyed) → count_by test (cons_option o cs) ≡ passes test o + count_by test cs
+count-option : (test : Keyed → Bool) (o : Option Keyed) (cs : List Keyed)
+    → count_by test (cons_option o cs) ≡ passes test o + count_by test cs
 count-option test o cs = grind (arith, count-cons)
 
-count-filter : (test q : Keyed → Bool) (cs : List Keyed) → count_by test (filter q cs) ≡ count_by (λ c. q c && test c) cs
+count-filter : (test q : Keyed → Bool) (cs : List Keyed)
+    → count_by test (filter q cs) ≡ count_by (λ c. q c && test c) cs
 count-filter test q [] = refl
-count-filter test q (c ∷ cs) = here (q c) (count-filter test q cs) ∙ sym (sum_by-cons (λ (d : Keyed). cond (q d && test d) 1 0) c cs)
+count-filter test q (c ∷ cs) =
+    here (q c) (count-filter test q cs) ∙ sym (sum_by-cons (λ (d : Keyed). cond (q d && test d) 1 0) c cs)
   where
-    here : (b : Bool) → count_by test (filter q cs) ≡ count_by (λ c. q c && test c) cs → count_by test (cond b (c ∷ filter q cs) (filter q cs)) ≡ cond (b && test c) 1 0 + count_by (λ c. q c && test c) cs
+    here : (b : Bool) → count_by test (filter q cs) ≡ count_by (λ c. q c && test c) cs → count_by test
+        (cond b (c ∷ filter q cs) (filter q cs)) ≡ cond (b && test c) 1 0 + count_by (λ c. q c && test c) cs
     here b later = grind (arith, count-cons)
 
 count-all : (cs : List Keyed) → count_by (λ _. true) cs ≡ length cs
@@ -29,18 +39,24 @@ not_of id test c = not (same_id id c.id) && test c
 
 -- The items of the records.
 module _ (key_of : RecordState → Option Keyed) where
-  pub count-slot : (test : Keyed → Bool) (slot : RecordState) (slots : List RecordState) → count_by test (keys_of key_of (slot ∷ slots)) ≡ passes test (key_of slot) + count_by test (keys_of key_of slots)
+  pub count-slot : (test : Keyed → Bool) (slot : RecordState) (slots : List RecordState)
+      → count_by test (keys_of key_of (slot ∷ slots)) ≡ passes test (key_of slot) + count_by test (keys_of key_of slots)
   count-slot test slot slots = count-option test (key_of slot) (keys_of key_of slots)
 
   -- the records with that of an id changed
-  count-with : (test : Keyed → Bool) (id : List ℕ) (change : RecordState → RecordState) (slot : RecordState) (slots : List RecordState) → are_distinct slots ≡ true → record_by_id id slots ≡ Some slot
-      → count_by test (keys_of key_of (with_changed id change slots)) ≡ count_by test (keys_of key_of (without id slots)) + passes test (key_of (change slot))
+  count-with : (test : Keyed → Bool) (id : List ℕ) (change : RecordState → RecordState) (slot : RecordState)
+      (slots : List RecordState) → are_distinct slots ≡ true → record_by_id id slots ≡ Some slot
+      → count_by test (keys_of key_of (with_changed id change slots))
+      ≡ count_by test (keys_of key_of (without id slots)) + passes test (key_of (change slot))
   count-with test id change slot [] distinct is = absurd (cc)
-  count-with test id change slot (first ∷ slots) distinct is = grind (arith, rest_distinct, others, unchanged, without_none, count-slot, count-with test id change slot slots)
+  count-with test id change slot (first ∷ slots) distinct is =
+      grind (arith, rest_distinct, others, unchanged, without_none, count-slot, count-with test id change slot slots)
 
-  count-push : (test : Keyed → Bool) (slot : RecordState) (slots : List RecordState) → count_by test (keys_of key_of (slots ++ slot ∷ [])) ≡ count_by test (keys_of key_of slots) + passes test (key_of slot)
+  count-push : (test : Keyed → Bool) (slot : RecordState) (slots : List RecordState) → count_by test
+      (keys_of key_of (slots ++ slot ∷ [])) ≡ count_by test (keys_of key_of slots) + passes test (key_of slot)
   count-push test slot [] = count-slot test slot [] ∙ omega arith
-  count-push test slot (first ∷ slots) = count-slot test first (slots ++ slot ∷ []) ∙ ap (λ n. passes test (key_of first) + n) (count-push test slot slots) ∙ omega (arith, count-slot test first slots)
+  count-push test slot (first ∷ slots) = count-slot test first (slots ++ slot ∷ []) ∙ ap
+      (λ n. passes test (key_of first) + n) (count-push test slot slots) ∙ omega (arith, count-slot test first slots)
 
   few_keys : (slots : List RecordState) → count_by (λ _. true) (keys_of key_of slots) ≤ length slots
   few_keys [] = omega arith
@@ -51,31 +67,44 @@ module _ (key_of : RecordState → Option Keyed) where
   length_within slots cs those = omega (arith, count-all cs, those (λ _. true), few_keys slots)
 
   -- with one more record
-  pushed_those : (slot : RecordState) (slots : List RecordState) (cs : List Keyed) → AreKeysOf key_of slots cs → (test : Keyed → Bool) → count_by test cs + passes test (key_of slot) ≡ count_by test (keys_of key_of (slots ++ slot ∷ []))
-  pushed_those slot slots cs those test = ap (λ n. n + passes test (key_of slot)) (those test) ∙ sym (count-push test slot slots)
+  pushed_those : (slot : RecordState) (slots : List RecordState) (cs : List Keyed) → AreKeysOf key_of slots cs → (test :
+      Keyed → Bool) → count_by test cs + passes test (key_of slot) ≡ count_by test (keys_of key_of (slots ++ slot ∷ []))
+  pushed_those slot slots cs those test =
+      ap (λ n. n + passes test (key_of slot)) (those test) ∙ sym (count-push test slot slots)
 
-  pub pushed_room : (slot : RecordState) (slots : List RecordState) (cs : List Keyed) → AreKeysOf key_of slots cs → length cs + passes (λ _. true) (key_of slot) ≤ length slots + 1
+  pub pushed_room : (slot : RecordState) (slots : List RecordState) (cs : List Keyed) → AreKeysOf key_of slots cs
+      → length cs + passes (λ _. true) (key_of slot) ≤ length slots + 1
   pushed_room slot slots cs those = omega (arith, length_within slots cs those, few (key_of slot))
 
   -- the records that were taken in so far, and one more
-  pub taken_room : (slots : List RecordState) (i : ℕ) (slot : RecordState) (item : Option Keyed) (cs : List Keyed) (room : ℕ) → i < length slots → item ≡ key_of slot → AreKeysOf key_of (take i slots) cs → length slots ≤ room → length cs + passes (λ _. true) item ≤ room
-  taken_room slots i slot item cs room within one those most = rw one (omega (arith, pushed_room slot (take i slots) cs those, length-take-le i slots (omega arith)))
+  pub taken_room : (slots : List RecordState) (i : ℕ) (slot : RecordState) (item : Option Keyed) (cs : List Keyed)
+      (room : ℕ) → i < length slots → item ≡ key_of slot → AreKeysOf key_of (take i slots) cs → length slots ≤ room
+      → length cs + passes (λ _. true) item ≤ room
+  taken_room slots i slot item cs room within one those most =
+      rw one (omega (arith, pushed_room slot (take i slots) cs those, length-take-le i slots (omega arith)))
 
-  pub taken_those : (slots : List RecordState) (i : ℕ) (slot : RecordState) (item : Option Keyed) (cs new : List Keyed) → i < length slots → slot ≡ get_or slots i slot → item ≡ key_of slot → AreKeysOf key_of (take i slots) cs
-      → ((test : Keyed → Bool) → count_by test new ≡ count_by test cs + passes test item) → AreKeysOf key_of (take (i + 1) slots) new
+  pub taken_those : (slots : List RecordState) (i : ℕ) (slot : RecordState) (item : Option Keyed) (cs new : List Keyed)
+      → i < length slots → slot ≡ get_or slots i slot → item ≡ key_of slot → AreKeysOf key_of (take i slots) cs
+      → ((test : Keyed → Bool) → count_by test new ≡ count_by test cs + passes test item)
+      → AreKeysOf key_of (take (i + 1) slots) new
   taken_those slots i slot item cs new within is one those counts test =
-      let next : take (i + 1) slots ≡ take i slots ++ slot ∷ [] = take_more slots i slot within ∙ ap (λ s. take i slots ++ s ∷ []) (sym is) in
+      let next : take (i + 1) slots ≡ take i slots ++ slot ∷ [] =
+      take_more slots i slot within ∙ ap (λ s. take i slots ++ s ∷ []) (sym is) in
       rw next ((rw one at counts test) ∙ pushed_those slot (take i slots) cs those test)
 
   -- a change that keeps the keys keeps the items
-  same_keys : (change : RecordState → RecordState) → ((slot : RecordState) → key_of (change slot) ≡ key_of slot) → (slots : List RecordState) → keys_of key_of (map change slots) ≡ keys_of key_of slots
+  same_keys : (change : RecordState → RecordState) → ((slot : RecordState) → key_of (change slot) ≡ key_of slot)
+      → (slots : List RecordState) → keys_of key_of (map change slots) ≡ keys_of key_of slots
   same_keys change keeps [] = refl
   same_keys change keeps (slot ∷ slots) = λ i. cons_option (keeps slot i) (same_keys change keeps slots i)
 
-  same_those : (change : RecordState → RecordState) → ((slot : RecordState) → key_of (change slot) ≡ key_of slot) → (slots : List RecordState) (cs : List Keyed) → AreKeysOf key_of slots cs → AreKeysOf key_of (map change slots) cs
+  same_those : (change : RecordState → RecordState) → ((slot : RecordState) → key_of (change slot) ≡ key_of slot)
+      → (slots : List RecordState) (cs : List Keyed) → AreKeysOf key_of slots cs
+      → AreKeysOf key_of (map change slots) cs
   same_those change keeps slots cs those test = those test ∙ sym (ap (count_by test) (same_keys change keeps slots))
 
-  same_one : (id : List ℕ) (change : RecordState → RecordState) → ((slot : RecordState) → key_of (change slot) ≡ key_of slot) → (slot : RecordState) → key_of (changed id change slot) ≡ key_of slot
+  same_one : (id : List ℕ) (change : RecordState → RecordState) → ((slot : RecordState)
+      → key_of (change slot) ≡ key_of slot) → (slot : RecordState) → key_of (changed id change slot) ≡ key_of slot
   same_one id change keeps slot = grind arith
 
 -- Where an item has the id of its record.
@@ -83,56 +112,87 @@ abbrev pub HasOwnIds : (RecordState → Option Keyed) → Type 0
 HasOwnIds key_of = (slot : RecordState) → IfSome (key_of slot) (λ c. c.id ≡ slot.id)
 
 module _ (key_of : RecordState → Option Keyed) (own_ids : HasOwnIds key_of) where
-  count-without : (test : Keyed → Bool) (id : List ℕ) (slots : List RecordState) → count_by test (keys_of key_of (without id slots)) ≡ count_by (not_of id test) (keys_of key_of slots)
+  count-without : (test : Keyed → Bool) (id : List ℕ) (slots : List RecordState)
+      → count_by test (keys_of key_of (without id slots)) ≡ count_by (not_of id test) (keys_of key_of slots)
   count-without test id [] = refl
   count-without test id (slot ∷ slots) = grind (arith, count-slot, count-without test id slots)
 
   -- those without that of an id are the items of the records without that of the id
-  without_those : (id : List ℕ) (slots : List RecordState) (cs : List Keyed) → AreKeysOf key_of slots cs → AreKeysOf key_of (without id slots) (without_id id cs)
-  without_those id slots cs those test = count-filter test (λ c. not (same_id id c.id)) cs ∙ those (not_of id test) ∙ sym (count-without test id slots)
+  without_those : (id : List ℕ) (slots : List RecordState) (cs : List Keyed) → AreKeysOf key_of slots cs
+      → AreKeysOf key_of (without id slots) (without_id id cs)
+  without_those id slots cs those test =
+      count-filter test (λ c. not (same_id id c.id)) cs ∙ those (not_of id test) ∙ sym (count-without test id slots)
 
   -- and with that of the record as it is after a change, those of the records with that one changed
-  changed_those : (id : List ℕ) (change : RecordState → RecordState) (slot : RecordState) (slots : List RecordState) (cs : List Keyed) → are_distinct slots ≡ true → record_by_id id slots ≡ Some slot → AreKeysOf key_of slots cs
-      → (test : Keyed → Bool) → count_by test (without_id id cs) + passes test (key_of (change slot)) ≡ count_by test (keys_of key_of (with_changed id change slots))
-  changed_those id change slot slots cs distinct is those test = ap (λ n. n + passes test (key_of (change slot))) (without_those id slots cs those test) ∙ sym (count-with key_of test id change slot slots distinct is)
+  changed_those : (id : List ℕ) (change : RecordState → RecordState) (slot : RecordState) (slots : List RecordState)
+      (cs : List Keyed) → are_distinct slots ≡ true → record_by_id id slots ≡ Some slot → AreKeysOf key_of slots cs
+      → (test : Keyed → Bool) → count_by test (without_id id cs) + passes test (key_of (change slot))
+      ≡ count_by test (keys_of key_of (with_changed id change slots))
+  changed_those id change slot slots cs distinct is those test = ap (λ n. n + passes test (key_of (change slot)))
+      (without_those id slots cs those test) ∙ sym (count-with key_of test id change slot slots distinct is)
 
 -- The indexes.
 module _ (key_of : RecordState → Option Keyed) {A : Type 0} where
-  of_same : {was slots : List RecordState} (index : Vec Keyed A) → was ≡ slots → IsIndex key_of was index → IsIndex key_of slots index
+  of_same : {was slots : List RecordState} (index : Vec Keyed A) → was ≡ slots → IsIndex key_of was index
+      → IsIndex key_of slots index
   of_same index is h = subst (λ xs. IsIndex key_of xs index) is h
 
   -- where all records changed, or one, but no key
-  pub same_index : (change : RecordState → RecordState) → ((slot : RecordState) → key_of (change slot) ≡ key_of slot) → {was slots now : List RecordState} (index : Vec Keyed A) → was ≡ slots → now ≡ map change slots → IsIndex key_of was index → IsIndex key_of now index
+  pub same_index : (change : RecordState → RecordState) → ((slot : RecordState) → key_of (change slot) ≡ key_of slot)
+      → {was slots now : List RecordState} (index : Vec Keyed A) → was ≡ slots → now ≡ map change slots
+      → IsIndex key_of was index → IsIndex key_of now index
   same_index change keeps {slots} index is done h = grind (arith, of_same, same_those, length-map)
 
-  pub same_index_at : (id : List ℕ) (change : RecordState → RecordState) → ((slot : RecordState) → key_of (change slot) ≡ key_of slot) → {was slots now : List RecordState} (index : Vec Keyed A) → was ≡ slots → now ≡ with_changed id change slots → IsIndex key_of was index → IsIndex key_of now index
-  same_index_at id change keeps index is done h = same_index (changed id change) (same_one key_of id change keeps) index is done h
+  pub same_index_at : (id : List ℕ) (change : RecordState → RecordState) → ((slot : RecordState)
+      → key_of (change slot) ≡ key_of slot) → {was slots now : List RecordState} (index : Vec Keyed A) → was ≡ slots
+      → now ≡ with_changed id change slots → IsIndex key_of was index → IsIndex key_of now index
+  same_index_at id change keeps index is done h =
+      same_index (changed id change) (same_one key_of id change keeps) index is done h
 
   -- room for one more record, and the index with it
-  pub push_room : (slot : RecordState) {was slots : List RecordState} (old reserved : Vec Keyed A) (item : Option Keyed) → was ≡ slots → item ≡ key_of slot → reserved.items ≡ old.items → length slots + 1 ≤ vec_capacity reserved → IsIndex key_of was old
-      → length reserved.items + passes (λ _. true) item ≤ vec_capacity reserved
+  pub push_room : (slot : RecordState) {was slots : List RecordState} (old reserved : Vec Keyed A) (item : Option Keyed)
+      → was ≡ slots → item ≡ key_of slot → reserved.items ≡ old.items → length slots + 1 ≤ vec_capacity reserved
+      → IsIndex key_of was old → length reserved.items + passes (λ _. true) item ≤ vec_capacity reserved
   push_room slot {slots = slots} old reserved item is one same room h = grind (arith, pushed_room, of_same)
 
-  pub pushed_index : (slot : RecordState) {was slots now : List RecordState} (old reserved new : Vec Keyed A) (item : Option Keyed) → was ≡ slots → now ≡ slots ++ slot ∷ [] → item ≡ key_of slot → reserved.items ≡ old.items → length slots + 1 ≤ vec_capacity reserved
-      → ((test : Keyed → Bool) → count_by test new.items ≡ count_by test reserved.items + passes test item) → are_sorted new.items ≡ true → vec_capacity reserved ≤ vec_capacity new
+  pub pushed_index : (slot : RecordState) {was slots now : List RecordState} (old reserved new : Vec Keyed A)
+      (item : Option Keyed) → was ≡ slots → now ≡ slots ++ slot ∷ [] → item ≡ key_of slot → reserved.items ≡ old.items
+      → length slots + 1 ≤ vec_capacity reserved
+      → ((test : Keyed → Bool) → count_by test new.items ≡ count_by test reserved.items + passes test item)
+      → are_sorted new.items ≡ true → vec_capacity reserved ≤ vec_capacity new
       → IsIndex key_of was old → IsIndex key_of now new
-  pushed_index slot {slots = slots} old reserved new item is done one same room counts sorted more h = grind (arith, length_push, of_same, pushed_those)
+  pushed_index slot {slots = slots} old reserved new item is done one same room counts sorted more h =
+      grind (arith, length_push, of_same, pushed_those)
 
 module _ (key_of : RecordState → Option Keyed) (own_ids : HasOwnIds key_of) {A : Type 0} where
   -- without the record of an id
-  pub removed_index : (id : List ℕ) {was slots now : List RecordState} (old new : Vec Keyed A) → was ≡ slots → now ≡ without id slots → new.items ≡ without_id id old.items → are_sorted new.items ≡ true → vec_capacity new ≡ vec_capacity old → IsIndex key_of was old → IsIndex key_of now new
-  removed_index id {slots = slots} old new is done left sorted room h = grind (arith, of_same, count_by-le-length, without_those, length-filter)
+  pub removed_index : (id : List ℕ) {was slots now : List RecordState} (old new : Vec Keyed A) → was ≡ slots
+      → now ≡ without id slots → new.items ≡ without_id id old.items → are_sorted new.items ≡ true
+      → vec_capacity new ≡ vec_capacity old → IsIndex key_of was old → IsIndex key_of now new
+  removed_index id {slots = slots} old new is done left sorted room h =
+      grind (arith, of_same, count_by-le-length, without_those, length-filter)
 
   -- after a change of the record of an id, of which the item is taken anew where the change moves it
-  module _ (id : List ℕ) (change : RecordState → RecordState) (slot left : RecordState) {was slots : List RecordState} (old : Vec Keyed A) (item : Option Keyed) (is : was ≡ slots) (distinct : are_distinct slots ≡ true) (found : record_by_id id slots ≡ Some slot) (done : left ≡ change slot) (one : item ≡ key_of left) where
-    pub note_room : IsIndex key_of was old → length (without_id id old.items) + passes (λ _. true) item ≤ vec_capacity old
+  module _ (id : List ℕ) (change : RecordState → RecordState) (slot left : RecordState) {was slots : List RecordState}
+      (old : Vec Keyed A) (item : Option Keyed) (is : was ≡ slots) (distinct : are_distinct slots ≡ true)
+      (found : record_by_id id slots ≡ Some slot) (done : left ≡ change slot) (one : item ≡ key_of left) where
+    pub note_room : IsIndex key_of was old
+        → length (without_id id old.items) + passes (λ _. true) item ≤ vec_capacity old
     note_room h =
         let own = of_same key_of old is h in
         let size : length (with_changed id change slots) ≡ length slots = length-map slots (changed id change) in
-        rw (one, done) (omega (arith, count-all (without_id id old.items), changed_those key_of own_ids id change slot slots old.items distinct found own.those (λ _. true), few_keys key_of (with_changed id change slots), own.room))
+        rw (one, done) (omega (
+          arith,
+          count-all (without_id id old.items),
+          changed_those key_of own_ids id change slot slots old.items distinct found own.those (λ _. true),
+          few_keys key_of (with_changed id change slots),
+          own.room,
+        ))
 
-    pub noted_index : (moves : Bool) {now : List RecordState} (new : Vec Keyed A) → now ≡ with_changed id change slots → (moves ≡ false → (s : RecordState) → key_of (change s) ≡ key_of s)
-        → ((test : Keyed → Bool) → count_by test new.items ≡ cond moves (count_by test (without_id id old.items) + passes test item) (count_by test old.items)) → are_sorted new.items ≡ true → vec_capacity old ≤ vec_capacity new
+    pub noted_index : (moves : Bool) {now : List RecordState} (new : Vec Keyed A) → now ≡ with_changed id change slots
+        → (moves ≡ false → (s : RecordState) → key_of (change s) ≡ key_of s)
+        → ((test : Keyed → Bool) → count_by test new.items ≡ cond moves (count_by test (without_id id old.items) +
+        passes test item) (count_by test old.items)) → are_sorted new.items ≡ true → vec_capacity old ≤ vec_capacity new
         → IsIndex key_of was old → IsIndex key_of now new
     noted_index moves new written keeps counts sorted more h =
         let own = of_same key_of old is h in
@@ -143,7 +203,12 @@ module _ (key_of : RecordState → Option Keyed) (own_ids : HasOwnIds key_of) {A
           room = omega (arith, size, own.room, more);
         })
       where
-        by : (b : Bool) → (b ≡ false → (s : RecordState) → key_of (change s) ≡ key_of s) → AreKeysOf key_of slots old.items → (test : Keyed → Bool)
-            → count_by test new.items ≡ cond b (count_by test (without_id id old.items) + passes test (key_of (change slot))) (count_by test old.items) → count_by test new.items ≡ count_by test (keys_of key_of (with_changed id change slots))
-        by true keeps those test e = e ∙ changed_those key_of own_ids id change slot slots old.items distinct found those test
-        by false keeps those test e = e ∙ same_those key_of (changed id change) (same_one key_of id change (keeps refl)) slots old.items those test
+        by : (b : Bool) → (b ≡ false → (s : RecordState) → key_of (change s) ≡ key_of s)
+            → AreKeysOf key_of slots old.items → (test : Keyed → Bool)
+            → count_by test new.items ≡ cond b
+            (count_by test (without_id id old.items) + passes test (key_of (change slot))) (count_by test old.items)
+            → count_by test new.items ≡ count_by test (keys_of key_of (with_changed id change slots))
+        by true keeps those test e =
+            e ∙ changed_those key_of own_ids id change slot slots old.items distinct found those test
+        by false keeps those test e = e
+            ∙ same_those key_of (changed id change) (same_one key_of id change (keeps refl)) slots old.items those test

@@ -1,5 +1,9 @@
 -- No time that is kept is later than now, and each change keeps that.
-use Rattle.core_records.proofs.Words.{Bool, true, ◌≡◌, ◌≤◌, ◌-◌, ℕ, zero, suc, List, [], ◌∷◌, ◌++◌, map, filter, drop, length, slice_get, nat_le, refl, arith, cond, Some, list_all, and_parts, and_from, le-leb, STARTS, OrderKind, Answer, RecordState, is_stop_timely, is_timely, are_timely, after_order, after_answer, is_record_of, changed, with_changed, record_by_id, after_told}
+use Rattle.core_records.proofs.Words.{Bool, true, ◌≡◌, ◌≤◌, ◌-◌, ℕ, zero, suc, List, [], ◌∷◌, ◌++◌, map, filter, drop}
+use Rattle.core_records.proofs.Words.{length, slice_get, nat_le, refl, arith, cond, Some, list_all, and_parts, and_from}
+use Rattle.core_records.proofs.Words.{le-leb, STARTS, OrderKind, Answer, RecordState, is_stop_timely, is_timely}
+use Rattle.core_records.proofs.Words.{are_timely, after_order, after_answer, is_record_of, changed, with_changed}
+use Rattle.core_records.proofs.Words.{record_by_id, after_told}
 use Rattle.respawn_limit.specs.State.{LimiterState}
 use Rattle.respawn_limit.specs.Window.{with_start}
 
@@ -7,68 +11,91 @@ use Rattle.respawn_limit.specs.Window.{with_start}
 abbrev pub are_past : ℕ → List ℕ → Bool
 are_past limit starts = list_all (λ start. nat_le start limit) starts
 
-past_later : (now later : ℕ) → now ≤ later → (starts : List ℕ) → are_past now starts ≡ true → are_past later starts ≡ true
+past_later : (now later : ℕ) → now ≤ later → (starts : List ℕ) → are_past now starts ≡ true
+    → are_past later starts ≡ true
 past_later now later h [] all = refl
 past_later now later h (start ∷ starts) all = grind (arith, past_later now later h starts)
 
-pub timely_parts : (now : ℕ) (slot : RecordState) → is_timely now slot ≡ true → (are_past now slot.limiter.starts ≡ true) × (is_stop_timely now slot.stop ≡ true)
+pub timely_parts : (now : ℕ) (slot : RecordState) → is_timely now slot ≡ true
+    → (are_past now slot.limiter.starts ≡ true) × (is_stop_timely now slot.stop ≡ true)
 timely_parts now slot h = and_parts (are_past now slot.limiter.starts) (is_stop_timely now slot.stop) h
 
-pub timely_from : (now : ℕ) (slot : RecordState) → are_past now slot.limiter.starts ≡ true → is_stop_timely now slot.stop ≡ true → is_timely now slot ≡ true
+pub timely_from : (now : ℕ) (slot : RecordState) → are_past now slot.limiter.starts ≡ true
+    → is_stop_timely now slot.stop ≡ true → is_timely now slot ≡ true
 timely_from now slot h k = and_from (are_past now slot.limiter.starts) (is_stop_timely now slot.stop) h k
 
-pub timely_later : (now later : ℕ) → now ≤ later → (slots : List RecordState) → are_timely now slots ≡ true → are_timely later slots ≡ true
+pub timely_later : (now later : ℕ) → now ≤ later → (slots : List RecordState) → are_timely now slots ≡ true
+    → are_timely later slots ≡ true
 timely_later now later h [] all = refl
-timely_later now later h (slot ∷ slots) all = grind (arith, timely_parts, timely_from, past_later, timely_later now later h slots)
+timely_later now later h (slot ∷ slots) all =
+    grind (arith, timely_parts, timely_from, past_later, timely_later now later h slots)
 
 -- a change that keeps each record timely keeps them all so
-pub timely_map : (now : ℕ) (change : RecordState → RecordState) → ((slot : RecordState) → is_timely now slot ≡ true → is_timely now (change slot) ≡ true) → (slots : List RecordState) → are_timely now slots ≡ true → are_timely now (map change slots) ≡ true
+pub timely_map : (now : ℕ) (change : RecordState → RecordState)
+    → ((slot : RecordState) → is_timely now slot ≡ true → is_timely now (change slot) ≡ true)
+    → (slots : List RecordState) → are_timely now slots ≡ true → are_timely now (map change slots) ≡ true
 timely_map now change keeps [] all = refl
 timely_map now change keeps (slot ∷ slots) all = grind (arith, timely_map now change keeps slots)
 
-chosen : (now : ℕ) (b : Bool) (x y : RecordState) → is_timely now x ≡ true → is_timely now y ≡ true → is_timely now (cond b x y) ≡ true
+chosen : (now : ℕ) (b : Bool) (x y : RecordState) → is_timely now x ≡ true → is_timely now y ≡ true
+    → is_timely now (cond b x y) ≡ true
 chosen now b x y h k = grind arith
 
-pub timely_changed : (now : ℕ) (id : List ℕ) (change : RecordState → RecordState) → ((slot : RecordState) → is_timely now slot ≡ true → is_timely now (change slot) ≡ true) → (slots : List RecordState) → are_timely now slots ≡ true → are_timely now (with_changed id change slots) ≡ true
-timely_changed now id change keeps slots all = timely_map now (changed id change) (λ slot h. chosen now (is_record_of id slot) (change slot) slot (keeps slot h) h) slots all
+pub timely_changed : (now : ℕ) (id : List ℕ) (change : RecordState → RecordState)
+    → ((slot : RecordState) → is_timely now slot ≡ true → is_timely now (change slot) ≡ true)
+    → (slots : List RecordState) → are_timely now slots ≡ true → are_timely now (with_changed id change slots) ≡ true
+timely_changed now id change keeps slots all = timely_map now (changed id change)
+    (λ slot h. chosen now (is_record_of id slot) (change slot) slot (keeps slot h) h) slots all
 
-pub timely_filter : (now : ℕ) (p : RecordState → Bool) (slots : List RecordState) → are_timely now slots ≡ true → are_timely now (filter p slots) ≡ true
+pub timely_filter : (now : ℕ) (p : RecordState → Bool) (slots : List RecordState) → are_timely now slots ≡ true
+    → are_timely now (filter p slots) ≡ true
 timely_filter now p [] all = refl
 timely_filter now p (slot ∷ slots) all = grind (arith, timely_filter now p slots)
 
-pub timely_push : (now : ℕ) (slots : List RecordState) (slot : RecordState) → are_timely now slots ≡ true → is_timely now slot ≡ true → are_timely now (slots ++ slot ∷ []) ≡ true
+pub timely_push : (now : ℕ) (slots : List RecordState) (slot : RecordState) → are_timely now slots ≡ true
+    → is_timely now slot ≡ true → are_timely now (slots ++ slot ∷ []) ≡ true
 timely_push now [] slot all last = and_from (is_timely now slot) true last refl
 timely_push now (first ∷ slots) slot all last = grind (arith, timely_push now slots slot)
 
 -- the record that is found is timely
-pub timely_found : (now : ℕ) (id : List ℕ) (slot : RecordState) (slots : List RecordState) → are_timely now slots ≡ true → record_by_id id slots ≡ Some slot → is_timely now slot ≡ true
+pub timely_found : (now : ℕ) (id : List ℕ) (slot : RecordState) (slots : List RecordState) → are_timely now slots ≡ true
+    → record_by_id id slots ≡ Some slot → is_timely now slot ≡ true
 timely_found now id slot [] all is = absurd (cc)
 timely_found now id slot (first ∷ slots) all is = grind (arith, timely_found now id slot slots)
 
-pub timely_at : (now : ℕ) (slot : RecordState) (slots : List RecordState) (position : ℕ) → are_timely now slots ≡ true → slice_get slots position ≡ Some slot → is_timely now slot ≡ true
+pub timely_at : (now : ℕ) (slot : RecordState) (slots : List RecordState) (position : ℕ) → are_timely now slots ≡ true
+    → slice_get slots position ≡ Some slot → is_timely now slot ≡ true
 timely_at now slot [] position all is = absurd (cc)
 timely_at now slot (first ∷ slots) zero all is = grind arith
-timely_at now slot (first ∷ slots) (suc position) all is = timely_at now slot slots position (and_parts (is_timely now first) (are_timely now slots) all).1 is
+timely_at now slot (first ∷ slots) (suc position) all is =
+    timely_at now slot slots position (and_parts (is_timely now first) (are_timely now slots) all).1 is
 
-past_pushed : (now limit : ℕ) → now ≤ limit → (starts : List ℕ) → are_past limit starts ≡ true → are_past limit (starts ++ now ∷ []) ≡ true
+past_pushed : (now limit : ℕ) → now ≤ limit → (starts : List ℕ) → are_past limit starts ≡ true
+    → are_past limit (starts ++ now ∷ []) ≡ true
 past_pushed now limit h [] all = and_from (nat_le now limit) true (le-leb now limit h) refl
 past_pushed now limit h (start ∷ starts) all = grind (arith, past_pushed now limit h starts)
 
 past_dropped : (limit n : ℕ) (starts : List ℕ) → are_past limit starts ≡ true → are_past limit (drop n starts) ≡ true
 past_dropped limit zero starts all = all
 past_dropped limit (suc n) [] all = refl
-past_dropped limit (suc n) (start ∷ starts) all = past_dropped limit n starts (and_parts (nat_le start limit) (are_past limit starts) all).1
+past_dropped limit (suc n) (start ∷ starts) all =
+    past_dropped limit n starts (and_parts (nat_le start limit) (are_past limit starts) all).1
 
-started : (now limit : ℕ) → now ≤ limit → (limiter : LimiterState) → are_past limit limiter.starts ≡ true → are_past limit (with_start limiter now).starts ≡ true
-started now limit h limiter all = past_dropped limit (length (limiter.starts ++ now ∷ []) - STARTS) (limiter.starts ++ now ∷ []) (past_pushed now limit h limiter.starts all)
+started : (now limit : ℕ) → now ≤ limit → (limiter : LimiterState) → are_past limit limiter.starts ≡ true
+    → are_past limit (with_start limiter now).starts ≡ true
+started now limit h limiter all = past_dropped limit (length (limiter.starts ++ now ∷ []) - STARTS)
+    (limiter.starts ++ now ∷ []) (past_pushed now limit h limiter.starts all)
 
 -- an order and an answer at a time that is no later than the limit keep a record timely
-pub timely_order : (ask : OrderKind) (now limit : ℕ) → now ≤ limit → (slot : RecordState) → is_timely limit slot ≡ true → is_timely limit (after_order ask now slot) ≡ true
+pub timely_order : (ask : OrderKind) (now limit : ℕ) → now ≤ limit → (slot : RecordState) → is_timely limit slot ≡ true
+    → is_timely limit (after_order ask now slot) ≡ true
 timely_order ask now limit h slot all = grind (arith, timely_parts, timely_from, started)
 
-pub timely_answer : (answer : Answer) (now limit : ℕ) → now ≤ limit → (slot : RecordState) → is_timely limit slot ≡ true → is_timely limit (after_answer answer now slot) ≡ true
+pub timely_answer : (answer : Answer) (now limit : ℕ) → now ≤ limit → (slot : RecordState) → is_timely limit slot ≡ true
+    → is_timely limit (after_answer answer now slot) ≡ true
 timely_answer answer now limit h slot all = grind arith
 
 -- and so do the answers that are told, over all records
-pub timely_told : (id : List ℕ) (answer : Answer) (now limit : ℕ) → now ≤ limit → (slots : List RecordState) → are_timely limit slots ≡ true → are_timely limit (after_told id answer now slots) ≡ true
+pub timely_told : (id : List ℕ) (answer : Answer) (now limit : ℕ) → now ≤ limit → (slots : List RecordState)
+    → are_timely limit slots ≡ true → are_timely limit (after_told id answer now slots) ≡ true
 timely_told id answer now limit h slots all = grind (arith, timely_filter, timely_changed, timely_answer)

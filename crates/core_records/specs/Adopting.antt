@@ -1,5 +1,6 @@
 -- The records after another table was read (init(8)).
-use Rattle.std.specs.Prelude.{Bool, false, ◌&&◌, if◌then◌else◌, ◌++◌, List, map, filter, Option, Some, None, is_some, is_none}
+use Rattle.std.specs.Prelude.{Bool, false, ◌&&◌, if◌then◌else◌, ◌++◌, List, map, filter, Option, Some, None, is_some}
+use Rattle.std.specs.Prelude.{is_none}
 use Rattle.init_words.specs.declared.entries.Entry.{Entry}
 use Rattle.respawn_limit.specs.State.{unused}
 use Rattle.inittab_text.specs.Tables.{entry_of}

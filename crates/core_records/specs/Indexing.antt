@@ -1,5 +1,6 @@
 -- The records by a number that some of them have: their children by their numbers, and the SIGTERMs by their times.
-use Rattle.std.specs.Prelude.{◌≡◌, ◌≤◌, ℕ, Bool, true, false, ◌==◌, not, ◌&&◌, if◌then◌else◌, List, [], ◌∷◌, filter, length, nat_lt, Option, Some, None, Vec}
+use Rattle.std.specs.Prelude.{◌≡◌, ◌≤◌, ℕ, Bool, true, false, ◌==◌, not, ◌&&◌, if◌then◌else◌, List, [], ◌∷◌, filter}
+use Rattle.std.specs.Prelude.{length, nat_lt, Option, Some, None, Vec}
 use Rattle.std.specs.List.{list_any, count_by, filter_map}
 use Rattle.std.specs.Option.{option_map}
 use Rattle.std.specs.Vec.{vec_capacity}

@@ -1,28 +1,45 @@
--- Signals are due to excluded children alone: SIGTERM where a stop is due, SIGKILL where the grace has passed since SIGTERM.
-use Rattle.core_steps.proofs.Words.{◌≡◌, refl, sym, ℕ, ◌+◌, Bool, false, nat_le, List, [], ◌∷◌, Option, Some, None, is_some, arith, list_any, Stage, RecordState, is_stop_due, is_termed, is_termed_before, IsFirstTermed, signal_step, stop_among, has_excluded, stands, calm_step, work_step, CoreState, is_past}
+-- Signals are due to excluded children alone: SIGTERM where a stop is due, SIGKILL where the grace has passed since
+-- SIGTERM.
+use Rattle.core_steps.proofs.Words.{◌≡◌, refl, sym, ℕ, ◌+◌, Bool, false, nat_le, List, [], ◌∷◌, Option, Some, None}
+use Rattle.core_steps.proofs.Words.{is_some, arith, list_any, Stage, RecordState, is_stop_due, is_termed}
+use Rattle.core_steps.proofs.Words.{is_termed_before, IsFirstTermed, signal_step, stop_among, has_excluded, stands}
+use Rattle.core_steps.proofs.Words.{calm_step, work_step, CoreState, is_past}
 use Rattle.core_records.specs.declared.children.Stop.{Stop}
 
 module _ (grace now : ℕ) where
   -- where no record passes either test, and no signal is due to one that passes neither, none is due at all
-  none_among : (p q : Option Stop → Bool) → ((id : List ℕ) (stop : Option Stop) → p stop ≡ false → q stop ≡ false → signal_step grace now id stop ≡ None)
-      → (slots : List RecordState) → list_any (λ (slot : RecordState). p slot.stop) slots ≡ false → list_any (λ (slot : RecordState). q slot.stop) slots ≡ false → stop_among grace now slots ≡ None
+  none_among : (p q : Option Stop → Bool)
+      → ((id : List ℕ) (stop : Option Stop) → p stop ≡ false → q stop ≡ false → signal_step grace now id stop ≡ None)
+      → (slots : List RecordState) → list_any (λ (slot : RecordState). p slot.stop) slots ≡ false
+      → list_any (λ (slot : RecordState). q slot.stop) slots ≡ false → stop_among grace now slots ≡ None
   none_among p q none [] ps qs = grind arith
   none_among p q none (slot ∷ slots) ps qs = grind (arith, none_among p q none slots)
 
-  no_stop : (id : List ℕ) (stop : Option Stop) → is_some stop ≡ false → is_some stop ≡ false → signal_step grace now id stop ≡ None
+  no_stop : (id : List ℕ) (stop : Option Stop) → is_some stop ≡ false → is_some stop ≡ false
+      → signal_step grace now id stop ≡ None
   no_stop id stop h k = grind arith
 
-  no_term : (id : List ℕ) (stop : Option Stop) → is_stop_due stop ≡ false → is_termed stop ≡ false → signal_step grace now id stop ≡ None
+  no_term : (id : List ℕ) (stop : Option Stop) → is_stop_due stop ≡ false → is_termed stop ≡ false
+      → signal_step grace now id stop ≡ None
   no_term id stop h k = grind arith
 
-  early : (first : ℕ) → nat_le (first + grace) now ≡ false → (id : List ℕ) (stop : Option Stop) → is_stop_due stop ≡ false → is_termed_before first stop ≡ false → signal_step grace now id stop ≡ None
+  early : (first : ℕ) → nat_le (first + grace) now ≡ false → (id : List ℕ) (stop : Option Stop)
+      → is_stop_due stop ≡ false → is_termed_before first stop ≡ false → signal_step grace now id stop ≡ None
   early first short id stop h k = grind arith
 
   -- no signal is due where no stop is, and the grace of the first SIGTERM has not passed
-  pub none_near : (slots : List RecordState) (first : Option ℕ) → IsFirstTermed slots first → list_any (λ (slot : RecordState). is_stop_due slot.stop) slots ≡ false → is_past grace now first ≡ false → stop_among grace now slots ≡ None
+  pub none_near : (slots : List RecordState) (first : Option ℕ) → IsFirstTermed slots first
+      → list_any (λ (slot : RecordState). is_stop_due slot.stop) slots ≡ false → is_past grace now first ≡ false
+      → stop_among grace now slots ≡ None
   none_near slots None is due past = none_among is_stop_due is_termed no_term slots due is
-  none_near slots (Some first) is due past = none_among is_stop_due (is_termed_before first) (early first past) slots due is.1
+  none_near slots (Some first) is due past =
+      none_among is_stop_due (is_termed_before first) (early first past) slots due is.1
 
 -- so where no child is excluded, there is none
-pub calm_work : (stage : Stage) (c : CoreState) → stands stage c ≡ false → has_excluded c.slots ≡ false → calm_step stage c ≡ work_step stage c
-calm_work stage c still none = sym (rw (still, none_among c.fields.grace c.fields.time is_some is_some (no_stop c.fields.grace c.fields.time) c.slots none none, none) refl)
+pub calm_work : (stage : Stage) (c : CoreState) → stands stage c ≡ false → has_excluded c.slots ≡ false
+    → calm_step stage c ≡ work_step stage c
+calm_work stage c still none = sym (rw (
+  still,
+  none_among c.fields.grace c.fields.time is_some is_some (no_stop c.fields.grace c.fields.time) c.slots none none,
+  none,
+) refl)

@@ -1,5 +1,11 @@
 -- Places up to which records are seen and entries passed: a walk begins there, and changes keep them.
-use Rattle.core_steps.proofs.Words.{◌≡◌, ◌≢◌, refl, Bool, true, false, not, ◌&&◌, ◌||◌, ◌==◌, ℕ, zero, suc, ◌+◌, ◌<◌, ◌≤◌, arith, List, [], ◌∷◌, drop, zip, map, Option, Some, None, is_some, is_none, drop-nil, and_parts, and_from, false≢true, eqb-true, eq-eqb, nat_lt, ltb-true, ltb-false, subst, sym, ◌∙◌, Entry, Stage, RecordState, is_record_of, changed, with_changed, is_wanted_record, is_owed_record, start_along, start_step, look_among, Each, each_always, cond, is_limited, is_held, is_held_back, is_seen_record, are_seen, is_passed_in, is_passed_at, ArePassedFrom, ArePassed, AllBut, Places}
+use Rattle.core_steps.proofs.Words.{◌≡◌, ◌≢◌, refl, Bool, true, false, not, ◌&&◌, ◌||◌, ◌==◌, ℕ, zero, suc, ◌+◌, ◌<◌}
+use Rattle.core_steps.proofs.Words.{◌≤◌, arith, List, [], ◌∷◌, drop, zip, map, Option, Some, None, is_some, is_none}
+use Rattle.core_steps.proofs.Words.{drop-nil, and_parts, and_from, false≢true, eqb-true, eq-eqb, nat_lt, ltb-true}
+use Rattle.core_steps.proofs.Words.{ltb-false, subst, sym, ◌∙◌, Entry, Stage, RecordState, is_record_of, changed}
+use Rattle.core_steps.proofs.Words.{with_changed, is_wanted_record, is_owed_record, start_along, start_step, look_among}
+use Rattle.core_steps.proofs.Words.{Each, each_always, cond, is_limited, is_held, is_held_back, is_seen_record}
+use Rattle.core_steps.proofs.Words.{are_seen, is_passed_in, is_passed_at, ArePassedFrom, ArePassed, AllBut, Places}
 use Rattle.trace_events.specs.declared.steps.Step.{Step}
 
 -- all before the next place, but for that at the first and that at a place
@@ -9,7 +15,8 @@ but i position b other h = grind arith
 pub narrower : (passed : ℕ → Bool) (old new : Places) (position : ℕ) → new.first ≤ new.next
     → ((i : ℕ) → i < new.next → i ≢ new.first → (i < old.next) × (i ≢ old.first) × (i ≢ position))
     → AllBut (λ i. i == position || passed i) old → AllBut passed new
-narrower passed old new position h each all = (h, λ i lt other. let to = each i lt other in but i position (passed i) to.2 (all.1 i to.0 to.1))
+narrower passed old new position h each all =
+    (h, λ i lt other. let to = each i lt other in but i position (passed i) to.2 (all.1 i to.0 to.1))
 
 -- what holds at each other place holds of all but that at a place
 pub all_but : (test later : ℕ → Bool) (places : Places) (position : ℕ) → ((i : ℕ) → i ≢ position → later i ≡ test i)
@@ -31,7 +38,8 @@ one_further test from to so_far one i least most = grind arith
 pub further : (test : ℕ → Bool) (places : Places) (to : ℕ) → places.next ≤ to
     → ((i : ℕ) → places.next ≤ i → i < to → test i ≡ true) → AllBut test places
     → AllBut test (record { first = places.first; next = to })
-further test places to h more all = (let first = all.0 in omega arith, λ i lt other. by i lt other (nat_lt i places.next) refl)
+further test places to h more all =
+    (let first = all.0 in omega arith, λ i lt other. by i lt other (nat_lt i places.next) refl)
   where
     by : (i : ℕ) → i < to → i ≢ places.first → (b : Bool) → nat_lt i places.next ≡ b → test i ≡ true
     by i lt other true is = all.1 i (ltb-true i places.next is) other
@@ -48,11 +56,13 @@ over test places to h more own all = (omega arith, λ i lt other. by i lt (i == 
     by i lt true is = at (nat_lt i places.next) refl
       where
         at : (b : Bool) → nat_lt i places.next ≡ b → test i ≡ true
-        at true below = let same = eqb-true i places.first is in subst (λ n. test n ≡ true) (sym same) (own (subst (λ n. n < places.next) same (ltb-true i places.next below)))
+        at true below = let same = eqb-true i places.first is in subst (λ n. test n ≡ true) (sym same)
+            (own (subst (λ n. n < places.next) same (ltb-true i places.next below)))
         at false behind = more i (ltb-false i places.next behind) lt
 
 -- at the same time passed stays passed
-pub still_passed : (stage : Option Stage) (old new : ℕ) (ps : List (Entry × RecordState)) (places : Places) → old ≤ new → nat_lt old new ≡ false → AllBut (is_passed_at stage old ps) places → AllBut (is_passed_at stage new ps) places
+pub still_passed : (stage : Option Stage) (old new : ℕ) (ps : List (Entry × RecordState)) (places : Places) → old ≤ new
+    → nat_lt old new ≡ false → AllBut (is_passed_at stage old ps) places → AllBut (is_passed_at stage new ps) places
 still_passed stage old new ps places later same passed =
     let least = ltb-false old new same in
     let is : old ≡ new = omega arith in
@@ -65,13 +75,15 @@ no_look true true false h = refl
 no_look true false look h = refl
 no_look false order look h = refl
 
-pub look_from : (slots : List RecordState) (i : ℕ) → are_seen i slots ≡ true → look_among slots ≡ look_among (drop i slots)
+pub look_from : (slots : List RecordState) (i : ℕ) → are_seen i slots ≡ true
+    → look_among slots ≡ look_among (drop i slots)
 look_from (slot ∷ slots) (suc i) seen =
     let parts = and_parts (is_seen_record slot) (are_seen i slots) seen in
     rw (no_look (is_some slot.child) (is_none slot.order) slot.look parts.0) (look_from slots i parts.1)
 look_from slots i seen = grind (arith, drop-nil, zero)
 
-no_step : (wanted child order limited held : Bool) (one other : Option Step) → not ((wanted && child) && not (limited && held)) ≡ true → cond (wanted && child && order) (cond limited (cond held None one) other) None ≡ None
+no_step : (wanted child order limited held : Bool) (one other : Option Step) → not ((wanted && child) && not
+    (limited && held)) ≡ true → cond (wanted && child && order) (cond limited (cond held None one) other) None ≡ None
 no_step true true true true true one other h = refl
 no_step true true true true false one other h = absurd (false≢true h)
 no_step true true true false held one other h = absurd (false≢true h)
@@ -80,56 +92,81 @@ no_step true false order limited held one other h = refl
 no_step false child order limited held one other h = refl
 
 -- nothing of an entry that is passed is started or held
-pub passed_step : (stage : Stage) (now : ℕ) (e : Entry) (slot : RecordState) → not ((is_wanted_record stage e slot && is_none slot.child) && not (is_held_back now e slot)) ≡ true → start_step stage now e slot ≡ None
-passed_step stage now e slot h = no_step (is_wanted_record stage e slot) (is_none slot.child) (is_none slot.order) (is_limited e.act) (is_held slot.limiter.held now) _ _ h
+pub passed_step : (stage : Stage) (now : ℕ) (e : Entry) (slot : RecordState) → not ((is_wanted_record stage e slot
+    && is_none slot.child) && not (is_held_back now e slot)) ≡ true → start_step stage now e slot ≡ None
+passed_step stage now e slot h = no_step (is_wanted_record stage e slot) (is_none slot.child) (is_none slot.order)
+    (is_limited e.act) (is_held slot.limiter.held now) _ _ h
 
 pub not_so : (b : Bool) → not b ≡ true → b ≡ false
 not_so true h = absurd (false≢true h)
 not_so false h = refl
 
 -- a walk for a start goes on behind entries that are passed
-pub passed_on : (stage : Stage) (now : ℕ) (ps : List (Entry × RecordState)) (from to : ℕ) → from ≤ to → ArePassedFrom (Some stage) now ps from to → start_along stage now (drop from ps) ≡ start_along stage now (drop to ps)
+pub passed_on : (stage : Stage) (now : ℕ) (ps : List (Entry × RecordState)) (from to : ℕ) → from ≤ to → ArePassedFrom
+    (Some stage) now ps from to → start_along stage now (drop from ps) ≡ start_along stage now (drop to ps)
 passed_on stage now [] from to h passed = rw (drop-nil from, drop-nil to) refl
 passed_on stage now (p ∷ ps) zero zero h passed = refl
 passed_on stage now (p ∷ ps) zero (suc to) h passed =
-    let own = and_parts (not ((is_wanted_record stage p.0 p.1 && is_none p.1.child) && not (is_held_back now p.0 p.1))) (not (is_owed_record stage p.0 p.1)) (passed 0 (omega arith) (omega arith)) in
-    rw (passed_step stage now p.0 p.1 own.0, not_so (is_owed_record stage p.0 p.1) own.1) (passed_on stage now ps zero to (omega arith) (λ i least most. passed (suc i) (omega arith) (omega arith)))
+    let own = and_parts (not ((is_wanted_record stage p.0 p.1 && is_none p.1.child) && not (is_held_back now p.0 p.1)))
+    (not (is_owed_record stage p.0 p.1)) (passed 0 (omega arith) (omega arith)) in
+    rw (passed_step stage now p.0 p.1 own.0, not_so (is_owed_record stage p.0 p.1) own.1)
+    (passed_on stage now ps zero to (omega arith) (λ i least most. passed (suc i) (omega arith) (omega arith)))
 passed_on stage now (p ∷ ps) (suc from) zero h passed = absurd (omega arith)
-passed_on stage now (p ∷ ps) (suc from) (suc to) h passed = passed_on stage now ps from to (omega arith) (λ i least most. passed (suc i) (omega arith) (omega arith))
+passed_on stage now (p ∷ ps) (suc from) (suc to) h passed =
+    passed_on stage now ps from to (omega arith) (λ i least most. passed (suc i) (omega arith) (omega arith))
 
-module _ (stage : Stage) (now : ℕ) (table : List Entry) (slots : List RecordState) (places : Places) (passed : ArePassed (Some stage) now places table slots) where
+module _ (stage : Stage) (now : ℕ) (table : List Entry) (slots : List RecordState) (places : Places)
+    (passed : ArePassed (Some stage) now places table slots) where
   pub first_on : start_along stage now (zip table slots) ≡ start_along stage now (drop places.first (zip table slots))
-  first_on = let h = passed.0 in passed_on stage now (zip table slots) 0 places.first (omega arith) (λ i least most. passed.1 i (omega arith) (λ is. omega arith))
+  first_on = let h = passed.0 in passed_on stage now (zip table slots) 0 places.first (omega arith)
+      (λ i least most. passed.1 i (omega arith) (λ is. omega arith))
 
-  pub next_on : places.first < places.next → start_along stage now (drop (places.first + 1) (zip table slots)) ≡ start_along stage now (drop places.next (zip table slots))
-  next_on h = passed_on stage now (zip table slots) (places.first + 1) places.next (omega arith) (λ i least most. passed.1 i most (λ is. omega arith))
+  pub next_on : places.first < places.next → start_along stage now (drop (places.first + 1) (zip table slots))
+      ≡ start_along stage now (drop places.next (zip table slots))
+  next_on h = passed_on stage now (zip table slots) (places.first + 1) places.next (omega arith)
+      (λ i least most. passed.1 i most (λ is. omega arith))
 
-  pub all_on : places.next ≤ places.first → start_along stage now (zip table slots) ≡ start_along stage now (drop places.next (zip table slots))
-  all_on h = passed_on stage now (zip table slots) 0 places.next (omega arith) (λ i least most. passed.1 i most (λ is. omega arith))
+  pub all_on : places.next ≤ places.first
+      → start_along stage now (zip table slots) ≡ start_along stage now (drop places.next (zip table slots))
+  all_on h = passed_on stage now (zip table slots) 0 places.next (omega arith)
+      (λ i least most. passed.1 i most (λ is. omega arith))
 
 -- what a change does to no record that was seen, nor to an entry that was passed
 abbrev pub KeepsSeen : (RecordState → RecordState) → RecordState → Type 0
 KeepsSeen change slot = is_seen_record slot ≡ true → is_seen_record (change slot) ≡ true
 
 abbrev pub KeepsPassed : Option Stage → ℕ → (RecordState → RecordState) → RecordState → Type 0
-KeepsPassed stage now change slot = (e : Entry) → is_passed_in stage now e slot ≡ true → is_passed_in stage now e (change slot) ≡ true
+KeepsPassed stage now change slot = (e : Entry) → is_passed_in stage now e slot ≡ true
+    → is_passed_in stage now e (change slot) ≡ true
 
-pub seen_map : (change : RecordState → RecordState) (slots : List RecordState) (i : ℕ) → Each (KeepsSeen change) slots → are_seen i slots ≡ true → are_seen i (map change slots) ≡ true
+pub seen_map : (change : RecordState → RecordState) (slots : List RecordState) (i : ℕ) → Each (KeepsSeen change) slots
+    → are_seen i slots ≡ true → are_seen i (map change slots) ≡ true
 seen_map change (slot ∷ slots) (suc i) each seen =
     let parts = and_parts (is_seen_record slot) (are_seen i slots) seen in
-    and_from (is_seen_record (change slot)) (are_seen i (map change slots)) (each.0 parts.0) (seen_map change slots i each.1 parts.1)
+    and_from (is_seen_record (change slot)) (are_seen i (map change slots)) (each.0 parts.0)
+    (seen_map change slots i each.1 parts.1)
 seen_map change slots i each seen = grind (arith, zero)
 
-pub passed_map : (stage : Option Stage) (now : ℕ) (change : RecordState → RecordState) (table : List Entry) (slots : List RecordState) (i : ℕ) → Each (KeepsPassed stage now change) slots → is_passed_at stage now (zip table slots) i ≡ true → is_passed_at stage now (zip table (map change slots)) i ≡ true
+pub passed_map : (stage : Option Stage) (now : ℕ) (change : RecordState → RecordState) (table : List Entry)
+    (slots : List RecordState) (i : ℕ) → Each (KeepsPassed stage now change) slots
+    → is_passed_at stage now (zip table slots) i ≡ true → is_passed_at stage now (zip table (map change slots)) i ≡ true
 passed_map stage now change [] slots i each passed = passed
 passed_map stage now change (e ∷ table) [] i each passed = passed
 passed_map stage now change (e ∷ table) (slot ∷ slots) zero each passed = each.0 e passed
-passed_map stage now change (e ∷ table) (slot ∷ slots) (suc i) each passed = passed_map stage now change table slots i each.1 passed
+passed_map stage now change (e ∷ table) (slot ∷ slots) (suc i) each passed =
+    passed_map stage now change table slots i each.1 passed
 
-pub all_passed_map : (stage : Option Stage) (now : ℕ) (change : RecordState → RecordState) (table : List Entry) (slots : List RecordState) (places : Places) → ((slot : RecordState) → KeepsPassed stage now change slot) → ArePassed stage now places table slots → ArePassed stage now places table (map change slots)
-all_passed_map stage now change table slots places keeps passed = (passed.0, λ i lt other. passed_map stage now change table slots i (each_always (KeepsPassed stage now change) keeps slots) (passed.1 i lt other))
+pub all_passed_map : (stage : Option Stage) (now : ℕ) (change : RecordState → RecordState) (table : List Entry)
+    (slots : List RecordState) (places : Places) → ((slot : RecordState) → KeepsPassed stage now change slot)
+    → ArePassed stage now places table slots → ArePassed stage now places table (map change slots)
+all_passed_map stage now change table slots places keeps passed = (
+  passed.0,
+  λ i lt other. passed_map stage now change table slots i (each_always (KeepsPassed stage now change) keeps slots)
+      (passed.1 i lt other),
+)
 
 -- a change of one id's records alone
-pub seen_changed : (id : List ℕ) (change : RecordState → RecordState) (slots : List RecordState) (i : ℕ) → ((slot : RecordState) → KeepsSeen change slot) → are_seen i slots ≡ true → are_seen i (with_changed id change slots) ≡ true
+pub seen_changed : (id : List ℕ) (change : RecordState → RecordState) (slots : List RecordState) (i : ℕ) → ((slot :
+    RecordState) → KeepsSeen change slot) → are_seen i slots ≡ true → are_seen i (with_changed id change slots) ≡ true
 seen_changed id change slots i keeps seen =
     grind (arith, seen_map, changed, each_always, is_record_of, RecordState, Bool, is_seen_record)

@@ -1,5 +1,8 @@
 -- Records made anew one after another, along the table.
-use Rattle.core_steps.proofs.Words.{◌≡◌, ◌≤◌, ◌<◌, ◌+◌, refl, sym, ◌∙◌, ap, cond, ℕ, zero, suc, Bool, true, false, ◌&&◌, List, [], ◌∷◌, ◌++◌, length, drop, get_or, Option, Some, None, slice_get, append_assoc, add-one, arith, drop-nil, drop-cons, option_map, Entry, RecordState, PlainRecord, record_from, records_along, is_whole, is_for, are_whole, record_read}
+use Rattle.core_steps.proofs.Words.{◌≡◌, ◌≤◌, ◌<◌, ◌+◌, refl, sym, ◌∙◌, ap, cond, ℕ, zero, suc, Bool, true, false, ◌&&◌}
+use Rattle.core_steps.proofs.Words.{List, [], ◌∷◌, ◌++◌, length, drop, get_or, Option, Some, None, slice_get}
+use Rattle.core_steps.proofs.Words.{append_assoc, add-one, arith, drop-nil, drop-cons, option_map, Entry, RecordState}
+use Rattle.core_steps.proofs.Words.{PlainRecord, record_from, records_along, is_whole, is_for, are_whole, record_read}
 use Rattle.inittab_text.proofs.Entries.{drop-slice_get}
 
 past_end : {X : Type 0} (xs : List X) (i : ℕ) → slice_get xs i ≡ None → (drop i xs ≡ []) × (drop (i + 1) xs ≡ [])
@@ -15,17 +18,24 @@ none_from (x ∷ xs) zero past = absurd (omega arith)
 none_from (x ∷ xs) (suc i) past = none_from xs i (omega arith)
 
 -- the record at a place, and those behind it
-whole_at : (table : List Entry) (records : List PlainRecord) (i : ℕ) (r : PlainRecord) → drop i records ≡ r ∷ drop (i + 1) records → are_whole (drop i table) (drop i records) ≡ ((is_for (slice_get table i) r && is_whole r) && are_whole (drop (i + 1) table) (drop (i + 1) records))
+whole_at : (table : List Entry) (records : List PlainRecord) (i : ℕ) (r : PlainRecord)
+    → drop i records ≡ r ∷ drop (i + 1) records → are_whole (drop i table) (drop i records)
+    ≡ ((is_for (slice_get table i) r && is_whole r) && are_whole (drop (i + 1) table) (drop (i + 1) records))
 whole_at table records i r next = at (slice_get table i) refl
   where
-    at : (found : Option Entry) → slice_get table i ≡ found → are_whole (drop i table) (drop i records) ≡ ((is_for (slice_get table i) r && is_whole r) && are_whole (drop (i + 1) table) (drop (i + 1) records))
+    at : (found : Option Entry) → slice_get table i ≡ found → are_whole (drop i table) (drop i records)
+        ≡ ((is_for (slice_get table i) r && is_whole r) && are_whole (drop (i + 1) table) (drop (i + 1) records))
     at None is = let end = past_end table i is in rw (is, next, end.0, end.1) refl
     at (Some e) is = rw (is, next, drop-slice_get table i e is) refl
 
-records_at : (table : List Entry) (records : List PlainRecord) (i : ℕ) (r : PlainRecord) → drop i records ≡ r ∷ drop (i + 1) records → records_along (drop i table) (drop i records) ≡ record_from (option_map (λ (e : Entry). e.act) (slice_get table i)) r ∷ records_along (drop (i + 1) table) (drop (i + 1) records)
+records_at : (table : List Entry) (records : List PlainRecord) (i : ℕ) (r : PlainRecord) → drop i records
+    ≡ r ∷ drop (i + 1) records → records_along (drop i table) (drop i records) ≡ record_from (option_map
+    (λ (e : Entry). e.act) (slice_get table i)) r ∷ records_along (drop (i + 1) table) (drop (i + 1) records)
 records_at table records i r next = at (slice_get table i) refl
   where
-    at : (found : Option Entry) → slice_get table i ≡ found → records_along (drop i table) (drop i records) ≡ record_from (option_map (λ (e : Entry). e.act) (slice_get table i)) r ∷ records_along (drop (i + 1) table) (drop (i + 1) records)
+    at : (found : Option Entry) → slice_get table i ≡ found → records_along (drop i table) (drop i records)
+        ≡ record_from (option_map (λ (e : Entry). e.act) (slice_get table i)) r
+        ∷ records_along (drop (i + 1) table) (drop (i + 1) records)
     at None is = let end = past_end table i is in rw (is, next, end.0, end.1) refl
     at (Some e) is = rw (is, next, drop-slice_get table i e is) refl
 
@@ -37,7 +47,8 @@ read_some : (b : Bool) (slot made : RecordState) → Some made ≡ cond b (Some 
 read_some true slot made is = (refl, cc)
 read_some false slot made is = absurd (cc)
 
-pub too_few : (table : List Entry) (records : List PlainRecord) → length records < length table → are_whole table records ≡ false
+pub too_few : (table : List Entry) (records : List PlainRecord) → length records < length table
+    → are_whole table records ≡ false
 too_few (e ∷ table) (r ∷ records) few = ends (is_for (Some e) r && is_whole r) (too_few table records (omega arith))
   where
     ends : (b : Bool) → are_whole table records ≡ false → (b && are_whole table records) ≡ false
@@ -50,18 +61,25 @@ pub record AreMade (table : List Entry) (records : List PlainRecord) (made : Lis
   pub whole : are_whole table records ≡ are_whole (drop i table) (drop i records)
   pub slots : made ++ records_along (drop i table) (drop i records) ≡ records_along table records
 
-module _ (table : List Entry) (records : List PlainRecord) (made : List RecordState) (i : ℕ) (so_far : AreMade table records made i) where
-  pub not_whole : (r : PlainRecord) → i < length records → r ≡ get_or records i r → None ≡ record_read (slice_get table i) r → are_whole table records ≡ false
+module _ (table : List Entry) (records : List PlainRecord) (made : List RecordState) (i : ℕ)
+    (so_far : AreMade table records made i) where
+  pub not_whole : (r : PlainRecord) → i < length records → r ≡ get_or records i r
+      → None ≡ record_read (slice_get table i) r → are_whole table records ≡ false
   not_whole r h is none =
       let next : drop i records ≡ r ∷ drop (i + 1) records = rw (add-one, drop-cons records i r h, ← is) refl in
-      let fault = read_none (is_for (slice_get table i) r && is_whole r) (record_from (option_map (λ (e : Entry). e.act) (slice_get table i)) r) none in
+      let fault = read_none (is_for (slice_get table i) r && is_whole r)
+      (record_from (option_map (λ (e : Entry). e.act) (slice_get table i)) r) none in
       so_far.whole ∙ whole_at table records i r next ∙ rw fault refl
 
-  pub one_made : (r : PlainRecord) (slot : RecordState) → i < length records → r ≡ get_or records i r → Some slot ≡ record_read (slice_get table i) r → AreMade table records (made ++ slot ∷ []) (i + 1)
+  pub one_made : (r : PlainRecord) (slot : RecordState) → i < length records → r ≡ get_or records i r
+      → Some slot ≡ record_read (slice_get table i) r → AreMade table records (made ++ slot ∷ []) (i + 1)
   one_made r slot h is read =
       let next : drop i records ≡ r ∷ drop (i + 1) records = rw (add-one, drop-cons records i r h, ← is) refl in
-      let found = read_some (is_for (slice_get table i) r && is_whole r) (record_from (option_map (λ (e : Entry). e.act) (slice_get table i)) r) slot read in
+      let found = read_some (is_for (slice_get table i) r && is_whole r)
+      (record_from (option_map (λ (e : Entry). e.act) (slice_get table i)) r) slot read in
       record {
         whole = so_far.whole ∙ whole_at table records i r next ∙ rw found.0 refl;
-        slots = append_assoc made (slot ∷ []) _ ∙ ap (λ s. made ++ s ∷ records_along (drop (i + 1) table) (drop (i + 1) records)) found.1 ∙ ap (λ rest. made ++ rest) (sym (records_at table records i r next)) ∙ so_far.slots;
+        slots = append_assoc made (slot ∷ []) _ ∙ ap (λ s. made ++ s ∷ records_along (drop (i + 1) table) (drop
+            (i + 1) records)) found.1 ∙ ap (λ rest. made ++ rest) (sym (records_at table records i r next))
+            ∙ so_far.slots;
       }

@@ -1,5 +1,8 @@
 -- The rules of what init keeps, tested along the records.
-use Rattle.core_steps.proofs.Words.{◌≡◌, ◌≤◌, ◌<◌, ◌+◌, refl, cond, ℕ, Bool, true, false, not, ◌||◌, List, [], ◌∷◌, length, drop, get_or, zip, Some, None, slice_get, list_any, IsNonDecreasing, le-leb, Entry, Stage, STARTS, RecordState, is_owed_record, is_started, is_start_allowed, are_starts_along, is_hold_of, is_limit_kept, never_from_ordered, arith}
+use Rattle.core_steps.proofs.Words.{◌≡◌, ◌≤◌, ◌<◌, ◌+◌, refl, cond, ℕ, Bool, true, false, not, ◌||◌, List, [], ◌∷◌}
+use Rattle.core_steps.proofs.Words.{length, drop, get_or, zip, Some, None, slice_get, list_any, IsNonDecreasing, le-leb}
+use Rattle.core_steps.proofs.Words.{Entry, Stage, STARTS, RecordState, is_owed_record, is_started, is_start_allowed}
+use Rattle.core_steps.proofs.Words.{are_starts_along, is_hold_of, is_limit_kept, never_from_ordered, arith}
 use Rattle.respawn_limit.specs.State.{LimiterState}
 use Rattle.core_steps.proofs.Pairs.{pair_at, no_pair_at, no_pair_past}
 
@@ -8,18 +11,23 @@ abbrev pub starts_from : Bool → Stage → List (Entry × RecordState) → Bool
 starts_from true stage ps = not (list_any (λ (q : Entry × RecordState). is_started q.1) ps)
 starts_from false stage ps = are_starts_along stage ps
 
-pub limit_kept : (now : ℕ) (limiter : LimiterState) → length limiter.starts ≤ STARTS → IsNonDecreasing limiter.starts → is_hold_of now limiter limiter.held ≡ is_limit_kept now limiter
-limit_kept now limiter few ordered = rw (le-leb (length limiter.starts) STARTS few, never_from_ordered limiter.starts ordered) refl
+pub limit_kept : (now : ℕ) (limiter : LimiterState) → length limiter.starts ≤ STARTS → IsNonDecreasing limiter.starts
+    → is_hold_of now limiter limiter.held ≡ is_limit_kept now limiter
+limit_kept now limiter few ordered =
+    rw (le-leb (length limiter.starts) STARTS few, never_from_ordered limiter.starts ordered) refl
 
 none_left : (owed : Bool) (stage : Stage) → true ≡ starts_from owed stage []
 none_left true stage = refl
 none_left false stage = refl
 
-refused : (owed : Bool) (stage : Stage) (e : Entry) (slot : RecordState) (ps : List (Entry × RecordState)) → cond owed (not (is_started slot)) (is_start_allowed stage e slot) ≡ false → false ≡ starts_from owed stage ((e, slot) ∷ ps)
+refused : (owed : Bool) (stage : Stage) (e : Entry) (slot : RecordState) (ps : List (Entry × RecordState)) → cond owed
+    (not (is_started slot)) (is_start_allowed stage e slot) ≡ false → false ≡ starts_from owed stage ((e, slot) ∷ ps)
 refused true stage e slot ps fault = grind arith
 refused false stage e slot ps fault = rw fault refl
 
-in_turn : (owed : Bool) (stage : Stage) (e : Entry) (slot : RecordState) (ps : List (Entry × RecordState)) → cond owed (not (is_started slot)) (is_start_allowed stage e slot) ≡ true → starts_from owed stage ((e, slot) ∷ ps) ≡ starts_from (owed || is_owed_record stage e slot) stage ps
+in_turn : (owed : Bool) (stage : Stage) (e : Entry) (slot : RecordState) (ps : List (Entry × RecordState))
+    → cond owed (not (is_started slot)) (is_start_allowed stage e slot) ≡ true
+    → starts_from owed stage ((e, slot) ∷ ps) ≡ starts_from (owed || is_owed_record stage e slot) stage ps
 in_turn true stage e slot ps pass = grind arith
 in_turn false stage e slot ps pass = grind arith
 
@@ -31,9 +39,15 @@ module _ (stage : Stage) (table : List Entry) (slots : List RecordState) (i : �
   pub starts_past : length slots ≤ i → true ≡ are_starts_along stage (zip table slots)
   starts_past past = rw (so_far, no_pair_past table slots i past) (none_left owed stage)
 
-  pub starts_fault : (e : Entry) (slot : RecordState) → slice_get table i ≡ Some e → i < length slots → slot ≡ get_or slots i slot → cond owed (not (is_started slot)) (is_start_allowed stage e slot) ≡ false → false ≡ are_starts_along stage (zip table slots)
-  starts_fault e slot at h is fault = rw (so_far, pair_at table slots i e slot at h is) (refused owed stage e slot (drop (i + 1) (zip table slots)) fault)
+  pub starts_fault : (e : Entry) (slot : RecordState) → slice_get table i ≡ Some e → i < length slots
+      → slot ≡ get_or slots i slot → cond owed (not (is_started slot)) (is_start_allowed stage e slot) ≡ false
+      → false ≡ are_starts_along stage (zip table slots)
+  starts_fault e slot at h is fault = rw (so_far, pair_at table slots i e slot at h is)
+      (refused owed stage e slot (drop (i + 1) (zip table slots)) fault)
 
-  pub starts_pass : (e : Entry) (slot : RecordState) → slice_get table i ≡ Some e → i < length slots → slot ≡ get_or slots i slot → cond owed (not (is_started slot)) (is_start_allowed stage e slot) ≡ true
-      → are_starts_along stage (zip table slots) ≡ starts_from (owed || is_owed_record stage e slot) stage (drop (i + 1) (zip table slots))
-  starts_pass e slot at h is pass = rw (so_far, pair_at table slots i e slot at h is) (in_turn owed stage e slot (drop (i + 1) (zip table slots)) pass)
+  pub starts_pass : (e : Entry) (slot : RecordState) → slice_get table i ≡ Some e → i < length slots
+      → slot ≡ get_or slots i slot → cond owed (not (is_started slot)) (is_start_allowed stage e slot) ≡ true
+      → are_starts_along stage (zip table slots)
+      ≡ starts_from (owed || is_owed_record stage e slot) stage (drop (i + 1) (zip table slots))
+  starts_pass e slot at h is pass = rw (so_far, pair_at table slots i e slot at h is)
+      (in_turn owed stage e slot (drop (i + 1) (zip table slots)) pass)

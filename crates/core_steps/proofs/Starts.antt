@@ -1,5 +1,6 @@
 -- What a walk for a start comes to at a place.
-use Rattle.core_steps.proofs.Words.{true, false, ◌≡◌, ℕ, ◌+◌, ◌<◌, ◌≤◌, List, length, drop, get_or, zip, Some, None, refl, slice_get, Entry, Stage, RecordState, start_along, start_step, is_owed_record}
+use Rattle.core_steps.proofs.Words.{true, false, ◌≡◌, ℕ, ◌+◌, ◌<◌, ◌≤◌, List, length, drop, get_or, zip, Some, None}
+use Rattle.core_steps.proofs.Words.{refl, slice_get, Entry, Stage, RecordState, start_along, start_step, is_owed_record}
 use Rattle.trace_events.specs.declared.steps.Step.{Step}
 use Rattle.core_steps.proofs.Pairs.{pair_at, no_pair_at, no_pair_past}
 
@@ -10,12 +11,16 @@ module _ (stage : Stage) (now : ℕ) (table : List Entry) (slots : List RecordSt
   pub along_past : length slots ≤ i → None ≡ start_along stage now (drop i (zip table slots))
   along_past past = rw (no_pair_past table slots i past) refl
 
-  module _ (e : Entry) (slot : RecordState) (at : slice_get table i ≡ Some e) (h : i < length slots) (is : slot ≡ get_or slots i slot) where
-    pub along_found : (step : Step) → Some step ≡ start_step stage now e slot → Some step ≡ start_along stage now (drop i (zip table slots))
+  module _ (e : Entry) (slot : RecordState) (at : slice_get table i ≡ Some e) (h : i < length slots)
+      (is : slot ≡ get_or slots i slot) where
+    pub along_found : (step : Step) → Some step ≡ start_step stage now e slot
+        → Some step ≡ start_along stage now (drop i (zip table slots))
     along_found step found = rw (pair_at table slots i e slot at h is, ← found) refl
 
-    pub along_owed : None ≡ start_step stage now e slot → true ≡ is_owed_record stage e slot → None ≡ start_along stage now (drop i (zip table slots))
+    pub along_owed : None ≡ start_step stage now e slot → true ≡ is_owed_record stage e slot
+        → None ≡ start_along stage now (drop i (zip table slots))
     along_owed none owed = rw (pair_at table slots i e slot at h is, ← none, ← owed) refl
 
-    pub along_pass : None ≡ start_step stage now e slot → false ≡ is_owed_record stage e slot → start_along stage now (drop i (zip table slots)) ≡ start_along stage now (drop (i + 1) (zip table slots))
+    pub along_pass : None ≡ start_step stage now e slot → false ≡ is_owed_record stage e slot
+        → start_along stage now (drop i (zip table slots)) ≡ start_along stage now (drop (i + 1) (zip table slots))
     along_pass none owed = rw (pair_at table slots i e slot at h is, ← none, ← owed) refl

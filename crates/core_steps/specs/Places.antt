@@ -1,5 +1,6 @@
 -- The places from which on a record may be looked at, and an entry started or waited for.
-use Rattle.std.specs.Prelude.{◌≡◌, ◌≤◌, ◌<◌, ℕ, Bool, true, false, not, ◌&&◌, List, zip, take, slice_get, Option, Some, None, is_some, is_none}
+use Rattle.std.specs.Prelude.{◌≡◌, ◌≤◌, ◌<◌, ℕ, Bool, true, false, not, ◌&&◌, List, zip, take, slice_get, Option, Some}
+use Rattle.std.specs.Prelude.{None, is_some, is_none}
 use Rattle.std.specs.List.{list_all}
 use Rattle.std.specs.Option.{option_map_or}
 use Rattle.init_words.specs.Actions.{is_limited}

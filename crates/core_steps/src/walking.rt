@@ -98,7 +98,8 @@ fn start_at<A: Allocator>(
     requires { now ≤ CLOCK_LIMIT }
     ensures ends { IfSome result (λ found.
         found ≡ start_along stage now (drop position (zip table.now slots.now))) }
-    ensures goes_on { result ≡ None → start_along stage now (drop position (zip table.now slots.now))
+    ensures goes_on { result ≡ None
+        → start_along stage now (drop position (zip table.now slots.now))
         ≡ start_along stage now (drop (position + 1) (zip table.now slots.now)) }
 {
     let Some(entry) = table.at(position) else {

@@ -1,5 +1,7 @@
--- The text of a state: no entry, and one child that is to be stopped, with a signal under way; and as version 1 says it.
-use Rattle.core_text.proofs.CommonWords.{◌≡◌, refl, true, false, [], ◌∷◌, codes, Some, None, lit<, Exit, Due, CoreFields, PlainRecord, SavedState, V1, state_text, text_in}
+-- The text of a state: no entry, and one child that is to be stopped, with a signal under way; and as version 1 says
+-- it.
+use Rattle.core_text.proofs.CommonWords.{◌≡◌, refl, true, false, [], ◌∷◌, codes, Some, None, lit<, Exit, Due}
+use Rattle.core_text.proofs.CommonWords.{CoreFields, PlainRecord, SavedState, V1, state_text, text_in}
 use Rattle.std.proofs.lemmas.Fmt.{decimal_digit}
 use Rattle.init_words.specs.declared.actions.Act.TheVariants as act
 use Rattle.init_words.specs.declared.levels.Level.TheVariants as level
@@ -41,8 +43,22 @@ fields = record {
 abbrev example : SavedState
 example = record { fields = fields; table = []; records = left ∷ [] }
 
-example_text : state_text example ≡ codes "initd-state 2\ngeneration 1\nclock 0\nstage 3 5\ngoal 3 5\nflags 10\nwish 10 S:5 000 000\ntable 0\nslot a 7 once term due 0010 - - exit:1\nend 9\n"
-example_text = rw (decimal_digit 1 (lit< tt), decimal_digit 0 (lit< tt), decimal_digit 5 (lit< tt), decimal_digit 7 (lit< tt), decimal_digit 9 (lit< tt)) refl
+example_text : state_text example ≡ codes
+    "initd-state 2\ngeneration 1\nclock 0\nstage 3 5\ngoal 3 5\nflags 10\nwish 10 S:5 000 000\ntable 0\nslot a 7 once term due 0010 - - exit:1\nend 9\n"
+example_text = rw (
+  decimal_digit 1 (lit< tt),
+  decimal_digit 0 (lit< tt),
+  decimal_digit 5 (lit< tt),
+  decimal_digit 7 (lit< tt),
+  decimal_digit 9 (lit< tt),
+) refl
 
-old_text : text_in V1 example ≡ codes "initd-state 1\ngeneration 1\nclock 0\nstage 3 5\ngoal 3 5\nflags 10\nwish 10 S:5 000 000\ntable 0\nslot a 7 once term due 0010 - -\nend 9\n"
-old_text = rw (decimal_digit 1 (lit< tt), decimal_digit 0 (lit< tt), decimal_digit 5 (lit< tt), decimal_digit 7 (lit< tt), decimal_digit 9 (lit< tt)) refl
+old_text : text_in V1 example ≡ codes
+    "initd-state 1\ngeneration 1\nclock 0\nstage 3 5\ngoal 3 5\nflags 10\nwish 10 S:5 000 000\ntable 0\nslot a 7 once term due 0010 - -\nend 9\n"
+old_text = rw (
+  decimal_digit 1 (lit< tt),
+  decimal_digit 0 (lit< tt),
+  decimal_digit 5 (lit< tt),
+  decimal_digit 7 (lit< tt),
+  decimal_digit 9 (lit< tt),
+) refl

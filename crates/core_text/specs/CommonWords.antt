@@ -16,4 +16,5 @@ pub use Rattle.init_words.specs.Ids.{is_id, id_read, same_id}
 pub use Rattle.respawn_limit.specs.declared.TheConstants.{STARTS}
 pub use Rattle.text_lines.specs.Lines.{cut, pieces_of, after_lines, newlines, has_byte}
 pub use Rattle.init_words.specs.declared.entries.Entry.{Entry}
-pub use Rattle.trace_text.specs.Reading.{both, level_of_word, stage_of_word, order_of_word, seconds_of_word, child_of_word, code_of_word}
+pub use Rattle.trace_text.specs.Reading.{both, level_of_word, stage_of_word, order_of_word, seconds_of_word}
+pub use Rattle.trace_text.specs.Reading.{child_of_word, code_of_word}

@@ -1,7 +1,10 @@
 -- The text of a state (telinit(8)), by its version: its lines, and the words of each line, set apart by single blanks.
-use Rattle.std.specs.Prelude.{ℕ, Bool, if◌then◌else◌, List, [], ◌∷◌, ◌++◌, map, length, codes, decimal, Option, Some, None}
+use Rattle.std.specs.Prelude.{ℕ, Bool, if◌then◌else◌, List, [], ◌∷◌, ◌++◌, map, length, codes, decimal, Option, Some}
+use Rattle.std.specs.Prelude.{None}
 use Rattle.std.specs.List.{flat_map, join_with_byte}
-use Rattle.core_text.specs.CommonWords.{Status, Exit, Stage, word_of, fields_written, Goal, level_word, stage_word, order_word, Stop, Due, Termed, Killed, CallSet, CoreFields, PlainRecord, SavedState}
+use Rattle.core_text.specs.CommonWords.{Status, Exit, Stage, word_of, fields_written, Goal, level_word, stage_word}
+use Rattle.core_text.specs.CommonWords.{order_word, Stop, Due, Termed, Killed, CallSet, CoreFields, PlainRecord}
+use Rattle.core_text.specs.CommonWords.{SavedState}
 use Rattle.init_words.specs.declared.children.Status.TheVariants.{Killed as KilledBySignal}
 use Rattle.core_text.specs.declared.versions.Version.{Version}
 use Rattle.core_text.specs.declared.versions.Version.TheVariants.{V1, V2}

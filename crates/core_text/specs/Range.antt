@@ -1,8 +1,10 @@
 -- The states that a text of a version can say: their numbers and their table are in range, a generation is one at
 -- least, no grace stands before the first stage, and no wish for another re-execution.
-use Rattle.std.specs.Prelude.{ℕ, Bool, true, not, ◌==◌, ◌^◌, ◌+◌, ◌&&◌, nat_le, nat_lt, List, length, Option, Some, None, is_none}
+use Rattle.std.specs.Prelude.{ℕ, Bool, true, not, ◌==◌, ◌^◌, ◌+◌, ◌&&◌, nat_le, nat_lt, List, length, Option, Some}
+use Rattle.std.specs.Prelude.{None, is_none}
 use Rattle.std.specs.List.{list_all}
-use Rattle.core_text.specs.CommonWords.{Status, Stage, is_id, is_table, Goal, STARTS, Stop, Due, Termed, Killed, CoreFields, PlainRecord, SavedState}
+use Rattle.core_text.specs.CommonWords.{Status, Stage, is_id, is_table, Goal, STARTS, Stop, Due, Termed, Killed}
+use Rattle.core_text.specs.CommonWords.{CoreFields, PlainRecord, SavedState}
 use Rattle.init_words.specs.declared.limits.TheConstants.{GRACE_LIMIT}
 use Rattle.trace_events.specs.Range.{is_status}
 use Rattle.core_records.specs.State.{RecordState, child_number}
@@ -65,7 +67,8 @@ is_state version state =
 
 -- the seconds that a core keeps are at most an hour, and none before the first stage
 abbrev pub has_short_seconds : CoreState → Bool
-has_short_seconds c = is_stage c.fields.stage c.fields.grace && is_goal c.fields.goal && passes is_goal c.fields.level_wish
+has_short_seconds c =
+    is_stage c.fields.stage c.fields.grace && is_goal c.fields.goal && passes is_goal c.fields.level_wish
 
 -- the id of a record is an id, and the number of its child and its last status fit their words
 abbrev pub has_ranged_words : RecordState → Bool

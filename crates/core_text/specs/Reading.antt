@@ -1,9 +1,13 @@
 -- A line of a state text word by word: what these words say. The meaning of a text is that a state is written so
 -- (Lines); this is the way there.
-use Rattle.std.specs.Prelude.{◌≡◌, ℕ, Bool, true, false, not, ◌==◌, ◌-◌, ◌&&◌, ◌^◌, if◌then◌else◌, nat_le, List, [], ◌∷◌, length, take, codes, Option, Some, None, option_and_then}
+use Rattle.std.specs.Prelude.{◌≡◌, ℕ, Bool, true, false, not, ◌==◌, ◌-◌, ◌&&◌, ◌^◌, if◌then◌else◌, nat_le, List, []}
+use Rattle.std.specs.Prelude.{◌∷◌, length, take, codes, Option, Some, None, option_and_then}
 use Rattle.std.specs.Option.{option_map}
 use Rattle.std.specs.List.{starts_with}
-use Rattle.core_text.specs.CommonWords.{cut, pieces_of, after_lines, newlines, Status, Entry, Stage, act_read, id_read, same_id, is_empty, table_begun, Goal, both, level_of_word, stage_of_word, order_of_word, seconds_of_word, child_of_word, code_of_word, STARTS, Stop, Due, Termed, Killed, CallSet, CoreFields, PlainRecord}
+use Rattle.core_text.specs.CommonWords.{cut, pieces_of, after_lines, newlines, Status, Entry, Stage, act_read, id_read}
+use Rattle.core_text.specs.CommonWords.{same_id, is_empty, table_begun, Goal, both, level_of_word, stage_of_word}
+use Rattle.core_text.specs.CommonWords.{order_of_word, seconds_of_word, child_of_word, code_of_word, STARTS, Stop, Due}
+use Rattle.core_text.specs.CommonWords.{Termed, Killed, CallSet, CoreFields, PlainRecord}
 use Rattle.text_lines.specs.Numbers.{number_read}
 use Rattle.init_words.specs.declared.actions.Act.{Act}
 use Rattle.init_words.specs.declared.children.Status.TheVariants.{Killed as KilledBySignal}
@@ -31,7 +35,8 @@ pair_read mark first second text = option_and_then (λ parts. both pair (first p
 
 -- the text after a name and such a byte
 abbrev pub after_prefix : List ℕ → ℕ → List ℕ → Option (List ℕ)
-after_prefix name mark text = option_and_then (λ parts. if same_id parts.0 name then Some parts.1 else None) (cut mark text)
+after_prefix name mark text =
+    option_and_then (λ parts. if same_id parts.0 name then Some parts.1 else None) (cut mark text)
 
 abbrev pub named_read : {X : Type 0} → List ℕ → ℕ → (List ℕ → Option X) → List ℕ → Option X
 named_read name mark read text = option_and_then read (after_prefix name mark text)

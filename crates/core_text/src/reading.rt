@@ -55,7 +55,8 @@ fn take_words<'a>(
 ) -> Result<(&'a [u8], &'a [u8]), StateFault>
     ensures ok { IfOk result (λ found.
         line_read (after_prefix name.now 32) text.now ≡ Some (found.0.now, found.1.now)) }
-    ensures err { IfErr result (λ why. UnreadState (line_read (after_prefix name.now 32) text.now) why) }
+    ensures err { IfErr result
+        (λ why. UnreadState (line_read (after_prefix name.now 32) text.now) why) }
 {
     let (line, rest) = take_line(text, number)?;
     let words = after_prefix(name, line).ok_or(StateFault::Line(number))?;

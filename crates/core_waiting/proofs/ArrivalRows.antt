@@ -1,6 +1,11 @@
 -- Worked rounds: `refl` computes them. Undisturbed ones, with others between them at the default grace and pauses; and
 -- rounds that lack one of the conditions, in which nothing comes nearer.
-use Rattle.core_waiting.proofs.Words.{◌≡◌, refl, ℕ, Bool, true, false, not, List, [], ◌∷◌, ◌++◌, codes, filter, list_any, list_all, Entry, At, Start, Look, Term, Kill, Exit, NewTable, Enter, Asked, Birth, Death, Reaped, Still, Hit, Miss, Told, Clock, Nudge, NotRead, Got, Step, Event, is_idle, kept_children, is_missed, due, is_sound, is_level_announced, after_rounds, has_to_end, is_found_ended, is_nudge, is_unasked, moves_on, AreUnasked, undisturbed_among, waits_to_come, rounds_to_come}
+use Rattle.core_waiting.proofs.Words.{◌≡◌, refl, ℕ, Bool, true, false, not, List, [], ◌∷◌, ◌++◌, codes, filter}
+use Rattle.core_waiting.proofs.Words.{list_any, list_all, Entry, At, Start, Look, Term, Kill, Exit, NewTable, Enter}
+use Rattle.core_waiting.proofs.Words.{Asked, Birth, Death, Reaped, Still, Hit, Miss, Told, Clock, Nudge, NotRead, Got}
+use Rattle.core_waiting.proofs.Words.{Step, Event, is_idle, kept_children, is_missed, due, is_sound, is_level_announced}
+use Rattle.core_waiting.proofs.Words.{after_rounds, has_to_end, is_found_ended, is_nudge, is_unasked, moves_on}
+use Rattle.core_waiting.proofs.Words.{AreUnasked, undisturbed_among, waits_to_come, rounds_to_come}
 use Rattle.init_words.specs.declared.actions.Act.TheVariants as act
 use Rattle.init_words.specs.declared.levels.Level.TheVariants as level
 use Rattle.init_words.specs.declared.stages.Stage.TheVariants as stage
@@ -27,7 +32,8 @@ ends id n = Told id ∷ Reaped id n (Exit 0) ∷ Death n ∷ Asked id Look ∷ [
 
 -- the whole way up: a sysinit, a bootwait and a wait entry, and a respawn entry; from the rest at which the first runs
 abbrev up_table : List Entry
-up_table = (entry (codes "s") [] act.Sysinit) ∷ (entry (codes "b") [] act.Bootwait) ∷ (entry (codes "w") (At level.L3 ∷ []) act.Wait) ∷ (entry (codes "r") (At level.L3 ∷ []) act.Respawn) ∷ []
+up_table = (entry (codes "s") [] act.Sysinit) ∷ (entry (codes "b") [] act.Bootwait)
+    ∷ (entry (codes "w") (At level.L3 ∷ []) act.Wait) ∷ (entry (codes "r") (At level.L3 ∷ []) act.Respawn) ∷ []
 
 abbrev up : List Event
 up = started (codes "s") 7 ++ Enter stage.Sysinit 5 ∷ NewTable up_table ∷ []
@@ -40,7 +46,8 @@ up_second = started (codes "w") 9 ++ Enter (stage.Run level.L3) 5 ∷ ends (code
 
 -- a wait entry that is alive at two looks, and is found ended by the third, in one round
 abbrev up_third : List Event
-up_third = Settle level.L3 ∷ started (codes "r") 6 ++ ends (codes "w") 9 ++ Nudge ∷ lives (codes "w") ++ Nudge ∷ lives (codes "w") ++ Nudge ∷ Clock 15 ∷ []
+up_third = Settle level.L3 ∷ started (codes "r") 6 ++ ends (codes "w") 9 ++ Nudge ∷ lives (codes "w") ++ Nudge
+    ∷ lives (codes "w") ++ Nudge ∷ Clock 15 ∷ []
 
 up-is_sound : is_sound (opening level.L3) (after_rounds (up_third ∷ up_second ∷ up_first ∷ []) up) ≡ true
 up-is_sound = refl
@@ -68,7 +75,8 @@ abbrev last_table : List Entry
 last_table = (entry (codes "r") (At level.L3 ∷ []) act.Respawn) ∷ []
 
 abbrev last_level : List Event
-last_level = missed (codes "r") ++ goes_to level.L2 ++ Settle level.L3 ∷ started (codes "r") 7 ++ entered level.L3 last_table
+last_level =
+    missed (codes "r") ++ goes_to level.L2 ++ Settle level.L3 ∷ started (codes "r") 7 ++ entered level.L3 last_table
 
 abbrev last_first : List Event
 last_first = lives (codes "r") ++ sent (codes "r") ++ Nudge ∷ Clock 5 ∷ []
@@ -79,7 +87,8 @@ last_second = killed (codes "r") ++ Clock 10 ∷ lives (codes "r") ++ Nudge ∷ 
 abbrev last_third : List Event
 last_third = Settle level.L2 ∷ ends (codes "r") 7 ++ Nudge ∷ Clock 15 ∷ []
 
-last-is_sound : is_sound (opening level.L3) (after_rounds (last_third ∷ last_second ∷ last_first ∷ []) last_level) ≡ true
+last-is_sound : is_sound (opening level.L3) (after_rounds (last_third ∷ last_second ∷ last_first ∷ []) last_level)
+    ≡ true
 last-is_sound = refl
 
 last-unasked : AreUnasked (opening level.L3) (last_third ∷ last_second ∷ last_first ∷ []) last_level
@@ -124,10 +133,11 @@ stands round past =
     is_sound (opening level.L3) (round ++ past) ∷ is_none_due past ∷ is_idle past ∷ is_none_due (round ++ past)
     ∷ is_idle (round ++ past) ∷ not (is_level_announced (round ++ past)) ∷ []
 
--- as `initd run` makes them by default, with a grace of five seconds and pauses of a second: two waited entries, the child
--- of the first found alive once; the two rounds in which a child is found ended take no time
+-- as `initd run` makes them by default, with a grace of five seconds and pauses of a second: two waited entries, the
+-- child of the first found alive once; the two rounds in which a child is found ended take no time
 abbrev slow_first : List Event
-slow_first = started (codes "w") 7 ++ entered level.L3 ((entry (codes "w") (At level.L3 ∷ []) act.Wait) ∷ (entry (codes "v") (At level.L3 ∷ []) act.Wait) ∷ [])
+slow_first = started (codes "w") 7 ++ entered level.L3
+    ((entry (codes "w") (At level.L3 ∷ []) act.Wait) ∷ (entry (codes "v") (At level.L3 ∷ []) act.Wait) ∷ [])
 
 abbrev alive_yet : List Event
 alive_yet = lives (codes "w") ++ Nudge ∷ Clock 1 ∷ []
@@ -153,9 +163,9 @@ slow-undisturbed = refl
 slow-told : is_level_announced (after_rounds (slow_third ∷ next_starts ∷ alive_yet ∷ []) slow_first) ≡ true
 slow-told = refl
 
--- and from the level that a child of the last one holds up: its TERM missed, misses once more, and hits; it lives on for
--- five turns, of which the law makes one round, is sent a KILL in the last, is found alive once, and then ended. So three
--- of the five rounds are undisturbed, in seven seconds
+-- and from the level that a child of the last one holds up: its TERM missed, misses once more, and hits; it lives on
+-- for five turns, of which the law makes one round, is sent a KILL in the last, is found alive once, and then ended.
+-- So three of the five rounds are undisturbed, in seven seconds
 abbrev once_more : List Event
 once_more = lives (codes "r") ++ missed (codes "r") ++ Nudge ∷ Clock 1 ∷ []
 
@@ -163,7 +173,8 @@ abbrev hit_then : List Event
 hit_then = lives (codes "r") ++ sent (codes "r") ++ Nudge ∷ Clock 2 ∷ []
 
 abbrev pays_no_heed : List Event
-pays_no_heed = lives (codes "r") ++ killed (codes "r") ++ Nudge ∷ Clock 7 ∷ lives (codes "r") ++ Nudge ∷ Clock 6 ∷ lives (codes "r") ++ Nudge ∷ Clock 5 ∷ lives (codes "r") ++ Nudge ∷ Clock 4 ∷ lives (codes "r") ++ Nudge ∷ Clock 3 ∷ []
+pays_no_heed = lives (codes "r") ++ killed (codes "r") ++ Nudge ∷ Clock 7 ∷ lives (codes "r") ++ Nudge ∷ Clock 6 ∷ lives
+    (codes "r") ++ Nudge ∷ Clock 5 ∷ lives (codes "r") ++ Nudge ∷ Clock 4 ∷ lives (codes "r") ++ Nudge ∷ Clock 3 ∷ []
 
 abbrev not_dead_yet : List Event
 not_dead_yet = lives (codes "r") ++ Nudge ∷ Clock 7 ∷ []
@@ -178,7 +189,8 @@ held_up-is_sound : is_sound (opening level.L3) (after_rounds held_up last_level)
 held_up-is_sound = refl
 
 held_up-unasked : AreUnasked (opening level.L3) held_up last_level
-held_up-unasked = ((((((refl, refl), refl, refl, refl), refl, refl, refl), refl, refl, refl), refl, refl, refl), refl, refl, refl)
+held_up-unasked =
+    ((((((refl, refl), refl, refl, refl), refl, refl, refl), refl, refl, refl), refl, refl, refl), refl, refl, refl)
 
 held_up-undisturbed : undisturbed_among held_up last_level ≡ 3
 held_up-undisturbed = refl
@@ -194,7 +206,8 @@ abbrev news_kept : List Event
 news_kept = Got (got.Power power.Fail) ∷ started (codes "s") 7 ++ Enter stage.Sysinit 5 ∷ NewTable news_table ∷ []
 
 abbrev news_called : List Event
-news_called = started (codes "p") 8 ++ Power power.Fail ∷ Enter (stage.Run level.L3) 5 ∷ Enter stage.Boot 5 ∷ ends (codes "s") 7 ++ Nudge ∷ Clock 5 ∷ []
+news_called = started (codes "p") 8 ++ Power power.Fail ∷ Enter (stage.Run level.L3) 5 ∷ Enter stage.Boot 5
+    ∷ ends (codes "s") 7 ++ Nudge ∷ Clock 5 ∷ []
 
 news-stands : stands news_called news_kept ≡ true ∷ true ∷ true ∷ true ∷ true ∷ true ∷ []
 news-stands = refl
@@ -210,7 +223,8 @@ abbrev waiting : List Event
 waiting = started (codes "w") 7 ++ entered level.L3 ((entry (codes "w") (At level.L3 ∷ []) act.Wait) ∷ [])
 
 abbrev read_again : List Event
-read_again = started (codes "v") 8 ++ ends (codes "w") 7 ++ Nudge ∷ Clock 5 ∷ NewTable ((entry (codes "w") (At level.L3 ∷ []) act.Wait) ∷ (entry (codes "v") (At level.L3 ∷ []) act.Wait) ∷ []) ∷ Got got.Reload ∷ []
+read_again = started (codes "v") 8 ++ ends (codes "w") 7 ++ Nudge ∷ Clock 5 ∷ NewTable ((entry (codes "w")
+    (At level.L3 ∷ []) act.Wait) ∷ (entry (codes "v") (At level.L3 ∷ []) act.Wait) ∷ []) ∷ Got got.Reload ∷ []
 
 asked-stands : stands read_again waiting ≡ true ∷ true ∷ true ∷ true ∷ true ∷ true ∷ []
 asked-stands = refl
@@ -236,7 +250,8 @@ no_round-no_nearer = refl
 
 -- the clock stands still: a child that ignores the first signal is not sent the second
 abbrev ignoring : List Event
-ignoring = sent (codes "r") ++ goes_to level.L2 ++ Settle level.L3 ∷ started (codes "r") 7 ++ entered level.L3 last_table
+ignoring =
+    sent (codes "r") ++ goes_to level.L2 ++ Settle level.L3 ∷ started (codes "r") 7 ++ entered level.L3 last_table
 
 abbrev no_clock : List Event
 no_clock = lives (codes "r") ++ Nudge ∷ []
@@ -277,7 +292,8 @@ hits_at_once-nearer = refl
 
 -- but not where the clock is at its limit, whatever it reads: the grace is never over
 abbrev late : List Event
-late = sent (codes "r") ++ goes_to level.L2 ++ Settle level.L3 ∷ Clock 1000000000000 ∷ started (codes "r") 7 ++ entered level.L3 last_table
+late = sent (codes "r") ++ goes_to level.L2 ++ Settle level.L3 ∷ Clock 1000000000000 ∷ started (codes "r") 7
+    ++ entered level.L3 last_table
 
 abbrev later_reading : List Event
 later_reading = lives (codes "r") ++ Nudge ∷ Clock 1000000000099 ∷ []
@@ -346,7 +362,8 @@ misses-no_nearer = refl
 
 -- an order is not answered: no round is to come, and the level is not announced
 abbrev one_behind : List Event
-one_behind = started (codes "w") 7 ++ entered level.L3 ((entry (codes "w") (At level.L3 ∷ []) act.Wait) ∷ (entry (codes "v") (At level.L3 ∷ []) act.Wait) ∷ [])
+one_behind = started (codes "w") 7 ++ entered level.L3
+    ((entry (codes "w") (At level.L3 ∷ []) act.Wait) ∷ (entry (codes "v") (At level.L3 ∷ []) act.Wait) ∷ [])
 
 abbrev unanswered : List Event
 unanswered = Asked (codes "v") Start ∷ ends (codes "w") 7 ++ Nudge ∷ Clock 5 ∷ []
@@ -360,9 +377,11 @@ unanswered-tests = refl
 unanswered-nearer : nearer unanswered one_behind ≡ 2 ∷ 0 ∷ []
 unanswered-nearer = refl
 
--- rounds to come never rise from a rest with no order open while nothing is asked; but they do where inittab is read again,
+-- rounds to come never rise from a rest with no order open while nothing is asked; but they do where inittab is read
+-- again,
 abbrev two_more : List Event
-two_more = NewTable ((entry (codes "w") (At level.L3 ∷ []) act.Wait) ∷ (entry (codes "v") (At level.L3 ∷ []) act.Wait) ∷ (entry (codes "u") (At level.L3 ∷ []) act.Wait) ∷ []) ∷ Got got.Reload ∷ []
+two_more = NewTable ((entry (codes "w") (At level.L3 ∷ []) act.Wait) ∷ (entry (codes "v") (At level.L3 ∷ []) act.Wait)
+    ∷ (entry (codes "u") (At level.L3 ∷ []) act.Wait) ∷ []) ∷ Got got.Reload ∷ []
 
 two_more-is_sound : is_sound (opening level.L3) (two_more ++ waiting) ≡ true
 two_more-is_sound = refl

@@ -1,5 +1,6 @@
 -- A request for another level, worked: `refl` computes it.
-use Rattle.core_waiting.proofs.Words.{◌≡◌, refl, true, List, [], ◌∷◌, ◌++◌, codes, At, Term, NotRead, Enter, Asked, Hit, Told, Got, Event, is_idle, due, is_sound, is_no_level_asked, is_stage_entered}
+use Rattle.core_waiting.proofs.Words.{◌≡◌, refl, true, List, [], ◌∷◌, ◌++◌, codes, At, Term, NotRead, Enter, Asked, Hit}
+use Rattle.core_waiting.proofs.Words.{Told, Got, Event, is_idle, due, is_sound, is_no_level_asked, is_stage_entered}
 use Rattle.init_words.specs.declared.actions.Act.TheVariants as act
 use Rattle.init_words.specs.declared.levels.Level.TheVariants as level
 use Rattle.init_words.specs.declared.stages.Stage.TheVariants as stage
@@ -9,7 +10,8 @@ use Rattle.trace_events.specs.declared.steps.Step.TheVariants as step
 use Rattle.core_waiting.proofs.Rows.{entry, opening, started, entered}
 
 abbrev before : List Event
-before = Settle level.L3 ∷ started (codes "r") 6 ++ entered level.L3 ((entry (codes "r") (At level.L3 ∷ []) act.Respawn) ∷ [])
+before = Settle level.L3 ∷ started (codes "r") 6
+    ++ entered level.L3 ((entry (codes "r") (At level.L3 ∷ []) act.Respawn) ∷ [])
 
 abbrev asked : List Event
 asked = Got (got.Level level.L1 2) ∷ before

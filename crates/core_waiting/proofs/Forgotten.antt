@@ -1,7 +1,13 @@
 -- A list of due steps that forgot one of its ten ranks would break the law: for each rank a sound trace that takes no
--- step of that rank, at whose end nothing of the other nine is due and no order is open, and of which a clause is wrong.
--- And for each reason a rest at which `rest` would be wrong without it.
-use Rattle.core_waiting.proofs.Words.{◌≡◌, refl, ℕ, Bool, zero, suc, true, false, not, ◌||◌, List, [], ◌∷◌, ◌++◌, filter, codes, Option, Some, list_all, Entry, At, NewTable, NotRead, Enter, Nudge, Got, Goal, Step, Event, stage_of, Child, is_idle, kept_children, known_children, wish_stands, due_first, due_reexec, due_reread, due_level, due_news, due_stops, due_starts, due_stage, due_settle, due_looks, due, is_sound, WhyAwaited, Excluded, WaitedFor, InTheWay, why_awaited, awaited_children, is_level_announced, is_empty, is_stopping, is_looked_at}
+-- step of that rank, at whose end nothing of the other nine is due and no order is open, and of which a clause is
+-- wrong. And for each reason a rest at which `rest` would be wrong without it.
+use Rattle.core_waiting.proofs.Words.{◌≡◌, refl, ℕ, Bool, zero, suc, true, false, not, ◌||◌, List, [], ◌∷◌, ◌++◌}
+use Rattle.core_waiting.proofs.Words.{filter, codes, Option, Some, list_all, Entry, At, NewTable, NotRead, Enter, Nudge}
+use Rattle.core_waiting.proofs.Words.{Got, Goal, Step, Event, stage_of, Child, is_idle, kept_children, known_children}
+use Rattle.core_waiting.proofs.Words.{wish_stands, due_first, due_reexec, due_reread, due_level, due_news, due_stops}
+use Rattle.core_waiting.proofs.Words.{due_starts, due_stage, due_settle, due_looks, due, is_sound, WhyAwaited, Excluded}
+use Rattle.core_waiting.proofs.Words.{WaitedFor, InTheWay, why_awaited, awaited_children, is_level_announced, is_empty}
+use Rattle.core_waiting.proofs.Words.{is_stopping, is_looked_at}
 use Rattle.init_words.specs.declared.actions.Act.TheVariants as act
 use Rattle.init_words.specs.declared.levels.Level.TheVariants as level
 use Rattle.init_words.specs.declared.stages.Stage.TheVariants as stage
@@ -85,7 +91,8 @@ next_stage = record { sound = refl; rests = refl; idle = refl; broken = refl }
 settles : Breaks 9 (opening level.L3) (entered level.L3 []) (is_accounted_for (entered level.L3 []))
 settles = record { sound = refl; rests = refl; idle = refl; broken = refl }
 
-looks : Breaks 10 (opening level.L3) (Nudge ∷ settled) (list_all (is_looked_at (Nudge ∷ settled)) (known_children (Nudge ∷ settled)))
+looks : Breaks 10 (opening level.L3) (Nudge ∷ settled)
+    (list_all (is_looked_at (Nudge ∷ settled)) (known_children (Nudge ∷ settled)))
 looks = record { sound = refl; rests = refl; idle = refl; broken = refl }
 
 -- the awaited children but for those of this reason, and a rest at which they are none

@@ -1,5 +1,10 @@
 -- Worked rests, each with whose end init awaits there and why: `refl` computes them.
-use Rattle.core_waiting.proofs.Words.{◌≡◌, refl, ℕ, true, false, List, [], ◌∷◌, ◌++◌, codes, map, Option, Some, Entry, Act, Level, Mark, At, OnCall, Start, Look, Term, Exit, NewTable, NotRead, Enter, Asked, Birth, NoBirth, Death, Reaped, Hit, Miss, Told, Clock, Nudge, Got, Goal, Event, Child, is_idle, due, is_sound, WhyAwaited, Excluded, WaitedFor, InTheWay, why_awaited, awaited_children, is_level_announced, is_on_power, to_come, after_rounds, AreUnasked, undisturbed_among}
+use Rattle.core_waiting.proofs.Words.{◌≡◌, refl, ℕ, true, false, List, [], ◌∷◌, ◌++◌, codes, map, Option, Some, Entry}
+use Rattle.core_waiting.proofs.Words.{Act, Level, Mark, At, OnCall, Start, Look, Term, Exit, NewTable, NotRead, Enter}
+use Rattle.core_waiting.proofs.Words.{Asked, Birth, NoBirth, Death, Reaped, Hit, Miss, Told, Clock, Nudge, Got, Goal}
+use Rattle.core_waiting.proofs.Words.{Event, Child, is_idle, due, is_sound, WhyAwaited, Excluded, WaitedFor, InTheWay}
+use Rattle.core_waiting.proofs.Words.{why_awaited, awaited_children, is_level_announced, is_on_power, to_come}
+use Rattle.core_waiting.proofs.Words.{after_rounds, AreUnasked, undisturbed_among}
 use Rattle.init_words.specs.declared.actions.Act.TheVariants as act
 use Rattle.init_words.specs.declared.levels.Level.TheVariants as level
 use Rattle.init_words.specs.declared.levels.Letter.TheVariants as letter
@@ -9,7 +14,8 @@ use Rattle.initctl_frame.specs.declared.requests.HeardRequest.TheVariants as got
 use Rattle.trace_events.specs.declared.happenings.Happening.TheVariants.{Call, Power, Hold, Settle}
 
 abbrev pub entry : List ℕ → List Mark → Act → Entry
-entry id levels action = record { id = id; levels = record { items = levels }; act = action; process = record { items = codes "x" } }
+entry id levels action =
+    record { id = id; levels = record { items = levels }; act = action; process = record { items = codes "x" } }
 
 -- the goal that an opening at this level has
 abbrev pub opening : Level → Goal
@@ -47,7 +53,8 @@ failed = Told (codes "r") ∷ NoBirth (codes "r") ∷ Asked (codes "r") Start �
 
 -- a respawn entry's child that the new level excludes: TERM was sent, and its grace is not over
 abbrev pub stopped : List Event
-stopped = termed (codes "r") ++ goes_to level.L2 ++ Settle level.L3 ∷ started (codes "r") 7 ++ entered level.L3 ((entry (codes "r") (At level.L3 ∷ []) act.Respawn) ∷ [])
+stopped = termed (codes "r") ++ goes_to level.L2 ++ Settle level.L3 ∷ started (codes "r") 7
+    ++ entered level.L3 ((entry (codes "r") (At level.L3 ∷ []) act.Respawn) ∷ [])
 
 stopped-is_sound : is_sound (opening level.L3) stopped ≡ true
 stopped-is_sound = refl
@@ -69,7 +76,8 @@ stopped-why = refl
 
 -- the signal to it missed: it is tried again in the next round
 abbrev signal_missed : List Event
-signal_missed = missed (codes "r") ++ goes_to level.L2 ++ Settle level.L3 ∷ started (codes "r") 7 ++ entered level.L3 ((entry (codes "r") (At level.L3 ∷ []) act.Respawn) ∷ [])
+signal_missed = missed (codes "r") ++ goes_to level.L2 ++ Settle level.L3 ∷ started (codes "r") 7
+    ++ entered level.L3 ((entry (codes "r") (At level.L3 ∷ []) act.Respawn) ∷ [])
 
 signal_missed-is_sound : is_sound (opening level.L3) signal_missed ≡ true
 signal_missed-is_sound = refl
@@ -91,7 +99,8 @@ signal_missed-why = refl
 
 -- a child whose id left the table
 abbrev left_the_table : List Event
-left_the_table = termed (codes "r") ++ NewTable [] ∷ Got got.Reload ∷ Settle level.L3 ∷ started (codes "r") 7 ++ entered level.L3 ((entry (codes "r") (At level.L3 ∷ []) act.Respawn) ∷ [])
+left_the_table = termed (codes "r") ++ NewTable [] ∷ Got got.Reload ∷ Settle level.L3 ∷ started (codes "r") 7
+    ++ entered level.L3 ((entry (codes "r") (At level.L3 ∷ []) act.Respawn) ∷ [])
 
 left_the_table-is_sound : is_sound (opening level.L3) left_the_table ≡ true
 left_the_table-is_sound = refl
@@ -113,7 +122,8 @@ left_the_table-why = refl
 
 -- a wait entry runs: the one behind it has to wait
 abbrev pub waited_for : List Event
-waited_for = started (codes "w") 7 ++ entered level.L3 ((entry (codes "w") (At level.L3 ∷ []) act.Wait) ∷ (entry (codes "r") (At level.L3 ∷ []) act.Respawn) ∷ [])
+waited_for = started (codes "w") 7 ++ entered level.L3
+    ((entry (codes "w") (At level.L3 ∷ []) act.Wait) ∷ (entry (codes "r") (At level.L3 ∷ []) act.Respawn) ∷ [])
 
 waited_for-is_sound : is_sound (opening level.L3) waited_for ≡ true
 waited_for-is_sound = refl
@@ -135,7 +145,8 @@ waited_for-why = refl
 
 -- in Boot a bootwait entry runs
 abbrev boot_waits : List Event
-boot_waits = started (codes "b") 7 ++ Enter stage.Boot 5 ∷ Enter stage.Sysinit 5 ∷ NewTable ((entry (codes "b") ([]) act.Bootwait) ∷ (entry (codes "r") (At level.L3 ∷ []) act.Respawn) ∷ []) ∷ []
+boot_waits = started (codes "b") 7 ++ Enter stage.Boot 5 ∷ Enter stage.Sysinit 5
+    ∷ NewTable ((entry (codes "b") ([]) act.Bootwait) ∷ (entry (codes "r") (At level.L3 ∷ []) act.Respawn) ∷ []) ∷ []
 
 boot_waits-is_sound : is_sound (opening level.L3) boot_waits ≡ true
 boot_waits-is_sound = refl
@@ -157,7 +168,8 @@ boot_waits-why = refl
 
 -- a once entry's child of the last level lives on: the entry starts again in this level once it is gone
 abbrev pub in_its_way : List Event
-in_its_way = goes_to level.L2 ++ Settle level.L3 ∷ started (codes "o") 7 ++ entered level.L3 ((entry (codes "o") (At level.L2 ∷ At level.L3 ∷ []) act.Once) ∷ [])
+in_its_way = goes_to level.L2 ++ Settle level.L3 ∷ started (codes "o") 7
+    ++ entered level.L3 ((entry (codes "o") (At level.L2 ∷ At level.L3 ∷ []) act.Once) ∷ [])
 
 in_its_way-is_sound : is_sound (opening level.L3) in_its_way ≡ true
 in_its_way-is_sound = refl
@@ -179,7 +191,9 @@ in_its_way-why = refl
 
 -- two at once, the one that was told of last in front
 abbrev two_awaited : List Event
-two_awaited = termed (codes "r") ++ goes_to level.L2 ++ Settle level.L3 ∷ started (codes "o") 8 ++ started (codes "r") 7 ++ entered level.L3 ((entry (codes "r") (At level.L3 ∷ []) act.Respawn) ∷ (entry (codes "o") (At level.L2 ∷ At level.L3 ∷ []) act.Once) ∷ [])
+two_awaited = termed (codes "r") ++ goes_to level.L2 ++ Settle level.L3 ∷ started (codes "o") 8 ++ started (codes "r") 7
+    ++ entered level.L3 ((entry (codes "r") (At level.L3 ∷ []) act.Respawn)
+    ∷ (entry (codes "o") (At level.L2 ∷ At level.L3 ∷ []) act.Once) ∷ [])
 
 two_awaited-is_sound : is_sound (opening level.L3) two_awaited ≡ true
 two_awaited-is_sound = refl
@@ -223,7 +237,9 @@ order_open-why = refl
 
 -- a settled level: children of respawn, once and boot run, and none is awaited
 abbrev all_kept_up : List Event
-all_kept_up = Settle level.L3 ∷ started (codes "o") 9 ++ started (codes "r") 8 ++ Enter (stage.Run level.L3) 5 ∷ started (codes "b") 7 ++ Enter stage.Boot 5 ∷ Enter stage.Sysinit 5 ∷ NewTable ((entry (codes "b") ([]) act.Boot) ∷ (entry (codes "r") (At level.L3 ∷ []) act.Respawn) ∷ (entry (codes "o") (At level.L3 ∷ []) act.Once) ∷ []) ∷ []
+all_kept_up = Settle level.L3 ∷ started (codes "o") 9 ++ started (codes "r") 8 ++ Enter (stage.Run level.L3) 5
+    ∷ started (codes "b") 7 ++ Enter stage.Boot 5 ∷ Enter stage.Sysinit 5 ∷ NewTable ((entry (codes "b") ([]) act.Boot)
+    ∷ (entry (codes "r") (At level.L3 ∷ []) act.Respawn) ∷ (entry (codes "o") (At level.L3 ∷ []) act.Once) ∷ []) ∷ []
 
 all_kept_up-is_sound : is_sound (opening level.L3) all_kept_up ≡ true
 all_kept_up-is_sound = refl
@@ -267,7 +283,8 @@ no_entries-why = refl
 
 -- a letter's entry runs in a settled level
 abbrev on_call : List Event
-on_call = started (codes "d") 7 ++ Call letter.A ∷ Got (got.Call letter.A) ∷ Settle level.L3 ∷ entered level.L3 ((entry (codes "d") (OnCall letter.A ∷ []) act.Ondemand) ∷ [])
+on_call = started (codes "d") 7 ++ Call letter.A ∷ Got (got.Call letter.A) ∷ Settle level.L3
+    ∷ entered level.L3 ((entry (codes "d") (OnCall letter.A ∷ []) act.Ondemand) ∷ [])
 
 on_call-is_sound : is_sound (opening level.L3) on_call ≡ true
 on_call-is_sound = refl
@@ -289,7 +306,9 @@ on_call-why = refl
 
 -- in a settled level news of the power calls a powerwait entry, and init waits for it: the level stays announced
 abbrev power_waits : List Event
-power_waits = started (codes "p") 8 ++ Power power.Fail ∷ Got (got.Power power.Fail) ∷ Settle level.L3 ∷ started (codes "r") 7 ++ entered level.L3 ((entry (codes "p") (At level.L3 ∷ []) act.Powerwait) ∷ (entry (codes "r") (At level.L3 ∷ []) act.Respawn) ∷ [])
+power_waits = started (codes "p") 8 ++ Power power.Fail ∷ Got (got.Power power.Fail) ∷ Settle level.L3
+    ∷ started (codes "r") 7 ++ entered level.L3
+    ((entry (codes "p") (At level.L3 ∷ []) act.Powerwait) ∷ (entry (codes "r") (At level.L3 ∷ []) act.Respawn) ∷ [])
 
 power_waits-is_sound : is_sound (opening level.L3) power_waits ≡ true
 power_waits-is_sound = refl
@@ -311,7 +330,8 @@ power_waits-why = refl
 
 -- news of the power comes again while the first call's child runs
 abbrev power_again : List Event
-power_again = Power power.Fail ∷ Got (got.Power power.Fail) ∷ started (codes "p") 8 ++ Power power.Fail ∷ Got (got.Power power.Fail) ∷ Settle level.L3 ∷ entered level.L3 ((entry (codes "p") (At level.L3 ∷ []) act.Powerfail) ∷ [])
+power_again = Power power.Fail ∷ Got (got.Power power.Fail) ∷ started (codes "p") 8 ++ Power power.Fail ∷ Got (got.Power
+    power.Fail) ∷ Settle level.L3 ∷ entered level.L3 ((entry (codes "p") (At level.L3 ∷ []) act.Powerfail) ∷ [])
 
 power_again-is_sound : is_sound (opening level.L3) power_again ≡ true
 power_again-is_sound = refl
@@ -333,7 +353,9 @@ power_again-why = refl
 
 -- a held entry counts as kept up
 abbrev held_back : List Event
-held_back = Settle level.S ∷ Hold (codes "r") ∷ failed ++ failed ++ failed ++ failed ++ failed ++ failed ++ failed ++ failed ++ failed ++ failed ++ Enter (stage.Run level.S) 5 ∷ Enter stage.Sysinit 5 ∷ NewTable ((entry (codes "r") (At level.S ∷ []) act.Respawn) ∷ []) ∷ []
+held_back = Settle level.S ∷ Hold (codes "r") ∷ failed ++ failed ++ failed ++ failed ++ failed ++ failed ++ failed
+    ++ failed ++ failed ++ failed ++ Enter (stage.Run level.S) 5 ∷ Enter stage.Sysinit 5
+    ∷ NewTable ((entry (codes "r") (At level.S ∷ []) act.Respawn) ∷ []) ∷ []
 
 held_back-is_sound : is_sound (opening level.S) held_back ≡ true
 held_back-is_sound = refl
@@ -353,10 +375,11 @@ held_back-awaits = refl
 held_back-why : whys held_back ≡ []
 held_back-why = refl
 
--- two wait entries: from the rest at which the first runs, one more is to come, and the level is announced in the second
--- round and not in the first
+-- two wait entries: from the rest at which the first runs, one more is to come, and the level is announced in the
+-- second round and not in the first
 abbrev first_runs : List Event
-first_runs = started (codes "v") 7 ++ entered level.L3 ((entry (codes "v") (At level.L3 ∷ []) act.Wait) ∷ (entry (codes "w") (At level.L3 ∷ []) act.Wait) ∷ (entry (codes "r") (At level.L3 ∷ []) act.Respawn) ∷ [])
+first_runs = started (codes "v") 7 ++ entered level.L3 ((entry (codes "v") (At level.L3 ∷ []) act.Wait)
+    ∷ (entry (codes "w") (At level.L3 ∷ []) act.Wait) ∷ (entry (codes "r") (At level.L3 ∷ []) act.Respawn) ∷ [])
 
 abbrev first_ends : List Event
 first_ends = started (codes "w") 8 ++ ended (codes "v") 7 ++ Nudge ∷ Clock 5 ∷ []

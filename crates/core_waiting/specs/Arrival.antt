@@ -1,7 +1,11 @@
 -- Undisturbed rounds, other rounds between them, and in how many undisturbed ones a level is settled.
-use Rattle.std.specs.Prelude.{ℕ, Bool, true, false, not, ◌&&◌, ◌||◌, ◌==◌, ◌+◌, ◌-◌, ◌++◌, IsTrue, if◌then◌else◌, nat_le, List, [], ◌∷◌, filter, length, max, Option, Some}
+use Rattle.std.specs.Prelude.{ℕ, Bool, true, false, not, ◌&&◌, ◌||◌, ◌==◌, ◌+◌, ◌-◌, ◌++◌, IsTrue, if◌then◌else◌}
+use Rattle.std.specs.Prelude.{nat_le, List, [], ◌∷◌, filter, length, max, Option, Some}
 use Rattle.std.specs.List.{list_any, list_all}
-use Rattle.core_waiting.specs.Words.{same_id, Entry, Level, Stage, wanted_by, starts_of, waited_of, same_level, NewTable, Reaped, Still, NoLook, Nudge, Got, Goal, Event, Child, is_idle, table_of, stage_of, grace_of, time_of, kept_children, is_excluded, spell_hits, is_missed, goal_of, keeps_news}
+use Rattle.core_waiting.specs.Words.{same_id, Entry, Level, Stage, wanted_by, starts_of, waited_of, same_level}
+use Rattle.core_waiting.specs.Words.{NewTable, Reaped, Still, NoLook, Nudge, Got, Goal, Event, Child, is_idle, table_of}
+use Rattle.core_waiting.specs.Words.{stage_of, grace_of, time_of, kept_children, is_excluded, spell_hits, is_missed}
+use Rattle.core_waiting.specs.Words.{goal_of, keeps_news}
 use Rattle.init_words.specs.declared.levels.Level.TheVariants.{S}
 use Rattle.init_words.specs.declared.stages.Stage.TheVariants as stage
 use Rattle.initctl_frame.specs.declared.requests.HeardRequest.TheVariants as got
@@ -61,8 +65,8 @@ is_undisturbed round past = is_unasked round && list_any is_nudge round
     && list_all (λ child. is_found_ended child.id round) (filter (has_to_end past) (kept_children past))
     && list_all (λ child. not (is_missed child (round ++ past))) (kept_children (round ++ past))
 
--- rounds, the newest first, from a rest with no order open: in each nothing is asked of init and no table comes, and each
--- leads to such a rest; else anything may happen in them
+-- rounds, the newest first, from a rest with no order open: in each nothing is asked of init and no table comes, and
+-- each leads to such a rest; else anything may happen in them
 abbrev pub AreUnasked : Goal → List (List Event) → List Event → Type 0
 AreUnasked goal [] past = AtRest goal past × IsTrue (is_idle past)
 AreUnasked goal (round ∷ earlier) past =
@@ -92,8 +96,8 @@ abbrev pub destination : Level → Option Stage → Level
 destination level (Some (stage.Run now)) = now
 destination level _ = level
 
--- the entries that init will wait for in those stages: those wanted when the stage begins and, where news is kept, those
--- that may be called then
+-- the entries that init will wait for in those stages: those wanted when the stage begins and, where news is kept,
+-- those that may be called then
 abbrev pub is_ahead : Bool → Stage → Entry → Bool
 is_ahead news stage e = waited_of e && (starts_of e stage && wanted_by e.act true true news)
 

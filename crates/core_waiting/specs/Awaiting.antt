@@ -1,8 +1,10 @@
--- Whose end init awaits, one after another in record order, each with its number and why: of the trace, and of what init
--- keeps.
-use Rattle.std.specs.Prelude.{Bool, false, if◌then◌else◌, List, filter, filter_map, find, Option, Some, None, is_some, option_and_then}
+-- Whose end init awaits, one after another in record order, each with its number and why: of the trace, and of what
+-- init keeps.
+use Rattle.std.specs.Prelude.{Bool, false, if◌then◌else◌, List, filter, filter_map, find, Option, Some, None, is_some}
+use Rattle.std.specs.Prelude.{option_and_then}
 use Rattle.std.specs.Option.{option_map}
-use Rattle.core_waiting.specs.Words.{Entry, Stage, waited_of, entry_of, Event, Child, is_of, known_children, record_ids, RecordState, CoreState, is_wanted_record}
+use Rattle.core_waiting.specs.Words.{Entry, Stage, waited_of, entry_of, Event, Child, is_of, known_children, record_ids}
+use Rattle.core_waiting.specs.Words.{RecordState, CoreState, is_wanted_record}
 use Rattle.core_records.specs.declared.children.KnownChild.{KnownChild}
 use Rattle.core_waiting.specs.declared.rests.Awaited.{Awaited}
 use Rattle.core_waiting.specs.declared.rests.WhyAwaited.{WhyAwaited}

@@ -1,5 +1,6 @@
 -- What init waits for where no level is announced settled, a line each.
-use Rattle.std.specs.Prelude.{ℕ, ◌-◌, if◌then◌else◌, List, [], ◌∷◌, ◌++◌, codes, decimal, Option, Some, None, is_some, option_and_then}
+use Rattle.std.specs.Prelude.{ℕ, ◌-◌, if◌then◌else◌, List, [], ◌∷◌, ◌++◌, codes, decimal, Option, Some, None, is_some}
+use Rattle.std.specs.Prelude.{option_and_then}
 use Rattle.core_waiting.specs.Words.{Level, Stage, Sysinit, Boot, Run, level_code, RecordState, CoreState}
 use Rattle.core_records.specs.declared.children.Stop.{Stop}
 use Rattle.core_records.specs.declared.children.Stop.TheVariants.{Due, Termed, Killed}

@@ -1,8 +1,13 @@
 -- Where init is at rest, and which children's ends it awaits there, each with why.
-use Rattle.std.specs.Prelude.{◌≡◌, ℕ, Bool, true, false, not, ◌&&◌, ◌||◌, ◌++◌, IsTrue, if◌then◌else◌, List, [], ◌∷◌, filter, length, Option, Some, None, is_some}
+use Rattle.std.specs.Prelude.{◌≡◌, ℕ, Bool, true, false, not, ◌&&◌, ◌||◌, ◌++◌, IsTrue, if◌then◌else◌, List, [], ◌∷◌}
+use Rattle.std.specs.Prelude.{filter, length, Option, Some, None, is_some}
 use Rattle.std.specs.List.{list_any}
 use Rattle.std.specs.Option.{option_map_or}
-use Rattle.core_waiting.specs.Words.{Entry, is_called_by, waited_of, same_id, entry_of, NewTable, Enter, Call, Power, Asked, Goal, Event, Child, is_idle, has_child, open_of, table_of, stage_of, grace_of, time_of, kept_children, is_order, is_wanted, is_excluded, Signal, is_ripe, is_missed, spell_hits, in_run, powers, due, is_announced, wants_look, is_sound}
+use Rattle.core_waiting.specs.Words.{Entry, is_called_by, waited_of, same_id, entry_of, NewTable, Enter, Call, Power}
+use Rattle.core_waiting.specs.Words.{Asked, Goal, Event, Child, is_idle, has_child, open_of, table_of, stage_of}
+use Rattle.core_waiting.specs.Words.{grace_of, time_of, kept_children, is_order, is_wanted, is_excluded, Signal}
+use Rattle.core_waiting.specs.Words.{is_ripe, is_missed, spell_hits, in_run, powers, due, is_announced, wants_look}
+use Rattle.core_waiting.specs.Words.{is_sound}
 use Rattle.init_words.specs.declared.actions.Act.{Act}
 use Rattle.init_words.specs.declared.orders.OrderKind.TheVariants.{Start, Term, Kill}
 use Rattle.core_waiting.specs.declared.rests.WhyAwaited.{WhyAwaited}
@@ -40,7 +45,8 @@ AtRest goal past = due goal past ≡ []
 
 -- at each moment of each sound trace at which init is at rest
 abbrev pub AtEachRest : (List Event → Type 0) → Type 0
-AtEachRest Law = (goal : Goal) (later past : List Event) → IsTrue (is_sound goal (later ++ past)) → AtRest goal past → Law past
+AtEachRest Law = (goal : Goal) (later past : List Event) → IsTrue (is_sound goal (later ++ past)) → AtRest goal past
+    → Law past
 
 -- entries of the action are called by news of the power
 abbrev pub answers_power : Act → Bool
@@ -51,8 +57,8 @@ abbrev pub is_on_power : List Event → Child → Bool
 is_on_power past child =
     option_map_or (λ (e : Entry). answers_power e.act) (entry_of child.id (table_of past)) false
 
--- the signals told to a child in its spell, the newest first, have still to take effect: a TERM whose grace is not over,
--- or a KILL
+-- the signals told to a child in its spell, the newest first, have still to take effect: a TERM whose grace is not
+-- over, or a KILL
 abbrev pub are_in_force : ℕ → ℕ → List Signal → Bool
 are_in_force grace now [] = false
 are_in_force grace now (signal ∷ []) = is_order Term signal.order && not (is_ripe grace now signal)

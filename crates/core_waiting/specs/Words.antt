@@ -6,10 +6,12 @@ pub use Rattle.init_words.specs.declared.stages.Stage.{Stage}
 pub use Rattle.init_words.specs.Actions.{wanted_by, is_called_by}
 pub use Rattle.init_words.specs.Entries.{starts_of, waited_of}
 pub use Rattle.init_words.specs.Levels.{same_level, level_code}
-pub use Rattle.trace_events.specs.declared.happenings.Happening.TheVariants.{NewTable, Reaped, Still, NoLook, Nudge, Got, Enter, Call, Power, Asked}
+pub use Rattle.trace_events.specs.declared.happenings.Happening.TheVariants.{NewTable, Reaped, Still, NoLook, Nudge}
+pub use Rattle.trace_events.specs.declared.happenings.Happening.TheVariants.{Got, Enter, Call, Power, Asked}
 pub use Rattle.trace_events.specs.declared.steps.Goal.{Goal}
 pub use Rattle.trace_events.specs.Event.{Event}
-pub use Rattle.trace_events.specs.Past.{Child, is_idle, table_of, stage_of, grace_of, time_of, kept_children, is_of, known_children, has_child, open_of, is_quiet}
+pub use Rattle.trace_events.specs.Past.{Child, is_idle, table_of, stage_of, grace_of, time_of, kept_children, is_of}
+pub use Rattle.trace_events.specs.Past.{known_children, has_child, open_of, is_quiet}
 pub use Rattle.trace_events.specs.Wanted.{is_excluded, is_order, is_wanted}
 pub use Rattle.trace_events.specs.Spells.{spell_hits, is_missed, Signal, is_ripe}
 pub use Rattle.trace_events.specs.Wishes.{goal_of, keeps_news, in_run, powers, wants_reexec, wants_reread, wish_stands}

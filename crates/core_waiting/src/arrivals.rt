@@ -19,14 +19,16 @@ pub fn law_of_arrival()
     // an undisturbed round, from a rest to another with no order open at both, takes one of the rounds to come, or the
     // level is announced settled at its end
     ensures falls { (goal : Goal) (later round past : List Event)
-        → IsTrue (is_sound goal (later ++ (round ++ past))) → AtRest goal past → IsTrue (is_idle past)
+        → IsTrue (is_sound goal (later ++ (round ++ past))) → AtRest goal past
+        → IsTrue (is_idle past)
         → IsTrue (is_undisturbed round past) → AtRest goal (round ++ past)
         → IsTrue (is_idle (round ++ past)) → is_level_announced (round ++ past) ≡ false
         → rounds_to_come goal (round ++ past) < rounds_to_come goal past }
     // from a rest with no order open, while nothing is asked of init and no table comes, there are never more to come, at
     // rest or not
     ensures stays { (goal : Goal) (later round past : List Event)
-        → IsTrue (is_sound goal (later ++ (round ++ past))) → AtRest goal past → IsTrue (is_idle past)
+        → IsTrue (is_sound goal (later ++ (round ++ past))) → AtRest goal past
+        → IsTrue (is_idle past)
         → IsTrue (is_unasked round)
         → rounds_to_come goal (round ++ past) ≤ rounds_to_come goal past }
     // so after rounds in which nothing is asked, of which as many were undisturbed as were to come at the first rest, the

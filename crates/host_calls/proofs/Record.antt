@@ -13,23 +13,31 @@ told_none None = tt
 told_none (Some all) = (all, refl, refl)
 
 -- an earlier part and a later one: ys behind xs
-told_then : {T : Type 0} (old mid new : Option (List T)) (xs ys : List T) → AreTold old mid xs → AreTold mid new ys → AreTold old new (ys ++ xs)
+told_then : {T : Type 0} (old mid new : Option (List T)) (xs ys : List T) → AreTold old mid xs → AreTold mid new ys
+    → AreTold old new (ys ++ xs)
 told_then old mid None xs ys first second = tt
 told_then old None (Some all) xs ys first second = absurd (none-some second.0 second.1)
 told_then old (Some m) (Some all) xs ys first second =
     let same : m ≡ second.0 = same_Some m second.0 second.1 in
-    let joined : all ≡ (ys ++ xs) ++ first.0 = second.2 ∙ ap (λ l. ys ++ l) (sym same ∙ first.2) ∙ sym (append_assoc ys xs first.0) in
+    let joined : all ≡ (ys ++ xs) ++ first.0 =
+    second.2 ∙ ap (λ l. ys ++ l) (sym same ∙ first.2) ∙ sym (append_assoc ys xs first.0) in
     (first.0, first.1, joined)
 
-pub Since-one : (old new : Option (List HostCall)) (call : HostCall) (P : List HostCall → Type 0) → AddsCall old new call → P (call ∷ []) → Since old new P
+pub Since-one : (old new : Option (List HostCall)) (call : HostCall) (P : List HostCall → Type 0)
+    → AddsCall old new call → P (call ∷ []) → Since old new P
 Since-one old new call P adds p = (call ∷ [], told_one old new call adds, p)
 
 pub Since-none : {T : Type 0} (now : Option (List T)) (P : List T → Type 0) → P [] → Since now now P
 Since-none now P p = ([], told_none now, p)
 
-pub Since-map : {T : Type 0} (old new : Option (List T)) (P Q : List T → Type 0) → Since old new P → ((calls : List T) → P calls → Q calls) → Since old new Q
+pub Since-map : {T : Type 0} (old new : Option (List T)) (P Q : List T → Type 0) → Since old new P
+    → ((calls : List T) → P calls → Q calls) → Since old new Q
 Since-map old new P Q since more = (since.0, since.1, more since.0 since.2)
 
-pub Since-then : {T : Type 0} (old mid new : Option (List T)) (P Q R : List T → Type 0) → Since old mid P → Since mid new Q → ((xs ys : List T) → P xs → Q ys → R (ys ++ xs)) → Since old new R
-Since-then old mid new P Q R first second both =
-    (second.0 ++ first.0, told_then old mid new first.0 second.0 first.1 second.1, both first.0 second.0 first.2 second.2)
+pub Since-then : {T : Type 0} (old mid new : Option (List T)) (P Q R : List T → Type 0) → Since old mid P
+    → Since mid new Q → ((xs ys : List T) → P xs → Q ys → R (ys ++ xs)) → Since old new R
+Since-then old mid new P Q R first second both = (
+  second.0 ++ first.0,
+  told_then old mid new first.0 second.0 first.1 second.1,
+  both first.0 second.0 first.2 second.2,
+)

@@ -1,5 +1,6 @@
 -- The children that a host holds: those that it started and has not reaped (waitpid(2), kill(2)).
-use Rattle.std.specs.Prelude.{◌≡◌, ℕ, Bool, false, not, ◌==◌, IsTrue, List, [], ◌∷◌, ◌++◌, filter, Option, Some, None, IfSome}
+use Rattle.std.specs.Prelude.{◌≡◌, ℕ, Bool, false, not, ◌==◌, IsTrue, List, [], ◌∷◌, ◌++◌, filter, Option, Some, None}
+use Rattle.std.specs.Prelude.{IfSome}
 use Rattle.std.specs.List.{list_any}
 use Rattle.init_words.specs.declared.orders.Answer.TheVariants.{Born, Ended, Alive, Hit}
 use Rattle.init_words.specs.Ids.{same_id}

@@ -1,5 +1,6 @@
 -- The files of a folder that are parts of an inittab.
-use Rattle.std.specs.Prelude.{◌≡◌, ◌⊎◌, ℕ, Bool, ◌&&◌, ◌||◌, ◌==◌, not, List, [], ◌∷◌, ◌++◌, false, codes, string_bytes, Option, Some, ⊤}
+use Rattle.std.specs.Prelude.{◌≡◌, ◌⊎◌, ℕ, Bool, ◌&&◌, ◌||◌, ◌==◌, not, List, [], ◌∷◌, ◌++◌, false, codes, string_bytes}
+use Rattle.std.specs.Prelude.{Option, Some, ⊤}
 use Rattle.std.specs.Char.{is_ascii_alphanumeric}
 use Rattle.std.specs.List.{ends_with, list_all}
 use Rattle.host_files.specs.declared.folders.FolderFault.{FolderFault}

@@ -1,5 +1,6 @@
 -- The children that a host holds, as the entries of its map.
-use Rattle.std.proofs.Common.{◌≡◌, refl, sym, ◌∙◌, ap, subst, ℕ, Bool, true, false, not, ◌||◌, cond, List, [], ◌∷◌, ◌++◌, map, Option, Some, None, is_some, Result, Ok, Err}
+use Rattle.std.proofs.Common.{◌≡◌, refl, sym, ◌∙◌, ap, subst, ℕ, Bool, true, false, not, ◌||◌, cond, List, [], ◌∷◌}
+use Rattle.std.proofs.Common.{◌++◌, map, Option, Some, None, is_some, Result, Ok, Err}
 use Rattle.std.specs.Result.{OnOk}
 use Rattle.std.specs.Map.{lookup, set_value, remove_entry}
 use Rattle.std.proofs.lemmas.Map.Steps.{set_value_same}
@@ -13,7 +14,8 @@ pub found_held : (id : List ℕ) (held : HeldChildren) → is_some (lookup (same
 found_held id [] = refl
 found_held id (e ∷ held) = here (same_id id e.0) (found_held id held)
   where
-    here : (b : Bool) → is_some (lookup (same_id id) held) ≡ holds_child id held → is_some (cond b (Some e.1) (lookup (same_id id) held)) ≡ (b || holds_child id held)
+    here : (b : Bool) → is_some (lookup (same_id id) held) ≡ holds_child id held
+        → is_some (cond b (Some e.1) (lookup (same_id id) held)) ≡ (b || holds_child id held)
     here true later = refl
     here false later = later
 
@@ -29,26 +31,37 @@ without_none : (id : List ℕ) (held : HeldChildren) → lookup (same_id id) hel
 without_none id [] none = refl
 without_none id (e ∷ held) none = here (same_id id e.0) none (without_none id held)
   where
-    here : (b : Bool) → cond b (Some e.1) (lookup (same_id id) held) ≡ None → (lookup (same_id id) held ≡ None → without_child id held ≡ held) → cond (not b) (e ∷ without_child id held) (without_child id held) ≡ e ∷ held
+    here : (b : Bool) → cond b (Some e.1) (lookup (same_id id) held) ≡ None → (lookup (same_id id) held ≡ None
+        → without_child id held ≡ held) → cond (not b) (e ∷ without_child id held) (without_child id held) ≡ e ∷ held
     here true none later = absurd (cc)
     here false none later = ap (λ es. e ∷ es) (later none)
 
 -- the map without the entry of the id, of which no other is left
-pub released : (id : List ℕ) (held : HeldChildren) → lookup (same_id id) (remove_entry (same_id id) held) ≡ None → remove_entry (same_id id) held ≡ without_child id held
+pub released : (id : List ℕ) (held : HeldChildren) → lookup (same_id id) (remove_entry (same_id id) held) ≡ None
+    → remove_entry (same_id id) held ≡ without_child id held
 released id [] gone = refl
 released id (e ∷ held) gone = here (same_id id e.0) refl gone (released id held)
   where
-    here : (b : Bool) → same_id id e.0 ≡ b → lookup (same_id id) (cond b held (e ∷ remove_entry (same_id id) held)) ≡ None → (lookup (same_id id) (remove_entry (same_id id) held) ≡ None → remove_entry (same_id id) held ≡ without_child id held) → cond b held (e ∷ remove_entry (same_id id) held) ≡ cond (not b) (e ∷ without_child id held) (without_child id held)
+    here : (b : Bool) → same_id id e.0 ≡ b → lookup (same_id id) (cond b held (e ∷ remove_entry (same_id id) held))
+        ≡ None → (lookup (same_id id) (remove_entry (same_id id) held) ≡ None
+        → remove_entry (same_id id) held ≡ without_child id held) → cond b held (e ∷ remove_entry (same_id id) held)
+        ≡ cond (not b) (e ∷ without_child id held) (without_child id held)
     here true is gone later = sym (without_none id held gone)
-    here false is gone later = ap (λ es. e ∷ es) (later (subst (λ b. cond b (Some e.1) (lookup (same_id id) (remove_entry (same_id id) held)) ≡ None) is gone))
+    here false is gone later = ap (λ es. e ∷ es)
+        (later (subst (λ b. cond b (Some e.1) (lookup (same_id id) (remove_entry (same_id id) held)) ≡ None) is gone))
 
 -- one that was found is held
-pub held_there : (id : List ℕ) (found : ℕ) (entries held : HeldChildren) → entries ≡ held → Some found ≡ lookup (same_id id) entries → holds_child id held ≡ true
-held_there id found entries held is there = ap (holds_child id) (sym is) ∙ sym (found_held id entries) ∙ ap is_some (sym there)
+pub held_there : (id : List ℕ) (found : ℕ) (entries held : HeldChildren) → entries ≡ held
+    → Some found ≡ lookup (same_id id) entries → holds_child id held ≡ true
+held_there id found entries held is there =
+    ap (holds_child id) (sym is) ∙ sym (found_held id entries) ∙ ap is_some (sym there)
 
 -- a write that leaves its number changes nothing
-pub written_same : {S : Type 0} (id : List ℕ) (found left : ℕ) (m n : IndexMap (List ℕ) ℕ S) (held : HeldChildren) → m.entries ≡ held → Some found ≡ lookup (same_id id) m.entries → left ≡ found → WritesThrough same_id (same_id id) m left n → n.entries ≡ held
-written_same id found left m n held is there same wrote = wrote.0 ∙ ap (set_value (same_id id) m.entries) same ∙ set_value_same (same_id id) m.entries found (sym there) ∙ is
+pub written_same : {S : Type 0} (id : List ℕ) (found left : ℕ) (m n : IndexMap (List ℕ) ℕ S) (held : HeldChildren)
+    → m.entries ≡ held → Some found ≡ lookup (same_id id) m.entries → left ≡ found
+    → WritesThrough same_id (same_id id) m left n → n.entries ≡ held
+written_same id found left m n held is there same wrote =
+    wrote.0 ∙ ap (set_value (same_id id) m.entries) same ∙ set_value_same (same_id id) m.entries found (sym there) ∙ is
 
 -- nor do such writes to all
 pub all_same : (entries : HeldChildren) → map (λ (e : List ℕ × ℕ). (e.0, e.1)) entries ≡ entries
@@ -56,8 +69,11 @@ all_same [] = refl
 all_same (e ∷ entries) = ap (λ es. e ∷ es) (all_same entries)
 
 -- a child of an id that has none is held last
-pub inserted_last : {S : Type 0} (id : List ℕ) (number : ℕ) (m : IndexMap (List ℕ) ℕ S) (held now : HeldChildren) → m.entries ≡ held → holds_child id held ≡ false → now ≡ insert_entry same_id m.entries id number → now ≡ held ++ (id, number) ∷ []
-inserted_last id number m held now is none inserted = inserted ∙ insert_entry-new same_id m id number (none_found id m.entries (ap (holds_child id) is ∙ none)) ∙ ap (λ es. es ++ (id, number) ∷ []) is
+pub inserted_last : {S : Type 0} (id : List ℕ) (number : ℕ) (m : IndexMap (List ℕ) ℕ S) (held now : HeldChildren)
+    → m.entries ≡ held → holds_child id held ≡ false → now ≡ insert_entry same_id m.entries id number
+    → now ≡ held ++ (id, number) ∷ []
+inserted_last id number m held now is none inserted = inserted ∙ insert_entry-new same_id m id number
+    (none_found id m.entries (ap (holds_child id) is ∙ none)) ∙ ap (λ es. es ++ (id, number) ∷ []) is
 
 -- what holds in any case holds where there is no error
 pub on_ok : {T E P : Type 0} (outcome : Result T E) → P → OnOk outcome P

@@ -1,5 +1,8 @@
 -- What is so up to each call: of one call, of two that carry out one step, and of two parts.
-use Rattle.host_trace.proofs.Words.{arith, ◌≡◌, refl, sym, ◌∙◌, ap, subst, ◌⊎◌, inl, inr, Bool, true, false, List, [], ◌∷◌, ◌++◌, drop, reverse, append_assoc, false≢true, false_from_ne_true, reverse-append, Goal, Event, LogState, HostCall, Point, point_after, Leads, Takes, Took, UpTo, Went, WentWell, are_seconds_short, past_of, Grows}
+use Rattle.host_trace.proofs.Words.{arith, ◌≡◌, refl, sym, ◌∙◌, ap, subst, ◌⊎◌, inl, inr, Bool, true, false, List, []}
+use Rattle.host_trace.proofs.Words.{◌∷◌, ◌++◌, drop, reverse, append_assoc, false≢true, false_from_ne_true}
+use Rattle.host_trace.proofs.Words.{reverse-append, Goal, Event, LogState, HostCall, Point, point_after, Leads, Takes}
+use Rattle.host_trace.proofs.Words.{Took, UpTo, Went, WentWell, are_seconds_short, past_of, Grows}
 use Rattle.std.proofs.lemmas.List.{reverse-reverse}
 use Rattle.host_trace.specs.Fronts.{Began, Fronts, says_of}
 use Rattle.host_trace.proofs.Leading.{UpTo-map, UpTo-then, well_then}
@@ -10,7 +13,8 @@ use Rattle.host_trace.proofs.Taking.{takes-then}
 
 -- a cut of two parts is one of the earlier part, or of the later one
 cut_in : (later earlier ys xs : List HostCall) (next : HostCall) → ys ++ xs ≡ later ++ next ∷ earlier
-    → ((front : List HostCall) × (xs ≡ front ++ next ∷ earlier)) ⊎ ((front : List HostCall) × (ys ≡ later ++ next ∷ front) × (earlier ≡ front ++ xs))
+    → ((front : List HostCall) × (xs ≡ front ++ next ∷ earlier))
+    ⊎ ((front : List HostCall) × (ys ≡ later ++ next ∷ front) × (earlier ≡ front ++ xs))
 cut_in later earlier [] xs next is = inl (later, is)
 cut_in [] earlier (y ∷ ys) xs next is = grind arith
 cut_in (l ∷ later) earlier (y ∷ ys) xs next is = grind (arith, cut_in later earlier ys xs next)
@@ -27,15 +31,19 @@ one_front (l ∷ later) earlier one next call is = no_front later earlier next c
 -- ---- what a log began with
 
 -- it has grown since
-takes_grown : (old mid new : LogState) (before came more : List Event) → Takes old mid before came more → Grows mid new → (all : List Event) × Takes old new before came all
+takes_grown : (old mid new : LogState) (before came more : List Event) → Takes old mid before came more → Grows mid new
+    → (all : List Event) × Takes old new before came all
 takes_grown old mid new before came more takes grows = (
   reverse last ++ more,
   record {
     took = takes.took;
     missed = takes.missed;
     parts = takes.parts;
-    told = subst new.taken (append_assoc before (reverse (more ++ takes.took)) last ∙ ap (λ l. before ++ l) joined) grown.1;
-    whole = λ works. takes.whole (false_from_ne_true mid.failed (λ failed. false≢true (sym works ∙ grows.stays failed)));
+    told =
+        subst new.taken
+        (append_assoc before (reverse (more ++ takes.took)) last ∙ ap (λ l. before ++ l) joined) grown.1;
+    whole =
+        λ works. takes.whole (false_from_ne_true mid.failed (λ failed. false≢true (sym works ∙ grows.stays failed)));
     ended = ends mid.failed refl;
     nothing = λ failed. (λ i. (reverse (grown.2 (takes.stays failed) i) ++ more) ++ takes.took) ∙ takes.nothing failed;
     stays = λ failed. grows.stays (takes.stays failed);
@@ -49,13 +57,16 @@ takes_grown old mid new before came more takes grows = (
     last = grown.0
 
     joined : reverse (more ++ takes.took) ++ last ≡ reverse ((reverse last ++ more) ++ takes.took)
-    joined = ap (λ l. reverse (more ++ takes.took) ++ l) (sym (reverse-reverse last)) ∙ sym (reverse-append (reverse last) (more ++ takes.took)) ∙ ap reverse (sym (append_assoc (reverse last) more takes.took))
+    joined = ap (λ l. reverse (more ++ takes.took) ++ l) (sym (reverse-reverse last)) ∙ sym (reverse-append
+        (reverse last) (more ++ takes.took)) ∙ ap reverse (sym (append_assoc (reverse last) more takes.took))
 
     ends : (b : Bool) → mid.failed ≡ b → (takes.missed ≡ []) ⊎ (reverse last ++ more ≡ [])
-    ends true failed = elim takes.ended [ inl every ↦ inl every | inr none ↦ inr (λ i. reverse (grown.2 failed i) ++ none i) ]
+    ends true failed =
+        elim takes.ended [ inl every ↦ inl every | inr none ↦ inr (λ i. reverse (grown.2 failed i) ++ none i) ]
     ends false works = inl (takes.whole works)
 
-Began-grown : (old mid new : LogState) (past so_far : List Event) → Began old mid past so_far → Grows mid new → Began old new past so_far
+Began-grown : (old mid new : LogState) (past so_far : List Event) → Began old mid past so_far → Grows mid new
+    → Began old new past so_far
 Began-grown old mid new past so_far began grows = record {
   came = began.came;
   grown = began.grown;
@@ -64,7 +75,8 @@ Began-grown old mid new past so_far began grows = record {
       takes_grown old mid new before began.came more takes grows;
 }
 
-pub Began-then : (old mid new : LogState) (past between so_far : List Event) → Took old mid past between → Began mid new between so_far → Began old new past so_far
+pub Began-then : (old mid new : LogState) (past between so_far : List Event) → Took old mid past between
+    → Began mid new between so_far → Began old new past so_far
 Began-then old mid new past between so_far first second = record {
   came = second.came ++ first.came;
   grown = second.grown ∙ ap (λ l. second.came ++ l) first.grown ∙ sym (append_assoc second.came first.came past);
@@ -77,10 +89,12 @@ Began-then old mid new past between so_far first second = record {
 -- ---- up to some calls
 
 abbrev SoFar : LogState → LogState → Goal → Point → List HostCall → Type 0
-SoFar old new goal p calls = WentWell goal p calls × (are_seconds_short goal p.past ≡ true → Began old new p.past (point_after calls p).past)
+SoFar old new goal p calls = WentWell goal p calls
+    × (are_seconds_short goal p.past ≡ true → Began old new p.past (point_after calls p).past)
 
 -- all of them, and the log has grown since
-leads_so_far : (f₀ f₁ : Goal → Point → Type 0) (old mid new : LogState) (calls : List HostCall) → ((goal : Goal) (p : Point) → f₀ goal p → Grows mid new) → Leads f₀ f₁ old mid calls → UpTo f₀ (SoFar old new) calls
+leads_so_far : (f₀ f₁ : Goal → Point → Type 0) (old mid new : LogState) (calls : List HostCall) → ((goal : Goal)
+    (p : Point) → f₀ goal p → Grows mid new) → Leads f₀ f₁ old mid calls → UpTo f₀ (SoFar old new) calls
 leads_so_far f₀ f₁ old mid new calls grows = UpTo-map f₀ f₀ (Went past_of f₁ old mid) (SoFar old new) calls
     (λ goal p sound fits. (
       fits,
@@ -88,7 +102,9 @@ leads_so_far f₀ f₁ old mid new calls grows = UpTo-map f₀ f₀ (Went past_o
         went.well,
         λ short.
             let took : Took old mid p.past (point_after calls p).past = went.log short in
-            Began-grown old mid new p.past (point_after calls p).past (record { came = took.came; grown = took.grown; log = λ before taken. ([], took.log before taken) }) (grows goal p fits),
+            Began-grown old mid new p.past (point_after calls p).past
+            (record { came = took.came; grown = took.grown; log = λ before taken. ([], took.log before taken) })
+            (grows goal p fits),
       ),
     ))
 
@@ -97,33 +113,49 @@ leads_so_far f₀ f₁ old mid new calls grows = UpTo-map f₀ f₀ (Went past_o
 pub fronts_none : (fitted : Goal → Point → Type 0) (old new : LogState) → Fronts past_of fitted old new []
 fronts_none fitted old new later earlier next call is apart = absurd (no_front later earlier next call is)
 
-pub fronts_one : (fitted : Goal → Point → Type 0) (old new : LogState) (one : HostCall) → Fronts past_of fitted old new (one ∷ [])
+pub fronts_one : (fitted : Goal → Point → Type 0) (old new : LogState) (one : HostCall)
+    → Fronts past_of fitted old new (one ∷ [])
 fronts_one fitted old new one later earlier next call is apart = absurd (one_front later earlier one next call is)
 
 -- two calls, of which the second says what came of the first
-pub fronts_two : (fitted : Goal → Point → Type 0) (old new : LogState) (one two : HostCall) → says_of two one ≡ true → Fronts past_of fitted old new (two ∷ one ∷ [])
+pub fronts_two : (fitted : Goal → Point → Type 0) (old new : LogState) (one two : HostCall) → says_of two one ≡ true
+    → Fronts past_of fitted old new (two ∷ one ∷ [])
 fronts_two fitted old new one two says [] earlier next call is apart =
     let same_two : two ≡ next = cc in
     let same_one : one ≡ call = cc in
     absurd (false≢true (sym apart ∙ (λ i. says_of (sym same_two i) (sym same_one i)) ∙ says))
-fronts_two fitted old new one two says (l ∷ later) earlier next call is apart = absurd (one_front later earlier one next call (ap (drop 1) is))
+fronts_two fitted old new one two says (l ∷ later) earlier next call is apart =
+    absurd (one_front later earlier one next call (ap (drop 1) is))
 
 -- ys behind xs
-pub fronts_then : (f₀ f₁ : Goal → Point → Type 0) (old mid new : LogState) (xs ys : List HostCall) → Leads f₀ f₁ old mid xs → Fronts past_of f₀ old mid xs → Fronts past_of f₁ mid new ys → ((goal : Goal) (p : Point) → f₀ goal p → Grows mid new) → Fronts past_of f₀ old new (ys ++ xs)
+pub fronts_then : (f₀ f₁ : Goal → Point → Type 0) (old mid new : LogState) (xs ys : List HostCall)
+    → Leads f₀ f₁ old mid xs → Fronts past_of f₀ old mid xs → Fronts past_of f₁ mid new ys
+    → ((goal : Goal) (p : Point) → f₀ goal p → Grows mid new) → Fronts past_of f₀ old new (ys ++ xs)
 fronts_then f₀ f₁ old mid new xs ys leads first second grows later earlier next call is apart =
     elim (cut_in later (call ∷ earlier) ys xs next is) [
       | inl (front, at) ↦ UpTo-map f₀ f₀ (SoFar old mid) (SoFar old new) (call ∷ earlier)
-          (λ goal p sound fits. (fits, λ so_far. (so_far.0, λ short. Began-grown old mid new p.past (point_after (call ∷ earlier) p).past (so_far.1 short) (grows goal p fits))))
+          (λ goal p sound fits. (
+            fits,
+            λ so_far. (
+              so_far.0,
+              λ short. Began-grown old mid new p.past (point_after (call ∷ earlier) p).past (so_far.1 short)
+                  (grows goal p fits),
+            ),
+          ))
           (first front earlier next call at apart)
       | inr (front, at, before) ↦ by front at before
     ]
   where
-    by : (front : List HostCall) → ys ≡ later ++ next ∷ front → call ∷ earlier ≡ front ++ xs → UpTo f₀ (SoFar old new) (call ∷ earlier)
+    by : (front : List HostCall) → ys ≡ later ++ next ∷ front → call ∷ earlier ≡ front ++ xs
+        → UpTo f₀ (SoFar old new) (call ∷ earlier)
     by [] at before = subst (UpTo f₀ (SoFar old new)) (sym before) (leads_so_far f₀ f₁ old mid new xs grows leads)
     by (b ∷ front) at before =
         let same : call ≡ b = cc in
-        subst (UpTo f₀ (SoFar old new)) (sym before) (UpTo-then f₀ f₁ old mid (SoFar mid new) (SoFar old new) xs (b ∷ front) leads (second later front next b at (ap (says_of next) (sym same) ∙ apart))
+        subst (UpTo f₀ (SoFar old new)) (sym before) (UpTo-then f₀ f₁ old mid (SoFar mid new) (SoFar old new) xs
+        (b ∷ front) leads (second later front next b at (ap (says_of next) (sym same) ∙ apart))
         (λ goal p joined went so_far. (
           well_then goal p xs (b ∷ front) went.well so_far.0,
-          λ short. subst (λ (q : Point). Began old new p.past q.past) (sym joined) (Began-then old mid new p.past (point_after xs p).past (point_after (b ∷ front) (point_after xs p)).past (went.log short) (so_far.1 (short_then goal xs p went.well.sound short))),
+          λ short. subst (λ (q : Point). Began old new p.past q.past) (sym joined)
+              (Began-then old mid new p.past (point_after xs p).past (point_after (b ∷ front) (point_after xs p)).past
+              (went.log short) (so_far.1 (short_then goal xs p went.well.sound short))),
         )))

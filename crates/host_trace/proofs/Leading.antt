@@ -1,5 +1,11 @@
 -- A part of init's work: of one call, of none, and of two parts; and that of what was possible the earlier part was.
-use Rattle.host_trace.proofs.Words.{arith, ◌≡◌, refl, sym, ◌∙◌, ap, subst, ℕ, Bool, true, false, ◌+◌, List, [], ◌∷◌, ◌++◌, Option, Ok, Err, list_all, and_parts, Answer, OrderKind, Goal, Event, is_sound, Start, Signal, Late, Clock, TakeBytes, ReadTables, Carry, Announce, Pause, Reply, HostCall, TextRead, LogState, Point, answered, ordered, come, nudged_if, byte_after, bytes_after, handed_if, announced, after, point_after, is_in_place, AreTexts, Counted, IsStateText, meets, is_allowed, are_carried, gone_on, past_of, Took, UpTo, Went, WentWell, has_trace, Leads, Heard, Hears, takes_none}
+use Rattle.host_trace.proofs.Words.{arith, ◌≡◌, refl, sym, ◌∙◌, ap, subst, ℕ, Bool, true, false, ◌+◌, List, [], ◌∷◌}
+use Rattle.host_trace.proofs.Words.{◌++◌, Option, Ok, Err, list_all, and_parts, Answer, OrderKind, Goal, Event}
+use Rattle.host_trace.proofs.Words.{is_sound, Start, Signal, Late, Clock, TakeBytes, ReadTables, Carry, Announce, Pause}
+use Rattle.host_trace.proofs.Words.{Reply, HostCall, TextRead, LogState, Point, answered, ordered, come, nudged_if}
+use Rattle.host_trace.proofs.Words.{byte_after, bytes_after, handed_if, announced, after, point_after, is_in_place}
+use Rattle.host_trace.proofs.Words.{AreTexts, Counted, IsStateText, meets, is_allowed, are_carried, gone_on, past_of}
+use Rattle.host_trace.proofs.Words.{Took, UpTo, Went, WentWell, has_trace, Leads, Heard, Hears, takes_none}
 use Rattle.trace_events.specs.declared.happenings.Handed.TheVariants as handed
 use Rattle.trace_events.specs.declared.happenings.Happening.TheVariants as past
 use Rattle.trace_laws.proofs.Laws.{lawful_unbroken, sound_lawful}
@@ -10,40 +16,51 @@ use Rattle.host_trace.proofs.Taking.{Logs-none, Logs-then, Took-none, Took-then}
 
 module _ (goal : Goal) where
   -- what came before something that was possible was possible
-  pub allowed_rest : (happening : Event) (so_far : List Event) → is_allowed goal (happening ∷ so_far) ≡ true → is_allowed goal so_far ≡ true
+  pub allowed_rest : (happening : Event) (so_far : List Event) → is_allowed goal (happening ∷ so_far) ≡ true
+      → is_allowed goal so_far ≡ true
   allowed_rest happening so_far h = (and_parts (meets goal happening so_far) (is_allowed goal so_far) h).1
 
-  pub allowed_first : (happening : Event) (so_far : List Event) → is_allowed goal (happening ∷ so_far) ≡ true → meets goal happening so_far ≡ true
+  pub allowed_first : (happening : Event) (so_far : List Event) → is_allowed goal (happening ∷ so_far) ≡ true
+      → meets goal happening so_far ≡ true
   allowed_first happening so_far h = (and_parts (meets goal happening so_far) (is_allowed goal so_far) h).0
 
-  pub answered_allowed : (id : List ℕ) (given : Answer) (so_far : List Event) → is_allowed goal (answered id given so_far) ≡ true → is_allowed goal so_far ≡ true
+  pub answered_allowed : (id : List ℕ) (given : Answer) (so_far : List Event)
+      → is_allowed goal (answered id given so_far) ≡ true → is_allowed goal so_far ≡ true
   answered_allowed id given so_far h = grind arith
 
-  pub ordered_allowed : (id : List ℕ) (ask : OrderKind) (reply : Reply) (so_far : List Event) → is_allowed goal (ordered id ask reply so_far) ≡ true → is_allowed goal so_far ≡ true
+  pub ordered_allowed : (id : List ℕ) (ask : OrderKind) (reply : Reply) (so_far : List Event)
+      → is_allowed goal (ordered id ask reply so_far) ≡ true → is_allowed goal so_far ≡ true
   ordered_allowed id ask reply so_far h = grind arith
 
-  pub nudged_allowed : (b : Bool) (so_far : List Event) → is_allowed goal (nudged_if b so_far) ≡ true → is_allowed goal so_far ≡ true
+  pub nudged_allowed : (b : Bool) (so_far : List Event) → is_allowed goal (nudged_if b so_far) ≡ true
+      → is_allowed goal so_far ≡ true
   nudged_allowed true so_far h = allowed_rest past.Nudge so_far h
   nudged_allowed false so_far h = h
 
-  pub come_allowed : (late : Option (List ℕ × Answer)) (so_far : List Event) → is_allowed goal (come late so_far) ≡ true → is_allowed goal so_far ≡ true
+  pub come_allowed : (late : Option (List ℕ × Answer)) (so_far : List Event) → is_allowed goal (come late so_far) ≡ true
+      → is_allowed goal so_far ≡ true
   come_allowed late so_far h = grind arith
 
-  byte_allowed : (byte : ℕ) (p : Point) → is_allowed goal (byte_after byte p).past ≡ true → is_allowed goal p.past ≡ true
+  byte_allowed : (byte : ℕ) (p : Point) → is_allowed goal (byte_after byte p).past ≡ true
+      → is_allowed goal p.past ≡ true
   byte_allowed byte p h = grind arith
 
-  pub bytes_allowed : (bytes : List ℕ) (p : Point) → is_allowed goal (bytes_after bytes p).past ≡ true → is_allowed goal p.past ≡ true
+  pub bytes_allowed : (bytes : List ℕ) (p : Point) → is_allowed goal (bytes_after bytes p).past ≡ true
+      → is_allowed goal p.past ≡ true
   bytes_allowed [] p h = h
   bytes_allowed (byte ∷ bytes) p h = byte_allowed byte p (bytes_allowed bytes (byte_after byte p) h)
 
-  handed_allowed : (b : Bool) (so_far : List Event) → is_allowed goal (handed_if b so_far) ≡ true → is_allowed goal so_far ≡ true
+  handed_allowed : (b : Bool) (so_far : List Event) → is_allowed goal (handed_if b so_far) ≡ true
+      → is_allowed goal so_far ≡ true
   handed_allowed true so_far h = allowed_rest (past.Handed handed.Whole) so_far h
   handed_allowed false so_far h = h
 
-  announced_allowed : (happening : Event) (so_far : List Event) → is_allowed goal (announced happening so_far) ≡ true → is_allowed goal so_far ≡ true
+  announced_allowed : (happening : Event) (so_far : List Event) → is_allowed goal (announced happening so_far) ≡ true
+      → is_allowed goal so_far ≡ true
   announced_allowed happening so_far h = grind arith
 
-  pub after_allowed : (call : HostCall) (p : Point) → is_allowed goal (after call p).past ≡ true → is_allowed goal p.past ≡ true
+  pub after_allowed : (call : HostCall) (p : Point) → is_allowed goal (after call p).past ≡ true
+      → is_allowed goal p.past ≡ true
   after_allowed call p h =
       grind (
         arith,
@@ -56,40 +73,54 @@ module _ (goal : Goal) where
         announced_allowed,
       )
 
-  pub calls_allowed : (calls : List HostCall) (p : Point) → is_allowed goal (point_after calls p).past ≡ true → is_allowed goal p.past ≡ true
+  pub calls_allowed : (calls : List HostCall) (p : Point) → is_allowed goal (point_after calls p).past ≡ true
+      → is_allowed goal p.past ≡ true
   calls_allowed [] p h = h
   calls_allowed (call ∷ calls) p h = calls_allowed calls p (after_allowed call (point_after calls p) h)
 
 -- of a sound trace no happening breaks a law
-pub went_well : (goal : Goal) (p : Point) (calls : List HostCall) → has_trace goal calls p ≡ true → is_sound goal (point_after calls p).past ≡ true → WentWell goal p calls
-went_well goal p calls in_place sound = record { in_place = in_place; sound = sound; unbroken = lawful_unbroken (point_after calls p).past (sound_lawful goal (point_after calls p).past sound) }
+pub went_well : (goal : Goal) (p : Point) (calls : List HostCall) → has_trace goal calls p ≡ true
+    → is_sound goal (point_after calls p).past ≡ true → WentWell goal p calls
+went_well goal p calls in_place sound = record {
+  in_place = in_place;
+  sound = sound;
+  unbroken = lawful_unbroken (point_after calls p).past (sound_lawful goal (point_after calls p).past sound);
+}
 
 -- a call that comes to what was heard, in its place
-pub Leads-heard : (fitted fit : Goal → Point → Type 0) (old new : LogState) (call : HostCall) (more : List Event → List Event) → Hears fitted fit old new more → ((p : Point) → after call p ≡ gone_on more p) → ((goal : Goal) (p : Point) → is_sound goal p.past ≡ true → fitted goal p → is_in_place goal call [] p.past ≡ true) → ((goal : Goal) (p : Point) → AreTexts goal (call ∷ []) p) → Leads fitted fit old new (call ∷ [])
+pub Leads-heard : (fitted fit : Goal → Point → Type 0) (old new : LogState) (call : HostCall)
+    (more : List Event → List Event) → Hears fitted fit old new more → ((p : Point) → after call p ≡ gone_on more p)
+    → ((goal : Goal) (p : Point) → is_sound goal p.past ≡ true → fitted goal p → is_in_place goal call [] p.past ≡ true)
+    → ((goal : Goal) (p : Point) → AreTexts goal (call ∷ []) p) → Leads fitted fit old new (call ∷ [])
 Leads-heard fitted fit old new call more hears comes position texts goal p sound fits allowed = (
   texts goal p,
   λ carried.
-      let heard : Heard fit old new goal p (gone_on more p) = hears goal p sound fits (ap (λ (q : Point). is_allowed goal q.past) (sym (comes p)) ∙ allowed) in
+      let heard : Heard fit old new goal p (gone_on more p) =
+      hears goal p sound fits (ap (λ (q : Point). is_allowed goal q.past) (sym (comes p)) ∙ allowed) in
       let behind : Heard fit old new goal p (after call p) = subst (Heard fit old new goal p) (sym (comes p)) heard in
       record {
-        well = went_well goal p (call ∷ []) (has_trace-one goal call p (ap (λ (q : Point). q.generation) (comes p)) (position goal p sound fits)) behind.sound;
+        well = went_well goal p (call ∷ []) (has_trace-one goal call p (ap (λ (q : Point). q.generation) (comes p))
+            (position goal p sound fits)) behind.sound;
         fits = behind.fits;
         log = logged goal (call ∷ []) p old new behind.sound behind.log;
       },
 )
 
 -- what was carried came back in each of two parts
-pub carried_parts : (ys xs : List HostCall) (p : Point) → are_carried (ys ++ xs) p ≡ true → (are_carried ys (point_after xs p) ≡ true) × (are_carried xs p ≡ true)
+pub carried_parts : (ys xs : List HostCall) (p : Point) → are_carried (ys ++ xs) p ≡ true
+    → (are_carried ys (point_after xs p) ≡ true) × (are_carried xs p ≡ true)
 carried_parts [] xs p h = grind (arith, point_after-append)
 carried_parts (happening ∷ ys) xs p h = grind (arith, carried_parts ys xs p, point_after-append)
 
 -- each of two parts carried state texts
-pub texts_then : (goal : Goal) (ys xs : List HostCall) (p : Point) → (are_carried xs p ≡ true → AreTexts goal ys (point_after xs p)) → AreTexts goal xs p → AreTexts goal (ys ++ xs) p
+pub texts_then : (goal : Goal) (ys xs : List HostCall) (p : Point)
+    → (are_carried xs p ≡ true → AreTexts goal ys (point_after xs p)) → AreTexts goal xs p → AreTexts goal (ys ++ xs) p
 texts_then goal [] xs p later earlier = earlier
 texts_then goal (Carry text back ∷ ys) xs p later earlier = (
   λ carried.
       let parts = carried_parts ys xs p carried in
-      subst (λ (q : Point). IsStateText goal q.past (q.generation + 1) text) (sym (point_after-append ys xs p)) ((later parts.1).0 parts.0),
+      subst (λ (q : Point). IsStateText goal q.past (q.generation + 1) text) (sym (point_after-append ys xs p))
+      ((later parts.1).0 parts.0),
   texts_then goal ys xs p (λ carried. (later carried).1) earlier,
 )
 texts_then goal (Start id command reply ∷ ys) xs p later earlier = texts_then goal ys xs p later earlier
@@ -103,51 +134,72 @@ texts_then goal (Announce happening ∷ ys) xs p later earlier = texts_then goal
 texts_then goal (Pause ∷ ys) xs p later earlier = texts_then goal ys xs p later earlier
 
 pub Leads-none : (fit : Goal → Point → Type 0) (log : LogState) → Leads fit fit log log []
-Leads-none fit log goal p sound fits allowed = (tt, λ carried. record { well = went_well goal p [] refl sound; fits = fits; log = λ short. Took-none log p.past })
+Leads-none fit log goal p sound fits allowed =
+    (tt, λ carried. record { well = went_well goal p [] refl sound; fits = fits; log = λ short. Took-none log p.past })
 
 -- what is so up to some calls, where less is fitted, or of what follows
-pub UpTo-map : (f g : Goal → Point → Type 0) (P Q : Goal → Point → List HostCall → Type 0) (calls : List HostCall) → ((goal : Goal) (p : Point) → is_sound goal p.past ≡ true → g goal p → f goal p × (P goal p calls → Q goal p calls)) → UpTo f P calls → UpTo g Q calls
+pub UpTo-map : (f g : Goal → Point → Type 0) (P Q : Goal → Point → List HostCall → Type 0) (calls : List HostCall)
+    → ((goal : Goal) (p : Point) → is_sound goal p.past ≡ true → g goal p
+    → f goal p × (P goal p calls → Q goal p calls)) → UpTo f P calls → UpTo g Q calls
 UpTo-map f g P Q calls more up goal p sound fits allowed =
     let (before, behind) = more goal p sound fits in
     let led = up goal p sound before allowed in
     (led.0, λ carried. behind (led.1 carried))
 
 -- or behind others
-pub UpTo-then : (f₀ f₁ : Goal → Point → Type 0) (old mid : LogState) (Q R : Goal → Point → List HostCall → Type 0) (xs ys : List HostCall) → Leads f₀ f₁ old mid xs → UpTo f₁ Q ys
-    → ((goal : Goal) (p : Point) → point_after (ys ++ xs) p ≡ point_after ys (point_after xs p) → Went past_of f₁ old mid goal p xs → Q goal (point_after xs p) ys → R goal p (ys ++ xs)) → UpTo f₀ R (ys ++ xs)
+pub UpTo-then : (f₀ f₁ : Goal → Point → Type 0) (old mid : LogState) (Q R : Goal → Point → List HostCall → Type 0)
+    (xs ys : List HostCall) → Leads f₀ f₁ old mid xs → UpTo f₁ Q ys
+    → ((goal : Goal) (p : Point) → point_after (ys ++ xs) p ≡ point_after ys (point_after xs p)
+    → Went past_of f₁ old mid goal p xs → Q goal (point_after xs p) ys → R goal p (ys ++ xs)) → UpTo f₀ R (ys ++ xs)
 UpTo-then f₀ f₁ old mid Q R xs ys one two both goal p sound fits allowed =
     let joined : point_after (ys ++ xs) p ≡ point_after ys (point_after xs p) = point_after-append ys xs p in
-    let later : is_allowed goal (point_after ys (point_after xs p)).past ≡ true = ap (λ (q : Point). is_allowed goal q.past) (sym joined) ∙ allowed in
+    let later : is_allowed goal (point_after ys (point_after xs p)).past ≡ true =
+    ap (λ (q : Point). is_allowed goal q.past) (sym joined) ∙ allowed in
     let earlier = one goal p sound fits (calls_allowed goal ys (point_after xs p) later) in
-    let behind : are_carried xs p ≡ true → AreTexts goal ys (point_after xs p) × (are_carried ys (point_after xs p) ≡ true → Q goal (point_after xs p) ys) = λ carried. two goal (point_after xs p) (earlier.1 carried).well.sound (earlier.1 carried).fits later in (
+    let behind : are_carried xs p ≡ true
+    → AreTexts goal ys (point_after xs p) × (are_carried ys (point_after xs p) ≡ true → Q goal (point_after xs p) ys) =
+    λ carried. two goal (point_after xs p) (earlier.1 carried).well.sound (earlier.1 carried).fits later in (
       texts_then goal ys xs p (λ carried. (behind carried).0) earlier.0,
       λ carried.
           let parts = carried_parts ys xs p carried in
           both goal p joined (earlier.1 parts.1) ((behind parts.1).1 parts.0),
     )
 
-pub well_then : (goal : Goal) (p : Point) (xs ys : List HostCall) → WentWell goal p xs → WentWell goal (point_after xs p) ys → WentWell goal p (ys ++ xs)
-well_then goal p xs ys first second = went_well goal p (ys ++ xs) (has_trace-append goal ys xs p second.in_place first.in_place) (ap (λ (q : Point). is_sound goal q.past) (point_after-append ys xs p) ∙ second.sound)
+pub well_then : (goal : Goal) (p : Point) (xs ys : List HostCall) → WentWell goal p xs
+    → WentWell goal (point_after xs p) ys → WentWell goal p (ys ++ xs)
+well_then goal p xs ys first second = went_well goal p (ys ++ xs) (has_trace-append goal ys xs p second.in_place
+    first.in_place) (ap (λ (q : Point). is_sound goal q.past) (point_after-append ys xs p) ∙ second.sound)
 
 -- ys behind xs
-pub Leads-then : (f₀ f₁ f₂ : Goal → Point → Type 0) (l₀ l₁ l₂ : LogState) (xs ys : List HostCall) → Leads f₀ f₁ l₀ l₁ xs → Leads f₁ f₂ l₁ l₂ ys → Leads f₀ f₂ l₀ l₂ (ys ++ xs)
-Leads-then f₀ f₁ f₂ l₀ l₁ l₂ xs ys one two = UpTo-then f₀ f₁ l₀ l₁ (Went past_of f₂ l₁ l₂) (Went past_of f₂ l₀ l₂) xs ys one two (λ goal p joined first second. record {
-  well = well_then goal p xs ys first.well second.well;
-  fits = subst (f₂ goal) (sym joined) second.fits;
-  log = λ short. subst (λ (q : Point). Took l₀ l₂ p.past q.past) (sym joined) (Took-then l₀ l₁ l₂ p.past (point_after xs p).past (point_after ys (point_after xs p)).past (first.log short) (second.log (short_then goal xs p first.well.sound short)));
-})
+pub Leads-then : (f₀ f₁ f₂ : Goal → Point → Type 0) (l₀ l₁ l₂ : LogState) (xs ys : List HostCall) → Leads f₀ f₁ l₀ l₁ xs
+    → Leads f₁ f₂ l₁ l₂ ys → Leads f₀ f₂ l₀ l₂ (ys ++ xs)
+Leads-then f₀ f₁ f₂ l₀ l₁ l₂ xs ys one two = UpTo-then f₀ f₁ l₀ l₁ (Went past_of f₂ l₁ l₂)
+    (Went past_of f₂ l₀ l₂) xs ys one two (λ goal p joined first second. record {
+      well = well_then goal p xs ys first.well second.well;
+      fits = subst (f₂ goal) (sym joined) second.fits;
+      log = λ short. subst (λ (q : Point). Took l₀ l₂ p.past q.past) (sym joined)
+          (Took-then l₀ l₁ l₂ p.past (point_after xs p).past (point_after ys (point_after xs p)).past (first.log short)
+          (second.log (short_then goal xs p first.well.sound short)));
+    })
 
 -- from what is narrower, to what follows there of a sound trace
-pub Leads-map : (f g fit fit' : Goal → Point → Type 0) (old new : LogState) (calls : List HostCall) → ((goal : Goal) (p : Point) → is_sound goal p.past ≡ true → g goal p → f goal p × (is_sound goal (point_after calls p).past ≡ true → fit goal (point_after calls p) → fit' goal (point_after calls p))) → Leads f fit old new calls → Leads g fit' old new calls
+pub Leads-map : (f g fit fit' : Goal → Point → Type 0) (old new : LogState) (calls : List HostCall)
+    → ((goal : Goal) (p : Point) → is_sound goal p.past ≡ true → g goal p → f goal p × (is_sound goal
+    (point_after calls p).past ≡ true → fit goal (point_after calls p) → fit' goal (point_after calls p)))
+    → Leads f fit old new calls → Leads g fit' old new calls
 Leads-map f g fit fit' old new calls more = UpTo-map f g (Went past_of fit old new) (Went past_of fit' old new) calls
     (λ goal p sound fits.
     let (before, behind) = more goal p sound fits in
     (before, λ went. record { well = went.well; fits = behind went.well.sound went.fits; log = went.log }))
 
-pub Leads-weaken : (fitted fitted' fit fit' : Goal → Point → Type 0) (old new : LogState) (calls : List HostCall) → ((goal : Goal) (p : Point) → fitted' goal p → fitted goal p) → ((goal : Goal) (p : Point) → fit goal p → fit' goal p) → Leads fitted fit old new calls → Leads fitted' fit' old new calls
-Leads-weaken fitted fitted' fit fit' old new calls before behind = Leads-map fitted fitted' fit fit' old new calls (λ goal p sound fits. (before goal p fits, λ now. behind goal (point_after calls p)))
+pub Leads-weaken : (fitted fitted' fit fit' : Goal → Point → Type 0) (old new : LogState) (calls : List HostCall)
+    → ((goal : Goal) (p : Point) → fitted' goal p → fitted goal p) → ((goal : Goal) (p : Point) → fit goal p
+    → fit' goal p) → Leads fitted fit old new calls → Leads fitted' fit' old new calls
+Leads-weaken fitted fitted' fit fit' old new calls before behind = Leads-map fitted fitted' fit fit' old new calls
+    (λ goal p sound fits. (before goal p fits, λ now. behind goal (point_after calls p)))
 
-pub over_left : (calls : List HostCall) (p : Point) → list_all takes_none calls ≡ true → (point_after calls p).over ≡ p.over
+pub over_left : (calls : List HostCall) (p : Point) → list_all takes_none calls ≡ true
+    → (point_after calls p).over ≡ p.over
 over_left [] p h = grind arith
 over_left (call ∷ calls) p h = grind (arith, over_left calls p)
 
@@ -160,23 +212,33 @@ pub bytes_generation : (bytes : List ℕ) (p : Point) → (bytes_after bytes p).
 bytes_generation [] p = grind arith
 bytes_generation (byte ∷ bytes) p = grind (arith, bytes_generation bytes (byte_after byte p))
 
-pub bytes_counted : (room : ℕ) (taken : TextRead) (count : ℕ) (goal : Goal) (p : Point) → Counted count goal p → Counted count goal (point_after (TakeBytes room taken ∷ []) p)
+pub bytes_counted : (room : ℕ) (taken : TextRead) (count : ℕ) (goal : Goal) (p : Point) → Counted count goal p
+    → Counted count goal (point_after (TakeBytes room taken ∷ []) p)
 bytes_counted room (Ok bytes) count goal p is = bytes_lates bytes p ∙ is
 bytes_counted room (Err fault) count goal p is = is
 
 -- what the calls leave as it is stays beside what they make fit
-pub Leads-beside : (f₀ f₁ K : Goal → Point → Type 0) (old new : LogState) (calls : List HostCall) → ((goal : Goal) (p : Point) → K goal p → K goal (point_after calls p)) → Leads f₀ f₁ old new calls → Leads (λ goal p. f₀ goal p × K goal p) (λ goal p. f₁ goal p × K goal p) old new calls
-Leads-beside f₀ f₁ K old new calls kept = Leads-map f₀ (λ goal p. f₀ goal p × K goal p) f₁ (λ goal p. f₁ goal p × K goal p) old new calls (λ goal p sound fits. (fits.0, λ now behind. (behind, kept goal p fits.1)))
+pub Leads-beside : (f₀ f₁ K : Goal → Point → Type 0) (old new : LogState) (calls : List HostCall)
+    → ((goal : Goal) (p : Point) → K goal p → K goal (point_after calls p)) → Leads f₀ f₁ old new calls
+    → Leads (λ goal p. f₀ goal p × K goal p) (λ goal p. f₁ goal p × K goal p) old new calls
+Leads-beside f₀ f₁ K old new calls kept = Leads-map f₀ (λ goal p. f₀ goal p × K goal p) f₁ (λ goal p. f₁ goal p
+    × K goal p) old new calls (λ goal p sound fits. (fits.0, λ now behind. (behind, kept goal p fits.1)))
 
-pub Leads-frame : (f₀ f₁ : Goal → Point → Type 0) (K : List ℕ → Type 0) (old new : LogState) (calls : List HostCall) → list_all takes_none calls ≡ true → Leads f₀ f₁ old new calls → Leads (λ goal p. f₀ goal p × K p.over) (λ goal p. f₁ goal p × K p.over) old new calls
-Leads-frame f₀ f₁ K old new calls none leads = Leads-beside f₀ f₁ (λ goal p. K p.over) old new calls (λ goal p kept. subst K (sym (over_left calls p none)) kept) leads
+pub Leads-frame : (f₀ f₁ : Goal → Point → Type 0) (K : List ℕ → Type 0) (old new : LogState) (calls : List HostCall)
+    → list_all takes_none calls ≡ true → Leads f₀ f₁ old new calls
+    → Leads (λ goal p. f₀ goal p × K p.over) (λ goal p. f₁ goal p × K p.over) old new calls
+Leads-frame f₀ f₁ K old new calls none leads = Leads-beside f₀ f₁ (λ goal p. K p.over) old new calls
+    (λ goal p kept. subst K (sym (over_left calls p none)) kept) leads
 
 -- a call that comes to nothing
-pub Leads-still : (fit : Goal → Point → Type 0) (log : LogState) (call : HostCall) → ((p : Point) → after call p ≡ p) → ((goal : Goal) (so_far : List Event) → is_in_place goal call [] so_far ≡ true) → ((goal : Goal) (p : Point) → AreTexts goal (call ∷ []) p) → Leads fit fit log log (call ∷ [])
+pub Leads-still : (fit : Goal → Point → Type 0) (log : LogState) (call : HostCall) → ((p : Point) → after call p ≡ p)
+    → ((goal : Goal) (so_far : List Event) → is_in_place goal call [] so_far ≡ true)
+    → ((goal : Goal) (p : Point) → AreTexts goal (call ∷ []) p) → Leads fit fit log log (call ∷ [])
 Leads-still fit log call still position texts goal p sound fits allowed = (
   texts goal p,
   λ carried. record {
-    well = went_well goal p (call ∷ []) (has_trace-one goal call p (ap (λ (q : Point). q.generation) (still p)) (position goal p.past)) (ap (λ (q : Point). is_sound goal q.past) (still p) ∙ sound);
+    well = went_well goal p (call ∷ []) (has_trace-one goal call p (ap (λ (q : Point). q.generation) (still p))
+        (position goal p.past)) (ap (λ (q : Point). is_sound goal q.past) (still p) ∙ sound);
     fits = subst (fit goal) (sym (still p)) fits;
     log = λ short. subst (λ (q : Point). Took log log p.past q.past) (sym (still p)) (Took-none log p.past);
   },
@@ -187,8 +249,16 @@ pub Hears-none : (fit : Goal → Point → Type 0) (log : LogState) → Hears fi
 Hears-none fit log goal p sound fits allowed = record { sound = sound; fits = fits; log = Logs-none log p.past }
 
 -- later behind earlier, where what was possible behind the later was so behind the earlier
-pub Hears-then : (f₀ f₁ f₂ : Goal → Point → Type 0) (l₀ l₁ l₂ : LogState) (earlier later : List Event → List Event) → ((goal : Goal) (so_far : List Event) → is_allowed goal (later so_far) ≡ true → is_allowed goal so_far ≡ true) → Hears f₀ f₁ l₀ l₁ earlier → Hears f₁ f₂ l₁ l₂ later → Hears f₀ f₂ l₀ l₂ (λ so_far. later (earlier so_far))
+pub Hears-then : (f₀ f₁ f₂ : Goal → Point → Type 0) (l₀ l₁ l₂ : LogState) (earlier later : List Event → List Event)
+    → ((goal : Goal) (so_far : List Event) → is_allowed goal (later so_far) ≡ true → is_allowed goal so_far ≡ true)
+    → Hears f₀ f₁ l₀ l₁ earlier → Hears f₁ f₂ l₁ l₂ later → Hears f₀ f₂ l₀ l₂ (λ so_far. later (earlier so_far))
 Hears-then f₀ f₁ f₂ l₀ l₁ l₂ earlier later rest one two goal p sound fits allowed =
-    let first : Heard f₁ l₀ l₁ goal p (gone_on earlier p) = one goal p sound fits (rest goal (earlier p.past) allowed) in
-    let second : Heard f₂ l₁ l₂ goal (gone_on earlier p) (gone_on later (gone_on earlier p)) = two goal (gone_on earlier p) first.sound first.fits allowed in
-    record { sound = second.sound; fits = second.fits; log = Logs-then l₀ l₁ l₂ p.past (earlier p.past) (later (earlier p.past)) first.log second.log }
+    let first : Heard f₁ l₀ l₁ goal p (gone_on earlier p) =
+    one goal p sound fits (rest goal (earlier p.past) allowed) in
+    let second : Heard f₂ l₁ l₂ goal (gone_on earlier p) (gone_on later (gone_on earlier p)) =
+    two goal (gone_on earlier p) first.sound first.fits allowed in
+    record {
+      sound = second.sound;
+      fits = second.fits;
+      log = Logs-then l₀ l₁ l₂ p.past (earlier p.past) (later (earlier p.past)) first.log second.log;
+    }

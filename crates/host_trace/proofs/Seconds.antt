@@ -1,6 +1,15 @@
 -- The seconds that a record of calls names: those of requests are at most an hour, and so, where its trace is sound and
 -- the seconds named before are, are all.
-use Rattle.host_trace.proofs.Words.{◌≡◌, refl, sym, ap, ◌∙◌, map, ℕ, ℤ, ◌+◌, ◌==◌, Bool, true, false, cond, List, [], ◌∷◌, ◌++◌, length, Option, Some, None, Ok, Err, arith, list_all, list_all-append, and_parts, and_from, Answer, OrderKind, HeardRequest, heard_of, heard_of_ints, heard_of_runlevel, int_at, seconds_of, blocks_of, gots_of, Goal, Event, are_short, is_request, is_seconds, is_short, is_sound, Start, Signal, Late, Clock, TakeBytes, ReadTables, Carry, Announce, Pause, Reply, Now, Later, HostCall, PartsRead, LogState, Logs, Took, are_seconds_short, Point, after, acted, announced, answered, before_handing, before_reading, byte_after, bytes_after, came_whole, come, handed_if, is_asked_for, is_last, is_announcement, nudged_if, order_for, ordered, point_after, reading}
+use Rattle.host_trace.proofs.Words.{◌≡◌, refl, sym, ap, ◌∙◌, map, ℕ, ℤ, ◌+◌, ◌==◌, Bool, true, false, cond, List, []}
+use Rattle.host_trace.proofs.Words.{◌∷◌, ◌++◌, length, Option, Some, None, Ok, Err, arith, list_all, list_all-append}
+use Rattle.host_trace.proofs.Words.{and_parts, and_from, Answer, OrderKind, HeardRequest, heard_of, heard_of_ints}
+use Rattle.host_trace.proofs.Words.{heard_of_runlevel, int_at, seconds_of, blocks_of, gots_of, Goal, Event, are_short}
+use Rattle.host_trace.proofs.Words.{is_request, is_seconds, is_short, is_sound, Start, Signal, Late, Clock, TakeBytes}
+use Rattle.host_trace.proofs.Words.{ReadTables, Carry, Announce, Pause, Reply, Now, Later, HostCall, PartsRead}
+use Rattle.host_trace.proofs.Words.{LogState, Logs, Took, are_seconds_short, Point, after, acted, announced, answered}
+use Rattle.host_trace.proofs.Words.{before_handing, before_reading, byte_after, bytes_after, came_whole, come}
+use Rattle.host_trace.proofs.Words.{handed_if, is_asked_for, is_last, is_announcement, nudged_if, order_for, ordered}
+use Rattle.host_trace.proofs.Words.{point_after, reading}
 use Rattle.init_words.specs.declared.orders.Answer.TheVariants as answer
 use Rattle.init_words.specs.declared.orders.OrderKind.TheVariants as ask
 use Rattle.init_words.specs.declared.orders.PowerKind.TheVariants as power
@@ -15,10 +24,13 @@ use Rattle.host_calls.specs.declared.calls.Call.TheVariants.{Look}
 seconds_short : (sleeptime : ℤ) → is_seconds (seconds_of sleeptime) ≡ true
 seconds_short sleeptime = grind arith
 
-runlevel_request : (runlevel : ℤ) (seconds : ℕ) → is_seconds seconds ≡ true → is_request (heard_of_runlevel runlevel seconds) ≡ true
+runlevel_request : (runlevel : ℤ) (seconds : ℕ) → is_seconds seconds ≡ true
+    → is_request (heard_of_runlevel runlevel seconds) ≡ true
 runlevel_request runlevel seconds short = grind arith
 
-command_request : (runlevel fail fail_now ok left : Bool) (asked : HeardRequest) → is_request asked ≡ true → is_request (cond runlevel asked (cond fail (got.Power power.Fail) (cond fail_now (got.Power power.FailNow) (cond ok (got.Power power.Ok) (cond left (got.Nothing LeftOut) (got.Nothing Unknown)))))) ≡ true
+command_request : (runlevel fail fail_now ok left : Bool) (asked : HeardRequest) → is_request asked ≡ true
+    → is_request (cond runlevel asked (cond fail (got.Power power.Fail) (cond fail_now (got.Power power.FailNow)
+    (cond ok (got.Power power.Ok) (cond left (got.Nothing LeftOut) (got.Nothing Unknown)))))) ≡ true
 command_request true fail fail_now ok left asked short = short
 command_request false true fail_now ok left asked short = refl
 command_request false false true ok left asked short = refl
@@ -38,7 +50,8 @@ request_short block = ints_request (int_at 0 block) (int_at 4 block) (int_at 8 b
 abbrev Requests : List Event → Type 0
 Requests so_far = list_all is_short_request so_far ≡ true
 
-acted_requests : (id : List ℕ) (given : Answer) (so_far : List Event) → Requests so_far → Requests (acted id given so_far)
+acted_requests : (id : List ℕ) (given : Answer) (so_far : List Event) → Requests so_far
+    → Requests (acted id given so_far)
 acted_requests id (answer.Born n) so_far all = all
 acted_requests id answer.NotBorn so_far all = all
 acted_requests id (answer.Ended status) so_far all = all
@@ -47,14 +60,16 @@ acted_requests id answer.NoLook so_far all = all
 acted_requests id answer.Hit so_far all = all
 acted_requests id answer.Miss so_far all = all
 
-answered_requests : (id : List ℕ) (given : Answer) (so_far : List Event) → Requests so_far → Requests (answered id given so_far)
+answered_requests : (id : List ℕ) (given : Answer) (so_far : List Event) → Requests so_far
+    → Requests (answered id given so_far)
 answered_requests id given so_far all = by (is_asked_for id given so_far)
   where
     by : (b : Bool) → Requests (cond b (past.Told id ∷ acted id given so_far) so_far)
     by true = acted_requests id given so_far all
     by false = all
 
-ordered_requests : (id : List ℕ) (order : OrderKind) (reply : Reply) (so_far : List Event) → Requests so_far → Requests (ordered id order reply so_far)
+ordered_requests : (id : List ℕ) (order : OrderKind) (reply : Reply) (so_far : List Event) → Requests so_far
+    → Requests (ordered id order reply so_far)
 ordered_requests id order (Now given) so_far all = answered_requests id given (past.Asked id order ∷ so_far) all
 ordered_requests id order Later so_far all = all
 
@@ -69,8 +84,11 @@ come_requests None so_far all = all
 byte_requests : (byte : ℕ) (p : Point) → Requests p.past → Requests (byte_after byte p).past
 byte_requests byte p all = by (length (p.over ++ byte ∷ []) == 384)
   where
-    by : (b : Bool) → Requests (cond b (record p { over = []; past = past.Got (heard_of (p.over ++ byte ∷ [])) ∷ p.past }) (record p { over = p.over ++ byte ∷ [] })).past
-    by true = and_from (is_request (heard_of (p.over ++ byte ∷ []))) (list_all is_short_request p.past) (request_short (p.over ++ byte ∷ [])) all
+    by : (b : Bool)
+        → Requests (cond b (record p { over = []; past = past.Got (heard_of (p.over ++ byte ∷ [])) ∷ p.past })
+        (record p { over = p.over ++ byte ∷ [] })).past
+    by true = and_from (is_request (heard_of (p.over ++ byte ∷ []))) (list_all is_short_request p.past)
+        (request_short (p.over ++ byte ∷ [])) all
     by false = all
 
 bytes_requests : (bytes : List ℕ) (p : Point) → Requests p.past → Requests (bytes_after bytes p).past
@@ -78,9 +96,11 @@ bytes_requests [] p all = all
 bytes_requests (byte ∷ bytes) p all = bytes_requests bytes (byte_after byte p) (byte_requests byte p all)
 
 reading_requests : (parts : PartsRead) (so_far : List Event) → Requests so_far → Requests (reading parts ∷ so_far)
-reading_requests parts so_far all = and_from (is_short_request (reading parts)) (list_all is_short_request so_far) (by parts) all
+reading_requests parts so_far all =
+    and_from (is_short_request (reading parts)) (list_all is_short_request so_far) (by parts) all
   where
-    of_use : (b : Bool) (used : Event) → is_short_request used ≡ true → is_short_request (cond b used past.NotRead) ≡ true
+    of_use : (b : Bool) (used : Event) → is_short_request used ≡ true
+        → is_short_request (cond b used past.NotRead) ≡ true
     of_use true used short = short
     of_use false used short = refl
 
@@ -111,14 +131,16 @@ announced_requests (past.Handed how) so_far all = handing_requests so_far all
 announced_requests happening so_far all = by (is_announcement happening) refl
   where
     by : (b : Bool) → is_announcement happening ≡ b → Requests (cond b (happening ∷ so_far) so_far)
-    by true said = and_from (is_short_request happening) (list_all is_short_request so_far) (said_request happening said) all
+    by true said =
+        and_from (is_short_request happening) (list_all is_short_request so_far) (said_request happening said) all
     by false said = all
 
 after_requests : (call : HostCall) (p : Point) → Requests p.past → Requests (after call p).past
 after_requests (Start id command reply) p all = ordered_requests id ask.Start reply p.past all
 after_requests (Look id reply) p all = ordered_requests id ask.Look reply p.past all
 after_requests (Signal id sent reply) p all = ordered_requests id (order_for sent) reply p.past all
-after_requests (Late late) p all = nudged_requests (is_last late p.lates) (come late p.past) (come_requests late p.past all)
+after_requests (Late late) p all =
+    nudged_requests (is_last late p.lates) (come late p.past) (come_requests late p.past all)
 after_requests (Clock (Ok reading)) p all = all
 after_requests (Clock (Err fault)) p all = all
 after_requests (TakeBytes room (Ok bytes)) p all = bytes_requests bytes p all
@@ -142,20 +164,28 @@ requests_of (happening ∷ so_far) short = requests_of so_far (and_parts (is_sho
 -- the requests of blocks
 blocks_short : (blocks : List (List ℕ)) → list_all is_request (map heard_of blocks) ≡ true
 blocks_short [] = refl
-blocks_short (block ∷ blocks) = and_from (is_request (heard_of block)) (list_all is_request (map heard_of blocks)) (request_short block) (blocks_short blocks)
+blocks_short (block ∷ blocks) = and_from (is_request (heard_of block)) (list_all is_request (map heard_of blocks))
+    (request_short block) (blocks_short blocks)
 
-pub given_short : (before given : List HeardRequest) (bytes : List ℕ) → gots_of bytes ≡ before ++ given → list_all is_request given ≡ true
-given_short before given bytes is = (and_parts (list_all is_request before) (list_all is_request given) (sym (list_all-append is_request before given) ∙ ap (list_all is_request) (sym is) ∙ blocks_short (blocks_of bytes))).1
+pub given_short : (before given : List HeardRequest) (bytes : List ℕ) → gots_of bytes ≡ before ++ given
+    → list_all is_request given ≡ true
+given_short before given bytes is = (and_parts (list_all is_request before) (list_all is_request given) (sym
+    (list_all-append is_request before given) ∙ ap (list_all is_request) (sym is) ∙ blocks_short (blocks_of bytes))).1
 
 -- ---- the trace of a record
 
-short_after : (goal : Goal) (calls : List HostCall) (p : Point) → is_sound goal (point_after calls p).past ≡ true → are_seconds_short goal p.past ≡ true → are_short (point_after calls p).past ≡ true
+short_after : (goal : Goal) (calls : List HostCall) (p : Point) → is_sound goal (point_after calls p).past ≡ true
+    → are_seconds_short goal p.past ≡ true → are_short (point_after calls p).past ≡ true
 short_after goal calls p sound short = grind (arith, sound_short, calls_requests, requests_of)
 
 -- what is logged of a sound trace with short seconds is logged
-pub logged : (goal : Goal) (calls : List HostCall) (p : Point) (old new : LogState) → is_sound goal (point_after calls p).past ≡ true → Logs old new p.past (point_after calls p).past → are_seconds_short goal p.past ≡ true → Took old new p.past (point_after calls p).past
+pub logged : (goal : Goal) (calls : List HostCall) (p : Point) (old new : LogState)
+    → is_sound goal (point_after calls p).past ≡ true → Logs old new p.past (point_after calls p).past
+    → are_seconds_short goal p.past ≡ true → Took old new p.past (point_after calls p).past
 logged goal calls p old new sound logs short = logs (short_after goal calls p sound short)
 
 -- so the next calls are made where it is so too
-pub short_then : (goal : Goal) (calls : List HostCall) (p : Point) → is_sound goal (point_after calls p).past ≡ true → are_seconds_short goal p.past ≡ true → are_seconds_short goal (point_after calls p).past ≡ true
-short_then goal calls p sound short = and_from (is_seconds goal.grace) (are_short (point_after calls p).past) (and_parts (is_seconds goal.grace) (are_short p.past) short).0 (short_after goal calls p sound short)
+pub short_then : (goal : Goal) (calls : List HostCall) (p : Point) → is_sound goal (point_after calls p).past ≡ true
+    → are_seconds_short goal p.past ≡ true → are_seconds_short goal (point_after calls p).past ≡ true
+short_then goal calls p sound short = and_from (is_seconds goal.grace) (are_short (point_after calls p).past)
+    (and_parts (is_seconds goal.grace) (are_short p.past) short).0 (short_after goal calls p sound short)

@@ -1,8 +1,12 @@
 -- The words of the proofs of this crate.
-pub use Rattle.std.proofs.Common.{arith, ◌≡◌, refl, sym, ◌∙◌, ap, subst, ℕ, Bool, true, false, ◌||◌, cond, List, ◌∷◌, Option, Some, Result, Ok, Err, ◌+◌, ◌*◌, ◌/◌, ◌<◌, ◌==◌, [], ◌++◌, length, take, drop, append-nil, append_assoc, length-append, length-drop, ◌&&◌, None, is_some, filter, ◌⊎◌, inl, inr, reverse, ap₂, not, map, eq-eqb, nat_lt, suc, codes, ℤ, ◌≤◌}
+pub use Rattle.std.proofs.Common.{arith, ◌≡◌, refl, sym, ◌∙◌, ap, subst, ℕ, Bool, true, false, ◌||◌, cond, List, ◌∷◌}
+pub use Rattle.std.proofs.Common.{Option, Some, Result, Ok, Err, ◌+◌, ◌*◌, ◌/◌, ◌<◌, ◌==◌, [], ◌++◌, length, take, drop}
+pub use Rattle.std.proofs.Common.{append-nil, append_assoc, length-append, length-drop, ◌&&◌, None, is_some, filter}
+pub use Rattle.std.proofs.Common.{◌⊎◌, inl, inr, reverse, ap₂, not, map, eq-eqb, nat_lt, suc, codes, ℤ, ◌≤◌}
 pub use Rattle.std.specs.Option.{option_map_or, option_to_list, option_map}
 pub use Rattle.std.specs.Result.{OnOk, OnErr, is_err}
-pub use Rattle.std.proofs.lemmas.Bool.{and_from, eqb-true, eqb-false, false≢true, and_parts, or_left, or_right, or_parts, or_from, false_from_ne_true, ltb-true}
+pub use Rattle.std.proofs.lemmas.Bool.{and_from, eqb-true, eqb-false, false≢true, and_parts, or_left, or_right}
+pub use Rattle.std.proofs.lemmas.Bool.{or_parts, or_from, false_from_ne_true, ltb-true}
 pub use Rattle.init_words.specs.declared.entries.Entry.{Entry}
 pub use Rattle.init_words.specs.declared.orders.Answer.{Answer}
 pub use Rattle.init_words.specs.declared.orders.OrderKind.{OrderKind}
@@ -12,26 +16,37 @@ pub use Rattle.inittab_text.specs.Tables.{is_distinct, entry_of}
 pub use Rattle.trace_events.specs.declared.steps.Goal.{Goal}
 pub use Rattle.trace_events.specs.declared.steps.Step.{Step}
 pub use Rattle.trace_events.specs.Event.{Event}
-pub use Rattle.trace_events.specs.Past.{open_of, is_quiet, Child, is_of, is_child, is_dead, has_child, undone_of, unreaped_children, known_children, has_number, is_living, is_untold}
+pub use Rattle.trace_events.specs.Past.{open_of, is_quiet, Child, is_of, is_child, is_dead, has_child, undone_of}
+pub use Rattle.trace_events.specs.Past.{unreaped_children, known_children, has_number, is_living, is_untold}
 pub use Rattle.trace_events.specs.Due.{due, first, same_step, record_ids}
 pub use Rattle.trace_events.specs.Sound.{is_sound, may_come}
 pub use Rattle.trace_laws.proofs.Records.{open_in_records, child_in_records}
 pub use Rattle.trace_laws.proofs.Runs.{first_due, same_step-self}
 pub use Rattle.core_model.specs.State.{CoreState}
-pub use Rattle.core_model.specs.Fit.{Fits, FitsAll, StillFits, OnEachTrace, with_step, is_act, child_known, living, record_of}
+pub use Rattle.core_model.specs.Fit.{Fits, FitsAll, StillFits, OnEachTrace, with_step, is_act, child_known, living}
+pub use Rattle.core_model.specs.Fit.{record_of}
 pub use Rattle.core_model.proofs.Acts.{found_record, no_record, child_some}
 pub use Rattle.core_model.proofs.Fitted.{fit_records, all_on, fit_table}
 pub use Rattle.core_model.proofs.Reading.{quiet_same, any_found}
 pub use Rattle.trace_log.specs.Logs.{LogState, Gains, Stays}
-pub use Rattle.host_trace.specs.Point.{Point, last_birth, acted, is_asked_for, answered, byte_after, bytes_after, replied, ordered, come, is_last, nudged_if, clocked, reading, before_reading, before_handing, is_command, is_first, is_outcome, carrying, point_after, has_trace, order_for, came_whole, handed_if, announced, after, is_in_place, was_reading, came_cut, may_announce, are_in_place, tells_outcomes, is_announcement, is_of_generation, same_text}
-pub use Rattle.host_trace.specs.Leads.{is_own, is_allowed, gone_on, Logs, Gave, Hears, Lasts, Tracks, Took, IsOver, UpTo, Went, WentWell, Leads, past_of, Heard, AreTexts, IsStateText, comes_back, are_carried, Counted, Takes, meets, are_seconds_short}
+pub use Rattle.host_trace.specs.Point.{Point, last_birth, acted, is_asked_for, answered, byte_after, bytes_after}
+pub use Rattle.host_trace.specs.Point.{replied, ordered, come, is_last, nudged_if, clocked, reading, before_reading}
+pub use Rattle.host_trace.specs.Point.{before_handing, is_command, is_first, is_outcome, carrying, point_after}
+pub use Rattle.host_trace.specs.Point.{has_trace, order_for, came_whole, handed_if, announced, after, is_in_place}
+pub use Rattle.host_trace.specs.Point.{was_reading, came_cut, may_announce, are_in_place, tells_outcomes}
+pub use Rattle.host_trace.specs.Point.{is_announcement, is_of_generation, same_text}
+pub use Rattle.host_trace.specs.Leads.{is_own, is_allowed, gone_on, Logs, Gave, Hears, Lasts, Tracks, Took, IsOver}
+pub use Rattle.host_trace.specs.Leads.{UpTo, Went, WentWell, Leads, past_of, Heard, AreTexts, IsStateText, comes_back}
+pub use Rattle.host_trace.specs.Leads.{are_carried, Counted, Takes, meets, are_seconds_short}
 pub use Rattle.std.specs.List.{list_all, list_any, AllByRecursion, starts_with}
 pub use Rattle.trace_events.specs.Range.{is_request, is_in_range, is_short, are_short, is_seconds}
 pub use Rattle.std.proofs.lemmas.List.{append_cancel_left, reverse-append}
 pub use Rattle.initctl_frame.specs.declared.requests.HeardRequest.{HeardRequest}
-pub use Rattle.initctl_frame.specs.Frames.{heard_of, block_of_ints, heard_of_ints, heard_of_runlevel, int_at, seconds_of}
+pub use Rattle.initctl_frame.specs.Frames.{heard_of, block_of_ints, heard_of_ints, heard_of_runlevel, int_at}
+pub use Rattle.initctl_frame.specs.Frames.{seconds_of}
 pub use Rattle.initctl_frame.specs.Blocks.{Begun, Stands, gots_of, over_of, blocks_of}
-pub use Rattle.host_calls.specs.declared.calls.Call.TheVariants.{TakeBytes, Start, Late, Clock, ReadTables, Announce, Signal, Carry, Pause}
+pub use Rattle.host_calls.specs.declared.calls.Call.TheVariants.{TakeBytes, Start, Late, Clock, ReadTables, Announce}
+pub use Rattle.host_calls.specs.declared.calls.Call.TheVariants.{Signal, Carry, Pause}
 pub use Rattle.host_trace.specs.Requests.{requested, Continues, requests_in, bytes_of, Brings}
 pub use Rattle.init_words.specs.Parts.{NamedText, texts_of}
 pub use Rattle.inittab_text.specs.Parts.{are_readable, table_of_texts}

@@ -1,7 +1,9 @@
 -- What a part of init's work makes of its core and its log, as far as its host's answers were possible (init(8)).
-use Rattle.std.specs.Prelude.{◌≡◌, ◌⊎◌, ℕ, Bool, true, false, ◌&&◌, ◌||◌, ◌+◌, IsTrue, ◌==◌, not, List, [], ◌∷◌, ◌++◌, length, take, reverse, None, is_some, Ok, Err}
+use Rattle.std.specs.Prelude.{◌≡◌, ◌⊎◌, ℕ, Bool, true, false, ◌&&◌, ◌||◌, ◌+◌, IsTrue, ◌==◌, not, List, [], ◌∷◌, ◌++◌}
+use Rattle.std.specs.Prelude.{length, take, reverse, None, is_some, Ok, Err}
 use Rattle.std.specs.List.{starts_with}
-use Rattle.host_trace.specs.Words.{Begun, Handed, NewTable, Goal, Step, Event, due, first, are_short, is_seconds, step_in, is_sound, may_come, CoreState, LogState, Carry, HostCall, TextRead}
+use Rattle.host_trace.specs.Words.{Begun, Handed, NewTable, Goal, Step, Event, due, first, are_short, is_seconds}
+use Rattle.host_trace.specs.Words.{step_in, is_sound, may_come, CoreState, LogState, Carry, HostCall, TextRead}
 use Rattle.trace_events.specs.declared.happenings.Handed.{Handed as HandOver}
 use Rattle.trace_events.specs.Lawful.{first_breach}
 use Rattle.core_model.specs.Fit.{FitsAll, with_step}
@@ -38,8 +40,8 @@ are_carried (Carry text back ∷ calls) p =
     comes_back ((point_after calls p).generation + 1) text back && are_carried calls p
 are_carried (_ ∷ calls) p = are_carried calls p
 
--- The text, of version 2, is that of a state of init's, of the generation: of a core that keeps the rules, and fits the trace
--- whatever comes of the hand-over.
+-- The text, of version 2, is that of a state of init's, of the generation: of a core that keeps the rules, and fits
+-- the trace whatever comes of the hand-over.
 pub record IsStateText (goal : Goal) (past : List Event) (generation : ℕ) (text : List ℕ) : Type 0 where
   pub core : CoreState
   pub fits : (how : HandOver) → FitsAll core goal (Handed how ∷ past)

@@ -1,5 +1,6 @@
 -- Which trace the calls of a host are (init(8)). Calls, like happenings, stand THE NEWEST FIRST.
-use Rattle.std.specs.Prelude.{ℕ, Bool, true, false, not, ◌&&◌, ◌||◌, ◌+◌, ◌==◌, nat_lt, if◌then◌else◌, List, [], ◌∷◌, ◌++◌, length, Option, Some, None, is_none, Result, Ok, Err}
+use Rattle.std.specs.Prelude.{ℕ, Bool, true, false, not, ◌&&◌, ◌||◌, ◌+◌, ◌==◌, nat_lt, if◌then◌else◌, List, [], ◌∷◌}
+use Rattle.std.specs.Prelude.{◌++◌, length, Option, Some, None, is_none, Result, Ok, Err}
 use Rattle.std.specs.List.{starts_with}
 use Rattle.std.specs.Option.{option_map_or}
 use Rattle.std.specs.Cmp.Lexicographic.{pointwise}
@@ -12,7 +13,9 @@ use Rattle.init_words.specs.declared.orders.SignalKind.TheVariants as signal
 use Rattle.init_words.specs.Entries.{command_of}
 use Rattle.init_words.specs.Ids.{same_id}
 use Rattle.init_words.specs.Orders.{answers}
-use Rattle.host_trace.specs.Words.{texts_of, are_readable, table_of_texts, Goal, Step, Event, open_of, table_of, due, first, same_step, step_in, Start, Look, Signal, Late, Clock, TakeBytes, ReadTables, Carry, Announce, Pause, HostFault, Now, Later, HostCall, PartsRead, TextRead}
+use Rattle.host_trace.specs.Words.{texts_of, are_readable, table_of_texts, Goal, Step, Event, open_of, table_of, due}
+use Rattle.host_trace.specs.Words.{first, same_step, step_in, Start, Look, Signal, Late, Clock, TakeBytes, ReadTables}
+use Rattle.host_trace.specs.Words.{Carry, Announce, Pause, HostFault, Now, Later, HostCall, PartsRead, TextRead}
 use Rattle.inittab_text.specs.Tables.{entry_of}
 use Rattle.initctl_frame.specs.declared.frames.TheConstants.{BLOCK}
 use Rattle.initctl_frame.specs.Frames.{heard_of}

@@ -1,7 +1,10 @@
 -- What calls a turn of init makes of its host, and what calls many turns make (init(8)). The newest stand first.
-use Rattle.std.specs.Prelude.{◌≡◌, ◌≤◌, ◌⊎◌, ◌+◌, ℕ, zero, suc, Bool, true, false, ◌&&◌, ◌||◌, ◌==◌, not, nat_le, nat_lt, IsTrue, List, [], ◌∷◌, ◌++◌, drop, length, Option, Some, None, Result, Ok, Err}
+use Rattle.std.specs.Prelude.{◌≡◌, ◌≤◌, ◌⊎◌, ◌+◌, ℕ, zero, suc, Bool, true, false, ◌&&◌, ◌||◌, ◌==◌, not, nat_le}
+use Rattle.std.specs.Prelude.{nat_lt, IsTrue, List, [], ◌∷◌, ◌++◌, drop, length, Option, Some, None, Result, Ok, Err}
 use Rattle.std.specs.List.{list_all}
-use Rattle.host_trace.specs.Words.{texts_of, are_readable, faults_of_parts, NotRead, Handed, Goal, due, first, Event, is_sound, CoreState, Start, Look, Signal, Late, Clock, TakeBytes, ReadTables, Carry, Announce, Pause, HostFault, HostCall, PartsRead, TextRead}
+use Rattle.host_trace.specs.Words.{texts_of, are_readable, faults_of_parts, NotRead, Handed, Goal, due, first, Event}
+use Rattle.host_trace.specs.Words.{is_sound, CoreState, Start, Look, Signal, Late, Clock, TakeBytes, ReadTables, Carry}
+use Rattle.host_trace.specs.Words.{Announce, Pause, HostFault, HostCall, PartsRead, TextRead}
 use Rattle.trace_events.specs.declared.steps.Step.TheVariants.{Idle}
 use Rattle.core_model.specs.Decide.{is_drained}
 use Rattle.host_calls.specs.Record.{Since}
@@ -62,7 +65,8 @@ is_step (Announce happening ∷ []) = true
 is_step (Announce (Handed how) ∷ Carry text back ∷ []) = true
 is_step _ = false
 
--- the table of these files may be taken: they are neither too many nor too long, and of a strict init's no line is faulty
+-- the table of these files may be taken: they are neither too many nor too long, and of a strict init's no line is
+-- faulty
 abbrev pub may_take : Bool → PartsRead → Bool
 may_take strict (Ok parts) =
     are_readable (texts_of parts) && (not strict || length (faults_of_parts (texts_of parts)) == 0)

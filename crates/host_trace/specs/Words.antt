@@ -3,7 +3,8 @@ pub use Rattle.trace_events.specs.declared.happenings.Happening.TheVariants.{Ask
 pub use Rattle.trace_events.specs.declared.steps.Goal.{Goal}
 pub use Rattle.trace_events.specs.Event.{Event}
 pub use Rattle.trace_log.specs.Logs.{LogState}
-pub use Rattle.host_calls.specs.declared.calls.Call.TheVariants.{Start, Look, Signal, Announce, ReadTables, Carry, Late, Clock, TakeBytes, Pause}
+pub use Rattle.host_calls.specs.declared.calls.Call.TheVariants.{Start, Look, Signal, Announce, ReadTables, Carry, Late}
+pub use Rattle.host_calls.specs.declared.calls.Call.TheVariants.{Clock, TakeBytes, Pause}
 pub use Rattle.host_calls.specs.Calls.{HostCall, TextRead, PartsRead, text_read, parts_read, front_read}
 pub use Rattle.initctl_frame.specs.Blocks.{Begun, gots_of, over_of}
 pub use Rattle.core_model.specs.State.{CoreState}

@@ -1,5 +1,9 @@
 -- Turns at the default grace and pauses, the last of which settles the level: `refl` computes them.
-use Rattle.init_turns.proofs.Words.{◌≡◌, refl, ℕ, true, false, List, [], ◌∷◌, codes, None, Some, Ok, Entry, Alive, Born, Ended, Enter, Settle, NewTable, Told, Asked, opening_goal, rounds_to_come, is_level_announced, Start, Look, Late, Clock, TakeBytes, Announce, Pause, Signal, HostCall, Point, is_allowed, has_trace, are_unasked_rounds, undisturbed_rounds, past_after, without_rounds, opening_point}
+use Rattle.init_turns.proofs.Words.{◌≡◌, refl, ℕ, true, false, List, [], ◌∷◌, codes, None, Some, Ok, Entry, Alive, Born}
+use Rattle.init_turns.proofs.Words.{Ended, Enter, Settle, NewTable, Told, Asked, opening_goal, rounds_to_come}
+use Rattle.init_turns.proofs.Words.{is_level_announced, Start, Look, Late, Clock, TakeBytes, Announce, Pause, Signal}
+use Rattle.init_turns.proofs.Words.{HostCall, Point, is_allowed, has_trace, are_unasked_rounds, undisturbed_rounds}
+use Rattle.init_turns.proofs.Words.{past_after, without_rounds, opening_point}
 use Rattle.init_words.specs.declared.actions.Act.TheVariants as act
 use Rattle.init_words.specs.declared.children.Status.TheVariants.{Exit, Killed}
 use Rattle.init_words.specs.declared.levels.Level.TheVariants as level
@@ -14,19 +18,32 @@ use Rattle.host_calls.specs.declared.calls.Reply.TheVariants.{Now, Later}
 
 abbrev table : List Entry
 table =
-    record { id = codes "w"; levels = record { items = At level.L3 ∷ [] }; act = act.Wait; process = record { items = codes "prep" } }
-    ∷ record { id = codes "r"; levels = record { items = At level.L3 ∷ [] }; act = act.Respawn; process = record { items = codes "serv" } } ∷ []
+    record {
+      id = codes "w";
+      levels = record { items = At level.L3 ∷ [] };
+      act = act.Wait;
+      process = record { items = codes "prep" };
+    }
+    ∷ record {
+      id = codes "r";
+      levels = record { items = At level.L3 ∷ [] };
+      act = act.Respawn;
+      process = record { items = codes "serv" };
+    } ∷ []
 
 -- init goes to level 3, and waits for the child of w
 abbrev first_turn : List HostCall
-first_turn = Pause ∷ Start (codes "w") (codes "prep") (Now (Born 10)) ∷ Announce (Enter (stage.Run level.L3) 5) ∷ Announce (Enter stage.Boot 5) ∷ Announce (Enter stage.Sysinit 5) ∷ Late None ∷ TakeBytes 256 (Ok []) ∷ Clock (Ok 0) ∷ []
+first_turn =
+    Pause ∷ Start (codes "w") (codes "prep") (Now (Born 10)) ∷ Announce (Enter (stage.Run level.L3) 5) ∷ Announce
+    (Enter stage.Boot 5) ∷ Announce (Enter stage.Sysinit 5) ∷ Late None ∷ TakeBytes 256 (Ok []) ∷ Clock (Ok 0) ∷ []
 
 -- a second later its child lives, and in the next turn, within the same second, a look finds that it ended
 abbrev waiting : List HostCall
 waiting = Pause ∷ Look (codes "w") (Now Alive) ∷ Late None ∷ TakeBytes 256 (Ok []) ∷ Clock (Ok 1) ∷ first_turn
 
 abbrev settling : List HostCall
-settling = Pause ∷ Announce (Settle level.L3) ∷ Start (codes "r") (codes "serv") (Now (Born 11)) ∷ Look (codes "w") (Now (Ended (Exit 0))) ∷ Late None ∷ TakeBytes 256 (Ok []) ∷ Clock (Ok 1) ∷ waiting
+settling = Pause ∷ Announce (Settle level.L3) ∷ Start (codes "r") (codes "serv") (Now (Born 11))
+    ∷ Look (codes "w") (Now (Ended (Exit 0))) ∷ Late None ∷ TakeBytes 256 (Ok []) ∷ Clock (Ok 1) ∷ waiting
 
 settling-in_place : has_trace (opening_goal (Some level.L3) table) settling (opening_point table) ≡ true
 settling-in_place = refl
@@ -76,22 +93,36 @@ unanswered-fails = refl
 unanswered-unsettled : is_level_announced (past_after unanswered (opening_point table)) ≡ false
 unanswered-unsettled = refl
 
--- a child pays no heed to the TERM of a level that was asked for: it is found alive for five seconds, and once behind its
--- KILL. The five turns up to that are one round, which none of them is alone
+-- a child pays no heed to the TERM of a level that was asked for: it is found alive for five seconds, and once behind
+-- its KILL. The five turns up to that are one round, which none of them is alone
 abbrev stubborn : List Entry
-stubborn = record { id = codes "x"; levels = record { items = At level.L2 ∷ [] }; act = act.Once; process = record { items = codes "serv" } } ∷ []
+stubborn = record {
+  id = codes "x";
+  levels = record { items = At level.L2 ∷ [] };
+  act = act.Once;
+  process = record { items = codes "serv" };
+} ∷ []
 
 abbrev asked : Point
-asked = record { over = []; lates = 0; generation = 0; past = Told (codes "x") ∷ Hit (codes "x") ∷ Asked (codes "x") order.Term ∷ Enter (stage.Run level.L3) 5 ∷ NotRead ∷ Got (got.Level level.L3 5) ∷ Settle level.L2 ∷ Told (codes "x") ∷ Birth (codes "x") 10 ∷ Asked (codes "x") order.Start ∷ Enter (stage.Run level.L2) 5 ∷ Enter stage.Boot 5 ∷ Enter stage.Sysinit 5 ∷ NewTable stubborn ∷ [] }
+asked = record {
+  over = [];
+  lates = 0;
+  generation = 0;
+  past = Told (codes "x") ∷ Hit (codes "x") ∷ Asked (codes "x") order.Term ∷ Enter (stage.Run level.L3) 5 ∷ NotRead
+      ∷ Got (got.Level level.L3 5) ∷ Settle level.L2 ∷ Told (codes "x") ∷ Birth (codes "x") 10 ∷ Asked (codes "x")
+      order.Start ∷ Enter (stage.Run level.L2) 5 ∷ Enter stage.Boot 5 ∷ Enter stage.Sysinit 5 ∷ NewTable stubborn ∷ [];
+}
 
 abbrev alive_at : ℕ → List HostCall → List HostCall
 alive_at time calls = Pause ∷ Look (codes "x") (Now Alive) ∷ Late None ∷ TakeBytes 256 (Ok []) ∷ Clock (Ok time) ∷ calls
 
 abbrev killing : List HostCall
-killing = Pause ∷ Look (codes "x") (Now Alive) ∷ Signal (codes "x") signal.Kill (Now answer.Hit) ∷ Late None ∷ TakeBytes 256 (Ok []) ∷ Clock (Ok 5) ∷ alive_at 4 (alive_at 3 (alive_at 2 (alive_at 1 (alive_at 0 []))))
+killing = Pause ∷ Look (codes "x") (Now Alive) ∷ Signal (codes "x") signal.Kill (Now answer.Hit) ∷ Late None
+    ∷ TakeBytes 256 (Ok []) ∷ Clock (Ok 5) ∷ alive_at 4 (alive_at 3 (alive_at 2 (alive_at 1 (alive_at 0 []))))
 
 abbrev dying : List HostCall
-dying = Pause ∷ Announce (Settle level.L3) ∷ Look (codes "x") (Now (Ended Killed)) ∷ Late None ∷ TakeBytes 256 (Ok []) ∷ Clock (Ok 5) ∷ alive_at 5 killing
+dying = Pause ∷ Announce (Settle level.L3) ∷ Look (codes "x") (Now (Ended Killed)) ∷ Late None ∷ TakeBytes 256 (Ok [])
+    ∷ Clock (Ok 5) ∷ alive_at 5 killing
 
 dying-in_place : has_trace (opening_goal (Some level.L2) stubborn) dying asked ≡ true
 dying-in_place = refl

@@ -1,5 +1,11 @@
 -- Worked crashes: `refl` computes what is left of a run whose init is killed.
-use Rattle.init_turns.proofs.Words.{◌≡◌, drop, refl, sym, ap, subst, inl, inr, ℕ, Bool, true, false, ◌&&◌, List, [], ◌∷◌, ◌++◌, codes, Some, None, Ok, list_all, false≢true, and_parts, none-some, Entry, Goal, is_unreaped, Event, open_of, is_sound, lawful_unbroken, sound_lawful, opening_goal, Start, Look, Late, Clock, TakeBytes, Carry, Announce, Pause, Now, HostCall, trace_at, EachFront, AreTexts, UpTo, WentWell, are_carried, is_allowed, Point, has_trace, point_after, IsOpening, opening_point, Leaves, LeavesIn, is_of_idle_look}
+use Rattle.init_turns.proofs.Words.{◌≡◌, drop, refl, sym, ap, subst, inl, inr, ℕ, Bool, true, false, ◌&&◌, List, []}
+use Rattle.init_turns.proofs.Words.{◌∷◌, ◌++◌, codes, Some, None, Ok, list_all, false≢true, and_parts, none-some, Entry}
+use Rattle.init_turns.proofs.Words.{Goal, is_unreaped, Event, open_of, is_sound, lawful_unbroken, sound_lawful}
+use Rattle.init_turns.proofs.Words.{opening_goal, Start, Look, Late, Clock, TakeBytes, Carry, Announce, Pause, Now}
+use Rattle.init_turns.proofs.Words.{HostCall, trace_at, EachFront, AreTexts, UpTo, WentWell, are_carried, is_allowed}
+use Rattle.init_turns.proofs.Words.{Point, has_trace, point_after, IsOpening, opening_point, Leaves, LeavesIn}
+use Rattle.init_turns.proofs.Words.{is_of_idle_look}
 use Rattle.init_words.specs.declared.actions.Act.{Act}
 use Rattle.init_words.specs.declared.actions.Act.TheVariants as act
 use Rattle.init_words.specs.declared.children.Status.TheVariants.{Exit}
@@ -13,11 +19,13 @@ use Rattle.trace_events.specs.declared.happenings.Happening.TheVariants as past
 use Rattle.init_turns.proofs.Crashes.{leaves, leaves_in}
 
 abbrev entry : List ℕ → List Mark → Act → List ℕ → Entry
-entry id levels action process = record { id = id; levels = record { items = levels }; act = action; process = record { items = process } }
+entry id levels action process =
+    record { id = id; levels = record { items = levels }; act = action; process = record { items = process } }
 
 -- init waits for w, and starts r behind it
 abbrev table : List Entry
-table = entry (codes "id") (At level.L3 ∷ []) act.Initdefault [] ∷ entry (codes "w") (At level.L3 ∷ []) act.Wait (codes "prep") ∷ entry (codes "r") (At level.L3 ∷ []) act.Respawn (codes "serv") ∷ []
+table = entry (codes "id") (At level.L3 ∷ []) act.Initdefault [] ∷ entry (codes "w") (At level.L3 ∷ []) act.Wait
+    (codes "prep") ∷ entry (codes "r") (At level.L3 ∷ []) act.Respawn (codes "serv") ∷ []
 
 abbrev goal : Goal
 goal = opening_goal None table
@@ -26,7 +34,8 @@ abbrev opening : Point
 opening = opening_point table
 
 abbrev entered : List HostCall
-entered = Announce (past.Enter (stage.Run level.L3) 5) ∷ Announce (past.Enter stage.Boot 5) ∷ Announce (past.Enter stage.Sysinit 5) ∷ Late None ∷ TakeBytes 256 (Ok []) ∷ Clock (Ok 0) ∷ []
+entered = Announce (past.Enter (stage.Run level.L3) 5) ∷ Announce (past.Enter stage.Boot 5)
+    ∷ Announce (past.Enter stage.Sysinit 5) ∷ Late None ∷ TakeBytes 256 (Ok []) ∷ Clock (Ok 0) ∷ []
 
 abbrev start_w : HostCall
 start_w = Start (codes "w") (codes "prep") (Now (Born 11))
@@ -63,11 +72,13 @@ record AreWell (call : HostCall) (calls : List HostCall) : Type 0 where
   pub none : carries_none call ≡ true
 
 abbrev is_well : HostCall → List HostCall → Bool
-is_well call calls = has_trace goal (call ∷ calls) opening && (is_sound goal (point_after (call ∷ calls) opening).past && carries_none call)
+is_well call calls = has_trace goal (call ∷ calls) opening
+    && (is_sound goal (point_after (call ∷ calls) opening).past && carries_none call)
 
 are_well : (call : HostCall) (calls : List HostCall) → is_well call calls ≡ true → AreWell call calls
 are_well call calls well =
-    let one = and_parts (has_trace goal (call ∷ calls) opening) (is_sound goal (point_after (call ∷ calls) opening).past && carries_none call) well in
+    let one = and_parts (has_trace goal (call ∷ calls) opening)
+    (is_sound goal (point_after (call ∷ calls) opening).past && carries_none call) well in
     let two = and_parts (is_sound goal (point_after (call ∷ calls) opening).past) (carries_none call) one.1 in
     record { in_place = one.0; sound = two.0; none = two.1 }
 
@@ -80,9 +91,11 @@ run-well = refl
 
 well_behind : (later calls : List HostCall) → all_well (later ++ calls) ≡ true → all_well calls ≡ true
 well_behind [] calls well = well
-well_behind (one ∷ later) calls well = well_behind later calls (and_parts (is_well one (later ++ calls)) (all_well (later ++ calls)) well).1
+well_behind (one ∷ later) calls well =
+    well_behind later calls (and_parts (is_well one (later ++ calls)) (all_well (later ++ calls)) well).1
 
-no_text : (call : HostCall) (calls : List HostCall) → carries_none call ≡ true → AreTexts goal calls opening → AreTexts goal (call ∷ calls) opening
+no_text : (call : HostCall) (calls : List HostCall) → carries_none call ≡ true → AreTexts goal calls opening
+    → AreTexts goal (call ∷ calls) opening
 no_text (Carry text back) calls none texts = absurd (false≢true none)
 no_text call calls none texts = texts
 
@@ -92,16 +105,25 @@ no_texts (call ∷ calls) well =
     let parts = and_parts (is_well call calls) (all_well calls) well in
     no_text call calls (are_well call calls parts.0).none (no_texts calls parts.1)
 
-well_of : (call : HostCall) (calls : List HostCall) → all_well (call ∷ calls) ≡ true → WentWell goal opening (call ∷ calls)
+well_of : (call : HostCall) (calls : List HostCall) → all_well (call ∷ calls) ≡ true
+    → WentWell goal opening (call ∷ calls)
 well_of call calls well =
     let own = are_well call calls (and_parts (is_well call calls) (all_well calls) well).0 in
-    record { in_place = own.in_place; sound = own.sound; unbroken = lawful_unbroken (point_after (call ∷ calls) opening).past (sound_lawful goal (point_after (call ∷ calls) opening).past own.sound) }
+    record {
+      in_place = own.in_place;
+      sound = own.sound;
+      unbroken = lawful_unbroken (point_after (call ∷ calls) opening).past
+          (sound_lawful goal (point_after (call ∷ calls) opening).past own.sound);
+    }
 
 run-fronts : EachFront (UpTo (IsOpening None table) WentWell) run
 run-fronts later earlier next call is apart g p sound (of_goal, of_point) allowed =
-    let well : all_well (call ∷ earlier) ≡ true = well_behind (next ∷ []) (call ∷ earlier) (well_behind later (next ∷ call ∷ earlier) (ap all_well (sym is))) in
-    subst (λ (x : Goal). AreTexts x (call ∷ earlier) p × (are_carried (call ∷ earlier) p ≡ true → WentWell x p (call ∷ earlier))) (sym of_goal)
-    (subst (λ (q : Point). AreTexts goal (call ∷ earlier) q × (are_carried (call ∷ earlier) q ≡ true → WentWell goal q (call ∷ earlier))) (sym of_point)
+    let well : all_well (call ∷ earlier) ≡ true =
+    well_behind (next ∷ []) (call ∷ earlier) (well_behind later (next ∷ call ∷ earlier) (ap all_well (sym is))) in
+    subst (λ (x : Goal). AreTexts x (call ∷ earlier) p
+    × (are_carried (call ∷ earlier) p ≡ true → WentWell x p (call ∷ earlier))) (sym of_goal)
+    (subst (λ (q : Point). AreTexts goal (call ∷ earlier) q
+    × (are_carried (call ∷ earlier) q ≡ true → WentWell goal q (call ∷ earlier))) (sym of_point)
     (no_texts (call ∷ earlier) well, λ carried. well_of call earlier well))
 
 -- ---- init is killed when w was born, and that was not logged
@@ -113,7 +135,8 @@ abbrev world_after : List HostCall → List Event
 world_after calls = (point_after calls opening).past
 
 at_start : Leaves start_w goal (front_at start_w entered) (world_after (start_w ∷ entered))
-at_start = leaves None table refl (Pause ∷ start_r ∷ look_w ∷ Late None ∷ TakeBytes 256 (Ok []) ∷ Clock (Ok 0) ∷ []) entered Pause start_w run-fronts refl refl
+at_start = leaves None table refl (Pause ∷ start_r ∷ look_w ∷ Late None ∷ TakeBytes 256 (Ok []) ∷ Clock (Ok 0) ∷ [])
+    entered Pause start_w run-fronts refl refl
 
 start-lives : is_unreaped (codes "w") 11 (world_after (start_w ∷ entered)) ≡ true
 start-lives = refl
@@ -147,7 +170,8 @@ look-open = refl
 
 -- the file lacks the order of the look
 in_file : LeavesIn look_w goal (world_after waiting) (world_after (look_w ∷ waiting))
-in_file = leaves_in look_w goal (past.Asked (codes "w") ask.Look ∷ []) (drop 1 (world_after waiting)) (world_after (look_w ∷ waiting)) past.Nudge refl at_look
+in_file = leaves_in look_w goal (past.Asked (codes "w") ask.Look ∷ []) (drop 1 (world_after waiting))
+    (world_after (look_w ∷ waiting)) past.Nudge refl at_look
 
 -- what is lacking there is no start
 start-is_written : list_all is_of_idle_look (past.Asked (codes "w") ask.Start ∷ []) ≡ false
@@ -170,5 +194,6 @@ too_early-is_not_in_place : has_trace goal (start_r ∷ waiting) opening ≡ fal
 too_early-is_not_in_place = refl
 
 -- w is sent a KILL, and is not excluded
-strange-is_not : (world : List Event) → Leaves Pause goal (past.Asked (codes "w") ask.Kill ∷ world_after waiting) world → ⊥
+strange-is_not : (world : List Event) → Leaves Pause goal (past.Asked (codes "w") ask.Kill ∷ world_after waiting) world
+    → ⊥
 strange-is_not world all = absurd (false≢true all.lawful)

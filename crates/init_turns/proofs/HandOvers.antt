@@ -1,5 +1,13 @@
 -- What comes of a state text that is carried.
-use Rattle.init_turns.proofs.Words.{◌≡◌, refl, sym, ap, ◌∙◌, subst, ℕ, Bool, true, false, ◌==◌, ◌||◌, not, nat_lt, List, [], ◌∷◌, ◌++◌, length, drop, append-nil, Option, Some, Ok, arith, length-append, starts_with, option_map_or, false≢true, and_from, and_parts, eq-eqb, eqb-true, ltb-true, same_Some, same_id-self, Event, StillFits, OnEachTrace, SavedState, state_of, IsFit, CoreState, after_handed_on, V2, IsCut, IsOther, IsTextIn, IsTextOf, generation_said, LogState, AddsStamped, KeptAt, Made, kept_led, kept_still, Goal, Point, Announce, Carry, TextRead, past_of, came_cut, carrying, is_of_generation, is_outcome, same_text, Gave, Leads, Logs, Tracks, comes_back, HandedOn, Leads-carried, ComesTo, IsStep, MakesOver, Saying}
+use Rattle.init_turns.proofs.Words.{◌≡◌, refl, sym, ap, ◌∙◌, subst, ℕ, Bool, true, false, ◌==◌, ◌||◌, not, nat_lt, List}
+use Rattle.init_turns.proofs.Words.{[], ◌∷◌, ◌++◌, length, drop, append-nil, Option, Some, Ok, arith, length-append}
+use Rattle.init_turns.proofs.Words.{starts_with, option_map_or, false≢true, and_from, and_parts, eq-eqb, eqb-true}
+use Rattle.init_turns.proofs.Words.{ltb-true, same_Some, same_id-self, Event, StillFits, OnEachTrace, SavedState}
+use Rattle.init_turns.proofs.Words.{state_of, IsFit, CoreState, after_handed_on, V2, IsCut, IsOther, IsTextIn, IsTextOf}
+use Rattle.init_turns.proofs.Words.{generation_said, LogState, AddsStamped, KeptAt, Made, kept_led, kept_still, Goal}
+use Rattle.init_turns.proofs.Words.{Point, Announce, Carry, TextRead, past_of, came_cut, carrying, is_of_generation}
+use Rattle.init_turns.proofs.Words.{is_outcome, same_text, Gave, Leads, Logs, Tracks, comes_back, HandedOn}
+use Rattle.init_turns.proofs.Words.{Leads-carried, ComesTo, IsStep, MakesOver, Saying}
 use Rattle.std.proofs.lemmas.Bool.Decides.{Decides-eqb}
 use Rattle.std.proofs.lemmas.Slice.Eq.{starts_is}
 use Rattle.trace_events.specs.declared.happenings.Handed.{Handed as HandOver}
@@ -14,32 +22,43 @@ use Rattle.init_turns.proofs.Parts.{Makes-one, Makes-two}
 -- ---- what came back was taken over
 
 -- a text that says a state names its generation
-names_own : (back : List ℕ) (other : SavedState) (generation : ℕ) → IsTextOf back other → other.fields.generation ≡ generation → is_of_generation generation back ≡ true
+names_own : (back : List ℕ) (other : SavedState) (generation : ℕ) → IsTextOf back other
+    → other.fields.generation ≡ generation → is_of_generation generation back ≡ true
 names_own back other generation said own =
-    ap (λ o. option_map_or (λ g. g == generation) o false) (generation_said back other said) ∙ eq-eqb other.fields.generation generation own
+    ap (λ o. option_map_or (λ g. g == generation) o false) (generation_said back other said)
+    ∙ eq-eqb other.fields.generation generation own
 
 begins : (text back : List ℕ) → starts_with ◌==◌ text back ≡ true → text ≡ back ++ drop (length back) text
 begins text back h = (starts_is Decides-eqb text back _ refl).0 h
 
 -- it came back as it was, and so init keeps what it kept
-pub taken_back : (old next : CoreState) (text back : List ℕ) → IsTextOf text (state_of old) → IsFit old → comes_back old.fields.generation text (Ok back) ≡ true → IsTextOf back (state_of next) → next.fields.generation ≡ old.fields.generation → ((core : CoreState) → IsFit core → IsTextOf back (state_of core) → core.fields.generation ≡ old.fields.generation → next ≡ core) → (next ≡ old) × (same_text text back ≡ true)
+pub taken_back : (old next : CoreState) (text back : List ℕ) → IsTextOf text (state_of old) → IsFit old
+    → comes_back old.fields.generation text (Ok back) ≡ true → IsTextOf back (state_of next)
+    → next.fields.generation ≡ old.fields.generation → ((core : CoreState) → IsFit core → IsTextOf back (state_of core)
+    → core.fields.generation ≡ old.fields.generation → next ≡ core) → (next ≡ old) × (same_text text back ≡ true)
 taken_back old next text back says fit comes said own only = by (starts_with ◌==◌ text back) refl comes
   where
     whole : starts_with ◌==◌ text back ≡ true → (next ≡ old) × (same_text text back ≡ true)
     whole starts =
         let parts : text ≡ back ++ drop (length back) text = begins text back starts in
-        let none : drop (length back) text ≡ [] = no_prefix (state_of next) (state_of old) back (drop (length back) text) said (subst (λ t. IsTextOf t (state_of old)) parts says) in
-        let same : text ≡ back = parts ∙ ap (λ l. back ++ l) none ∙ append-nil back in
-        (only old fit (subst (λ t. IsTextOf t (state_of old)) same says) refl, subst (λ t. same_text text t ≡ true) same (same_id-self text))
+        let none : drop (length back) text ≡ [] = no_prefix (state_of next) (state_of old) back
+        (drop (length back) text) said (subst (λ t. IsTextOf t (state_of old)) parts says) in
+        let same : text ≡ back = parts ∙ ap (λ l. back ++ l) none ∙ append-nil back in (
+          only old fit (subst (λ t. IsTextOf t (state_of old)) same says) refl,
+          subst (λ t. same_text text t ≡ true) same (same_id-self text),
+        )
 
-    by : (b : Bool) → starts_with ◌==◌ text back ≡ b → (b || not (is_of_generation old.fields.generation back)) ≡ true → (next ≡ old) × (same_text text back ≡ true)
+    by : (b : Bool) → starts_with ◌==◌ text back ≡ b → (b || not (is_of_generation old.fields.generation back)) ≡ true
+        → (next ≡ old) × (same_text text back ≡ true)
     by true starts h = whole starts
-    by false starts h = absurd (false≢true (ap not (sym (names_own back (state_of next) old.fields.generation said own)) ∙ h))
+    by false starts h =
+        absurd (false≢true (ap not (sym (names_own back (state_of next) old.fields.generation said own)) ∙ h))
 
 -- ---- or refused
 
 -- what was not told to be cut is no proper prefix of a state's text
-pub failed_said : (text back : List ℕ) (state : SavedState) → IsTextOf text state → (IsCut back → ⊥) → is_outcome handed.Failed text (Ok back) ≡ true
+pub failed_said : (text back : List ℕ) (state : SavedState) → IsTextOf text state → (IsCut back → ⊥)
+    → is_outcome handed.Failed text (Ok back) ≡ true
 failed_said text back state says never = by (came_cut text (Ok back)) refl
   where
     by : (b : Bool) → came_cut text (Ok back) ≡ b → not b ≡ true
@@ -47,10 +66,17 @@ failed_said text back state says never = by (came_cut text (Ok back)) refl
         let parts = and_parts (starts_with ◌==◌ text back) (nat_lt (length back) (length text)) cut in
         let whole : text ≡ back ++ drop (length back) text = begins text back parts.0 in
         let less = ltb-true (length back) (length text) parts.1 in
-        absurd (never (λ is. omega (arith, less, ap length whole, length-append back (drop (length back) text), ap length (whole_ends text back (drop (length back) text) state says (sym whole) is))))
+        absurd (never (λ is. omega (
+          arith,
+          less,
+          ap length whole,
+          length-append back (drop (length back) text),
+          ap length (whole_ends text back (drop (length back) text) state says (sym whole) is),
+        )))
     by false cut = refl
 
-pub older_said : (text back : List ℕ) (own g : ℕ) → generation_of text ≡ Some own → generation_of back ≡ Some g → IsOther back own → is_outcome (handed.Older g) text (Ok back) ≡ true
+pub older_said : (text back : List ℕ) (own g : ℕ) → generation_of text ≡ Some own → generation_of back ≡ Some g
+    → IsOther back own → is_outcome (handed.Older g) text (Ok back) ≡ true
 older_said text back own g says names other = and_from (is_of_generation g back) (not (is_of_generation g text))
     (ap (λ o. option_map_or (λ n. n == g) o false) names ∙ eq-eqb g g refl)
     (ap not (ap (λ o. option_map_or (λ n. n == g) o false) says) ∙ apart (own == g) refl)
@@ -65,18 +91,28 @@ older_said text back own g says names other = and_from (is_of_generation g back)
 -- ---- the calls of a hand-over
 
 -- the state was handed over as a text, which was carried, and what came of it was said
-pub Makes-carried : {L : Type 0} (state : L → LogState) (old mid new : Option (List (Made L))) (l₀ l₁ : L) (c next behind : CoreState) (how : HandOver) (text : List ℕ) (back : TextRead) → AddsStamped old mid (Carry text back) l₀ → Saying how mid new l₁
-    → next ≡ after_handed_on c → OnEachTrace c (λ goal so_far. (h : HandOver) → StillFits c next goal so_far (past.Handed h ∷ so_far))
-    → (range.has_short_seconds c ≡ true → IsTextIn V2 text (state_of next) × IsFit next) → ComesTo how text back next behind
+pub Makes-carried : {L : Type 0} (state : L → LogState) (old mid new : Option (List (Made L))) (l₀ l₁ : L)
+    (c next behind : CoreState) (how : HandOver) (text : List ℕ) (back : TextRead)
+    → AddsStamped old mid (Carry text back) l₀ → Saying how mid new l₁
+    → next ≡ after_handed_on c
+    → OnEachTrace c (λ goal so_far. (h : HandOver) → StillFits c next goal so_far (past.Handed h ∷ so_far))
+    → (range.has_short_seconds c ≡ true → IsTextIn V2 text (state_of next) × IsFit next)
+    → ComesTo how text back next behind
     → ((so_far : List Event) → Logs (state l₀) (state l₁) so_far (past.Handed how ∷ so_far))
     → MakesOver state old new (state l₀) (state l₁) IsStep (Gave (Tracks c) step.Reexec) (Tracks behind)
-Makes-carried {L = L} state old mid new l₀ l₁ c next behind how text back adds says is fits said comes took = by how adds says leads
+Makes-carried {L = L} state old mid new l₀ l₁ c next behind how text back adds says is fits said comes took =
+    by how adds says leads
   where
     before : Goal → Point → Type 0
     before = Gave (Tracks c) step.Reexec
 
     handed_on : HandedOn c next text
-    handed_on = record { fits = fits; own = ap (λ (s : CoreState). s.fields.generation) is; short = ap range.has_short_seconds is; says = said }
+    handed_on = record {
+      fits = fits;
+      own = ap (λ (s : CoreState). s.fields.generation) is;
+      short = ap range.has_short_seconds is;
+      says = said;
+    }
 
     leads : Leads before (Tracks behind) (state l₀) (state l₁) (carrying how text back)
     leads = Leads-carried c next behind (state l₀) (state l₁) how text back handed_on comes took
@@ -84,14 +120,19 @@ Makes-carried {L = L} state old mid new l₀ l₁ c next behind how text back ad
     carried : KeptAt past_of before (state l₀) (state l₀) (Carry text back) []
     carried = kept_still before (state l₀) (Carry text back) (λ so_far. refl)
 
-    refused : (h : HandOver) → IsStep (Announce (past.Handed h) ∷ Carry text back ∷ []) → AddsStamped old mid (Carry text back) l₀ → AddsStamped mid new (Announce (past.Handed h)) l₁ → Leads before (Tracks behind) (state l₀) (state l₁) (Announce (past.Handed h) ∷ Carry text back ∷ [])
+    refused : (h : HandOver) → IsStep (Announce (past.Handed h) ∷ Carry text back ∷ [])
+        → AddsStamped old mid (Carry text back) l₀ → AddsStamped mid new (Announce (past.Handed h)) l₁
+        → Leads before (Tracks behind) (state l₀) (state l₁) (Announce (past.Handed h) ∷ Carry text back ∷ [])
         → MakesOver state old new (state l₀) (state l₁) IsStep before (Tracks behind)
-    refused h shape first second goes = Makes-two state old mid new (state l₀) (state l₁) l₀ l₁ (Carry text back) (Announce (past.Handed h)) IsStep before (Tracks behind) refl first second shape goes carried
+    refused h shape first second goes = Makes-two state old mid new (state l₀) (state l₁) l₀ l₁ (Carry text back)
+        (Announce (past.Handed h)) IsStep before (Tracks behind) refl first second shape goes carried
         (kept_led before (Tracks behind) (state l₀) (state l₁) (past.Handed h) (Carry text back ∷ []) goes)
 
-    by : (h : HandOver) → AddsStamped old mid (Carry text back) l₀ → Saying h mid new l₁ → Leads before (Tracks behind) (state l₀) (state l₁) (carrying h text back)
+    by : (h : HandOver) → AddsStamped old mid (Carry text back) l₀ → Saying h mid new l₁
+        → Leads before (Tracks behind) (state l₀) (state l₁) (carrying h text back)
         → MakesOver state old new (state l₀) (state l₁) IsStep before (Tracks behind)
-    by handed.Whole first none goes = Makes-one state old new (state l₀) (state l₁) l₀ (Carry text back) IsStep before (Tracks behind) (subst (λ t. AddsStamped old t (Carry text back) l₀) (sym none) first) refl goes carried
+    by handed.Whole first none goes = Makes-one state old new (state l₀) (state l₁) l₀ (Carry text back) IsStep before
+        (Tracks behind) (subst (λ t. AddsStamped old t (Carry text back) l₀) (sym none) first) refl goes carried
     by (handed.Cut bytes) first second goes = refused (handed.Cut bytes) refl first second goes
     by (handed.Older generation) first second goes = refused (handed.Older generation) refl first second goes
     by handed.Failed first second goes = refused handed.Failed refl first second goes

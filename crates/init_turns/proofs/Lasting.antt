@@ -1,14 +1,19 @@
 -- What init does and hears leaves a core that keeps the rules, and names an hour at most, such a core.
-use Rattle.init_turns.proofs.Words.{◌≡◌, refl, ap, ◌∙◌, ℕ, true, List, Entry, HeardRequest, Step, is_request, decide, CoreState, after_adopt, after_clock, after_got, after_handed, after_not_read, after_round, after_step, Lasts}
+use Rattle.init_turns.proofs.Words.{◌≡◌, refl, ap, ◌∙◌, ℕ, true, List, Entry, HeardRequest, Step, is_request, decide}
+use Rattle.init_turns.proofs.Words.{CoreState, after_adopt, after_clock, after_got, after_handed, after_not_read}
+use Rattle.init_turns.proofs.Words.{after_round, after_step, Lasts}
 use Rattle.core_handover.proofs.Lasting as lasting
 use Rattle.init_turns.proofs.Carried.{lasts_as}
 use Rattle.core_handover.proofs.Generations.{request_same, step_same}
 
 pub step_lasts : (c new : CoreState) (made : Step) → made ≡ decide c → new ≡ after_step made c → Lasts c new
-step_lasts c new made is after = lasts_as c new (after_step (decide c) c) (after ∙ ap (λ s. after_step s c) is) (lasting.step_lasts c) (step_same (decide c) c)
+step_lasts c new made is after = lasts_as c new (after_step (decide c) c) (after ∙ ap (λ s. after_step s c) is)
+    (lasting.step_lasts c) (step_same (decide c) c)
 
-pub request_lasts : (c new : CoreState) (request : HeardRequest) → is_request request ≡ true → new ≡ after_got request c → Lasts c new
-request_lasts c new request asks after = lasts_as c new (after_got request c) after (lasting.request_lasts request c asks) (request_same request c)
+pub request_lasts : (c new : CoreState) (request : HeardRequest) → is_request request ≡ true → new ≡ after_got request c
+    → Lasts c new
+request_lasts c new request asks after =
+    lasts_as c new (after_got request c) after (lasting.request_lasts request c asks) (request_same request c)
 
 pub clock_lasts : (c new : CoreState) (reading : ℕ) → new ≡ after_clock reading c → Lasts c new
 clock_lasts c new reading after = lasts_as c new (after_clock reading c) after (λ short. short) refl

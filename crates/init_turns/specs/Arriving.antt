@@ -1,6 +1,8 @@
 -- After which turns a level is settled. Calls stand THE NEWEST FIRST, those of a turn behind the pause after it.
-use Rattle.std.specs.Prelude.{◌≡◌, ◌≤◌, ◌<◌, ◌+◌, ◌-◌, ℕ, zero, suc, Bool, ◌&&◌, IsTrue, nat_lt, if◌then◌else◌, List, [], ◌∷◌, length, take, Option, Some}
-use Rattle.init_turns.specs.Words.{Entry, Level, Goal, Event, CoreState, opening_goal, Pause, HostCall, STEP_LIMIT, are_carried, is_allowed, Point, point_after, MadeTurns}
+use Rattle.std.specs.Prelude.{◌≡◌, ◌≤◌, ◌<◌, ◌+◌, ◌-◌, ℕ, zero, suc, Bool, ◌&&◌, IsTrue, nat_lt, if◌then◌else◌, List}
+use Rattle.std.specs.Prelude.{[], ◌∷◌, length, take, Option, Some}
+use Rattle.init_turns.specs.Words.{Entry, Level, Goal, Event, CoreState, opening_goal, Pause, HostCall, STEP_LIMIT}
+use Rattle.init_turns.specs.Words.{are_carried, is_allowed, Point, point_after, MadeTurns}
 use Rattle.init_words.specs.declared.stages.Stage.TheVariants.{Run}
 use Rattle.trace_events.specs.Past.{is_idle, stage_of}
 use Rattle.trace_events.specs.Wishes.{goal_of}
@@ -79,8 +81,8 @@ abbrev pub Arrives : Option Level → List Entry → ℕ → List HostCall → T
 Arrives level table turns calls = (later : ℕ) (rounds : List ℕ) → later + turns_in rounds < turns
     → ArrivesIn (opening_goal level table) (opening_point table) rounds (without_turns later calls)
 
--- the given number of turns were made from the opening on, and somebody who looks saw the core after each; and where the
--- system does its part a level is settled
+-- the given number of turns were made from the opening on, and somebody who looks saw the core after each; and where
+-- the system does its part a level is settled
 abbrev pub ServesTurns : Bool → Bool → Option Level → List Entry → ℕ → Option (List CoreState)
     → Option (List CoreState) → List HostCall → Type 0
 ServesTurns strict drain level table turns saw now_saw calls =

@@ -1,6 +1,7 @@
 -- A run from its opening: the table that is in force then, and nothing before it (init(8)).
 use Rattle.std.specs.Prelude.{◌≡◌, true, List, [], ◌∷◌, Option}
-use Rattle.init_turns.specs.Words.{Entry, Level, is_distinct, NewTable, Goal, Event, CoreState, opening_goal, opening_state, LogState, HostCall, EdgeState, Point}
+use Rattle.init_turns.specs.Words.{Entry, Level, is_distinct, NewTable, Goal, Event, CoreState, opening_goal}
+use Rattle.init_turns.specs.Words.{opening_state, LogState, HostCall, EdgeState, Point}
 use Rattle.init_turns.specs.Parts.{LeftBy, MakesFrom}
 
 -- a run begins with the table that is in force

@@ -1,6 +1,10 @@
 -- What each part of a turn makes of init's host, log and core (init(8)).
 use Rattle.std.specs.Prelude.{◌≡◌, ◌≤◌, ◌⊎◌, ◌||◌, ℕ, Bool, true, false, IsTrue, List, [], ◌∷◌, Option, Result, is_some}
-use Rattle.init_turns.specs.Words.{Entry, Ended, entry_of, Handed, Goal, Step, Event, is_seconds, CoreState, with_step, state_of, IsTextOf, LogState, Late, Clock, TakeBytes, Announce, HostCall, TextRead, STEP_LIMIT, Point, is_last, is_outcome, is_announcement, may_announce, Since, AddsStamped, EdgeState, Kept, Made, calls_of, At, Tracks, UpTo, Went, comes_back, past_of, AreSteps, bytes_in, is_reread, is_room, is_step}
+use Rattle.init_turns.specs.Words.{Entry, Ended, entry_of, Handed, Goal, Step, Event, is_seconds, CoreState, with_step}
+use Rattle.init_turns.specs.Words.{state_of, IsTextOf, LogState, Late, Clock, TakeBytes, Announce, HostCall, TextRead}
+use Rattle.init_turns.specs.Words.{STEP_LIMIT, Point, is_last, is_outcome, is_announcement, may_announce, Since}
+use Rattle.init_turns.specs.Words.{AddsStamped, EdgeState, Kept, Made, calls_of, At, Tracks, UpTo, Went, comes_back}
+use Rattle.init_turns.specs.Words.{past_of, AreSteps, bytes_in, is_reread, is_room, is_step}
 use Rattle.init_words.specs.declared.orders.Answer.{Answer}
 use Rattle.init_words.specs.declared.orders.OrderKind.TheVariants as ask
 use Rattle.initctl_frame.specs.Blocks.{Begun}

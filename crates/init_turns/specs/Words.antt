@@ -4,12 +4,16 @@ pub use Rattle.init_words.specs.declared.levels.Level.{Level}
 pub use Rattle.trace_events.specs.declared.steps.Goal.{Goal}
 pub use Rattle.trace_events.specs.Event.{Event}
 pub use Rattle.core_model.specs.State.{CoreState, opening_goal, opening_state}
-pub use Rattle.host_calls.specs.declared.calls.Call.TheVariants.{Pause, Late, Clock, TakeBytes, Announce, Carry, ReadTables}
+pub use Rattle.host_calls.specs.declared.calls.Call.TheVariants.{Pause, Late, Clock, TakeBytes, Announce, Carry}
+pub use Rattle.host_calls.specs.declared.calls.Call.TheVariants.{ReadTables}
 pub use Rattle.host_calls.specs.Calls.{HostCall, TextRead, PartsRead}
 pub use Rattle.host_trace.specs.declared.TheConstants.{STEP_LIMIT, BYTE_LIMIT, LATE_LIMIT, PIECE}
-pub use Rattle.host_trace.specs.Leads.{are_carried, is_allowed, At, Tracks, UpTo, Went, comes_back, past_of, Hears, Logs, Counted, Leads, Gave, Lasts}
-pub use Rattle.host_trace.specs.Point.{Point, point_after, is_last, is_outcome, is_announcement, may_announce, last_birth, acted, answered, replied, come, order_for}
-pub use Rattle.host_trace.specs.Turns.{MadeTurns, AreSteps, bytes_in, is_reread, is_room, is_step, are_lates, are_takes, may_take, IsTurn}
+pub use Rattle.host_trace.specs.Leads.{are_carried, is_allowed, At, Tracks, UpTo, Went, comes_back, past_of, Hears}
+pub use Rattle.host_trace.specs.Leads.{Logs, Counted, Leads, Gave, Lasts}
+pub use Rattle.host_trace.specs.Point.{Point, point_after, is_last, is_outcome, is_announcement, may_announce}
+pub use Rattle.host_trace.specs.Point.{last_birth, acted, answered, replied, come, order_for}
+pub use Rattle.host_trace.specs.Turns.{MadeTurns, AreSteps, bytes_in, is_reread, is_room, is_step, are_lates, are_takes}
+pub use Rattle.host_trace.specs.Turns.{may_take, IsTurn}
 pub use Rattle.inittab_text.specs.Tables.{is_distinct, entry_of}
 pub use Rattle.trace_events.specs.declared.happenings.Happening.TheVariants.{NewTable, Handed, Told}
 pub use Rattle.trace_log.specs.Logs.{LogState}

@@ -13,8 +13,10 @@ pub record IdParts (id : List ℕ) : Type 0 where
 
 pub id_parts : (id : List ℕ) → is_id id ≡ true → IdParts id
 id_parts id is =
-    let tests = and_parts (nat_le 1 (length id) && nat_le (length id) ID_LIMIT && not (slice_index id 0 == 35)) (list_all is_id_byte id) is in
-    let first = and_parts (nat_le 1 (length id) && nat_le (length id) ID_LIMIT) (not (slice_index id 0 == 35)) tests.0 in
+    let tests = and_parts (nat_le 1 (length id) && nat_le (length id) ID_LIMIT && not (slice_index id 0 == 35))
+    (list_all is_id_byte id) is in
+    let first =
+    and_parts (nat_le 1 (length id) && nat_le (length id) ID_LIMIT) (not (slice_index id 0 == 35)) tests.0 in
     let lengths = and_parts (nat_le 1 (length id)) (nat_le (length id) ID_LIMIT) first.0 in
     record {
       filled = leb-true 1 (length id) lengths.0;

@@ -39,7 +39,8 @@ same_id-from a b h = (bytes_eq-Decides a b).1 h
 
 -- two ids that differ from each other are not both that of a third
 pub same_id-apart : (a b c : List ℕ) → same_id a b ≡ false → same_id a c ≡ true → same_id b c ≡ false
-same_id-apart a b c differ same = falsely (same_id b c) (same_id a b) (λ h. same_id-from a b (same_id-is a c same ∙ sym (same_id-is b c h))) differ
+same_id-apart a b c differ same =
+    falsely (same_id b c) (same_id a b) (λ h. same_id-from a b (same_id-is a c same ∙ sym (same_id-is b c h))) differ
 
 -- orders, levels, actions
 pub same_ask-is : (a b : OrderKind) → same_ask a b ≡ true → a ≡ b
@@ -69,7 +70,8 @@ level_read-code L9 = refl
 level_read-code S = refl
 
 pub same_level-is : (k l : Level) → same_level k l ≡ true → k ≡ l
-same_level-is k l h = same_Some k l (sym (level_read-code k) ∙ ap level_read (eqb-true (level_code k) (level_code l) h) ∙ level_read-code l)
+same_level-is k l h = same_Some k l
+    (sym (level_read-code k) ∙ ap level_read (eqb-true (level_code k) (level_code l) h) ∙ level_read-code l)
 
 pub same_stage-is : (k l : Stage) → same_stage k l ≡ true → k ≡ l
 same_stage-is k l h = grind (arith, same_level-is)

@@ -10,11 +10,13 @@ use Rattle.init_words.proofs.IdParts.{id_parts}
 
 small : (byte : ℕ) → is_id_byte byte ≡ true → byte < 128
 small byte h =
-    let range = and_parts (nat_le 33 byte) (nat_le byte 126) (and_parts (nat_le 33 byte && nat_le byte 126) (not (byte == 58)) h).0 in
+    let range = and_parts (nat_le 33 byte) (nat_le byte 126)
+    (and_parts (nat_le 33 byte && nat_le byte 126) (not (byte == 58)) h).0 in
     let most = leb-true byte 126 range.1 in
     omega arith
 
 pub id_utf8 : (id : List ℕ) → is_id id ≡ true → IsUtf8 id
 id_utf8 id h =
     let every = (id_parts id h).bytes in
-    IsUtf8-from_ascii id (IsAscii-from_all id (λ k d within. small _ (AllPass-from_list_all is_id_byte id every k d within)))
+    IsUtf8-from_ascii id
+    (IsAscii-from_all id (λ k d within. small _ (AllPass-from_list_all is_id_byte id every k d within)))

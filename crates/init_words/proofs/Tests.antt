@@ -1,9 +1,11 @@
 -- Lemmas on tests, and on lists that are searched and filtered by them.
-use Rattle.std.proofs.Common.{◌≡◌, refl, sym, ◌∙◌, ap, inl, inr, Bool, true, false, not, ◌&&◌, ◌||◌, cond, List, [], ◌∷◌, filter, find, Option, Some, None, is_none, is_some, Result, Ok, Err}
+use Rattle.std.proofs.Common.{◌≡◌, refl, sym, ◌∙◌, ap, inl, inr, Bool, true, false, not, ◌&&◌, ◌||◌, cond, List, []}
+use Rattle.std.proofs.Common.{◌∷◌, filter, find, Option, Some, None, is_none, is_some, Result, Ok, Err}
 use Rattle.std.specs.List.{list_any, list_all, AllByRecursion}
 use Rattle.std.specs.Option.{option_map}
 use Rattle.std.specs.Result.{IfErr}
-use Rattle.std.proofs.lemmas.Bool.{false≢true, false_from_ne_true, and_parts, and_from, or_cases, or_left, or_right, or_parts, or_from}
+use Rattle.std.proofs.lemmas.Bool.{false≢true, false_from_ne_true, and_parts, and_from, or_cases, or_left, or_right}
+use Rattle.std.proofs.lemmas.Bool.{or_parts, or_from}
 use Rattle.std.proofs.lemmas.List.Elements.{filter_agree}
 
 -- where a fact and its test disagree, anything follows
@@ -55,15 +57,18 @@ is_none-is None h = refl
 is_none-is (Some x) h = absurd (false≢true h)
 
 -- a test over a list
-pub any_less : {X : Type 0} (p q : X → Bool) → ((x : X) → p x ≡ true → q x ≡ true) → (xs : List X) → list_any p xs ≡ true → list_any q xs ≡ true
+pub any_less : {X : Type 0} (p q : X → Bool) → ((x : X) → p x ≡ true → q x ≡ true) → (xs : List X)
+    → list_any p xs ≡ true → list_any q xs ≡ true
 any_less p q less [] h = h
-any_less p q less (x ∷ xs) h = or_either (p x) (list_any p xs) h (λ here. or_left (q x) (list_any q xs) (less x here)) (λ later. or_right (q x) (list_any q xs) (any_less p q less xs later))
+any_less p q less (x ∷ xs) h = or_either (p x) (list_any p xs) h (λ here. or_left (q x) (list_any q xs) (less x here))
+    (λ later. or_right (q x) (list_any q xs) (any_less p q less xs later))
 
 pub any_same : {X : Type 0} (p q : X → Bool) → ((x : X) → p x ≡ q x) → (xs : List X) → list_any p xs ≡ list_any q xs
 any_same p q same [] = refl
 any_same p q same (x ∷ xs) = rw (same x, any_same p q same xs) refl
 
-pub all_less : {X : Type 0} (p q : X → Bool) → ((x : X) → p x ≡ true → q x ≡ true) → (xs : List X) → list_all p xs ≡ true → list_all q xs ≡ true
+pub all_less : {X : Type 0} (p q : X → Bool) → ((x : X) → p x ≡ true → q x ≡ true) → (xs : List X)
+    → list_all p xs ≡ true → list_all q xs ≡ true
 all_less p q less [] h = refl
 all_less p q less (x ∷ xs) h =
     let parts = and_parts (p x) (list_all p xs) h in
@@ -89,10 +94,15 @@ passing {X} p (x ∷ xs) h = or_either (p x) (list_any p xs) h here (λ more. la
   here own = record { item = x; passes = own; within = λ q is. or_left (q x) (list_any q xs) is }
 
   later : Passing p xs → Passing p (x ∷ xs)
-  later rest = record { item = rest.item; passes = rest.passes; within = λ q is. or_right (q x) (list_any q xs) (rest.within q is) }
+  later rest = record {
+    item = rest.item;
+    passes = rest.passes;
+    within = λ q is. or_right (q x) (list_any q xs) (rest.within q is);
+  }
 
 -- filters
-pub all_filter : {X : Type 0} (P : X → Type 0) (p : X → Bool) (xs : List X) → AllByRecursion P xs → AllByRecursion P (filter p xs)
+pub all_filter : {X : Type 0} (P : X → Type 0) (p : X → Bool) (xs : List X) → AllByRecursion P xs
+    → AllByRecursion P (filter p xs)
 all_filter P p [] all = tt
 all_filter {X} P p (x ∷ xs) all = by (p x) (all_filter P p xs all.1) where
   by : (b : Bool) → AllByRecursion P (filter p xs) → AllByRecursion P (cond b (x ∷ filter p xs) (filter p xs))
@@ -102,36 +112,45 @@ all_filter {X} P p (x ∷ xs) all = by (p x) (all_filter P p xs all.1) where
 pub any_filter : {X : Type 0} (p q : X → Bool) (xs : List X) → list_any p (filter q xs) ≡ list_any (λ x. q x && p x) xs
 any_filter p q [] = refl
 any_filter {X} p q (x ∷ xs) = split (q x) (any_filter p q xs) where
-  split : (b : Bool) → list_any p (filter q xs) ≡ list_any (λ y. q y && p y) xs → list_any p (cond b (x ∷ filter q xs) (filter q xs)) ≡ (b && p x || list_any (λ y. q y && p y) xs)
+  split : (b : Bool) → list_any p (filter q xs) ≡ list_any (λ y. q y && p y) xs
+      → list_any p (cond b (x ∷ filter q xs) (filter q xs)) ≡ (b && p x || list_any (λ y. q y && p y) xs)
   split true same = ap (λ r. p x || r) same
   split false same = same
 
 -- what passes p passes q: the filter by q hides nothing from p
-pub any_within : {X : Type 0} (p q : X → Bool) → ((x : X) → p x ≡ true → q x ≡ true) → (xs : List X) → list_any p (filter q xs) ≡ list_any p xs
-any_within p q kept xs = any_filter p q xs ∙ any_same (λ x. q x && p x) p (λ x. same_tests (q x && p x) (p x) (λ h. (and_parts (q x) (p x) h).1) (λ h. and_from (q x) (p x) (kept x h) h)) xs
+pub any_within : {X : Type 0} (p q : X → Bool) → ((x : X) → p x ≡ true → q x ≡ true) → (xs : List X)
+    → list_any p (filter q xs) ≡ list_any p xs
+any_within p q kept xs = any_filter p q xs ∙ any_same (λ x. q x && p x) p
+    (λ x. same_tests (q x && p x) (p x) (λ h. (and_parts (q x) (p x) h).1) (λ h. and_from (q x) (p x) (kept x h) h)) xs
 
 -- and where it fails q, the filter hides all
-pub any_without : {X : Type 0} (p q : X → Bool) → ((x : X) → p x ≡ true → q x ≡ false) → (xs : List X) → list_any p (filter q xs) ≡ false
+pub any_without : {X : Type 0} (p q : X → Bool) → ((x : X) → p x ≡ true → q x ≡ false) → (xs : List X)
+    → list_any p (filter q xs) ≡ false
 any_without p q gone xs = any_filter p q xs ∙ none xs where
   fails : (x : _) → (q x && p x) ≡ false
-  fails x = false_from_ne_true (q x && p x) (λ h. both_ways (q x) (and_parts (q x) (p x) h).0 (gone x (and_parts (q x) (p x) h).1))
+  fails x = false_from_ne_true (q x && p x)
+      (λ h. both_ways (q x) (and_parts (q x) (p x) h).0 (gone x (and_parts (q x) (p x) h).1))
 
   none : (ys : List _) → list_any (λ x. q x && p x) ys ≡ false
   none [] = refl
   none (y ∷ ys) = or_from (q y && p y) (list_any (λ x. q x && p x) ys) (fails y) (none ys)
 
 pub any_filtered : {X : Type 0} (p q : X → Bool) (xs : List X) → list_any p (filter q xs) ≡ true → list_any p xs ≡ true
-any_filtered p q xs h = any_less (λ x. q x && p x) p (λ x both. (and_parts (q x) (p x) both).1) xs (sym (any_filter p q xs) ∙ h)
+any_filtered p q xs h =
+    any_less (λ x. q x && p x) p (λ x both. (and_parts (q x) (p x) both).1) xs (sym (any_filter p q xs) ∙ h)
 
 pub filter_both : {X : Type 0} (p q : X → Bool) (xs : List X) → filter p (filter q xs) ≡ filter (λ x. q x && p x) xs
 filter_both p q [] = refl
 filter_both {X} p q (x ∷ xs) = split (q x) (filter_both p q xs) where
-  split : (b : Bool) → filter p (filter q xs) ≡ filter (λ y. q y && p y) xs → filter p (cond b (x ∷ filter q xs) (filter q xs)) ≡ cond (b && p x) (x ∷ filter (λ y. q y && p y) xs) (filter (λ y. q y && p y) xs)
+  split : (b : Bool) → filter p (filter q xs) ≡ filter (λ y. q y && p y) xs → filter p (cond b (x ∷ filter q xs)
+      (filter q xs)) ≡ cond (b && p x) (x ∷ filter (λ y. q y && p y) xs) (filter (λ y. q y && p y) xs)
   split true same = ap (λ ys. cond (p x) (x ∷ ys) ys) same
   split false same = same
 
-pub filter_within : {X : Type 0} (p q : X → Bool) → ((x : X) → p x ≡ true → q x ≡ true) → (xs : List X) → filter p (filter q xs) ≡ filter p xs
-filter_within p q kept xs = filter_both p q xs ∙ filter_agree (λ x. q x && p x) p (λ x. same_tests (q x && p x) (p x) (λ h. (and_parts (q x) (p x) h).1) (λ h. and_from (q x) (p x) (kept x h) h)) xs
+pub filter_within : {X : Type 0} (p q : X → Bool) → ((x : X) → p x ≡ true → q x ≡ true) → (xs : List X)
+    → filter p (filter q xs) ≡ filter p xs
+filter_within p q kept xs = filter_both p q xs ∙ filter_agree (λ x. q x && p x) p
+    (λ x. same_tests (q x && p x) (p x) (λ h. (and_parts (q x) (p x) h).1) (λ h. and_from (q x) (p x) (kept x h) h)) xs
 
 pub filter_none : {X : Type 0} (p : X → Bool) (xs : List X) → list_any p xs ≡ false → filter p xs ≡ []
 filter_none p [] h = refl
@@ -139,7 +158,8 @@ filter_none p (x ∷ xs) h =
     let parts = or_parts (p x) (list_any p xs) h in
     rw parts.0 (filter_none p xs parts.1)
 
-pub filter_without : {X : Type 0} (p q : X → Bool) → ((x : X) → p x ≡ true → q x ≡ false) → (xs : List X) → filter p (filter q xs) ≡ []
+pub filter_without : {X : Type 0} (p q : X → Bool) → ((x : X) → p x ≡ true → q x ≡ false) → (xs : List X)
+    → filter p (filter q xs) ≡ []
 filter_without p q gone xs = filter_none p (filter q xs) (any_without p q gone xs)
 
 pub any_none : {X : Type 0} (p : X → Bool) (xs : List X) → filter p xs ≡ [] → list_any p xs ≡ false
@@ -153,18 +173,22 @@ find_none p (x ∷ xs) h =
     rw parts.0 (find_none p xs parts.1)
 
 -- something is found exactly where something passes
-pub found_any : {X Y : Type 0} (f : X → Y) (p : X → Bool) (xs : List X) → is_some (option_map f (find p xs)) ≡ list_any p xs
+pub found_any : {X Y : Type 0} (f : X → Y) (p : X → Bool) (xs : List X)
+    → is_some (option_map f (find p xs)) ≡ list_any p xs
 found_any f p [] = refl
 found_any {X} f p (x ∷ xs) = split (p x) (found_any f p xs) where
-  split : (b : Bool) → is_some (option_map f (find p xs)) ≡ list_any p xs → is_some (option_map f (cond b (Some x) (find p xs))) ≡ (b || list_any p xs)
+  split : (b : Bool) → is_some (option_map f (find p xs)) ≡ list_any p xs
+      → is_some (option_map f (cond b (Some x) (find p xs))) ≡ (b || list_any p xs)
   split true rest = refl
   split false rest = rest
 
 -- nothing is found where none passes
-pub none_found : {X Y : Type 0} (f : X → Y) (p : X → Bool) (xs : List X) → is_none (option_map f (find p xs)) ≡ not (list_any p xs)
+pub none_found : {X Y : Type 0} (f : X → Y) (p : X → Bool) (xs : List X)
+    → is_none (option_map f (find p xs)) ≡ not (list_any p xs)
 none_found f p [] = refl
 none_found {X} f p (x ∷ xs) = split (p x) (none_found f p xs) where
-  split : (b : Bool) → is_none (option_map f (find p xs)) ≡ not (list_any p xs) → is_none (option_map f (cond b (Some x) (find p xs))) ≡ not (b || list_any p xs)
+  split : (b : Bool) → is_none (option_map f (find p xs)) ≡ not (list_any p xs)
+      → is_none (option_map f (cond b (Some x) (find p xs))) ≡ not (b || list_any p xs)
   split true rest = refl
   split false rest = rest
 

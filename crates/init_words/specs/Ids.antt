@@ -1,5 +1,6 @@
 -- Ids of inittab entries (inittab(5)).
-use Rattle.std.specs.Prelude.{ℕ, Bool, not, ◌&&◌, ◌==◌, if◌then◌else◌, nat_le, List, length, slice_index, Option, Some, None}
+use Rattle.std.specs.Prelude.{ℕ, Bool, not, ◌&&◌, ◌==◌, if◌then◌else◌, nat_le, List, length, slice_index, Option, Some}
+use Rattle.std.specs.Prelude.{None}
 use Rattle.std.specs.List.{list_all}
 use Rattle.init_words.specs.declared.ids.TheConstants.{ID_LIMIT}
 use Rattle.std.specs.Cmp.Lexicographic.{pointwise}

@@ -29,7 +29,8 @@ impl Model for Id {
     ghost view = { λ a. take a.len a.bytes };
 
     ghost invariant = { λ a. (a.len ≤ ID_LIMIT) × (length a.bytes ≡ ID_LIMIT)
-        × (drop a.len a.bytes ≡ replicate (ID_LIMIT - a.len) 0) × (is_id (take a.len a.bytes) ≡ true) };
+        × (drop a.len a.bytes ≡ replicate (ID_LIMIT - a.len) 0)
+        × (is_id (take a.len a.bytes) ≡ true) };
 
     ghost inverse = { λ xs. record {
       bytes = xs ++ replicate (ID_LIMIT - length xs) 0;

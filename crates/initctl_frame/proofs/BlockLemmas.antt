@@ -1,5 +1,11 @@
 -- The blocks of a byte list, as more bytes come.
-use Rattle.initctl_frame.proofs.Words.{◌≡◌, ◌∙◌, ℕ, ℤ, zero, suc, ◌+◌, ◌-◌, ◌*◌, ◌/◌, ◌<◌, ◌≤◌, List, [], ◌∷◌, ◌++◌, length, take, drop, map, get_or, ap, ap₂, sym, refl, arith, append_assoc, append-nil, length-append, length-drop, length-take-le, ⊎_elim, take-append-drop, w32, All, flat_map, map-append, take-append-le, drop-append-le, drop-drop, take_all, take-take, get_or-drop, get_or-take, take-append-add, cast_signed, from_le_bytes, heard_of, heard_of_ints, int_at, blocks_of, gots_of, over_of, parts}
+use Rattle.initctl_frame.proofs.Words.{◌≡◌, ◌∙◌, ℕ, ℤ, zero, suc, ◌+◌, ◌-◌, ◌*◌, ◌/◌, ◌<◌, ◌≤◌, List, [], ◌∷◌, ◌++◌}
+use Rattle.initctl_frame.proofs.Words.{length, take, drop, map, get_or, ap, ap₂, sym, refl, arith, append_assoc}
+use Rattle.initctl_frame.proofs.Words.{append-nil, length-append, length-drop, length-take-le, ⊎_elim, take-append-drop}
+use Rattle.initctl_frame.proofs.Words.{w32, All, flat_map, map-append, take-append-le, drop-append-le, drop-drop}
+use Rattle.initctl_frame.proofs.Words.{take_all, take-take, get_or-drop, get_or-take, take-append-add, cast_signed}
+use Rattle.initctl_frame.proofs.Words.{from_le_bytes, heard_of, heard_of_ints, int_at, blocks_of, gots_of, over_of}
+use Rattle.initctl_frame.proofs.Words.{parts}
 use Rattle.std.proofs.Common.{min}
 use Rattle.std.proofs.lemmas.List.Concat.{flat_map-cons}
 use Rattle.std.proofs.lemmas.List.Elements.{All-nil, All-cons}
@@ -13,7 +19,8 @@ parts-append size zero xs ys fits = refl
 parts-append size (suc n) xs ys fits =
     let long : size ≤ length xs = omega (arith) in
     ap₂ (λ (part : List ℕ) (others : List (List ℕ)). part ∷ others) (take-append-le size xs ys long)
-    (ap (parts size n) (drop-append-le size xs ys long) ∙ parts-append size n (drop size xs) ys (omega (arith, length-drop size xs)))
+    (ap (parts size n) (drop-append-le size xs ys long)
+    ∙ parts-append size n (drop size xs) ys (omega (arith, length-drop size xs)))
 
 -- one part more is the next part behind the first n
 parts-last : (size n : ℕ) (xs : List ℕ) → parts size (suc n) xs ≡ parts size n xs ++ take size (drop (size * n) xs) ∷ []
@@ -31,34 +38,41 @@ parts-last size (suc n) xs =
 over_size : (bytes : List ℕ) → length (over_of bytes) ≡ length bytes - 384 * (length bytes / 384)
 over_size bytes = length-drop (384 * (length bytes / 384)) bytes
 
-count_stays : (bytes more : List ℕ) → length (over_of bytes) + length more < 384 → length (bytes ++ more) / 384 ≡ length bytes / 384
+count_stays : (bytes more : List ℕ) → length (over_of bytes) + length more < 384
+    → length (bytes ++ more) / 384 ≡ length bytes / 384
 count_stays bytes more short = omega (arith, length-append bytes more, over_size bytes)
 
-count_grows : (bytes more : List ℕ) → length (over_of bytes) + length more ≡ 384 → length (bytes ++ more) / 384 ≡ suc (length bytes / 384)
+count_grows : (bytes more : List ℕ) → length (over_of bytes) + length more ≡ 384
+    → length (bytes ++ more) / 384 ≡ suc (length bytes / 384)
 count_grows bytes more full = omega (arith, length-append bytes more, over_size bytes)
 
 joined_over : (bytes more : List ℕ) → drop (384 * (length bytes / 384)) (bytes ++ more) ≡ over_of bytes ++ more
 joined_over bytes more = drop-append-le (384 * (length bytes / 384)) bytes more (omega arith)
 
 -- while the block isn't full, the bytes are over
-over_stays : (bytes more : List ℕ) → length (over_of bytes) + length more < 384 → over_of (bytes ++ more) ≡ over_of bytes ++ more
+over_stays : (bytes more : List ℕ) → length (over_of bytes) + length more < 384
+    → over_of (bytes ++ more) ≡ over_of bytes ++ more
 over_stays bytes more short =
     ap (λ (n : ℕ). drop (384 * n) (bytes ++ more)) (count_stays bytes more short) ∙ joined_over bytes more
 
-pub gots_stay : (bytes more : List ℕ) → length (over_of bytes) + length more < 384 → gots_of (bytes ++ more) ≡ gots_of bytes
+pub gots_stay : (bytes more : List ℕ) → length (over_of bytes) + length more < 384
+    → gots_of (bytes ++ more) ≡ gots_of bytes
 gots_stay bytes more short =
     ap (map heard_of) (ap (λ (n : ℕ). parts 384 n (bytes ++ more)) (count_stays bytes more short)
     ∙ parts-append 384 (length bytes / 384) bytes more (omega arith))
 
 -- where the block is full, it is one more
-pub gots_grow : (bytes more : List ℕ) → length (over_of bytes) + length more ≡ 384 → gots_of (bytes ++ more) ≡ gots_of bytes ++ heard_of (over_of bytes ++ more) ∷ []
+pub gots_grow : (bytes more : List ℕ) → length (over_of bytes) + length more ≡ 384
+    → gots_of (bytes ++ more) ≡ gots_of bytes ++ heard_of (over_of bytes ++ more) ∷ []
 gots_grow bytes more full =
     let n : ℕ = length bytes / 384 in
     let last : take 384 (drop (384 * n) (bytes ++ more)) ≡ over_of bytes ++ more =
-    ap (take 384) (joined_over bytes more) ∙ take_all 384 (over_of bytes ++ more) (omega (arith, length-append (over_of bytes) more)) in
+    ap (take 384) (joined_over bytes more)
+    ∙ take_all 384 (over_of bytes ++ more) (omega (arith, length-append (over_of bytes) more)) in
     ap (map heard_of) (ap (λ (k : ℕ). parts 384 k (bytes ++ more)) (count_grows bytes more full)
     ∙ parts-last 384 n (bytes ++ more)
-    ∙ ap₂ (λ (fronts : List (List ℕ)) (block : List ℕ). fronts ++ block ∷ []) (parts-append 384 n bytes more (omega arith)) last)
+    ∙ ap₂ (λ (fronts : List (List ℕ)) (block : List ℕ). fronts ++ block ∷ [])
+    (parts-append 384 n bytes more (omega arith)) last)
     ∙ map-append heard_of (blocks_of bytes) ((over_of bytes ++ more) ∷ [])
 
 -- ---- the blocks are the parts of the bytes
@@ -66,7 +80,8 @@ gots_grow bytes more full =
 parts-whole : (size n : ℕ) (xs : List ℕ) → size * n ≤ length xs → All (λ part. length part ≡ size) (parts size n xs)
 parts-whole size zero xs fits = All-nil (λ part. length part ≡ size)
 parts-whole size (suc n) xs fits =
-    All-cons (λ part. length part ≡ size) (take size xs) (parts size n (drop size xs)) (length-take-le size xs (omega arith))
+    All-cons (λ part. length part ≡ size) (take size xs) (parts size n (drop size xs))
+    (length-take-le size xs (omega arith))
     (parts-whole size n (drop size xs) (omega (arith, length-drop size xs)))
 
 parts-joined : (size n : ℕ) (xs : List ℕ) → flat_map (λ part. part) (parts size n xs) ++ drop (size * n) xs ≡ xs
@@ -76,7 +91,8 @@ parts-joined size zero xs =
 parts-joined size (suc n) xs =
     let next : size + size * n ≡ size * suc n = omega arith in
     let others : List ℕ = flat_map (λ part. part) (parts size n (drop size xs)) in
-    ap (λ (ys : List ℕ). ys ++ drop (size * suc n) xs) (flat_map-cons (λ part. part) (take size xs) (parts size n (drop size xs)))
+    ap (λ (ys : List ℕ). ys ++ drop (size * suc n) xs)
+    (flat_map-cons (λ part. part) (take size xs) (parts size n (drop size xs)))
     ∙ append_assoc (take size xs) others (drop (size * suc n) xs)
     ∙ ap (λ (k : ℕ). take size xs ++ (others ++ drop k xs)) (sym next)
     ∙ ap (λ (ys : List ℕ). take size xs ++ (others ++ ys)) (sym (drop-drop (size * n) size xs))
@@ -94,7 +110,8 @@ blocks-joined bytes = parts-joined 384 (length bytes / 384) bytes
 
 -- ---- the front of a block
 
-from_four : (xs ys : List ℕ) → ((i : ℕ) → i < 4 → get_or xs i 0 ≡ get_or ys i 0) → from_le_bytes w32 xs ≡ from_le_bytes w32 ys
+from_four : (xs ys : List ℕ) → ((i : ℕ) → i < 4 → get_or xs i 0 ≡ get_or ys i 0)
+    → from_le_bytes w32 xs ≡ from_le_bytes w32 ys
 from_four xs ys same =
     let zeroth = same 0 (omega arith) in
     let first = same 1 (omega arith) in
@@ -103,10 +120,12 @@ from_four xs ys same =
     cc
 
 -- an int is read from its own four bytes
-int_in_front : (n position : ℕ) (bytes : List ℕ) → position + 4 ≤ n → int_at position (take n bytes) ≡ int_at position bytes
+int_in_front : (n position : ℕ) (bytes : List ℕ) → position + 4 ≤ n
+    → int_at position (take n bytes) ≡ int_at position bytes
 int_in_front n position bytes within =
     ap (cast_signed w32) (from_four (drop position (take n bytes)) (drop position bytes) (λ i below.
-    get_or-drop position (take n bytes) i 0 ∙ get_or-take n bytes (position + i) 0 (omega arith) ∙ sym (get_or-drop position bytes i 0)))
+    get_or-drop position (take n bytes) i 0 ∙ get_or-take n bytes (position + i) 0 (omega arith)
+    ∙ sym (get_or-drop position bytes i 0)))
 
 pub heard_of_front : (n : ℕ) (block : List ℕ) → 16 ≤ n → heard_of (take n block) ≡ heard_of block
 heard_of_front n block within =
@@ -131,7 +150,8 @@ front_after n taken over piece within =
     ⊎_elim (λ below.
     let size : length (take n over) ≡ n = length-take-le n over (omega arith) in
     let none : min taken (n - length (take n over)) ≡ 0 = omega arith in
-    ap (λ (k : ℕ). take n over ++ take k piece) none ∙ append-nil (take n over) ∙ sym (take-append-le n over (take taken piece) (omega arith)))
+    ap (λ (k : ℕ). take n over ++ take k piece) none ∙ append-nil (take n over)
+    ∙ sym (take-append-le n over (take taken piece) (omega arith)))
     (λ above.
     let m : ℕ = n - length over in
     let whole : take n over ≡ over = take_all n over above in

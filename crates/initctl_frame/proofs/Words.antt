@@ -1,10 +1,15 @@
 -- The words of the proofs of this crate.
-pub use Rattle.std.proofs.Common.{◌≡◌, ◌∙◌, ℕ, ℤ, zero, suc, ◌+◌, ◌-◌, ◌*◌, ◌/◌, ◌<◌, ◌≤◌, List, [], ◌∷◌, ◌++◌, length, take, drop, map, get_or, ap, ap₂, sym, refl, arith, append_assoc, append-nil, length-append, length-drop, length-take-le, ⊎_elim, take-append-drop, w32, pos, ◌^◌, rules, subst, Option, lit≤}
+pub use Rattle.std.proofs.Common.{◌≡◌, ◌∙◌, ℕ, ℤ, zero, suc, ◌+◌, ◌-◌, ◌*◌, ◌/◌, ◌<◌, ◌≤◌, List, [], ◌∷◌, ◌++◌, length}
+pub use Rattle.std.proofs.Common.{take, drop, map, get_or, ap, ap₂, sym, refl, arith, append_assoc, append-nil}
+pub use Rattle.std.proofs.Common.{length-append, length-drop, length-take-le, ⊎_elim, take-append-drop, w32, pos, ◌^◌}
+pub use Rattle.std.proofs.Common.{rules, subst, Option, lit≤}
 pub use Rattle.std.specs.Prelude.{All, flat_map, slice_set}
-pub use Rattle.std.proofs.lemmas.List.{map-append, take-append-le, drop-append-le, drop-drop, take_all, take-take, get_or-drop, get_or-take, length-take, take_rest}
+pub use Rattle.std.proofs.lemmas.List.{map-append, take-append-le, drop-append-le, drop-drop, take_all, take-take}
+pub use Rattle.std.proofs.lemmas.List.{get_or-drop, get_or-take, length-take, take_rest}
 pub use Rattle.std.proofs.Math.Seq.{take-append-add, drop-cons, set-append_seam, take-add}
 pub use Rattle.std.specs.Int.{cast_signed, from_le_bytes}
-pub use Rattle.initctl_frame.specs.Frames.{heard_of, heard_of_ints, int_at, block_of_ints, heard_of_runlevel, seconds_of, meaning_of}
+pub use Rattle.initctl_frame.specs.Frames.{heard_of, heard_of_ints, int_at, block_of_ints, heard_of_runlevel}
+pub use Rattle.initctl_frame.specs.Frames.{seconds_of, meaning_of}
 pub use Rattle.initctl_frame.specs.Blocks.{blocks_of, gots_of, over_of, parts, Stands, Begun}
 pub use Rattle.std.proofs.lemmas.Int.{to_z_pos, to_z-of_z, ints}
 pub use Rattle.initctl_frame.specs.Signs.{heard_of_sign}

@@ -1,5 +1,9 @@
 -- What turns noted over a host that tells its calls, what their judge found, and how their log ended.
-use Rattle.initd_command.proofs.Words.{◌≡◌, refl, sym, ◌∙◌, ap, subst, ℕ, Bool, true, false, not, ◌&&◌, if◌then◌else◌, List, [], ◌++◌, reverse, Option, Some, None, is_some, append-nil, reverse-append, reverse-reverse, Entry, Event, LogState, HostCall, IsRunning, Notes, NotesOf, is_wanted, Served, waiting_text, IsOpening, opening_point, RunSaid, Judgement, Finds, IsNoted, IsServed, LogEnds, TurnsFrom, judgement_for, noted_of}
+use Rattle.initd_command.proofs.Words.{◌≡◌, refl, sym, ◌∙◌, ap, subst, ℕ, Bool, true, false, not, ◌&&◌, if◌then◌else◌}
+use Rattle.initd_command.proofs.Words.{List, [], ◌++◌, reverse, Option, Some, None, is_some, append-nil, reverse-append}
+use Rattle.initd_command.proofs.Words.{reverse-reverse, Entry, Event, LogState, HostCall, IsRunning, Notes, NotesOf}
+use Rattle.initd_command.proofs.Words.{is_wanted, Served, waiting_text, IsOpening, opening_point, RunSaid, Judgement}
+use Rattle.initd_command.proofs.Words.{Finds, IsNoted, IsServed, LogEnds, TurnsFrom, judgement_for, noted_of}
 use Rattle.std.proofs.Common.{IfSome}
 use Rattle.std.specs.Bool.{then_some}
 use Rattle.std.proofs.lemmas.Bool.{and_parts, not-true}
@@ -14,7 +18,8 @@ use Rattle.init_turns.proofs.Opened.{from_opening, opening_short}
 use Rattle.inittab_text.specs.Tables.{is_distinct}
 
 -- where a run is to be judged, what was found counts
-found_for : (service : RunSaid) (found : Judgement) (past : List Event) → Finds found past → IfSome (judgement_for service found) (λ judgement. Finds judgement past)
+found_for : (service : RunSaid) (found : Judgement) (past : List Event) → Finds found past
+    → IfSome (judgement_for service found) (λ judgement. Finds judgement past)
 found_for service found past finds = by service.judge
   where
     by : (asked : Bool) → IfSome (then_some asked found) (λ judgement. Finds judgement past)
@@ -28,7 +33,8 @@ judged_for service found = by service.judge
     by true = refl
     by false = refl
 
-pub judged_still : (service : RunSaid) (found : Judgement) (judgement : Option Judgement) → judgement ≡ judgement_for service found → is_some judgement ≡ service.judge
+pub judged_still : (service : RunSaid) (found : Judgement) (judgement : Option Judgement)
+    → judgement ≡ judgement_for service found → is_some judgement ≡ service.judge
 judged_still service found judgement is = subst (λ j. is_some j ≡ service.judge) (sym is) (judged_for service found)
 
 -- the lines are those of what is kept of the trace
@@ -36,8 +42,10 @@ abbrev IsWaiting : List ℕ → List Event → Type 0
 IsWaiting waiting past = (goal : Goal) × (core : CoreState) × FitsAll core goal past × (waiting ≡ waiting_text core)
 
 -- notes of a trace, and what its judge found
-noted_of_trace : (wanted : Option (List ℕ)) (notes : Notes) (waiting : List ℕ) (judgement : Option Judgement) (past : List Event) → notes.wanted ≡ wanted
-    → NotesOf notes past → IsWaiting waiting past → IfSome judgement (λ found. Finds found past) → IsNoted wanted (noted_of notes waiting judgement) past
+noted_of_trace : (wanted : Option (List ℕ)) (notes : Notes) (waiting : List ℕ) (judgement : Option Judgement)
+    (past : List Event) → notes.wanted ≡ wanted
+    → NotesOf notes past → IsWaiting waiting past → IfSome judgement (λ found. Finds found past)
+    → IsNoted wanted (noted_of notes waiting judgement) past
 noted_of_trace wanted notes waiting judgement past same of waits finds = record {
   last = λ id is. of.last id (ap (is_wanted id) same ∙ is);
   running = going notes.complete refl;
@@ -45,27 +53,33 @@ noted_of_trace wanted notes waiting judgement past same of waits finds = record 
   judgement = finds;
 }
   where
-    going : (complete : Bool) → notes.complete ≡ complete → IfSome (if complete then Some notes.running else None) (λ running. IsRunning running past)
+    going : (complete : Bool) → notes.complete ≡ complete
+        → IfSome (if complete then Some notes.running else None) (λ running. IsRunning running past)
     going true all = of.running all
     going false none = tt
 
 -- turns are as many behind the end of their log
-pub served_still : (P : ℕ → Bool → Type 0) (served ended : Served) (logged : Bool) → ended ≡ record served { logged = logged } → P served.turns served.drained → P ended.turns ended.drained
+pub served_still : (P : ℕ → Bool → Type 0) (served ended : Served) (logged : Bool)
+    → ended ≡ record served { logged = logged } → P served.turns served.drained → P ended.turns ended.drained
 served_still P served ended logged is so = subst (λ (s : Served). P s.turns s.drained) (sym is) so
 
-pub is_served : (service : RunSaid) (served ended : Served) (logged : Bool) → ended ≡ record served { logged = logged } → IsServed service served → IsServed service ended
+pub is_served : (service : RunSaid) (served ended : Served) (logged : Bool) → ended ≡ record served { logged = logged }
+    → IsServed service served → IsServed service ended
 is_served service served ended logged is limits = subst (IsServed service) (sym is) limits
 
 -- a log that took of a trace what it had not missed has ended so
-module _ (has_ended : Bool → List Event → Type 0) (whole : Bool) (past missed took : List Event) (parts : past ≡ missed ++ took) (ends : has_ended whole (reverse took)) where
+module _ (has_ended : Bool → List Event → Type 0) (whole : Bool) (past missed took : List Event)
+    (parts : past ≡ missed ++ took) (ends : has_ended whole (reverse took)) where
   log_ends : (logged : Bool) → (logged ≡ true → missed ≡ []) → LogEnds has_ended (logged && whole) (reverse past)
   log_ends logged all = by logged whole refl all
     where
       front : reverse took ++ reverse missed ≡ reverse past
       front = sym (reverse-append missed took) ∙ ap reverse (sym parts)
 
-      by : (logged kept : Bool) → kept ≡ whole → (logged ≡ true → missed ≡ []) → LogEnds has_ended (logged && kept) (reverse past)
-      by true true is none = subst (λ b. has_ended b (reverse past)) (sym is) (subst (λ trace. has_ended whole (reverse trace)) (sym (parts ∙ ap (λ m. m ++ took) (none refl))) ends)
+      by : (logged kept : Bool) → kept ≡ whole → (logged ≡ true → missed ≡ [])
+          → LogEnds has_ended (logged && kept) (reverse past)
+      by true true is none = subst (λ b. has_ended b (reverse past)) (sym is)
+          (subst (λ trace. has_ended whole (reverse trace)) (sym (parts ∙ ap (λ m. m ++ took) (none refl))) ends)
       by true false is none = (reverse took, reverse missed, front, whole, ends)
       by false kept is none = (reverse took, reverse missed, front, whole, ends)
 
@@ -74,18 +88,26 @@ abbrev pub LedFrom : Option Level → List Entry → CoreState → LogState → 
 LedFrom level table core old new = UpTo (IsOpening level table) (Went (λ p. []) (LeftBy core) old new)
 
 -- what init keeps behind them fits their trace
-pub led_fits : (level : Option Level) (table : List Entry) (core : CoreState) (old new : LogState) (calls : List HostCall) → is_distinct table ≡ true → LedFrom level table core old new calls → TurnsFrom level table calls (FitsAll core (opening_goal level table))
-led_fits level table core old new calls distinct leads allowed carried = (from_opening level table (Went (λ p. []) (LeftBy core) old new) calls distinct leads allowed carried).fits.0.fits
+pub led_fits : (level : Option Level) (table : List Entry) (core : CoreState) (old new : LogState)
+    (calls : List HostCall) → is_distinct table ≡ true → LedFrom level table core old new calls
+    → TurnsFrom level table calls (FitsAll core (opening_goal level table))
+led_fits level table core old new calls distinct leads allowed carried =
+    (from_opening level table (Went (λ p. []) (LeftBy core) old new) calls distinct leads allowed carried).fits.0.fits
 
 -- turns over a log that had taken nothing, which was ended behind them
-pub noted_over : (has_ended : Bool → List Event → Type 0) (notes : Notes) (found : Judgement) (whole : Bool) (core : CoreState) (old now : LogState)
-    (service : RunSaid) (level : Option Level) (table : List Entry) (served ended : Served) (judgement : Option Judgement) (calls : List HostCall)
+pub noted_over : (has_ended : Bool → List Event → Type 0) (notes : Notes) (found : Judgement) (whole : Bool)
+    (core : CoreState) (old now : LogState)
+    (service : RunSaid) (level : Option Level) (table : List Entry) (served ended : Served)
+    (judgement : Option Judgement) (calls : List HostCall)
     → ended ≡ record served { logged = served.logged && whole } → judgement ≡ judgement_for service found
     → old.taken [] → old.noted ≡ service.result → notes.wanted ≡ now.noted → served.logged ≡ not now.failed
-    → ((trace : List Event) → now.taken trace → NotesOf notes (reverse trace) × Finds found (reverse trace) × has_ended whole trace)
+    → ((trace : List Event) → now.taken trace
+    → NotesOf notes (reverse trace) × Finds found (reverse trace) × has_ended whole trace)
     → is_distinct table ≡ true → LedFrom level table core old now calls
-    → TurnsFrom level table calls (λ past. (ended.logged ≡ true → IsNoted service.result (noted_of notes (waiting_text core) judgement) past) × LogEnds has_ended ended.logged (reverse past))
-noted_over has_ended notes found whole core old now service level table served ended judgement calls goes asked none result wanted logged tells distinct leads = λ allowed carried.
+    → TurnsFrom level table calls (λ past. (ended.logged ≡ true → IsNoted service.result
+    (noted_of notes (waiting_text core) judgement) past) × LogEnds has_ended ended.logged (reverse past))
+noted_over has_ended notes found whole core old now service level table served ended judgement calls goes asked none
+    result wanted logged tells distinct leads = λ allowed carried.
     let went = from_opening level table (Went (λ p. []) (LeftBy core) old now) calls distinct leads allowed carried in
     let past = (point_after calls (opening_point table)).past in
     let took = went.log (opening_short level table) in
@@ -95,10 +117,14 @@ noted_over has_ended notes found whole core old now service level table served e
     let so : ended.logged ≡ (served.logged && whole) = ap (λ s. s.logged) goes in
     let (of, finds, ends) = tells (reverse takes.took) takes.told in (
       (λ h.
-          let every : takes.took ≡ past = sym (parts ∙ ap (λ m. m ++ takes.took) (all (and_parts served.logged whole (sym so ∙ h)).0)) in
+          let every : takes.took ≡ past =
+          sym (parts ∙ ap (λ m. m ++ takes.took) (all (and_parts served.logged whole (sym so ∙ h)).0)) in
           let same : reverse (reverse takes.took) ≡ past = reverse-reverse takes.took ∙ every in
-          noted_of_trace service.result notes (waiting_text core) judgement past (wanted ∙ took.same ∙ result) (subst (NotesOf notes) same of)
+          noted_of_trace service.result notes (waiting_text core) judgement past (wanted ∙ took.same ∙ result)
+          (subst (NotesOf notes) same of)
           (opening_goal level table, core, went.fits.0.fits, refl)
-          (subst (λ j. IfSome j (λ given. Finds given past)) (sym asked) (found_for service found past (subst (Finds found) same finds)))),
-      subst (λ b. LogEnds has_ended b (reverse past)) (sym so) (log_ends has_ended whole past takes.missed takes.took parts ends served.logged all),
+          (subst (λ j. IfSome j (λ given. Finds given past)) (sym asked)
+          (found_for service found past (subst (Finds found) same finds)))),
+      subst (λ b. LogEnds has_ended b (reverse past)) (sym so)
+          (log_ends has_ended whole past takes.missed takes.took parts ends served.logged all),
     )

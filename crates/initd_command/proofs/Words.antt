@@ -12,7 +12,8 @@ pub use Rattle.initd_command.specs.Endings.{Spoken, refused, turned, count_messa
 pub use Rattle.initd_command.specs.Endings.{lawful, unfinished, Ending, usage, usage_named, done, unversioned, stopped}
 pub use Rattle.initd_command.specs.Endings.{unflushed}
 pub use Rattle.initd_command.specs.Services.{HasInittab, IsInittab, TakesParts, is_taken, told_of, IsNoted, IsServed}
-pub use Rattle.initd_command.specs.Services.{LogEnds, TurnsFrom, judgement_for, noted_of, has_no_level, table_in, end_of}
+pub use Rattle.initd_command.specs.Services.{LogEnds, TurnsFrom, judgement_for, noted_of, has_no_level, table_in}
+pub use Rattle.initd_command.specs.Services.{end_of}
 pub use Rattle.initd_command.specs.Services.{Writes, IsInWay, AreFiles, StandBy, own_paths}
 pub use Rattle.initd_options.specs.Options.{RunSaid, run_of}
 pub use Rattle.std.proofs.lemmas.List.{append-nil, reverse-append, reverse-reverse, length-drop}

@@ -1,5 +1,6 @@
 -- How a command line of initd ends: its exit status, what was written, and what is reported of it.
-use Rattle.std.specs.Prelude.{◌≡◌, ◌&&◌, not, ℕ, Bool, true, false, if◌then◌else◌, List, [], ◌∷◌, ◌++◌, codes, decimal, Option, Some, None, unwrap_or, string_bytes}
+use Rattle.std.specs.Prelude.{◌≡◌, ◌&&◌, not, ℕ, Bool, true, false, if◌then◌else◌, List, [], ◌∷◌, ◌++◌, codes, decimal}
+use Rattle.std.specs.Prelude.{Option, Some, None, unwrap_or, string_bytes}
 use Rattle.std.specs.Io.KnownBytes.{Keeps}
 use Rattle.std.specs.Str.{bytes_eq}
 use Rattle.initd_command.specs.Words.{AppendsPrefix, DONE, REFUSED, UNLAWFUL, DEVICE_FAULT, SimFault}
@@ -10,7 +11,8 @@ use Rattle.simulator.specs.Objections.{objection_text}
 use Rattle.initd_command.specs.Lines.{line_at, line_told}
 use Rattle.initd_command.specs.declared.check.TheConstants.{UNWRITTEN}
 use Rattle.initd_command.specs.declared.reports.TheConstants.{FLAWED, NO_MEMORY, TOO_MANY}
-use Rattle.initd_command.specs.declared.command.TheConstants.{CHECK_USAGE, RUN_USAGE, SHORT_USAGE, SIMULATE_USAGE, UNVERSIONED, VERSION_USAGE}
+use Rattle.initd_command.specs.declared.command.TheConstants.{CHECK_USAGE, RUN_USAGE, SHORT_USAGE, SIMULATE_USAGE}
+use Rattle.initd_command.specs.declared.command.TheConstants.{UNVERSIONED, VERSION_USAGE}
 use Rattle.initd_command.specs.declared.run.Obstacle.{Obstacle}
 use Rattle.initd_command.specs.declared.run.Obstacle.TheVariants as why
 use Rattle.initd_command.specs.declared.run.TheConstants.{UNLED, UNTOLD}
@@ -24,8 +26,8 @@ pub record Judged : Type 0 where
   pub left : Option ℕ
   pub count : ℕ
 
--- what is said of a run that comes to its turns: that nothing names its level, or something does; and whether the faults
--- of its inittab were written, and all was printed that its host was to print
+-- what is said of a run that comes to its turns: that nothing names its level, or something does; and whether the
+-- faults of its inittab were written, and all was printed that its host was to print
 pub record Spoken : Type 0 where
   pub unled : Bool
   pub told : Bool

@@ -2,10 +2,13 @@
 -- operating system.
 use Rattle.std.specs.Prelude.{◌≡◌, ◌⊎◌, ℕ, if◌then◌else◌, List, codes, Option, Some, None}
 use Rattle.std.specs.Io.KnownBytes.{Appends, Keeps}
-use Rattle.initd_command.specs.Words.{AppendsPrefix, IsTextAt, KnownTexts, SimFault, Done, Ends, Scenario, scenario, CheckSaid, SimulateSaid, InitdSaid, judges, initd_read_of, simulates, runs, version}
+use Rattle.initd_command.specs.Words.{AppendsPrefix, IsTextAt, KnownTexts, SimFault, Done, Ends, Scenario, scenario}
+use Rattle.initd_command.specs.Words.{CheckSaid, SimulateSaid, InitdSaid, judges, initd_read_of, simulates, runs}
+use Rattle.initd_command.specs.Words.{version}
 use Rattle.command_words.specs.VersionLine.{version_line}
 use Rattle.initd_command.specs.declared.run.Obstacle.TheVariants.{Memory}
-use Rattle.initd_command.specs.Endings.{Ending, EndsUnread, done, usage, refused, stopped, unflushed, unversioned, usage_named}
+use Rattle.initd_command.specs.Endings.{Ending, EndsUnread, done, usage, refused, stopped, unflushed, unversioned}
+use Rattle.initd_command.specs.Endings.{usage_named}
 use Rattle.initd_command.specs.Services.{EndsRun}
 use Rattle.initd_command.specs.Verdicts.{EndsCheck}
 
@@ -29,7 +32,8 @@ EndsVersion done old new = Appends old new (version_line (codes "initd"))
 EndsVersion unversioned old new = AppendsPrefix old new (version_line (codes "initd"))
 EndsVersion _ old new = ⊥
 
--- the texts at the paths of traces that are judged: nothing is known of one with the pieces that were put away before it
+-- the texts at the paths of traces that are judged: nothing is known of one with the pieces that were put away before
+-- it
 abbrev pub judged_at : KnownTexts → CheckSaid → KnownTexts
 judged_at text_at options = if options.pieces then (λ _. None) else text_at
 

@@ -1,9 +1,13 @@
 -- How a run over the operating system ends. Its host tells nothing of what was asked of it, so this is what is written,
 -- and how the exit status follows from what ended the turns.
-use Rattle.std.specs.Prelude.{◌≡◌, ◌≤◌, ◌<◌, ◌⊎◌, ◌&&◌, ◌==◌, not, if◌then◌else◌, ℕ, Bool, true, false, List, [], ◌∷◌, ◌++◌, length, string_bytes, Option, Some, None, option_map, is_none, is_some, unwrap_or, IfSome, IsTrue, ⊤}
+use Rattle.std.specs.Prelude.{◌≡◌, ◌≤◌, ◌<◌, ◌⊎◌, ◌&&◌, ◌==◌, not, if◌then◌else◌, ℕ, Bool, true, false, List, [], ◌∷◌}
+use Rattle.std.specs.Prelude.{◌++◌, length, string_bytes, Option, Some, None, option_map, is_none, is_some, unwrap_or}
+use Rattle.std.specs.Prelude.{IfSome, IsTrue, ⊤}
 use Rattle.std.specs.Bool.{then_some}
 use Rattle.std.specs.Io.KnownBytes.{Appends, Keeps}
-use Rattle.initd_command.specs.Words.{AppendsPrefix, IsTextAt, KnownTexts, NamedText, texts_of, Entry, Level, Judgement, Status, Event, CoreState, opening_goal, FitsAll, waiting_text, HostCall, are_carried, is_allowed, point_after, Served, opening_point, RunSaid}
+use Rattle.initd_command.specs.Words.{AppendsPrefix, IsTextAt, KnownTexts, NamedText, texts_of, Entry, Level, Judgement}
+use Rattle.initd_command.specs.Words.{Status, Event, CoreState, opening_goal, FitsAll, waiting_text, HostCall}
+use Rattle.initd_command.specs.Words.{are_carried, is_allowed, point_after, Served, opening_point, RunSaid}
 use Rattle.inittab_text.specs.Parts.{AreTooLong, AreTooMany, are_readable, faults_of_parts, table_of_texts}
 use Rattle.inittab_text.specs.Tables.{default_level_of, entry_of}
 use Rattle.trace_log_wrappers.specs.Judgements.{Finds}
@@ -36,9 +40,9 @@ has_result table (Some id) = is_some (entry_of id table)
 abbrev pub is_taken : RunSaid → List ℕ → List Entry → Bool
 is_taken service told table = not (is_flawed service told) && has_result table service.result
 
--- what is noted of a run: how the last child of the entry that has its result ended, if one did; the children that go on,
--- where all of them are known; the lines that tell what init waits for; and what was found of the run, where it was to be
--- judged
+-- what is noted of a run: how the last child of the entry that has its result ended, if one did; the children that go
+-- on, where all of them are known; the lines that tell what init waits for; and what was found of the run, where it
+-- was to be judged
 pub record Noted : Type 0 where
   pub last : Option Status
   pub running : Option (List (List ℕ × ℕ))
@@ -172,8 +176,8 @@ Writes false text old new = AppendsPrefix old new text
 abbrev pub EndsTold : RunSaid → List ℕ → Bool → End → Option (List ℕ) → Option (List ℕ) → Type 0
 EndsTold service told written end old new = EndsServed service end × Writes written told old new
 
--- how a run ends: something is in its way, and nothing is written, or it takes the inittab at its paths, whose faults it
--- tells, and makes turns
+-- how a run ends: something is in its way, and nothing is written, or it takes the inittab at its paths, whose faults
+-- it tells, and makes turns
 abbrev pub EndsRun : KnownTexts → RunSaid → Ending → Option (List ℕ) → Option (List ℕ) → Type 0
 EndsRun text_at service ending old new =
     ((obstacle : Obstacle) × (ending ≡ refused obstacle) × IsInWay text_at service obstacle × Keeps old new)

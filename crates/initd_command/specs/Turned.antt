@@ -1,7 +1,9 @@
 -- How the turns of a run ended: its exit status, and what is reported.
-use Rattle.std.specs.Prelude.{◌⊎◌, ◌||◌, ◌==◌, if◌then◌else◌, unwrap_or, ℕ, Bool, true, false, List, [], ◌∷◌, ◌++◌, codes, decimal, Option, Some, None}
+use Rattle.std.specs.Prelude.{◌⊎◌, ◌||◌, ◌==◌, if◌then◌else◌, unwrap_or, ℕ, Bool, true, false, List, [], ◌∷◌, ◌++◌}
+use Rattle.std.specs.Prelude.{codes, decimal, Option, Some, None}
 use Rattle.std.specs.Io.KnownBytes.{Keeps}
-use Rattle.initd_command.specs.Words.{AppendsPrefix, DONE, UNLAWFUL, LIMIT_REACHED, DEVICE_FAULT, Judgement, Status, law_words}
+use Rattle.initd_command.specs.Words.{AppendsPrefix, DONE, UNLAWFUL, LIMIT_REACHED, DEVICE_FAULT, Judgement, Status}
+use Rattle.initd_command.specs.Words.{law_words}
 use Rattle.init_words.specs.declared.children.Status.TheVariants.{Exit, Killed}
 use Rattle.trace_log_wrappers.specs.declared.judgements.Judgement.TheVariants.{Lawful, Breach, Unjudged}
 use Rattle.initd_command.specs.declared.ends.TheConstants.{KILLED, LIMITED, UNJUDGED, UNLOGGED, UNNAMED}
@@ -81,7 +83,8 @@ running_text children = listed_after (codes "initd: still running: ") children +
 -- that so many happenings broke no law: those of the whole run, or those that were judged of one whose log failed
 abbrev pub lawful_text : Bool → ℕ → List ℕ
 lawful_text true count = codes "initd: the run was lawful: " ++ (decimal count ++ codes " happenings\n")
-lawful_text false count = codes "initd: what was judged of the run was lawful: " ++ (decimal count ++ codes " happenings\n")
+lawful_text false count =
+    codes "initd: what was judged of the run was lawful: " ++ (decimal count ++ codes " happenings\n")
 
 abbrev pub breach_text : ℕ → List ℕ → List ℕ
 breach_text position why =

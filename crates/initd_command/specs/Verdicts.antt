@@ -1,5 +1,6 @@
 -- How a trace is judged: the verdict that is written, and what is told of a breach.
-use Rattle.std.specs.Prelude.{◌≡◌, ◌⊎◌, ◌==◌, ◌&&◌, if◌then◌else◌, not, nat_lt, ℕ, Bool, true, false, List, [], ◌++◌, codes, decimal, Option, Some, None, option_map, slice_get}
+use Rattle.std.specs.Prelude.{◌≡◌, ◌⊎◌, ◌==◌, ◌&&◌, if◌then◌else◌, not, nat_lt, ℕ, Bool, true, false, List, [], ◌++◌}
+use Rattle.std.specs.Prelude.{codes, decimal, Option, Some, None, option_map, slice_get}
 use Rattle.std.specs.Io.KnownBytes.{Appends, Keeps}
 use Rattle.initd_command.specs.Words.{AppendsPrefix, IsTextAt, KnownTexts, law_number, law_words, CheckSaid}
 use Rattle.trace_verdict.specs.declared.findings.Finding.{Finding}
@@ -9,7 +10,8 @@ use Rattle.trace_verdict.specs.Judges.{HasTaken, TextState}
 use Rattle.initd_command.specs.declared.check.JudgedTrace.{JudgedTrace}
 use Rattle.initd_command.specs.declared.run.Obstacle.TheVariants.{Memory}
 use Rattle.initd_command.specs.Lines.{front_line}
-use Rattle.initd_command.specs.Endings.{Ending, EndsUnread, Judged, refused, lawful, unlawful, torn, unfinished, unwritten}
+use Rattle.initd_command.specs.Endings.{Ending, EndsUnread, Judged, refused, lawful, unlawful, torn, unfinished}
+use Rattle.initd_command.specs.Endings.{unwritten}
 
 abbrev pub judged_of : JudgedTrace → Judged
 judged_of told = record {

@@ -72,7 +72,8 @@ pub(crate) fn check_files<R: Files<File = File> + Eprint, T: Texts, W: Write, E:
     err: &mut E,
 ) -> u8
     ensures { (ending : Ending) × (result ≡ status_of ending)
-        × EndsCheck (judged_at (T.text_at texts.now) (check_of options.now)) (check_of options.now) ending
+        × EndsCheck (judged_at (T.text_at texts.now) (check_of options.now))
+        (check_of options.now) ending
         (W.contents out.old) (W.contents out.new)
         × Reports ending (E.contents err.old) (E.contents err.new) }
 {

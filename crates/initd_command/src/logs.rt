@@ -13,7 +13,8 @@ impl Log for NoLog {
     ghost use Rattle.initd_command.specs.Words.{LogState};
 
     ghost state = { λ _.
-        let nothing : LogState = record { taken = λ _. ⊤; failed = false; noted = None } in nothing };
+        let nothing : LogState = record { taken = λ _. ⊤; failed = false; noted = None } in
+        nothing };
 
     fn take<B: Allocator>(&mut self, _happening: &HappeningIn<B>) -> Result<(), LogFault> {
         Ok(())

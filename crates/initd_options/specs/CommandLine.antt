@@ -1,6 +1,7 @@
--- The command lines `initd simulate [--level L] TABLE SCRIPT`, `initd check [--growing] [--pieces] TRACE` and `initd run ..`, and
--- `initd --version`.
-use Rattle.std.specs.Prelude.{Bool, if◌then◌else◌, List, [], ◌∷◌, codes, Option, Some, None, option_and_then, option_map, string_bytes}
+-- The command lines `initd simulate [--level L] TABLE SCRIPT`, `initd check [--growing] [--pieces] TRACE` and `initd
+-- run ..`, and `initd --version`.
+use Rattle.std.specs.Prelude.{Bool, if◌then◌else◌, List, [], ◌∷◌, codes, Option, Some, None, option_and_then}
+use Rattle.std.specs.Prelude.{option_map, string_bytes}
 use Rattle.std.specs.Str.{bytes_eq}
 use Rattle.clap.specs.Words.{App, Row, Text}
 use Rattle.command_words.specs.CommandLines.{asks_version, given_by, is_set, line_of, value_said, written}
@@ -42,7 +43,8 @@ pub data InitdSaid : Type 0 where
   runs : RunSaid → InitdSaid
 
 abbrev pub simulation_of : SimulateWords → SimulateSaid
-simulation_of words = record { level = words.level; table = string_bytes words.table; script = string_bytes words.script }
+simulation_of words =
+    record { level = words.level; table = string_bytes words.table; script = string_bytes words.script }
 
 abbrev pub check_of : CheckWords → CheckSaid
 check_of words = record { growing = words.growing; pieces = words.pieces; trace = string_bytes words.trace }

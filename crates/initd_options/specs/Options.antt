@@ -1,5 +1,7 @@
 -- What the options of `initd run` say.
-use Rattle.std.specs.Prelude.{ℕ, Bool, true, false, ◌+◌, ◌-◌, ◌*◌, ◌^◌, ◌==◌, ◌&&◌, if◌then◌else◌, nat_lt, nat_le, List, [], ◌∷◌, ◌++◌, length, codes, Option, Some, None, option_and_then, option_map, string_bytes}
+use Rattle.std.specs.Prelude.{ℕ, Bool, true, false, ◌+◌, ◌-◌, ◌*◌, ◌^◌, ◌==◌, ◌&&◌, if◌then◌else◌, nat_lt, nat_le, List}
+use Rattle.std.specs.Prelude.{[], ◌∷◌, ◌++◌, length, codes, Option, Some, None, option_and_then, option_map}
+use Rattle.std.specs.Prelude.{string_bytes}
 use Rattle.std.specs.Char.{is_ascii_digit}
 use Rattle.std.specs.Option.{option_or}
 use Rattle.clap.specs.Words.{Row, Text, first_of}
@@ -9,7 +11,8 @@ use Rattle.init_words.specs.Ids.{id_read}
 use Rattle.text_lines.specs.Lines.{cut}
 use Rattle.text_lines.specs.Numbers.{number_read}
 use Rattle.initd_options.specs.declared.options.RunWords.{RunWords}
-use Rattle.initd_options.specs.declared.options.TheConstants.{FOREVER, PAUSE_LIMIT, PAUSE_SECONDS, SIZE_LEAST, SIZE_MOST, TURNS_DEFAULT, TURNS_LIMIT, UNITS_LIMIT}
+use Rattle.initd_options.specs.declared.options.TheConstants.{FOREVER, PAUSE_LIMIT, PAUSE_SECONDS, SIZE_LEAST}
+use Rattle.initd_options.specs.declared.options.TheConstants.{SIZE_MOST, TURNS_DEFAULT, TURNS_LIMIT, UNITS_LIMIT}
 use Rattle.init_words.specs.Levels.{level_read}
 use Rattle.program_io.specs.Arguments.{only_byte}
 
@@ -33,7 +36,8 @@ without_zeros (byte ∷ word) = if byte == 48 then without_zeros word else byte 
 -- a number of turns: 1 to the limit
 abbrev pub turns_read : Text → Option ℕ
 turns_read word =
-    option_and_then (λ turns. if nat_lt 0 turns then Some turns else None) (number_read (TURNS_LIMIT + 1) (without_zeros word))
+    option_and_then (λ turns. if nat_lt 0 turns then Some turns else None)
+    (number_read (TURNS_LIMIT + 1) (without_zeros word))
 
 -- the greatest number of turns, by whether it has no limit and by the word that is given, of which one may be
 abbrev pub turns_in : Bool → Option Text → Option ℕ
@@ -98,7 +102,8 @@ brief_said rows = brief_in (is_set (codes "--brief") rows) (first_of (codes "--t
 abbrev pub in_units : ℕ → Option (List ℕ × List ℕ) → Option ℕ
 in_units unit None = None
 in_units unit (Some parts) =
-    option_and_then (λ number. if length parts.1 == 0 then Some (number * unit) else None) (number_read UNITS_LIMIT parts.0)
+    option_and_then (λ number. if length parts.1 == 0 then Some (number * unit) else None)
+    (number_read UNITS_LIMIT parts.0)
 
 abbrev pub units_read : ℕ → ℕ → Text → Option ℕ
 units_read letter unit word = in_units unit (cut letter word)
@@ -107,7 +112,8 @@ units_read letter unit word = in_units unit (cut letter word)
 abbrev pub size_read : Text → Option ℕ
 size_read word =
     option_and_then (λ size. if nat_le SIZE_LEAST size && nat_le size SIZE_MOST then Some size else None)
-    (option_or (option_or (option_or (number_read (2 ^ 64) word) (units_read 75 1024 word)) (units_read 77 1048576 word))
+    (option_or
+    (option_or (option_or (number_read (2 ^ 64) word) (units_read 75 1024 word)) (units_read 77 1048576 word))
     (units_read 71 1073741824 word))
 
 -- the length at which a trace is put away, if one is given, of a trace that is to be written
@@ -120,12 +126,12 @@ abbrev pub size_given : List Row → Option (Option ℕ)
 size_given rows = size_in (first_of (codes "--trace-size") rows) (first_of (codes "--trace") rows)
 
 -- The paths of the inittab, of the folder of its further files, if it is given, of the channel of requests and of the
--- text of init's state; whether the requests that the channel has already are left out; the path of the trace, if
--- it is given, whether it is brief, and the length at which it is put away, if it is; whether each happening is judged; the level to go to, if it is given; the
--- greatest number of turns; whether the run ends where it is drained; the seconds of a pause; the entry whose last
--- status is the run's, if one is given; whether each start and end is told; the folder of the children's output, if it
--- is given; whether an inittab with a faulty line is not taken; whether lines have the time in front; and whether the
--- channel's bell is made.
+-- text of init's state; whether the requests that the channel has already are left out; the path of the trace, if it
+-- is given, whether it is brief, and the length at which it is put away, if it is; whether each happening is judged;
+-- the level to go to, if it is given; the greatest number of turns; whether the run ends where it is drained; the
+-- seconds of a pause; the entry whose last status is the run's, if one is given; whether each start and end is told;
+-- the folder of the children's output, if it is given; whether an inittab with a faulty line is not taken; whether
+-- lines have the time in front; and whether the channel's bell is made.
 pub record RunSaid : Type 0 where
   pub inittab : Text
   pub inittab_dir : Option Text

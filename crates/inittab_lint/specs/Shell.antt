@@ -1,5 +1,6 @@
 -- What of a process the shell does otherwise than it seems, since it is started by `sh -c "exec PROCESS"` (inittab(5)).
-use Rattle.std.specs.Prelude.{ℕ, Bool, true, false, not, ◌&&◌, ◌||◌, ◌==◌, nat_le, if◌then◌else◌, List, [], ◌∷◌, codes, Option, Some, None}
+use Rattle.std.specs.Prelude.{ℕ, Bool, true, false, not, ◌&&◌, ◌||◌, ◌==◌, nat_le, if◌then◌else◌, List, [], ◌∷◌, codes}
+use Rattle.std.specs.Prelude.{Option, Some, None}
 use Rattle.std.specs.List.{list_all, list_any}
 use Rattle.std.specs.Option.{option_or}
 use Rattle.std.specs.Str.{bytes_eq}
@@ -17,8 +18,8 @@ abbrev pub part_behind : Option ℕ → ℕ → Option ℕ
 part_behind None b = closing b
 part_behind (Some close) b = if b == close then None else Some close
 
--- two characters that are read as one, and are no operator: a backslash and any other, but not within single quotes; and
--- outside parts <& and >& and >|
+-- two characters that are read as one, and are no operator: a backslash and any other, but not within single quotes;
+-- and outside parts <& and >& and >|
 abbrev pub is_pair : Option ℕ → ℕ → ℕ → Bool
 is_pair None b c = b == 92 || (b == 60 && c == 38 || b == 62 && (c == 38 || c == 124))
 is_pair (Some close) b c = b == 92 && not (close == 39)

@@ -1,5 +1,16 @@
 -- What the checks of a line say of the entry that is kept.
-use Rattle.inittab_text.proofs.Words.{◌≡◌, ℕ, ◌+◌, ◌<◌, ◌≤◌, Bool, true, false, cond, not, ◌==◌, nat_lt, nat_le, List, [], ◌∷◌, ◌++◌, length, drop, Option, Some, None, is_some, Result, Ok, Err, refl, sym, ap, ◌∙◌, arith, subst, length-append, get_or, IsUtf8, is_utf8, or_parts, and_parts, and_from, not-true, not-false, not_from_false, ltb-false, leb-false, le-leb, drop_at, get_or_at, length_push, option_and_then_some, is_utf8-from_IsUtf8, IsUtf8-from_is_utf8, IsUtf8-nil, IsUtf8-drop, IsCharBoundary-after_ascii, ENTRY_LIMIT, MARK_LIMIT, Entry, Act, Mark, is_id, LineKind, has_byte, skip_blanks, act_read, ignores_levels, has_process, needs_process, FieldBytes, fields_of, is_ignored, levels_meant, levels_kept, kept_of, is_too_long, is_missing, is_text, checked_with, checked, cut-parts, has_byte-parts, has_byte-skip_blanks, entry_of, has_no_repeat, is_levels, is_process}
+use Rattle.inittab_text.proofs.Words.{◌≡◌, ℕ, ◌+◌, ◌<◌, ◌≤◌, Bool, true, false, cond, not, ◌==◌, nat_lt, nat_le, List}
+use Rattle.inittab_text.proofs.Words.{[], ◌∷◌, ◌++◌, length, drop, Option, Some, None, is_some, Result, Ok, Err, refl}
+use Rattle.inittab_text.proofs.Words.{sym, ap, ◌∙◌, arith, subst, length-append, get_or, IsUtf8, is_utf8, or_parts}
+use Rattle.inittab_text.proofs.Words.{and_parts, and_from, not-true, not-false, not_from_false, ltb-false, leb-false}
+use Rattle.inittab_text.proofs.Words.{le-leb, drop_at, get_or_at, length_push, option_and_then_some}
+use Rattle.inittab_text.proofs.Words.{is_utf8-from_IsUtf8, IsUtf8-from_is_utf8, IsUtf8-nil, IsUtf8-drop}
+use Rattle.inittab_text.proofs.Words.{IsCharBoundary-after_ascii, ENTRY_LIMIT, MARK_LIMIT, Entry, Act, Mark, is_id}
+use Rattle.inittab_text.proofs.Words.{LineKind, has_byte, skip_blanks, act_read, ignores_levels, has_process}
+use Rattle.inittab_text.proofs.Words.{needs_process, FieldBytes, fields_of, is_ignored, levels_meant, levels_kept}
+use Rattle.inittab_text.proofs.Words.{kept_of, is_too_long, is_missing, is_text, checked_with, checked, cut-parts}
+use Rattle.inittab_text.proofs.Words.{has_byte-parts, has_byte-skip_blanks, entry_of, has_no_repeat, is_levels}
+use Rattle.inittab_text.proofs.Words.{is_process}
 use Rattle.std.specs.Option.{option_map}
 use Rattle.std.proofs.lemmas.List.{append_assoc}
 use Rattle.inittab_text.specs.declared.faults.LineKind.TheVariants as fault
@@ -11,7 +22,8 @@ use Rattle.inittab_text.proofs.MarkLemmas.{length-marks_of, has_no_repeat-withou
 abbrev pub spelled : FieldBytes → List ℕ
 spelled f = f.id ++ 58 ∷ (f.levels ++ 58 ∷ (f.action ++ 58 ∷ f.process))
 
-pub option_map_some : {X Y P : Type 0} (f : X → Y) (o : Option X) (y : Y) → option_map f o ≡ Some y → ((x : X) → o ≡ Some x → f x ≡ y → P) → P
+pub option_map_some : {X Y P : Type 0} (f : X → Y) (o : Option X) (y : Y) → option_map f o ≡ Some y
+    → ((x : X) → o ≡ Some x → f x ≡ y → P) → P
 option_map_some f None y is next = absurd (cc)
 option_map_some f (Some x) y is next = next x refl (cc)
 
@@ -31,18 +43,22 @@ pub record Passed (before : List Entry) (line : List ℕ) (f : FieldBytes) (a : 
   pub room : length before < ENTRY_LIMIT
   pub is : e ≡ kept_of a f
 
-guard : {X E : Type 0} (b : Bool) (fault : E) (r : Result X E) (x : X) → cond b (Err fault) r ≡ Ok x → (b ≡ false) × (r ≡ Ok x)
+guard : {X E : Type 0} (b : Bool) (fault : E) (r : Result X E) (x : X) → cond b (Err fault) r ≡ Ok x
+    → (b ≡ false) × (r ≡ Ok x)
 guard true fault r x is = absurd (cc)
 guard false fault r x is = (refl, is)
 
-guard_ignored : (b : Bool) (r : Result (Option Entry) LineKind) (e : Entry) → cond b (Ok None) r ≡ Ok (Some e) → r ≡ Ok (Some e)
+guard_ignored : (b : Bool) (r : Result (Option Entry) LineKind) (e : Entry) → cond b (Ok None) r ≡ Ok (Some e)
+    → r ≡ Ok (Some e)
 guard_ignored true r e is = absurd (cc)
 guard_ignored false r e is = is
 
 none_there : {X : Type 0} (o : Option X) → is_some o ≡ false → o ≡ None
 none_there o is = grind arith
 
-passed_as : (before : List Entry) (line : List ℕ) (f : FieldBytes) (a : Act) (e : Entry) → is_id f.id ≡ true → length f.levels ≤ MARK_LIMIT → act_read f.action ≡ Some a → checked_as a before line f ≡ Ok (Some e) → Passed before line f a e
+passed_as : (before : List Entry) (line : List ℕ) (f : FieldBytes) (a : Act) (e : Entry) → is_id f.id ≡ true
+    → length f.levels ≤ MARK_LIMIT → act_read f.action ≡ Some a → checked_as a before line f ≡ Ok (Some e)
+    → Passed before line f a e
 unfolding checked_as
 passed_as before line f a e id levels action is =
     let long = guard (is_too_long a f.process) fault.Length _ (Some e) is in
@@ -62,23 +78,29 @@ passed_as before line f a e id levels action is =
       is = cc (room.1);
     }
 
-passed_with : (before : List Entry) (line : List ℕ) (f : FieldBytes) (o : Option Act) (e : Entry) → is_id f.id ≡ true → length f.levels ≤ MARK_LIMIT → act_read f.action ≡ o → checked_with o before line f ≡ Ok (Some e) → (a : Act) × Passed before line f a e
+passed_with : (before : List Entry) (line : List ℕ) (f : FieldBytes) (o : Option Act) (e : Entry) → is_id f.id ≡ true
+    → length f.levels ≤ MARK_LIMIT → act_read f.action ≡ o → checked_with o before line f ≡ Ok (Some e)
+    → (a : Act) × Passed before line f a e
 passed_with before line f None e id levels action is = absurd (cc)
 passed_with before line f (Some a) e id levels action is = (a, passed_as before line f a e id levels action is)
 
-passed_fields : (before : List Entry) (line : List ℕ) (o : Option FieldBytes) (e : Entry) → fields_of line ≡ o → checked before line o ≡ Ok (Some e) → (f : FieldBytes) × (a : Act) × (fields_of line ≡ Some f) × Passed before line f a e
+passed_fields : (before : List Entry) (line : List ℕ) (o : Option FieldBytes) (e : Entry) → fields_of line ≡ o → checked
+    before line o ≡ Ok (Some e) → (f : FieldBytes) × (a : Act) × (fields_of line ≡ Some f) × Passed before line f a e
 passed_fields before line None e at is = absurd (cc)
 passed_fields before line (Some f) e at is =
     let id = guard (not (is_id f.id)) fault.Id _ (Some e) is in
     let levels = guard (nat_lt MARK_LIMIT (length f.levels)) fault.Levels _ (Some e) id.1 in
-    let rest = passed_with before line f (act_read f.action) e (not-false (is_id f.id) id.0) (ltb-false MARK_LIMIT (length f.levels) levels.0) refl levels.1 in
+    let rest = passed_with before line f (act_read f.action) e (not-false (is_id f.id) id.0)
+    (ltb-false MARK_LIMIT (length f.levels) levels.0) refl levels.1 in
     (f, rest.0, at, rest.1)
 
-pub passed : (before : List Entry) (line : List ℕ) (e : Entry) → verdict_of before line ≡ Ok (Some e) → (f : FieldBytes) × (a : Act) × (fields_of (skip_blanks line) ≡ Some f) × Passed before (skip_blanks line) f a e
+pub passed : (before : List Entry) (line : List ℕ) (e : Entry) → verdict_of before line ≡ Ok (Some e)
+    → (f : FieldBytes) × (a : Act) × (fields_of (skip_blanks line) ≡ Some f) × Passed before (skip_blanks line) f a e
 unfolding verdict_of
 passed before line e is =
     let text = skip_blanks line in
-    passed_fields before text (fields_of text) e refl (guard_ignored (is_ignored text) (checked before text (fields_of text)) e is)
+    passed_fields before text (fields_of text) e refl
+    (guard_ignored (is_ignored text) (checked before text (fields_of text)) e is)
 
 -- a part of a text behind an ASCII byte is text
 is_text-rest : (front rest : List ℕ) → is_text (front ++ 58 ∷ rest) ≡ true → is_text rest ≡ true
@@ -88,8 +110,10 @@ is_text-rest front rest is =
     let utf8 : IsUtf8 whole = IsUtf8-from_is_utf8 whole parts.0 in
     let at : get_or whole (length front) 0 ≡ 58 = get_or_at front 58 rest 0 (length front) refl in
     let within : length front < length whole = omega (arith, length-append front (58 ∷ rest)) in
-    let cut_there : drop (length front + 1) whole ≡ rest = ap (drop (length front + 1)) (sym (append_assoc front (58 ∷ []) rest)) ∙ drop_at (front ++ 58 ∷ []) rest (length front + 1) (length_push front 58) in
-    let valid : IsUtf8 (drop (length front + 1) whole) = IsUtf8-drop whole (length front + 1) utf8 (IsCharBoundary-after_ascii whole (length front) utf8 within (omega arith)) in
+    let cut_there : drop (length front + 1) whole ≡ rest = ap (drop (length front + 1)) (sym
+    (append_assoc front (58 ∷ []) rest)) ∙ drop_at (front ++ 58 ∷ []) rest (length front + 1) (length_push front 58) in
+    let valid : IsUtf8 (drop (length front + 1) whole) = IsUtf8-drop whole (length front + 1) utf8
+    (IsCharBoundary-after_ascii whole (length front) utf8 within (omega arith)) in
     let lacks = has_byte-parts 0 front (58 ∷ rest) (not-true (has_byte 0 whole) parts.1) in
     and_from (is_utf8 rest) (not (has_byte 0 rest)) (is_utf8-from_IsUtf8 rest (subst IsUtf8 cut_there valid))
     (not_from_false (has_byte 0 rest) (or_parts (58 == 0) (has_byte 0 rest) lacks.1).1)
@@ -101,13 +125,16 @@ lacks-rest : (front rest : List ℕ) → has_byte 10 (front ++ 58 ∷ rest) ≡ 
 lacks-rest front rest lacks = (or_parts (58 == 10) (has_byte 10 rest) (has_byte-parts 10 front (58 ∷ rest) lacks).1).1
 
 lacks-process : (f : FieldBytes) → has_byte 10 (spelled f) ≡ false → has_byte 10 f.process ≡ false
-lacks-process f is = lacks-rest f.action f.process (lacks-rest f.levels (f.action ++ 58 ∷ f.process) (lacks-rest f.id (f.levels ++ 58 ∷ (f.action ++ 58 ∷ f.process)) is))
+lacks-process f is = lacks-rest f.action f.process (lacks-rest f.levels (f.action ++ 58 ∷ f.process)
+    (lacks-rest f.id (f.levels ++ 58 ∷ (f.action ++ 58 ∷ f.process)) is))
 
 -- a field that may be left out means at most eleven characters
-length-levels_meant : (a : Act) (field : List ℕ) → length field ≤ MARK_LIMIT → length (levels_meant a field) ≤ MARK_LIMIT
+length-levels_meant : (a : Act) (field : List ℕ) → length field ≤ MARK_LIMIT
+    → length (levels_meant a field) ≤ MARK_LIMIT
 length-levels_meant a field few = grind arith
 
-is_levels_by : (a : Act) (marks : List Mark) (b : Bool) → ignores_levels a ≡ b → length marks ≤ MARK_LIMIT → has_no_repeat marks ≡ true → is_levels a (cond b [] marks) ≡ true
+is_levels_by : (a : Act) (marks : List Mark) (b : Bool) → ignores_levels a ≡ b → length marks ≤ MARK_LIMIT
+    → has_no_repeat marks ≡ true → is_levels a (cond b [] marks) ≡ true
 is_levels_by a marks true ignored few once = rw ignored refl
 is_levels_by a marks false ignored few once = rw (le-leb (length marks) MARK_LIMIT few, once, ignored) refl
 
@@ -118,26 +145,31 @@ is_levels-kept a field few =
 needs_none : (a : Act) → has_process a ≡ false → needs_process a ≡ false
 needs_none a none = grind arith
 
-is_process_by : (a : Act) (process : List ℕ) (b : Bool) → has_process a ≡ b → is_too_long a process ≡ false → is_missing a process ≡ false → is_text process ≡ true → has_byte 10 process ≡ false → is_process a (cond b process []) ≡ true
+is_process_by : (a : Act) (process : List ℕ) (b : Bool) → has_process a ≡ b → is_too_long a process ≡ false → is_missing
+    a process ≡ false → is_text process ≡ true → has_byte 10 process ≡ false → is_process a (cond b process []) ≡ true
 is_process_by a process true has long missing text lacks = rw (long, missing, text, lacks, has) refl
 is_process_by a process false has long missing text lacks = grind (arith, is_utf8-from_IsUtf8, IsUtf8-nil, needs_none)
 
 -- what was kept is written as it was read
-pub is_written-kept : (before : List Entry) (line : List ℕ) (f : FieldBytes) (a : Act) (e : Entry) → Passed before line f a e → line ≡ spelled f → has_byte 10 line ≡ false → is_written e ≡ true
+pub is_written-kept : (before : List Entry) (line : List ℕ) (f : FieldBytes) (a : Act) (e : Entry)
+    → Passed before line f a e → line ≡ spelled f → has_byte 10 line ≡ false → is_written e ≡ true
 unfolding is_written
 is_written-kept before line f a e h at lacks =
     let text : is_text (spelled f) ≡ true = subst (λ l. is_text l ≡ true) at h.text in
     let none : has_byte 10 (spelled f) ≡ false = subst (λ l. has_byte 10 l ≡ false) at lacks in
-    let process = is_process_by a f.process (has_process a) refl h.long h.missing (is_text-process f text) (lacks-process f none) in
+    let process =
+    is_process_by a f.process (has_process a) refl h.long h.missing (is_text-process f text) (lacks-process f none) in
     rw h.is (and_from _ _ (and_from _ _ h.id (is_levels-kept a f.levels h.levels)) process)
 
 -- what a table must know before it takes the entry
-pub kept_entry : (before : List Entry) (line : List ℕ) (e : Entry) → verdict_of before line ≡ Ok (Some e) → has_byte 10 line ≡ false → (entry_of e.id before ≡ None) × (is_written e ≡ true) × (length before < ENTRY_LIMIT)
+pub kept_entry : (before : List Entry) (line : List ℕ) (e : Entry) → verdict_of before line ≡ Ok (Some e)
+    → has_byte 10 line ≡ false → (entry_of e.id before ≡ None) × (is_written e ≡ true) × (length before < ENTRY_LIMIT)
 kept_entry before line e is lacks =
     let all = passed before line e is in
     let h = all.3 in
     let id : e.id ≡ all.0.id = ap (λ (x : Entry). x.id) h.is in (
       rw id h.new,
-      is_written-kept before (skip_blanks line) all.0 all.1 e h (fields_of-spelled (skip_blanks line) all.0 all.2) (has_byte-skip_blanks 10 line lacks),
+      is_written-kept before (skip_blanks line) all.0 all.1 e h (fields_of-spelled (skip_blanks line) all.0 all.2)
+          (has_byte-skip_blanks 10 line lacks),
       h.room,
     )

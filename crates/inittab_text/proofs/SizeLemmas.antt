@@ -1,5 +1,9 @@
 -- The written text of a table is no longer than a text may be.
-use Rattle.inittab_text.proofs.Words.{◌≡◌, ℕ, suc, ◌+◌, ◌*◌, ◌≤◌, Bool, true, false, cond, ◌&&◌, nat_lt, List, [], ◌∷◌, ◌++◌, length, length-append, arith, lit≤, list_all, false≢true, and_parts, ltb-false, MARK_LIMIT, PROCESS_LIMIT, Entry, Act, word_of, has_process, id_parts, TEXT_LIMIT, ENTRY_LIMIT, levels_written, line_of, text_of, is_empty, is_written, is_table}
+use Rattle.inittab_text.proofs.Words.{◌≡◌, ℕ, suc, ◌+◌, ◌*◌, ◌≤◌, Bool, true, false, cond, ◌&&◌, nat_lt, List, [], ◌∷◌}
+use Rattle.inittab_text.proofs.Words.{◌++◌, length, length-append, arith, lit≤, list_all, false≢true, and_parts}
+use Rattle.inittab_text.proofs.Words.{ltb-false, MARK_LIMIT, PROCESS_LIMIT, Entry, Act, word_of, has_process, id_parts}
+use Rattle.inittab_text.proofs.Words.{TEXT_LIMIT, ENTRY_LIMIT, levels_written, line_of, text_of, is_empty, is_written}
+use Rattle.inittab_text.proofs.Words.{is_table}
 use Rattle.std.proofs.Math.Nat.{suc-mul, mul-le-mul_right}
 use Rattle.init_words.specs.declared.ids.TheConstants.{ID_LIMIT}
 use Rattle.init_words.specs.declared.actions.Act.TheVariants as act
@@ -32,13 +36,15 @@ word_short act.Ctrlaltdel = lit≤ tt
 word_short act.Kbrequest = lit≤ tt
 
 -- a process that is not too long
-process_by : (b : Bool) (p : List ℕ) → (b && nat_lt PROCESS_LIMIT (length p)) ≡ false → cond b true (is_empty p) ≡ true → length p ≤ PROCESS_LIMIT
+process_by : (b : Bool) (p : List ℕ) → (b && nat_lt PROCESS_LIMIT (length p)) ≡ false → cond b true (is_empty p) ≡ true
+    → length p ≤ PROCESS_LIMIT
 process_by true p short has = ltb-false PROCESS_LIMIT (length p) short
 process_by false [] short has = lit≤ tt
 process_by false (b ∷ p) short has = absurd (false≢true has)
 
 -- four fields, a byte after each
-sized : {whole first second third i l w p a b c d : ℕ} → whole ≡ first + 1 → first ≡ i + suc second → second ≡ l + suc third → third ≡ w + suc p → i ≤ a → l ≤ b → w ≤ c → p ≤ d → whole ≤ a + b + c + d + 4
+sized : {whole first second third i l w p a b c d : ℕ} → whole ≡ first + 1 → first ≡ i + suc second
+    → second ≡ l + suc third → third ≡ w + suc p → i ≤ a → l ≤ b → w ≤ c → p ≤ d → whole ≤ a + b + c + d + 4
 sized one two three four h1 h2 h3 h4 = omega (arith, one, two, three, four, h1, h2, h3, h4)
 
 line_short : (e : Entry) → is_written e ≡ true → length (line_of e) ≤ line_limit
@@ -52,7 +58,8 @@ line_short e is =
     (length-append e.id (58 ∷ (levels ++ 58 ∷ (word ++ 58 ∷ p))))
     (length-append levels (58 ∷ (word ++ 58 ∷ p)))
     (length-append word (58 ∷ p))
-    (id_parts e.id h.id).few (length-levels_written e.act e.levels.items h.few) (word_short e.act) (process_by (has_process e.act) p h.long h.has)
+    (id_parts e.id h.id).few (length-levels_written e.act e.levels.items h.few) (word_short e.act)
+    (process_by (has_process e.act) p h.long h.has)
 
 -- one line more
 longer : (whole line rest n k : ℕ) → whole ≡ line + rest → line ≤ k → rest ≤ n * k → whole ≤ suc n * k
@@ -61,7 +68,8 @@ longer whole line rest n k is here there = rw (suc-mul n k) (omega (arith, is, h
 at_least : (n : ℕ) → 0 ≤ n
 at_least n = omega arith
 
-lines_short : (table : List Entry) → list_all is_written table ≡ true → length (text_of table) ≤ length table * line_limit
+lines_short : (table : List Entry) → list_all is_written table ≡ true
+    → length (text_of table) ≤ length table * line_limit
 lines_short [] all = at_least _
 lines_short (e ∷ table) all =
     let both = and_parts (is_written e) (list_all is_written table) all in

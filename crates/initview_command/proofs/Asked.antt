@@ -1,5 +1,10 @@
 -- The command line, and what its words ask is done.
-use Rattle.initview_command.proofs.Words.{◌≡◌, ◌∙◌, [], ◌∷◌, ap, inl, inr, refl, sym, true, false, ℕ, Bool, codes, List, Option, Some, None, subst, unwrap_or, IsSome, option_and_then, Row, all_of, is_simple_and_free, DONE, DEVICE_FAULT, KnownTexts, reason_of, Heard, says_nothing, asked_of, command_line, files_of, folder_of, path_of, what_of, words_said, Writes, KnownWriters, Does, EndsAs, EndsFor, EndsGiven, EndsOf, EndsOn, EndsWhere, Refuses}
+use Rattle.initview_command.proofs.Words.{◌≡◌, ◌∙◌, [], ◌∷◌, ap, inl, inr, refl, sym, true, false, ℕ, Bool, codes, List}
+use Rattle.initview_command.proofs.Words.{Option, Some, None, subst, unwrap_or, IsSome, option_and_then, Row, all_of}
+use Rattle.initview_command.proofs.Words.{is_simple_and_free, DONE, DEVICE_FAULT, KnownTexts, reason_of, Heard}
+use Rattle.initview_command.proofs.Words.{says_nothing, asked_of, command_line, files_of, folder_of, path_of, what_of}
+use Rattle.initview_command.proofs.Words.{words_said, Writes, KnownWriters, Does, EndsAs, EndsFor, EndsGiven, EndsOf}
+use Rattle.initview_command.proofs.Words.{EndsOn, EndsWhere, Refuses}
 use Rattle.clap.proofs.OnLiterals.{clap_on_literals}
 use Rattle.command_words.specs.CommandLines.{bare_line, given_by, line_of}
 use Rattle.command_words.specs.declared.faults.WordFault.{WordFault}
@@ -37,7 +42,8 @@ module _ (text_at growing_at : KnownTexts) (writers : KnownWriters) (status : �
 
   -- by whether the version is asked for
   pub version_done : (words : List (List ℕ)) (asks : Bool) → asks ≡ true
-      → Writes (line.Text (version_line (codes "initview")) ∷ []) DONE status old new → EndsAs asks text_at growing_at writers words status old new
+      → Writes (line.Text (version_line (codes "initview")) ∷ []) DONE status old new
+      → EndsAs asks text_at growing_at writers words status old new
   version_done words true is printed = printed
   version_done words false is printed = absurd (cc)
 
@@ -59,14 +65,16 @@ pub refuses : (status : ℕ) (before after : Option (List ℕ)) (now : Heard) �
 refuses status before after now (inl told) = (inl told.0, says_nothing now)
 refuses status before after now (inr told) = (inr told.0, says_nothing now)
 
-pub fault_done : (text_at growing_at : KnownTexts) (writers : KnownWriters) (status : ℕ) (before after : Option (List ℕ)) (now : Heard)
+pub fault_done : (text_at growing_at : KnownTexts) (writers : KnownWriters) (status : ℕ)
+    (before after : Option (List ℕ)) (now : Heard)
     (words : List (List ℕ)) (fault : WordFault) → (IsSome (reason_of fault) → given_by command_line words ≡ None)
     → ReportsRefusal status before after → (fault ≡ Memory → status ≡ DEVICE_FAULT)
     → EndsOn text_at growing_at writers words status now now
 fault_done text_at growing_at writers status before after now words (Usage reason) none refused memory =
     inl (subst (λ r. EndsWhere text_at growing_at writers r status now now) (sym (none refl))
     (refuses status before after now refused))
-fault_done text_at growing_at writers status before after now words Memory none refused memory = inr (memory refl, says_nothing now)
+fault_done text_at growing_at writers status before after now words Memory none refused memory =
+    inr (memory refl, says_nothing now)
 
 -- what words ask, by the rows that they give
 pub asked_none : (words : List (List ℕ)) (rows : List Row) → given_by command_line words ≡ Some rows

@@ -1,5 +1,12 @@
 -- What is written of a trace that is followed.
-use Rattle.initview_command.proofs.Words.{◌≡◌, refl, sym, ap, ◌∙◌, subst, ℕ, ◌+◌, ◌-◌, ◌^◌, ◌<◌, ◌≤◌, Bool, true, false, is_some, List, [], ◌∷◌, ◌++◌, length, length-append, append_assoc, arith, Option, Some, None, option_map, Result, Ok, Err, IfOk, OnErr, Consumes, IsAtEnd, Consumes-trans, PIECE_LIMIT, ViewEnd, Line, Heard, Says, SaysFront, front_none, front_then, front_whole, says_nothing, says_then, AreLinesOf, BeginsAllOf, FollowsAll, FollowsPart, HasLines, HasWritten, IsAllOf, IsFor, IsHidden, Start, WritesAll, WritesPart, begins_run, is_judged, judges, HasFollowed, HasKept, MayKeep, there_limit}
+use Rattle.initview_command.proofs.Words.{◌≡◌, refl, sym, ap, ◌∙◌, subst, ℕ, ◌+◌, ◌-◌, ◌^◌, ◌<◌, ◌≤◌, Bool, true, false}
+use Rattle.initview_command.proofs.Words.{is_some, List, [], ◌∷◌, ◌++◌, length, length-append, append_assoc, arith}
+use Rattle.initview_command.proofs.Words.{Option, Some, None, option_map, Result, Ok, Err, IfOk, OnErr, Consumes}
+use Rattle.initview_command.proofs.Words.{IsAtEnd, Consumes-trans, PIECE_LIMIT, ViewEnd, Line, Heard, Says, SaysFront}
+use Rattle.initview_command.proofs.Words.{front_none, front_then, front_whole, says_nothing, says_then, AreLinesOf}
+use Rattle.initview_command.proofs.Words.{BeginsAllOf, FollowsAll, FollowsPart, HasLines, HasWritten, IsAllOf, IsFor}
+use Rattle.initview_command.proofs.Words.{IsHidden, Start, WritesAll, WritesPart, begins_run, is_judged, judges}
+use Rattle.initview_command.proofs.Words.{HasFollowed, HasKept, MayKeep, there_limit}
 use Rattle.std.proofs.Common.{append-nil}
 use Rattle.trace_verdict.specs.Fronts.{line_left}
 use Rattle.trace_verdict.specs.Readers.{capped}
@@ -14,45 +21,61 @@ use Rattle.initview_command.specs.declared.following.Reader.TheVariants.{Run, Pa
 use Rattle.initview_command.specs.Following.{start_of}
 
 -- the lines of what a reader has taken, and of a text that goes on behind the line at which it stopped
-pub lines_of : (reader : Reader) (said : List Line) (text : List ℕ) → length text < 2 ^ 64 → HasLines reader said text → (stop : Option ViewEnd) × (line : Option ℕ) × AreLinesOf (judges reader) text stop line said
+pub lines_of : (reader : Reader) (said : List Line) (text : List ℕ) → length text < 2 ^ 64 → HasLines reader said text
+    → (stop : Option ViewEnd) × (line : Option ℕ) × AreLinesOf (judges reader) text stop line said
 lines_of (Run state) said text small has = said_of state said text small has
 lines_of (Part state) said text small has =
     let line : Option ℕ = left_of state.stop (option_map capped (line_left state.reading.lines state.reading.over)) in
     (state.stop, line, told_of state said text line small refl has)
 
-told_more : (text more : List ℕ) (stop : Option ViewEnd) (line : Option ℕ) (said : List Line) → is_some stop ≡ true → IsToldOf text stop line said → IsToldOf (text ++ more) stop line said
+told_more : (text more : List ℕ) (stop : Option ViewEnd) (line : Option ℕ) (said : List Line) → is_some stop ≡ true
+    → IsToldOf text stop line said → IsToldOf (text ++ more) stop line said
 told_more text more None line said is so = absurd (cc)
 told_more text more (Some stop) line said is so = (so.0, (stops_more stop so.0 text more so.1.0, so.1.1), so.2)
 
-lines_more : (judged : Bool) (text more : List ℕ) (stop : Option ViewEnd) (line : Option ℕ) (said : List Line) → is_some stop ≡ true → AreLinesOf judged text stop line said → AreLinesOf judged (text ++ more) stop line said
+lines_more : (judged : Bool) (text more : List ℕ) (stop : Option ViewEnd) (line : Option ℕ) (said : List Line)
+    → is_some stop ≡ true → AreLinesOf judged text stop line said → AreLinesOf judged (text ++ more) stop line said
 lines_more true text more stop line said is so = said_more text more stop line said is so
 lines_more false text more stop line said is so = told_more text more stop line said is so
 
 -- the reader for a text is that of what comes
-pub for_more : (last : Option ℕ) (old new : Reader) (text piece : List ℕ) → judges new ≡ judges old → IsFor last old text → IsFor last new (text ++ piece)
-for_more last old new text piece same is = λ more. ap (is_judged last) (append_assoc text piece more) ∙ is (piece ++ more) ∙ sym same
+pub for_more : (last : Option ℕ) (old new : Reader) (text piece : List ℕ) → judges new ≡ judges old
+    → IsFor last old text → IsFor last new (text ++ piece)
+for_more last old new text piece same is =
+    λ more. ap (is_judged last) (append_assoc text piece more) ∙ is (piece ++ more) ∙ sym same
 
-for_text : (last : Option ℕ) (reader : Reader) (text : List ℕ) → IsFor last reader text → is_judged last text ≡ judges reader
+for_text : (last : Option ℕ) (reader : Reader) (text : List ℕ) → IsFor last reader text
+    → is_judged last text ≡ judges reader
 for_text last reader text is = ap (is_judged last) (sym (append-nil text)) ∙ is []
 
-as_asked : (last : Option ℕ) (reader : Reader) (text : List ℕ) (stop : Option ViewEnd) (line : Option ℕ) (said : List Line) → IsFor last reader text → AreLinesOf (judges reader) text stop line said → AreLinesOf (is_judged last text) text stop line said
-as_asked last reader text stop line said is so = subst (λ j. AreLinesOf j text stop line said) (sym (for_text last reader text is)) so
+as_asked : (last : Option ℕ) (reader : Reader) (text : List ℕ) (stop : Option ViewEnd) (line : Option ℕ)
+    (said : List Line) → IsFor last reader text → AreLinesOf (judges reader) text stop line said
+    → AreLinesOf (is_judged last text) text stop line said
+as_asked last reader text stop line said is so =
+    subst (λ j. AreLinesOf j text stop line said) (sym (for_text last reader text is)) so
 
 -- a reader takes one piece more, and its lines stand behind those before
 abbrev pub Takes : Reader → Reader → List ℕ → List Line → List Line → Type 0
 Takes old new piece before lines =
-    (said : List Line) (text : List ℕ) → length (text ++ piece) < 2 ^ 64 → HasLines old (said ++ before) text → HasLines new (said ++ lines) (text ++ piece)
+    (said : List Line) (text : List ℕ) → length (text ++ piece) < 2 ^ 64 → HasLines old (said ++ before) text
+    → HasLines new (said ++ lines) (text ++ piece)
 
-lines_then : (old new : Reader) (text piece : List ℕ) (said none lines : List Line) → none ≡ [] → length (text ++ piece) < 2 ^ 64 → Takes old new piece none lines → HasLines old said text → HasLines new (said ++ lines) (text ++ piece)
+lines_then : (old new : Reader) (text piece : List ℕ) (said none lines : List Line) → none ≡ [] → length (text ++ piece)
+    < 2 ^ 64 → Takes old new piece none lines → HasLines old said text → HasLines new (said ++ lines) (text ++ piece)
 lines_then old new text piece said none lines is small takes has =
     takes said text small (subst (λ s. HasLines old s text) (sym (append-nil said) ∙ ap (λ n. said ++ n) (sym is)) has)
 
-behind_hidden : (old new : Reader) (text piece : List ℕ) (hidden shown none lines : List Line) → none ≡ [] → length (text ++ piece) < 2 ^ 64 → Takes old new piece none lines → HasLines old (hidden ++ shown) text → HasLines new (hidden ++ (shown ++ lines)) (text ++ piece)
+behind_hidden : (old new : Reader) (text piece : List ℕ) (hidden shown none lines : List Line) → none ≡ []
+    → length (text ++ piece) < 2 ^ 64 → Takes old new piece none lines → HasLines old (hidden ++ shown) text
+    → HasLines new (hidden ++ (shown ++ lines)) (text ++ piece)
 behind_hidden old new text piece hidden shown none lines is small takes has =
-    subst (λ s. HasLines new s (text ++ piece)) (append_assoc hidden shown lines) (lines_then old new text piece (hidden ++ shown) none lines is small takes has)
+    subst (λ s. HasLines new s (text ++ piece)) (append_assoc hidden shown lines)
+    (lines_then old new text piece (hidden ++ shown) none lines is small takes has)
 
 -- its lines were written
-pub piece_written : (start : Start) (old new : Reader) (text piece : List ℕ) (none lines : List Line) (before after : Heard) → none ≡ [] → length (text ++ piece) < 2 ^ 64 → judges new ≡ judges old → Takes old new piece none lines → Says before after lines → HasWritten start old text before → HasWritten start new (text ++ piece) after
+pub piece_written : (start : Start) (old new : Reader) (text piece : List ℕ) (none lines : List Line)
+    (before after : Heard) → none ≡ [] → length (text ++ piece) < 2 ^ 64 → judges new ≡ judges old → Takes old new piece
+    none lines → Says before after lines → HasWritten start old text before → HasWritten start new (text ++ piece) after
 piece_written start old new text piece none lines before after is small same takes appends has = (
   has.0 ++ lines,
   for_more start.last old new text piece same has.1,
@@ -61,20 +84,41 @@ piece_written start old new text piece none lines before after is small same tak
 )
 
 -- a part of them was written
-pub piece_part : (start : Start) (old new : Reader) (text piece : List ℕ) (none lines : List Line) (before after : Heard) → none ≡ [] → length (text ++ piece) < 2 ^ 64 → judges new ≡ judges old → Takes old new piece none lines → SaysFront before after lines → HasWritten start old text before → WritesPart start (Some (text ++ piece)) after
+pub piece_part : (start : Start) (old new : Reader) (text piece : List ℕ) (none lines : List Line) (before after :
+    Heard) → none ≡ [] → length (text ++ piece) < 2 ^ 64 → judges new ≡ judges old → Takes old new piece none lines
+    → SaysFront before after lines → HasWritten start old text before → WritesPart start (Some (text ++ piece)) after
 piece_part start old new text piece none lines before after is small same takes part has =
-    let so = lines_of new (start.hidden ++ (has.0 ++ lines)) (text ++ piece) small (behind_hidden old new text piece start.hidden has.0 none lines is small takes has.2) in
-    (text ++ piece, has.0 ++ lines, so.0, so.1, ([], append-nil (text ++ piece)), as_asked start.last new (text ++ piece) so.0 so.1 (start.hidden ++ (has.0 ++ lines)) (for_more start.last old new text piece same has.1) so.2, front_then start.said before after has.0 lines has.3 part)
+    let so = lines_of new (start.hidden ++ (has.0 ++ lines)) (text ++ piece) small
+    (behind_hidden old new text piece start.hidden has.0 none lines is small takes has.2) in (
+      text ++ piece,
+      has.0 ++ lines,
+      so.0,
+      so.1,
+      ([], append-nil (text ++ piece)),
+      as_asked start.last new (text ++ piece) so.0 so.1 (start.hidden ++ (has.0 ++ lines))
+          (for_more start.last old new text piece same has.1) so.2,
+      front_then start.said before after has.0 lines has.3 part,
+    )
 
 -- the lines of all that was taken were written
-pub written_part : (start : Start) (left : Option (List ℕ)) (reader : Reader) (text : List ℕ) (now : Heard) → length text < 2 ^ 64 → BeginsAllOf left text → HasWritten start reader text now → WritesPart start left now
+pub written_part : (start : Start) (left : Option (List ℕ)) (reader : Reader) (text : List ℕ) (now : Heard)
+    → length text < 2 ^ 64 → BeginsAllOf left text → HasWritten start reader text now → WritesPart start left now
 written_part start left reader text now small begins has =
-    let so = lines_of reader (start.hidden ++ has.0) text small has.2 in
-    (text, has.0, so.0, so.1, begins, as_asked start.last reader text so.0 so.1 (start.hidden ++ has.0) has.1 so.2, front_whole start.said now has.0 has.3)
+    let so = lines_of reader (start.hidden ++ has.0) text small has.2 in (
+      text,
+      has.0,
+      so.0,
+      so.1,
+      begins,
+      as_asked start.last reader text so.0 so.1 (start.hidden ++ has.0) has.1 so.2,
+      front_whole start.said now has.0 has.3,
+    )
 
-pub piece_unseen : (start : Start) (reader : Reader) (text piece : List ℕ) (now : Heard) → length (text ++ piece) < 2 ^ 64 → HasWritten start reader text now → WritesPart start (Some (text ++ piece)) now
+pub piece_unseen : (start : Start) (reader : Reader) (text piece : List ℕ) (now : Heard)
+    → length (text ++ piece) < 2 ^ 64 → HasWritten start reader text now → WritesPart start (Some (text ++ piece)) now
 piece_unseen start reader text piece now small has =
-    written_part start (Some (text ++ piece)) reader text now (omega (arith, small, length-append text piece)) (piece, refl) has
+    written_part start (Some (text ++ piece)) reader text now (omega (arith, small, length-append text piece))
+    (piece, refl) has
 
 -- what a reader gave begins what it had
 pub begins : (left now : Option (List ℕ)) (text : List ℕ) → Consumes left now text → BeginsAllOf left text
@@ -82,43 +126,64 @@ begins None now text consumed = tt
 begins (Some known) None text consumed = absurd consumed
 begins (Some known) (Some rest) text consumed = (rest, sym consumed)
 
-begins_more : (left now : Option (List ℕ)) (text front : List ℕ) → Consumes left now text → BeginsAllOf (Some text) front → BeginsAllOf left front
+begins_more : (left now : Option (List ℕ)) (text front : List ℕ) → Consumes left now text
+    → BeginsAllOf (Some text) front → BeginsAllOf left front
 begins_more None now text front consumed begins = tt
 begins_more (Some known) None text front consumed begins = absurd consumed
 begins_more (Some known) (Some rest) text front consumed begins =
     (begins.0 ++ rest, sym (append_assoc front begins.0 rest) ∙ ap (λ t. t ++ rest) begins.1 ∙ sym consumed)
 
 -- a part of the lines of what it gave is one of the lines of what it had
-pub part_of : (start : Start) (left now : Option (List ℕ)) (text : List ℕ) (new : Heard) → Consumes left now text → WritesPart start (Some text) new → WritesPart start left new
+pub part_of : (start : Start) (left now : Option (List ℕ)) (text : List ℕ) (new : Heard) → Consumes left now text
+    → WritesPart start (Some text) new → WritesPart start left new
 part_of start left now text new consumed part =
     (part.0, part.1, part.2, part.3, begins_more left now text part.0 consumed part.4, part.5, part.6)
 
 -- at its end, or where the reader goes no further
-all_taken : (left now after : Option (List ℕ)) (text : List ℕ) → Consumes left now text → Consumes now after [] → IsAtEnd after → IsAllOf left text
+all_taken : (left now after : Option (List ℕ)) (text : List ℕ) → Consumes left now text → Consumes now after []
+    → IsAtEnd after → IsAllOf left text
 all_taken None now after text consumed none ended = tt
 all_taken (Some known) None after text consumed none ended = absurd consumed
 all_taken (Some known) (Some rest) None text consumed none ended = absurd none
 all_taken (Some known) (Some rest) (Some more) text consumed none ended =
     sym (append-nil text) ∙ ap (λ t. text ++ t) (sym (none ∙ ended)) ∙ sym consumed
 
-pub all_read : (start : Start) (left now after : Option (List ℕ)) (stop : Option ViewEnd) (line : Option ℕ) (reader : Reader) (text : List ℕ) (new : Heard) → Consumes left now text → Consumes now after [] → IsAtEnd after → ((said : List Line) → HasLines reader said text → AreLinesOf (judges reader) text stop line said) → HasWritten start reader text new → WritesAll start left stop line new
-all_read start left now after stop line reader text new consumed none ended so has =
-    (text, has.0, all_taken left now after text consumed none ended, as_asked start.last reader text stop line (start.hidden ++ has.0) has.1 (so (start.hidden ++ has.0) has.2), has.3)
+pub all_read : (start : Start) (left now after : Option (List ℕ)) (stop : Option ViewEnd) (line : Option ℕ)
+    (reader : Reader) (text : List ℕ) (new : Heard) → Consumes left now text → Consumes now after [] → IsAtEnd after
+    → ((said : List Line) → HasLines reader said text → AreLinesOf (judges reader) text stop line said)
+    → HasWritten start reader text new → WritesAll start left stop line new
+all_read start left now after stop line reader text new consumed none ended so has = (
+  text,
+  has.0,
+  all_taken left now after text consumed none ended,
+  as_asked start.last reader text stop line (start.hidden ++ has.0) has.1 (so (start.hidden ++ has.0) has.2),
+  has.3,
+)
 
-pub all_stopped : (start : Start) (left now : Option (List ℕ)) (stop : Option ViewEnd) (line : Option ℕ) (reader : Reader) (text : List ℕ) (new : Heard) → is_some stop ≡ true → Consumes left now text → ((said : List Line) → HasLines reader said text → AreLinesOf (judges reader) text stop line said) → HasWritten start reader text new → WritesAll start left stop line new
-all_stopped start None now stop line reader text new is consumed so has =
-    (text, has.0, tt, as_asked start.last reader text stop line (start.hidden ++ has.0) has.1 (so (start.hidden ++ has.0) has.2), has.3)
+pub all_stopped : (start : Start) (left now : Option (List ℕ)) (stop : Option ViewEnd) (line : Option ℕ)
+    (reader : Reader) (text : List ℕ) (new : Heard) → is_some stop ≡ true → Consumes left now text
+    → ((said : List Line) → HasLines reader said text → AreLinesOf (judges reader) text stop line said)
+    → HasWritten start reader text new → WritesAll start left stop line new
+all_stopped start None now stop line reader text new is consumed so has = (
+  text,
+  has.0,
+  tt,
+  as_asked start.last reader text stop line (start.hidden ++ has.0) has.1 (so (start.hidden ++ has.0) has.2),
+  has.3,
+)
 all_stopped start (Some known) None stop line reader text new is consumed so has = absurd consumed
 all_stopped start (Some known) (Some rest) stop line reader text new is consumed so has = (
   text ++ rest,
   has.0,
   sym consumed,
-  subst (λ j. AreLinesOf j (text ++ rest) stop line (start.hidden ++ has.0)) (sym (has.1 rest)) (lines_more (judges reader) text rest stop line (start.hidden ++ has.0) is (so (start.hidden ++ has.0) has.2)),
+  subst (λ j. AreLinesOf j (text ++ rest) stop line (start.hidden ++ has.0)) (sym (has.1 rest))
+      (lines_more (judges reader) text rest stop line (start.hidden ++ has.0) is (so (start.hidden ++ has.0) has.2)),
   has.3,
 )
 
 -- by whether a call answers
-pub if_ok : {A E : Type 0} (P Q : A → Type 0) (result : Result A E) → ((answer : A) → P answer → Q answer) → IfOk result P → IfOk result Q
+pub if_ok : {A E : Type 0} (P Q : A → Type 0) (result : Result A E) → ((answer : A) → P answer → Q answer)
+    → IfOk result P → IfOk result Q
 if_ok P Q (Ok answer) so is = so answer is
 if_ok P Q (Err error) so is = is
 
@@ -143,18 +208,23 @@ none_hidden None left = refl
 none_hidden (Some count) left = ([], [], None, None, none_of left, nothing, omega (arith))
 
 pub none_part : (last : Option ℕ) (left : Option (List ℕ)) (now : Heard) → FollowsPart last left now now
-none_part last left now = ([], none_hidden last left, ([], [], None, None, none_of left, none_judged last, front_none now []))
+none_part last left now =
+    ([], none_hidden last left, ([], [], None, None, none_of left, none_judged last, front_none now []))
 
-pub none_all : (last : Option ℕ) (left : Option (List ℕ)) (now : Heard) → IsAllOf left [] → FollowsAll last left None None now now
+pub none_all : (last : Option ℕ) (left : Option (List ℕ)) (now : Heard) → IsAllOf left []
+    → FollowsAll last left None None now now
 none_all last left now all = ([], none_hidden last left, ([], [], all, none_judged last, says_nothing now))
 
 -- all lines are written from the first on
-pub from_first : (left : Option (List ℕ)) (reader : Reader) (now : Heard) → judges reader ≡ true → HasLines reader [] [] → HasFollowed (start_of None [] now) left reader left now
+pub from_first : (left : Option (List ℕ)) (reader : Reader) (now : Heard) → judges reader ≡ true → HasLines reader [] []
+    → HasFollowed (start_of None [] now) left reader left now
 from_first None reader now is has = ([], tt, omega (arith), ([], (λ more. sym is), has, says_nothing now))
 from_first (Some known) reader now is has = ([], refl, omega (arith), ([], (λ more. sym is), has, says_nothing now))
 
 -- lines that are kept: all but the last are dropped
-pub kept_last : (limit count : ℕ) (left remaining : Option (List ℕ)) (reader : Reader) (lines front last : List Line) → lines ≡ front ++ last → length front ≡ length lines - count → MayKeep limit count left reader lines remaining → HasKept limit count left reader last remaining
+pub kept_last : (limit count : ℕ) (left remaining : Option (List ℕ)) (reader : Reader) (lines front last : List Line)
+    → lines ≡ front ++ last → length front ≡ length lines - count → MayKeep limit count left reader lines remaining
+    → HasKept limit count left reader last remaining
 kept_last limit count left remaining reader lines front last are few (text, hidden, consumed, short, is, has, kept) = (
   text,
   hidden ++ front,
@@ -162,32 +232,69 @@ kept_last limit count left remaining reader lines front last are few (text, hidd
   short,
   is,
   subst (λ s. HasLines reader s text) (ap (λ l. hidden ++ l) are ∙ sym (append_assoc hidden front last)) has,
-  omega (arith, few, kept, length-append hidden lines, length-append hidden front, length-append (hidden ++ front) last, ap length are, length-append front last),
+  omega (
+    arith,
+    few,
+    kept,
+    length-append hidden lines,
+    length-append hidden front,
+    length-append (hidden ++ front) last,
+    ap length are,
+    length-append front last,
+  ),
 )
 
 -- those of a piece more stand behind them
-pub kept_more : (limit count : ℕ) (left now after : Option (List ℕ)) (old new : Reader) (piece : List ℕ) (before lines all : List Line) → limit + PIECE_LIMIT < 2 ^ 64 → all ≡ before ++ lines → length piece ≤ PIECE_LIMIT → Consumes now after piece → judges new ≡ judges old → ((said : List Line) (text : List ℕ) → length (text ++ piece) < 2 ^ 64 → HasLines old said text → HasLines new (said ++ lines) (text ++ piece)) → HasKept limit count left old before now → MayKeep (limit + PIECE_LIMIT) count left new all after
-kept_more limit count left now after old new piece before lines all small are short more same takes (text, hidden, consumed, few, for, has, kept) =
+pub kept_more : (limit count : ℕ) (left now after : Option (List ℕ)) (old new : Reader) (piece : List ℕ)
+    (before lines all : List Line) → limit + PIECE_LIMIT < 2 ^ 64 → all ≡ before ++ lines → length piece ≤ PIECE_LIMIT
+    → Consumes now after piece → judges new ≡ judges old → ((said : List Line) (text : List ℕ)
+    → length (text ++ piece) < 2 ^ 64 → HasLines old said text → HasLines new (said ++ lines) (text ++ piece))
+    → HasKept limit count left old before now → MayKeep (limit + PIECE_LIMIT) count left new all after
+kept_more limit count left now after old new piece before lines all small are short more same takes
+    (text, hidden, consumed, few, for, has, kept) =
     let long : length (text ++ piece) ≤ limit + PIECE_LIMIT = omega (arith, few, short, length-append text piece) in (
       text ++ piece,
       hidden,
       Consumes-trans _ _ _ _ _ consumed more,
       long,
       for_more (Some count) old new text piece same for,
-      subst (λ s. HasLines new s (text ++ piece)) (append_assoc hidden before lines ∙ ap (λ l. hidden ++ l) (sym are)) (takes (hidden ++ before) text (omega (arith, long, small)) has),
-      omega (arith, kept, length-append hidden before, length-append hidden all, ap length are, length-append before lines),
+      subst (λ s. HasLines new s (text ++ piece)) (append_assoc hidden before lines ∙ ap (λ l. hidden ++ l) (sym are))
+          (takes (hidden ++ before) text (omega (arith, long, small)) has),
+      omega (
+        arith,
+        kept,
+        length-append hidden before,
+        length-append hidden all,
+        ap length are,
+        length-append before lines,
+      ),
     )
 
-pub kept_there : (limit count : ℕ) (left remaining : Option (List ℕ)) (reader : Reader) (lines : List Line) → limit ≤ there_limit → HasKept limit count left reader lines remaining → HasKept there_limit count left reader lines remaining
-kept_there limit count left remaining reader lines within (text, hidden, consumed, few, is, has, kept) = (text, hidden, consumed, omega (arith, few, within), is, has, kept)
+pub kept_there : (limit count : ℕ) (left remaining : Option (List ℕ)) (reader : Reader) (lines : List Line)
+    → limit ≤ there_limit → HasKept limit count left reader lines remaining
+    → HasKept there_limit count left reader lines remaining
+kept_there limit count left remaining reader lines within (text, hidden, consumed, few, is, has, kept) =
+    (text, hidden, consumed, omega (arith, few, within), is, has, kept)
 
-pub kept_none : (limit count : ℕ) (left now after : Option (List ℕ)) (reader : Reader) (lines : List Line) → Consumes now after [] → HasKept limit count left reader lines now → HasKept limit count left reader lines after
-kept_none limit count left now after reader lines none (text, hidden, consumed, few, is, has, kept) =
-    (text, hidden, subst (Consumes left after) (append-nil text) (Consumes-trans _ _ _ _ _ consumed none), few, is, has, kept)
+pub kept_none : (limit count : ℕ) (left now after : Option (List ℕ)) (reader : Reader) (lines : List Line)
+    → Consumes now after [] → HasKept limit count left reader lines now → HasKept limit count left reader lines after
+kept_none limit count left now after reader lines none (text, hidden, consumed, few, is, has, kept) = (
+  text,
+  hidden,
+  subst (Consumes left after) (append-nil text) (Consumes-trans _ _ _ _ _ consumed none),
+  few,
+  is,
+  has,
+  kept,
+)
 
 -- the first piece has its reader
-pub first_kept : (count : ℕ) (left now : Option (List ℕ)) (old new : Reader) (piece : List ℕ) (none lines : List Line) → none ≡ [] → 0 < length piece → length piece ≤ PIECE_LIMIT → Consumes left now piece → judges old ≡ begins_run piece → judges new ≡ judges old → HasLines old [] [] → Takes old new piece none lines → MayKeep PIECE_LIMIT count left new lines now
-first_kept count left now old new [] none lines is some short consumed judged same has takes = absurd (omega (arith, some))
+pub first_kept : (count : ℕ) (left now : Option (List ℕ)) (old new : Reader) (piece : List ℕ) (none lines : List Line)
+    → none ≡ [] → 0 < length piece → length piece ≤ PIECE_LIMIT → Consumes left now piece
+    → judges old ≡ begins_run piece → judges new ≡ judges old → HasLines old [] [] → Takes old new piece none lines
+    → MayKeep PIECE_LIMIT count left new lines now
+first_kept count left now old new [] none lines is some short consumed judged same has takes =
+    absurd (omega (arith, some))
 first_kept count left now old new (byte ∷ piece) none lines is some short consumed judged same has takes = (
   byte ∷ piece,
   [],
@@ -199,15 +306,37 @@ first_kept count left now old new (byte ∷ piece) none lines is some short cons
 )
 
 -- the kept lines are said, and those that come behind them
-pub kept_said : (count : ℕ) (left now : Option (List ℕ)) (reader : Reader) (lines : List Line) (old new : Heard) → Says old new lines → (kept : HasKept there_limit count left reader lines now) → HasFollowed (start_of (Some count) kept.1 old) left reader now new
+pub kept_said : (count : ℕ) (left now : Option (List ℕ)) (reader : Reader) (lines : List Line) (old new : Heard)
+    → Says old new lines → (kept : HasKept there_limit count left reader lines now)
+    → HasFollowed (start_of (Some count) kept.1 old) left reader now new
 kept_said count left now reader lines old new said kept = (kept.0, kept.2, kept.3, (lines, kept.4, kept.5, said))
 
-pub kept_hidden : (count : ℕ) (left now : Option (List ℕ)) (reader : Reader) (lines : List Line) → (kept : HasKept there_limit count left reader lines now) → IsHidden (Some count) left kept.1
+pub kept_hidden : (count : ℕ) (left now : Option (List ℕ)) (reader : Reader) (lines : List Line)
+    → (kept : HasKept there_limit count left reader lines now) → IsHidden (Some count) left kept.1
 kept_hidden count left now reader lines kept =
-    let so = lines_of reader (kept.1 ++ lines) kept.0 (omega (arith, kept.3)) kept.5 in
-    (kept.0, lines, so.0, so.1, begins left now kept.0 kept.2, as_asked (Some count) reader kept.0 so.0 so.1 (kept.1 ++ lines) kept.4 so.2, kept.6)
+    let so = lines_of reader (kept.1 ++ lines) kept.0 (omega (arith, kept.3)) kept.5 in (
+      kept.0,
+      lines,
+      so.0,
+      so.1,
+      begins left now kept.0 kept.2,
+      as_asked (Some count) reader kept.0 so.0 so.1 (kept.1 ++ lines) kept.4 so.2,
+      kept.6,
+    )
 
-pub kept_part : (count : ℕ) (left now : Option (List ℕ)) (reader : Reader) (lines : List Line) (old new : Heard) → SaysFront old new lines → HasKept there_limit count left reader lines now → FollowsPart (Some count) left old new
+pub kept_part : (count : ℕ) (left now : Option (List ℕ)) (reader : Reader) (lines : List Line) (old new : Heard)
+    → SaysFront old new lines → HasKept there_limit count left reader lines now → FollowsPart (Some count) left old new
 kept_part count left now reader lines old new front kept =
-    let so = lines_of reader (kept.1 ++ lines) kept.0 (omega (arith, kept.3)) kept.5 in
-    (kept.1, kept_hidden count left now reader lines kept, (kept.0, lines, so.0, so.1, begins left now kept.0 kept.2, as_asked (Some count) reader kept.0 so.0 so.1 (kept.1 ++ lines) kept.4 so.2, front))
+    let so = lines_of reader (kept.1 ++ lines) kept.0 (omega (arith, kept.3)) kept.5 in (
+      kept.1,
+      kept_hidden count left now reader lines kept,
+      (
+        kept.0,
+        lines,
+        so.0,
+        so.1,
+        begins left now kept.0 kept.2,
+        as_asked (Some count) reader kept.0 so.0 so.1 (kept.1 ++ lines) kept.4 so.2,
+        front,
+      ),
+    )

@@ -1,5 +1,9 @@
 -- The words of the proofs of this crate.
-pub use Rattle.std.proofs.Common.{◌≡◌, ◌∙◌, [], ◌∷◌, ap, inl, inr, refl, sym, true, false, ℕ, Bool, codes, List, Option, Some, None, subst, unwrap_or, IsSome, option_and_then, ◌+◌, ◌<◌, ◌≤◌, ◌++◌, Bor, drop, get_or, length, map, append_assoc, arith, ◌-◌, ◌^◌, is_some, length-append, option_map, Result, Ok, Err, IfOk, OnErr, ◌⊎◌, reverse, string_bytes, rules, take, ◌*◌, min}
+pub use Rattle.std.proofs.Common.{◌≡◌, ◌∙◌, [], ◌∷◌, ap, inl, inr, refl, sym, true, false, ℕ, Bool, codes, List, Option}
+pub use Rattle.std.proofs.Common.{Some, None, subst, unwrap_or, IsSome, option_and_then, ◌+◌, ◌<◌, ◌≤◌, ◌++◌, Bor, drop}
+pub use Rattle.std.proofs.Common.{get_or, length, map, append_assoc, arith, ◌-◌, ◌^◌, is_some, length-append}
+pub use Rattle.std.proofs.Common.{option_map, Result, Ok, Err, IfOk, OnErr, ◌⊎◌, reverse, string_bytes, rules, take}
+pub use Rattle.std.proofs.Common.{◌*◌, min}
 pub use Rattle.clap.specs.Words.{Row, all_of, is_simple_and_free, found_of, rows_of}
 pub use Rattle.program_io.specs.declared.statuses.TheConstants.{DONE, DEVICE_FAULT, REFUSED}
 pub use Rattle.program_io.specs.Known.{KnownTexts, IsTextAt}
@@ -12,13 +16,16 @@ pub use Rattle.initview_command.specs.Writers.{KnownWriters, IsWriterAt, present
 pub use Rattle.initview_command.specs.Endings.{Does, EndsAs, EndsFor, EndsGiven, EndsOf, EndsOn, EndsWhere, Refuses}
 pub use Rattle.std.proofs.lemmas.List.{drop_more, length-take, drop_all}
 pub use Rattle.init_words.specs.Parts.{NamedText}
-pub use Rattle.initview_command.specs.Tables.{AreFilesAt, old_of, FailsBy, fault_status, level_asked, plan_by, table_in, AreMissing, answer_of}
+pub use Rattle.initview_command.specs.Tables.{AreFilesAt, old_of, FailsBy, fault_status, level_asked, plan_by, table_in}
+pub use Rattle.initview_command.specs.Tables.{AreMissing, answer_of}
 pub use Rattle.std.specs.Io.KnownBytes.{Consumes, IsAtEnd}
 pub use Rattle.std.proofs.KnownBytes.{Consumes-trans}
 pub use Rattle.program_io.specs.declared.takers.TheConstants.{PIECE_LIMIT, PIECES_LIMIT}
 pub use Rattle.trace_view.specs.declared.text_views.ViewEnd.{ViewEnd}
 pub use Rattle.initview_lines.specs.declared.lines.Line.{Line}
-pub use Rattle.initview_command.specs.Following.{AreLinesOf, BeginsAllOf, FollowsAll, FollowsPart, HasLines, HasWritten, IsAllOf, IsFor, IsHidden, Start, WritesAll, WritesPart, begins_run, is_judged, judges, Follows}
+pub use Rattle.initview_command.specs.Following.{AreLinesOf, BeginsAllOf, FollowsAll, FollowsPart, HasLines, HasWritten}
+pub use Rattle.initview_command.specs.Following.{IsAllOf, IsFor, IsHidden, Start, WritesAll, WritesPart, begins_run}
+pub use Rattle.initview_command.specs.Following.{is_judged, judges, Follows}
 pub use Rattle.initview_command.specs.Taking.{HasFollowed, HasKept, MayKeep, there_limit, FirstReader}
 pub use Rattle.trace_events.specs.Event.{Event}
 pub use Rattle.trace_view.specs.Viewing.{SeesNext, ViewState, Viewed}

@@ -1,9 +1,11 @@
 -- What a command line asks: options with their values stand anywhere, and the first of the other words is the command.
-use Rattle.std.specs.Prelude.{ℕ, suc, ◌+◌, Bool, true, false, not, ◌&&◌, ◌||◌, ◌==◌, if◌then◌else◌, List, [], ◌∷◌, codes, length, Option, Some, None, option_and_then, unwrap_or}
+use Rattle.std.specs.Prelude.{ℕ, suc, ◌+◌, Bool, true, false, not, ◌&&◌, ◌||◌, ◌==◌, if◌then◌else◌, List, [], ◌∷◌}
+use Rattle.std.specs.Prelude.{codes, length, Option, Some, None, option_and_then, unwrap_or}
 use Rattle.std.specs.List.{list_all}
 use Rattle.std.specs.Option.{is_some, option_map}
 use Rattle.std.specs.Str.{bytes_eq}
-use Rattle.initview_command.specs.Words.{App, Text, all_of, first_of, number_read, given_by, is_set, line_of, value_said, written, Level}
+use Rattle.initview_command.specs.Words.{App, Text, all_of, first_of, number_read, given_by, is_set, line_of}
+use Rattle.initview_command.specs.Words.{value_said, written, Level}
 use Rattle.clap.specs.Words.{Row}
 use Rattle.command_words.specs.CommandLines.{Line}
 use Rattle.init_words.specs.Ids.{id_read}
@@ -15,7 +17,8 @@ use Rattle.initview_command.specs.declared.asking.TableQuestion.{TableQuestion}
 use Rattle.initview_command.specs.declared.asking.TableQuestion.TheVariants as table
 use Rattle.initview_command.specs.declared.asking.TheConstants.{LAST_LIMIT, OPTIONS}
 use Rattle.initview_command.specs.declared.asking.Command.{Command}
-use Rattle.initview_command.specs.declared.asking.Command.TheVariants.{Show, Draw, Follow, Explain, Reload, Timing, Tables}
+use Rattle.initview_command.specs.declared.asking.Command.TheVariants.{Show, Draw, Follow, Explain, Reload, Timing}
+use Rattle.initview_command.specs.declared.asking.Command.TheVariants.{Tables}
 use Rattle.initview_command.specs.declared.charting.Form.{Form}
 use Rattle.initview_command.specs.declared.charting.Form.TheVariants.{Lines, Svg}
 use Rattle.initview_command.specs.declared.charting.TheConstants.{WIDTH}

@@ -1,10 +1,12 @@
 -- How initview ends on its words, and what it wrote.
 use Rattle.std.specs.Prelude.{◌≡◌, ◌⊎◌, ℕ, Bool, true, false, List, [], ◌∷◌, codes, Option, Some, None}
-use Rattle.initview_command.specs.Words.{DONE, REFUSED, DEVICE_FAULT, KnownTexts, asks_version, given_by, version_line, Heard, SaysNothing}
+use Rattle.initview_command.specs.Words.{DONE, REFUSED, DEVICE_FAULT, KnownTexts, asks_version, given_by, version_line}
+use Rattle.initview_command.specs.Words.{Heard, SaysNothing}
 use Rattle.clap.specs.Words.{Row}
 use Rattle.initview_lines.specs.declared.lines.Line.TheVariants as line
 use Rattle.initview_command.specs.declared.asking.Command.{Command}
-use Rattle.initview_command.specs.declared.asking.Command.TheVariants.{Show, Draw, Follow, Explain, Reload, Timing, Tables}
+use Rattle.initview_command.specs.declared.asking.Command.TheVariants.{Show, Draw, Follow, Explain, Reload, Timing}
+use Rattle.initview_command.specs.declared.asking.Command.TheVariants.{Tables}
 use Rattle.initview_command.specs.Asking.{command_line, files_of, folder_of, path_of, what_of, words_said}
 use Rattle.initview_command.specs.Charting.{drawing}
 use Rattle.initview_command.specs.Explaining.{explained_with}
@@ -23,7 +25,8 @@ Does text_at growing_at writers path files folder (Show question) status old new
     Shows text_at writers path (answer_by question) status old new
 Does text_at growing_at writers path files folder (Draw form) status old new =
     Shows text_at writers path (λ writer stop past. (drawing form past ∷ [], stop_status stop)) status old new
-Does text_at growing_at writers path files folder (Follow last) status old new = Follows last (growing_at path) status old new
+Does text_at growing_at writers path files folder (Follow last) status old new =
+    Follows last (growing_at path) status old new
 Does text_at growing_at writers path files folder (Explain id) status old new =
     ShowsWithFiles text_at writers path files folder (explained_with path id) AreNone status old new
 Does text_at growing_at writers path files folder (Reload level) status old new =

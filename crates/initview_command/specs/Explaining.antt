@@ -14,8 +14,8 @@ abbrev pub files_lines : List ℕ → List NamedText → List Line
 files_lines id [] = []
 files_lines id (file ∷ files) = id_lines id (file ∷ files)
 
--- what is written of a trace that stands so by now: the reason, with the lines that were at fault, and what is told of the
--- inittab
+-- what is written of a trace that stands so by now: the reason, with the lines that were at fault, and what is told
+-- of the inittab
 abbrev pub explanation : List ℕ → Chain → List Line → List Event → List Line
 explanation path chain told now = why_in path chain now ++ told
 

@@ -1,5 +1,6 @@
 -- What is written of a trace that is followed, and the exit status.
-use Rattle.std.specs.Prelude.{◌≡◌, ◌⊎◌, ℕ, ◌-◌, ◌==◌, Bool, true, false, List, [], ◌∷◌, ◌++◌, length, Option, Some, None, IfSome}
+use Rattle.std.specs.Prelude.{◌≡◌, ◌⊎◌, ℕ, ◌-◌, ◌==◌, Bool, true, false, List, [], ◌∷◌, ◌++◌, length, Option, Some}
+use Rattle.std.specs.Prelude.{None, IfSome}
 use Rattle.initview_command.specs.Words.{DEVICE_FAULT, ViewEnd, Heard, Says, SaysFront}
 use Rattle.initview_lines.specs.declared.lines.Line.{Line}
 use Rattle.initview_lines.specs.Following.{HasSaid, IsSaidOf}
@@ -36,7 +37,8 @@ abbrev pub IsHidden : Option ℕ → Option (List ℕ) → List Line → Type 0
 IsHidden None left hidden = hidden ≡ []
 IsHidden (Some count) left hidden =
     (there : List ℕ) × (shown : List Line) × (stop : Option ViewEnd) × (line : Option ℕ) × BeginsAllOf left there
-    × AreLinesOf (begins_run there) there stop line (hidden ++ shown) × (length hidden ≡ length (hidden ++ shown) - count)
+    × AreLinesOf (begins_run there) there stop line (hidden ++ shown)
+    × (length hidden ≡ length (hidden ++ shown) - count)
 
 -- what is asked for, which lines aren't written, and what was said before
 pub record Start : Type 0 where

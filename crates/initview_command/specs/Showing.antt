@@ -1,6 +1,8 @@
 -- What is written of a trace, and the exit status.
-use Rattle.std.specs.Prelude.{◌≡◌, ◌⊎◌, ℕ, Bool, true, false, if◌then◌else◌, List, [], ◌∷◌, reverse, Option, Some, None, is_some}
-use Rattle.initview_command.specs.Words.{DONE, REFUSED, UNLAWFUL, DEVICE_FAULT, IsTextAt, KnownTexts, Event, ViewEnd, Heard, Says, SaysFront, SaysNothing}
+use Rattle.std.specs.Prelude.{◌≡◌, ◌⊎◌, ℕ, Bool, true, false, if◌then◌else◌, List, [], ◌∷◌, reverse, Option, Some, None}
+use Rattle.std.specs.Prelude.{is_some}
+use Rattle.initview_command.specs.Words.{DONE, REFUSED, UNLAWFUL, DEVICE_FAULT, IsTextAt, KnownTexts, Event, ViewEnd}
+use Rattle.initview_command.specs.Words.{Heard, Says, SaysFront, SaysNothing}
 use Rattle.trace_events.specs.Lawful.{first_breach}
 use Rattle.trace_view.specs.declared.rows.Row.{Row}
 use Rattle.trace_view.specs.Rows.{row_of}
@@ -50,7 +52,8 @@ abbrev pub answer_by : TraceQuery → Writer → Option ViewEnd → List Event �
 answer_by question writer stop past =
     (said question (present writer stop past), status_by question writer stop (present writer stop past))
 
--- the lines were said, and the exit status is this; or the output failed or memory ran out, and a front of them was said
+-- the lines were said, and the exit status is this; or the output failed or memory ran out, and a front of them was
+-- said
 abbrev pub Writes : List Line → ℕ → ℕ → Heard → Heard → Type 0
 Writes lines ends status old new =
     ((status ≡ ends) × Says old new lines) ⊎ ((status ≡ DEVICE_FAULT) × SaysFront old new lines)

@@ -1,7 +1,8 @@
 -- What is written of inittabs, and the exit status.
 use Rattle.std.specs.Prelude.{◌≡◌, ◌⊎◌, ℕ, true, List, [], ◌∷◌, ◌++◌, take, drop, Option, Some, None, unwrap_or}
 use Rattle.std.specs.List.{list_all}
-use Rattle.initview_command.specs.Words.{DONE, REFUSED, DEVICE_FAULT, IsTextAt, KnownTexts, Entry, Level, NamedText, texts_of, is_missing, Heard, SaysNothing}
+use Rattle.initview_command.specs.Words.{DONE, REFUSED, DEVICE_FAULT, IsTextAt, KnownTexts, Entry, Level, NamedText}
+use Rattle.initview_command.specs.Words.{texts_of, is_missing, Heard, SaysNothing}
 use Rattle.init_words.specs.declared.levels.Level.TheVariants.{S}
 use Rattle.inittab_text.specs.declared.faults.TableFault.{TableFault}
 use Rattle.inittab_text.specs.declared.faults.TableFault.TheVariants as fault

@@ -1,6 +1,7 @@
 -- What is written of a trace where files of inittabs belong to the question.
 use Rattle.std.specs.Prelude.{◌≡◌, ◌⊎◌, ℕ, List, Option}
-use Rattle.initview_command.specs.Words.{REFUSED, DEVICE_FAULT, KnownTexts, NamedText, Event, ViewEnd, Heard, SaysNothing}
+use Rattle.initview_command.specs.Words.{REFUSED, DEVICE_FAULT, KnownTexts, NamedText, Event, ViewEnd, Heard}
+use Rattle.initview_command.specs.Words.{SaysNothing}
 use Rattle.initview_command.specs.declared.growing.Writer.{Writer}
 use Rattle.initview_lines.specs.declared.lines.Line.{Line}
 use Rattle.initview_command.specs.Showing.{Shows}

@@ -1,12 +1,15 @@
 -- The words of the proofs of this crate.
-pub use Rattle.std.proofs.Common.{◌≡◌, refl, ap, ℕ, true, false, List, [], Option, Some, None, Bool, cond, ◌∷◌, ◌++◌, reverse, sym, ◌∙◌, subst, ◌+◌, ◌^◌, ◌<◌, ◌≤◌, length, arith, filter, is_some, map, rules, option_copied}
+pub use Rattle.std.proofs.Common.{◌≡◌, refl, ap, ℕ, true, false, List, [], Option, Some, None, Bool, cond, ◌∷◌, ◌++◌}
+pub use Rattle.std.proofs.Common.{reverse, sym, ◌∙◌, subst, ◌+◌, ◌^◌, ◌<◌, ◌≤◌, length, arith, filter, is_some, map}
+pub use Rattle.std.proofs.Common.{rules, option_copied}
 pub use Rattle.init_words.specs.declared.levels.Level.{Level}
 pub use Rattle.init_words.specs.declared.entries.Entry.{Entry}
 pub use Rattle.init_words.specs.declared.stages.Stage.{Stage}
 pub use Rattle.trace_events.specs.Event.{Event}
 pub use Rattle.trace_events.specs.Past.{is_quiet, stage_of, time_of, table_of, Child, grace_of, unreaped_children}
 pub use Rattle.trace_view.specs.Wishes.{entered_by, next_stage, asked_level, first_wish}
-pub use Rattle.initview_lines.specs.Reloads.{read_again, idle_entry, idle_change, stopped_change, kept_change, change_by, line_now, entry_now, is_new}
+pub use Rattle.initview_lines.specs.Reloads.{read_again, idle_entry, idle_change, stopped_change, kept_change}
+pub use Rattle.initview_lines.specs.Reloads.{change_by, line_now, entry_now, is_new}
 pub use Rattle.trace_verdict.proofs.Judging.{past_push, capped_is, lines_push, lines_within}
 pub use Rattle.trace_view.specs.Viewing.{Viewed, ViewState}
 pub use Rattle.trace_view.specs.Views.{TextState, ViewGoesOn, IsAt, left_of}
@@ -19,7 +22,8 @@ pub use Rattle.trace_verdict.specs.Fronts.{BeginsNever, line_left}
 pub use Rattle.trace_verdict.specs.Readers.{Reading, capped, ReadsNext}
 pub use Rattle.trace_view.specs.declared.text_views.ViewEnd.{ViewEnd}
 pub use Rattle.trace_view.specs.Shown.{ShownBy, StopsAt, IsShown}
-pub use Rattle.initview_lines.specs.Parts.{HasTold, IsReadOf, IsTelling, IsToldOf, PartState, ReadBy, TakenBy, TellsOn, part_in}
+pub use Rattle.initview_lines.specs.Parts.{HasTold, IsReadOf, IsTelling, IsToldOf, PartState, ReadBy, TakenBy, TellsOn}
+pub use Rattle.initview_lines.specs.Parts.{part_in}
 pub use Rattle.trace_laws.specs.Plans.{path_along}
 pub use Rattle.initview_lines.specs.Plans.{last_of, path_lines, stages_lines, waiting}
 pub use Rattle.inittab_text.specs.Tables.{entry_of, act_of}

@@ -1,5 +1,6 @@
 -- Behind an inittab that is read, the stage of a level that is asked for is entered first.
-use Rattle.initview_lines.proofs.CommonWords.{◌≡◌, refl, ap, ℕ, true, false, List, [], Option, Some, None, Level, Entry, Stage, Event, is_quiet, stage_of, entered_by, next_stage, read_again}
+use Rattle.initview_lines.proofs.CommonWords.{◌≡◌, refl, ap, ℕ, true, false, List, [], Option, Some, None, Level, Entry}
+use Rattle.initview_lines.proofs.CommonWords.{Stage, Event, is_quiet, stage_of, entered_by, next_stage, read_again}
 use Rattle.trace_events.specs.declared.steps.Goal.{Goal}
 use Rattle.trace_events.specs.declared.steps.Step.TheVariants.{Enter}
 use Rattle.trace_events.specs.Due.{due, due_first, first, enter_level}
@@ -12,16 +13,25 @@ same_enter k l m n is =
     let two : m ≡ n = ap (λ (p : Stage × ℕ). p.1) pair in
     rw (one, two) refl
 
-begun : (goal : Goal) (stage : Option Stage) (read : List Event) (now : Stage) → stage ≡ Some now → due_first goal stage read ≡ []
+begun : (goal : Goal) (stage : Option Stage) (read : List Event) (now : Stage) → stage ≡ Some now
+    → due_first goal stage read ≡ []
 begun goal stage read now at = rw at refl
 
-entering : (goal : Goal) (read : List Event) (now next : Stage) (seconds : ℕ) → stage_of read ≡ Some now → is_quiet read ≡ true → wants_reexec read ≡ false → wants_reread read ≡ false → next_stage read ≡ Some (next, seconds) → first (due goal read) ≡ Enter next seconds
+entering : (goal : Goal) (read : List Event) (now next : Stage) (seconds : ℕ) → stage_of read ≡ Some now
+    → is_quiet read ≡ true → wants_reexec read ≡ false → wants_reread read ≡ false
+    → next_stage read ≡ Some (next, seconds) → first (due goal read) ≡ Enter next seconds
 entering goal read now next seconds at quiet calm is_read is = by (level_wish read) refl is
   where
-    by : (wish : Option Goal) → level_wish read ≡ wish → entered_by (enter_level wish read) ≡ Some (next, seconds) → first (due goal read) ≡ Enter next seconds
+    by : (wish : Option Goal) → level_wish read ≡ wish → entered_by (enter_level wish read) ≡ Some (next, seconds)
+        → first (due goal read) ≡ Enter next seconds
     by None none is = absurd (cc)
-    by (Some wish) asked is = rw (begun goal (stage_of read) read now at, quiet, calm, is_read, asked) (same_enter _ next _ seconds is)
+    by (Some wish) asked is =
+        rw (begun goal (stage_of read) read now at, quiet, calm, is_read, asked) (same_enter _ next _ seconds is)
 
-pub reload_enters : (goal : Goal) (table : List Entry) (level : Option Level) (past : List Event) (now next : Stage) (seconds : ℕ) → stage_of past ≡ Some now → is_quiet past ≡ true → wants_reexec past ≡ false → next_stage (read_again table level past) ≡ Some (next, seconds) → first (due goal (read_again table level past)) ≡ Enter next seconds
-reload_enters goal table None past now next seconds at quiet calm is = entering goal (read_again table None past) now next seconds at quiet calm refl is
-reload_enters goal table (Some level) past now next seconds at quiet calm is = entering goal (read_again table (Some level) past) now next seconds at quiet calm refl is
+pub reload_enters : (goal : Goal) (table : List Entry) (level : Option Level) (past : List Event) (now next : Stage)
+    (seconds : ℕ) → stage_of past ≡ Some now → is_quiet past ≡ true → wants_reexec past ≡ false → next_stage (read_again
+    table level past) ≡ Some (next, seconds) → first (due goal (read_again table level past)) ≡ Enter next seconds
+reload_enters goal table None past now next seconds at quiet calm is =
+    entering goal (read_again table None past) now next seconds at quiet calm refl is
+reload_enters goal table (Some level) past now next seconds at quiet calm is =
+    entering goal (read_again table (Some level) past) now next seconds at quiet calm refl is

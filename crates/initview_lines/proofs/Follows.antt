@@ -1,29 +1,39 @@
 -- One happening more is said, or all is taken.
-use Rattle.initview_lines.proofs.CommonWords.{◌≡◌, refl, ℕ, Bool, true, false, cond, List, [], ◌∷◌, ◌++◌, reverse, Option, Some, None, sym, ap, ◌∙◌, subst, Event, past_push, Viewed, TextState, ViewGoesOn, IsAt, seen_at, Line, follow_in, happening_lines, IsSaying, HasSaid, SaysOn}
+use Rattle.initview_lines.proofs.CommonWords.{◌≡◌, refl, ℕ, Bool, true, false, cond, List, [], ◌∷◌, ◌++◌, reverse}
+use Rattle.initview_lines.proofs.CommonWords.{Option, Some, None, sym, ap, ◌∙◌, subst, Event, past_push, Viewed}
+use Rattle.initview_lines.proofs.CommonWords.{TextState, ViewGoesOn, IsAt, seen_at, Line, follow_in, happening_lines}
+use Rattle.initview_lines.proofs.CommonWords.{IsSaying, HasSaid, SaysOn}
 use Rattle.std.proofs.Common.{append_assoc}
 
-pub some_said : (next : Option Event) (h : Event) (old new : TextState) (said before after : List Line) (text : List ℕ) → next ≡ Some h → ((trace : List Event) → ViewGoesOn next old new trace text) → ((past : List Event) → Viewed new.viewing (h ∷ past) → after ≡ before ++ happening_lines h past) → IsSaying old (said ++ before) text → IsSaying new (said ++ after) text
+pub some_said : (next : Option Event) (h : Event) (old new : TextState) (said before after : List Line) (text : List ℕ)
+    → next ≡ Some h → ((trace : List Event) → ViewGoesOn next old new trace text)
+    → ((past : List Event) → Viewed new.viewing (h ∷ past) → after ≡ before ++ happening_lines h past)
+    → IsSaying old (said ++ before) text → IsSaying new (said ++ after) text
 some_said next h old new said before after text is goes lines at =
     let P : Option Event → Type 0 = λ n. ViewGoesOn n old new at.0 text in
     let on : IsAt new (at.0 ++ h ∷ []) text = subst P is (goes at.0) at.1 in (
       at.0 ++ h ∷ [],
       on,
-      ap (λ l. said ++ l) (lines (reverse at.0) (subst (λ past. Viewed new.viewing past) (past_push at.0 h) (seen_at new.stop new (at.0 ++ h ∷ []) text on)))
+      ap (λ l. said ++ l) (lines (reverse at.0)
+          (subst (λ past. Viewed new.viewing past) (past_push at.0 h) (seen_at new.stop new (at.0 ++ h ∷ []) text on)))
           ∙ sym (append_assoc said before (happening_lines h (reverse at.0)))
           ∙ ap (λ l. l ++ happening_lines h (reverse at.0)) at.2
           ∙ sym (ap follow_in (past_push at.0 h)),
     )
 
-pub none_said : (next : Option Event) (old new : TextState) (said : List Line) (text : List ℕ) → next ≡ None → ((trace : List Event) → ViewGoesOn next old new trace text) → IsSaying old said text → HasSaid new said text
+pub none_said : (next : Option Event) (old new : TextState) (said : List Line) (text : List ℕ) → next ≡ None
+    → ((trace : List Event) → ViewGoesOn next old new trace text) → IsSaying old said text → HasSaid new said text
 none_said next old new said text is goes at =
     let P : Option Event → Type 0 = λ n. ViewGoesOn n old new at.0 text in
     (at.0, subst P is (goes at.0) at.1, at.2)
 
 -- one happening more is said, or all is taken
-pub more_said : (more : Bool) (old new : TextState) (before after : List Line) (text : List ℕ) → more ≡ true → SaysOn more old before new after text → IsSaying old before text → IsSaying new after text
+pub more_said : (more : Bool) (old new : TextState) (before after : List Line) (text : List ℕ) → more ≡ true
+    → SaysOn more old before new after text → IsSaying old before text → IsSaying new after text
 more_said true old new before after text is on = on
 more_said false old new before after text is on = absurd (cc)
 
-pub all_said : (more : Bool) (old new : TextState) (before after : List Line) (text : List ℕ) → more ≡ false → SaysOn more old before new after text → IsSaying old before text → HasSaid new after text
+pub all_said : (more : Bool) (old new : TextState) (before after : List Line) (text : List ℕ) → more ≡ false
+    → SaysOn more old before new after text → IsSaying old before text → HasSaid new after text
 all_said false old new before after text is on = on
 all_said true old new before after text is on = absurd (cc)

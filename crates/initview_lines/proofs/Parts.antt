@@ -1,5 +1,10 @@
 -- A text that begins within a run: one happening more, and a piece more.
-use Rattle.initview_lines.proofs.CommonWords.{◌≡◌, refl, sym, ap, ◌∙◌, ℕ, ◌+◌, ◌^◌, ◌<◌, ◌≤◌, Bool, true, false, List, [], ◌∷◌, ◌++◌, length, reverse, Option, Some, None, arith, option_map, Event, time_of, BeginsNever, line_left, Reading, capped, ReadsNext, capped_is, lines_push, lines_within, past_push, ViewEnd, ShownBy, StopsAt, left_of, stops_more, Line, line_at, news_of, HasTold, IsReadOf, IsTelling, IsToldOf, PartState, ReadBy, TakenBy, TellsOn, part_in}
+use Rattle.initview_lines.proofs.CommonWords.{◌≡◌, refl, sym, ap, ◌∙◌, ℕ, ◌+◌, ◌^◌, ◌<◌, ◌≤◌, Bool, true, false, List}
+use Rattle.initview_lines.proofs.CommonWords.{[], ◌∷◌, ◌++◌, length, reverse, Option, Some, None, arith, option_map}
+use Rattle.initview_lines.proofs.CommonWords.{Event, time_of, BeginsNever, line_left, Reading, capped, ReadsNext}
+use Rattle.initview_lines.proofs.CommonWords.{capped_is, lines_push, lines_within, past_push, ViewEnd, ShownBy, StopsAt}
+use Rattle.initview_lines.proofs.CommonWords.{left_of, stops_more, Line, line_at, news_of, HasTold, IsReadOf, IsTelling}
+use Rattle.initview_lines.proofs.CommonWords.{IsToldOf, PartState, ReadBy, TakenBy, TellsOn, part_in}
 use Rattle.std.proofs.Common.{append-nil, append_assoc}
 use Rattle.text_lines.specs.Lines.{newlines}
 use Rattle.trace_text.specs.Lines.{event_text, trace_text}
@@ -10,31 +15,38 @@ use Rattle.trace_verdict.proofs.Fronts.{never_some}
 use Rattle.trace_view.specs.declared.text_views.ViewEnd.TheVariants.{Torn}
 
 -- the number of the line of what is not read
-line_next : (reading : Reading) (trace : List Event) (text : List ℕ) → length text < 2 ^ 64 → IsReadOf reading trace text → 1 ≤ length reading.over → capped (reading.lines + 1) ≡ newlines (trace_text trace) + 1
+line_next : (reading : Reading) (trace : List Event) (text : List ℕ) → length text < 2 ^ 64 → IsReadOf reading trace
+    text → 1 ≤ length reading.over → capped (reading.lines + 1) ≡ newlines (trace_text trace) + 1
 line_next reading trace text small read some = grind (arith, capped_is, lines_within)
 
 -- by whether it stopped
-read_at : (stop : Option ViewEnd) (reading : Reading) (trace : List Event) (text : List ℕ) → stop ≡ None → ReadBy stop reading trace text → IsReadOf reading trace text
+read_at : (stop : Option ViewEnd) (reading : Reading) (trace : List Event) (text : List ℕ) → stop ≡ None
+    → ReadBy stop reading trace text → IsReadOf reading trace text
 read_at None reading trace text none read = read
 read_at (Some stop) reading trace text none read = absurd (cc)
 
-at_read : (stop : Option ViewEnd) (reading : Reading) (trace : List Event) (text : List ℕ) → stop ≡ None → IsReadOf reading trace text → ReadBy stop reading trace text
+at_read : (stop : Option ViewEnd) (reading : Reading) (trace : List Event) (text : List ℕ) → stop ≡ None
+    → IsReadOf reading trace text → ReadBy stop reading trace text
 at_read None reading trace text none read = read
 at_read (Some stop) reading trace text none read = absurd (cc)
 
-at_taken : (stop : Option ViewEnd) (reading : Reading) (trace : List Event) (text : List ℕ) → stop ≡ None → IsReadOf reading trace text → is_open reading.over ≡ true → TakenBy stop reading trace text
+at_taken : (stop : Option ViewEnd) (reading : Reading) (trace : List Event) (text : List ℕ) → stop ≡ None
+    → IsReadOf reading trace text → is_open reading.over ≡ true → TakenBy stop reading trace text
 at_taken None reading trace text none read waits = (read, waits)
 at_taken (Some stop) reading trace text none read waits = absurd (cc)
 
 -- one happening more
-read_next : (reading new : Reading) (trace : List Event) (text : List ℕ) (h : Event) → length text < 2 ^ 64 → ReadsNext reading new (Some h) → IsReadOf reading trace text → IsReadOf new (trace ++ h ∷ []) text
+read_next : (reading new : Reading) (trace : List Event) (text : List ℕ) (h : Event) → length text < 2 ^ 64
+    → ReadsNext reading new (Some h) → IsReadOf reading trace text → IsReadOf new (trace ++ h ∷ []) text
 read_next reading new trace text h small next read = record {
   are = are_in_range-push trace h read.are next.0;
   whole = whole;
-  lines = next.2 ∙ ap (λ n. capped (n + line_count h)) read.lines ∙ capped_is (newlines (trace_text trace) + line_count h) (omega (arith, small, within, pushed)) ∙ sym pushed;
+  lines = next.2 ∙ ap (λ n. capped (n + line_count h)) read.lines
+      ∙ capped_is (newlines (trace_text trace) + line_count h) (omega (arith, small, within, pushed)) ∙ sym pushed;
 } where
   whole : trace_text (trace ++ h ∷ []) ++ new.over ≡ text
-  whole = ap (λ t. t ++ new.over) (trace_text-push trace h) ∙ append_assoc (trace_text trace) (event_text h) new.over ∙ ap (λ t. trace_text trace ++ t) next.1 ∙ read.whole
+  whole = ap (λ t. t ++ new.over) (trace_text-push trace h) ∙ append_assoc (trace_text trace) (event_text h) new.over
+      ∙ ap (λ t. trace_text trace ++ t) next.1 ∙ read.whole
 
   within : newlines (trace_text (trace ++ h ∷ [])) + length new.over ≤ length text
   within = lines_within (trace ++ h ∷ []) new.over text whole
@@ -42,11 +54,15 @@ read_next reading new trace text h small next read = record {
   pushed : newlines (trace_text (trace ++ h ∷ [])) ≡ newlines (trace_text trace) + line_count h
   pushed = lines_push trace h next.0
 
-pub one_told : (old : PartState) (new : Reading) (time : ℕ) (said before after : List Line) (text : List ℕ) (h : Event) → old.stop ≡ None → length text < 2 ^ 64 → ReadsNext old.reading new (Some h) → ((past : List Event) → old.time ≡ time_of past → time ≡ time_of (h ∷ past)) → after ≡ before ++ line_at time (news_of h []) → IsTelling old (said ++ before) text → IsTelling (record { reading = new; time = time; stop = old.stop }) (said ++ after) text
+pub one_told : (old : PartState) (new : Reading) (time : ℕ) (said before after : List Line) (text : List ℕ) (h : Event)
+    → old.stop ≡ None → length text < 2 ^ 64 → ReadsNext old.reading new (Some h) → ((past : List Event) → old.time
+    ≡ time_of past → time ≡ time_of (h ∷ past)) → after ≡ before ++ line_at time (news_of h []) → IsTelling old
+    (said ++ before) text → IsTelling (record { reading = new; time = time; stop = old.stop }) (said ++ after) text
 one_told old new time said before after text h went small next later is at =
     let now : time ≡ time_of (h ∷ reverse at.0) = later (reverse at.0) at.2 in (
       at.0 ++ h ∷ [],
-      at_read old.stop new (at.0 ++ h ∷ []) text went (read_next old.reading new at.0 text h small next (read_at old.stop old.reading at.0 text went at.1)),
+      at_read old.stop new (at.0 ++ h ∷ []) text went
+          (read_next old.reading new at.0 text h small next (read_at old.stop old.reading at.0 text went at.1)),
       now ∙ sym (ap time_of (past_push at.0 h)),
       ap (λ l. said ++ l) is
           ∙ sym (append_assoc said before (line_at time (news_of h [])))
@@ -56,11 +72,18 @@ one_told old new time said before after text h went small next later is at =
     )
 
 -- no happening more: none is whole, or none begins
-pub none_told : (old : PartState) (said : List Line) (text : List ℕ) → old.stop ≡ None → is_open old.reading.over ≡ true → IsTelling old said text → HasTold old said text
-none_told old said text went waits at =
-    (at.0, at_taken old.stop old.reading at.0 text went (read_at old.stop old.reading at.0 text went at.1) waits, at.2, at.3)
+pub none_told : (old : PartState) (said : List Line) (text : List ℕ) → old.stop ≡ None → is_open old.reading.over ≡ true
+    → IsTelling old said text → HasTold old said text
+none_told old said text went waits at = (
+  at.0,
+  at_taken old.stop old.reading at.0 text went (read_at old.stop old.reading at.0 text went at.1) waits,
+  at.2,
+  at.3,
+)
 
-pub torn_told : (old : PartState) (said : List Line) (text : List ℕ) (number : ℕ) → old.stop ≡ None → length text < 2 ^ 64 → number ≡ capped (old.reading.lines + 1) → BeginsNever old.reading.over → IsTelling old said text → HasTold (record { reading = old.reading; time = old.time; stop = Some (Torn number) }) said text
+pub torn_told : (old : PartState) (said : List Line) (text : List ℕ) (number : ℕ) → old.stop ≡ None → length text
+    < 2 ^ 64 → number ≡ capped (old.reading.lines + 1) → BeginsNever old.reading.over → IsTelling old said text
+    → HasTold (record { reading = old.reading; time = old.time; stop = Some (Torn number) }) said text
 torn_told old said text number went small is none at =
     let read : IsReadOf old.reading at.0 text = read_at old.stop old.reading at.0 text went at.1 in (
       at.0,
@@ -80,22 +103,29 @@ torn_told old said text number went small is none at =
       at.3,
     )
 
-still : (stop : Option ViewEnd) (why : ViewEnd) (reading : Reading) (trace : List Event) (text : List ℕ) → stop ≡ Some why → ReadBy stop reading trace text → TakenBy stop reading trace text
+still : (stop : Option ViewEnd) (why : ViewEnd) (reading : Reading) (trace : List Event) (text : List ℕ)
+    → stop ≡ Some why → ReadBy stop reading trace text → TakenBy stop reading trace text
 still (Some stop) why reading trace text is read = read
 still None why reading trace text is read = absurd (cc)
 
-pub still_told : (old : PartState) (why : ViewEnd) (said : List Line) (text : List ℕ) → old.stop ≡ Some why → IsTelling old said text → HasTold old said text
+pub still_told : (old : PartState) (why : ViewEnd) (said : List Line) (text : List ℕ) → old.stop ≡ Some why
+    → IsTelling old said text → HasTold old said text
 still_told old why said text is at = (at.0, still old.stop why old.reading at.0 text is at.1, at.2, at.3)
 
 -- a piece more
-more_stopped : (stop : Option ViewEnd) (why : ViewEnd) (reading : Reading) (trace : List Event) (text piece : List ℕ) → stop ≡ Some why → TakenBy stop reading trace text → ReadBy stop reading trace (text ++ piece)
+more_stopped : (stop : Option ViewEnd) (why : ViewEnd) (reading : Reading) (trace : List Event) (text piece : List ℕ)
+    → stop ≡ Some why → TakenBy stop reading trace text → ReadBy stop reading trace (text ++ piece)
 more_stopped (Some stop) why reading trace text piece is taken = stops_more stop trace text piece taken
 more_stopped None why reading trace text piece is taken = absurd (cc)
 
-pub fed_stopped : (old : PartState) (why : ViewEnd) (said : List Line) (text piece : List ℕ) → old.stop ≡ Some why → HasTold old said text → IsTelling old said (text ++ piece)
-fed_stopped old why said text piece is told = (told.0, more_stopped old.stop why old.reading told.0 text piece is told.1, told.2, told.3)
+pub fed_stopped : (old : PartState) (why : ViewEnd) (said : List Line) (text piece : List ℕ) → old.stop ≡ Some why
+    → HasTold old said text → IsTelling old said (text ++ piece)
+fed_stopped old why said text piece is told =
+    (told.0, more_stopped old.stop why old.reading told.0 text piece is told.1, told.2, told.3)
 
-more_read : (stop : Option ViewEnd) (reading new : Reading) (trace : List Event) (text piece : List ℕ) → stop ≡ None → new ≡ record reading { over = reading.over ++ piece } → TakenBy stop reading trace text → ReadBy stop new trace (text ++ piece)
+more_read : (stop : Option ViewEnd) (reading new : Reading) (trace : List Event) (text piece : List ℕ) → stop ≡ None
+    → new ≡ record reading { over = reading.over ++ piece } → TakenBy stop reading trace text
+    → ReadBy stop new trace (text ++ piece)
 more_read None reading new trace text piece none is taken = rw is (record {
   are = taken.0.are;
   whole = sym (append_assoc (trace_text trace) reading.over piece) ∙ ap (λ t. t ++ piece) taken.0.whole;
@@ -103,24 +133,34 @@ more_read None reading new trace text piece none is taken = rw is (record {
 })
 more_read (Some stop) reading new trace text piece none is taken = absurd (cc)
 
-pub fed_more : (old : PartState) (new : Reading) (said : List Line) (text piece : List ℕ) → old.stop ≡ None → new ≡ record old.reading { over = old.reading.over ++ piece } → HasTold old said text → IsTelling (record { reading = new; time = old.time; stop = old.stop }) said (text ++ piece)
-fed_more old new said text piece none is told = (told.0, more_read old.stop old.reading new told.0 text piece none is told.1, told.2, told.3)
+pub fed_more : (old : PartState) (new : Reading) (said : List Line) (text piece : List ℕ) → old.stop ≡ None
+    → new ≡ record old.reading { over = old.reading.over ++ piece } → HasTold old said text
+    → IsTelling (record { reading = new; time = old.time; stop = old.stop }) said (text ++ piece)
+fed_more old new said text piece none is told =
+    (told.0, more_read old.stop old.reading new told.0 text piece none is told.1, told.2, told.3)
 
 -- by whether one more was told
-pub more_told : (more : Bool) (old new : PartState) (before after : List Line) (text : List ℕ) → more ≡ true → TellsOn more old before new after text → IsTelling old before text → IsTelling new after text
+pub more_told : (more : Bool) (old new : PartState) (before after : List Line) (text : List ℕ) → more ≡ true
+    → TellsOn more old before new after text → IsTelling old before text → IsTelling new after text
 more_told true old new before after text is on = on
 more_told false old new before after text is on = absurd (cc)
 
-pub all_told : (more : Bool) (old new : PartState) (before after : List Line) (text : List ℕ) → more ≡ false → TellsOn more old before new after text → IsTelling old before text → HasTold new after text
+pub all_told : (more : Bool) (old new : PartState) (before after : List Line) (text : List ℕ) → more ≡ false
+    → TellsOn more old before new after text → IsTelling old before text → HasTold new after text
 all_told false old new before after text is on = on
 all_told true old new before after text is on = absurd (cc)
 
 -- what is told of the text
-left_is : (reading : Reading) (trace : List Event) (text over : List ℕ) → length text < 2 ^ 64 → IsReadOf reading trace text → reading.over ≡ over → option_map capped (line_left reading.lines over) ≡ line_left (newlines (trace_text trace)) over
+left_is : (reading : Reading) (trace : List Event) (text over : List ℕ) → length text < 2 ^ 64
+    → IsReadOf reading trace text → reading.over ≡ over
+    → option_map capped (line_left reading.lines over) ≡ line_left (newlines (trace_text trace)) over
 left_is reading trace text [] small read is = refl
-left_is reading trace text (byte ∷ over) small read is = ap Some (line_next reading trace text small read (omega (arith, ap length is)))
+left_is reading trace text (byte ∷ over) small read is =
+    ap Some (line_next reading trace text small read (omega (arith, ap length is)))
 
-shown_by : (stop : Option ViewEnd) (reading : Reading) (trace : List Event) (text : List ℕ) (left : Option ℕ) → length text < 2 ^ 64 → TakenBy stop reading trace text → left ≡ left_of stop (option_map capped (line_left reading.lines reading.over)) → ShownBy stop left trace text
+shown_by : (stop : Option ViewEnd) (reading : Reading) (trace : List Event) (text : List ℕ) (left : Option ℕ)
+    → length text < 2 ^ 64 → TakenBy stop reading trace text
+    → left ≡ left_of stop (option_map capped (line_left reading.lines reading.over)) → ShownBy stop left trace text
 shown_by None reading trace text left small taken is = record {
   over = reading.over;
   are = taken.0.are;
@@ -130,5 +170,8 @@ shown_by None reading trace text left small taken is = record {
 }
 shown_by (Some stop) reading trace text left small taken is = (taken, is)
 
-pub told_of : (state : PartState) (said : List Line) (text : List ℕ) (left : Option ℕ) → length text < 2 ^ 64 → left ≡ left_of state.stop (option_map capped (line_left state.reading.lines state.reading.over)) → HasTold state said text → IsToldOf text state.stop left said
-told_of state said text left small is told = (told.0, shown_by state.stop state.reading told.0 text left small told.1 is, told.3)
+pub told_of : (state : PartState) (said : List Line) (text : List ℕ) (left : Option ℕ) → length text < 2 ^ 64
+    → left ≡ left_of state.stop (option_map capped (line_left state.reading.lines state.reading.over))
+    → HasTold state said text → IsToldOf text state.stop left said
+told_of state said text left small is told =
+    (told.0, shown_by state.stop state.reading told.0 text left small told.1 is, told.3)

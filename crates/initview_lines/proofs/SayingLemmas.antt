@@ -20,6 +20,11 @@ pub front_none : (now : Heard) (lines : List Line) → SaysFront now now lines
 front_none now lines = ([], lines, refl, says_nothing now)
 
 -- a front of the rest behind the whole first part
-pub front_then : (old mid new : Heard) (first rest : List Line) → Says old mid first → SaysFront mid new rest → SaysFront old new (first ++ rest)
-front_then old mid new first rest whole (front, more, joined, said) =
-    (first ++ front, more, append_assoc first front more ∙ ap (λ lines. first ++ lines) joined, says_then old mid new first front whole said)
+pub front_then : (old mid new : Heard) (first rest : List Line) → Says old mid first → SaysFront mid new rest
+    → SaysFront old new (first ++ rest)
+front_then old mid new first rest whole (front, more, joined, said) = (
+  first ++ front,
+  more,
+  append_assoc first front more ∙ ap (λ lines. first ++ lines) joined,
+  says_then old mid new first front whole said,
+)

@@ -1,5 +1,7 @@
--- What becomes of the entries of an inittab in a level, where init reads another one in its place (inittab(5), init(8)).
-use Rattle.std.specs.Prelude.{ℕ, Bool, false, ◌&&◌, if◌then◌else◌, List, ◌∷◌, ◌++◌, filter, map, Option, Some, None, is_none}
+-- What becomes of the entries of an inittab in a level, where init reads another one in its place (inittab(5),
+-- init(8)).
+use Rattle.std.specs.Prelude.{ℕ, Bool, false, ◌&&◌, if◌then◌else◌, List, ◌∷◌, ◌++◌, filter, map, Option, Some, None}
+use Rattle.std.specs.Prelude.{is_none}
 use Rattle.std.specs.List.{list_any}
 use Rattle.std.specs.Option.{option_map}
 use Rattle.std.specs.Str.{bytes_eq}
@@ -7,7 +9,8 @@ use Rattle.initview_lines.specs.CommonWords.{Act, Entry, Level, entry_of, may_li
 use Rattle.init_words.specs.declared.stages.Stage.TheVariants.{Run}
 use Rattle.init_words.specs.Entries.{lives_of}
 use Rattle.initview_lines.specs.declared.changes.Change.{Change}
-use Rattle.initview_lines.specs.declared.changes.Change.TheVariants.{Keep, NextStart, Stop, StopStart, Start, NotAgain, NotHere}
+use Rattle.initview_lines.specs.declared.changes.Change.TheVariants.{Keep, NextStart, Stop, StopStart, Start, NotAgain}
+use Rattle.initview_lines.specs.declared.changes.Change.TheVariants.{NotHere}
 use Rattle.initview_lines.specs.declared.lines.Line.{Line}
 use Rattle.initview_lines.specs.declared.lines.Line.TheVariants as line
 

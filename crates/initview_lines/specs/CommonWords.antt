@@ -9,8 +9,11 @@ pub use Rattle.trace_events.specs.Event.{Event}
 pub use Rattle.trace_view.specs.declared.text_views.ViewEnd.{ViewEnd}
 pub use Rattle.trace_view.specs.Shown.{IsShown, ShownBy, StopsAt}
 pub use Rattle.trace_view.specs.Views.{TextState, HasShown, IsAt, left_of}
-pub use Rattle.trace_events.specs.declared.happenings.Happening.TheVariants.{NewTable, NotRead, Enter, Call, Power, Hold, Settle, Birth, NoBirth, Reaped, NoLook, Hit, Miss, Got, Handed}
-pub use Rattle.trace_events.specs.Past.{open_of, time_of, Child, table_of, unreaped_children, stage_of, grace_of, is_quiet}
+pub use Rattle.trace_events.specs.declared.happenings.Happening.TheVariants.{NewTable, NotRead, Enter, Call, Power}
+pub use Rattle.trace_events.specs.declared.happenings.Happening.TheVariants.{Hold, Settle, Birth, NoBirth, Reaped}
+pub use Rattle.trace_events.specs.declared.happenings.Happening.TheVariants.{NoLook, Hit, Miss, Got, Handed}
+pub use Rattle.trace_events.specs.Past.{open_of, time_of, Child, table_of, unreaped_children, stage_of, grace_of}
+pub use Rattle.trace_events.specs.Past.{is_quiet}
 pub use Rattle.trace_check.specs.Reading.{child_of}
 pub use Rattle.trace_view.specs.Why.{number_of}
 pub use Rattle.trace_view.specs.declared.rows.Row.{Row}

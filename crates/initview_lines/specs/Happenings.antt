@@ -1,7 +1,9 @@
 -- What an operator is told of the happenings of a trace, as they come.
 use Rattle.std.specs.Prelude.{ℕ, List, [], ◌∷◌, ◌++◌, length, Option, Some, None}
 use Rattle.std.specs.Option.{option_map}
-use Rattle.initview_lines.specs.CommonWords.{NewTable, NotRead, Enter, Call, Power, Hold, Settle, Birth, NoBirth, Reaped, NoLook, Hit, Miss, Got, Handed, Event, open_of, time_of, child_of, number_of}
+use Rattle.initview_lines.specs.CommonWords.{NewTable, NotRead, Enter, Call, Power, Hold, Settle, Birth, NoBirth}
+use Rattle.initview_lines.specs.CommonWords.{Reaped, NoLook, Hit, Miss, Got, Handed, Event, open_of, time_of, child_of}
+use Rattle.initview_lines.specs.CommonWords.{number_of}
 use Rattle.initview_lines.specs.declared.happenings.News.{News}
 use Rattle.initview_lines.specs.declared.happenings.News.TheVariants as news
 use Rattle.initview_lines.specs.declared.lines.Line.{Line}
@@ -11,9 +13,9 @@ use Rattle.initview_lines.specs.declared.lines.Line.TheVariants as line
 abbrev pub child_number : List ℕ → List Event → Option ℕ
 child_number id past = option_map number_of (child_of id past)
 
--- what an operator is told of a happening in its past: a signal with the order that it is of; nothing of an order, since
--- what is done on it is told; of a death, since the reaping is; of a look that found its child alive; of an answer that
--- reached init; of a reading of the clock, and of a round
+-- what an operator is told of a happening in its past: a signal with the order that it is of; nothing of an order,
+-- since what is done on it is told; of a death, since the reaping is; of a look that found its child alive; of an
+-- answer that reached init; of a reading of the clock, and of a round
 abbrev pub news_of : Event → List Event → Option News
 news_of (NewTable table) past = Some (news.Table (length table))
 news_of NotRead past = Some news.NotRead

@@ -1,5 +1,5 @@
--- What is said of a text that begins within a run: what each of its happenings says by itself, with the time of the clock
--- that the text has had. None is judged.
+-- What is said of a text that begins within a run: what each of its happenings says by itself, with the time of the
+-- clock that the text has had. None is judged.
 use Rattle.std.specs.Prelude.{◌≡◌, ℕ, Bool, true, false, List, [], ◌∷◌, ◌++◌, reverse, Option, Some, None}
 use Rattle.text_lines.specs.Lines.{newlines}
 use Rattle.initview_lines.specs.CommonWords.{Event, time_of, Reading, ViewEnd, ShownBy, StopsAt}

@@ -1,4 +1,5 @@
--- Which entries init starts of itself on its way to a level, in their order, and its critical path (inittab(5), init(8)).
+-- Which entries init starts of itself on its way to a level, in their order, and its critical path (inittab(5),
+-- init(8)).
 use Rattle.std.specs.Prelude.{ℕ, List, [], ◌∷◌, ◌++◌, map, Option, Some, None}
 use Rattle.initview_lines.specs.CommonWords.{Entry, Level, Stage, waited_of, critical_path, started_in, stages_to}
 use Rattle.initview_lines.specs.declared.lines.Line.{Line}

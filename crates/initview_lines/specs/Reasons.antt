@@ -33,7 +33,8 @@ abbrev pub fault_line : Why → Option ℕ → Option ℕ
 fault_line why.Nothing line = None
 fault_line _ line = line
 
--- why an id isn't started next, how far the stopping of that child has come, and the line at fault of the trace of a name
+-- why an id isn't started next, how far the stopping of that child has come, and the line at fault of the trace of a
+-- name
 abbrev pub reason_line : List ℕ → Link → List Event → Line
 reason_line name link past = line.Why (record {
   at = id_row past link.id;

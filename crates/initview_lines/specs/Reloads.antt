@@ -1,11 +1,15 @@
 -- What becomes of each id where init, as a past left it, reads another inittab now (inittab(5), init(8), telinit(8)).
-use Rattle.std.specs.Prelude.{ℕ, Bool, true, false, not, ◌&&◌, ◌||◌, if◌then◌else◌, List, ◌∷◌, ◌++◌, filter, map, Option, Some, None, is_none}
+use Rattle.std.specs.Prelude.{ℕ, Bool, true, false, not, ◌&&◌, ◌||◌, if◌then◌else◌, List, ◌∷◌, ◌++◌, filter, map}
+use Rattle.std.specs.Prelude.{Option, Some, None, is_none}
 use Rattle.std.specs.Option.{option_map, option_map_or}
-use Rattle.initview_lines.specs.CommonWords.{Act, Entry, Level, Stage, entry_of, act_of, NewTable, Enter, Got, Event, table_of, stage_of, grace_of, Child, unreaped_children, starts_now, is_asked, is_excluded, child_of, gone_ids, number_of, next_stage}
+use Rattle.initview_lines.specs.CommonWords.{Act, Entry, Level, Stage, entry_of, act_of, NewTable, Enter, Got, Event}
+use Rattle.initview_lines.specs.CommonWords.{table_of, stage_of, grace_of, Child, unreaped_children, starts_now}
+use Rattle.initview_lines.specs.CommonWords.{is_asked, is_excluded, child_of, gone_ids, number_of, next_stage}
 use Rattle.initctl_frame.specs.declared.requests.HeardRequest.TheVariants as got
 use Rattle.init_words.specs.Actions.{is_limited, wanted_by}
 use Rattle.initview_lines.specs.declared.changes.Change.{Change}
-use Rattle.initview_lines.specs.declared.changes.Change.TheVariants.{Keep, NextStart, Stop, StopStart, Start, NotAgain, NotHere}
+use Rattle.initview_lines.specs.declared.changes.Change.TheVariants.{Keep, NextStart, Stop, StopStart, Start, NotAgain}
+use Rattle.initview_lines.specs.declared.changes.Change.TheVariants.{NotHere}
 use Rattle.initview_lines.specs.declared.lines.Line.{Line}
 use Rattle.initview_lines.specs.declared.lines.Line.TheVariants as line
 use Rattle.initview_lines.specs.Changes.{is_gone, same_process}
@@ -91,8 +95,8 @@ entry_now old past e = line_now old past e.id
 abbrev pub is_new : List Entry → List ℕ → Bool
 is_new table id = is_none (entry_of id table)
 
--- the stage, the entries of the new inittab in its order, those of the old one that are gone, and the children that have
--- an entry in neither
+-- the stage, the entries of the new inittab in its order, those of the old one that are gone, and the children that
+-- have an entry in neither
 abbrev pub reload_in : List Entry → List Event → List Line
 reload_in old past =
     line.Stage (stage_of past)

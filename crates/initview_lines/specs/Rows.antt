@@ -2,7 +2,9 @@
 use Rattle.std.specs.Prelude.{ℕ, ◌-◌, List, ◌∷◌, ◌++◌, map, Option, Some, None}
 use Rattle.std.specs.Option.{option_map}
 use Rattle.respawn_limit.specs.declared.TheConstants.{HOLD}
-use Rattle.initview_lines.specs.CommonWords.{Entry, Event, table_of, stage_of, grace_of, time_of, unreaped_children, Ending, Row, Why, row_of, gone_ids, is_settled_now, asked_level, first_wish}
+use Rattle.initview_lines.specs.CommonWords.{Entry, Event, table_of, stage_of, grace_of, time_of, unreaped_children}
+use Rattle.initview_lines.specs.CommonWords.{Ending, Row, Why, row_of, gone_ids, is_settled_now, asked_level}
+use Rattle.initview_lines.specs.CommonWords.{first_wish}
 use Rattle.trace_view.specs.declared.rows.Births.{Births}
 use Rattle.trace_view.specs.declared.whys.Why.TheVariants as why
 use Rattle.initview_lines.specs.declared.lines.Head.{Head}
@@ -59,7 +61,8 @@ row_at shape past id = line.Row shape (id_row past id)
 abbrev pub entry_row : RowFormat → List Event → Entry → Line
 entry_row shape past entry = row_at shape past entry.id
 
--- all of it: init, the entries in the order of the table, and the ids whose child outlives its entry, the youngest first
+-- all of it: init, the entries in the order of the table, and the ids whose child outlives its entry, the youngest
+-- first
 abbrev pub status_in : RowFormat → List Event → List Line
 status_in shape past =
     line.Head shape (head_of past)

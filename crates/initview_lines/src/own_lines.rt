@@ -91,7 +91,8 @@ fn add_file(
     file: &Part,
 ) -> Result<(), AllocError>
     ensures { OnOk result (lines.new.items
-        ≡ lines.old.items ++ own_lines id.now faults.now part file.now 1 (lines_of file.now.bytes)) }
+        ≡ lines.old.items
+        ++ own_lines id.now faults.now part file.now 1 (lines_of file.now.bytes)) }
 {
     let mut rest = file.bytes.as_slice();
     let mut number = 0;

@@ -6,7 +6,8 @@ use Rattle.init_words.specs.Ids.{same_id}
 use Rattle.init_words.specs.declared.orders.SignalKind.TheVariants as sig
 use Rattle.trace_view.specs.declared.rows.Ending.{Ending}
 use Rattle.initview_timeline.specs.declared.marks.Shown.{Shown}
-use Rattle.initview_timeline.specs.declared.marks.Shown.TheVariants.{Read, Entered, Settled, Born, NotBorn, Ended, Sent, Held}
+use Rattle.initview_timeline.specs.declared.marks.Shown.TheVariants.{Read, Entered, Settled, Born, NotBorn, Ended, Sent}
+use Rattle.initview_timeline.specs.declared.marks.Shown.TheVariants.{Held}
 use Rattle.initview_timeline.specs.declared.marks.TimelineMark.{TimelineMark}
 use Rattle.initview_timeline.specs.declared.lives.Life.{Life}
 
@@ -44,9 +45,15 @@ marks_for id marks = filter (λ (mark : TimelineMark). is_for id mark.what) mark
 
 -- a birth begins a life, and what else happens to the id belongs to the last one: no id has two unreaped children
 abbrev pub life_after : Life → ℕ → Shown → Life
-life_after l time (Sent id sig.Term) = record { number = l.number; from = l.from; term = option_or l.term (Some time); end = l.end }
+life_after l time (Sent id sig.Term) =
+    record { number = l.number; from = l.from; term = option_or l.term (Some time); end = l.end }
 life_after l time (Ended id number status) =
-    record { number = l.number; from = l.from; term = l.term; end = Some (record { status = Some status; time = time }) }
+    record {
+      number = l.number;
+      from = l.from;
+      term = l.term;
+      end = Some (record { status = Some status; time = time });
+    }
 life_after l time _ = l
 
 abbrev pub last_after : List Life → ℕ → Shown → List Life

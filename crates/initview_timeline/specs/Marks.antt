@@ -3,7 +3,8 @@ use Rattle.std.specs.Prelude.{ℕ, List, [], ◌∷◌, ◌++◌, Option, Some, 
 use Rattle.init_words.specs.declared.orders.OrderKind.{OrderKind}
 use Rattle.init_words.specs.declared.orders.OrderKind.TheVariants as ask
 use Rattle.init_words.specs.declared.orders.SignalKind.TheVariants as sig
-use Rattle.trace_events.specs.declared.happenings.Happening.TheVariants.{NewTable, Enter, Settle, Hold, Birth, NoBirth, Reaped, Hit, Clock}
+use Rattle.trace_events.specs.declared.happenings.Happening.TheVariants.{NewTable, Enter, Settle, Hold, Birth, NoBirth}
+use Rattle.trace_events.specs.declared.happenings.Happening.TheVariants.{Reaped, Hit, Clock}
 use Rattle.trace_events.specs.Event.{Event}
 use Rattle.trace_events.specs.Past.{open_of, time_of}
 use Rattle.initview_timeline.specs.declared.marks.Shown.{Shown}

@@ -1,6 +1,7 @@
--- What is drawn in a row of a timeline: bars, and signs upon them. Each life has one bar, Lives or Waited, in their order,
--- and no other definition makes one.
-use Rattle.std.specs.Prelude.{ℕ, min, Bool, true, false, ◌&&◌, ◌==◌, not, if◌then◌else◌, List, [], ◌∷◌, ◌++◌, Option, Some, None}
+-- What is drawn in a row of a timeline: bars, and signs upon them. Each life has one bar, Lives or Waited, in their
+-- order, and no other definition makes one.
+use Rattle.std.specs.Prelude.{ℕ, min, Bool, true, false, ◌&&◌, ◌==◌, not, if◌then◌else◌, List, [], ◌∷◌, ◌++◌, Option}
+use Rattle.std.specs.Prelude.{Some, None}
 use Rattle.std.specs.List.{flat_map}
 use Rattle.std.specs.Option.{is_none, is_some}
 use Rattle.respawn_limit.specs.declared.TheConstants.{HOLD}
@@ -71,8 +72,8 @@ is_start id (Born i number) = is_for id (Born i number)
 is_start id (NotBorn i) = is_for id (NotBorn i)
 is_start id _ = false
 
--- a stage goes on to the next one, as its being settled does, and a hold for five minutes, or up to the next stage, table
--- or start of the id
+-- a stage goes on to the next one, as its being settled does, and a hold for five minutes, or up to the next stage,
+-- table or start of the id
 abbrev pub begins : Option (List ℕ) → Shown → Bool
 begins id (Entered stage) = true
 begins id Read = is_some id
@@ -91,7 +92,8 @@ mark_bars next time _ = []
 abbrev pub marks_bars : ℕ → Option (List ℕ) → List TimelineMark → List Piece
 marks_bars last id [] = []
 marks_bars last id (mark ∷ later) =
-    (if is_for id mark.what then mark_bars (next_begin last id later) mark.time mark.what else []) ++ marks_bars last id later
+    (if is_for id mark.what then mark_bars (next_begin last id later) mark.time mark.what else [])
+    ++ marks_bars last id later
 
 -- the name of a stage, that KILL was sent, and a start that failed
 abbrev pub mark_signs : ℕ → ℕ → Shown → List Piece
@@ -103,4 +105,5 @@ mark_signs next time _ = []
 abbrev pub marks_signs : ℕ → Option (List ℕ) → List TimelineMark → List Piece
 marks_signs last id [] = []
 marks_signs last id (mark ∷ later) =
-    (if is_for id mark.what then mark_signs (next_begin last id later) mark.time mark.what else []) ++ marks_signs last id later
+    (if is_for id mark.what then mark_signs (next_begin last id later) mark.time mark.what else [])
+    ++ marks_signs last id later

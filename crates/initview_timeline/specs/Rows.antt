@@ -1,5 +1,6 @@
 -- The rows of a timeline: which ids have one, how each is at the end, and what is drawn in it.
-use Rattle.std.specs.Prelude.{ℕ, ◌-◌, ◌^◌, Bool, true, false, ◌&&◌, ◌||◌, nat_lt, min, not, if◌then◌else◌, unwrap_or, List, [], ◌∷◌, ◌++◌, map, length, Option, Some, None}
+use Rattle.std.specs.Prelude.{ℕ, ◌-◌, ◌^◌, Bool, true, false, ◌&&◌, ◌||◌, nat_lt, min, not, if◌then◌else◌, unwrap_or}
+use Rattle.std.specs.Prelude.{List, [], ◌∷◌, ◌++◌, map, length, Option, Some, None}
 use Rattle.std.specs.List.{fold, list_any}
 use Rattle.init_words.specs.Actions.{wanted_by}
 use Rattle.init_words.specs.Entries.{starts_of, waited_of}
@@ -25,7 +26,8 @@ use Rattle.initview_timeline.specs.declared.rows.State.TheVariants as state
 use Rattle.initview_timeline.specs.Frames.{plus}
 use Rattle.initview_timeline.specs.Lives.{ids_from, is_for, lives_of, marks_for, with_id}
 use Rattle.initview_timeline.specs.Marks.{marks_of, start_of}
-use Rattle.initview_timeline.specs.Pieces.{Drawing, bars_of, is_done, is_start, marks_bars, marks_signs, next_begin, piece, signs_of}
+use Rattle.initview_timeline.specs.Pieces.{Drawing, bars_of, is_done, is_start, marks_bars, marks_signs, next_begin}
+use Rattle.initview_timeline.specs.Pieces.{piece, signs_of}
 
 -- what a timeline is drawn of, as lists, and by a past
 pub record Scene : Type 0 where
@@ -106,7 +108,8 @@ is_hold id _ = false
 abbrev pub is_held : ℕ → Option (List ℕ) → List TimelineMark → Bool
 is_held end id [] = false
 is_held end id (mark ∷ later) =
-    is_hold id mark.what && nat_lt end (min (plus mark.time HOLD) (next_begin (2 ^ 64 - 1) id later)) || is_held end id later
+    is_hold id mark.what && nat_lt end (min (plus mark.time HOLD) (next_begin (2 ^ 64 - 1) id later))
+    || is_held end id later
 
 -- the marks from the last stage on
 abbrev pub from_stage : List TimelineMark → Shown → List TimelineMark → List TimelineMark
@@ -139,8 +142,8 @@ state_by held due s = if held then state.Held else if due && not (is_up s) then 
 abbrev pub state_of : Scene → List ℕ → List TimelineMark → State
 state_of s id own = state_by (is_held s.end (Some id) s.marks) (waits s id) (state_from own)
 
--- what is drawn of an id: that it is due, since the stage in force was entered; its lives and its holds; and upon them what
--- went wrong
+-- what is drawn of an id: that it is due, since the stage in force was entered; its lives and its holds; and upon
+-- them what went wrong
 abbrev pub due_from : ℕ → List TimelineMark → List Piece
 due_from end [] = []
 due_from end (mark ∷ marks) = piece drawn.Due mark.time end
@@ -176,8 +179,8 @@ stage_pieces s = record { bars = marks_bars s.end None s.marks; signs = marks_si
 abbrev pub is_ill : Row → Bool
 is_ill r = nat_lt 0 (length r.pieces.signs) || is_loud r.state
 
--- a timeline: from the first reading of the clock up to the last, with what is drawn of the stages and of each id, and how
--- it all is at the end
+-- a timeline: from the first reading of the clock up to the last, with what is drawn of the stages and of each id,
+-- and how it all is at the end
 pub record TimelineParts : Type 0 where
   pub start : ℕ
   pub end : ℕ

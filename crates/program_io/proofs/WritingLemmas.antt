@@ -1,5 +1,7 @@
 -- What the writes of a text leave, one after the other.
-use Rattle.std.proofs.Common.{◌≡◌, ◌++◌, ◌∙◌, ap, [], append-nil, append_assoc, Result, Ok, Err, OnOk, OnErr, ℕ, ◌+◌, ◌<◌, List, Option, length, take, drop, arith, sym, subst, take-append-drop, length-append, length-drop, flat_map, get_or}
+use Rattle.std.proofs.Common.{◌≡◌, ◌++◌, ◌∙◌, ap, [], append-nil, append_assoc, Result, Ok, Err, OnOk, OnErr, ℕ, ◌+◌}
+use Rattle.std.proofs.Common.{◌<◌, List, Option, length, take, drop, arith, sym, subst, take-append-drop, length-append}
+use Rattle.std.proofs.Common.{length-drop, flat_map, get_or}
 use Rattle.std.proofs.Math.Seq.{take-add}
 use Rattle.std.proofs.lemmas.List.{at_drop_more}
 use Rattle.std.proofs.lemmas.List.Concat.{flat_map-append}
@@ -21,11 +23,13 @@ AppendsFront-take old new text done below written =
     (take done text, drop done text, take-append-drop done text, written, omega (arith, length-drop done text))
 
 -- a prefix that isn't the whole is a prefix
-pub AppendsFront-prefix : (old new : Option (List ℕ)) (text : List ℕ) → AppendsFront old new text → AppendsPrefix old new text
+pub AppendsFront-prefix : (old new : Option (List ℕ)) (text : List ℕ) → AppendsFront old new text
+    → AppendsPrefix old new text
 AppendsFront-prefix old new text (front, rest, joined, written, some) = (front, rest, joined, written)
 
 -- the whole is a prefix
-pub AppendsPrefix-whole : (old new : Option (List ℕ)) (text : List ℕ) → Appends old new text → AppendsPrefix old new text
+pub AppendsPrefix-whole : (old new : Option (List ℕ)) (text : List ℕ) → Appends old new text
+    → AppendsPrefix old new text
 AppendsPrefix-whole old new text written = (text, [], append-nil text, written)
 
 -- a prefix of a text's first part is a prefix of the text
@@ -35,10 +39,14 @@ AppendsPrefix-first old new first rest (front, more, joined, written) =
     (front, more ++ rest, sym (append_assoc front more rest) ∙ ap (λ text. text ++ rest) joined, written)
 
 -- a prefix of the rest behind the whole first part
-pub AppendsPrefix-then : (old mid new : Option (List ℕ)) (first rest : List ℕ) → Appends old mid first → AppendsPrefix mid new rest
-    → AppendsPrefix old new (first ++ rest)
-AppendsPrefix-then old mid new first rest whole (front, more, joined, written) =
-    (first ++ front, more, append_assoc first front more ∙ ap (λ text. first ++ text) joined, Appends-trans old mid new first front whole written)
+pub AppendsPrefix-then : (old mid new : Option (List ℕ)) (first rest : List ℕ) → Appends old mid first
+    → AppendsPrefix mid new rest → AppendsPrefix old new (first ++ rest)
+AppendsPrefix-then old mid new first rest whole (front, more, joined, written) = (
+  first ++ front,
+  more,
+  append_assoc first front more ∙ ap (λ text. first ++ text) joined,
+  Appends-trans old mid new first front whole written,
+)
 
 -- what a write that ended so has left
 pub AppendsPrefix-of_write : {T E : Type 0} (ended : Result T E) (old new : Option (List ℕ)) (text : List ℕ)
@@ -52,11 +60,19 @@ on_err (Ok value) P is = tt
 on_err (Err error) P is = is
 
 -- a write that stops in one of several texts, behind those before it
-pub stops_within : {X : Type 0} (f : X → List ℕ) (texts : List X) (i : ℕ) (d : X) (old mid new : Option (List ℕ)) → i < length texts
-    → Appends old mid (flat_map f (take i texts)) → AppendsFront mid new (f (get_or texts i d)) → AppendsFront old new (flat_map f texts)
+pub stops_within : {X : Type 0} (f : X → List ℕ) (texts : List X) (i : ℕ) (d : X) (old mid new : Option (List ℕ))
+    → i < length texts
+    → Appends old mid (flat_map f (take i texts)) → AppendsFront mid new (f (get_or texts i d))
+    → AppendsFront old new (flat_map f texts)
 stops_within f texts i d old mid new within whole (front, rest, joined, written, some) =
     let before = flat_map f (take i texts) in
     let after = flat_map f (drop (i + 1) texts) in
     let parts : flat_map f texts ≡ before ++ (f (get_or texts i d) ++ after) =
-    ap (flat_map f) (sym (take-append-drop i texts)) ∙ flat_map-append f (take i texts) (drop i texts) ∙ ap (λ text. before ++ text) (at_drop_more (flat_map f) texts i d within) in
-    (before ++ front, rest ++ after, rw (parts, ← joined) (simp append_assoc), Appends-trans old mid new before front whole written, omega (arith, length-append rest after, some))
+    ap (flat_map f) (sym (take-append-drop i texts)) ∙ flat_map-append f (take i texts) (drop i texts)
+    ∙ ap (λ text. before ++ text) (at_drop_more (flat_map f) texts i d within) in (
+      before ++ front,
+      rest ++ after,
+      rw (parts, ← joined) (simp append_assoc),
+      Appends-trans old mid new before front whole written,
+      omega (arith, length-append rest after, some),
+    )

@@ -1,5 +1,10 @@
 -- A run of all scripts reports them, and no answer to one is missing before it.
-use Rattle.rc_command.proofs.CommonWords.{◌≡◌, ◌≢◌, ◌⊎◌, ◌∙◌, inl, inr, refl, sym, arith, ℕ, ◌-◌, Bool, true, false, cond, ◌||◌, List, [], ◌∷◌, length, Option, ap, subst, true≢false, Asked, RcSaid, entering, said_at, RunOptions, AreNames, AsksFor, IsBefore, IsStatusOf, IsWhole, Reports, ReportsFirst, ReportsNames, RunsAsked, RunsNames, RunsSaid, RunsScripts, ended_text, rc_of, status_of, written, LinkRun, RcState, is_failure, writes_ends}
+use Rattle.rc_command.proofs.CommonWords.{◌≡◌, ◌≢◌, ◌⊎◌, ◌∙◌, inl, inr, refl, sym, arith, ℕ, ◌-◌, Bool, true, false}
+use Rattle.rc_command.proofs.CommonWords.{cond, ◌||◌, List, [], ◌∷◌, length, Option, ap, subst, true≢false, Asked}
+use Rattle.rc_command.proofs.CommonWords.{RcSaid, entering, said_at, RunOptions, AreNames, AsksFor, IsBefore}
+use Rattle.rc_command.proofs.CommonWords.{IsStatusOf, IsWhole, Reports, ReportsFirst, ReportsNames, RunsAsked}
+use Rattle.rc_command.proofs.CommonWords.{RunsNames, RunsSaid, RunsScripts, ended_text, rc_of, status_of, written}
+use Rattle.rc_command.proofs.CommonWords.{LinkRun, RcState, is_failure, writes_ends}
 use Rattle.std.specs.Io.KnownBytes.{Appends}
 use Rattle.program_io.specs.Writing.{AppendsPrefix}
 use Rattle.program_io.specs.declared.statuses.TheConstants.{DEVICE_FAULT, DONE, LIMIT_REACHED}
@@ -25,27 +30,35 @@ done_is_not_waiting : (failed : Bool) → done_end failed ≢ run_end.Waiting
 done_is_not_waiting true = λ is. cc
 done_is_not_waiting false = λ is. cc
 
-runs_on : (way : ScriptOptions) (dir : List ℕ) (pauses : ℕ) (failed : Bool) (scripts : List LinkRun) (before : Output) (ended : RunEnd) (left : List LinkRun) (after : Output) (calls : List HostCall)
+runs_on : (way : ScriptOptions) (dir : List ℕ) (pauses : ℕ) (failed : Bool) (scripts : List LinkRun) (before : Output)
+    (ended : RunEnd) (left : List LinkRun) (after : Output) (calls : List HostCall)
     → RunsFrom way dir pauses failed scripts before ended left after calls → ended ≢ run_end.Waiting
 runs_on way dir pauses failed [] before ended left after calls (is, none, same, no_calls) =
     λ waiting. done_is_not_waiting failed (sym is ∙ waiting)
 runs_on way dir pauses failed (s ∷ scripts) before ended left after calls (inl (at, behind)) =
     λ waiting. subst (λ e. ScriptsEndAt way dir pauses s before e after calls) waiting at
-runs_on way dir pauses failed (s ∷ scripts) before ended left after calls (inr (given, first, later, between, is, ran, line, rest)) =
-    runs_on way dir (pauses - count_pauses first) (failed || is_failure given) scripts between ended left after later rest
+runs_on way dir pauses failed (s ∷ scripts) before ended left after calls
+    (inr (given, first, later, between, is, ran, line, rest)) =
+    runs_on way dir (pauses - count_pauses first)
+    (failed || is_failure given) scripts between ended left after later rest
 
-pub not_waiting : (old now : Option (List HostCall)) (way : ScriptOptions) (dir : List ℕ) (pauses : ℕ) (failed : Bool) (rc new : RcState) (before after : Output) (ended : RunEnd)
-    → rc.waits ≡ false → Since old now (RunsLinks way dir pauses failed rc before ended new after) → ended ≢ run_end.Waiting
+pub not_waiting : (old now : Option (List HostCall)) (way : ScriptOptions) (dir : List ℕ) (pauses : ℕ) (failed : Bool)
+    (rc new : RcState) (before after : Output) (ended : RunEnd)
+    → rc.waits ≡ false → Since old now (RunsLinks way dir pauses failed rc before ended new after)
+    → ended ≢ run_end.Waiting
 not_waiting old now way dir pauses failed rc new before after ended ready (calls, told, runs) =
     runs_on way dir pauses failed rc.left before ended new.left after calls (runs.runs ready)
 
 -- a run, with what is reported of it
-pub runs_scripts : (options : RunOptions) (old now : Option (List HostCall)) (dir : List ℕ) (rc new : RcState) (before after told between tells : Option (List ℕ)) (ended : RunEnd) (status : ℕ)
+pub runs_scripts : (options : RunOptions) (old now : Option (List HostCall)) (dir : List ℕ) (rc new : RcState)
+    (before after told between tells : Option (List ℕ)) (ended : RunEnd) (status : ℕ)
     → status ≡ status_of options.strict ended → AppendsPrefix between tells (ended_text dir ended)
-    → Since old now (RunsLinks options.way dir PAUSES_LIMIT false rc (output before told) ended new (output after between))
+    → Since old now
+    (RunsLinks options.way dir PAUSES_LIMIT false rc (output before told) ended new (output after between))
     → Since old now (RunsScripts options dir rc before told status after tells)
 runs_scripts options old now dir rc new before after told between tells ended status of reports since =
-    Since-map old now (RunsLinks options.way dir PAUSES_LIMIT false rc (output before told) ended new (output after between)) (RunsScripts options dir rc before told status after tells) since
+    Since-map old now (RunsLinks options.way dir PAUSES_LIMIT false rc (output before told) ended new
+    (output after between)) (RunsScripts options dir rc before told status after tells) since
     (λ calls runs. (ended, new, between, runs, of, reports))
 
 -- the statuses
@@ -96,25 +109,33 @@ if_false true x y is = absurd (true≢false is)
 if_false false x y is = refl
 
 -- what is written of scripts that were run
-run_text : (options : RunOptions) (path : List ℕ) (previous names : List (List ℕ)) (rc : RcState) (answers : List RcAnswer) → rc ≡ rc_of options.way.levels previous names
+run_text : (options : RunOptions) (path : List ℕ) (previous names : List (List ℕ)) (rc : RcState)
+    (answers : List RcAnswer) → rc ≡ rc_of options.way.levels previous names
     → options.dry ≡ false → report options.way rc.left answers ≡ written options path previous names answers
 run_text options path previous names rc answers is wet =
     ap (λ (r : RcState). report options.way r.left answers) is
-    ∙ sym (if_false options.dry (command_lines options.way path (scripts_by options.way.levels previous names)) (report options.way (scripts_by options.way.levels previous names) answers) wet)
+    ∙ sym (if_false options.dry (command_lines options.way path (scripts_by options.way.levels previous names))
+    (report options.way (scripts_by options.way.levels previous names) answers) wet)
 
 -- what is written where they are printed
-dry_text : (options : RunOptions) (path : List ℕ) (previous names : List (List ℕ)) (rc : RcState) (answers : List RcAnswer) → rc ≡ rc_of options.way.levels previous names
+dry_text : (options : RunOptions) (path : List ℕ) (previous names : List (List ℕ)) (rc : RcState)
+    (answers : List RcAnswer) → rc ≡ rc_of options.way.levels previous names
     → options.dry ≡ true → command_lines options.way path rc.left ≡ written options path previous names answers
 dry_text options path previous names rc answers is dry =
     ap (λ (r : RcState). command_lines options.way path r.left) is
-    ∙ sym (if_true options.dry (command_lines options.way path (scripts_by options.way.levels previous names)) (report options.way (scripts_by options.way.levels previous names) answers) dry)
+    ∙ sym (if_true options.dry (command_lines options.way path (scripts_by options.way.levels previous names))
+    (report options.way (scripts_by options.way.levels previous names) answers) dry)
 
 -- a run of the scripts of two folders' names
-pub run_reports : (options : RunOptions) (path : List ℕ) (previous names : List (List ℕ)) (old now : Option (List HostCall)) (rc : RcState) (before after told tells : Option (List ℕ)) (status : ℕ)
-    → rc ≡ rc_of options.way.levels previous names → options.dry ≡ false → Since old now (RunsScripts options path rc before told status after tells)
+pub run_reports : (options : RunOptions) (path : List ℕ) (previous names : List (List ℕ))
+    (old now : Option (List HostCall)) (rc : RcState) (before after told tells : Option (List ℕ)) (status : ℕ)
+    → rc ≡ rc_of options.way.levels previous names → options.dry ≡ false
+    → Since old now (RunsScripts options path rc before told status after tells)
     → IsWhole status → ReportsNames options path previous names before status after
-run_reports options path previous names old now rc before after told tells status is wet (calls, at, (ended, new, between, runs, of, reports)) whole =
-    let went = writes_ends old now options.way path PAUSES_LIMIT rc new (output before told) (output after between) ended (calls, at, runs) in
+run_reports options path previous names old now rc before after told tells status is wet
+    (calls, at, (ended, new, between, runs, of, reports)) whole =
+    let went = writes_ends old now options.way path PAUSES_LIMIT rc new (output before told)
+    (output after between) ended (calls, at, runs) in
     let all = went.whole (over options.strict ended (subst IsWhole of whole)) in (
       went.answers,
       (
@@ -124,21 +145,30 @@ run_reports options path previous names old now rc before after told tells statu
       subst (Appends before after) (run_text options path previous names rc went.answers is wet) all.2,
     )
 
-pub run_part : (options : RunOptions) (path : List ℕ) (previous names : List (List ℕ)) (old now : Option (List HostCall)) (rc : RcState) (before after told tells : Option (List ℕ)) (status : ℕ)
-    → rc ≡ rc_of options.way.levels previous names → options.dry ≡ false → Since old now (RunsScripts options path rc before told status after tells)
+pub run_part : (options : RunOptions) (path : List ℕ) (previous names : List (List ℕ))
+    (old now : Option (List HostCall)) (rc : RcState) (before after told tells : Option (List ℕ)) (status : ℕ)
+    → rc ≡ rc_of options.way.levels previous names → options.dry ≡ false
+    → Since old now (RunsScripts options path rc before told status after tells)
     → ReportsFirst options path previous names before after
-run_part options path previous names old now rc before after told tells status is wet (calls, at, (ended, new, between, runs, of, reports)) =
-    let went = writes_ends old now options.way path PAUSES_LIMIT rc new (output before told) (output after between) ended (calls, at, runs) in
-    (went.answers, subst (AppendsPrefix before after) (run_text options path previous names rc went.answers is wet) went.part)
+run_part options path previous names old now rc before after told tells status is wet
+    (calls, at, (ended, new, between, runs, of, reports)) =
+    let went = writes_ends old now options.way path PAUSES_LIMIT rc new (output before told)
+    (output after between) ended (calls, at, runs) in (
+      went.answers,
+      subst (AppendsPrefix before after) (run_text options path previous names rc went.answers is wet) went.part,
+    )
 
-pub run_names : (options : RunOptions) (path : List ℕ) (previous names : List (List ℕ)) (old now : Option (List HostCall)) (rc : RcState) (before after told tells : Option (List ℕ)) (status : ℕ)
-    → rc ≡ rc_of options.way.levels previous names → Since old now (RunsScripts options path rc before told status after tells)
+pub run_names : (options : RunOptions) (path : List ℕ) (previous names : List (List ℕ))
+    (old now : Option (List HostCall)) (rc : RcState) (before after told tells : Option (List ℕ)) (status : ℕ)
+    → rc ≡ rc_of options.way.levels previous names
+    → Since old now (RunsScripts options path rc before told status after tells)
     → Since old now (RunsNames options path previous names before told status after tells)
 run_names options path previous names old now rc before after told tells status is since =
     subst (λ r. Since old now (RunsScripts options path r before told status after tells)) is since
 
 -- a print of them
-pub dry_reports : (options : RunOptions) (path : List ℕ) (previous names : List (List ℕ)) (rc : RcState) (before after : Option (List ℕ)) (status : ℕ) → rc ≡ rc_of options.way.levels previous names
+pub dry_reports : (options : RunOptions) (path : List ℕ) (previous names : List (List ℕ)) (rc : RcState)
+    (before after : Option (List ℕ)) (status : ℕ) → rc ≡ rc_of options.way.levels previous names
     → options.dry ≡ true → (status ≡ DONE) ⊎ (status ≡ DEVICE_FAULT)
     → (status ≡ DONE → Appends before after (command_lines options.way path rc.left))
     → IsWhole status → ReportsNames options path previous names before status after
@@ -147,9 +177,11 @@ dry_reports options path previous names rc before after status is dry (inl done)
   ((λ _. done), (λ wet. absurd (true≢false (sym dry ∙ wet)))),
   subst (Appends before after) (dry_text options path previous names rc [] is dry) (text done),
 )
-dry_reports options path previous names rc before after status is dry (inr fault) text whole = absurd (not_whole_fault status fault whole)
+dry_reports options path previous names rc before after status is dry (inr fault) text whole =
+    absurd (not_whole_fault status fault whole)
 
-pub dry_part : (options : RunOptions) (path : List ℕ) (previous names : List (List ℕ)) (rc : RcState) (before after : Option (List ℕ)) → rc ≡ rc_of options.way.levels previous names
+pub dry_part : (options : RunOptions) (path : List ℕ) (previous names : List (List ℕ)) (rc : RcState)
+    (before after : Option (List ℕ)) → rc ≡ rc_of options.way.levels previous names
     → options.dry ≡ true → AppendsPrefix before after (command_lines options.way path rc.left)
     → ReportsFirst options path previous names before after
 dry_part options path previous names rc before after is dry part =
@@ -160,54 +192,67 @@ dry_known status (inl done) = inl (inl done)
 dry_known status (inr fault) = inr (inr fault)
 
 -- how a print ends
-print_ends : (way : ScriptOptions) (path : List ℕ) (rc new : RcState) (before after : Option (List ℕ)) (ended : RunEnd) → rc.waits ≡ false
-    → PrintsLinks way path rc before ended new after
+print_ends : (way : ScriptOptions) (path : List ℕ) (rc new : RcState) (before after : Option (List ℕ)) (ended : RunEnd)
+    → rc.waits ≡ false → PrintsLinks way path rc before ended new after
     → (ended ≡ run_end.Done) ⊎ (ended ≡ run_end.Write) ⊎ (ended ≡ run_end.Memory)
 print_ends way path rc new before after ended ready prints = prints.ends ready
 
-pub print_not_waiting : (way : ScriptOptions) (path : List ℕ) (rc new : RcState) (before after : Option (List ℕ)) (ended : RunEnd) → rc.waits ≡ false
+pub print_not_waiting : (way : ScriptOptions) (path : List ℕ) (rc new : RcState) (before after : Option (List ℕ))
+    (ended : RunEnd) → rc.waits ≡ false
     → PrintsLinks way path rc before ended new after → ended ≢ run_end.Waiting
-print_not_waiting way path rc new before after ended ready prints = by (print_ends way path rc new before after ended ready prints)
+print_not_waiting way path rc new before after ended ready prints =
+    by (print_ends way path rc new before after ended ready prints)
   where
     by : (ended ≡ run_end.Done) ⊎ (ended ≡ run_end.Write) ⊎ (ended ≡ run_end.Memory) → ended ≢ run_end.Waiting
     by (inl is) = λ waiting. let both : run_end.Done ≡ run_end.Waiting = sym is ∙ waiting in cc
     by (inr (inl is)) = λ waiting. let both : run_end.Write ≡ run_end.Waiting = sym is ∙ waiting in cc
     by (inr (inr is)) = λ waiting. let both : run_end.Memory ≡ run_end.Waiting = sym is ∙ waiting in cc
 
-pub print_known : (way : ScriptOptions) (path : List ℕ) (rc new : RcState) (before after : Option (List ℕ)) (ended : RunEnd) (status : ℕ) → rc.waits ≡ false
-    → status ≡ status_of false ended → PrintsLinks way path rc before ended new after → (status ≡ DONE) ⊎ (status ≡ DEVICE_FAULT)
-print_known way path rc new before after ended status ready of prints = by (print_ends way path rc new before after ended ready prints)
+pub print_known : (way : ScriptOptions) (path : List ℕ) (rc new : RcState) (before after : Option (List ℕ))
+    (ended : RunEnd) (status : ℕ) → rc.waits ≡ false
+    → status ≡ status_of false ended → PrintsLinks way path rc before ended new after
+    → (status ≡ DONE) ⊎ (status ≡ DEVICE_FAULT)
+print_known way path rc new before after ended status ready of prints =
+    by (print_ends way path rc new before after ended ready prints)
   where
-    by : (ended ≡ run_end.Done) ⊎ (ended ≡ run_end.Write) ⊎ (ended ≡ run_end.Memory) → (status ≡ DONE) ⊎ (status ≡ DEVICE_FAULT)
+    by : (ended ≡ run_end.Done) ⊎ (ended ≡ run_end.Write) ⊎ (ended ≡ run_end.Memory)
+        → (status ≡ DONE) ⊎ (status ≡ DEVICE_FAULT)
     by (inl is) = inl (of ∙ ap (status_of false) is)
     by (inr (inl is)) = inr (of ∙ ap (status_of false) is)
     by (inr (inr is)) = inr (of ∙ ap (status_of false) is)
 
-pub print_done : (way : ScriptOptions) (path : List ℕ) (rc new : RcState) (before after : Option (List ℕ)) (ended : RunEnd) (status : ℕ) → rc.waits ≡ false
+pub print_done : (way : ScriptOptions) (path : List ℕ) (rc new : RcState) (before after : Option (List ℕ))
+    (ended : RunEnd) (status : ℕ) → rc.waits ≡ false
     → status ≡ status_of false ended → PrintsLinks way path rc before ended new after → status ≡ DONE
     → Appends before after (command_lines way path rc.left)
 print_done way path rc new before after ended status ready of prints done =
     by (print_ends way path rc new before after ended ready prints)
   where
-    by : (ended ≡ run_end.Done) ⊎ (ended ≡ run_end.Write) ⊎ (ended ≡ run_end.Memory) → Appends before after (command_lines way path rc.left)
+    by : (ended ≡ run_end.Done) ⊎ (ended ≡ run_end.Write) ⊎ (ended ≡ run_end.Memory)
+        → Appends before after (command_lines way path rc.left)
     by (inl is) = let whole = prints.whole is in whole.0
     by (inr (inl is)) = absurd (not_whole_fault status (of ∙ ap (status_of false) is) (inl done))
     by (inr (inr is)) = absurd (not_whole_fault status (of ∙ ap (status_of false) is) (inl done))
 
 -- names that were listed are those of the folders that a command line names
-pub are_names : (names_at : KnownNames) (said : RcSaid) (dir path : List ℕ) (previous names : List (List ℕ)) → dir ≡ said.dir → path ≡ folder_of dir said.new
-    → ArePrevious names_at dir said.previous previous → AreNamesAt names_at path names → AreNames names_at said previous names
+pub are_names : (names_at : KnownNames) (said : RcSaid) (dir path : List ℕ) (previous names : List (List ℕ))
+    → dir ≡ said.dir → path ≡ folder_of dir said.new
+    → ArePrevious names_at dir said.previous previous → AreNamesAt names_at path names
+    → AreNames names_at said previous names
 are_names names_at said dir path previous names same at before here = (
   subst (λ d. ArePrevious names_at d said.previous previous) same before,
   subst (λ p. AreNamesAt names_at p names) (at ∙ ap (λ d. folder_of d said.new) same) here,
 )
 
 -- a run of the folders that a command line names
-folder_is : (said : RcSaid) (dir path : List ℕ) → dir ≡ said.dir → path ≡ folder_of dir said.new → path ≡ folder_of said.dir said.new
+folder_is : (said : RcSaid) (dir path : List ℕ) → dir ≡ said.dir → path ≡ folder_of dir said.new
+    → path ≡ folder_of said.dir said.new
 folder_is said dir path same at = at ∙ ap (λ d. folder_of d said.new) same
 
-pub said_reports : (names_at : KnownNames) (said : RcSaid) (dir path listed : List ℕ) (previous names : List (List ℕ)) (before after : Option (List ℕ)) (status : ℕ)
-    → dir ≡ said.dir → path ≡ folder_of dir said.new → listed ≡ folder_of dir said.new → ArePrevious names_at dir said.previous previous → AreNamesAt names_at listed names
+pub said_reports : (names_at : KnownNames) (said : RcSaid) (dir path listed : List ℕ) (previous names : List (List ℕ))
+    (before after : Option (List ℕ)) (status : ℕ)
+    → dir ≡ said.dir → path ≡ folder_of dir said.new → listed ≡ folder_of dir said.new
+    → ArePrevious names_at dir said.previous previous → AreNamesAt names_at listed names
     → ReportsNames said.options path previous names before status after → Reports names_at said before status after
 said_reports names_at said dir path listed previous names before after status same at there first here all = (
   previous,
@@ -216,37 +261,42 @@ said_reports names_at said dir path listed previous names before after status sa
   subst (λ p. ReportsNames said.options p previous names before status after) (folder_is said dir path same at) all,
 )
 
-pub said_runs : (names_at : KnownNames) (said : RcSaid) (dir path listed : List ℕ) (previous names : List (List ℕ)) (old new : Option (List HostCall)) (before told after tells : Option (List ℕ)) (status : ℕ)
-    → dir ≡ said.dir → path ≡ folder_of dir said.new → listed ≡ folder_of dir said.new → ArePrevious names_at dir said.previous previous → AreNamesAt names_at listed names
+pub said_runs : (names_at : KnownNames) (said : RcSaid) (dir path listed : List ℕ) (previous names : List (List ℕ))
+    (old new : Option (List HostCall)) (before told after tells : Option (List ℕ)) (status : ℕ)
+    → dir ≡ said.dir → path ≡ folder_of dir said.new → listed ≡ folder_of dir said.new
+    → ArePrevious names_at dir said.previous previous → AreNamesAt names_at listed names
     → Since old new (RunsNames said.options path previous names before told status after tells)
     → RunsSaid names_at said old new before told status after tells
-said_runs names_at said dir path listed previous names old new before told after tells status same at there first here runs = (
-  previous,
-  names,
-  are_names names_at said dir listed previous names same there first here,
-  subst (λ p. Since old new (RunsNames said.options p previous names before told status after tells)) (folder_is said dir path same at) runs,
-)
+said_runs names_at said dir path listed previous names old new before told after tells status same
+    at there first here runs = (
+      previous,
+      names,
+      are_names names_at said dir listed previous names same there first here,
+      subst (λ p. Since old new (RunsNames said.options p previous names before told status after tells))
+          (folder_is said dir path same at) runs,
+    )
 
 -- a status of a run that is whole is that of the run
-pub whole_status : (file : Option (List ℕ)) (inner : ℕ) (told : Option (List ℕ)) (status : ℕ) (tells : Option (List ℕ)) → IsStatusOf file inner told status tells → IsWhole status
-    → status ≡ inner
+pub whole_status : (file : Option (List ℕ)) (inner : ℕ) (told : Option (List ℕ)) (status : ℕ) (tells : Option (List ℕ))
+    → IsStatusOf file inner told status tells → IsWhole status → status ≡ inner
 whole_status file inner told status tells (inl (is, same)) whole = is
 whole_status file inner told status tells (inr (named, fault, was)) whole = absurd (not_whole_fault status fault whole)
 
 -- a fault of the run is one of the whole
-pub fault_of : (file : Option (List ℕ)) (inner : ℕ) (told : Option (List ℕ)) (status : ℕ) (tells : Option (List ℕ)) → IsStatusOf file inner told status tells
-    → inner ≡ DEVICE_FAULT → status ≡ DEVICE_FAULT
+pub fault_of : (file : Option (List ℕ)) (inner : ℕ) (told : Option (List ℕ)) (status : ℕ) (tells : Option (List ℕ))
+    → IsStatusOf file inner told status tells → inner ≡ DEVICE_FAULT → status ≡ DEVICE_FAULT
 fault_of file inner told status tells (inl (is, same)) fault = is ∙ fault
 fault_of file inner told status tells (inr (named, fault, was)) _ = fault
 
 -- it is known where that is
-pub known_of : (file : Option (List ℕ)) (inner : ℕ) (told : Option (List ℕ)) (status : ℕ) (tells : Option (List ℕ)) → IsStatusOf file inner told status tells → IsKnown inner
-    → IsKnown status
+pub known_of : (file : Option (List ℕ)) (inner : ℕ) (told : Option (List ℕ)) (status : ℕ) (tells : Option (List ℕ))
+    → IsStatusOf file inner told status tells → IsKnown inner → IsKnown status
 known_of file inner told status tells (inl (is, same)) known = subst IsKnown (sym is) known
 known_of file inner told status tells (inr (named, fault, was)) known = inr (inr fault)
 
 -- what is so of the folder, the change and the options that are run is so of what is asked for
-pub asks_for : (file_at : KnownFiles) (asked : Asked) (before : Option Level) (dir : List ℕ) (options : RunOptions) (P : RcSaid → Type 0)
+pub asks_for : (file_at : KnownFiles) (asked : Asked) (before : Option Level) (dir : List ℕ) (options : RunOptions)
+    (P : RcSaid → Type 0)
     → IsBefore file_at asked before → dir ≡ asked.dir
     → options ≡ entering asked.sysv (record { before = before; new = asked.new }) asked.options
     → P (said_at dir (record { before = before; new = asked.new }) options) → AsksFor file_at asked P
@@ -258,37 +308,46 @@ asks_for file_at asked before dir options P is same so holds = (
 )
 
 -- where that is whole, what is so of the lines of a run is so of those that are asked for
-pub reports_asked : (file_at : KnownFiles) (names_at : KnownNames) (asked : Asked) (before : Option Level) (dir : List ℕ) (options : RunOptions) (inner status : ℕ)
+pub reports_asked : (file_at : KnownFiles) (names_at : KnownNames) (asked : Asked) (before : Option Level)
+    (dir : List ℕ) (options : RunOptions) (inner status : ℕ)
     (out told after tells : Option (List ℕ))
     → IsBefore file_at asked before → dir ≡ asked.dir
     → options ≡ entering asked.sysv (record { before = before; new = asked.new }) asked.options
     → IsStatusOf asked.file inner told status tells
-    → (IsWhole inner → Reports names_at (said_at dir (record { before = before; new = asked.new }) options) out inner after)
+    → (IsWhole inner
+    → Reports names_at (said_at dir (record { before = before; new = asked.new }) options) out inner after)
     → IsWhole status → AsksFor file_at asked (λ said. Reports names_at said out status after)
-reports_asked file_at names_at asked before dir options inner status out told after tells is same so ends reports whole =
+reports_asked file_at names_at asked before dir options inner status out told after tells is same so ends reports
+    whole =
     let e = whole_status asked.file inner told status tells ends whole in
     asks_for file_at asked before dir options (λ said. Reports names_at said out status after) is same so
-    (subst (λ s. Reports names_at (said_at dir (record { before = before; new = asked.new }) options) out s after) (sym e) (reports (subst IsWhole e whole)))
+    (subst (λ s. Reports names_at (said_at dir (record { before = before; new = asked.new }) options) out s after)
+    (sym e) (reports (subst IsWhole e whole)))
 
 -- what is so of how scripts were run is so of those that are asked for, where nothing was told before
-pub runs_asked : (file_at : KnownFiles) (names_at : KnownNames) (asked : Asked) (before : Option Level) (dir : List ℕ) (options : RunOptions) (inner status : ℕ)
+pub runs_asked : (file_at : KnownFiles) (names_at : KnownNames) (asked : Asked) (before : Option Level) (dir : List ℕ)
+    (options : RunOptions) (inner status : ℕ)
     (old new : Option (List HostCall)) (out first told between after tells : Option (List ℕ))
     → IsBefore file_at asked before → dir ≡ asked.dir
     → options ≡ entering asked.sysv (record { before = before; new = asked.new }) asked.options
     → IsStatusOf asked.file inner between status tells → told ≡ first
     → (options.dry ≡ true → new ≡ old)
-    × (options.dry ≡ false → RunsSaid names_at (said_at dir (record { before = before; new = asked.new }) options) old new out told inner after between)
+    × (options.dry ≡ false → RunsSaid names_at
+    (said_at dir (record { before = before; new = asked.new }) options) old new out told inner after between)
     → RunsAsked file_at names_at asked old new out first status after tells
-runs_asked file_at names_at asked before dir options inner status old new out first told between after tells is same so ends silent (dry, runs) =
+runs_asked file_at names_at asked before dir options inner status old new out first told between after tells is same so
+    ends silent (dry, runs) =
     asks_for file_at asked before dir options
-    (λ said. (said.options.dry ≡ true → new ≡ old) × (said.options.dry ≡ false → (inner : ℕ) × (between : Option (List ℕ))
+    (λ said. (said.options.dry ≡ true → new ≡ old)
+    × (said.options.dry ≡ false → (inner : ℕ) × (between : Option (List ℕ))
     × RunsSaid names_at said old new out first inner after between × IsStatusOf asked.file inner between status tells))
     is same so (
       dry,
       (λ wet. (
         inner,
         between,
-        subst (λ t. RunsSaid names_at (said_at dir (record { before = before; new = asked.new }) options) old new out t inner after between) silent (runs wet),
+        subst (λ t. RunsSaid names_at (said_at dir (record { before = before; new = asked.new }) options) old new out t
+            inner after between) silent (runs wet),
         ends,
       )),
     )

@@ -1,6 +1,7 @@
 -- The command line `rc [-n] [-v] [--strict] [--direct] [--as-sysv] [--timeout SEC] DIR PREV NEW`, or with
 -- `--level-file F` and without PREV.
-use Rattle.std.specs.Prelude.{ℕ, ◌+◌, nat_lt, Bool, if◌then◌else◌, List, codes, Option, Some, None, option_and_then, option_map, ◌==◌, ◌||◌, string_bytes}
+use Rattle.std.specs.Prelude.{ℕ, ◌+◌, nat_lt, Bool, if◌then◌else◌, List, codes, Option, Some, None, option_and_then}
+use Rattle.std.specs.Prelude.{option_map, ◌==◌, ◌||◌, string_bytes}
 use Rattle.std.specs.List.{list_all}
 use Rattle.std.specs.Str.{byte, bytes_eq}
 use Rattle.clap.specs.Words.{App, Row, Text, first_of}
@@ -105,7 +106,8 @@ new_of after = option_map (λ new. record { before = None; new = new }) (level_o
 -- the levels of two words
 abbrev pub levels_of : Text → Text → Option LevelChange
 levels_of before after =
-    option_and_then (λ previous. option_map (λ new. record { before = previous; new = new }) (level_of after)) (previous_of before)
+    option_and_then (λ previous. option_map (λ new. record { before = previous; new = new }) (level_of after))
+    (previous_of before)
 
 -- the levels of the words, of which the first is left out where a file has it
 abbrev pub levels_in : Option Text → Text → Option Text → Option LevelChange

@@ -1,5 +1,6 @@
 -- How a run of `rc` ends, and what is written of it.
-use Rattle.std.specs.Prelude.{◌≡◌, ◌⊎◌, ℕ, Bool, true, false, if◌then◌else◌, List, [], ◌++◌, codes, length, Option, Some, None, IsSome}
+use Rattle.std.specs.Prelude.{◌≡◌, ◌⊎◌, ℕ, Bool, true, false, if◌then◌else◌, List, [], ◌++◌, codes, length, Option}
+use Rattle.std.specs.Prelude.{Some, None, IsSome}
 use Rattle.std.specs.List.{list_any}
 use Rattle.std.specs.Io.KnownBytes.{Appends}
 use Rattle.program_io.specs.Writing.{AppendsPrefix}
@@ -102,7 +103,8 @@ ReportsNames options path previous names old status new = (answers : List RcAnsw
     × Appends old new (written options path previous names answers)
 
 -- a prefix of what is written of the first of them
-abbrev pub ReportsFirst : RunOptions → List ℕ → List (List ℕ) → List (List ℕ) → Option (List ℕ) → Option (List ℕ) → Type 0
+abbrev pub ReportsFirst : RunOptions → List ℕ → List (List ℕ) → List (List ℕ) → Option (List ℕ) → Option (List ℕ)
+    → Type 0
 ReportsFirst options path previous names old new =
     (answers : List RcAnswer) × AppendsPrefix old new (written options path previous names answers)
 
@@ -151,4 +153,5 @@ abbrev pub RunsAsked : KnownFiles → KnownNames → Asked → Option (List Host
 RunsAsked file_at names_at asked old new before told status after tells = AsksFor file_at asked (λ said.
     (said.options.dry ≡ true → new ≡ old)
     × (said.options.dry ≡ false → (inner : ℕ) × (between : Option (List ℕ))
-    × RunsSaid names_at said old new before told inner after between × IsStatusOf asked.file inner between status tells))
+    × RunsSaid names_at said old new before told inner after between
+    × IsStatusOf asked.file inner between status tells))

@@ -1,5 +1,10 @@
 -- The calls of one script's run, put together.
-use Rattle.rc_driver.proofs.Words.{◌≡◌, refl, ap, ◌∙◌, subst, cond, nat_lt, ℕ, ◌+◌, ◌-◌, Bool, true, false, List, [], ◌∷◌, ◌++◌, length, filter, Option, Some, None, Result, Ok, Err, arith, HostCall, AddsCall, Since, Since-map, Since-one, Since-then, ScriptOptions, AppendsPrefix, Begins, Goes, GoesFurther, GoneTo, RunsTo, by_late, by_look, by_reply, by_start, count_pauses, is_pause, is_waiting, script_id, Tells, due_by, due_signal, signal_line, time_lines, timer_at, timer_by}
+use Rattle.rc_driver.proofs.Words.{◌≡◌, refl, ap, ◌∙◌, subst, cond, nat_lt, ℕ, ◌+◌, ◌-◌, Bool, true, false, List, []}
+use Rattle.rc_driver.proofs.Words.{◌∷◌, ◌++◌, length, filter, Option, Some, None, Result, Ok, Err, arith, HostCall}
+use Rattle.rc_driver.proofs.Words.{AddsCall, Since, Since-map, Since-one, Since-then, ScriptOptions, AppendsPrefix}
+use Rattle.rc_driver.proofs.Words.{Begins, Goes, GoesFurther, GoneTo, RunsTo, by_late, by_look, by_reply, by_start}
+use Rattle.rc_driver.proofs.Words.{count_pauses, is_pause, is_waiting, script_id, Tells, due_by, due_signal}
+use Rattle.rc_driver.proofs.Words.{signal_line, time_lines, timer_at, timer_by}
 use Rattle.std.proofs.lemmas.List.{length-append}
 use Rattle.std.proofs.lemmas.Option.{none-some, same_Some}
 use Rattle.std.proofs.lemmas.List.Elements.{filter-append}
@@ -16,28 +21,35 @@ use Rattle.rc_driver.specs.declared.times.Timer.{Timer}
 use Rattle.rc_driver.specs.declared.times.Timer.TheVariants as timer
 
 -- a start
-pub begins : (old new : Option (List HostCall)) (limit : Option ℕ) (id text : List ℕ) (reply : Reply) (now : Progress) → AddsCall old new (call.Start id text reply) → id ≡ script_id
+pub begins : (old new : Option (List HostCall)) (limit : Option ℕ) (id text : List ℕ) (reply : Reply) (now : Progress)
+    → AddsCall old new (call.Start id text reply) → id ≡ script_id
     → now ≡ by_reply (by_start limit) reply → Since old new (Begins limit text now)
 begins old new limit id text reply now adds of is =
     Since-one old new (call.Start id text reply) (Begins limit text now) adds ((of, refl, refl, is, refl), refl)
 
 -- a look
-pub goes_look : (old new : Option (List HostCall)) (limit : Option ℕ) (id : List ℕ) (reply : Reply) (now : Progress) → AddsCall old new (call.Look id reply) → id ≡ script_id
+pub goes_look : (old new : Option (List HostCall)) (limit : Option ℕ) (id : List ℕ) (reply : Reply) (now : Progress)
+    → AddsCall old new (call.Look id reply) → id ≡ script_id
     → now ≡ by_reply (by_look limit) reply → Since old new (GoesFurther limit progress.Born now 0)
 goes_look old new limit id reply now adds of is =
-    Since-one old new (call.Look id reply) (GoesFurther limit progress.Born now 0) adds (λ time. (refl, λ command earlier ran. (of, ran, is)))
+    Since-one old new (call.Look id reply) (GoesFurther limit progress.Born now 0) adds
+    (λ time. (refl, λ command earlier ran. (of, ran, is)))
 
 -- a pause, and what came later
-pub goes_pause : (old mid new : Option (List HostCall)) (limit : Option ℕ) (late : Option (List ℕ × Answer)) (before now : Progress) → AddsCall old mid call.Pause
-    → AddsCall mid new (call.Late late) → is_waiting before ≡ true → now ≡ by_late limit before late → Since old new (GoesFurther limit before now 1)
+pub goes_pause : (old mid new : Option (List HostCall)) (limit : Option ℕ) (late : Option (List ℕ × Answer))
+    (before now : Progress) → AddsCall old mid call.Pause
+    → AddsCall mid new (call.Late late) → is_waiting before ≡ true → now ≡ by_late limit before late
+    → Since old new (GoesFurther limit before now 1)
 goes_pause old mid new limit late before now pauses lates waiting is =
-    Since-then old mid new (λ xs. xs ≡ call.Pause ∷ []) (λ ys. ys ≡ call.Late late ∷ []) (GoesFurther limit before now 1)
+    Since-then old mid new (λ xs. xs ≡ call.Pause ∷ []) (λ ys. ys ≡ call.Late late ∷ [])
+    (GoesFurther limit before now 1)
     (Since-one old mid call.Pause (λ xs. xs ≡ call.Pause ∷ []) pauses refl)
     (Since-one mid new (call.Late late) (λ ys. ys ≡ call.Late late ∷ []) lates refl)
     (λ xs ys first second. rw (first, second) (λ time. (refl, λ command earlier ran. (before, waiting, ran, is))))
 
 -- a reading of the clock by which no signal is due
-pub goes_clock : (old new : Option (List HostCall)) (limit : Option ℕ) (reading : Result ℕ HostFault) (before now : Timer) → AddsCall old new (call.Clock reading)
+pub goes_clock : (old new : Option (List HostCall)) (limit : Option ℕ) (reading : Result ℕ HostFault)
+    (before now : Timer) → AddsCall old new (call.Clock reading)
     → due_by limit before reading ≡ None → now ≡ timer_by before reading None
     → Since old new (Goes limit progress.Found before progress.Living now 0)
 goes_clock old new limit reading before now adds due is =
@@ -45,7 +57,8 @@ goes_clock old new limit reading before now adds due is =
     (refl, λ command earlier ran. (refl, before, ran, due, is))
 
 -- one by which a signal is due, and the signal
-pub goes_signal : (old mid new : Option (List HostCall)) (limit : Option ℕ) (reading : Result ℕ HostFault) (id : List ℕ) (signal : SignalKind) (reply : Reply) (before now : Timer)
+pub goes_signal : (old mid new : Option (List HostCall)) (limit : Option ℕ) (reading : Result ℕ HostFault) (id : List ℕ)
+    (signal : SignalKind) (reply : Reply) (before now : Timer)
     → AddsCall old mid (call.Clock reading) → AddsCall mid new (call.Signal id signal reply) → id ≡ script_id
     → due_by limit before reading ≡ Some signal → now ≡ timer_by before reading (Some signal)
     → Since old new (Goes limit progress.Found before progress.Living now 0)
@@ -67,25 +80,33 @@ some_of true x y is = same_Some x y is
 some_of false x y is = absurd (none-some y is)
 
 -- a signal that is due is told behind those before
-tells_due : (way : ScriptOptions) (dir link : List ℕ) (seconds now : ℕ) (time : Timer) (signal : SignalKind) → due_signal seconds time now ≡ Some signal
-    → time_lines way dir link (timer_at time now (Some signal)) ≡ signal_line way.seconds dir link signal ∷ time_lines way dir link time
+tells_due : (way : ScriptOptions) (dir link : List ℕ) (seconds now : ℕ) (time : Timer) (signal : SignalKind)
+    → due_signal seconds time now ≡ Some signal
+    → time_lines way dir link (timer_at time now (Some signal))
+    ≡ signal_line way.seconds dir link signal ∷ time_lines way dir link time
 tells_due way dir link seconds now timer.Unread signal due = absurd (none-some signal due)
 tells_due way dir link seconds now timer.Killed signal due = absurd (none-some signal due)
 tells_due way dir link seconds now (timer.Since began) signal due =
-    subst (λ g. time_lines way dir link (timer_at (timer.Since began) now (Some g)) ≡ signal_line way.seconds dir link g ∷ [])
+    subst
+    (λ g. time_lines way dir link (timer_at (timer.Since began) now (Some g)) ≡ signal_line way.seconds dir link g ∷ [])
     (some_of (nat_lt seconds (now - began)) sig.Term signal due) refl
 tells_due way dir link seconds now (timer.Warned sent) signal due =
-    subst (λ g. time_lines way dir link (timer_at (timer.Warned sent) now (Some g)) ≡ signal_line way.seconds dir link g ∷ signal_line way.seconds dir link sig.Term ∷ [])
+    subst (λ g. time_lines way dir link (timer_at (timer.Warned sent) now (Some g))
+    ≡ signal_line way.seconds dir link g ∷ signal_line way.seconds dir link sig.Term ∷ [])
     (some_of (nat_lt GRACE (now - sent)) sig.Kill signal due) refl
 
-tells_by : (way : ScriptOptions) (dir link : List ℕ) (limit : Option ℕ) (now : ℕ) (time : Timer) (signal : SignalKind) → due_by limit time (Ok now) ≡ Some signal
-    → time_lines way dir link (timer_at time now (Some signal)) ≡ signal_line way.seconds dir link signal ∷ time_lines way dir link time
+tells_by : (way : ScriptOptions) (dir link : List ℕ) (limit : Option ℕ) (now : ℕ) (time : Timer) (signal : SignalKind)
+    → due_by limit time (Ok now) ≡ Some signal
+    → time_lines way dir link (timer_at time now (Some signal))
+    ≡ signal_line way.seconds dir link signal ∷ time_lines way dir link time
 tells_by way dir link None now time signal due = absurd (none-some signal due)
 tells_by way dir link (Some seconds) now time signal due = tells_due way dir link seconds now time signal due
 
-pub tells_signal : (way : ScriptOptions) (dir link : List ℕ) (limit : Option ℕ) (now : ℕ) (time : Timer) (signal : SignalKind) (before told tells : Option (List ℕ))
+pub tells_signal : (way : ScriptOptions) (dir link : List ℕ) (limit : Option ℕ) (now : ℕ) (time : Timer)
+    (signal : SignalKind) (before told tells : Option (List ℕ))
     → due_by limit time (Ok now) ≡ Some signal → AppendsPrefix told tells (signal_line way.seconds dir link signal)
-    → Tells before told (time_lines way dir link time) → Tells before tells (time_lines way dir link (timer_at time now (Some signal)))
+    → Tells before told (time_lines way dir link time)
+    → Tells before tells (time_lines way dir link (timer_at time now (Some signal)))
 tells_signal way dir link limit now time signal before told tells due line earlier =
     rw (tells_by way dir link limit now time signal due) (told, earlier, line)
 
@@ -97,26 +118,34 @@ tells_none way dir link now (timer.Since began) = refl
 tells_none way dir link now (timer.Warned sent) = refl
 tells_none way dir link now timer.Killed = refl
 
-count_both : (later earlier : List HostCall) → count_pauses (later ++ earlier) ≡ count_pauses later + count_pauses earlier
+count_both : (later earlier : List HostCall)
+    → count_pauses (later ++ earlier) ≡ count_pauses later + count_pauses earlier
 count_both later earlier =
     ap length (filter-append is_pause later earlier) ∙ length-append (filter is_pause later) (filter is_pause earlier)
 
 -- a run that goes on
-pub gone_on : (old mid new : Option (List HostCall)) (limit : Option ℕ) (command : List ℕ) (known before now : Progress) (time then : Timer) (taken pauses still left : ℕ) → known ≡ before
-    → still ≡ taken + left → Since old mid (GoneTo limit command known time pauses still) → Since mid new (Goes limit before time now then taken)
-    → Since old new (GoneTo limit command now then pauses left)
+pub gone_on : (old mid new : Option (List HostCall)) (limit : Option ℕ) (command : List ℕ) (known before now : Progress)
+    (time then : Timer) (taken pauses still left : ℕ) → known ≡ before
+    → still ≡ taken + left → Since old mid (GoneTo limit command known time pauses still)
+    → Since mid new (Goes limit before time now then taken) → Since old new (GoneTo limit command now then pauses left)
 gone_on old mid new limit command known before now time then taken pauses still left same fewer gone goes =
-    Since-then old mid new (GoneTo limit command known time pauses still) (Goes limit before time now then taken) (GoneTo limit command now then pauses left) gone goes
-    (λ earlier later was is. (is.1 command earlier (subst (λ p. RunsTo limit command p time earlier) same was.0), counted earlier later was.1 is.0))
+    Since-then old mid new (GoneTo limit command known time pauses still) (Goes limit before time now then taken)
+    (GoneTo limit command now then pauses left) gone goes
+    (λ earlier later was is. (
+      is.1 command earlier (subst (λ p. RunsTo limit command p time earlier) same was.0),
+      counted earlier later was.1 is.0,
+    ))
   where
     counted : (earlier later : List HostCall) → pauses ≡ count_pauses earlier + still → count_pauses later ≡ taken
         → pauses ≡ count_pauses (later ++ earlier) + left
     counted earlier later was is = rw (count_both later earlier, is) (omega (arith, was, fewer))
 
 -- the same, where its time stays as it stands
-pub gone_further : (old mid new : Option (List HostCall)) (limit : Option ℕ) (command : List ℕ) (known before now : Progress) (time : Timer) (taken pauses still left : ℕ) → known ≡ before
-    → still ≡ taken + left → Since old mid (GoneTo limit command known time pauses still) → Since mid new (GoesFurther limit before now taken)
-    → Since old new (GoneTo limit command now time pauses left)
+pub gone_further : (old mid new : Option (List HostCall)) (limit : Option ℕ) (command : List ℕ)
+    (known before now : Progress) (time : Timer) (taken pauses still left : ℕ) → known ≡ before
+    → still ≡ taken + left → Since old mid (GoneTo limit command known time pauses still)
+    → Since mid new (GoesFurther limit before now taken) → Since old new (GoneTo limit command now time pauses left)
 gone_further old mid new limit command known before now time taken pauses still left same fewer gone goes =
     gone_on old mid new limit command known before now time time taken pauses still left same fewer gone
-    (Since-map mid new (GoesFurther limit before now taken) (Goes limit before time now time taken) goes (λ calls is. is time))
+    (Since-map mid new (GoesFurther limit before now taken) (Goes limit before time now time taken) goes
+    (λ calls is. is time))

@@ -1,5 +1,10 @@
 -- What a run of scripts over a host has written, by its calls.
-use Rattle.rc_driver.proofs.Words.{◌≡◌, ◌∙◌, ℕ, suc, Bool, true, false, not, cond, ◌||◌, ◌-◌, inl, inr, List, [], ◌∷◌, ◌++◌, length, Option, refl, sym, ap, subst, Appends-nil, Appends-trans, true≢false, Appends, AppendsPrefix, AppendsPrefix-first, AppendsPrefix-then, HostCall, Since, RunEnd, RcAnswer, ScriptOptions, count_pauses, Output, TellsStart, WritesEnds, begin_line, done_end, is_over, line_of, lines_of, report, LinkRun, RcState, is_failure, ScriptsEndAt, RunsFrom, RunsLinks}
+use Rattle.rc_driver.proofs.Words.{◌≡◌, ◌∙◌, ℕ, suc, Bool, true, false, not, cond, ◌||◌, ◌-◌, inl, inr, List, [], ◌∷◌}
+use Rattle.rc_driver.proofs.Words.{◌++◌, length, Option, refl, sym, ap, subst, Appends-nil, Appends-trans, true≢false}
+use Rattle.rc_driver.proofs.Words.{Appends, AppendsPrefix, AppendsPrefix-first, AppendsPrefix-then, HostCall, Since}
+use Rattle.rc_driver.proofs.Words.{RunEnd, RcAnswer, ScriptOptions, count_pauses, Output, TellsStart, WritesEnds}
+use Rattle.rc_driver.proofs.Words.{begin_line, done_end, is_over, line_of, lines_of, report, LinkRun, RcState}
+use Rattle.rc_driver.proofs.Words.{is_failure, ScriptsEndAt, RunsFrom, RunsLinks}
 use Rattle.std.specs.List.{list_any}
 use Rattle.std.proofs.Math.Bool.{or-false, or_assoc}
 use Rattle.rc_driver.specs.declared.driving.RunEnd.TheVariants as run_end
@@ -19,7 +24,8 @@ started_line false begin line before mid after told wrote = subst (λ b. Appends
 started_part : (verbose : Bool) (begin line : List ℕ) (before mid after : Option (List ℕ))
     → (verbose ≡ true → Appends before mid begin) × (verbose ≡ false → mid ≡ before) → AppendsPrefix mid after line
     → AppendsPrefix before after (cond verbose begin [] ++ line)
-started_part true begin line before mid after told wrote = AppendsPrefix-then before mid after begin line (told.0 refl) wrote
+started_part true begin line before mid after told wrote =
+    AppendsPrefix-then before mid after begin line (told.0 refl) wrote
 started_part false begin line before mid after told wrote = subst (λ b. AppendsPrefix b after line) (told.1 refl) wrote
 
 unstarted_part : (verbose : Bool) (begin line : List ℕ) (before after : Option (List ℕ)) → verbose ≡ true
@@ -28,19 +34,22 @@ unstarted_part true begin line before after is wrote = AppendsPrefix-first befor
 unstarted_part false begin line before after is wrote = absurd (true≢false (sym is))
 
 -- both lines of a script
-pub lines_told : (way : ScriptOptions) (s : LinkRun) (given : RcAnswer) (before mid after : Option (List ℕ)) → TellsStart way s before mid
-    → Appends mid after (line_of s given) → Appends before after (lines_of way s given)
+pub lines_told : (way : ScriptOptions) (s : LinkRun) (given : RcAnswer) (before mid after : Option (List ℕ))
+    → TellsStart way s before mid → Appends mid after (line_of s given) → Appends before after (lines_of way s given)
 lines_told way s given before mid after told wrote =
     started_line way.verbose (begin_line s) (line_of s given) before mid after told wrote
 
 -- a run that ends at a script has written a part of its lines
-pub stops_part : (way : ScriptOptions) (dir : List ℕ) (pauses : ℕ) (s : LinkRun) (before : Output) (ended : RunEnd) (after : Output) (calls : List HostCall)
-    → ScriptsEndAt way dir pauses s before ended after calls → (given : RcAnswer) × AppendsPrefix before.lines after.lines (lines_of way s given)
-stops_part way dir pauses s before (run_end.Limit link) after calls (named, now, time, waiting, ran, count, told, begun) = (
-  answer.NotStarted,
-  started_part way.verbose (begin_line s) (line_of s answer.NotStarted) before.lines after.lines after.lines begun
-      (AppendsPrefix-none after.lines (line_of s answer.NotStarted)),
-)
+pub stops_part : (way : ScriptOptions) (dir : List ℕ) (pauses : ℕ) (s : LinkRun) (before : Output) (ended : RunEnd)
+    (after : Output) (calls : List HostCall)
+    → ScriptsEndAt way dir pauses s before ended after calls
+    → (given : RcAnswer) × AppendsPrefix before.lines after.lines (lines_of way s given)
+stops_part way dir pauses s before (run_end.Limit link) after calls
+    (named, now, time, waiting, ran, count, told, begun) = (
+      answer.NotStarted,
+      started_part way.verbose (begin_line s) (line_of s answer.NotStarted) before.lines after.lines after.lines begun
+          (AppendsPrefix-none after.lines (line_of s answer.NotStarted)),
+    )
 stops_part way dir pauses s before run_end.Write after calls (inl (verbose, none, wrote, stays)) = (
   answer.NotStarted,
   unstarted_part way.verbose (begin_line s) (line_of s answer.NotStarted) before.lines after.lines verbose wrote,
@@ -57,7 +66,8 @@ stops_part way dir pauses s before run_end.Failed after calls at = absurd at
 stops_part way dir pauses s before run_end.Waiting after calls at = absurd at
 
 -- it is not over
-pub stops_early : (way : ScriptOptions) (dir : List ℕ) (pauses : ℕ) (s : LinkRun) (before : Output) (ended : RunEnd) (after : Output) (calls : List HostCall)
+pub stops_early : (way : ScriptOptions) (dir : List ℕ) (pauses : ℕ) (s : LinkRun) (before : Output) (ended : RunEnd)
+    (after : Output) (calls : List HostCall)
     → ScriptsEndAt way dir pauses s before ended after calls → is_over ended ≡ false
 stops_early way dir pauses s before (run_end.Limit link) after calls at = refl
 stops_early way dir pauses s before run_end.Write after calls at = refl
@@ -67,7 +77,8 @@ stops_early way dir pauses s before run_end.Failed after calls at = absurd at
 stops_early way dir pauses s before run_end.Waiting after calls at = absurd at
 
 -- what scripts have written that were run from here
-record Wrote (way : ScriptOptions) (failed : Bool) (scripts : List LinkRun) (before : Option (List ℕ)) (ended : RunEnd) (left : List LinkRun)
+record Wrote (way : ScriptOptions) (failed : Bool) (scripts : List LinkRun) (before : Option (List ℕ)) (ended : RunEnd)
+    (left : List LinkRun)
     (after : Option (List ℕ)) : Type 0 where
   answers : List RcAnswer
   part : AppendsPrefix before after (report way scripts answers)
@@ -75,12 +86,19 @@ record Wrote (way : ScriptOptions) (failed : Bool) (scripts : List LinkRun) (bef
       (ended ≡ done_end (failed || list_any is_failure answers)) × (length answers ≡ length scripts)
       × Appends before after (report way scripts answers) × (left ≡ [])
 
-wrote : (way : ScriptOptions) (dir : List ℕ) (pauses : ℕ) (failed : Bool) (scripts : List LinkRun) (before : Output) (ended : RunEnd) (left : List LinkRun) (after : Output) (calls : List HostCall)
-    → RunsFrom way dir pauses failed scripts before ended left after calls → Wrote way failed scripts before.lines ended left after.lines
+wrote : (way : ScriptOptions) (dir : List ℕ) (pauses : ℕ) (failed : Bool) (scripts : List LinkRun) (before : Output)
+    (ended : RunEnd) (left : List LinkRun) (after : Output) (calls : List HostCall)
+    → RunsFrom way dir pauses failed scripts before ended left after calls
+    → Wrote way failed scripts before.lines ended left after.lines
 wrote way dir pauses failed [] before ended left after calls (is, none, same, no_calls) = record {
   answers = [];
   part = subst (λ (b : Output). AppendsPrefix before.lines b.lines []) (sym same) (AppendsPrefix-none before.lines []);
-  whole = λ over. (is ∙ ap done_end (sym (or-false failed)), refl, subst (λ (b : Output). Appends before.lines b.lines []) (sym same) (Appends-nil before.lines), none);
+  whole = λ over. (
+    is ∙ ap done_end (sym (or-false failed)),
+    refl,
+    subst (λ (b : Output). Appends before.lines b.lines []) (sym same) (Appends-nil before.lines),
+    none,
+  );
 }
 wrote way dir pauses failed (s ∷ scripts) before ended left after calls (inl (at, behind)) =
     let stop = stops_part way dir pauses s before ended after calls at in
@@ -90,28 +108,35 @@ wrote way dir pauses failed (s ∷ scripts) before ended left after calls (inl (
       part = AppendsPrefix-first before.lines after.lines (lines_of way s stop.0) (report way scripts []) stop.1;
       whole = λ over. absurd (true≢false (sym over ∙ early));
     }
-wrote way dir pauses failed (s ∷ scripts) before ended left after calls (inr (given, first, later, between, is, ran, line, rest)) =
-    let behind = wrote way dir (pauses - count_pauses first) (failed || is_failure given) scripts between ended left after later rest in
+wrote way dir pauses failed (s ∷ scripts) before ended left after calls
+    (inr (given, first, later, between, is, ran, line, rest)) =
+    let behind = wrote way dir (pauses - count_pauses first)
+    (failed || is_failure given) scripts between ended left after later rest in
     record {
       answers = given ∷ behind.answers;
-      part = AppendsPrefix-then before.lines between.lines after.lines (lines_of way s given) (report way scripts behind.answers) line behind.part;
+      part = AppendsPrefix-then before.lines between.lines after.lines (lines_of way s given)
+          (report way scripts behind.answers) line behind.part;
       whole = λ over. let all = behind.whole over in (
         all.0 ∙ ap done_end (or_assoc failed (is_failure given) (list_any is_failure behind.answers)),
         ap suc all.1,
-        Appends-trans before.lines between.lines after.lines (lines_of way s given) (report way scripts behind.answers) line all.2,
+        Appends-trans before.lines between.lines after.lines (lines_of way s given)
+            (report way scripts behind.answers) line all.2,
         all.3,
       );
     }
 
 -- what a run has written
-pub writes_ends : (old new : Option (List HostCall)) (way : ScriptOptions) (dir : List ℕ) (pauses : ℕ) (rc now : RcState) (before after : Output) (ended : RunEnd)
-    → Since old new (RunsLinks way dir pauses false rc before ended now after) → WritesEnds way rc before.lines ended now after.lines
+pub writes_ends : (old new : Option (List HostCall)) (way : ScriptOptions) (dir : List ℕ) (pauses : ℕ)
+    (rc now : RcState) (before after : Output) (ended : RunEnd)
+    → Since old new (RunsLinks way dir pauses false rc before ended now after)
+    → WritesEnds way rc before.lines ended now after.lines
 writes_ends old new way dir pauses rc now before after ended (calls, told, runs) = by rc.waits refl
   where
     by : (waits : Bool) → rc.waits ≡ waits → WritesEnds way rc before.lines ended now after.lines
     by true is = let same = runs.waits is in record {
       answers = [];
-      part = subst (λ (b : Output). AppendsPrefix before.lines b.lines (report way rc.left [])) (sym same.2) (AppendsPrefix-none before.lines (report way rc.left []));
+      part = subst (λ (b : Output). AppendsPrefix before.lines b.lines (report way rc.left [])) (sym same.2)
+          (AppendsPrefix-none before.lines (report way rc.left []));
       whole = λ over. absurd (true≢false (sym over ∙ ap is_over same.0));
       waits = λ early. subst (λ (r : RcState). r.waits ≡ true) (sym same.1) is;
     }

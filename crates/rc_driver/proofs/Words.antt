@@ -1,14 +1,19 @@
 -- The words of the proofs of this crate.
-pub use Rattle.std.proofs.Common.{◌≡◌, refl, ap, ◌∙◌, subst, cond, nat_lt, ℕ, ◌+◌, ◌-◌, Bool, true, false, List, [], ◌∷◌, ◌++◌, length, filter, Option, Some, None, Result, Ok, Err, arith, ◌≢◌, ◌⊎◌, sym, inl, inr, codes, OnOk, IfErr, suc, not, ◌||◌, IfOk, ◌*◌}
+pub use Rattle.std.proofs.Common.{◌≡◌, refl, ap, ◌∙◌, subst, cond, nat_lt, ℕ, ◌+◌, ◌-◌, Bool, true, false, List, []}
+pub use Rattle.std.proofs.Common.{◌∷◌, ◌++◌, length, filter, Option, Some, None, Result, Ok, Err, arith, ◌≢◌, ◌⊎◌, sym}
+pub use Rattle.std.proofs.Common.{inl, inr, codes, OnOk, IfErr, suc, not, ◌||◌, IfOk, ◌*◌}
 pub use Rattle.host_calls.specs.Calls.{HostCall, AddsCall}
 pub use Rattle.host_calls.specs.Record.{Since}
 pub use Rattle.host_calls.proofs.Record.{Since-map, Since-one, Since-then, Since-none}
 pub use Rattle.rc_runs.specs.declared.runs.RcAnswer.{RcAnswer}
 pub use Rattle.rc_runs.specs.declared.runs.ScriptOptions.{ScriptOptions}
 pub use Rattle.program_io.specs.Writing.{AppendsPrefix}
-pub use Rattle.rc_driver.specs.Parts.{Begins, EndsEarly, Goes, GoesFurther, GoneTo, HasRun, Advanced, EndsCommand, is_born, is_found}
-pub use Rattle.rc_driver.specs.Progress.{RunsTo, by_late, by_look, by_reply, by_start, count_pauses, is_pause, is_waiting, script_id}
-pub use Rattle.rc_driver.specs.Report.{Tells, command_text, Output, TellsStart, WritesEnds, begin_line, done_end, is_over, line_of, lines_of, report, output}
+pub use Rattle.rc_driver.specs.Parts.{Begins, EndsEarly, Goes, GoesFurther, GoneTo, HasRun, Advanced, EndsCommand}
+pub use Rattle.rc_driver.specs.Parts.{is_born, is_found}
+pub use Rattle.rc_driver.specs.Progress.{RunsTo, by_late, by_look, by_reply, by_start, count_pauses, is_pause}
+pub use Rattle.rc_driver.specs.Progress.{is_waiting, script_id}
+pub use Rattle.rc_driver.specs.Report.{Tells, command_text, Output, TellsStart, WritesEnds, begin_line, done_end}
+pub use Rattle.rc_driver.specs.Report.{is_over, line_of, lines_of, report, output}
 pub use Rattle.rc_driver.specs.Times.{due_by, due_signal, signal_line, time_lines, timer_at, timer_by}
 pub use Rattle.std.specs.Io.KnownBytes.{Appends}
 pub use Rattle.std.proofs.KnownBytes.{Appends-nil, Appends-trans}

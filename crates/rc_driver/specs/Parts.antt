@@ -43,7 +43,8 @@ HasRun way dir link command given pauses still told tells calls = (time : Timer)
     × Tells told tells (time_lines way dir link time)
 
 -- so many pauses are used up, and the script has not come to its end
-abbrev pub EndsEarly : ScriptOptions → List ℕ → List ℕ → List ℕ → ℕ → Option (List ℕ) → Option (List ℕ) → List HostCall → Type 0
+abbrev pub EndsEarly : ScriptOptions → List ℕ → List ℕ → List ℕ → ℕ → Option (List ℕ) → Option (List ℕ) → List HostCall
+    → Type 0
 EndsEarly way dir link command pauses told tells calls = (now : Progress) × (time : Timer) × (is_waiting now ≡ true)
     × RunsTo way.seconds command now time calls × (count_pauses calls ≡ pauses)
     × Tells told tells (time_lines way dir link time)
@@ -58,7 +59,8 @@ is_found progress.Found = true
 is_found _ = false
 
 -- the script that a command starts came to no end with so many pauses, and is named; or its line was not written
-abbrev pub EndsCommand : ScriptOptions → List ℕ → List ℕ → ℕ → LinkRun → Output → RunEnd → Output → List HostCall → Type 0
+abbrev pub EndsCommand : ScriptOptions → List ℕ → List ℕ → ℕ → LinkRun → Output → RunEnd → Output → List HostCall
+    → Type 0
 EndsCommand way dir command pauses s before (run_end.Limit link) after calls = (link.now ≡ s.0)
     × EndsEarly way dir s.0 command pauses before.told after.told calls × (after.lines ≡ before.lines)
 EndsCommand way dir command pauses s before run_end.Write after calls = (given : RcAnswer)
@@ -67,7 +69,8 @@ EndsCommand way dir command pauses s before run_end.Write after calls = (given :
 EndsCommand way dir command pauses s before _ after calls = ⊥
 
 -- the next script was handed out, ran to its end, and its lines were written
-abbrev pub Advanced : ScriptOptions → List ℕ → ℕ → ℕ → Bool → Bool → RcState → Output → RcState → Output → List HostCall → Type 0
+abbrev pub Advanced : ScriptOptions → List ℕ → ℕ → ℕ → Bool → Bool → RcState → Output → RcState → Output → List HostCall
+    → Type 0
 Advanced way dir pauses still failed fails old before new after calls = (s : LinkRun) × (given : RcAnswer)
     × (old.waits ≡ false) × (old.left ≡ s ∷ new.left) × (new.waits ≡ false) × (fails ≡ (failed || is_failure given))
     × HasRun way dir s.0 (command_text way dir s) given pauses still before.told after.told calls

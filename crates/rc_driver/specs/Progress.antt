@@ -1,5 +1,6 @@
 -- The calls of a host by which one script is run, the newest first, and how far the script is by them.
-use Rattle.std.specs.Prelude.{◌≡◌, ℕ, Bool, true, false, if◌then◌else◌, List, [], ◌∷◌, length, filter, codes, Option, Some, None}
+use Rattle.std.specs.Prelude.{◌≡◌, ℕ, Bool, true, false, if◌then◌else◌, List, [], ◌∷◌, length, filter, codes, Option}
+use Rattle.std.specs.Prelude.{Some, None}
 use Rattle.init_words.specs.Ids.{same_id}
 use Rattle.init_words.specs.declared.orders.Answer.{Answer}
 use Rattle.init_words.specs.declared.orders.Answer.TheVariants as given
@@ -52,10 +53,10 @@ is_waiting progress.Asked = true
 is_waiting progress.Living = true
 is_waiting _ = false
 
--- The calls run the script that this text starts, within a limit of seconds, where it has one; by their answers it is so
--- far, and its time stands so. It was started once, under the id of scripts; it is looked at where it was born or is due
--- again; where it was found alive and has a limit, the clock is read, and the signal is sent that is due by it; while it
--- waits or lives there is a pause, and an answer that came later is asked for.
+-- The calls run the script that this text starts, within a limit of seconds, where it has one; by their answers it is
+-- so far, and its time stands so. It was started once, under the id of scripts; it is looked at where it was born or
+-- is due again; where it was found alive and has a limit, the clock is read, and the signal is sent that is due by
+-- it; while it waits or lives there is a pause, and an answer that came later is asked for.
 abbrev pub RunsTo : Option ℕ → List ℕ → Progress → Timer → List HostCall → Type 0
 RunsTo limit command now time (call.Start id text reply ∷ calls) = (id ≡ script_id) × (text ≡ command) × (calls ≡ [])
     × (now ≡ by_reply (by_start limit) reply) × (time ≡ timer.Unread)

@@ -1,5 +1,6 @@
 -- What is written of the scripts that were run, and how a run over a host ends.
-use Rattle.std.specs.Prelude.{◌≡◌, ℕ, Bool, true, false, if◌then◌else◌, List, [], ◌∷◌, ◌++◌, length, codes, decimal, Option, Some, None}
+use Rattle.std.specs.Prelude.{◌≡◌, ℕ, Bool, true, false, if◌then◌else◌, List, [], ◌∷◌, ◌++◌, length, codes, decimal}
+use Rattle.std.specs.Prelude.{Option, Some, None}
 use Rattle.std.specs.List.{list_any}
 use Rattle.std.specs.Io.KnownBytes.{Appends}
 use Rattle.init_words.specs.Levels.{level_code}
@@ -81,7 +82,8 @@ before_code None = 78
 -- env(1), which sets the two levels for a script (init(8)), where scripts have them
 abbrev pub level_words : Option LevelChange → List ℕ
 level_words None = []
-level_words (Some change) = codes "env RUNLEVEL=" ++ (level_code change.new ∷ (codes " PREVLEVEL=" ++ (before_code change.before ∷ codes " ")))
+level_words (Some change) =
+    codes "env RUNLEVEL=" ++ (level_code change.new ∷ (codes " PREVLEVEL=" ++ (before_code change.before ∷ codes " ")))
 
 -- what starts a script, whose link stands in the folder
 abbrev pub command_text : ScriptOptions → List ℕ → LinkRun → List ℕ
@@ -104,8 +106,8 @@ is_over run_end.Failed = true
 is_over _ = false
 
 -- how a run over a host changes the run of the scripts and a writer's bytes. Lines of the scripts that were left were
--- written, each with an end (which one the host answered is not said): of all of them, where the run is over, which says
--- whether one failed; else as far as it came, and the last script that was handed out is not answered
+-- written, each with an end (which one the host answered is not said): of all of them, where the run is over, which
+-- says whether one failed; else as far as it came, and the last script that was handed out is not answered
 pub record WritesEnds (way : ScriptOptions) (old : RcState) (before : Option (List ℕ)) (ended : RunEnd) (new : RcState)
     (after : Option (List ℕ)) : Type 0 where
   pub answers : List RcAnswer

@@ -1,5 +1,6 @@
 -- The time of a script that has a limit: when it is sent a signal, and what is told of that.
-use Rattle.std.specs.Prelude.{ℕ, nat_lt, if◌then◌else◌, List, [], ◌∷◌, ◌++◌, ◌-◌, codes, decimal, Option, Some, None, Result, Ok, Err, unwrap_or}
+use Rattle.std.specs.Prelude.{ℕ, nat_lt, if◌then◌else◌, List, [], ◌∷◌, ◌++◌, ◌-◌, codes, decimal, Option, Some, None}
+use Rattle.std.specs.Prelude.{Result, Ok, Err, unwrap_or}
 use Rattle.init_words.specs.declared.limits.TheConstants.{GRACE}
 use Rattle.init_words.specs.declared.orders.SignalKind.{SignalKind}
 use Rattle.init_words.specs.declared.orders.SignalKind.TheVariants as sig

@@ -11,7 +11,8 @@ use Rattle.rc_runs.specs.declared.runs.RcAnswer.{RcAnswer}
 use Rattle.rc_runs.specs.declared.runs.ScriptOptions.{ScriptOptions}
 use Rattle.rc_driver.specs.declared.times.Timer.{Timer}
 use Rattle.rc_driver.specs.Progress.{RunsTo, count_pauses, is_waiting}
-use Rattle.rc_driver.specs.Report.{Output, Tells, TellsStart, begin_line, command_text, done_end, is_over, line_of, lines_of}
+use Rattle.rc_driver.specs.Report.{Output, Tells, TellsStart, begin_line, command_text, done_end, is_over, line_of}
+use Rattle.rc_driver.specs.Report.{lines_of}
 use Rattle.rc_runs.specs.Runs.{LinkRun, RcState, is_failure}
 use Rattle.rc_driver.specs.Times.{time_lines}
 
@@ -24,7 +25,8 @@ RanBy way dir command pauses s given told tells calls = (time : Timer)
     × Tells told tells (time_lines way dir s.0 time)
 
 -- the calls run the script of a link
-abbrev pub Ran : ScriptOptions → List ℕ → ℕ → LinkRun → RcAnswer → Option (List ℕ) → Option (List ℕ) → List HostCall → Type 0
+abbrev pub Ran : ScriptOptions → List ℕ → ℕ → LinkRun → RcAnswer → Option (List ℕ) → Option (List ℕ) → List HostCall
+    → Type 0
 Ran way dir pauses s given told tells calls =
     RanBy way dir (command_text way dir s) pauses s given told tells calls
 

@@ -1,5 +1,8 @@
 -- A script that stands in a runlevel which its header doesn't name, at each of its changes; and what can't be had.
-use Rattle.rc_links.proofs.Words.{◌≡◌, ℕ, true, List, [], ◌∷◌, ◌++◌, map, take, codes, refl, byte, Level, L2, L3, L5, ChangeText, changes_of, is_in_way, making, removal, entry_of, EntryText, FolderText, folder_text, kept_plan, kept_script, levels_in, linked_name, links_at, AreApart, Stays, behind, PlannedText}
+use Rattle.rc_links.proofs.Words.{◌≡◌, ℕ, true, List, [], ◌∷◌, ◌++◌, map, take, codes, refl, byte, Level, L2, L3, L5}
+use Rattle.rc_links.proofs.Words.{ChangeText, changes_of, is_in_way, making, removal, entry_of, EntryText, FolderText}
+use Rattle.rc_links.proofs.Words.{folder_text, kept_plan, kept_script, levels_in, linked_name, links_at, AreApart}
+use Rattle.rc_links.proofs.Words.{Stays, behind, PlannedText}
 use Rattle.std.proofs.Common.{flat_map}
 use Rattle.rc_links.proofs.MendingLemmas.{all_own, kept_stays}
 
@@ -20,7 +23,8 @@ abbrev planned : Level → List EntryText
 planned level = map link (links_at (kept_plan read (net ∷ web ∷ [])) level)
 
 abbrev folders : List FolderText
-folders = folder_text L3 (planned L3) (link (codes "S20web") ∷ link (codes "S01net") ∷ []) ∷ folder_text L5 (planned L5) [] ∷ []
+folders = folder_text L3 (planned L3) (link (codes "S20web") ∷ link (codes "S01net") ∷ [])
+    ∷ folder_text L5 (planned L5) [] ∷ []
 
 abbrev targets : List (List ℕ)
 targets = codes "../init.d/net" ∷ codes "../init.d/web" ∷ []
@@ -56,5 +60,6 @@ named_otherwise = refl
 abbrev bare : List FolderText
 bare = folder_text L2 (link (codes "S01net") ∷ []) [] ∷ folder_text L3 (link (codes "S01net") ∷ []) [] ∷ []
 
-first_links : kept_script (map (behind (take 1 (flat_map (changes_of targets) bare))) bare) net ≡ record net { starts = L2 ∷ [] }
+first_links : kept_script (map (behind (take 1 (flat_map (changes_of targets) bare))) bare) net
+    ≡ record net { starts = L2 ∷ [] }
 first_links = refl

@@ -1,5 +1,6 @@
 -- The runlevels of the links that folders hold, and links whose script is gone.
-use Rattle.std.specs.Prelude.{ℕ, Bool, true, false, not, ◌==◌, ◌&&◌, if◌then◌else◌, List, [], ◌∷◌, map, drop, take, codes}
+use Rattle.std.specs.Prelude.{ℕ, Bool, true, false, not, ◌==◌, ◌&&◌, if◌then◌else◌, List, [], ◌∷◌, map, drop, take}
+use Rattle.std.specs.Prelude.{codes}
 use Rattle.std.specs.List.{filter, list_any}
 use Rattle.std.specs.Str.{byte, bytes_eq}
 use Rattle.init_words.specs.declared.levels.Level.{Level}

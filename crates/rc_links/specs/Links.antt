@@ -1,5 +1,6 @@
 -- The links of a plan, and the text that lists them (LSB Core 5.0).
-use Rattle.std.specs.Prelude.{◌≡◌, ℕ, Vec, ◌+◌, ◌/◌, ◌%◌, Bool, if◌then◌else◌, List, [], ◌∷◌, ◌++◌, map, drop, flat_map, codes}
+use Rattle.std.specs.Prelude.{◌≡◌, ℕ, Vec, ◌+◌, ◌/◌, ◌%◌, Bool, if◌then◌else◌, List, [], ◌∷◌, ◌++◌, map, drop, flat_map}
+use Rattle.std.specs.Prelude.{codes}
 use Rattle.std.specs.List.{filter, list_any}
 use Rattle.std.specs.Str.{byte}
 use Rattle.std.specs.Ordering.{nat_cmp, is_lt}

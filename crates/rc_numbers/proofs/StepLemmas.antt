@@ -1,5 +1,8 @@
 -- Needs in another order, and the steps along which a search leads.
-use Rattle.rc_numbers.proofs.Words.{◌≡◌, ℕ, zero, suc, ◌+◌, ◌-◌, ◌<◌, Bool, true, false, cond, ◌==◌, List, [], ◌∷◌, ◌++◌, Option, Some, None, is_some, length, get_or, take, drop, set, replicate, refl, sym, ap, ◌∙◌, subst, arith, inl, inr, true≢false, eqb-true, eq-eqb, take_rest, get_or-drop, AreSteps, InRange, IsRing, Needs, Walk}
+use Rattle.rc_numbers.proofs.Words.{◌≡◌, ℕ, zero, suc, ◌+◌, ◌-◌, ◌<◌, Bool, true, false, cond, ◌==◌, List, [], ◌∷◌}
+use Rattle.rc_numbers.proofs.Words.{◌++◌, Option, Some, None, is_some, length, get_or, take, drop, set, replicate, refl}
+use Rattle.rc_numbers.proofs.Words.{sym, ap, ◌∙◌, subst, arith, inl, inr, true≢false, eqb-true, eq-eqb, take_rest}
+use Rattle.rc_numbers.proofs.Words.{get_or-drop, AreSteps, InRange, IsRing, Needs, Walk}
 use Rattle.std.specs.List.{All}
 use Rattle.std.specs.List.Sorted.{IsPermutation}
 use Rattle.std.proofs.lemmas.List.Sorted.{All-permutation}
@@ -7,7 +10,8 @@ use Rattle.rc_numbers.proofs.PassLemmas.{Needs-range}
 use Rattle.rc_numbers.proofs.CycleLemmas.{Trail, Trail-push, Trail-ring}
 
 -- each of the needs is one of them
-pub need_at : (edges : List (ℕ × ℕ)) (k : ℕ) (d : ℕ × ℕ) → k < length edges → Needs edges (get_or edges k d).0 (get_or edges k d).1
+pub need_at : (edges : List (ℕ × ℕ)) (k : ℕ) (d : ℕ × ℕ) → k < length edges
+    → Needs edges (get_or edges k d).0 (get_or edges k d).1
 need_at [] k d within = absurd (omega arith)
 need_at (e ∷ edges) zero d within = inl (refl, refl)
 need_at (e ∷ edges) (suc k) d within = inr (need_at edges k d (omega arith))
@@ -17,10 +21,13 @@ abbrev pub AreNeeds : List (ℕ × ℕ) → List (ℕ × ℕ) → Type 0
 AreNeeds edges needs = All (λ need. Needs edges need.0 need.1) needs
 
 pub AreNeeds-permutation : (edges needs : List (ℕ × ℕ)) → IsPermutation edges needs → AreNeeds edges needs
-AreNeeds-permutation edges needs same = All-permutation (λ need. Needs edges need.0 need.1) edges needs same (λ k d within. need_at edges k d within)
+AreNeeds-permutation edges needs same =
+    All-permutation (λ need. Needs edges need.0 need.1) edges needs same (λ k d within. need_at edges k d within)
 
-pub InRange-needs : (count : ℕ) (edges needs : List (ℕ × ℕ)) → InRange count edges → AreNeeds edges needs → InRange count needs
-InRange-needs count edges needs range are k within = Needs-range count edges (get_or needs k (0, 0)).0 (get_or needs k (0, 0)).1 range (are k (0, 0) within)
+pub InRange-needs : (count : ℕ) (edges needs : List (ℕ × ℕ)) → InRange count edges → AreNeeds edges needs
+    → InRange count needs
+InRange-needs count edges needs range are k within =
+    Needs-range count edges (get_or needs k (0, 0)).0 (get_or needs k (0, 0)).1 range (are k (0, 0) within)
 
 Needs-weaken : (edges needs : List (ℕ × ℕ)) (a b : ℕ) → AreNeeds edges needs → Needs needs a b → Needs edges a b
 Needs-weaken edges [] a b are need = absurd need
@@ -32,11 +39,14 @@ Needs-weaken edges (e ∷ needs) a b are need = elim need [
   | inr later ↦ Needs-weaken edges needs a b (λ k d within. are (suc k) d (omega arith)) later
 ]
 
-Walk-weaken : (edges needs : List (ℕ × ℕ)) (a : ℕ) (xs : List ℕ) (b : ℕ) → AreNeeds edges needs → Walk needs a xs b → Walk edges a xs b
+Walk-weaken : (edges needs : List (ℕ × ℕ)) (a : ℕ) (xs : List ℕ) (b : ℕ) → AreNeeds edges needs → Walk needs a xs b
+    → Walk edges a xs b
 Walk-weaken edges needs a [] b are walk = Needs-weaken edges needs a b are walk
-Walk-weaken edges needs a (x ∷ xs) b are walk = (Needs-weaken edges needs a x are walk.0, Walk-weaken edges needs x xs b are walk.1)
+Walk-weaken edges needs a (x ∷ xs) b are walk =
+    (Needs-weaken edges needs a x are walk.0, Walk-weaken edges needs x xs b are walk.1)
 
-pub IsRing-weaken : (edges needs : List (ℕ × ℕ)) (ring : List ℕ) → AreNeeds edges needs → IsRing needs ring → IsRing edges ring
+pub IsRing-weaken : (edges needs : List (ℕ × ℕ)) (ring : List ℕ) → AreNeeds edges needs → IsRing needs ring
+    → IsRing edges ring
 IsRing-weaken edges needs [] are is = is
 IsRing-weaken edges needs (a ∷ xs) are is = Walk-weaken edges needs a xs a are is
 
@@ -51,7 +61,8 @@ set_here [] a b within = absurd (omega arith)
 set_here (x ∷ steps) zero b within = refl
 set_here (x ∷ steps) (suc a) b within = set_here steps a b (omega arith)
 
-set_other : (steps : List (Option ℕ)) (a v b : ℕ) → (a ≡ v → ⊥) → get_or (set steps a (Some b)) v None ≡ get_or steps v None
+set_other : (steps : List (Option ℕ)) (a v b : ℕ) → (a ≡ v → ⊥)
+    → get_or (set steps a (Some b)) v None ≡ get_or steps v None
 set_other [] a v b other = refl
 set_other (x ∷ steps) zero zero b other = absurd (other refl)
 set_other (x ∷ steps) zero (suc v) b other = refl
@@ -61,7 +72,8 @@ set_other (x ∷ steps) (suc a) (suc v) b other = set_other steps a v b (λ e. o
 some_same : (b u : ℕ) → ◌≡◌ {A = Option ℕ} (Some b) (Some u) → b ≡ u
 some_same b u e = cc
 
-set_by : (edges : List (ℕ × ℕ)) (steps : List (Option ℕ)) (a b v u : ℕ) (y : Bool) → (a == v) ≡ y → a < length steps → Needs edges a b → AreSteps edges steps → get_or (set steps a (Some b)) v None ≡ Some u → Needs edges v u
+set_by : (edges : List (ℕ × ℕ)) (steps : List (Option ℕ)) (a b v u : ℕ) (y : Bool) → (a == v) ≡ y → a < length steps
+    → Needs edges a b → AreSteps edges steps → get_or (set steps a (Some b)) v None ≡ Some u → Needs edges v u
 set_by edges steps a b v u true here within need old is =
     let e : a ≡ v = eqb-true a v here in
     let P : ℕ → Type 0 = λ c. get_or (set steps a (Some b)) c None ≡ Some u in
@@ -73,16 +85,19 @@ set_by edges steps a b v u true here within need old is =
 set_by edges steps a b v u false other within need old is =
     old v u (sym (set_other steps a v b (λ e. true≢false (sym (eq-eqb a v e) ∙ other))) ∙ is)
 
-met_by : (edges : List (ℕ × ℕ)) (steps : List (Option ℕ)) (a b : ℕ) (y : Bool) → a < length steps → Needs edges a b → AreSteps edges steps → AreSteps edges (cond y steps (set steps a (Some b)))
+met_by : (edges : List (ℕ × ℕ)) (steps : List (Option ℕ)) (a b : ℕ) (y : Bool) → a < length steps → Needs edges a b
+    → AreSteps edges steps → AreSteps edges (cond y steps (set steps a (Some b)))
 met_by edges steps a b true within need old v u is = old v u is
 met_by edges steps a b false within need old v u is = set_by edges steps a b v u (a == v) refl within need old is
 
 -- a place is given a step where it has none
-pub AreSteps-met : (edges : List (ℕ × ℕ)) (steps : List (Option ℕ)) (a b : ℕ) → a < length steps → Needs edges a b → AreSteps edges steps → AreSteps edges (cond (is_some (get_or steps a None)) steps (set steps a (Some b)))
+pub AreSteps-met : (edges : List (ℕ × ℕ)) (steps : List (Option ℕ)) (a b : ℕ) → a < length steps → Needs edges a b
+    → AreSteps edges steps → AreSteps edges (cond (is_some (get_or steps a None)) steps (set steps a (Some b)))
 AreSteps-met edges steps a b within need old = met_by edges steps a b (is_some (get_or steps a None)) within need old
 
 -- the needs from one on
-pub rest_at : (needs : List (ℕ × ℕ)) (first i : ℕ) → get_or (take (length needs - first) (drop first needs)) i (0, 0) ≡ get_or needs (first + i) (0, 0)
+pub rest_at : (needs : List (ℕ × ℕ)) (first i : ℕ)
+    → get_or (take (length needs - first) (drop first needs)) i (0, 0) ≡ get_or needs (first + i) (0, 0)
 rest_at needs first i = rw (take_rest, get_or-drop first needs i (0, 0)) refl
 
 some_position : (path : List ℕ) (at : ℕ) → 0 < length (path ++ at ∷ [])
@@ -90,11 +105,14 @@ some_position [] at = omega arith
 some_position (x ∷ path) at = omega arith
 
 -- the first place of a path that grows
-pub first_kept : (path : List ℕ) (at next : ℕ) → get_or ((path ++ at ∷ []) ++ next ∷ []) 0 0 ≡ get_or (path ++ at ∷ []) 0 0
+pub first_kept : (path : List ℕ) (at next : ℕ)
+    → get_or ((path ++ at ∷ []) ++ next ∷ []) 0 0 ≡ get_or (path ++ at ∷ []) 0 0
 first_kept [] at next = refl
 first_kept (x ∷ path) at next = refl
 
 -- a path that leads to its own first place
-pub path_closed : (edges : List (ℕ × ℕ)) (path : List ℕ) (at next position : ℕ) → Trail edges path at → Needs edges at next → get_or (path ++ at ∷ []) 0 0 ≡ position → next ≡ position → IsRing edges (path ++ at ∷ [])
+pub path_closed : (edges : List (ℕ × ℕ)) (path : List ℕ) (at next position : ℕ) → Trail edges path at
+    → Needs edges at next → get_or (path ++ at ∷ []) 0 0 ≡ position → next ≡ position → IsRing edges (path ++ at ∷ [])
 path_closed edges path at next position trail need first back =
-    Trail-ring edges (path ++ at ∷ []) next 0 (Trail-push edges path at next trail need) (some_position path at) (first ∙ sym back)
+    Trail-ring edges (path ++ at ∷ []) next 0 (Trail-push edges path at next trail need) (some_position path at)
+    (first ∙ sym back)

@@ -1,5 +1,6 @@
 -- How numbers are given, pass by pass: 0 is no number.
-use Rattle.std.specs.Prelude.{◌≡◌, ℕ, ◌+◌, ◌<◌, ◌≤◌, ◌==◌, ◌||◌, ◌&&◌, max, if◌then◌else◌, List, [], ◌∷◌, get_or, length}
+use Rattle.std.specs.Prelude.{◌≡◌, ℕ, ◌+◌, ◌<◌, ◌≤◌, ◌==◌, ◌||◌, ◌&&◌, max, if◌then◌else◌, List, [], ◌∷◌, get_or}
+use Rattle.std.specs.Prelude.{length}
 use Rattle.rc_numbers.specs.Numbering.{Needs, AtMostAny}
 
 -- a height after one more need of this number: none where the need has none

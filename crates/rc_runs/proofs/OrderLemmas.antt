@@ -1,8 +1,9 @@
 -- What a sort and a removal of doubles leave of borrowed names.
-use Rattle.rc_runs.proofs.Words.{◌≡◌, ℕ, Bool, true, false, cond, List, [], ◌∷◌, map, refl, ap, dedup, dedup_from, bytes_eq}
+use Rattle.rc_runs.proofs.Words.{◌≡◌, ℕ, Bool, true, false, cond, List, [], ◌∷◌, map, refl, ap, dedup, dedup_from}
+use Rattle.rc_runs.proofs.Words.{bytes_eq}
 
-by_same : {V : Type 0} (key : V → List ℕ) (same : Bool) (first : V) (xs ys : List V) (us ws : List (List ℕ)) → map key xs ≡ us
-    → map key ys ≡ ws → map key (cond same xs (first ∷ ys)) ≡ cond same us (key first ∷ ws)
+by_same : {V : Type 0} (key : V → List ℕ) (same : Bool) (first : V) (xs ys : List V) (us ws : List (List ℕ))
+    → map key xs ≡ us → map key ys ≡ ws → map key (cond same xs (first ∷ ys)) ≡ cond same us (key first ∷ ws)
 by_same key true first xs ys us ws left right = left
 by_same key false first xs ys us ws left right = ap (λ rest. key first ∷ rest) right
 

@@ -1,5 +1,7 @@
 -- Of a folder that holds the links of a plan just these are run.
-use Rattle.rc_runs.proofs.Words.{◌≡◌, ℕ, Bool, true, not, List, [], ◌∷◌, ◌++◌, refl, sym, ap, ◌∙◌, arith, dedup, filter, byte, bytes_eq, in_byte_order-moves, one_order, is_link, is_skipped, is_started, rc_run, with_arg}
+use Rattle.rc_runs.proofs.Words.{◌≡◌, ℕ, Bool, true, not, List, [], ◌∷◌, ◌++◌, refl, sym, ap, ◌∙◌, arith, dedup, filter}
+use Rattle.rc_runs.proofs.Words.{byte, bytes_eq, in_byte_order-moves, one_order, is_link, is_skipped, is_started}
+use Rattle.rc_runs.proofs.Words.{rc_run, with_arg}
 use Rattle.std.proofs.lemmas.Bool.Decides.{nat_tests}
 use Rattle.std.proofs.lemmas.List.{append-nil}
 use Rattle.std.proofs.lemmas.List.Elements.{filter-append}
@@ -30,7 +32,8 @@ stops-S level (s ∷ plan) = grind (arith, stops-S level plan)
 starts-S : (level : Level) (plan : List PlannedText) → AreNamed plan
     → filter (is_link (byte "S")) (start_links level plan) ≡ start_links level plan
 starts-S level [] named = refl
-starts-S level (s ∷ plan) named = grind (arith, made_link (byte "S") s.start s.name named.0, starts-S level plan named.1)
+starts-S level (s ∷ plan) named =
+    grind (arith, made_link (byte "S") s.start s.name named.0, starts-S level plan named.1)
 
 starts-K : (level : Level) (plan : List PlannedText) → filter (is_link (byte "K")) (start_links level plan) ≡ []
 starts-K level [] = refl

@@ -103,8 +103,8 @@ over_parts true faults is = absurd (true≢false (sym is))
 over_parts false [] is = absurd (true≢false (sym is))
 over_parts false (found ∷ faults) is = (refl, λ none. nil_is_no_cons found faults (sym none))
 
-pub not_over : (keeps_going : Bool) (faults : List FileFault) → (not keeps_going && has_faults faults) ≡ false → keeps_going ≡ false
-    → faults ≡ []
+pub not_over : (keeps_going : Bool) (faults : List FileFault) → (not keeps_going && has_faults faults) ≡ false
+    → keeps_going ≡ false → faults ≡ []
 not_over true faults is plain = absurd (true≢false plain)
 not_over false [] is plain = refl
 not_over false (found ∷ faults) is plain = absurd (true≢false is)

@@ -17,7 +17,8 @@ KnownScripts = List ℕ → Option (List EntryText)
 -- each folder that is known holds what this says of what it held
 abbrev pub Becomes : KnownFolders → KnownFolders → (List ℕ → Level → List EntryText → List EntryText) → Type 0
 Becomes old new f =
-    (dir : List ℕ) (level : Level) (es : List EntryText) → old dir level ≡ Some es → new dir level ≡ Some (f dir level es)
+    (dir : List ℕ) (level : Level) (es : List EntryText) → old dir level ≡ Some es
+    → new dir level ≡ Some (f dir level es)
 
 -- each folder that is known holds what it held
 abbrev pub Stays : KnownFolders → KnownFolders → Type 0

@@ -1,5 +1,6 @@
 -- Scripts that are left out, since those that are there have no plan with them.
-use Rattle.std.specs.Prelude.{string_bytes, ◌≡◌, ℕ, ◌+◌, Bool, true, false, ◌&&◌, ◌||◌, List, [], ◌∷◌, ◌++◌, map, take, drop}
+use Rattle.std.specs.Prelude.{string_bytes, ◌≡◌, ℕ, ◌+◌, Bool, true, false, ◌&&◌, ◌||◌, List, [], ◌∷◌, ◌++◌, map, take}
+use Rattle.std.specs.Prelude.{drop}
 use Rattle.std.specs.List.{list_any}
 use Rattle.std.specs.Str.{bytes_eq}
 use Rattle.std.specs.declared.alloc.Global.{Global}
@@ -35,7 +36,8 @@ IsFaultAt scripts found position = (s : ScriptText) × (drop position scripts �
 
 -- scripts have no plan, and one that their fault is about is left out
 abbrev pub LeavesOne : List ScriptText → List ScriptText → Type 0
-LeavesOne scripts rest = (found : PlanFault Global) × (position : ℕ) × IsRefused scripts found × IsFaultAt scripts found position
+LeavesOne scripts rest = (found : PlanFault Global) × (position : ℕ) × IsRefused scripts found
+    × IsFaultAt scripts found position
     × (rest ≡ take position scripts ++ drop (position + 1) scripts)
 
 -- some scripts are left out so, one after the other, until these are the rest; the later ones stand first

@@ -1,6 +1,11 @@
 -- The laws of whole runs.
-use Rattle.respawn_limit.proofs.Words.{◌≡◌, ℕ, ◌+◌, ◌<◌, ◌≤◌, Bool, true, false, inl, inr, List, [], ◌∷◌, ◌++◌, length, refl, sym, ◌∙◌, ap, arith, nat_le, Option, Some, append_assoc, All, list_all, and_parts, cases_lt, le-leb, leb-true, nat_tests, append-nil, All-nil, All-push, All-weaker, sum_by-append, sum_by_push, HOLD, STARTS, WINDOW, Yes, LimiterState, is_full, answer, may_of, last_starts, with_start, Remembers}
-use Rattle.respawn_limit.specs.Past.{Event, Noted, HeldAt, Cleared, times_noted, hold_end, last_reading, is_yes, may_follow, is_run, is_no_clear, StandsAfter, StartsKeepPace, NoStartWhileHeld}
+use Rattle.respawn_limit.proofs.Words.{◌≡◌, ℕ, ◌+◌, ◌<◌, ◌≤◌, Bool, true, false, inl, inr, List, [], ◌∷◌, ◌++◌, length}
+use Rattle.respawn_limit.proofs.Words.{refl, sym, ◌∙◌, ap, arith, nat_le, Option, Some, append_assoc, All, list_all}
+use Rattle.respawn_limit.proofs.Words.{and_parts, cases_lt, le-leb, leb-true, nat_tests, append-nil, All-nil, All-push}
+use Rattle.respawn_limit.proofs.Words.{All-weaker, sum_by-append, sum_by_push, HOLD, STARTS, WINDOW, Yes, LimiterState}
+use Rattle.respawn_limit.proofs.Words.{is_full, answer, may_of, last_starts, with_start, Remembers}
+use Rattle.respawn_limit.specs.Past.{Event, Noted, HeldAt, Cleared, times_noted, hold_end, last_reading, is_yes}
+use Rattle.respawn_limit.specs.Past.{may_follow, is_run, is_no_clear, StandsAfter, StartsKeepPace, NoStartWhileHeld}
 use Rattle.respawn_limit.proofs.WindowLemmas.{count_all, answer-last_starts, Remembers-push}
 
 -- it remembers all starts that it was told of
@@ -20,18 +25,20 @@ StandsAfter-Noted limiter new past now stands late is =
     let known : Remembers (last_starts (limiter.starts ++ now ∷ [])) (times_noted past ++ now ∷ []) =
     Remembers-push limiter.starts (times_noted past) now (Remembers-StandsAfter limiter past stands) late in
     record {
-      state = is ∙ same_state (last_starts (limiter.starts ++ now ∷ [])) (last_starts (times_noted past ++ now ∷ [])) limiter.held (hold_end past)
+      state = is ∙ same_state (last_starts (limiter.starts ++ now ∷ []))
+          (last_starts (times_noted past ++ now ∷ [])) limiter.held (hold_end past)
           known.last (ap (λ (l : LimiterState). l.held) stands.state);
       ordered = known.ordered;
     }
   where
     same_state : (a b : List ℕ) (h k : Option ℕ) → a ≡ b → h ≡ k
-        → (let x : LimiterState = record { starts = a; held = h } in let y : LimiterState = record { starts = b; held = k } in x ≡ y)
+        → (let x : LimiterState = record { starts = a; held = h } in
+        let y : LimiterState = record { starts = b; held = k } in x ≡ y)
     same_state a b h k starts held = cc
 
 -- one more start that the limiter allows continues a run
-pub is_run-Noted : (limiter : LimiterState) (past : List Event) (now : ℕ) → StandsAfter limiter past → may_of limiter now ≡ Yes
-    → is_run past ≡ true → last_reading past ≤ now → is_run (Noted now ∷ past) ≡ true
+pub is_run-Noted : (limiter : LimiterState) (past : List Event) (now : ℕ) → StandsAfter limiter past
+    → may_of limiter now ≡ Yes → is_run past ≡ true → last_reading past ≤ now → is_run (Noted now ∷ past) ≡ true
 is_run-Noted limiter past now stands allowed run late = grind (arith, may_of-StandsAfter, le-leb)
 
 -- what came before is a run too
@@ -54,7 +61,8 @@ record NoneEarlier (between past : List Event) : Type 0 where
   starts : All (λ time. last_reading past ≤ time) (times_noted between)
   reading : last_reading past ≤ last_reading (between ++ past)
 
-none_earlier : (between past : List Event) → is_run (between ++ past) ≡ true → list_all is_no_clear between ≡ true → NoneEarlier between past
+none_earlier : (between past : List Event) → is_run (between ++ past) ≡ true → list_all is_no_clear between ≡ true
+    → NoneEarlier between past
 none_earlier [] past run kept = record { starts = All-nil (λ time. last_reading past ≤ time); reading = omega arith }
 none_earlier (Noted time ∷ between) past run kept =
     let parts : (may_follow (between ++ past) (Noted time) ≡ true) × (is_run (between ++ past) ≡ true) =
@@ -76,15 +84,18 @@ none_earlier (HeldAt time ∷ between) past run kept =
 none_earlier (Cleared ∷ between) past run kept = cc
 
 -- at a yes the window isn't full
-room_at_yes : (noted : List ℕ) (end : Option ℕ) (now : ℕ) → is_yes (answer noted end now) ≡ true → is_full noted now ≡ false
+room_at_yes : (noted : List ℕ) (end : Option ℕ) (now : ℕ) → is_yes (answer noted end now) ≡ true
+    → is_full noted now ≡ false
 room_at_yes noted end now says = grind arith
 
 -- at a yes the hold is over
-over_at_yes : (noted : List ℕ) (held : Option ℕ) (end now : ℕ) → held ≡ Some end → is_yes (answer noted held now) ≡ true → end ≤ now
+over_at_yes : (noted : List ℕ) (held : Option ℕ) (end now : ℕ) → held ≡ Some end → is_yes (answer noted held now) ≡ true
+    → end ≤ now
 over_at_yes noted held end now is says = grind arith
 
 -- a start in a run was noted at a yes
-yes_at_start : (past : List Event) (now : ℕ) → is_run (Noted now ∷ past) ≡ true → is_yes (answer (times_noted past) (hold_end past) now) ≡ true
+yes_at_start : (past : List Event) (now : ℕ) → is_run (Noted now ∷ past) ≡ true
+    → is_yes (answer (times_noted past) (hold_end past) now) ≡ true
 yes_at_start past now run = grind arith
 
 -- a hold that ends five minutes after this moment or later
@@ -103,9 +114,11 @@ hold_stands (Noted time ∷ between) earlier hold run kept =
     record { end = before.end; is = before.is; late = before.late }
 hold_stands (HeldAt time ∷ between) earlier hold run kept =
     let rest : List Event = between ++ (HeldAt hold ∷ earlier) in
-    let parts : (may_follow rest (HeldAt time) ≡ true) × (is_run rest ≡ true) = and_parts (may_follow rest (HeldAt time)) (is_run rest) run in
+    let parts : (may_follow rest (HeldAt time) ≡ true) × (is_run rest ≡ true) =
+    and_parts (may_follow rest (HeldAt time)) (is_run rest) run in
     let since : last_reading rest ≤ time = leb-true _ _ parts.0 in
-    let readings : NoneEarlier between (HeldAt hold ∷ earlier) = none_earlier between (HeldAt hold ∷ earlier) parts.1 kept in
+    let readings : NoneEarlier between (HeldAt hold ∷ earlier) =
+    none_earlier between (HeldAt hold ∷ earlier) parts.1 kept in
     let reading : hold ≤ last_reading rest = readings.reading in
     record { end = time + HOLD; is = refl; late = omega arith }
 hold_stands (Cleared ∷ between) earlier hold run kept = cc
@@ -123,8 +136,8 @@ no_start_while_held later between earlier hold start run kept =
     omega arith
 
 -- ten starts of which none is earlier than the first all count within two minutes of it
-full_within : (before after : List ℕ) (first now : ℕ) → STARTS ≤ length after + 1 → All (λ time. first ≤ time) after → now < first + WINDOW
-    → is_full ((before ++ first ∷ []) ++ after) now ≡ true
+full_within : (before after : List ℕ) (first now : ℕ) → STARTS ≤ length after + 1 → All (λ time. first ≤ time) after
+    → now < first + WINDOW → is_full ((before ++ first ∷ []) ++ after) now ≡ true
 full_within before after first now nine since soon =
     grind (arith, All-weaker, nat_tests, count_all, sum_by-append, sum_by_push)
 
@@ -141,14 +154,16 @@ eleven_starts later between earlier first last run kept nine =
     let before : is_run rest ≡ true = (and_parts (may_follow rest (Noted last)) (is_run rest) here).1 in
     let room : is_full (times_noted rest) last ≡ false =
     room_at_yes (times_noted rest) (hold_end rest) last (yes_at_start rest last here) in
-    let joined : times_noted rest ≡ (times_noted earlier ++ first ∷ []) ++ times_noted between = times_noted-append between past kept in
+    let joined : times_noted rest ≡ (times_noted earlier ++ first ∷ []) ++ times_noted between =
+    times_noted-append between past kept in
     let readings : NoneEarlier between past = none_earlier between past before kept in
     elim (cases_lt last (first + WINDOW)) [
       | inr late ↦ late
       | inl soon ↦
           let full : is_full ((times_noted earlier ++ first ∷ []) ++ times_noted between) last ≡ true =
           full_within (times_noted earlier) (times_noted between) first last nine readings.starts soon in
-          let none : is_full ((times_noted earlier ++ first ∷ []) ++ times_noted between) last ≡ false = rw joined at room in
+          let none : is_full ((times_noted earlier ++ first ∷ []) ++ times_noted between) last ≡ false =
+          rw joined at room in
           absurd (not_both (is_full ((times_noted earlier ++ first ∷ []) ++ times_noted between) last) full none)
     ]
 

@@ -1,5 +1,11 @@
 -- Why ten starts are enough: the window is full by the last ten of the times noted where it is full by all of them.
-use Rattle.respawn_limit.proofs.Words.{◌≡◌, ℕ, ◌+◌, ◌-◌, ◌<◌, ◌≤◌, Bool, true, false, cond, inl, inr, List, [], ◌∷◌, ◌++◌, length, get_or, take, drop, refl, ◌∙◌, ap, arith, length-append, length-drop, nat_le, Option, Some, None, All, count_by, AllPass, IsNonDecreasing, cases_Bool, cases_lt, nat_tests, get_or-drop, get_or-take, length-take-le, drop-append-le, drop-drop, All-head, All-tail, All-from_get_or, sum_by-cons, sum_by-take-drop, count_by-le-length, STARTS, is_recent, is_full, last_starts, answer, window_answer, Remembers}
+use Rattle.respawn_limit.proofs.Words.{◌≡◌, ℕ, ◌+◌, ◌-◌, ◌<◌, ◌≤◌, Bool, true, false, cond, inl, inr, List, [], ◌∷◌}
+use Rattle.respawn_limit.proofs.Words.{◌++◌, length, get_or, take, drop, refl, ◌∙◌, ap, arith, length-append}
+use Rattle.respawn_limit.proofs.Words.{length-drop, nat_le, Option, Some, None, All, count_by, AllPass, IsNonDecreasing}
+use Rattle.respawn_limit.proofs.Words.{cases_Bool, cases_lt, nat_tests, get_or-drop, get_or-take, length-take-le}
+use Rattle.respawn_limit.proofs.Words.{drop-append-le, drop-drop, All-head, All-tail, All-from_get_or, sum_by-cons}
+use Rattle.respawn_limit.proofs.Words.{sum_by-take-drop, count_by-le-length, STARTS, is_recent, is_full, last_starts}
+use Rattle.respawn_limit.proofs.Words.{answer, window_answer, Remembers}
 use Rattle.std.proofs.lemmas.List.Sorted.{IsNonDecreasingBy-push, IsNonDecreasingBy-drop}
 
 -- all pass a test
@@ -71,7 +77,8 @@ longer k now noted n ordered some size =
     let kept_full : nat_le k (count_by p (drop n noted)) ≡ p (get_or (drop n noted) 0 0) =
     full_by_first k now (drop n noted) kept_ordered kept_size some in
     elim (cases_Bool (p (get_or (drop n noted) 0 0))) [
-      | inl counts ↦ more k (count_by p (take n noted)) (count_by p (drop n noted)) (count_by p noted) split (kept_full ∙ counts)
+      | inl counts ↦ more k (count_by p (take n noted)) (count_by p (drop n noted)) (count_by p noted) split
+          (kept_full ∙ counts)
       | inr aged ↦
           let first : get_or (drop n noted) 0 0 ≡ get_or noted n 0 =
           get_or-drop n noted 0 0 ∙ ap (λ i. get_or noted i 0) (omega arith) in
@@ -79,7 +86,8 @@ longer k now noted n ordered some size =
           All-from_get_or (λ y. p y ≡ false) (take n noted) 0 (λ i within.
           let below : i < n = omega (arith, length-take-le n noted (omega arith)) in
           let le : get_or noted i 0 ≤ get_or noted n 0 = ordered i n 0 (omega arith) (omega arith) in
-          rw (get_or-take n noted i 0 below) (old_earlier now (get_or noted i 0) (get_or noted n 0) le (rw first at aged))) in
+          rw (get_or-take n noted i 0 below)
+          (old_earlier now (get_or noted i 0) (get_or noted n 0) le (rw first at aged))) in
           let none : count_by p (take n noted) ≡ 0 = count_none p (take n noted) old in
           ap (nat_le k) (omega (arith, split, none))
     ]
@@ -95,7 +103,8 @@ full_by_last k now noted ordered some = elim (cases_lt k (length noted)) [
 ]
 
 -- the window is full by the last ten where it is full by all
-pub is_full-last_starts : (noted : List ℕ) (now : ℕ) → IsNonDecreasing noted → is_full (last_starts noted) now ≡ is_full noted now
+pub is_full-last_starts : (noted : List ℕ) (now : ℕ) → IsNonDecreasing noted
+    → is_full (last_starts noted) now ≡ is_full noted now
 is_full-last_starts noted now ordered = full_by_last STARTS now noted ordered (omega arith)
 
 -- so is the answer
@@ -118,8 +127,8 @@ pub length-last_starts : (times : List ℕ) → length (last_starts times) ≤ S
 length-last_starts times = omega (arith, length-drop (length times - STARTS) times)
 
 -- the last of all is the last of those that are kept
-last_kept : (k : ℕ) (noted : List ℕ) (now d : ℕ) → 0 < k → All (λ start. start ≤ now) (drop (length noted - k) noted) → 0 < length noted
-    → get_or noted (length noted - 1) d ≤ now
+last_kept : (k : ℕ) (noted : List ℕ) (now d : ℕ) → 0 < k → All (λ start. start ≤ now) (drop (length noted - k) noted)
+    → 0 < length noted → get_or noted (length noted - 1) d ≤ now
 last_kept k noted now d ten late some =
     let n : ℕ = length noted - k in
     let at : get_or (drop n noted) (length noted - 1 - n) d ≡ get_or noted (length noted - 1) d =

@@ -1,5 +1,13 @@
 -- What a run and its text become by a step of init, and by a happening that it hears.
-use Rattle.simulator.proofs.Words.{IfErr, Bool, true, false, ◌&&◌, cond, ◌≡◌, ◌++◌, ℕ, List, [], ◌∷◌, reverse, Option, refl, sym, ap, ◌∙◌, subst, append_assoc, Appends, Appends-nil, Appends-trans, false≢true, and_parts, Step, Enter, Call, Power, Reread, Order, Hold, Settle, Reexec, Idle, Goal, Event, due, first, event_text, trace_text, is_run, is_next, is_rest, is_reread, may_come, is_sound, first_due, same_step-self, run_sound, reverse_onto, append-nil, CoreState, FitsAll, StillFits, OnEachTrace, with_step, all_on, SystemState, Follows, SimFault, Leaves, are_handed, may_hand, LastsTo, Moment, AtRest, SimulationGoesOn, is_scripted, may_be_scripted, first_table, heard, past_text}
+use Rattle.simulator.proofs.Words.{IfErr, Bool, true, false, ◌&&◌, cond, ◌≡◌, ◌++◌, ℕ, List, [], ◌∷◌, reverse, Option}
+use Rattle.simulator.proofs.Words.{refl, sym, ap, ◌∙◌, subst, append_assoc, Appends, Appends-nil, Appends-trans}
+use Rattle.simulator.proofs.Words.{false≢true, and_parts, Step, Enter, Call, Power, Reread, Order, Hold, Settle, Reexec}
+use Rattle.simulator.proofs.Words.{Idle, Goal, Event, due, first, event_text, trace_text, is_run, is_next, is_rest}
+use Rattle.simulator.proofs.Words.{is_reread, may_come, is_sound, first_due, same_step-self, run_sound, reverse_onto}
+use Rattle.simulator.proofs.Words.{append-nil, CoreState, FitsAll, StillFits, OnEachTrace, with_step, all_on}
+use Rattle.simulator.proofs.Words.{SystemState, Follows, SimFault, Leaves, are_handed, may_hand, LastsTo, Moment}
+use Rattle.simulator.proofs.Words.{AtRest, SimulationGoesOn, is_scripted, may_be_scripted, first_table, heard}
+use Rattle.simulator.proofs.Words.{past_text}
 use Rattle.std.proofs.Common.{Result, Ok, Err}
 use Rattle.trace_events.specs.declared.happenings.Happening.TheVariants as event
 use Rattle.simulator.specs.declared.running.SimFault.TheVariants as fault
@@ -11,13 +19,20 @@ both true false c h k l = absurd (false≢true k)
 both true true false h k l = absurd (false≢true l)
 
 -- a step that is the first due carries the run on
-pub run_step : (goal : Goal) (past : List Event) (s : Step) → s ≡ first (due goal past) → is_run goal past ≡ true → is_run goal (with_step s past) ≡ true
-run_step goal past (Enter now grace) is runs = both _ _ _ (rw (← is) (same_step-self (Enter now grace))) (first_due goal past (Enter now grace) (sym is) refl) runs
-run_step goal past (Call letter) is runs = both _ _ _ (rw (← is) (same_step-self (Call letter))) (first_due goal past (Call letter) (sym is) refl) runs
-run_step goal past (Power kind) is runs = both _ _ _ (rw (← is) (same_step-self (Power kind))) (first_due goal past (Power kind) (sym is) refl) runs
-run_step goal past (Order id ask) is runs = both _ _ _ (rw (← is) (same_step-self (Order id ask))) (first_due goal past (Order id ask) (sym is) refl) runs
-run_step goal past (Hold id) is runs = both _ _ _ (rw (← is) (same_step-self (Hold id))) (first_due goal past (Hold id) (sym is) refl) runs
-run_step goal past (Settle level) is runs = both _ _ _ (rw (← is) (same_step-self (Settle level))) (first_due goal past (Settle level) (sym is) refl) runs
+pub run_step : (goal : Goal) (past : List Event) (s : Step) → s ≡ first (due goal past) → is_run goal past ≡ true
+    → is_run goal (with_step s past) ≡ true
+run_step goal past (Enter now grace) is runs =
+    both _ _ _ (rw (← is) (same_step-self (Enter now grace))) (first_due goal past (Enter now grace) (sym is) refl) runs
+run_step goal past (Call letter) is runs =
+    both _ _ _ (rw (← is) (same_step-self (Call letter))) (first_due goal past (Call letter) (sym is) refl) runs
+run_step goal past (Power kind) is runs =
+    both _ _ _ (rw (← is) (same_step-self (Power kind))) (first_due goal past (Power kind) (sym is) refl) runs
+run_step goal past (Order id ask) is runs =
+    both _ _ _ (rw (← is) (same_step-self (Order id ask))) (first_due goal past (Order id ask) (sym is) refl) runs
+run_step goal past (Hold id) is runs =
+    both _ _ _ (rw (← is) (same_step-self (Hold id))) (first_due goal past (Hold id) (sym is) refl) runs
+run_step goal past (Settle level) is runs =
+    both _ _ _ (rw (← is) (same_step-self (Settle level))) (first_due goal past (Settle level) (sym is) refl) runs
 run_step goal past Reread is runs = runs
 run_step goal past Reexec is runs = runs
 run_step goal past Idle is runs = runs
@@ -35,17 +50,20 @@ rest_step Reexec past h = refl
 rest_step Idle past h = refl
 
 -- a run with one happening more begins with the same table, and what was said in it is heard
-pub first_more : (goal : Goal) (happening : Event) (past : List Event) → is_run goal past ≡ true → first_table (happening ∷ past) ≡ first_table past
+pub first_more : (goal : Goal) (happening : Event) (past : List Event) → is_run goal past ≡ true
+    → first_table (happening ∷ past) ≡ first_table past
 first_more goal happening [] runs = absurd (false≢true runs)
 first_more goal (event.NewTable table) (before ∷ past) runs = refl
 first_more goal _ (before ∷ past) runs = refl
 
-pub heard_more : (goal : Goal) (happening : Event) (past : List Event) → is_run goal past ≡ true → heard (happening ∷ past) ≡ cond (is_scripted happening) (happening ∷ heard past) (heard past)
+pub heard_more : (goal : Goal) (happening : Event) (past : List Event) → is_run goal past ≡ true
+    → heard (happening ∷ past) ≡ cond (is_scripted happening) (happening ∷ heard past) (heard past)
 heard_more goal happening [] runs = absurd (false≢true runs)
 heard_more goal happening (before ∷ past) runs = refl
 
 -- a step is not heard
-step_first : (goal : Goal) (s : Step) (past : List Event) → is_run goal past ≡ true → first_table (with_step s past) ≡ first_table past
+step_first : (goal : Goal) (s : Step) (past : List Event) → is_run goal past ≡ true
+    → first_table (with_step s past) ≡ first_table past
 step_first goal (Enter now grace) past runs = first_more goal (event.Enter now grace) past runs
 step_first goal (Call letter) past runs = first_more goal (event.Call letter) past runs
 step_first goal (Power kind) past runs = first_more goal (event.Power kind) past runs
@@ -56,7 +74,8 @@ step_first goal Reread past runs = refl
 step_first goal Reexec past runs = refl
 step_first goal Idle past runs = refl
 
-step_heard : (goal : Goal) (s : Step) (past : List Event) → is_run goal past ≡ true → heard (with_step s past) ≡ heard past
+step_heard : (goal : Goal) (s : Step) (past : List Event) → is_run goal past ≡ true
+    → heard (with_step s past) ≡ heard past
 step_heard goal (Enter now grace) past runs = heard_more goal (event.Enter now grace) past runs
 step_heard goal (Call letter) past runs = heard_more goal (event.Call letter) past runs
 step_heard goal (Power kind) past runs = heard_more goal (event.Power kind) past runs
@@ -79,73 +98,99 @@ step_handed goal Reexec past = refl
 step_handed goal Idle past = refl
 
 -- what may be said may be handed over, where it is a hand-over
-pub handed_part : (goal : Goal) (happening : Event) (past : List Event) → may_be_scripted goal happening past ≡ true → may_hand goal happening past ≡ true
+pub handed_part : (goal : Goal) (happening : Event) (past : List Event) → may_be_scripted goal happening past ≡ true
+    → may_hand goal happening past ≡ true
 handed_part goal happening past may =
-    let outer = and_parts (is_scripted happening && may_hand goal happening past && is_next (first (due goal past)) happening) (may_come goal happening past) may in
-    let inner = and_parts (is_scripted happening && may_hand goal happening past) (is_next (first (due goal past)) happening) outer.0 in
+    let outer = and_parts (is_scripted happening && may_hand goal happening past
+    && is_next (first (due goal past)) happening) (may_come goal happening past) may in
+    let inner = and_parts (is_scripted happening && may_hand goal happening past)
+    (is_next (first (due goal past)) happening) outer.0 in
     (and_parts (is_scripted happening) (may_hand goal happening past) inner.0).1
 
 -- what may be said is of a script, and init waits for it, and it may come
 pub said_parts : (goal : Goal) (happening : Event) (past : List Event) → may_be_scripted goal happening past ≡ true
-    → (is_scripted happening ≡ true) × (is_next (first (due goal past)) happening ≡ true) × (may_come goal happening past ≡ true)
+    → (is_scripted happening ≡ true) × (is_next (first (due goal past)) happening ≡ true)
+    × (may_come goal happening past ≡ true)
 said_parts goal happening past may =
-    let outer = and_parts (is_scripted happening && may_hand goal happening past && is_next (first (due goal past)) happening) (may_come goal happening past) may in
-    let inner = and_parts (is_scripted happening && may_hand goal happening past) (is_next (first (due goal past)) happening) outer.0 in
+    let outer = and_parts (is_scripted happening && may_hand goal happening past
+    && is_next (first (due goal past)) happening) (may_come goal happening past) may in
+    let inner = and_parts (is_scripted happening && may_hand goal happening past)
+    (is_next (first (due goal past)) happening) outer.0 in
     ((and_parts (is_scripted happening) (may_hand goal happening past) inner.0).0, inner.1, outer.1)
 
 -- a happening that may be said carries the run on
-pub run_hears : (goal : Goal) (happening : Event) (past : List Event) → may_be_scripted goal happening past ≡ true → is_run goal past ≡ true → is_run goal (happening ∷ past) ≡ true
+pub run_hears : (goal : Goal) (happening : Event) (past : List Event) → may_be_scripted goal happening past ≡ true
+    → is_run goal past ≡ true → is_run goal (happening ∷ past) ≡ true
 run_hears goal happening past may runs =
     let parts = said_parts goal happening past may in
     at happening past runs parts.1 parts.2
   where
-    at : (h : Event) (before : List Event) → is_run goal before ≡ true → is_next (first (due goal before)) h ≡ true → may_come goal h before ≡ true → is_run goal (h ∷ before) ≡ true
+    at : (h : Event) (before : List Event) → is_run goal before ≡ true → is_next (first (due goal before)) h ≡ true
+        → may_come goal h before ≡ true → is_run goal (h ∷ before) ≡ true
     at h [] runs next come = absurd (false≢true runs)
-    at (event.NewTable table) (x ∷ before) runs next come = both (is_next (first (due goal (x ∷ before))) (event.NewTable table)) (may_come goal (event.NewTable table) (x ∷ before)) (is_run goal (x ∷ before)) next come runs
-    at h (x ∷ before) runs next come = both (is_next (first (due goal (x ∷ before))) h) (may_come goal h (x ∷ before)) (is_run goal (x ∷ before)) next come runs
+    at (event.NewTable table) (x ∷ before) runs next come =
+        both (is_next (first (due goal (x ∷ before))) (event.NewTable table))
+        (may_come goal (event.NewTable table) (x ∷ before)) (is_run goal (x ∷ before)) next come runs
+    at h (x ∷ before) runs next come = both (is_next (first (due goal (x ∷ before))) h) (may_come goal h (x ∷ before))
+        (is_run goal (x ∷ before)) next come runs
 
 -- the text of a trace with one happening more
 pub trace_text-append : (xs ys : List Event) → trace_text (xs ++ ys) ≡ trace_text xs ++ trace_text ys
 trace_text-append [] ys = refl
-trace_text-append (x ∷ xs) ys = ap (λ text. event_text x ++ text) (trace_text-append xs ys) ∙ sym (append_assoc (event_text x) (trace_text xs) (trace_text ys))
+trace_text-append (x ∷ xs) ys = ap (λ text. event_text x ++ text) (trace_text-append xs ys)
+    ∙ sym (append_assoc (event_text x) (trace_text xs) (trace_text ys))
 
-pub past_text-more : (happening : Event) (past : List Event) → past_text (happening ∷ past) ≡ past_text past ++ event_text happening
-past_text-more happening past = ap trace_text (reverse_onto past happening []) ∙ trace_text-append (reverse past) (happening ∷ []) ∙ ap (λ text. past_text past ++ text) (append-nil (event_text happening))
+pub past_text-more : (happening : Event) (past : List Event)
+    → past_text (happening ∷ past) ≡ past_text past ++ event_text happening
+past_text-more happening past = ap trace_text (reverse_onto past happening []) ∙ trace_text-append (reverse past)
+    (happening ∷ []) ∙ ap (λ text. past_text past ++ text) (append-nil (event_text happening))
 
 -- the trace went on by a step of init
-pub goes_step : (goal : Goal) (s : Step) (happening : Event) (past next : List Event) (more : List ℕ) → is_run goal next ≡ true → with_step s next ≡ happening ∷ next → SimulationGoesOn past next more → SimulationGoesOn past (happening ∷ next) (more ++ event_text happening)
+pub goes_step : (goal : Goal) (s : Step) (happening : Event) (past next : List Event) (more : List ℕ)
+    → is_run goal next ≡ true → with_step s next ≡ happening ∷ next → SimulationGoesOn past next more
+    → SimulationGoesOn past (happening ∷ next) (more ++ event_text happening)
 goes_step goal s happening past next more runs added goes = record {
   opens = ap first_table (sym added) ∙ step_first goal s next runs ∙ goes.opens;
   handed = λ of. ap (are_handed of) (sym added) ∙ step_handed of s next ∙ goes.handed of;
   hears = ap heard (sym added) ∙ step_heard goal s next runs ∙ goes.hears;
-  text = past_text-more happening next ∙ ap (λ text. text ++ event_text happening) goes.text ∙ append_assoc (past_text past) more (event_text happening);
+  text = past_text-more happening next ∙ ap (λ text. text ++ event_text happening) goes.text
+      ∙ append_assoc (past_text past) more (event_text happening);
 }
 
 -- a run with one step more
-pub more_run : (goal : Goal) (past : List Event) (happening : Event) (s : Step) → s ≡ first (due goal past) → with_step s past ≡ happening ∷ past → is_run goal past ≡ true → is_run goal (happening ∷ past) ≡ true
+pub more_run : (goal : Goal) (past : List Event) (happening : Event) (s : Step) → s ≡ first (due goal past)
+    → with_step s past ≡ happening ∷ past → is_run goal past ≡ true → is_run goal (happening ∷ past) ≡ true
 more_run goal past happening s is added runs = subst (λ t. is_run goal t ≡ true) added (run_step goal past s is runs)
 
 -- init went on from a moment to another, and wrote what it did
 abbrev pub WentOn : Goal → List Event → CoreState → SystemState → Option (List ℕ) → Option (List ℕ) → Type 0
-WentOn goal past core side old new = (next : List Event) × (more : List ℕ) × Moment goal next core side × SimulationGoesOn past next more × Appends old new more
+WentOn goal past core side old new = (next : List Event) × (more : List ℕ) × Moment goal next core side
+    × SimulationGoesOn past next more × Appends old new more
 
 -- a step of the core and of the system's side
-module _ (core new_core : CoreState) (side new_side : SystemState) (s : Step) (happening : Event) (due_now : OnEachTrace core (λ goal past. s ≡ first (due goal past)))
-    (fits : OnEachTrace core (λ goal past. StillFits core new_core goal past (with_step s past))) (added : (past : List Event) → with_step s past ≡ happening ∷ past)
-    (follows : (goal : Goal) (past : List Event) → is_sound goal (happening ∷ past) ≡ true → Follows side past → Follows new_side (happening ∷ past))
-    (lasts : (goal : Goal) (past : List Event) → FitsAll core goal past → LastsTo core goal past → LastsTo new_core goal (with_step s past)) where
-  pub moment_step : (goal : Goal) (past : List Event) → Moment goal past core side → Moment goal (happening ∷ past) new_core new_side
+module _ (core new_core : CoreState) (side new_side : SystemState) (s : Step) (happening : Event)
+    (due_now : OnEachTrace core (λ goal past. s ≡ first (due goal past)))
+    (fits : OnEachTrace core (λ goal past. StillFits core new_core goal past (with_step s past)))
+    (added : (past : List Event) → with_step s past ≡ happening ∷ past)
+    (follows : (goal : Goal) (past : List Event) → is_sound goal (happening ∷ past) ≡ true → Follows side past
+    → Follows new_side (happening ∷ past))
+    (lasts : (goal : Goal) (past : List Event) → FitsAll core goal past → LastsTo core goal past
+    → LastsTo new_core goal (with_step s past)) where
+  pub moment_step : (goal : Goal) (past : List Event) → Moment goal past core side
+      → Moment goal (happening ∷ past) new_core new_side
   moment_step goal past moment =
       let sound = run_sound goal past moment.runs in
       let runs = more_run goal past happening s (due_now goal past sound moment.fits.0) (added past) moment.runs in
       record {
         runs = runs;
-        fits = subst (FitsAll new_core goal) (added past) (all_on core new_core goal past (with_step s past) (fits goal past sound moment.fits.0) moment.fits);
+        fits = subst (FitsAll new_core goal) (added past)
+            (all_on core new_core goal past (with_step s past) (fits goal past sound moment.fits.0) moment.fits);
         lasts = subst (LastsTo new_core goal) (added past) (lasts goal past moment.fits moment.lasts);
         follows = follows goal past (run_sound goal (happening ∷ past) runs) moment.follows;
       }
 
-  pub went_step : (old mid new : Option (List ℕ)) → Appends mid new (event_text happening) → (goal : Goal) (past : List Event) → WentOn goal past core side old mid → WentOn goal past new_core new_side old new
+  pub went_step : (old mid new : Option (List ℕ)) → Appends mid new (event_text happening) → (goal : Goal)
+      (past : List Event) → WentOn goal past core side old mid → WentOn goal past new_core new_side old new
   went_step old mid new written goal past (next, more, moment, goes, before) = (
     happening ∷ next,
     more ++ event_text happening,
@@ -155,14 +200,24 @@ module _ (core new_core : CoreState) (side new_side : SystemState) (s : Step) (h
   )
 
 -- part of a text is left, behind text that was written
-pub leaves_behind : (f : SimFault) (old mid new : Option (List ℕ)) (more text : List ℕ) → Appends old mid more → Leaves f mid new text → Leaves f old new (more ++ text)
+pub leaves_behind : (f : SimFault) (old mid new : Option (List ℕ)) (more text : List ℕ) → Appends old mid more
+    → Leaves f mid new text → Leaves f old new (more ++ text)
 leaves_behind fault.Table old mid new more text before leaves = absurd leaves
 leaves_behind (fault.Script n) old mid new more text before leaves = absurd leaves
 leaves_behind (fault.Forbidden n why) old mid new more text before leaves = absurd leaves
-leaves_behind fault.Write old mid new more text before (front, rest, is, now, some) =
-    (more ++ front, rest, append_assoc more front rest ∙ ap (λ t. more ++ t) is, Appends-trans old mid new more front before now, some)
-leaves_behind fault.Memory old mid new more text before (front, rest, is, now) =
-    (more ++ front, rest, append_assoc more front rest ∙ ap (λ t. more ++ t) is, Appends-trans old mid new more front before now)
+leaves_behind fault.Write old mid new more text before (front, rest, is, now, some) = (
+  more ++ front,
+  rest,
+  append_assoc more front rest ∙ ap (λ t. more ++ t) is,
+  Appends-trans old mid new more front before now,
+  some,
+)
+leaves_behind fault.Memory old mid new more text before (front, rest, is, now) = (
+  more ++ front,
+  rest,
+  append_assoc more front rest ∙ ap (λ t. more ++ t) is,
+  Appends-trans old mid new more front before now,
+)
 
 -- want of memory after a whole text, and before it
 pub memory_after : (old new : Option (List ℕ)) (text : List ℕ) → Appends old new text → Leaves fault.Memory old new text
@@ -172,8 +227,10 @@ pub memory_before : (known : Option (List ℕ)) (text : List ℕ) → Leaves fau
 memory_before known text = ([], text, refl, Appends-nil known)
 
 -- a moment stays one while init rests
-pub at_rest : (goal : Goal) (past : List Event) (s : Step) (rereads : Bool) (core new_core : CoreState) (side : SystemState) → Moment goal past core side
-    → s ≡ first (due goal past) → is_rest s ≡ true → rereads ≡ is_reread s → FitsAll new_core goal (with_step s past) → LastsTo new_core goal (with_step s past) → AtRest goal past rereads new_core side
+pub at_rest : (goal : Goal) (past : List Event) (s : Step) (rereads : Bool) (core new_core : CoreState)
+    (side : SystemState) → Moment goal past core side
+    → s ≡ first (due goal past) → is_rest s ≡ true → rereads ≡ is_reread s → FitsAll new_core goal (with_step s past)
+    → LastsTo new_core goal (with_step s past) → AtRest goal past rereads new_core side
 at_rest goal past s rereads core new_core side moment is rests read fits lasts = record {
   moment = record {
     runs = moment.runs;

@@ -1,17 +1,24 @@
 -- The words of the proofs of this crate.
-pub use Rattle.std.proofs.Common.{◌≡◌, refl, sym, ◌∙◌, ap, ℕ, ◌==◌, Bool, true, false, not, ◌&&◌, List, ◌||◌, cond, Option, Some, None, find, is_none, is_some, subst, ◌+◌, ◌-◌, ◌<◌, ◌≤◌, [], ◌∷◌, ◌++◌, map, length, get_or, take, drop, ◌⊎◌, inl, inr, arith, length-drop, IfOk, ◌≢◌, append_assoc, IfErr, reverse, filter, Vec, rules}
+pub use Rattle.std.proofs.Common.{◌≡◌, refl, sym, ◌∙◌, ap, ℕ, ◌==◌, Bool, true, false, not, ◌&&◌, List, ◌||◌, cond}
+pub use Rattle.std.proofs.Common.{Option, Some, None, find, is_none, is_some, subst, ◌+◌, ◌-◌, ◌<◌, ◌≤◌, [], ◌∷◌, ◌++◌}
+pub use Rattle.std.proofs.Common.{map, length, get_or, take, drop, ◌⊎◌, inl, inr, arith, length-drop, IfOk, ◌≢◌}
+pub use Rattle.std.proofs.Common.{append_assoc, IfErr, reverse, filter, Vec, rules}
 pub use Rattle.std.specs.List.{list_any}
 pub use Rattle.std.specs.Option.{option_map, option_map_or}
 pub use Rattle.init_words.specs.declared.orders.OrderKind.TheVariants.{Start, Look, Term, Kill}
 pub use Rattle.init_words.specs.Ids.{same_id}
-pub use Rattle.trace_events.specs.declared.happenings.Happening.TheVariants.{Birth, NoBirth, Death, Reaped, Still, NoLook, Hit, Miss, Told, NewTable, Asked}
+pub use Rattle.trace_events.specs.declared.happenings.Happening.TheVariants.{Birth, NoBirth, Death, Reaped, Still}
+pub use Rattle.trace_events.specs.declared.happenings.Happening.TheVariants.{NoLook, Hit, Miss, Told, NewTable, Asked}
 pub use Rattle.trace_events.specs.declared.steps.Goal.{Goal}
 pub use Rattle.trace_events.specs.Event.{Event}
-pub use Rattle.trace_events.specs.Past.{Child, has_number, is_child, is_dead, is_living, undone_of, unreaped_children, is_untold, is_quiet, stage_of, table_of, is_of, open_of, is_idle, known_children}
+pub use Rattle.trace_events.specs.Past.{Child, has_number, is_child, is_dead, is_living, undone_of, unreaped_children}
+pub use Rattle.trace_events.specs.Past.{is_untold, is_quiet, stage_of, table_of, is_of, open_of, is_idle}
+pub use Rattle.trace_events.specs.Past.{known_children}
 pub use Rattle.trace_events.specs.Wanted.{is_order, is_owed}
 pub use Rattle.trace_events.specs.Sound.{may_come, is_sound}
 pub use Rattle.init_words.proofs.Same.{same_id-is, same_ask-is, same_level-is, same_id-self}
-pub use Rattle.init_words.proofs.Tests.{and_three, any_same, both_ways, any_less, falsely, not_from, filter_within, find_none, err_is}
+pub use Rattle.init_words.proofs.Tests.{and_three, any_same, both_ways, any_less, falsely, not_from, filter_within}
+pub use Rattle.init_words.proofs.Tests.{find_none, err_is}
 pub use Rattle.trace_laws.proofs.Told.{answered_untold, same_find}
 pub use Rattle.simulator.specs.declared.objections.Objection.{Objection}
 pub use Rattle.simulator.specs.State.{SystemState, order_in, answer_in, child_in, is_living_in, is_dead_in, died}
@@ -21,30 +28,44 @@ pub use Rattle.simulator.specs.Follows.{Follows, simulated_child_of, child_with}
 pub use Rattle.trace_laws.proofs.Lone.{lone_any, none_filtered, is_lone, lone_filter}
 pub use Rattle.std.specs.Prelude.{nat_le, nat_lt, unwrap_or, OnErr, IfSome}
 pub use Rattle.std.proofs.lemmas.Bool.{and_parts, cases_lt, leb-true, ltb-true, false≢true, and_from, not-true, or_left}
-pub use Rattle.std.proofs.lemmas.List.{get_or-map, get_or_append_left, length-map, map-append, take-append-drop, append-nil, append_cancel_right, reverse-reverse, nil_from_length}
+pub use Rattle.std.proofs.lemmas.List.{get_or-map, get_or_append_left, length-map, map-append, take-append-drop}
+pub use Rattle.std.proofs.lemmas.List.{append-nil, append_cancel_right, reverse-reverse, nil_from_length}
 pub use Rattle.core_model.specs.Parts.{SavedState, state_of}
 pub use Rattle.core_model.specs.State.{CoreState}
-pub use Rattle.core_model.specs.Steps.{after_handed_on, wished, heard_in, after_step, after_adopt, after_clock, after_got, after_not_read, after_round, after_told}
-pub use Rattle.simulator.specs.Handing.{after_hand, has_next, is_made, kept_texts, objection_handed, taken_of, text_made, are_handed, made_in, may_hand, text_at, kept_goal, kept_at, comes_back}
+pub use Rattle.core_model.specs.Steps.{after_handed_on, wished, heard_in, after_step, after_adopt, after_clock}
+pub use Rattle.core_model.specs.Steps.{after_got, after_not_read, after_round, after_told}
+pub use Rattle.simulator.specs.Handing.{after_hand, has_next, is_made, kept_texts, objection_handed, taken_of}
+pub use Rattle.simulator.specs.Handing.{text_made, are_handed, made_in, may_hand, text_at, kept_goal, kept_at}
+pub use Rattle.simulator.specs.Handing.{comes_back}
 pub use Rattle.simulator.specs.Texts.{AreMade, HasTexts, IsForeign, IsOfGeneration, IsTakenOver}
 pub use Rattle.init_words.specs.declared.entries.Entry.{Entry}
 pub use Rattle.trace_events.specs.Range.{is_in_range, are_in_range, is_request}
 pub use Rattle.trace_events.specs.Answered.{answered_of}
-pub use Rattle.trace_events.specs.Due.{due, first, same_step, step_if, steps_if, none_excluded, due_first, due_reexec, due_reread, due_level, enter_level, due_news, power_steps, letter_steps, due_stops, stops_among, stops_of, stop_step, due_starts, starts_among, start_steps, can_start, due_stage, next_stage, is_over, due_settle, settle_step, is_announced, is_settled, due_looks, looks_among, can_look, record_ids}
+pub use Rattle.trace_events.specs.Due.{due, first, same_step, step_if, steps_if, none_excluded, due_first, due_reexec}
+pub use Rattle.trace_events.specs.Due.{due_reread, due_level, enter_level, due_news, power_steps, letter_steps}
+pub use Rattle.trace_events.specs.Due.{due_stops, stops_among, stops_of, stop_step, due_starts, starts_among}
+pub use Rattle.trace_events.specs.Due.{start_steps, can_start, due_stage, next_stage, is_over, due_settle, settle_step}
+pub use Rattle.trace_events.specs.Due.{is_announced, is_settled, due_looks, looks_among, can_look, record_ids}
 pub use Rattle.trace_text.specs.Lines.{event_text, trace_text}
 pub use Rattle.trace_events.specs.Run.{is_run, is_rest, is_reread, is_next, step_in}
 pub use Rattle.trace_laws.proofs.Runs.{run_sound, first_due, same_step-self, run_lawful}
 pub use Rattle.core_model.specs.Fit.{FitsAll, is_act, lasts_of, core_read, with_step, StillFits, OnEachTrace}
 pub use Rattle.core_model.proofs.Fitted.{fit_records, all_on, own_read}
 pub use Rattle.simulator.specs.declared.running.SimFault.{SimFault}
-pub use Rattle.simulator.specs.Moments.{LastsTo, Moment, AtRest, IsReadyFor, SimulationGoesOn, HearsLine, HeardBreaks, HeardEnds, TableEnds, opening_text, ComesToRest, Breaks, FromRest, HeardOne, SoFar, SomeRest, FromScript, FromMoment, SomeMoment}
-pub use Rattle.simulator.specs.Said.{is_scripted, may_be_scripted, objection_in, objection_now, IsObjected, heard, first_table}
-pub use Rattle.simulator.specs.Simulation.{past_text, Rested, Scenario, goal_in, heard_text, IsTooLong, table_in, script_in, RunOver, Broken, Ends, Done, scenario}
+pub use Rattle.simulator.specs.Moments.{LastsTo, Moment, AtRest, IsReadyFor, SimulationGoesOn, HearsLine, HeardBreaks}
+pub use Rattle.simulator.specs.Moments.{HeardEnds, TableEnds, opening_text, ComesToRest, Breaks, FromRest, HeardOne}
+pub use Rattle.simulator.specs.Moments.{SoFar, SomeRest, FromScript, FromMoment, SomeMoment}
+pub use Rattle.simulator.specs.Said.{is_scripted, may_be_scripted, objection_in, objection_now, IsObjected, heard}
+pub use Rattle.simulator.specs.Said.{first_table}
+pub use Rattle.simulator.specs.Simulation.{past_text, Rested, Scenario, goal_in, heard_text, IsTooLong, table_in}
+pub use Rattle.simulator.specs.Simulation.{script_in, RunOver, Broken, Ends, Done, scenario}
 pub use Rattle.init_words.specs.declared.stages.Stage.{Stage}
 pub use Rattle.init_words.specs.Levels.{same_level, same_letter}
 pub use Rattle.trace_events.specs.declared.steps.Step.{Step}
-pub use Rattle.trace_events.specs.declared.steps.Step.TheVariants.{Enter, Call, Power, Reread, Order, Hold, Settle, Reexec, Idle}
-pub use Rattle.trace_events.specs.Wishes.{in_run, level_wish, goal_of, wants_reexec, keeps_power, keeps_letter, powers, letters, wish_stands}
+pub use Rattle.trace_events.specs.declared.steps.Step.TheVariants.{Enter, Call, Power, Reread, Order, Hold, Settle}
+pub use Rattle.trace_events.specs.declared.steps.Step.TheVariants.{Reexec, Idle}
+pub use Rattle.trace_events.specs.Wishes.{in_run, level_wish, goal_of, wants_reexec, keeps_power, keeps_letter, powers}
+pub use Rattle.trace_events.specs.Wishes.{letters, wish_stands}
 pub use Rattle.core_handover.proofs.Generations.{request_same, step_same}
 pub use Rattle.std.specs.Io.KnownBytes.{Appends, Keeps}
 pub use Rattle.std.proofs.KnownBytes.{Appends-nil, Appends-trans, Keeps-refl, Appends-kept}

@@ -1,7 +1,9 @@
 -- Hand-overs of init's state in a run: what init keeps, the text that is made of it, and which may come.
-use Rattle.std.specs.Prelude.{ℕ, Bool, true, ◌&&◌, ◌+◌, ◌-◌, ◌^◌, if◌then◌else◌, nat_le, nat_lt, List, [], ◌∷◌, ◌++◌, get_or, length, take, Option, Some, None}
+use Rattle.std.specs.Prelude.{ℕ, Bool, true, ◌&&◌, ◌+◌, ◌-◌, ◌^◌, if◌then◌else◌, nat_le, nat_lt, List, [], ◌∷◌, ◌++◌}
+use Rattle.std.specs.Prelude.{get_or, length, take, Option, Some, None}
 use Rattle.initctl_frame.specs.declared.requests.HeardRequest.TheVariants as got
-use Rattle.simulator.specs.Words.{Enter, Got, Goal, Event, stage_of, lasts_of, core_read, state_of, CoreState, wished, after_handed, after_handed_on}
+use Rattle.simulator.specs.Words.{Enter, Got, Goal, Event, stage_of, lasts_of, core_read, state_of, CoreState, wished}
+use Rattle.simulator.specs.Words.{after_handed, after_handed_on}
 use Rattle.trace_events.specs.declared.happenings.Happening.TheVariants.{Handed}
 use Rattle.trace_events.specs.declared.happenings.Handed.{Handed as HandOver}
 use Rattle.trace_events.specs.declared.happenings.Handed.TheVariants as handed

@@ -1,7 +1,8 @@
 -- A moment of a simulated run, and what init's own steps make of it.
 use Rattle.std.specs.Prelude.{◌≡◌, ◌⊎◌, ℕ, Bool, true, false, ◌+◌, List, [], ◌∷◌, ◌++◌, Option}
 use Rattle.std.specs.Io.KnownBytes.{Appends, Keeps}
-use Rattle.simulator.specs.Words.{Goal, Event, table_of_text, NewTable, event_text, are_in_range, newlines, due, first, is_run, is_rest, is_reread, is_quiet, CoreState, FitsAll, has_short_seconds}
+use Rattle.simulator.specs.Words.{Goal, Event, table_of_text, NewTable, event_text, are_in_range, newlines, due, first}
+use Rattle.simulator.specs.Words.{is_run, is_rest, is_reread, is_quiet, CoreState, FitsAll, has_short_seconds}
 use Rattle.trace_events.specs.declared.happenings.Happening.TheVariants.{Handed}
 use Rattle.simulator.specs.State.{SystemState}
 use Rattle.simulator.specs.Follows.{Follows}
@@ -43,10 +44,11 @@ pub record SimulationGoesOn (past next : List Event) (more : List ℕ) : Type 0 
   pub text : past_text next ≡ past_text past ++ more
 
 -- a moment at which init rests, and whether inittab is to be read then
-pub record AtRest (goal : Goal) (past : List Event) (rereads : Bool) (core : CoreState) (side : SystemState) : Type 0 where
-  pub moment : Moment goal past core side
-  pub rests : is_rest (first (due goal past)) ≡ true
-  pub read : rereads ≡ is_reread (first (due goal past))
+pub record AtRest (goal : Goal) (past : List Event) (rereads : Bool) (core : CoreState) (side : SystemState) : Type 0
+  where
+    pub moment : Moment goal past core side
+    pub rests : is_rest (first (due goal past)) ≡ true
+    pub read : rereads ≡ is_reread (first (due goal past))
 
 abbrev pub SomeRest : Bool → CoreState → SystemState → Type 0
 SomeRest rereads core side = (goal : Goal) × (past : List Event) × AtRest goal past rereads core side
@@ -84,7 +86,8 @@ pub record HearsLine (goal : Goal) (past next : List Event) (said more : List �
   pub text : past_text next ≡ past_text past ++ more
 
 -- a happening was heard, and init went on until it rests, and what came was written
-abbrev pub HeardOne : Goal → List Event → Event → Bool → CoreState → SystemState → Option (List ℕ) → Option (List ℕ) → Type 0
+abbrev pub HeardOne : Goal → List Event → Event → Bool → CoreState → SystemState → Option (List ℕ) → Option (List ℕ)
+    → Type 0
 HeardOne goal past happening rereads core side old new = (next : List Event) × (more : List ℕ)
     × AtRest goal next rereads core side × HearsLine goal past next (event_text happening) more × Appends old new more
 

@@ -1,7 +1,9 @@
 -- Why the state does not allow a happening.
-use Rattle.std.specs.Prelude.{ℕ, Bool, ◌||◌, if◌then◌else◌, List, ◌++◌, codes, decimal, Option, Some, None, is_none, is_some}
+use Rattle.std.specs.Prelude.{ℕ, Bool, ◌||◌, if◌then◌else◌, List, ◌++◌, codes, decimal, Option, Some, None, is_none}
+use Rattle.std.specs.Prelude.{is_some}
 use Rattle.init_words.specs.declared.orders.OrderKind.TheVariants.{Start, Look, Term, Kill}
-use Rattle.simulator.specs.Words.{NewTable, NotRead, Birth, NoBirth, Death, Reaped, Still, NoLook, Hit, Miss, Told, Clock, Nudge, Got, Event, is_order}
+use Rattle.simulator.specs.Words.{NewTable, NotRead, Birth, NoBirth, Death, Reaped, Still, NoLook, Hit, Miss, Told}
+use Rattle.simulator.specs.Words.{Clock, Nudge, Got, Event, is_order}
 use Rattle.trace_events.specs.declared.happenings.Happening.TheVariants.{Handed}
 use Rattle.simulator.specs.declared.objections.Objection.{Objection}
 use Rattle.simulator.specs.declared.objections.Objection.TheVariants as objection

@@ -1,7 +1,8 @@
 -- A run of init over a script: what is written, and where it ends.
 use Rattle.std.specs.Prelude.{◌≡◌, ◌≢◌, ℕ, true, false, ◌+◌, ◌<◌, List, [], ◌++◌, reverse, length, Option}
 use Rattle.std.specs.Io.KnownBytes.{Appends, Keeps}
-use Rattle.simulator.specs.Words.{Entry, Level, ended, newlines, table_of_text, Goal, Event, due, first, event_text, trace_text, is_in_range, are_in_range, is_run, is_rest, opening_goal}
+use Rattle.simulator.specs.Words.{Entry, Level, ended, newlines, table_of_text, Goal, Event, due, first, event_text}
+use Rattle.simulator.specs.Words.{trace_text, is_in_range, are_in_range, is_run, is_rest, opening_goal}
 use Rattle.inittab_text.specs.declared.reading.TheConstants.{TEXT_LIMIT}
 use Rattle.trace_text.specs.Texts.{BeginsNone}
 use Rattle.simulator.specs.declared.objections.Objection.{Objection}

@@ -1,6 +1,7 @@
 -- What a happening needs of the state, and what it makes of it.
 use Rattle.std.specs.Prelude.{ℕ, Bool, true, false, List, Option, is_some}
-use Rattle.simulator.specs.Words.{OrderKind, Answer, Asked, NotRead, Birth, NoBirth, Death, Reaped, Still, NoLook, Hit, Miss, Told, Clock, Nudge, Got, Event, act_in, undone_by, answered_by}
+use Rattle.simulator.specs.Words.{OrderKind, Answer, Asked, NotRead, Birth, NoBirth, Death, Reaped, Still, NoLook, Hit}
+use Rattle.simulator.specs.Words.{Miss, Told, Clock, Nudge, Got, Event, act_in, undone_by, answered_by}
 use Rattle.trace_events.specs.declared.happenings.Happening.TheVariants.{Handed}
 use Rattle.simulator.specs.declared.simulated.SimulatedChild.{SimulatedChild}
 use Rattle.simulator.specs.State.{without, with, with_child, with_death, without_child}

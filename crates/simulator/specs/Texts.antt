@@ -26,7 +26,8 @@ pub record CanHand (how : HandOver) (core : CoreState) : Type 0 where
   pub short : has_short_seconds core ≡ true
   pub may : objection_handed core.fields.generation (length (text_made core)) how ≡ None
 
--- the core that is taken over from a text, of an init of this generation; none where no core that keeps the rules has it
+-- the core that is taken over from a text, of an init of this generation; none where no core that keeps the rules has
+-- it
 abbrev pub IsTakenOver : List ℕ → ℕ → Option CoreState → Type 0
 IsTakenOver back generation (Some core) =
     IsTextOf back (state_of core) × IsFit core × (core.fields.generation ≡ generation)

@@ -3,7 +3,9 @@ pub use Rattle.program_io.specs.Writing.{AppendsFront, AppendsPrefix}
 pub use Rattle.trace_events.specs.Event.{Event, act_in}
 pub use Rattle.trace_events.specs.Past.{Child, has_number, is_dead, undone_of, unreaped_children, stage_of, undone_by}
 pub use Rattle.trace_events.specs.Answered.{answered_of, answered_by}
-pub use Rattle.trace_events.specs.declared.happenings.Happening.TheVariants.{Enter, Got, NewTable, NotRead, Birth, NoBirth, Death, Reaped, Still, NoLook, Hit, Miss, Told, Clock, Nudge, Asked}
+pub use Rattle.trace_events.specs.declared.happenings.Happening.TheVariants.{Enter, Got, NewTable, NotRead, Birth}
+pub use Rattle.trace_events.specs.declared.happenings.Happening.TheVariants.{NoBirth, Death, Reaped, Still, NoLook, Hit}
+pub use Rattle.trace_events.specs.declared.happenings.Happening.TheVariants.{Miss, Told, Clock, Nudge, Asked}
 pub use Rattle.trace_events.specs.declared.steps.Goal.{Goal}
 pub use Rattle.core_model.specs.Fit.{lasts_of, core_read, FitsAll, StillFits, OnEachTrace, with_step}
 pub use Rattle.core_model.specs.Parts.{state_of, SavedState}

@@ -40,4 +40,5 @@ Asks home words old new =
 
 -- or a front of it, or nothing
 abbrev pub AsksPartly : List ℕ → List (List ℕ) → KnownBytes → KnownBytes → Type 0
-AsksPartly home words old new = (path block : List ℕ) × IsAsked home words path block × HasGainedFront path block old new
+AsksPartly home words old new = (path block : List ℕ) × IsAsked home words path block
+    × HasGainedFront path block old new

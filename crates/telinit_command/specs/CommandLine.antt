@@ -1,5 +1,6 @@
 -- The command line `telinit [-t SEC] [-d DIR] [--initctl P] CHAR`, or `--power KIND` in place of CHAR (telinit(8)).
-use Rattle.std.specs.Prelude.{ℕ, Bool, ◌&&◌, not, if◌then◌else◌, nat_le, List, ◌++◌, codes, Option, Some, None, option_and_then, option_map, length, string_bytes, ◌==◌}
+use Rattle.std.specs.Prelude.{ℕ, Bool, ◌&&◌, not, if◌then◌else◌, nat_le, List, ◌++◌, codes, Option, Some, None}
+use Rattle.std.specs.Prelude.{option_and_then, option_map, length, string_bytes, ◌==◌}
 use Rattle.std.specs.List.{list_all}
 use Rattle.std.specs.Char.{is_ascii_digit}
 use Rattle.std.specs.Str.{bytes_eq}
@@ -38,7 +39,8 @@ power_read word =
     else if bytes_eq word (codes "ok") then Some power.Ok
     else None
 
--- the request of one character of the list in the place of CHAR, with these seconds, or of the power's word: one is given
+-- the request of one character of the list in the place of CHAR, with these seconds, or of the power's word: one is
+-- given
 abbrev pub request_in : ℕ → Option Text → Option Text → Option Request
 request_in secs None None = None
 request_in secs (Some sign) None =

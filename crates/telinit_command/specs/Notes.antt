@@ -26,4 +26,5 @@ reading_note path (unknown reason) = unknown_note path reason
 -- a writer gained what is told of the channel at this path, as much of it as it took
 abbrev pub IsTold : List ℕ → Option (List ℕ) → Option (List ℕ) → Type 0
 IsTold path old new =
-    (was_made : Bool) × (reading : Reading) × AppendsPrefix old new (made_note path was_made ++ reading_note path reading)
+    (was_made : Bool) × (reading : Reading)
+    × AppendsPrefix old new (made_note path was_made ++ reading_note path reading)

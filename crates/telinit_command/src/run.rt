@@ -56,7 +56,8 @@ pub fn run_words<C: Channels, W: Write, E: Write>(
         ⊎ IsSome (block_said home.now (map string_bytes words.items)) }
     ensures usage { result ≡ REFUSED → IsNone (block_said home.now (map string_bytes words.items)) }
     ensures appended { result ≡ DONE → asks_version (map string_bytes words.items) ≡ false
-        → Asks home.now (map string_bytes words.items) (C.bytes_at channels.old) (C.bytes_at channels.new) }
+        → Asks home.now (map string_bytes words.items) (C.bytes_at channels.old)
+        (C.bytes_at channels.new) }
     ensures unappended { result ≡ DEVICE_FAULT
         → AreSame (C.bytes_at channels.old) (C.bytes_at channels.new)
         ⊎ AsksPartly home.now (map string_bytes words.items)

@@ -1,19 +1,25 @@
 -- A text, cut at the first byte of a kind, and its lines.
-use Rattle.text_lines.proofs.CommonWords.{◌≡◌, ◌⊎◌, ℕ, suc, ◌+◌, ◌<◌, Bool, true, false, cond, ◌==◌, List, [], ◌∷◌, ◌++◌, length, take, drop, slice_index, Option, Some, None, refl, sym, ◌∙◌, arith, inl, inr, false_from_ne_true, or_parts, eqb-true, onto_first, cut, has_byte, lines_of, skip_blanks}
+use Rattle.text_lines.proofs.CommonWords.{◌≡◌, ◌⊎◌, ℕ, suc, ◌+◌, ◌<◌, Bool, true, false, cond, ◌==◌, List, [], ◌∷◌}
+use Rattle.text_lines.proofs.CommonWords.{◌++◌, length, take, drop, slice_index, Option, Some, None, refl, sym, ◌∙◌}
+use Rattle.text_lines.proofs.CommonWords.{arith, inl, inr, false_from_ne_true, or_parts, eqb-true, onto_first, cut}
+use Rattle.text_lines.proofs.CommonWords.{has_byte, lines_of, skip_blanks}
 use Rattle.std.specs.Option.{option_map}
 use Rattle.std.proofs.lemmas.List.Folds.{list_any-append}
 
-pub cut-none : (mark : ℕ) (text : List ℕ) → ((k : ℕ) → k < length text → (slice_index text k == mark) ≡ true → ⊥) → cut mark text ≡ None
+pub cut-none : (mark : ℕ) (text : List ℕ) → ((k : ℕ) → k < length text → (slice_index text k == mark) ≡ true → ⊥)
+    → cut mark text ≡ None
 cut-none mark [] h = refl
 cut-none mark (b ∷ text) h =
     let here : (b == mark) ≡ false = false_from_ne_true (b == mark) (h 0 (omega arith)) in
     let rest : cut mark text ≡ None = cut-none mark text (λ k within is. h (suc k) (omega arith) is) in
     rw (here, rest) refl
 
-pub cut-first : (mark : ℕ) (text : List ℕ) (k : ℕ) → k < length text → ((j : ℕ) → j < k → (slice_index text j == mark) ≡ true → ⊥) → (slice_index text k == mark) ≡ true → cut mark text ≡ Some (take k text, drop (k + 1) text)
+pub cut-first : (mark : ℕ) (text : List ℕ) (k : ℕ) → k < length text → ((j : ℕ) → j < k → (slice_index text j == mark)
+    ≡ true → ⊥) → (slice_index text k == mark) ≡ true → cut mark text ≡ Some (take k text, drop (k + 1) text)
 cut-first mark (b ∷ text) (suc k) within before here =
     let other : (b == mark) ≡ false = false_from_ne_true (b == mark) (before 0 (omega arith)) in
-    let rest : cut mark text ≡ Some (take k text, drop (k + 1) text) = cut-first mark text k (omega arith) (λ j within is. before (suc j) (omega arith) is) here in
+    let rest : cut mark text ≡ Some (take k text, drop (k + 1) text) =
+    cut-first mark text k (omega arith) (λ j within is. before (suc j) (omega arith) is) here in
     let more : suc k + 1 ≡ suc (k + 1) = omega arith in
     rw (other, rest, more) refl
 cut-first mark text k within before here = grind arith
@@ -24,20 +30,25 @@ at_once text = Some ([], text)
 
 -- how a cut of a text came about: at its first byte, or behind it
 abbrev Began : ℕ → ℕ → List ℕ → List ℕ → List ℕ → Type 0
-Began mark b text left right = ((left ≡ []) × (right ≡ text) × ((b == mark) ≡ true)) ⊎ ((more : List ℕ) × (left ≡ b ∷ more) × (cut mark text ≡ Some (more, right)) × ((b == mark) ≡ false))
+Began mark b text left right = ((left ≡ []) × (right ≡ text) × ((b == mark) ≡ true))
+    ⊎ ((more : List ℕ) × (left ≡ b ∷ more) × (cut mark text ≡ Some (more, right)) × ((b == mark) ≡ false))
 
-began_later : (mark b : ℕ) (text left right : List ℕ) (o : Option (List ℕ × List ℕ)) → cut mark text ≡ o → (b == mark) ≡ false → option_map (onto_first b) o ≡ Some (left, right) → Began mark b text left right
+began_later : (mark b : ℕ) (text left right : List ℕ) (o : Option (List ℕ × List ℕ)) → cut mark text ≡ o
+    → (b == mark) ≡ false → option_map (onto_first b) o ≡ Some (left, right) → Began mark b text left right
 began_later mark b text left right o was other is = grind arith
 
-began_by : (mark b : ℕ) (text left right : List ℕ) (x : Bool) → (b == mark) ≡ x → cond x (at_once text) (option_map (onto_first b) (cut mark text)) ≡ Some (left, right) → Began mark b text left right
+began_by : (mark b : ℕ) (text left right : List ℕ) (x : Bool) → (b == mark) ≡ x → cond x (at_once text)
+    (option_map (onto_first b) (cut mark text)) ≡ Some (left, right) → Began mark b text left right
 began_by mark b text left right true here is = grind arith
 began_by mark b text left right false other is = began_later mark b text left right (cut mark text) refl other is
 
-began : (mark b : ℕ) (text left right : List ℕ) → cut mark (b ∷ text) ≡ Some (left, right) → Began mark b text left right
+began : (mark b : ℕ) (text left right : List ℕ) → cut mark (b ∷ text) ≡ Some (left, right)
+    → Began mark b text left right
 began mark b text left right is = began_by mark b text left right (b == mark) refl is
 
 -- a cut leaves nothing out, and stops at the first byte of the kind
-pub cut-parts : (mark : ℕ) (text left right : List ℕ) → cut mark text ≡ Some (left, right) → (text ≡ left ++ mark ∷ right) × (has_byte mark left ≡ false)
+pub cut-parts : (mark : ℕ) (text left right : List ℕ) → cut mark text ≡ Some (left, right)
+    → (text ≡ left ++ mark ∷ right) × (has_byte mark left ≡ false)
 cut-parts mark [] left right is = absurd (cc)
 cut-parts mark (b ∷ text) left right is =
     elim (began mark b text left right is) [
@@ -46,7 +57,8 @@ cut-parts mark (b ∷ text) left right is =
     ]
 
 -- where there is no cut there is no such byte
-none_by : (mark b : ℕ) (text : List ℕ) (x : Bool) (o : Option (List ℕ × List ℕ)) → cond x (at_once text) (option_map (onto_first b) o) ≡ None → (x ≡ false) × (o ≡ None)
+none_by : (mark b : ℕ) (text : List ℕ) (x : Bool) (o : Option (List ℕ × List ℕ))
+    → cond x (at_once text) (option_map (onto_first b) o) ≡ None → (x ≡ false) × (o ≡ None)
 none_by mark b text true o is = absurd (cc)
 none_by mark b text false None is = (refl, refl)
 none_by mark b text false (Some p) is = absurd (cc)
@@ -56,7 +68,8 @@ cut-lacks mark [] is = grind arith
 cut-lacks mark (b ∷ text) is = grind (arith, cut-lacks mark text)
 
 -- a cut of two parts joined
-pub cut-append : (mark : ℕ) (left right : List ℕ) → has_byte mark left ≡ false → cut mark (left ++ mark ∷ right) ≡ Some (left, right)
+pub cut-append : (mark : ℕ) (left right : List ℕ) → has_byte mark left ≡ false
+    → cut mark (left ++ mark ∷ right) ≡ Some (left, right)
 cut-append mark [] right lacks = grind arith
 cut-append mark (b ∷ left) right lacks = grind (arith, cut-append mark left right)
 
@@ -78,17 +91,22 @@ lines_of-last (b ∷ c ∷ text) some is =
 lines_of-last text some is = grind (arith, none_by)
 
 -- a line and the text behind it
-pub lines_of-append : (left right : List ℕ) → has_byte 10 left ≡ false → lines_of (left ++ 10 ∷ right) ≡ left ∷ lines_of right
+pub lines_of-append : (left right : List ℕ) → has_byte 10 left ≡ false
+    → lines_of (left ++ 10 ∷ right) ≡ left ∷ lines_of right
 lines_of-append left right lacks = lines_of-cut (left ++ 10 ∷ right) left right (cut-append 10 left right lacks)
 
 -- a byte that two parts have not
-pub has_byte-append : (byte : ℕ) (left right : List ℕ) → has_byte byte left ≡ false → has_byte byte right ≡ false → has_byte byte (left ++ right) ≡ false
+pub has_byte-append : (byte : ℕ) (left right : List ℕ) → has_byte byte left ≡ false → has_byte byte right ≡ false
+    → has_byte byte (left ++ right) ≡ false
 has_byte-append byte left right first second = list_any-append (λ b. b == byte) left right ∙ rw (first, second) refl
 
 -- a byte that the whole has not
-pub has_byte-parts : (byte : ℕ) (left right : List ℕ) → has_byte byte (left ++ right) ≡ false → (has_byte byte left ≡ false) × (has_byte byte right ≡ false)
-has_byte-parts byte left right lacks = or_parts (has_byte byte left) (has_byte byte right) (sym (list_any-append (λ b. b == byte) left right) ∙ lacks)
+pub has_byte-parts : (byte : ℕ) (left right : List ℕ) → has_byte byte (left ++ right) ≡ false
+    → (has_byte byte left ≡ false) × (has_byte byte right ≡ false)
+has_byte-parts byte left right lacks =
+    or_parts (has_byte byte left) (has_byte byte right) (sym (list_any-append (λ b. b == byte) left right) ∙ lacks)
 
-pub has_byte-skip_blanks : (byte : ℕ) (line : List ℕ) → has_byte byte line ≡ false → has_byte byte (skip_blanks line) ≡ false
+pub has_byte-skip_blanks : (byte : ℕ) (line : List ℕ) → has_byte byte line ≡ false
+    → has_byte byte (skip_blanks line) ≡ false
 has_byte-skip_blanks byte [] lacks = grind arith
 has_byte-skip_blanks byte (b ∷ line) lacks = grind (arith, has_byte-skip_blanks byte line)

@@ -1,11 +1,15 @@
 -- A text in pieces, and a text by its lines: what is cut off and what is left make the whole.
-use Rattle.text_lines.proofs.CommonWords.{◌≡◌, ℕ, zero, suc, ◌+◌, ◌-◌, ◌<◌, Bool, true, false, cond, not, ◌==◌, List, [], ◌∷◌, ◌++◌, length, take, filter, slice_get, Option, Some, None, refl, sym, ap, ◌∙◌, arith, length-append, not-true, append_assoc, cut, ended, has_byte, newlines, after_lines, pieces_of}
+use Rattle.text_lines.proofs.CommonWords.{◌≡◌, ℕ, zero, suc, ◌+◌, ◌-◌, ◌<◌, Bool, true, false, cond, not, ◌==◌, List}
+use Rattle.text_lines.proofs.CommonWords.{[], ◌∷◌, ◌++◌, length, take, filter, slice_get, Option, Some, None, refl, sym}
+use Rattle.text_lines.proofs.CommonWords.{ap, ◌∙◌, arith, length-append, not-true, append_assoc, cut, ended, has_byte}
+use Rattle.text_lines.proofs.CommonWords.{newlines, after_lines, pieces_of}
 use Rattle.std.specs.List.{join_with_byte, list_all}
 use Rattle.std.proofs.lemmas.Option.{option_and_then_some, same_Some}
 use Rattle.text_lines.proofs.CutLemmas.{cut-parts, cut-lacks}
 
 -- the first piece, and those of what stands behind it
-pub pieces_of-at : (mark : ℕ) (word rest : List ℕ) → has_byte mark word ≡ false → pieces_of mark (word ++ mark ∷ rest) ≡ word ∷ pieces_of mark rest
+pub pieces_of-at : (mark : ℕ) (word rest : List ℕ) → has_byte mark word ≡ false
+    → pieces_of mark (word ++ mark ∷ rest) ≡ word ∷ pieces_of mark rest
 pieces_of-at mark [] rest lacks = grind arith
 pieces_of-at mark (b ∷ word) rest lacks = grind (arith, pieces_of-at mark word rest)
 
@@ -13,7 +17,8 @@ pub pieces_of-last : (mark : ℕ) (word : List ℕ) → has_byte mark word ≡ f
 pieces_of-last mark [] lacks = grind arith
 pieces_of-last mark (b ∷ word) lacks = grind (arith, pieces_of-last mark word)
 
-pub pieces_of-cut : (mark : ℕ) (text word rest : List ℕ) → cut mark text ≡ Some (word, rest) → pieces_of mark text ≡ word ∷ pieces_of mark rest
+pub pieces_of-cut : (mark : ℕ) (text word rest : List ℕ) → cut mark text ≡ Some (word, rest)
+    → pieces_of mark text ≡ word ∷ pieces_of mark rest
 pieces_of-cut mark text word rest is =
     let parts = cut-parts mark text word rest is in
     ap (pieces_of mark) parts.0 ∙ pieces_of-at mark word rest parts.1
@@ -22,7 +27,8 @@ pub pieces_of-whole : (mark : ℕ) (text : List ℕ) → cut mark text ≡ None 
 pieces_of-whole mark text is = pieces_of-last mark text (cut-lacks mark text is)
 
 -- pieces without the byte, joined by it, are the pieces again
-pub pieces_of-joined : (mark : ℕ) (word : List ℕ) (words : List (List ℕ)) → list_all (λ w. not (has_byte mark w)) (word ∷ words) ≡ true
+pub pieces_of-joined : (mark : ℕ) (word : List ℕ) (words : List (List ℕ))
+    → list_all (λ w. not (has_byte mark w)) (word ∷ words) ≡ true
     → pieces_of mark (join_with_byte mark (word ∷ words)) ≡ word ∷ words
 pieces_of-joined mark word [] lack = grind (arith, pieces_of-last, not-true, pieces_of-at)
 pieces_of-joined mark word (next ∷ words) lack =
@@ -30,7 +36,8 @@ pieces_of-joined mark word (next ∷ words) lack =
 
 -- newlines of two texts
 newlines_by : (b : ℕ) (left right : List ℕ) (x : Bool) → newlines (left ++ right) ≡ newlines left + newlines right
-    → length (cond x (b ∷ filter (λ c. c == 10) (left ++ right)) (filter (λ c. c == 10) (left ++ right))) ≡ length (cond x (b ∷ filter (λ c. c == 10) left) (filter (λ c. c == 10) left)) + newlines right
+    → length (cond x (b ∷ filter (λ c. c == 10) (left ++ right)) (filter (λ c. c == 10) (left ++ right)))
+    ≡ length (cond x (b ∷ filter (λ c. c == 10) left) (filter (λ c. c == 10) left)) + newlines right
 newlines_by b left right true rest = omega (arith, rest)
 newlines_by b left right false rest = rest
 
@@ -59,8 +66,11 @@ after_lines-front (suc n) text rest is =
     let behind = after_lines-front n parts.1 rest more in
     record {
       front = (parts.0 ++ 10 ∷ []) ++ behind.front;
-      whole = first.0 ∙ sym (append_assoc parts.0 (10 ∷ []) parts.1) ∙ ap (λ t. (parts.0 ++ 10 ∷ []) ++ t) behind.whole ∙ sym (append_assoc (parts.0 ++ 10 ∷ []) behind.front rest);
-      counted = newlines-append (parts.0 ++ 10 ∷ []) behind.front ∙ omega (arith, newlines-line parts.0 first.1, behind.counted);
+      whole = first.0 ∙ sym (append_assoc parts.0 (10 ∷ []) parts.1) ∙ ap (λ t. (parts.0 ++ 10 ∷ []) ++ t) behind.whole
+          ∙ sym (append_assoc (parts.0 ++ 10 ∷ []) behind.front rest);
+      counted =
+          newlines-append (parts.0 ++ 10 ∷ []) behind.front
+          ∙ omega (arith, newlines-line parts.0 first.1, behind.counted);
     })
 
 -- the text before an end of it
@@ -75,7 +85,8 @@ take-front front rest = short (length (front ++ rest) - length rest) (omega (ari
     short n same = ap (λ k. take k (front ++ rest)) same ∙ taken front
 
 -- one line of those that are wanted is gone
-pub after_lines-step : (n : ℕ) (text line rest : List ℕ) → 0 < n → cut 10 text ≡ Some (line, rest) → after_lines n text ≡ after_lines (n - 1) rest
+pub after_lines-step : (n : ℕ) (text line rest : List ℕ) → 0 < n → cut 10 text ≡ Some (line, rest)
+    → after_lines n text ≡ after_lines (n - 1) rest
 after_lines-step zero text line rest some is = absurd (omega arith)
 after_lines-step (suc n) text line rest some is = grind arith
 
@@ -88,11 +99,13 @@ after_lines-short (suc n) text some is = rw is refl
 pub ended-closed : (text : List ℕ) → slice_get text (length text - 1) ≡ Some 10 → ended text ≡ text
 ended-closed (b ∷ c ∷ text) last = ap (λ t. b ∷ t) (ended-closed (c ∷ text) (behind b c text (Some 10) last))
   where
-    behind : (b c : ℕ) (text : List ℕ) (o : Option ℕ) → slice_get (b ∷ c ∷ text) (length (b ∷ c ∷ text) - 1) ≡ o → slice_get (c ∷ text) (length (c ∷ text) - 1) ≡ o
+    behind : (b c : ℕ) (text : List ℕ) (o : Option ℕ) → slice_get (b ∷ c ∷ text) (length (b ∷ c ∷ text) - 1) ≡ o
+        → slice_get (c ∷ text) (length (c ∷ text) - 1) ≡ o
     behind b c text o is = grind arith
 ended-closed text last = grind (arith, same_Some)
 
-pub ended-open : (text : List ℕ) (byte : ℕ) → slice_get text (length text - 1) ≡ Some byte → (byte == 10) ≡ false → ended text ≡ text ++ 10 ∷ []
+pub ended-open : (text : List ℕ) (byte : ℕ) → slice_get text (length text - 1) ≡ Some byte → (byte == 10) ≡ false
+    → ended text ≡ text ++ 10 ∷ []
 ended-open [] byte last other = absurd (cc)
 ended-open (b ∷ []) byte last other = grind arith
 ended-open (b ∷ c ∷ text) byte last other =

@@ -1,5 +1,8 @@
 -- Parts of a text that is UTF-8 are UTF-8 where they are cut at bytes of ASCII, as blanks and tabs.
-use Rattle.text_lines.proofs.CommonWords.{◌≡◌, ℕ, zero, suc, ◌+◌, ◌<◌, ◌≤◌, Bool, true, false, cond, ◌||◌, ◌==◌, List, [], ◌∷◌, ◌++◌, length, take, drop, get_or, refl, ap, subst, arith, IsCharBoundary, eqb-true, IsCharBoundary-after_ascii, IsUtf8-drop, IsUtf8-take, IsUtf8-nil, is_blank, skip_blanks, trim, trim_end, word_length}
+use Rattle.text_lines.proofs.CommonWords.{◌≡◌, ℕ, zero, suc, ◌+◌, ◌<◌, ◌≤◌, Bool, true, false, cond, ◌||◌, ◌==◌, List}
+use Rattle.text_lines.proofs.CommonWords.{[], ◌∷◌, ◌++◌, length, take, drop, get_or, refl, ap, subst, arith}
+use Rattle.text_lines.proofs.CommonWords.{IsCharBoundary, eqb-true, IsCharBoundary-after_ascii, IsUtf8-drop}
+use Rattle.text_lines.proofs.CommonWords.{IsUtf8-take, IsUtf8-nil, is_blank, skip_blanks, trim, trim_end, word_length}
 use Rattle.std.specs.Str.{IsUtf8}
 use Rattle.text_lines.proofs.BlankLemmas.{trim_end-done, trim_end-nil, trim_end-shorter}
 
@@ -13,9 +16,11 @@ blank_is_ascii b is = blank_by b (b == 32) refl is
 
 -- a text behind a byte of ASCII
 pub behind_ascii : (b : ℕ) (text : List ℕ) → b < 128 → IsUtf8 (b ∷ text) → IsUtf8 text
-behind_ascii b text low utf8 = IsUtf8-drop (b ∷ text) 1 utf8 (IsCharBoundary-after_ascii (b ∷ text) 0 utf8 (omega arith) low)
+behind_ascii b text low utf8 =
+    IsUtf8-drop (b ∷ text) 1 utf8 (IsCharBoundary-after_ascii (b ∷ text) 0 utf8 (omega arith) low)
 
-skip_by : (b : ℕ) (text : List ℕ) (x : Bool) → is_blank b ≡ x → IsUtf8 (b ∷ text) → (IsUtf8 text → IsUtf8 (skip_blanks text)) → IsUtf8 (cond x (skip_blanks text) (b ∷ text))
+skip_by : (b : ℕ) (text : List ℕ) (x : Bool) → is_blank b ≡ x → IsUtf8 (b ∷ text)
+    → (IsUtf8 text → IsUtf8 (skip_blanks text)) → IsUtf8 (cond x (skip_blanks text) (b ∷ text))
 skip_by b text true is utf8 rest = rest (behind_ascii b text (blank_is_ascii b is) utf8)
 skip_by b text false is utf8 rest = utf8
 
@@ -24,7 +29,9 @@ skip_blanks-utf8 [] utf8 = utf8
 skip_blanks-utf8 (b ∷ text) utf8 = skip_by b text (is_blank b) refl utf8 (skip_blanks-utf8 text)
 
 -- a word ends at a blank, or where the text does
-word_end_by : (b : ℕ) (text : List ℕ) (x : Bool) → is_blank b ≡ x → (word_length text < length text → is_blank (get_or text (word_length text) 0) ≡ true) → cond x 0 (suc (word_length text)) < length (b ∷ text) → is_blank (get_or (b ∷ text) (cond x 0 (suc (word_length text))) 0) ≡ true
+word_end_by : (b : ℕ) (text : List ℕ) (x : Bool) → is_blank b ≡ x → (word_length text < length text
+    → is_blank (get_or text (word_length text) 0) ≡ true) → cond x 0 (suc (word_length text)) < length (b ∷ text)
+    → is_blank (get_or (b ∷ text) (cond x 0 (suc (word_length text))) 0) ≡ true
 word_end_by b text true is rest within = is
 word_end_by b text false is rest within = rest (omega arith)
 
@@ -44,9 +51,11 @@ word_within (b ∷ text) = word_within_by (is_blank b) (word_length text) (lengt
 boundary : (text : List ℕ) (n : ℕ) → n ≤ length text → (n < length text → get_or text n 0 < 128) → IsCharBoundary text n
 boundary text n within low = (within, λ inside high. absurd (let less = low inside in omega arith))
 
-pub word-utf8 : (text : List ℕ) → IsUtf8 text → IsUtf8 (take (word_length text) text) × IsUtf8 (drop (word_length text) text)
+pub word-utf8 : (text : List ℕ) → IsUtf8 text
+    → IsUtf8 (take (word_length text) text) × IsUtf8 (drop (word_length text) text)
 word-utf8 text utf8 =
-    let at = boundary text (word_length text) (word_within text) (λ within. blank_is_ascii (get_or text (word_length text) 0) (word_end text within)) in
+    let at = boundary text (word_length text) (word_within text)
+    (λ within. blank_is_ascii (get_or text (word_length text) 0) (word_end text within)) in
     (IsUtf8-take text (word_length text) utf8 at, IsUtf8-drop text (word_length text) utf8 at)
 
 -- a text behind a byte of ASCII that stands somewhere in it
@@ -56,20 +65,25 @@ get_or-seam (b ∷ left) mark right = get_or-seam left mark right
 
 drop-seam : (left : List ℕ) (mark : ℕ) (right : List ℕ) → drop (length left + 1) (left ++ mark ∷ right) ≡ right
 drop-seam [] mark right = refl
-drop-seam (b ∷ left) mark right = let e : suc (length left) + 1 ≡ suc (length left + 1) = omega arith in rw e (drop-seam left mark right)
+drop-seam (b ∷ left) mark right = let e : suc (length left) + 1 ≡ suc (length left + 1) = omega arith in
+    rw e (drop-seam left mark right)
 
 length-seam : (left : List ℕ) (mark : ℕ) (right : List ℕ) → length left < length (left ++ mark ∷ right)
 length-seam [] mark right = omega arith
 length-seam (b ∷ left) mark right = let less = length-seam left mark right in omega arith
 
-pub behind-utf8 : (left : List ℕ) (mark : ℕ) (right : List ℕ) → mark < 128 → IsUtf8 (left ++ mark ∷ right) → IsUtf8 right
+pub behind-utf8 : (left : List ℕ) (mark : ℕ) (right : List ℕ) → mark < 128 → IsUtf8 (left ++ mark ∷ right)
+    → IsUtf8 right
 behind-utf8 left mark right low utf8 =
     let whole = left ++ mark ∷ right in
-    let at = IsCharBoundary-after_ascii whole (length left) utf8 (length-seam left mark right) (omega (arith, get_or-seam left mark right)) in
+    let at = IsCharBoundary-after_ascii whole (length left) utf8 (length-seam left mark right)
+    (omega (arith, get_or-seam left mark right)) in
     subst (λ t. IsUtf8 t) (drop-seam left mark right) (IsUtf8-drop whole (length left + 1) utf8 at)
 
 -- a text without the blanks at its end
-end_by : (text : List ℕ) (n : ℕ) (x : Bool) → is_blank (get_or text n 0) ≡ x → n < length text → IsUtf8 text → IsCharBoundary text (suc n) → (IsCharBoundary text n → IsUtf8 (trim_end (take n text))) → IsUtf8 (trim_end (take (n + 1) text))
+end_by : (text : List ℕ) (n : ℕ) (x : Bool) → is_blank (get_or text n 0) ≡ x → n < length text → IsUtf8 text
+    → IsCharBoundary text (suc n) → (IsCharBoundary text n → IsUtf8 (trim_end (take n text)))
+    → IsUtf8 (trim_end (take (n + 1) text))
 end_by text n true is within utf8 at rest =
     let here = boundary text n (omega arith) (λ inside. blank_is_ascii (get_or text n 0) is) in
     rw (trim_end-shorter text n within is) (rest here)
@@ -77,7 +91,8 @@ end_by text n false is within utf8 at rest =
     let e : n + 1 ≡ suc n = omega arith in
     rw (trim_end-done text n within is) (rw e (IsUtf8-take text (suc n) utf8 at))
 
-end-utf8 : (text : List ℕ) (n : ℕ) → n ≤ length text → IsUtf8 text → IsCharBoundary text n → IsUtf8 (trim_end (take n text))
+end-utf8 : (text : List ℕ) (n : ℕ) → n ≤ length text → IsUtf8 text → IsCharBoundary text n
+    → IsUtf8 (trim_end (take n text))
 end-utf8 text zero within utf8 at = rw trim_end-nil IsUtf8-nil
 end-utf8 text (suc n) within utf8 at =
     let e : suc n ≡ n + 1 = omega arith in
@@ -89,7 +104,8 @@ take_whole (b ∷ text) = ap (λ t. b ∷ t) (take_whole text)
 
 trim_end-utf8 : (text : List ℕ) → IsUtf8 text → IsUtf8 (trim_end text)
 trim_end-utf8 text utf8 =
-    subst (λ t. IsUtf8 (trim_end t)) (take_whole text) (end-utf8 text (length text) (omega arith) utf8 (boundary text (length text) (omega arith) (λ inside. absurd (omega arith))))
+    subst (λ t. IsUtf8 (trim_end t)) (take_whole text) (end-utf8 text (length text) (omega arith) utf8
+    (boundary text (length text) (omega arith) (λ inside. absurd (omega arith))))
 
 pub trim-utf8 : (text : List ℕ) → IsUtf8 text → IsUtf8 (trim text)
 trim-utf8 text utf8 = trim_end-utf8 (skip_blanks text) (skip_blanks-utf8 text utf8)

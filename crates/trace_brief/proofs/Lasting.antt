@@ -1,5 +1,11 @@
 -- What is read off the happenings other than looks, tellings, readings of the clock and rounds alone.
-use Rattle.trace_brief.proofs.Words.{◌≡◌, refl, ◌∙◌, ap, ℕ, not, ◌&&◌, ◌||◌, List, [], ◌∷◌, filter, arith, Entry, Letter, OnCall, Boot, Start, Look, PowerKind, same_id, is_called_by, is_ondemand, stays_called, names, same_letter, same_power, NewTable, NotRead, Enter, Call, Power, Asked, Settle, Birth, Reaped, Got, Handed, Goal, Event, table_of, stage_of, grace_of, is_child, unreaped_children, is_dead, brings, is_asked, is_called, starts_in, is_level, goal_of, wants_reexec, wants_reread, heard_level, keeps_power, keeps_letter, was_booted, left_ids, is_announced, lasting_events}
+use Rattle.trace_brief.proofs.Words.{◌≡◌, refl, ◌∙◌, ap, ℕ, not, ◌&&◌, ◌||◌, List, [], ◌∷◌, filter, arith, Entry}
+use Rattle.trace_brief.proofs.Words.{Letter, OnCall, Boot, Start, Look, PowerKind, same_id, is_called_by, is_ondemand}
+use Rattle.trace_brief.proofs.Words.{stays_called, names, same_letter, same_power, NewTable, NotRead, Enter, Call}
+use Rattle.trace_brief.proofs.Words.{Power, Asked, Settle, Birth, Reaped, Got, Handed, Goal, Event, table_of, stage_of}
+use Rattle.trace_brief.proofs.Words.{grace_of, is_child, unreaped_children, is_dead, brings, is_asked, is_called}
+use Rattle.trace_brief.proofs.Words.{starts_in, is_level, goal_of, wants_reexec, wants_reread, heard_level, keeps_power}
+use Rattle.trace_brief.proofs.Words.{keeps_letter, was_booted, left_ids, is_announced, lasting_events}
 use Rattle.initctl_frame.specs.declared.requests.HeardRequest.TheVariants as got
 
 pub table_lasting : (past : List Event) → table_of past ≡ table_of (lasting_events past)
@@ -26,7 +32,8 @@ dead_lasting id n (happening ∷ past) = grind (arith, dead_lasting id n past)
 pub asked_lasting : (id : List ℕ) (past : List Event) → is_asked id past ≡ is_asked id (lasting_events past)
 asked_lasting id [] = refl
 asked_lasting id (Enter stage grace ∷ past) = refl
-asked_lasting id (NewTable table ∷ past) = ap (λ before. not (brings id table before) && is_asked id past) (table_lasting past) ∙ ap (λ b. not (brings id table (table_of (lasting_events past))) && b) (asked_lasting id past)
+asked_lasting id (NewTable table ∷ past) = ap (λ before. not (brings id table before) && is_asked id past)
+    (table_lasting past) ∙ ap (λ b. not (brings id table (table_of (lasting_events past))) && b) (asked_lasting id past)
 asked_lasting id (Asked i Start ∷ past) = ap (λ b. same_id id i || b) (asked_lasting id past)
 asked_lasting id (Asked i Look ∷ past) = asked_lasting id past
 asked_lasting id (_ ∷ past) = asked_lasting id past
@@ -35,9 +42,14 @@ pub called_lasting : (e : Entry) (past : List Event) → is_called e past ≡ is
 called_lasting e [] = refl
 called_lasting e (Enter stage grace ∷ past) = refl
 called_lasting e (NewTable table ∷ past) = refl
-called_lasting e (Power kind ∷ past) = ap (λ now. is_called_by kind e.act && starts_in e now || is_called e past) (stage_lasting past) ∙ ap (λ b. is_called_by kind e.act && starts_in e (stage_of (lasting_events past)) || b) (called_lasting e past)
-called_lasting e (Call letter ∷ past) = ap (λ now. is_ondemand e.act && names (OnCall letter) e.levels.items && starts_in e now || is_called e past) (stage_lasting past) ∙ ap (λ b. is_ondemand e.act && names (OnCall letter) e.levels.items && starts_in e (stage_of (lasting_events past)) || b) (called_lasting e past)
-called_lasting e (Asked i Start ∷ past) = ap (λ b. (stays_called e.act || not (same_id e.id i)) && b) (called_lasting e past)
+called_lasting e (Power kind ∷ past) =
+    ap (λ now. is_called_by kind e.act && starts_in e now || is_called e past) (stage_lasting past)
+    ∙ ap (λ b. is_called_by kind e.act && starts_in e (stage_of (lasting_events past)) || b) (called_lasting e past)
+called_lasting e (Call letter ∷ past) = ap (λ now. is_ondemand e.act && names (OnCall letter) e.levels.items
+    && starts_in e now || is_called e past) (stage_lasting past) ∙ ap (λ b. is_ondemand e.act && names
+    (OnCall letter) e.levels.items && starts_in e (stage_of (lasting_events past)) || b) (called_lasting e past)
+called_lasting e (Asked i Start ∷ past) =
+    ap (λ b. (stays_called e.act || not (same_id e.id i)) && b) (called_lasting e past)
 called_lasting e (Asked i Look ∷ past) = called_lasting e past
 called_lasting e (_ ∷ past) = called_lasting e past
 
@@ -59,7 +71,8 @@ reread_lasting [] = refl
 reread_lasting (NewTable table ∷ past) = refl
 reread_lasting (NotRead ∷ past) = refl
 reread_lasting (Got got.Reload ∷ past) = refl
-reread_lasting (Got (got.Level l s) ∷ past) = ap (λ now. not (is_level l now) || wants_reread past) (stage_lasting past) ∙ ap (λ b. not (is_level l (stage_of (lasting_events past))) || b) (reread_lasting past)
+reread_lasting (Got (got.Level l s) ∷ past) = ap (λ now. not (is_level l now) || wants_reread past) (stage_lasting past)
+    ∙ ap (λ b. not (is_level l (stage_of (lasting_events past))) || b) (reread_lasting past)
 reread_lasting (Asked i Look ∷ past) = reread_lasting past
 reread_lasting (_ ∷ past) = reread_lasting past
 
@@ -70,14 +83,16 @@ heard_lasting (Got (got.Level l s) ∷ past) = refl
 heard_lasting (Asked i Look ∷ past) = heard_lasting past
 heard_lasting (_ ∷ past) = heard_lasting past
 
-pub power_lasting : (kind : PowerKind) (past : List Event) → keeps_power kind past ≡ keeps_power kind (lasting_events past)
+pub power_lasting : (kind : PowerKind) (past : List Event)
+    → keeps_power kind past ≡ keeps_power kind (lasting_events past)
 power_lasting kind [] = refl
 power_lasting kind (Power k ∷ past) = ap (λ b. not (same_power kind k) && b) (power_lasting kind past)
 power_lasting kind (Got (got.Power k) ∷ past) = ap (λ b. same_power kind k || b) (power_lasting kind past)
 power_lasting kind (Asked i Look ∷ past) = power_lasting kind past
 power_lasting kind (_ ∷ past) = power_lasting kind past
 
-pub letter_lasting : (letter : Letter) (past : List Event) → keeps_letter letter past ≡ keeps_letter letter (lasting_events past)
+pub letter_lasting : (letter : Letter) (past : List Event)
+    → keeps_letter letter past ≡ keeps_letter letter (lasting_events past)
 letter_lasting letter [] = refl
 letter_lasting letter (Call l ∷ past) = ap (λ b. not (same_letter letter l) && b) (letter_lasting letter past)
 letter_lasting letter (Got (got.Call l) ∷ past) = ap (λ b. same_letter letter l || b) (letter_lasting letter past)

@@ -1,7 +1,21 @@
 -- What is due behind a trace is due behind one that is alike.
-use Rattle.trace_brief.proofs.Words.{◌≡◌, refl, sym, ◌∙◌, ap, ap₂, ℕ, ◌+◌, ◌-◌, Bool, true, not, ◌&&◌, nat_lt, nat_le, List, [], ◌∷◌, ◌++◌, filter, length, Option, arith, list_any, list_all, list_any-append, HOLD, STARTS, WINDOW, Entry, Level, Letter, Stage, Sysinit, Run, Look, PowerKind, same_ask, waited_of, Step, Goal, Event, table_of, stage_of, Child, is_of, has_child, kept_children, known_children, Open, is_quiet, is_idle, is_wanted, is_owed, is_excluded, stop_due, is_held, is_full, is_level, in_run, goal_of, wants_reexec, wants_reread, heard_level, other_than, level_wish, keeps_power, keeps_letter, powers, letters, wish_stands, step_if, steps_if, none_excluded, due_first, due_reexec, due_reread, due_level, power_steps, letter_steps, due_news, record_ids, stop_step, stops_of, stops_among, due_stops, can_start, start_steps, starts_among, due_starts, due_stage, is_served, is_settled, settle_step, due_settle, can_look, looks_among, due_looks, same_step, is_due, same_tests, any_same, same_has, same_any}
+use Rattle.trace_brief.proofs.Words.{◌≡◌, refl, sym, ◌∙◌, ap, ap₂, ℕ, ◌+◌, ◌-◌, Bool, true, not, ◌&&◌, nat_lt, nat_le}
+use Rattle.trace_brief.proofs.Words.{List, [], ◌∷◌, ◌++◌, filter, length, Option, arith, list_any, list_all}
+use Rattle.trace_brief.proofs.Words.{list_any-append, HOLD, STARTS, WINDOW, Entry, Level, Letter, Stage, Sysinit, Run}
+use Rattle.trace_brief.proofs.Words.{Look, PowerKind, same_ask, waited_of, Step, Goal, Event, table_of, stage_of, Child}
+use Rattle.trace_brief.proofs.Words.{is_of, has_child, kept_children, known_children, Open, is_quiet, is_idle}
+use Rattle.trace_brief.proofs.Words.{is_wanted, is_owed, is_excluded, stop_due, is_held, is_full, is_level, in_run}
+use Rattle.trace_brief.proofs.Words.{goal_of, wants_reexec, wants_reread, heard_level, other_than, level_wish}
+use Rattle.trace_brief.proofs.Words.{keeps_power, keeps_letter, powers, letters, wish_stands, step_if, steps_if}
+use Rattle.trace_brief.proofs.Words.{none_excluded, due_first, due_reexec, due_reread, due_level, power_steps}
+use Rattle.trace_brief.proofs.Words.{letter_steps, due_news, record_ids, stop_step, stops_of, stops_among, due_stops}
+use Rattle.trace_brief.proofs.Words.{can_start, start_steps, starts_among, due_starts, due_stage, is_served, is_settled}
+use Rattle.trace_brief.proofs.Words.{settle_step, due_settle, can_look, looks_among, due_looks, same_step, is_due}
+use Rattle.trace_brief.proofs.Words.{same_tests, any_same, same_has, same_any}
 use Rattle.trace_events.specs.declared.steps.Step.TheVariants as step
-use Rattle.trace_brief.proofs.Lasting.{grace_lasting, asked_lasting, called_lasting, goal_lasting, reexec_lasting, reread_lasting, heard_lasting, power_lasting, letter_lasting, booted_lasting, announced_lasting, left_lasting}
+use Rattle.trace_brief.proofs.Lasting.{grace_lasting, asked_lasting, called_lasting, goal_lasting, reexec_lasting}
+use Rattle.trace_brief.proofs.Lasting.{reread_lasting, heard_lasting, power_lasting, letter_lasting, booted_lasting}
+use Rattle.trace_brief.proofs.Lasting.{announced_lasting, left_lasting}
 use Rattle.trace_brief.proofs.Alike.{Alike, same_by, same_table, same_stage, same_excluded}
 
 pub all_same : {X : Type 0} (p q : X → Bool) → ((x : X) → p x ≡ q x) → (xs : List X) → list_all p xs ≡ list_all q xs
@@ -10,15 +24,20 @@ all_same p q same xs = grind arith
 filter_alike : {X : Type 0} (p q : X → Bool) → ((x : X) → p x ≡ q x) → (xs : List X) → filter p xs ≡ filter q xs
 filter_alike p q same xs = grind arith
 
-has_kept : (past brief : List Event) → Alike past brief → (id : List ℕ) → has_child id (kept_children past) ≡ has_child id (kept_children brief)
+has_kept : (past brief : List Event) → Alike past brief → (id : List ℕ)
+    → has_child id (kept_children past) ≡ has_child id (kept_children brief)
 has_kept past brief a id = same_has id (kept_children past) (kept_children brief) (a.kept id)
 
-pub has_known : (past brief : List Event) → Alike past brief → (id : List ℕ) → has_child id (known_children past) ≡ has_child id (known_children brief)
+pub has_known : (past brief : List Event) → Alike past brief → (id : List ℕ)
+    → has_child id (known_children past) ≡ has_child id (known_children brief)
 has_known past brief a id = same_has id (known_children past) (known_children brief) (a.known id)
 
 -- a child of two lists with the same children of each id is excluded off the one exactly if off the other
-pub excluded_any : (past brief : List Event) → Alike past brief → (xs ys : List Child) → ((id : List ℕ) → filter (is_of id) xs ≡ filter (is_of id) ys) → list_any (is_excluded past) xs ≡ list_any (is_excluded brief) ys
-excluded_any past brief a xs ys same = any_same (is_excluded past) (is_excluded brief) (same_excluded past brief a.said) xs ∙ same_tests (list_any (is_excluded brief) xs) (list_any (is_excluded brief) ys) (same_any (is_excluded brief) xs ys same) (same_any (is_excluded brief) ys xs (λ id. sym (same id)))
+pub excluded_any : (past brief : List Event) → Alike past brief → (xs ys : List Child) → ((id : List ℕ)
+    → filter (is_of id) xs ≡ filter (is_of id) ys) → list_any (is_excluded past) xs ≡ list_any (is_excluded brief) ys
+excluded_any past brief a xs ys same = any_same (is_excluded past) (is_excluded brief) (same_excluded past brief a.said)
+    xs ∙ same_tests (list_any (is_excluded brief) xs) (list_any (is_excluded brief) ys)
+    (same_any (is_excluded brief) xs ys same) (same_any (is_excluded brief) ys xs (λ id. sym (same id)))
 
 wanted_same : (past brief : List Event) → Alike past brief → (e : Entry) → is_wanted e past ≡ is_wanted e brief
 wanted_same past brief a e = grind (arith, same_stage, has_kept, same_by, asked_lasting, called_lasting)
@@ -26,74 +45,96 @@ wanted_same past brief a e = grind (arith, same_stage, has_kept, same_by, asked_
 pub owed_same : (past brief : List Event) → Alike past brief → (e : Entry) → is_owed e past ≡ is_owed e brief
 owed_same past brief a e = grind (arith, has_kept, wanted_same)
 
-pub stop_same : (past brief : List Event) → Alike past brief → (child : Child) → stop_due child past ≡ stop_due child brief
+pub stop_same : (past brief : List Event) → Alike past brief → (child : Child)
+    → stop_due child past ≡ stop_due child brief
 stop_same past brief a child = grind (arith, same_excluded, same_by, grace_lasting)
 
 pub quiet_same : (past brief : List Event) → Alike past brief → is_quiet past ≡ is_quiet brief
-quiet_same past brief a = ap (λ orders. not (list_any (λ (order : Open). not (same_ask Look order.ask)) orders)) a.listed
+quiet_same past brief a =
+    ap (λ orders. not (list_any (λ (order : Open). not (same_ask Look order.ask)) orders)) a.listed
 
 idle_same : (past brief : List Event) → Alike past brief → is_idle past ≡ is_idle brief
 idle_same past brief a = ap (λ orders. not (list_any (λ (order : Open). true) orders)) a.listed
 
 wish_same : (past brief : List Event) → Alike past brief → level_wish past ≡ level_wish brief
-wish_same past brief a = ap₂ other_than (same_stage past brief a.said) (same_by heard_level heard_lasting past brief a.said)
+wish_same past brief a =
+    ap₂ other_than (same_stage past brief a.said) (same_by heard_level heard_lasting past brief a.said)
 
-power_same : (past brief : List Event) → Alike past brief → (kind : PowerKind) → keeps_power kind past ≡ keeps_power kind brief
+power_same : (past brief : List Event) → Alike past brief → (kind : PowerKind)
+    → keeps_power kind past ≡ keeps_power kind brief
 power_same past brief a kind = same_by (keeps_power kind) (power_lasting kind) past brief a.said
 
-letter_same : (past brief : List Event) → Alike past brief → (letter : Letter) → keeps_letter letter past ≡ keeps_letter letter brief
+letter_same : (past brief : List Event) → Alike past brief → (letter : Letter)
+    → keeps_letter letter past ≡ keeps_letter letter brief
 letter_same past brief a letter = same_by (keeps_letter letter) (letter_lasting letter) past brief a.said
 
 stands_same : (past brief : List Event) → Alike past brief → wish_stands past ≡ wish_stands brief
-stands_same past brief a = grind (arith, same_by, reexec_lasting, reread_lasting, wish_same, same_stage, any_same, power_same, letter_same)
+stands_same past brief a =
+    grind (arith, same_by, reexec_lasting, reread_lasting, wish_same, same_stage, any_same, power_same, letter_same)
 
-goal_same : (past brief : List Event) → Alike past brief → (opening : Goal) → goal_of opening past ≡ goal_of opening brief
+goal_same : (past brief : List Event) → Alike past brief → (opening : Goal)
+    → goal_of opening past ≡ goal_of opening brief
 goal_same past brief a opening = same_by (goal_of opening) (goal_lasting opening) past brief a.said
 
 -- 1
-first_by : (goal : Goal) (o : Option Stage) (past brief : List Event) → Alike past brief → due_first goal o past ≡ due_first goal o brief
+first_by : (goal : Goal) (o : Option Stage) (past brief : List Event) → Alike past brief
+    → due_first goal o past ≡ due_first goal o brief
 first_by goal o past brief a = grind (arith, Goal, Sysinit, goal_same)
 
-first_same : (goal : Goal) (past brief : List Event) → Alike past brief → due_first goal (stage_of past) past ≡ due_first goal (stage_of brief) brief
-first_same goal past brief a = ap (λ now. due_first goal now past) (same_stage past brief a.said) ∙ first_by goal (stage_of brief) past brief a
+first_same : (goal : Goal) (past brief : List Event) → Alike past brief
+    → due_first goal (stage_of past) past ≡ due_first goal (stage_of brief) brief
+first_same goal past brief a =
+    ap (λ now. due_first goal now past) (same_stage past brief a.said) ∙ first_by goal (stage_of brief) past brief a
 
 -- 2, 3
 reexec_same : (past brief : List Event) → Alike past brief → due_reexec past ≡ due_reexec brief
-reexec_same past brief a = ap₂ (λ quiet wants. step_if (quiet && wants) step.Reexec) (quiet_same past brief a) (same_by wants_reexec reexec_lasting past brief a.said)
+reexec_same past brief a = ap₂ (λ quiet wants. step_if (quiet && wants) step.Reexec) (quiet_same past brief a)
+    (same_by wants_reexec reexec_lasting past brief a.said)
 
 reread_same : (past brief : List Event) → Alike past brief → due_reread past ≡ due_reread brief
-reread_same past brief a = ap₂ (λ quiet wants. step_if (quiet && wants) step.Reread) (quiet_same past brief a) (same_by wants_reread reread_lasting past brief a.said)
+reread_same past brief a = ap₂ (λ quiet wants. step_if (quiet && wants) step.Reread) (quiet_same past brief a)
+    (same_by wants_reread reread_lasting past brief a.said)
 
 level_same : (past brief : List Event) → Alike past brief → due_level past ≡ due_level brief
 level_same past brief a = grind (arith, quiet_same, wish_same, same_by, booted_lasting)
 
 -- 5
-powers_by : (kinds : List PowerKind) (past brief : List Event) → Alike past brief → power_steps kinds past ≡ power_steps kinds brief
+powers_by : (kinds : List PowerKind) (past brief : List Event) → Alike past brief
+    → power_steps kinds past ≡ power_steps kinds brief
 powers_by [] past brief a = refl
-powers_by (kind ∷ kinds) past brief a = ap₂ (λ keeps rest. step_if keeps (step.Power kind) ++ rest) (power_same past brief a kind) (powers_by kinds past brief a)
+powers_by (kind ∷ kinds) past brief a = ap₂ (λ keeps rest. step_if keeps (step.Power kind) ++ rest)
+    (power_same past brief a kind) (powers_by kinds past brief a)
 
-letters_by : (some : List Letter) (past brief : List Event) → Alike past brief → letter_steps some past ≡ letter_steps some brief
+letters_by : (some : List Letter) (past brief : List Event) → Alike past brief
+    → letter_steps some past ≡ letter_steps some brief
 letters_by [] past brief a = refl
-letters_by (letter ∷ rest) past brief a = ap₂ (λ keeps more. step_if keeps (step.Call letter) ++ more) (letter_same past brief a letter) (letters_by rest past brief a)
+letters_by (letter ∷ rest) past brief a = ap₂ (λ keeps more. step_if keeps (step.Call letter) ++ more)
+    (letter_same past brief a letter) (letters_by rest past brief a)
 
 calls_same : (past brief : List Event) → Alike past brief → due_news past ≡ due_news brief
 calls_same past brief a =
-    ap₂ (λ quiet now. steps_if (quiet && in_run now) (power_steps powers past ++ letter_steps letters past)) (quiet_same past brief a) (same_stage past brief a.said)
-    ∙ ap₂ (λ some more. steps_if (is_quiet brief && in_run (stage_of brief)) (some ++ more)) (powers_by powers past brief a) (letters_by letters past brief a)
+    ap₂ (λ quiet now. steps_if (quiet && in_run now) (power_steps powers past ++ letter_steps letters past))
+    (quiet_same past brief a) (same_stage past brief a.said)
+    ∙ ap₂ (λ some more. steps_if (is_quiet brief && in_run (stage_of brief)) (some ++ more))
+    (powers_by powers past brief a) (letters_by letters past brief a)
 
 -- 6
 records_same : (past brief : List Event) → Alike past brief → record_ids past ≡ record_ids brief
 records_same past brief a = grind (arith, same_table, same_by, left_lasting, filter_alike, has_known)
 
-stops_filtered : (id : List ℕ) (children : List Child) (past : List Event) → stops_of id children past ≡ stops_of id (filter (is_of id) children) past
+stops_filtered : (id : List ℕ) (children : List Child) (past : List Event)
+    → stops_of id children past ≡ stops_of id (filter (is_of id) children) past
 stops_filtered id [] past = refl
 stops_filtered id (child ∷ children) past = grind (arith, stops_filtered id children past)
 
-stops_by : (id : List ℕ) (children : List Child) (past brief : List Event) → Alike past brief → stops_of id children past ≡ stops_of id children brief
+stops_by : (id : List ℕ) (children : List Child) (past brief : List Event) → Alike past brief
+    → stops_of id children past ≡ stops_of id children brief
 stops_by id [] past brief a = refl
-stops_by id (child ∷ children) past brief a = ap₂ (λ order rest. steps_if (is_of id child) (stop_step id order) ++ rest) (stop_same past brief a child) (stops_by id children past brief a)
+stops_by id (child ∷ children) past brief a = ap₂ (λ order rest. steps_if (is_of id child) (stop_step id order) ++ rest)
+    (stop_same past brief a child) (stops_by id children past brief a)
 
-stops_each : (ids : List (List ℕ)) (past brief : List Event) → Alike past brief → stops_among ids past ≡ stops_among ids brief
+stops_each : (ids : List (List ℕ)) (past brief : List Event) → Alike past brief
+    → stops_among ids past ≡ stops_among ids brief
 stops_each [] past brief a = refl
 stops_each (id ∷ ids) past brief a = grind (arith, stops_filtered, stops_by, stops_each ids past brief)
 
@@ -108,12 +149,14 @@ pub held_same : (past brief : List Event) → Alike past brief → (id : List �
 held_same past brief a id = ap₂ (λ now times. list_any (λ began. nat_lt now (began + HOLD)) times) a.time (a.holds id)
 
 pub full_same : (past brief : List Event) → Alike past brief → (id : List ℕ) → is_full id past ≡ is_full id brief
-full_same past brief a id = ap₂ (λ now times. nat_le STARTS (length (filter (λ started. nat_lt (now - started) WINDOW) times))) a.time (a.starts id)
+full_same past brief a id = ap₂
+    (λ now times. nat_le STARTS (length (filter (λ started. nat_lt (now - started) WINDOW) times))) a.time (a.starts id)
 
 start_same : (past brief : List Event) → Alike past brief → (e : Entry) → start_steps e past ≡ start_steps e brief
 start_same past brief a e = grind arith
 
-starts_by : (es : List Entry) (past brief : List Event) → Alike past brief → starts_among es past ≡ starts_among es brief
+starts_by : (es : List Entry) (past brief : List Event) → Alike past brief
+    → starts_among es past ≡ starts_among es brief
 starts_by [] past brief a = refl
 starts_by (e ∷ es) past brief a = grind (arith, can_same, start_same, owed_same, starts_by es past brief)
 
@@ -124,21 +167,32 @@ starts_same : (past brief : List Event) → Alike past brief → due_starts past
 starts_same past brief a = grind (arith, stands_same, none_same, same_table, starts_by)
 
 -- 8
-ended_same : (past brief : List Event) → Alike past brief → (e : Entry) → (not (is_wanted e past) && not (waited_of e && has_child e.id (kept_children past))) ≡ (not (is_wanted e brief) && not (waited_of e && has_child e.id (kept_children brief)))
-ended_same past brief a e = ap₂ (λ wanted child. not wanted && not (waited_of e && child)) (wanted_same past brief a e) (has_kept past brief a e.id)
+ended_same : (past brief : List Event) → Alike past brief → (e : Entry)
+    → (not (is_wanted e past) && not (waited_of e && has_child e.id (kept_children past)))
+    ≡ (not (is_wanted e brief) && not (waited_of e && has_child e.id (kept_children brief)))
+ended_same past brief a e = ap₂ (λ wanted child. not wanted && not (waited_of e && child)) (wanted_same past brief a e)
+    (has_kept past brief a e.id)
 
 stage_same : (goal : Goal) (past brief : List Event) → Alike past brief → due_stage goal past ≡ due_stage goal brief
-stage_same goal past brief a = grind (arith, stands_same, quiet_same, none_same, same_table, all_same, ended_same, same_stage, goal_same)
+stage_same goal past brief a =
+    grind (arith, stands_same, quiet_same, none_same, same_table, all_same, ended_same, same_stage, goal_same)
 
 -- 9
-served_same : (level : Level) (past brief : List Event) → Alike past brief → (e : Entry) → is_served level (known_children past) past e ≡ is_served level (known_children brief) brief e
+served_same : (level : Level) (past brief : List Event) → Alike past brief → (e : Entry)
+    → is_served level (known_children past) past e ≡ is_served level (known_children brief) brief e
 served_same level past brief a e = grind (arith, owed_same, same_by, asked_lasting, has_known, held_same)
 
-settled_same : (level : Level) (past brief : List Event) → Alike past brief → is_settled level (known_children past) past ≡ is_settled level (known_children brief) brief
+settled_same : (level : Level) (past brief : List Event) → Alike past brief
+    → is_settled level (known_children past) past ≡ is_settled level (known_children brief) brief
 settled_same level past brief a =
-    ap₂ (λ now out. is_level level now && not out && list_all (is_served level (known_children past) past) (table_of past)) (same_stage past brief a.said) (excluded_any past brief a (known_children past) (known_children brief) a.known)
-    ∙ ap (λ table. is_level level (stage_of brief) && not (list_any (is_excluded brief) (known_children brief)) && list_all (is_served level (known_children past) past) table) (same_table past brief a.said)
-    ∙ ap (λ served. is_level level (stage_of brief) && not (list_any (is_excluded brief) (known_children brief)) && served) (all_same (is_served level (known_children past) past) (is_served level (known_children brief) brief) (served_same level past brief a) (table_of brief))
+    ap₂
+    (λ now out. is_level level now && not out && list_all (is_served level (known_children past) past) (table_of past))
+    (same_stage past brief a.said) (excluded_any past brief a (known_children past) (known_children brief) a.known)
+    ∙ ap (λ table. is_level level (stage_of brief) && not (list_any (is_excluded brief) (known_children brief))
+    && list_all (is_served level (known_children past) past) table) (same_table past brief a.said)
+    ∙ ap (λ served. is_level level (stage_of brief) && not (list_any (is_excluded brief) (known_children brief))
+    && served) (all_same (is_served level (known_children past) past) (is_served level (known_children brief) brief)
+    (served_same level past brief a) (table_of brief))
 
 settle_by : (o : Option Stage) (past brief : List Event) → Alike past brief → settle_step o past ≡ settle_step o brief
 settle_by o past brief a = grind (arith, Run, step_if, settled_same)
@@ -147,18 +201,24 @@ settle_same : (past brief : List Event) → Alike past brief → due_settle past
 settle_same past brief a = grind (arith, stands_same, idle_same, same_by, announced_lasting, same_stage, settle_by)
 
 -- 10: each look that is due behind the one is due behind the other
-look_more : (past brief : List Event) → Alike past brief → (id : List ℕ) → can_look id past ≡ true → can_look id brief ≡ true
+look_more : (past brief : List Event) → Alike past brief → (id : List ℕ) → can_look id past ≡ true
+    → can_look id brief ≡ true
 look_more past brief a id h = grind (arith, has_known)
 
-step_more : (p : Step → Bool) (step : Step) (b c : Bool) → (b ≡ true → c ≡ true) → list_any p (step_if b step) ≡ true → list_any p (step_if c step) ≡ true
+step_more : (p : Step → Bool) (step : Step) (b c : Bool) → (b ≡ true → c ≡ true) → list_any p (step_if b step) ≡ true
+    → list_any p (step_if c step) ≡ true
 step_more p step b c more h = grind arith
 
-any_more : (p : Step → Bool) (vs bs xs ys : List Step) → (list_any p vs ≡ true → list_any p bs ≡ true) → (list_any p xs ≡ true → list_any p ys ≡ true) → list_any p (vs ++ xs) ≡ true → list_any p (bs ++ ys) ≡ true
+any_more : (p : Step → Bool) (vs bs xs ys : List Step) → (list_any p vs ≡ true → list_any p bs ≡ true)
+    → (list_any p xs ≡ true → list_any p ys ≡ true) → list_any p (vs ++ xs) ≡ true → list_any p (bs ++ ys) ≡ true
 any_more p vs bs xs ys first rest h = grind (arith, list_any-append)
 
-looks_more : (p : Step → Bool) (ids : List (List ℕ)) (past brief : List Event) → Alike past brief → list_any p (looks_among ids past) ≡ true → list_any p (looks_among ids brief) ≡ true
+looks_more : (p : Step → Bool) (ids : List (List ℕ)) (past brief : List Event) → Alike past brief
+    → list_any p (looks_among ids past) ≡ true → list_any p (looks_among ids brief) ≡ true
 looks_more p [] past brief a h = h
-looks_more p (id ∷ ids) past brief a h = any_more p (step_if (can_look id past) (step.Order id Look)) (step_if (can_look id brief) (step.Order id Look)) (looks_among ids past) (looks_among ids brief) (step_more p (step.Order id Look) (can_look id past) (can_look id brief) (look_more past brief a id)) (looks_more p ids past brief a) h
+looks_more p (id ∷ ids) past brief a h = any_more p (step_if (can_look id past) (step.Order id Look)) (step_if (can_look
+    id brief) (step.Order id Look)) (looks_among ids past) (looks_among ids brief) (step_more p (step.Order id Look)
+    (can_look id past) (can_look id brief) (look_more past brief a id)) (looks_more p ids past brief a) h
 
 -- the ranks above the looks
 higher : Goal → List Event → List Step
@@ -185,6 +245,10 @@ higher_same goal past brief a =
     (stage_same goal past brief a))
     (settle_same past brief a)
 
-pub due_alike : (goal : Goal) (step : Step) (past brief : List Event) → Alike past brief → is_due goal step past ≡ true → is_due goal step brief ≡ true
+pub due_alike : (goal : Goal) (step : Step) (past brief : List Event) → Alike past brief → is_due goal step past ≡ true
+    → is_due goal step brief ≡ true
 unfolding higher
-due_alike goal step past brief a h = any_more (same_step step) (higher goal past) (higher goal brief) (due_looks past) (due_looks brief) (λ here. ap (list_any (same_step step)) (sym (higher_same goal past brief a)) ∙ here) (λ there. looks_more (same_step step) (record_ids brief) past brief a (ap (λ ids. list_any (same_step step) (looks_among ids past)) (sym (records_same past brief a)) ∙ there)) h
+due_alike goal step past brief a h = any_more (same_step step) (higher goal past) (higher goal brief) (due_looks past)
+    (due_looks brief) (λ here. ap (list_any (same_step step)) (sym (higher_same goal past brief a)) ∙ here)
+    (λ there. looks_more (same_step step) (record_ids brief) past brief a
+    (ap (λ ids. list_any (same_step step) (looks_among ids past)) (sym (records_same past brief a)) ∙ there)) h

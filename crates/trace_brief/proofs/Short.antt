@@ -1,5 +1,6 @@
 -- A brief form cannot be shortened.
-use Rattle.trace_brief.proofs.Words.{◌≡◌, refl, ◌∙◌, ap, List, [], ◌∷◌, length, arith, Event, with_event, brief_of, IsBrief}
+use Rattle.trace_brief.proofs.Words.{◌≡◌, refl, ◌∙◌, ap, List, [], ◌∷◌, length, arith, Event, with_event, brief_of}
+use Rattle.trace_brief.proofs.Words.{IsBrief}
 
 no_loop : (happening : Event) (past : List Event) → past ≡ happening ∷ past → ⊥
 no_loop happening past h = omega (arith, ap length h)

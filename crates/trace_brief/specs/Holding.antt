@@ -1,5 +1,6 @@
 -- What a log of brief traces holds back, since a later happening may leave it out or change it, and what it writes.
-use Rattle.std.specs.Prelude.{ℕ, Bool, true, false, not, ◌&&◌, ◌≡◌, if◌then◌else◌, max, List, [], ◌∷◌, ◌++◌, Option, Some, None, is_none, is_some}
+use Rattle.std.specs.Prelude.{ℕ, Bool, true, false, not, ◌&&◌, ◌≡◌, if◌then◌else◌, max, List, [], ◌∷◌, ◌++◌, Option}
+use Rattle.std.specs.Prelude.{Some, None, is_none, is_some}
 use Rattle.init_words.specs.declared.orders.OrderKind.TheVariants.{Look}
 use Rattle.init_words.specs.Ids.{same_id}
 use Rattle.trace_events.specs.declared.happenings.Happening.TheVariants.{Asked, Still, Told, Clock, Nudge}

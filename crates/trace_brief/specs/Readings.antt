@@ -1,6 +1,7 @@
 -- What a brief form never changes, when the looks of a trace are free, which law a trace breaks first, and what it is
 -- to read the same off a trace and its brief form.
-use Rattle.std.specs.Prelude.{◌≡◌, ℕ, Bool, IsTrue, true, false, not, ◌&&◌, List, [], ◌∷◌, filter, Option, Some, None, is_none}
+use Rattle.std.specs.Prelude.{◌≡◌, ℕ, Bool, IsTrue, true, false, not, ◌&&◌, List, [], ◌∷◌, filter, Option, Some, None}
+use Rattle.std.specs.Prelude.{is_none}
 use Rattle.init_words.specs.declared.orders.OrderKind.TheVariants.{Look}
 use Rattle.trace_events.specs.declared.happenings.Happening.TheVariants.{Asked, Still, Told, Clock, Nudge}
 use Rattle.trace_events.specs.declared.steps.Goal.{Goal}

@@ -1,21 +1,29 @@
 -- The least time of a TERM in a spell tells all that the laws ask of its signals.
-use Rattle.trace_check.proofs.Words.{◌≡◌, ◌+◌, ◌-◌, refl, ◌∙◌, ap, ℕ, Bool, true, false, ◌&&◌, ◌||◌, cond, min, nat_le, List, [], ◌∷◌, ◌++◌, map, arith, Option, Some, None, list_any, option_map_or, nat_tests, OrderKind, Term, is_order, Signal, told_at, is_ripe, or_false, earliest, least_term}
+use Rattle.trace_check.proofs.Words.{◌≡◌, ◌+◌, ◌-◌, refl, ◌∙◌, ap, ℕ, Bool, true, false, ◌&&◌, ◌||◌, cond, min, nat_le}
+use Rattle.trace_check.proofs.Words.{List, [], ◌∷◌, ◌++◌, map, arith, Option, Some, None, list_any, option_map_or}
+use Rattle.trace_check.proofs.Words.{nat_tests, OrderKind, Term, is_order, Signal, told_at, is_ripe, or_false, earliest}
+use Rattle.trace_check.proofs.Words.{least_term}
 
 earliest_twice : (time : ℕ) (o : Option ℕ) → earliest time (Some (earliest time o)) ≡ earliest time o
 earliest_twice time None = omega arith
 earliest_twice time (Some other) = omega arith
 
 -- orders that are told at a time before those in the spell
-pub told_terms : (time : ℕ) (orders : List (Option OrderKind)) (signals : List Signal) → least_term (map (told_at time) orders ++ signals) ≡ cond (list_any (is_order Term) orders) (Some (earliest time (least_term signals))) (least_term signals)
+pub told_terms : (time : ℕ) (orders : List (Option OrderKind)) (signals : List Signal)
+    → least_term (map (told_at time) orders ++ signals)
+    ≡ cond (list_any (is_order Term) orders) (Some (earliest time (least_term signals))) (least_term signals)
 told_terms time [] signals = refl
-told_terms time (order ∷ orders) signals = split (is_order Term order) (list_any (is_order Term) orders) (told_terms time orders signals) where
-  rest : Option ℕ
-  rest = least_term (map (told_at time) orders ++ signals)
+told_terms time (order ∷ orders) signals =
+    split (is_order Term order) (list_any (is_order Term) orders) (told_terms time orders signals) where
+      rest : Option ℕ
+      rest = least_term (map (told_at time) orders ++ signals)
 
-  split : (a b : Bool) → rest ≡ cond b (Some (earliest time (least_term signals))) (least_term signals) → cond a (Some (earliest time rest)) rest ≡ cond (a || b) (Some (earliest time (least_term signals))) (least_term signals)
-  split true true is = ap (λ o. Some (earliest time o)) is ∙ ap Some (earliest_twice time (least_term signals))
-  split true false is = ap (λ o. Some (earliest time o)) is
-  split false b is = is
+      split : (a b : Bool) → rest ≡ cond b (Some (earliest time (least_term signals))) (least_term signals) → cond a
+          (Some (earliest time rest)) rest
+          ≡ cond (a || b) (Some (earliest time (least_term signals))) (least_term signals)
+      split true true is = ap (λ o. Some (earliest time o)) is ∙ ap Some (earliest_twice time (least_term signals))
+      split true false is = ap (λ o. Some (earliest time o)) is
+      split false b is = is
 
 -- the grace since the time is over
 abbrev is_over : ℕ → ℕ → ℕ → Bool
@@ -28,10 +36,16 @@ pub over_age : (grace now time : ℕ) → (nat_le time now && nat_le grace (now 
 over_age grace now time = grind (arith, nat_tests)
 
 -- a TERM whose grace is over is there exactly where the grace since the least time is over
-pub ripe_least : (grace now : ℕ) (signals : List Signal) → list_any (is_ripe grace now) signals ≡ option_map_or (is_over grace now) (least_term signals) false
+pub ripe_least : (grace now : ℕ) (signals : List Signal)
+    → list_any (is_ripe grace now) signals ≡ option_map_or (is_over grace now) (least_term signals) false
 ripe_least grace now [] = refl
-ripe_least grace now (signal ∷ signals) = split (is_order Term signal.order) (least_term signals) (ripe_least grace now signals) where
-  split : (a : Bool) (o : Option ℕ) → list_any (is_ripe grace now) signals ≡ option_map_or (is_over grace now) o false → (a && is_over grace now signal.time || list_any (is_ripe grace now) signals) ≡ option_map_or (is_over grace now) (cond a (Some (earliest signal.time o)) o) false
-  split true None is = ap (λ b. is_over grace now signal.time || b) is ∙ or_false (is_over grace now signal.time)
-  split true (Some other) is = ap (λ b. is_over grace now signal.time || b) is ∙ over_either grace now signal.time other
-  split false o is = is
+ripe_least grace now (signal ∷ signals) =
+    split (is_order Term signal.order) (least_term signals) (ripe_least grace now signals) where
+      split : (a : Bool) (o : Option ℕ)
+          → list_any (is_ripe grace now) signals ≡ option_map_or (is_over grace now) o false
+          → (a && is_over grace now signal.time || list_any (is_ripe grace now) signals)
+          ≡ option_map_or (is_over grace now) (cond a (Some (earliest signal.time o)) o) false
+      split true None is = ap (λ b. is_over grace now signal.time || b) is ∙ or_false (is_over grace now signal.time)
+      split true (Some other) is =
+          ap (λ b. is_over grace now signal.time || b) is ∙ over_either grace now signal.time other
+      split false o is = is

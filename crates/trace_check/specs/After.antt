@@ -1,8 +1,12 @@
 -- What a happening makes of each part of the state, at each id by what was there before.
-use Rattle.std.specs.Prelude.{◌≡◌, is_some, ℕ, Bool, false, not, ◌&&◌, ◌||◌, ◌-◌, ◌==◌, if◌then◌else◌, max, min, List, [], ◌∷◌, take, Option, Some, None}
+use Rattle.std.specs.Prelude.{◌≡◌, is_some, ℕ, Bool, false, not, ◌&&◌, ◌||◌, ◌-◌, ◌==◌, if◌then◌else◌, max, min, List}
+use Rattle.std.specs.Prelude.{[], ◌∷◌, take, Option, Some, None}
 use Rattle.std.specs.Option.{option_map_or}
 use Rattle.std.specs.List.{list_any}
-use Rattle.trace_check.specs.Words.{CLOCK_LIMIT, STARTS, Entry, OnCall, Stage, OrderKind, Start, Term, same_id, names, is_called_by, is_ondemand, stays_called, has_id, entry_of, act_of, NewTable, Enter, Call, Power, Asked, Hold, Birth, Reaped, Hit, Told, Clock, Event, starts_in, is_order, same_acts, may_live}
+use Rattle.trace_check.specs.Words.{CLOCK_LIMIT, STARTS, Entry, OnCall, Stage, OrderKind, Start, Term, same_id, names}
+use Rattle.trace_check.specs.Words.{is_called_by, is_ondemand, stays_called, has_id, entry_of, act_of, NewTable, Enter}
+use Rattle.trace_check.specs.Words.{Call, Power, Asked, Hold, Birth, Reaped, Hit, Told, Clock, Event, starts_in}
+use Rattle.trace_check.specs.Words.{is_order, same_acts, may_live}
 use Rattle.trace_check.specs.declared.children.UnreapedChild.{UnreapedChild}
 use Rattle.trace_check.specs.State.{JudgeState, at, among, times_at}
 

@@ -1,9 +1,12 @@
 -- The law that a happening breaks, by the state and the table.
-use Rattle.std.specs.Prelude.{◌≡◌, IsTrue, ℕ, Bool, true, false, not, ◌&&◌, ◌||◌, ◌-◌, if◌then◌else◌, nat_lt, nat_le, List, slice_get, find, Option, Some, None, is_none, is_some}
+use Rattle.std.specs.Prelude.{◌≡◌, IsTrue, ℕ, Bool, true, false, not, ◌&&◌, ◌||◌, ◌-◌, if◌then◌else◌, nat_lt, nat_le}
+use Rattle.std.specs.Prelude.{List, slice_get, find, Option, Some, None, is_none, is_some}
 use Rattle.std.specs.Map.{keys_of}
 use Rattle.std.specs.Option.{option_map_or}
 use Rattle.std.specs.List.{list_any, list_all}
-use Rattle.trace_check.specs.Words.{HOLD, STARTS, WINDOW, Entry, At, Start, Term, Kill, names, wanted_by, is_limited, served_by, entry_of, act_of, NewTable, Enter, Asked, Hold, Settle, Birth, Event, starts_in, is_order, entries_before}
+use Rattle.trace_check.specs.Words.{HOLD, STARTS, WINDOW, Entry, At, Start, Term, Kill, names, wanted_by, is_limited}
+use Rattle.trace_check.specs.Words.{served_by, entry_of, act_of, NewTable, Enter, Asked, Hold, Settle, Birth, Event}
+use Rattle.trace_check.specs.Words.{starts_in, is_order, entries_before}
 use Rattle.init_words.specs.declared.levels.Level.{Level}
 use Rattle.init_words.specs.Entries.{waited_of}
 use Rattle.trace_events.specs.Wishes.{is_level}

@@ -1,7 +1,8 @@
 -- The seven laws: their numbers, and what breaks each in words.
 use Rattle.std.specs.Prelude.{ℕ, List, codes}
 use Rattle.trace_check.specs.declared.laws.Law.{Law}
-use Rattle.trace_check.specs.declared.laws.Law.TheVariants.{SecondChild, OutOfStage, OutOfTurn, BesideExcluded, NotSettled, RespawnLimit, SignalNotDue}
+use Rattle.trace_check.specs.declared.laws.Law.TheVariants.{SecondChild, OutOfStage, OutOfTurn, BesideExcluded}
+use Rattle.trace_check.specs.declared.laws.Law.TheVariants.{NotSettled, RespawnLimit, SignalNotDue}
 
 abbrev pub law_number : Law → ℕ
 law_number SecondChild = 1

@@ -2,7 +2,9 @@
 use Rattle.std.specs.Prelude.{◌≡◌, ℕ, Bool, false, List, [], ◌∷◌, take, if◌then◌else◌, find, Option, Some, None}
 use Rattle.std.specs.List.{list_any}
 use Rattle.std.specs.Option.{option_map, option_map_or}
-use Rattle.trace_check.specs.Words.{STARTS, Term, entry_of, Event, table_of, stage_of, grace_of, time_of, Child, is_of, has_child, open_of, unreaped_children, kept_children, is_order, is_asked, is_called, start_times, hold_times}
+use Rattle.trace_check.specs.Words.{STARTS, Term, entry_of, Event, table_of, stage_of, grace_of, time_of, Child, is_of}
+use Rattle.trace_check.specs.Words.{has_child, open_of, unreaped_children, kept_children, is_order, is_asked, is_called}
+use Rattle.trace_check.specs.Words.{start_times, hold_times}
 use Rattle.trace_events.specs.Spells.{Signal, untold_hits, spell_hits}
 use Rattle.trace_check.specs.declared.children.UnreapedChild.{UnreapedChild}
 use Rattle.trace_check.specs.State.{JudgeState, at, among, times_at}

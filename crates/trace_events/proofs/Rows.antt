@@ -13,7 +13,9 @@ use Rattle.init_words.specs.declared.orders.OrderKind.TheVariants.{Start, Look, 
 use Rattle.init_words.specs.declared.orders.PowerKind.TheVariants as power
 use Rattle.init_words.specs.declared.children.Status.TheVariants.{Exit, Killed}
 use Rattle.initctl_frame.specs.declared.requests.HeardRequest.TheVariants as got
-use Rattle.trace_events.specs.declared.happenings.Happening.TheVariants.{NewTable, NotRead, Enter, Call, Power, Asked, Hold, Settle, Birth, NoBirth, Death, Reaped, Still, Hit, Told, Clock, Nudge, Got}
+use Rattle.trace_events.specs.declared.happenings.Happening.TheVariants.{NewTable, NotRead, Enter, Call, Power, Asked}
+use Rattle.trace_events.specs.declared.happenings.Happening.TheVariants.{Hold, Settle, Birth, NoBirth, Death, Reaped}
+use Rattle.trace_events.specs.declared.happenings.Happening.TheVariants.{Still, Hit, Told, Clock, Nudge, Got}
 use Rattle.trace_events.specs.declared.steps.Goal.{Goal}
 use Rattle.trace_events.specs.declared.steps.Step.TheVariants as step
 use Rattle.trace_events.specs.Event.{Event}
@@ -23,7 +25,8 @@ use Rattle.trace_events.specs.Lawful.{is_lawful, first_breach}
 use Rattle.trace_events.specs.Run.{is_run}
 
 abbrev entry : List ℕ → List Mark → Act → List ℕ → Entry
-entry id levels action process = record { id = id; levels = record { items = levels }; act = action; process = record { items = process } }
+entry id levels action process =
+    record { id = id; levels = record { items = levels }; act = action; process = record { items = process } }
 
 -- the goal that an opening at this level has
 abbrev opening : Level → Goal
@@ -47,7 +50,11 @@ empty_table-is_lawful = refl
 
 -- a waited entry ends before the next is started
 abbrev waited_then_respawn : List Event
-waited_then_respawn = Settle level.L3 ∷ Told (codes "r") ∷ Birth (codes "r") 11 ∷ Asked (codes "r") Start ∷ Told (codes "w") ∷ Reaped (codes "w") 10 (Exit 0) ∷ Death 10 ∷ Asked (codes "w") Look ∷ Nudge ∷ Told (codes "w") ∷ Birth (codes "w") 10 ∷ Asked (codes "w") Start ∷ Enter (stage.Run level.L3) 5 ∷ Enter stage.Boot 5 ∷ Enter stage.Sysinit 5 ∷ NewTable ((entry (codes "id") ((At level.L3) ∷ []) act.Initdefault ([])) ∷ (entry (codes "w") ((At level.L3) ∷ []) act.Wait (codes "prep")) ∷ (entry (codes "r") ((At level.L3) ∷ []) act.Respawn (codes "serv")) ∷ []) ∷ []
+waited_then_respawn = Settle level.L3 ∷ Told (codes "r") ∷ Birth (codes "r") 11 ∷ Asked (codes "r") Start ∷ Told
+    (codes "w") ∷ Reaped (codes "w") 10 (Exit 0) ∷ Death 10 ∷ Asked (codes "w") Look ∷ Nudge ∷ Told (codes "w") ∷ Birth
+    (codes "w") 10 ∷ Asked (codes "w") Start ∷ Enter (stage.Run level.L3) 5 ∷ Enter stage.Boot 5 ∷ Enter stage.Sysinit 5
+    ∷ NewTable ((entry (codes "id") ((At level.L3) ∷ []) act.Initdefault ([])) ∷ (entry (codes "w") ((At level.L3) ∷ [])
+    act.Wait (codes "prep")) ∷ (entry (codes "r") ((At level.L3) ∷ []) act.Respawn (codes "serv")) ∷ []) ∷ []
 
 waited_then_respawn-is_sound : is_sound (opening level.L3) waited_then_respawn ≡ true
 waited_then_respawn-is_sound = refl
@@ -63,7 +70,10 @@ waited_then_respawn-is_lawful = refl
 
 -- a start that failed: the waited entry counts as asked, and the next is started
 abbrev start_fails : List Event
-start_fails = Asked (codes "r") Start ∷ Told (codes "w") ∷ NoBirth (codes "w") ∷ Asked (codes "w") Start ∷ Enter (stage.Run level.L3) 5 ∷ Enter stage.Boot 5 ∷ Enter stage.Sysinit 5 ∷ NewTable ((entry (codes "id") ((At level.L3) ∷ []) act.Initdefault ([])) ∷ (entry (codes "w") ((At level.L3) ∷ []) act.Wait (codes "prep")) ∷ (entry (codes "r") ((At level.L3) ∷ []) act.Respawn (codes "serv")) ∷ []) ∷ []
+start_fails = Asked (codes "r") Start ∷ Told (codes "w") ∷ NoBirth (codes "w") ∷ Asked (codes "w") Start
+    ∷ Enter (stage.Run level.L3) 5 ∷ Enter stage.Boot 5 ∷ Enter stage.Sysinit 5 ∷ NewTable
+    ((entry (codes "id") ((At level.L3) ∷ []) act.Initdefault ([])) ∷ (entry (codes "w") ((At level.L3) ∷ []) act.Wait
+    (codes "prep")) ∷ (entry (codes "r") ((At level.L3) ∷ []) act.Respawn (codes "serv")) ∷ []) ∷ []
 
 start_fails-is_sound : is_sound (opening level.L3) start_fails ≡ true
 start_fails-is_sound = refl
@@ -79,7 +89,10 @@ start_fails-is_lawful = refl
 
 -- a level is entered only when the open start was answered, and then the child is stopped
 abbrev level_while_starting : List Event
-level_while_starting = Hit (codes "r") ∷ Asked (codes "r") Term ∷ Enter (stage.Run level.L1) 5 ∷ NotRead ∷ Told (codes "r") ∷ Birth (codes "r") 10 ∷ Got (got.Level level.L1 5) ∷ Asked (codes "r") Start ∷ Enter (stage.Run level.L3) 5 ∷ Enter stage.Boot 5 ∷ Enter stage.Sysinit 5 ∷ NewTable ((entry (codes "id") ((At level.L3) ∷ []) act.Initdefault ([])) ∷ (entry (codes "r") ((At level.L3) ∷ []) act.Respawn (codes "serv")) ∷ []) ∷ []
+level_while_starting = Hit (codes "r") ∷ Asked (codes "r") Term ∷ Enter (stage.Run level.L1) 5 ∷ NotRead
+    ∷ Told (codes "r") ∷ Birth (codes "r") 10 ∷ Got (got.Level level.L1 5) ∷ Asked (codes "r") Start ∷ Enter
+    (stage.Run level.L3) 5 ∷ Enter stage.Boot 5 ∷ Enter stage.Sysinit 5 ∷ NewTable ((entry (codes "id") ((At level.L3)
+    ∷ []) act.Initdefault ([])) ∷ (entry (codes "r") ((At level.L3) ∷ []) act.Respawn (codes "serv")) ∷ []) ∷ []
 
 level_while_starting-is_sound : is_sound (opening level.L3) level_while_starting ≡ true
 level_while_starting-is_sound = refl
@@ -95,7 +108,11 @@ level_while_starting-is_lawful = refl
 
 -- KILL comes when the grace is over
 abbrev kill_after_grace : List Event
-kill_after_grace = Asked (codes "r") Kill ∷ Clock 105 ∷ Clock 104 ∷ Told (codes "r") ∷ Clock 100 ∷ Hit (codes "r") ∷ Asked (codes "r") Term ∷ Enter (stage.Run level.L1) 5 ∷ NotRead ∷ Told (codes "r") ∷ Birth (codes "r") 10 ∷ Got (got.Level level.L1 5) ∷ Asked (codes "r") Start ∷ Enter (stage.Run level.L3) 5 ∷ Enter stage.Boot 5 ∷ Enter stage.Sysinit 5 ∷ NewTable ((entry (codes "id") ((At level.L3) ∷ []) act.Initdefault ([])) ∷ (entry (codes "r") ((At level.L3) ∷ []) act.Respawn (codes "serv")) ∷ []) ∷ []
+kill_after_grace = Asked (codes "r") Kill ∷ Clock 105 ∷ Clock 104 ∷ Told (codes "r") ∷ Clock 100 ∷ Hit (codes "r")
+    ∷ Asked (codes "r") Term ∷ Enter (stage.Run level.L1) 5 ∷ NotRead ∷ Told (codes "r") ∷ Birth (codes "r") 10
+    ∷ Got (got.Level level.L1 5) ∷ Asked (codes "r") Start ∷ Enter (stage.Run level.L3) 5 ∷ Enter stage.Boot 5
+    ∷ Enter stage.Sysinit 5 ∷ NewTable ((entry (codes "id") ((At level.L3) ∷ []) act.Initdefault ([]))
+    ∷ (entry (codes "r") ((At level.L3) ∷ []) act.Respawn (codes "serv")) ∷ []) ∷ []
 
 kill_after_grace-is_sound : is_sound (opening level.L3) kill_after_grace ≡ true
 kill_after_grace-is_sound = refl
@@ -111,7 +128,11 @@ kill_after_grace-is_lawful = refl
 
 -- a clock set back shortens no grace
 abbrev clock_set_back : List Event
-clock_set_back = Asked (codes "r") Kill ∷ Clock 105 ∷ Clock 104 ∷ Told (codes "r") ∷ Clock 40 ∷ Clock 100 ∷ Hit (codes "r") ∷ Asked (codes "r") Term ∷ Enter (stage.Run level.L1) 5 ∷ NotRead ∷ Told (codes "r") ∷ Birth (codes "r") 10 ∷ Got (got.Level level.L1 5) ∷ Asked (codes "r") Start ∷ Enter (stage.Run level.L3) 5 ∷ Enter stage.Boot 5 ∷ Enter stage.Sysinit 5 ∷ NewTable ((entry (codes "id") ((At level.L3) ∷ []) act.Initdefault ([])) ∷ (entry (codes "r") ((At level.L3) ∷ []) act.Respawn (codes "serv")) ∷ []) ∷ []
+clock_set_back = Asked (codes "r") Kill ∷ Clock 105 ∷ Clock 104 ∷ Told (codes "r") ∷ Clock 40 ∷ Clock 100
+    ∷ Hit (codes "r") ∷ Asked (codes "r") Term ∷ Enter (stage.Run level.L1) 5 ∷ NotRead ∷ Told (codes "r")
+    ∷ Birth (codes "r") 10 ∷ Got (got.Level level.L1 5) ∷ Asked (codes "r") Start ∷ Enter (stage.Run level.L3) 5 ∷ Enter
+    stage.Boot 5 ∷ Enter stage.Sysinit 5 ∷ NewTable ((entry (codes "id") ((At level.L3) ∷ []) act.Initdefault ([]))
+    ∷ (entry (codes "r") ((At level.L3) ∷ []) act.Respawn (codes "serv")) ∷ []) ∷ []
 
 clock_set_back-is_sound : is_sound (opening level.L3) clock_set_back ≡ true
 clock_set_back-is_sound = refl
@@ -127,7 +148,15 @@ clock_set_back-is_lawful = refl
 
 -- the eleventh start in two minutes is held for five
 abbrev hold_and_release : List Event
-hold_and_release = Asked (codes "r") Start ∷ Clock 419 ∷ Clock 418 ∷ Hold (codes "r") ∷ Told (codes "r") ∷ Reaped (codes "r") 7 (Exit 1) ∷ Death 7 ∷ Asked (codes "r") Look ∷ Nudge ∷ Clock 119 ∷ Settle level.S ∷ Told (codes "r") ∷ Birth (codes "r") 7 ∷ Asked (codes "r") Start ∷ Told (codes "r") ∷ NoBirth (codes "r") ∷ Asked (codes "r") Start ∷ Told (codes "r") ∷ NoBirth (codes "r") ∷ Asked (codes "r") Start ∷ Told (codes "r") ∷ NoBirth (codes "r") ∷ Asked (codes "r") Start ∷ Told (codes "r") ∷ NoBirth (codes "r") ∷ Asked (codes "r") Start ∷ Told (codes "r") ∷ NoBirth (codes "r") ∷ Asked (codes "r") Start ∷ Told (codes "r") ∷ NoBirth (codes "r") ∷ Asked (codes "r") Start ∷ Told (codes "r") ∷ NoBirth (codes "r") ∷ Asked (codes "r") Start ∷ Told (codes "r") ∷ NoBirth (codes "r") ∷ Asked (codes "r") Start ∷ Told (codes "r") ∷ NoBirth (codes "r") ∷ Asked (codes "r") Start ∷ Enter (stage.Run level.S) 5 ∷ Enter stage.Sysinit 5 ∷ NewTable ((entry (codes "r") ((At level.S) ∷ []) act.Respawn (codes "x")) ∷ []) ∷ []
+hold_and_release = Asked (codes "r") Start ∷ Clock 419 ∷ Clock 418 ∷ Hold (codes "r") ∷ Told (codes "r") ∷ Reaped
+    (codes "r") 7 (Exit 1) ∷ Death 7 ∷ Asked (codes "r") Look ∷ Nudge ∷ Clock 119 ∷ Settle level.S ∷ Told (codes "r")
+    ∷ Birth (codes "r") 7 ∷ Asked (codes "r") Start ∷ Told (codes "r") ∷ NoBirth (codes "r") ∷ Asked (codes "r") Start
+    ∷ Told (codes "r") ∷ NoBirth (codes "r") ∷ Asked (codes "r") Start ∷ Told (codes "r") ∷ NoBirth (codes "r")
+    ∷ Asked (codes "r") Start ∷ Told (codes "r") ∷ NoBirth (codes "r") ∷ Asked (codes "r") Start ∷ Told (codes "r")
+    ∷ NoBirth (codes "r") ∷ Asked (codes "r") Start ∷ Told (codes "r") ∷ NoBirth (codes "r") ∷ Asked (codes "r") Start
+    ∷ Told (codes "r") ∷ NoBirth (codes "r") ∷ Asked (codes "r") Start ∷ Told (codes "r") ∷ NoBirth (codes "r") ∷ Asked
+    (codes "r") Start ∷ Told (codes "r") ∷ NoBirth (codes "r") ∷ Asked (codes "r") Start ∷ Enter (stage.Run level.S) 5
+    ∷ Enter stage.Sysinit 5 ∷ NewTable ((entry (codes "r") ((At level.S) ∷ []) act.Respawn (codes "x")) ∷ []) ∷ []
 
 hold_and_release-is_sound : is_sound (opening level.S) hold_and_release ≡ true
 hold_and_release-is_sound = refl
@@ -143,7 +172,16 @@ hold_and_release-is_lawful = refl
 
 -- the window slides: a start is free again as the oldest is two minutes old
 abbrev window_slides : List Event
-window_slides = Hold (codes "r") ∷ Told (codes "r") ∷ NoBirth (codes "r") ∷ Asked (codes "r") Start ∷ Told (codes "r") ∷ Reaped (codes "r") 7 (Exit 1) ∷ Death 7 ∷ Asked (codes "r") Look ∷ Nudge ∷ Clock 120 ∷ Settle level.S ∷ Told (codes "r") ∷ Birth (codes "r") 7 ∷ Asked (codes "r") Start ∷ Told (codes "r") ∷ NoBirth (codes "r") ∷ Asked (codes "r") Start ∷ Told (codes "r") ∷ NoBirth (codes "r") ∷ Asked (codes "r") Start ∷ Told (codes "r") ∷ NoBirth (codes "r") ∷ Asked (codes "r") Start ∷ Told (codes "r") ∷ NoBirth (codes "r") ∷ Asked (codes "r") Start ∷ Told (codes "r") ∷ NoBirth (codes "r") ∷ Asked (codes "r") Start ∷ Told (codes "r") ∷ NoBirth (codes "r") ∷ Asked (codes "r") Start ∷ Told (codes "r") ∷ NoBirth (codes "r") ∷ Asked (codes "r") Start ∷ Told (codes "r") ∷ NoBirth (codes "r") ∷ Asked (codes "r") Start ∷ Told (codes "r") ∷ NoBirth (codes "r") ∷ Clock 60 ∷ Asked (codes "r") Start ∷ Enter (stage.Run level.S) 5 ∷ Enter stage.Sysinit 5 ∷ NewTable ((entry (codes "r") ((At level.S) ∷ []) act.Respawn (codes "x")) ∷ []) ∷ []
+window_slides = Hold (codes "r") ∷ Told (codes "r") ∷ NoBirth (codes "r") ∷ Asked (codes "r") Start ∷ Told (codes "r")
+    ∷ Reaped (codes "r") 7 (Exit 1) ∷ Death 7 ∷ Asked (codes "r") Look ∷ Nudge ∷ Clock 120 ∷ Settle level.S
+    ∷ Told (codes "r") ∷ Birth (codes "r") 7 ∷ Asked (codes "r") Start ∷ Told (codes "r") ∷ NoBirth (codes "r")
+    ∷ Asked (codes "r") Start ∷ Told (codes "r") ∷ NoBirth (codes "r") ∷ Asked (codes "r") Start ∷ Told (codes "r")
+    ∷ NoBirth (codes "r") ∷ Asked (codes "r") Start ∷ Told (codes "r") ∷ NoBirth (codes "r") ∷ Asked (codes "r") Start
+    ∷ Told (codes "r") ∷ NoBirth (codes "r") ∷ Asked (codes "r") Start ∷ Told (codes "r") ∷ NoBirth (codes "r")
+    ∷ Asked (codes "r") Start ∷ Told (codes "r") ∷ NoBirth (codes "r") ∷ Asked (codes "r") Start ∷ Told (codes "r")
+    ∷ NoBirth (codes "r") ∷ Asked (codes "r") Start ∷ Told (codes "r") ∷ NoBirth (codes "r") ∷ Clock 60
+    ∷ Asked (codes "r") Start ∷ Enter (stage.Run level.S) 5 ∷ Enter stage.Sysinit 5
+    ∷ NewTable ((entry (codes "r") ((At level.S) ∷ []) act.Respawn (codes "x")) ∷ []) ∷ []
 
 window_slides-is_sound : is_sound (opening level.S) window_slides ≡ true
 window_slides-is_sound = refl
@@ -159,7 +197,11 @@ window_slides-is_lawful = refl
 
 -- a number is given again once its child was reaped
 abbrev number_given_again : List Event
-number_given_again = Asked (codes "a") Start ∷ Told (codes "a") ∷ Told (codes "b") ∷ Birth (codes "b") 700 ∷ Reaped (codes "a") 700 (Exit 0) ∷ Death 700 ∷ Asked (codes "a") Look ∷ Nudge ∷ Told (codes "a") ∷ Birth (codes "a") 700 ∷ Asked (codes "b") Start ∷ Asked (codes "a") Start ∷ Enter (stage.Run level.L3) 5 ∷ Enter stage.Boot 5 ∷ Enter stage.Sysinit 5 ∷ NewTable ((entry (codes "id") ((At level.L3) ∷ []) act.Initdefault ([])) ∷ (entry (codes "a") ((At level.L3) ∷ []) act.Respawn (codes "x")) ∷ (entry (codes "b") ((At level.L3) ∷ []) act.Once (codes "y")) ∷ []) ∷ []
+number_given_again = Asked (codes "a") Start ∷ Told (codes "a") ∷ Told (codes "b") ∷ Birth (codes "b") 700 ∷ Reaped
+    (codes "a") 700 (Exit 0) ∷ Death 700 ∷ Asked (codes "a") Look ∷ Nudge ∷ Told (codes "a") ∷ Birth (codes "a") 700
+    ∷ Asked (codes "b") Start ∷ Asked (codes "a") Start ∷ Enter (stage.Run level.L3) 5 ∷ Enter stage.Boot 5 ∷ Enter
+    stage.Sysinit 5 ∷ NewTable ((entry (codes "id") ((At level.L3) ∷ []) act.Initdefault ([])) ∷ (entry (codes "a") ((At
+    level.L3) ∷ []) act.Respawn (codes "x")) ∷ (entry (codes "b") ((At level.L3) ∷ []) act.Once (codes "y")) ∷ []) ∷ []
 
 number_given_again-is_sound : is_sound (opening level.L3) number_given_again ≡ true
 number_given_again-is_sound = refl
@@ -175,7 +217,10 @@ number_given_again-is_lawful = refl
 
 -- an entry that left the table: its child is stopped
 abbrev entry_removed : List Event
-entry_removed = Settle level.S ∷ Told (codes "r") ∷ Reaped (codes "r") 7 Killed ∷ Death 7 ∷ Asked (codes "r") Look ∷ Nudge ∷ Told (codes "r") ∷ Hit (codes "r") ∷ Asked (codes "r") Term ∷ NewTable ([]) ∷ Got got.Reload ∷ Settle level.S ∷ Told (codes "r") ∷ Birth (codes "r") 7 ∷ Asked (codes "r") Start ∷ Enter (stage.Run level.S) 5 ∷ Enter stage.Sysinit 5 ∷ NewTable ((entry (codes "r") ((At level.S) ∷ []) act.Respawn (codes "x")) ∷ []) ∷ []
+entry_removed = Settle level.S ∷ Told (codes "r") ∷ Reaped (codes "r") 7 Killed ∷ Death 7 ∷ Asked (codes "r") Look
+    ∷ Nudge ∷ Told (codes "r") ∷ Hit (codes "r") ∷ Asked (codes "r") Term ∷ NewTable ([]) ∷ Got got.Reload
+    ∷ Settle level.S ∷ Told (codes "r") ∷ Birth (codes "r") 7 ∷ Asked (codes "r") Start ∷ Enter (stage.Run level.S) 5
+    ∷ Enter stage.Sysinit 5 ∷ NewTable ((entry (codes "r") ((At level.S) ∷ []) act.Respawn (codes "x")) ∷ []) ∷ []
 
 entry_removed-is_sound : is_sound (opening level.S) entry_removed ≡ true
 entry_removed-is_sound = refl
@@ -191,7 +236,10 @@ entry_removed-is_lawful = refl
 
 -- the same table again: nothing is stopped
 abbrev same_table_read : List Event
-same_table_read = Settle level.S ∷ NewTable ((entry (codes "r") ((At level.S) ∷ []) act.Respawn (codes "x")) ∷ []) ∷ Got got.Reload ∷ Settle level.S ∷ Told (codes "r") ∷ Birth (codes "r") 7 ∷ Asked (codes "r") Start ∷ Enter (stage.Run level.S) 5 ∷ Enter stage.Sysinit 5 ∷ NewTable ((entry (codes "r") ((At level.S) ∷ []) act.Respawn (codes "x")) ∷ []) ∷ []
+same_table_read =
+    Settle level.S ∷ NewTable ((entry (codes "r") ((At level.S) ∷ []) act.Respawn (codes "x")) ∷ []) ∷ Got got.Reload
+    ∷ Settle level.S ∷ Told (codes "r") ∷ Birth (codes "r") 7 ∷ Asked (codes "r") Start ∷ Enter (stage.Run level.S) 5
+    ∷ Enter stage.Sysinit 5 ∷ NewTable ((entry (codes "r") ((At level.S) ∷ []) act.Respawn (codes "x")) ∷ []) ∷ []
 
 same_table_read-is_sound : is_sound (opening level.S) same_table_read ≡ true
 same_table_read-is_sound = refl
@@ -207,7 +255,10 @@ same_table_read-is_lawful = refl
 
 -- a changed command takes effect at the next start
 abbrev command_changed : List Event
-command_changed = Settle level.S ∷ NewTable ((entry (codes "r") ((At level.S) ∷ []) act.Respawn (codes "y")) ∷ []) ∷ Got got.Reload ∷ Settle level.S ∷ Told (codes "r") ∷ Birth (codes "r") 7 ∷ Asked (codes "r") Start ∷ Enter (stage.Run level.S) 5 ∷ Enter stage.Sysinit 5 ∷ NewTable ((entry (codes "r") ((At level.S) ∷ []) act.Respawn (codes "x")) ∷ []) ∷ []
+command_changed =
+    Settle level.S ∷ NewTable ((entry (codes "r") ((At level.S) ∷ []) act.Respawn (codes "y")) ∷ []) ∷ Got got.Reload
+    ∷ Settle level.S ∷ Told (codes "r") ∷ Birth (codes "r") 7 ∷ Asked (codes "r") Start ∷ Enter (stage.Run level.S) 5
+    ∷ Enter stage.Sysinit 5 ∷ NewTable ((entry (codes "r") ((At level.S) ∷ []) act.Respawn (codes "x")) ∷ []) ∷ []
 
 command_changed-is_sound : is_sound (opening level.S) command_changed ≡ true
 command_changed-is_sound = refl
@@ -223,7 +274,10 @@ command_changed-is_lawful = refl
 
 -- a changed action stops the child
 abbrev action_changed : List Event
-action_changed = Asked (codes "r") Term ∷ NewTable ((entry (codes "r") ((At level.S) ∷ []) act.Once (codes "x")) ∷ []) ∷ Got got.Reload ∷ Settle level.S ∷ Told (codes "r") ∷ Birth (codes "r") 7 ∷ Asked (codes "r") Start ∷ Enter (stage.Run level.S) 5 ∷ Enter stage.Sysinit 5 ∷ NewTable ((entry (codes "r") ((At level.S) ∷ []) act.Respawn (codes "x")) ∷ []) ∷ []
+action_changed = Asked (codes "r") Term ∷ NewTable ((entry (codes "r") ((At level.S) ∷ []) act.Once (codes "x")) ∷ [])
+    ∷ Got got.Reload ∷ Settle level.S ∷ Told (codes "r") ∷ Birth (codes "r") 7 ∷ Asked (codes "r") Start
+    ∷ Enter (stage.Run level.S) 5 ∷ Enter stage.Sysinit 5
+    ∷ NewTable ((entry (codes "r") ((At level.S) ∷ []) act.Respawn (codes "x")) ∷ []) ∷ []
 
 action_changed-is_sound : is_sound (opening level.S) action_changed ≡ true
 action_changed-is_sound = refl
@@ -239,7 +293,12 @@ action_changed-is_lawful = refl
 
 -- Boot is entered on the first way from S to another level
 abbrev boot_on_the_way_up : List Event
-boot_on_the_way_up = Got (got.Level level.L2 5) ∷ Settle level.L2 ∷ Told (codes "r") ∷ Birth (codes "r") 6 ∷ Asked (codes "r") Start ∷ Enter (stage.Run level.L2) 5 ∷ Told (codes "b") ∷ Reaped (codes "b") 5 (Exit 0) ∷ Death 5 ∷ Asked (codes "b") Look ∷ Nudge ∷ Told (codes "b") ∷ Birth (codes "b") 5 ∷ Asked (codes "b") Start ∷ Enter stage.Boot 5 ∷ NotRead ∷ Got (got.Level level.L2 5) ∷ Settle level.S ∷ Enter (stage.Run level.S) 5 ∷ Enter stage.Sysinit 5 ∷ NewTable ((entry (codes "id") ((At level.S) ∷ []) act.Initdefault ([])) ∷ (entry (codes "b") ([]) act.Bootwait (codes "prep")) ∷ (entry (codes "r") ((At level.L2) ∷ []) act.Respawn (codes "serv")) ∷ []) ∷ []
+boot_on_the_way_up = Got (got.Level level.L2 5) ∷ Settle level.L2 ∷ Told (codes "r") ∷ Birth (codes "r") 6
+    ∷ Asked (codes "r") Start ∷ Enter (stage.Run level.L2) 5 ∷ Told (codes "b") ∷ Reaped (codes "b") 5 (Exit 0)
+    ∷ Death 5 ∷ Asked (codes "b") Look ∷ Nudge ∷ Told (codes "b") ∷ Birth (codes "b") 5 ∷ Asked (codes "b") Start
+    ∷ Enter stage.Boot 5 ∷ NotRead ∷ Got (got.Level level.L2 5) ∷ Settle level.S ∷ Enter (stage.Run level.S) 5 ∷ Enter
+    stage.Sysinit 5 ∷ NewTable ((entry (codes "id") ((At level.S) ∷ []) act.Initdefault ([])) ∷ (entry (codes "b")
+    ([]) act.Bootwait (codes "prep")) ∷ (entry (codes "r") ((At level.L2) ∷ []) act.Respawn (codes "serv")) ∷ []) ∷ []
 
 boot_on_the_way_up-is_sound : is_sound (opening level.S) boot_on_the_way_up ≡ true
 boot_on_the_way_up-is_sound = refl
@@ -255,7 +314,12 @@ boot_on_the_way_up-is_lawful = refl
 
 -- news of the power calls its waited entry
 abbrev power_fails : List Event
-power_fails = Asked (codes "r") Look ∷ Asked (codes "pw") Look ∷ Nudge ∷ Told (codes "pw") ∷ Birth (codes "pw") 5 ∷ Asked (codes "pw") Start ∷ Power power.Fail ∷ Got (got.Power power.Fail) ∷ Settle level.L3 ∷ Told (codes "r") ∷ Birth (codes "r") 4 ∷ Asked (codes "r") Start ∷ Enter (stage.Run level.L3) 5 ∷ Enter stage.Boot 5 ∷ Enter stage.Sysinit 5 ∷ NewTable ((entry (codes "id") ((At level.L3) ∷ []) act.Initdefault ([])) ∷ (entry (codes "pw") ((At level.L3) ∷ []) act.Powerwait (codes "p")) ∷ (entry (codes "r") ((At level.L3) ∷ []) act.Respawn (codes "s")) ∷ []) ∷ []
+power_fails = Asked (codes "r") Look ∷ Asked (codes "pw") Look ∷ Nudge ∷ Told (codes "pw") ∷ Birth (codes "pw") 5
+    ∷ Asked (codes "pw") Start ∷ Power power.Fail ∷ Got (got.Power power.Fail) ∷ Settle level.L3 ∷ Told (codes "r")
+    ∷ Birth (codes "r") 4 ∷ Asked (codes "r") Start ∷ Enter (stage.Run level.L3) 5 ∷ Enter stage.Boot 5
+    ∷ Enter stage.Sysinit 5 ∷ NewTable ((entry (codes "id") ((At level.L3) ∷ []) act.Initdefault ([]))
+    ∷ (entry (codes "pw") ((At level.L3) ∷ []) act.Powerwait (codes "p"))
+    ∷ (entry (codes "r") ((At level.L3) ∷ []) act.Respawn (codes "s")) ∷ []) ∷ []
 
 power_fails-is_sound : is_sound (opening level.L3) power_fails ≡ true
 power_fails-is_sound = refl
@@ -271,7 +335,12 @@ power_fails-is_lawful = refl
 
 -- sysinit, boot and the level in turn
 abbrev all_stages : List Event
-all_stages = Settle level.L3 ∷ Told (codes "o") ∷ NoBirth (codes "o") ∷ Asked (codes "o") Start ∷ Enter (stage.Run level.L3) 5 ∷ Told (codes "b") ∷ Birth (codes "b") 2 ∷ Asked (codes "b") Start ∷ Enter stage.Boot 5 ∷ Told (codes "s") ∷ Reaped (codes "s") 1 (Exit 0) ∷ Death 1 ∷ Asked (codes "s") Look ∷ Nudge ∷ Told (codes "s") ∷ Birth (codes "s") 1 ∷ Asked (codes "s") Start ∷ Enter stage.Sysinit 5 ∷ NewTable ((entry (codes "id") ((At level.L3) ∷ []) act.Initdefault ([])) ∷ (entry (codes "s") ([]) act.Sysinit (codes "a")) ∷ (entry (codes "b") ([]) act.Boot (codes "b")) ∷ (entry (codes "o") ((At level.L3) ∷ []) act.Once (codes "c")) ∷ []) ∷ []
+all_stages = Settle level.L3 ∷ Told (codes "o") ∷ NoBirth (codes "o") ∷ Asked (codes "o") Start
+    ∷ Enter (stage.Run level.L3) 5 ∷ Told (codes "b") ∷ Birth (codes "b") 2 ∷ Asked (codes "b") Start
+    ∷ Enter stage.Boot 5 ∷ Told (codes "s") ∷ Reaped (codes "s") 1 (Exit 0) ∷ Death 1 ∷ Asked (codes "s") Look ∷ Nudge
+    ∷ Told (codes "s") ∷ Birth (codes "s") 1 ∷ Asked (codes "s") Start ∷ Enter stage.Sysinit 5 ∷ NewTable ((entry
+    (codes "id") ((At level.L3) ∷ []) act.Initdefault ([])) ∷ (entry (codes "s") ([]) act.Sysinit (codes "a")) ∷ (entry
+    (codes "b") ([]) act.Boot (codes "b")) ∷ (entry (codes "o") ((At level.L3) ∷ []) act.Once (codes "c")) ∷ []) ∷ []
 
 all_stages-is_sound : is_sound (opening level.L3) all_stages ≡ true
 all_stages-is_sound = refl
@@ -290,10 +359,13 @@ abbrev on_call : Entry
 on_call = entry (codes "d") (OnCall letter.A ∷ []) act.Ondemand (codes "x")
 
 abbrev settled_on_call : List Event
-settled_on_call = Settle level.L3 ∷ Enter (stage.Run level.L3) 5 ∷ Enter stage.Boot 5 ∷ Enter stage.Sysinit 5 ∷ NewTable ((entry (codes "id") ((At level.L3) ∷ []) act.Initdefault ([])) ∷ on_call ∷ []) ∷ []
+settled_on_call = Settle level.L3 ∷ Enter (stage.Run level.L3) 5 ∷ Enter stage.Boot 5 ∷ Enter stage.Sysinit 5
+    ∷ NewTable ((entry (codes "id") ((At level.L3) ∷ []) act.Initdefault ([])) ∷ on_call ∷ []) ∷ []
 
 abbrev letter_called : List Event
-letter_called = Asked (codes "d") Start ∷ Told (codes "d") ∷ Reaped (codes "d") 5 (Exit 0) ∷ Death 5 ∷ Asked (codes "d") Look ∷ Nudge ∷ Told (codes "d") ∷ Birth (codes "d") 5 ∷ Asked (codes "d") Start ∷ Call letter.A ∷ Got (got.Call letter.A) ∷ settled_on_call
+letter_called = Asked (codes "d") Start ∷ Told (codes "d") ∷ Reaped (codes "d") 5 (Exit 0) ∷ Death 5
+    ∷ Asked (codes "d") Look ∷ Nudge ∷ Told (codes "d") ∷ Birth (codes "d") 5 ∷ Asked (codes "d") Start ∷ Call letter.A
+    ∷ Got (got.Call letter.A) ∷ settled_on_call
 
 letter_called-is_sound : is_sound (opening level.L3) letter_called ≡ true
 letter_called-is_sound = refl
@@ -315,7 +387,8 @@ abbrev five_failed_starts : List Event
 five_failed_starts = failed_start ++ failed_start ++ failed_start ++ failed_start ++ failed_start
 
 abbrev called_while_held : List Event
-called_while_held = Call letter.A ∷ Got (got.Call letter.A) ∷ Hold (codes "d") ∷ five_failed_starts ++ five_failed_starts ++ Call letter.A ∷ Got (got.Call letter.A) ∷ settled_on_call
+called_while_held = Call letter.A ∷ Got (got.Call letter.A) ∷ Hold (codes "d") ∷ five_failed_starts
+    ++ five_failed_starts ++ Call letter.A ∷ Got (got.Call letter.A) ∷ settled_on_call
 
 called_while_held-is_sound : is_sound (opening level.L3) called_while_held ≡ true
 called_while_held-is_sound = refl
@@ -331,7 +404,9 @@ called_while_held-is_lawful = refl
 
 -- a child that was called lives on in another level, and isn't started again there when it ends
 abbrev call_of_another_level : List Event
-call_of_another_level = Settle level.L2 ∷ Told (codes "d") ∷ Reaped (codes "d") 5 (Exit 0) ∷ Death 5 ∷ Asked (codes "d") Look ∷ Nudge ∷ Enter (stage.Run level.L2) 5 ∷ NotRead ∷ Got (got.Level level.L2 5) ∷ Told (codes "d") ∷ Birth (codes "d") 5 ∷ Asked (codes "d") Start ∷ Call letter.A ∷ Got (got.Call letter.A) ∷ settled_on_call
+call_of_another_level = Settle level.L2 ∷ Told (codes "d") ∷ Reaped (codes "d") 5 (Exit 0) ∷ Death 5 ∷ Asked
+    (codes "d") Look ∷ Nudge ∷ Enter (stage.Run level.L2) 5 ∷ NotRead ∷ Got (got.Level level.L2 5) ∷ Told (codes "d")
+    ∷ Birth (codes "d") 5 ∷ Asked (codes "d") Start ∷ Call letter.A ∷ Got (got.Call letter.A) ∷ settled_on_call
 
 call_of_another_level-is_sound : is_sound (opening level.L3) call_of_another_level ≡ true
 call_of_another_level-is_sound = refl
@@ -341,7 +416,14 @@ call_of_another_level-rests = refl
 
 -- ten starts that failed at once, then a hold
 abbrev ten_failed_starts : List Event
-ten_failed_starts = Settle level.S ∷ Hold (codes "r") ∷ Told (codes "r") ∷ NoBirth (codes "r") ∷ Asked (codes "r") Start ∷ Told (codes "r") ∷ NoBirth (codes "r") ∷ Asked (codes "r") Start ∷ Told (codes "r") ∷ NoBirth (codes "r") ∷ Asked (codes "r") Start ∷ Told (codes "r") ∷ NoBirth (codes "r") ∷ Asked (codes "r") Start ∷ Told (codes "r") ∷ NoBirth (codes "r") ∷ Asked (codes "r") Start ∷ Told (codes "r") ∷ NoBirth (codes "r") ∷ Asked (codes "r") Start ∷ Told (codes "r") ∷ NoBirth (codes "r") ∷ Asked (codes "r") Start ∷ Told (codes "r") ∷ NoBirth (codes "r") ∷ Asked (codes "r") Start ∷ Told (codes "r") ∷ NoBirth (codes "r") ∷ Asked (codes "r") Start ∷ Told (codes "r") ∷ NoBirth (codes "r") ∷ Asked (codes "r") Start ∷ Enter (stage.Run level.S) 5 ∷ Enter stage.Sysinit 5 ∷ NewTable ((entry (codes "r") ((At level.S) ∷ []) act.Respawn (codes "x")) ∷ []) ∷ []
+ten_failed_starts = Settle level.S ∷ Hold (codes "r") ∷ Told (codes "r") ∷ NoBirth (codes "r") ∷ Asked (codes "r") Start
+    ∷ Told (codes "r") ∷ NoBirth (codes "r") ∷ Asked (codes "r") Start ∷ Told (codes "r") ∷ NoBirth (codes "r")
+    ∷ Asked (codes "r") Start ∷ Told (codes "r") ∷ NoBirth (codes "r") ∷ Asked (codes "r") Start ∷ Told (codes "r")
+    ∷ NoBirth (codes "r") ∷ Asked (codes "r") Start ∷ Told (codes "r") ∷ NoBirth (codes "r") ∷ Asked (codes "r") Start
+    ∷ Told (codes "r") ∷ NoBirth (codes "r") ∷ Asked (codes "r") Start ∷ Told (codes "r") ∷ NoBirth (codes "r")
+    ∷ Asked (codes "r") Start ∷ Told (codes "r") ∷ NoBirth (codes "r") ∷ Asked (codes "r") Start ∷ Told (codes "r")
+    ∷ NoBirth (codes "r") ∷ Asked (codes "r") Start ∷ Enter (stage.Run level.S) 5 ∷ Enter stage.Sysinit 5
+    ∷ NewTable ((entry (codes "r") ((At level.S) ∷ []) act.Respawn (codes "x")) ∷ []) ∷ []
 
 ten_failed_starts-is_sound : is_sound (opening level.S) ten_failed_starts ≡ true
 ten_failed_starts-is_sound = refl
@@ -357,7 +439,11 @@ ten_failed_starts-is_lawful = refl
 
 -- two rounds over a host: clock and round come before the first stage
 abbrev two_rounds : List Event
-two_rounds = Told (codes "r") ∷ Still (codes "r") ∷ Asked (codes "r") Look ∷ Settle level.L3 ∷ Nudge ∷ Told (codes "r") ∷ Birth (codes "r") 11 ∷ Clock 0 ∷ Asked (codes "r") Start ∷ Told (codes "w") ∷ NoBirth (codes "w") ∷ Asked (codes "w") Start ∷ Enter (stage.Run level.L3) 5 ∷ Enter stage.Boot 5 ∷ Enter stage.Sysinit 5 ∷ Nudge ∷ Clock 0 ∷ NewTable ((entry (codes "id") ((At level.L3) ∷ []) act.Initdefault ([])) ∷ (entry (codes "w") ((At level.L3) ∷ []) act.Wait (codes "prep")) ∷ (entry (codes "r") ((At level.L3) ∷ []) act.Respawn (codes "serv")) ∷ []) ∷ []
+two_rounds = Told (codes "r") ∷ Still (codes "r") ∷ Asked (codes "r") Look ∷ Settle level.L3 ∷ Nudge ∷ Told (codes "r")
+    ∷ Birth (codes "r") 11 ∷ Clock 0 ∷ Asked (codes "r") Start ∷ Told (codes "w") ∷ NoBirth (codes "w") ∷ Asked
+    (codes "w") Start ∷ Enter (stage.Run level.L3) 5 ∷ Enter stage.Boot 5 ∷ Enter stage.Sysinit 5 ∷ Nudge ∷ Clock 0
+    ∷ NewTable ((entry (codes "id") ((At level.L3) ∷ []) act.Initdefault ([])) ∷ (entry (codes "w") ((At level.L3) ∷ [])
+    act.Wait (codes "prep")) ∷ (entry (codes "r") ((At level.L3) ∷ []) act.Respawn (codes "serv")) ∷ []) ∷ []
 
 two_rounds-is_sound : is_sound (opening level.L3) two_rounds ≡ true
 two_rounds-is_sound = refl
@@ -367,7 +453,9 @@ two_rounds-rests = refl
 
 -- forged: an entry started in another level while its forerunner lives
 abbrev breach_of_turn : List Event
-breach_of_turn = Birth (codes "b") 11 ∷ Asked (codes "b") Start ∷ Enter (stage.Run level.L1) 5 ∷ Told (codes "a") ∷ Birth (codes "a") 10 ∷ Asked (codes "a") Start ∷ Enter (stage.Run level.L3) 5 ∷ NewTable ((entry (codes "a") ((At level.L3) ∷ []) act.Once (codes "x")) ∷ (entry (codes "b") ((At level.L1) ∷ []) act.Once (codes "y")) ∷ []) ∷ []
+breach_of_turn = Birth (codes "b") 11 ∷ Asked (codes "b") Start ∷ Enter (stage.Run level.L1) 5 ∷ Told (codes "a")
+    ∷ Birth (codes "a") 10 ∷ Asked (codes "a") Start ∷ Enter (stage.Run level.L3) 5 ∷ NewTable ((entry (codes "a") ((At
+    level.L3) ∷ []) act.Once (codes "x")) ∷ (entry (codes "b") ((At level.L1) ∷ []) act.Once (codes "y")) ∷ []) ∷ []
 
 breach_of_turn-breaks : first_breach breach_of_turn ≡ Some (record { position = 7; law = 4 })
 breach_of_turn-breaks = refl
@@ -407,7 +495,8 @@ hold_of_once-not_sound = refl
 
 -- forged: a KILL to nobody
 abbrev kill_of_nobody : List Event
-kill_of_nobody = Asked (codes "a") Kill ∷ Enter (stage.Run level.L3) 5 ∷ NewTable ((entry (codes "a") ((At level.L3) ∷ []) act.Respawn (codes "x")) ∷ []) ∷ []
+kill_of_nobody = Asked (codes "a") Kill ∷ Enter (stage.Run level.L3) 5
+    ∷ NewTable ((entry (codes "a") ((At level.L3) ∷ []) act.Respawn (codes "x")) ∷ []) ∷ []
 
 kill_of_nobody-breaks : first_breach kill_of_nobody ≡ Some (record { position = 2; law = 7 })
 kill_of_nobody-breaks = refl
@@ -417,7 +506,10 @@ kill_of_nobody-not_sound = refl
 
 -- forged: the eleventh start at once
 abbrev eleventh_start : List Event
-eleventh_start = Asked (codes "r") Start ∷ Asked (codes "r") Start ∷ Asked (codes "r") Start ∷ Asked (codes "r") Start ∷ Asked (codes "r") Start ∷ Asked (codes "r") Start ∷ Asked (codes "r") Start ∷ Asked (codes "r") Start ∷ Asked (codes "r") Start ∷ Asked (codes "r") Start ∷ Asked (codes "r") Start ∷ Enter (stage.Run level.S) 5 ∷ NewTable ((entry (codes "r") ((At level.S) ∷ []) act.Respawn (codes "x")) ∷ []) ∷ []
+eleventh_start = Asked (codes "r") Start ∷ Asked (codes "r") Start ∷ Asked (codes "r") Start ∷ Asked (codes "r") Start
+    ∷ Asked (codes "r") Start ∷ Asked (codes "r") Start ∷ Asked (codes "r") Start ∷ Asked (codes "r") Start
+    ∷ Asked (codes "r") Start ∷ Asked (codes "r") Start ∷ Asked (codes "r") Start ∷ Enter (stage.Run level.S) 5
+    ∷ NewTable ((entry (codes "r") ((At level.S) ∷ []) act.Respawn (codes "x")) ∷ []) ∷ []
 
 eleventh_start-breaks : first_breach eleventh_start ≡ Some (record { position = 12; law = 6 })
 eleventh_start-breaks = refl
@@ -427,7 +519,10 @@ eleventh_start-not_sound = refl
 
 -- wrong: a later entry is started while the waited one lives
 abbrev too_early : List Event
-too_early = Asked (codes "r") Start ∷ Told (codes "w") ∷ Birth (codes "w") 10 ∷ Asked (codes "w") Start ∷ Enter (stage.Run level.L3) 5 ∷ Enter stage.Boot 5 ∷ Enter stage.Sysinit 5 ∷ NewTable ((entry (codes "id") ((At level.L3) ∷ []) act.Initdefault ([])) ∷ (entry (codes "w") ((At level.L3) ∷ []) act.Wait (codes "prep")) ∷ (entry (codes "r") ((At level.L3) ∷ []) act.Respawn (codes "serv")) ∷ []) ∷ []
+too_early = Asked (codes "r") Start ∷ Told (codes "w") ∷ Birth (codes "w") 10 ∷ Asked (codes "w") Start
+    ∷ Enter (stage.Run level.L3) 5 ∷ Enter stage.Boot 5 ∷ Enter stage.Sysinit 5 ∷ NewTable
+    ((entry (codes "id") ((At level.L3) ∷ []) act.Initdefault ([])) ∷ (entry (codes "w") ((At level.L3) ∷ []) act.Wait
+    (codes "prep")) ∷ (entry (codes "r") ((At level.L3) ∷ []) act.Respawn (codes "serv")) ∷ []) ∷ []
 
 too_early-not_sound : is_sound (opening level.L3) too_early ≡ false
 too_early-not_sound = refl

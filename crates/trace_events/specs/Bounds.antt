@@ -1,5 +1,6 @@
 -- Three bounds on whole runs.
-use Rattle.std.specs.Prelude.{ℕ, Bool, true, not, ◌&&◌, ◌||◌, ◌+◌, ◌-◌, ◌==◌, if◌then◌else◌, nat_le, List, [], ◌∷◌, filter, length, drop}
+use Rattle.std.specs.Prelude.{ℕ, Bool, true, not, ◌&&◌, ◌||◌, ◌+◌, ◌-◌, ◌==◌, if◌then◌else◌, nat_le, List, [], ◌∷◌}
+use Rattle.std.specs.Prelude.{filter, length, drop}
 use Rattle.std.specs.List.{list_any, list_all}
 use Rattle.trace_events.specs.Words.{HOLD, STARTS, WINDOW, Start, Kill, same_id}
 use Rattle.trace_events.specs.declared.happenings.Happening.TheVariants.{Asked, Hit}

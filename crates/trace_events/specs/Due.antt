@@ -1,18 +1,24 @@
 -- The steps that init owes, rank by rank (init(8)). So far is the trace, the newest happening first.
-use Rattle.std.specs.Prelude.{ℕ, Bool, true, false, not, ◌&&◌, ◌||◌, ◌==◌, if◌then◌else◌, List, [], ◌∷◌, ◌++◌, filter, Option, Some, None, is_none}
+use Rattle.std.specs.Prelude.{ℕ, Bool, true, false, not, ◌&&◌, ◌||◌, ◌==◌, if◌then◌else◌, List, [], ◌∷◌, ◌++◌, filter}
+use Rattle.std.specs.Prelude.{Option, Some, None, is_none}
 use Rattle.std.specs.List.{list_any, list_all}
-use Rattle.trace_events.specs.Words.{Entry, Level, Letter, At, Stage, Sysinit, Boot, Run, OrderKind, Start, Look, PowerKind, same_id, same_level, same_letter, names, same_ask, same_power, same_stage, is_limited, served_by, waited_of, ids_of, has_id}
+use Rattle.trace_events.specs.Words.{Entry, Level, Letter, At, Stage, Sysinit, Boot, Run, OrderKind, Start, Look}
+use Rattle.trace_events.specs.Words.{PowerKind, same_id, same_level, same_letter, names, same_ask, same_power}
+use Rattle.trace_events.specs.Words.{same_stage, is_limited, served_by, waited_of, ids_of, has_id}
 use Rattle.init_words.specs.declared.levels.Level.TheVariants.{S}
 use Rattle.trace_events.specs.declared.happenings.Happening.TheVariants as happened
 use Rattle.trace_events.specs.declared.steps.Step.{Step}
-use Rattle.trace_events.specs.declared.steps.Step.TheVariants.{Enter, Call, Power, Reread, Order, Hold, Settle, Reexec, Idle}
+use Rattle.trace_events.specs.declared.steps.Step.TheVariants.{Enter, Call, Power, Reread, Order, Hold, Settle, Reexec}
+use Rattle.trace_events.specs.declared.steps.Step.TheVariants.{Idle}
 use Rattle.trace_events.specs.declared.steps.Goal.{Goal}
 use Rattle.trace_events.specs.Event.{Event}
-use Rattle.trace_events.specs.Past.{table_of, stage_of, Child, is_of, has_child, open_of, is_quiet, is_idle, kept_children, known_children}
+use Rattle.trace_events.specs.Past.{table_of, stage_of, Child, is_of, has_child, open_of, is_quiet, is_idle}
+use Rattle.trace_events.specs.Past.{kept_children, known_children}
 use Rattle.trace_events.specs.Wanted.{is_wanted, is_owed, is_asked, is_excluded}
 use Rattle.trace_events.specs.Spells.{stop_due}
 use Rattle.trace_events.specs.Timing.{is_held, is_full}
-use Rattle.trace_events.specs.Wishes.{is_level, in_run, goal_of, wants_reexec, wants_reread, level_wish, keeps_power, keeps_letter, powers, letters, wish_stands, was_booted}
+use Rattle.trace_events.specs.Wishes.{is_level, in_run, goal_of, wants_reexec, wants_reread, level_wish, keeps_power}
+use Rattle.trace_events.specs.Wishes.{keeps_letter, powers, letters, wish_stands, was_booted}
 
 abbrev pub step_if : Bool → Step → List Step
 step_if true step = step ∷ []

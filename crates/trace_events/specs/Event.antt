@@ -3,7 +3,8 @@ use Rattle.std.specs.Prelude.{ℕ, List, Option, Some, None}
 use Rattle.trace_events.specs.Words.{Entry, Answer}
 use Rattle.init_words.specs.declared.orders.Answer.TheVariants as answer
 use Rattle.trace_events.specs.declared.happenings.Happening.{Happening}
-use Rattle.trace_events.specs.declared.happenings.Happening.TheVariants.{Birth, NoBirth, Reaped, Still, NoLook, Hit, Miss}
+use Rattle.trace_events.specs.declared.happenings.Happening.TheVariants.{Birth, NoBirth, Reaped, Still, NoLook, Hit}
+use Rattle.trace_events.specs.declared.happenings.Happening.TheVariants.{Miss}
 
 abbrev pub Event : Type 0
 Event = Happening (List Entry)

@@ -1,9 +1,11 @@
 -- What is read off a trace: what is in force, the children, the open orders (init(8)).
 -- A trace is a list of happenings, THE NEWEST FIRST, so the last of a kind is the first that is found.
-use Rattle.std.specs.Prelude.{ℕ, Bool, true, false, not, ◌&&◌, ◌||◌, ◌==◌, if◌then◌else◌, max, min, List, [], ◌∷◌, ◌++◌, filter, Option, Some, None}
+use Rattle.std.specs.Prelude.{ℕ, Bool, true, false, not, ◌&&◌, ◌||◌, ◌==◌, if◌then◌else◌, max, min, List, [], ◌∷◌, ◌++◌}
+use Rattle.std.specs.Prelude.{filter, Option, Some, None}
 use Rattle.std.specs.List.{list_any}
 use Rattle.trace_events.specs.Words.{CLOCK_LIMIT, Entry, Act, Stage, OrderKind, Look, same_id, same_ask, act_of}
-use Rattle.trace_events.specs.declared.happenings.Happening.TheVariants.{NewTable, Enter, Asked, Birth, Death, Reaped, Told, Clock}
+use Rattle.trace_events.specs.declared.happenings.Happening.TheVariants.{NewTable, Enter, Asked, Birth, Death, Reaped}
+use Rattle.trace_events.specs.declared.happenings.Happening.TheVariants.{Told, Clock}
 use Rattle.trace_events.specs.Event.{Event, SystemAct, act_in}
 
 -- the table in force: that of the last NewTable

@@ -8,7 +8,9 @@ use Rattle.trace_events.specs.Words.{is_id}
 use Rattle.initctl_frame.specs.declared.requests.HeardRequest.{HeardRequest as Request}
 use Rattle.initctl_frame.specs.declared.requests.HeardRequest.TheVariants as got
 use Rattle.inittab_text.specs.Written.{is_table}
-use Rattle.trace_events.specs.declared.happenings.Happening.TheVariants.{NewTable, Enter, Asked, Hold, Birth, NoBirth, Death, Reaped, Still, NoLook, Hit, Miss, Told, Clock, Got, Handed}
+use Rattle.trace_events.specs.declared.happenings.Happening.TheVariants.{NewTable, Enter, Asked, Hold, Birth, NoBirth}
+use Rattle.trace_events.specs.declared.happenings.Happening.TheVariants.{Death, Reaped, Still, NoLook, Hit, Miss, Told}
+use Rattle.trace_events.specs.declared.happenings.Happening.TheVariants.{Clock, Got, Handed}
 use Rattle.trace_events.specs.declared.happenings.Handed.{Handed as HandOver}
 use Rattle.trace_events.specs.declared.happenings.Handed.TheVariants as handed
 use Rattle.trace_events.specs.Event.{Event}

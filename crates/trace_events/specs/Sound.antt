@@ -2,11 +2,15 @@
 use Rattle.std.specs.Prelude.{Bool, true, false, not, ◌&&◌, ◌||◌, List, [], ◌∷◌}
 use Rattle.std.specs.List.{list_any}
 use Rattle.trace_events.specs.Words.{Start, Look, Term, Kill, is_distinct}
-use Rattle.trace_events.specs.declared.happenings.Happening.TheVariants.{NewTable, NotRead, Enter, Call, Power, Asked, Hold, Settle, Birth, NoBirth, Death, Reaped, Still, NoLook, Hit, Miss, Told, Clock, Nudge, Got, Handed}
+use Rattle.trace_events.specs.declared.happenings.Happening.TheVariants.{NewTable, NotRead, Enter, Call, Power, Asked}
+use Rattle.trace_events.specs.declared.happenings.Happening.TheVariants.{Hold, Settle, Birth, NoBirth, Death, Reaped}
+use Rattle.trace_events.specs.declared.happenings.Happening.TheVariants.{Still, NoLook, Hit, Miss, Told, Clock, Nudge}
+use Rattle.trace_events.specs.declared.happenings.Happening.TheVariants.{Got, Handed}
 use Rattle.trace_events.specs.declared.steps.Step.TheVariants as step
 use Rattle.trace_events.specs.declared.steps.Goal.{Goal}
 use Rattle.trace_events.specs.Event.{Event}
-use Rattle.trace_events.specs.Past.{is_child, has_number, is_dead, is_living, undone_of, is_untold, is_quiet, unreaped_children}
+use Rattle.trace_events.specs.Past.{is_child, has_number, is_dead, is_living, undone_of, is_untold, is_quiet}
+use Rattle.trace_events.specs.Past.{unreaped_children}
 use Rattle.trace_events.specs.Wanted.{is_order}
 use Rattle.trace_events.specs.Due.{is_due}
 

@@ -1,6 +1,7 @@
 -- The spell of an excluded child: the stretch of the past since it was last not excluded, else since its birth.
 -- What signals were told in it decides the next one: TERM, then KILL after the grace (init(8)).
-use Rattle.std.specs.Prelude.{ℕ, Bool, false, not, ◌&&◌, ◌||◌, ◌+◌, if◌then◌else◌, nat_le, List, [], ◌∷◌, ◌++◌, map, Option, Some, None}
+use Rattle.std.specs.Prelude.{ℕ, Bool, false, not, ◌&&◌, ◌||◌, ◌+◌, if◌then◌else◌, nat_le, List, [], ◌∷◌, ◌++◌, map}
+use Rattle.std.specs.Prelude.{Option, Some, None}
 use Rattle.trace_events.specs.Words.{OrderKind, Term, Kill, same_id}
 use Rattle.trace_events.specs.declared.happenings.Happening.TheVariants.{Birth, Hit, Miss, Told, Nudge}
 use Rattle.trace_events.specs.Event.{Event}

@@ -1,7 +1,9 @@
 -- Which entries were asked, called, are wanted, owed; which children are excluded (inittab(5), init(8)).
 use Rattle.std.specs.Prelude.{ℕ, Bool, false, not, ◌&&◌, ◌||◌, if◌then◌else◌, List, [], ◌∷◌, Option, Some, None}
 use Rattle.std.specs.List.{list_any}
-use Rattle.trace_events.specs.Words.{Entry, Act, OnCall, Stage, OrderKind, Start, same_id, same_act, is_called_by, is_ondemand, stays_called, wanted_by, names, same_ask, starts_of, lives_of, waited_of, has_id, entry_of, act_of}
+use Rattle.trace_events.specs.Words.{Entry, Act, OnCall, Stage, OrderKind, Start, same_id, same_act, is_called_by}
+use Rattle.trace_events.specs.Words.{is_ondemand, stays_called, wanted_by, names, same_ask, starts_of, lives_of}
+use Rattle.trace_events.specs.Words.{waited_of, has_id, entry_of, act_of}
 use Rattle.trace_events.specs.declared.happenings.Happening.TheVariants.{NewTable, Enter, Call, Power, Asked}
 use Rattle.trace_events.specs.Event.{Event}
 use Rattle.trace_events.specs.Past.{table_of, stage_of, Child, has_child, open_of, kept_children}

@@ -74,8 +74,10 @@ impl<'a, R: Eprint, S: TraceFiles> FileLog<'a, R, S> {
         size: Option<u64>,
     ) -> FileLog<'a, R, S>
         requires { IfSome (S.contents files) (λ bytes. bytes ≡ []) }
-        ensures value { result ≡ record { files = files; kept = []; refused = false; failed = false } }
-        ensures nothing { IfSome (S.contents files) (λ _. (filed_state S.contents result).taken []) }
+        ensures value { result
+            ≡ record { files = files; kept = []; refused = false; failed = false } }
+        ensures nothing { IfSome (S.contents files)
+            (λ _. (filed_state S.contents result).taken []) }
     {
         let step = size.unwrap_or(u64::MAX);
         FileLog {
@@ -94,7 +96,8 @@ impl<'a, R: Eprint, S: TraceFiles> FileLog<'a, R, S> {
 
     /// Writes a happening, and goes on in a new file where it is time to.
     fn write<B: Allocator>(&mut self, happening: &HappeningIn<B>) -> Result<(), LogFault>
-        ensures ok { OnOk result ((mid : Filed S) × (more : Filed S) × MayMove S.contents self.old mid
+        ensures ok { OnOk result
+            ((mid : Filed S) × (more : Filed S) × MayMove S.contents self.old mid
             × Adds S.contents mid more happening.now × IsStill S.contents more self.new) }
         ensures err { OnErr result (MayMove S.contents self.old self.new) }
     {

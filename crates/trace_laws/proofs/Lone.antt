@@ -1,9 +1,13 @@
 -- Children of which at most one passes a test.
-use Rattle.trace_laws.proofs.Words.{◌≡◌, ◌≤◌, arith, length, refl, Bool, true, false, not, ◌&&◌, cond, List, [], ◌∷◌, filter, find, list_any, option_map_or, not-true, nil_from_length, Child, falsely, any_less, any_filtered, any_none, or_none}
+use Rattle.trace_laws.proofs.Words.{◌≡◌, ◌≤◌, arith, length, refl, Bool, true, false, not, ◌&&◌, cond, List, [], ◌∷◌}
+use Rattle.trace_laws.proofs.Words.{filter, find, list_any, option_map_or, not-true, nil_from_length, Child, falsely}
+use Rattle.trace_laws.proofs.Words.{any_less, any_filtered, any_none, or_none}
 
 -- where none passes, none of those that are left does
-pub none_filtered : (p q : Child → Bool) (xs : List Child) → not (list_any p xs) ≡ true → list_any p (filter q xs) ≡ false
-none_filtered p q xs none = falsely (list_any p (filter q xs)) (list_any p xs) (any_filtered p q xs) (not-true (list_any p xs) none)
+pub none_filtered : (p q : Child → Bool) (xs : List Child) → not (list_any p xs) ≡ true
+    → list_any p (filter q xs) ≡ false
+none_filtered p q xs none =
+    falsely (list_any p (filter q xs)) (list_any p xs) (any_filtered p q xs) (not-true (list_any p xs) none)
 
 -- at most one passes
 abbrev pub is_lone : (Child → Bool) → List Child → Bool
@@ -20,7 +24,8 @@ lone_filter p q [] h = refl
 lone_filter p q (x ∷ xs) h = grind (arith, none_filtered, lone_none, lone_filter p q xs)
 
 -- whether the only one that passes p passes q too is told by the one that is found
-pub lone_any : (p q : Child → Bool) (xs : List Child) → is_lone p xs ≡ true → list_any (λ x. p x && q x) xs ≡ option_map_or q (find p xs) false
+pub lone_any : (p q : Child → Bool) (xs : List Child) → is_lone p xs ≡ true
+    → list_any (λ x. p x && q x) xs ≡ option_map_or q (find p xs) false
 lone_any p q [] h = refl
 lone_any p q (x ∷ xs) h = grind (arith, or_none, any_less, lone_any p q xs)
 

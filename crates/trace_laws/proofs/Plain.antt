@@ -1,5 +1,7 @@
 -- Runs that nothing disturbs, one happening after another.
-use Rattle.trace_laws.proofs.Words.{◌≡◌, true, ◌&&◌, List, [], ◌∷◌, false≢true, and_parts, Entry, is_distinct, NewTable, Goal, Event, table_of, due, first, may_come, keeps_order, is_orderly, is_mild, is_undisturbed}
+use Rattle.trace_laws.proofs.Words.{◌≡◌, true, ◌&&◌, List, [], ◌∷◌, false≢true, and_parts, Entry, is_distinct, NewTable}
+use Rattle.trace_laws.proofs.Words.{Goal, Event, table_of, due, first, may_come, keeps_order, is_orderly, is_mild}
+use Rattle.trace_laws.proofs.Words.{is_undisturbed}
 use Rattle.trace_laws.proofs.Runs.{orderly_sound}
 use Rattle.trace_laws.proofs.Keeps.{Holds, sound_holds}
 
@@ -15,14 +17,18 @@ pub record Comes (goal : Goal) (happening : Event) (past : List Event) : Type 0 
   pub may : may_come goal happening past ≡ true
   pub before : Plain goal past
 
-pub plain_ind : (goal : Goal) (P : List Event → Type 0) → ((table : List Entry) → is_distinct table ≡ true → P (NewTable table ∷ [])) → ((happening : Event) (past : List Event) → Comes goal happening past → P past → P (happening ∷ past)) → (past : List Event) → is_orderly goal past ≡ true → is_undisturbed past ≡ true → P past
+pub plain_ind : (goal : Goal) (P : List Event → Type 0) → ((table : List Entry) → is_distinct table ≡ true
+    → P (NewTable table ∷ [])) → ((happening : Event) (past : List Event) → Comes goal happening past → P past
+    → P (happening ∷ past)) → (past : List Event) → is_orderly goal past ≡ true → is_undisturbed past ≡ true → P past
 plain_ind goal P begins goes [] runs mild = absurd (false≢true runs)
 plain_ind goal P begins goes (NewTable table ∷ []) runs mild = begins table runs
 plain_ind goal P begins goes (happening ∷ past) runs mild =
     let two = and_parts (is_mild happening past) (is_undisturbed past) mild in
-    let all = and_parts (keeps_order (first (due goal past)) happening && may_come goal happening past) (is_orderly goal past) runs in
+    let all = and_parts (keeps_order (first (due goal past)) happening && may_come goal happening past)
+    (is_orderly goal past) runs in
     let one = and_parts (keeps_order (first (due goal past)) happening) (may_come goal happening past) all.0 in
-    goes happening past (record { mild = two.0; next = one.0; may = one.1; before = record { runs = all.1; mild = two.1 } })
+    goes happening past
+    (record { mild = two.0; next = one.0; may = one.1; before = record { runs = all.1; mild = two.1 } })
     (plain_ind goal P begins goes past all.1 two.1)
 
 pub plain_holds : (goal : Goal) (past : List Event) → Plain goal past → Holds past

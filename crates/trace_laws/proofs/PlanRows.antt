@@ -1,6 +1,8 @@
--- A trace as `initd run` writes it: an orderly one, that nothing disturbs, up to the announcement. In it the system acts
--- while steps are due, so it is no run of `initd simulate`.
-use Rattle.trace_laws.proofs.Words.{◌≡◌, refl, ℕ, true, false, List, [], ◌∷◌, codes, Entry, Act, Mark, At, Start, Look, NewTable, Asked, Birth, Death, Reaped, Told, Clock, Nudge, Goal, Event, is_announced, is_sound, is_run, is_orderly, is_undisturbed}
+-- A trace as `initd run` writes it: an orderly one, that nothing disturbs, up to the announcement. In it the system
+-- acts while steps are due, so it is no run of `initd simulate`.
+use Rattle.trace_laws.proofs.Words.{◌≡◌, refl, ℕ, true, false, List, [], ◌∷◌, codes, Entry, Act, Mark, At, Start, Look}
+use Rattle.trace_laws.proofs.Words.{NewTable, Asked, Birth, Death, Reaped, Told, Clock, Nudge, Goal, Event}
+use Rattle.trace_laws.proofs.Words.{is_announced, is_sound, is_run, is_orderly, is_undisturbed}
 use Rattle.init_words.specs.declared.actions.Act.TheVariants as act
 use Rattle.init_words.specs.declared.levels.Level.TheVariants as level
 use Rattle.init_words.specs.declared.stages.Stage.TheVariants as stage
@@ -8,19 +10,23 @@ use Rattle.init_words.specs.declared.children.Status.TheVariants.{Exit}
 use Rattle.trace_events.specs.declared.happenings.Happening.TheVariants.{Enter, Settle}
 
 abbrev entry : List ℕ → List Mark → Act → Entry
-entry id levels action = record { id = id; levels = record { items = levels }; act = action; process = record { items = codes "x" } }
+entry id levels action =
+    record { id = id; levels = record { items = levels }; act = action; process = record { items = codes "x" } }
 
 abbrev goal : Goal
 goal = record { level = level.L3; grace = 5 }
 
 abbrev begun : List Event
-begun = Clock 1 ∷ NewTable (entry (codes "s") [] act.Sysinit ∷ entry (codes "a") (At level.L3 ∷ []) act.Once ∷ entry (codes "b") (At level.L3 ∷ []) act.Once ∷ []) ∷ []
+begun = Clock 1 ∷ NewTable (entry (codes "s") [] act.Sysinit ∷ entry (codes "a") (At level.L3 ∷ []) act.Once
+    ∷ entry (codes "b") (At level.L3 ∷ []) act.Once ∷ []) ∷ []
 
 abbrev booted : List Event
-booted = Told (codes "s") ∷ Reaped (codes "s") 10 (Exit 0) ∷ Death 10 ∷ Asked (codes "s") Look ∷ Nudge ∷ Clock 1 ∷ Told (codes "s") ∷ Birth (codes "s") 10 ∷ Asked (codes "s") Start ∷ Enter stage.Sysinit 5 ∷ Nudge ∷ begun
+booted = Told (codes "s") ∷ Reaped (codes "s") 10 (Exit 0) ∷ Death 10 ∷ Asked (codes "s") Look ∷ Nudge ∷ Clock 1
+    ∷ Told (codes "s") ∷ Birth (codes "s") 10 ∷ Asked (codes "s") Start ∷ Enter stage.Sysinit 5 ∷ Nudge ∷ begun
 
 abbrev run : List Event
-run = Settle level.L3 ∷ Told (codes "b") ∷ Birth (codes "b") 12 ∷ Asked (codes "b") Start ∷ Told (codes "a") ∷ Birth (codes "a") 11 ∷ Asked (codes "a") Start ∷ Enter (stage.Run level.L3) 5 ∷ Enter stage.Boot 5 ∷ booted
+run = Settle level.L3 ∷ Told (codes "b") ∷ Birth (codes "b") 12 ∷ Asked (codes "b") Start ∷ Told (codes "a")
+    ∷ Birth (codes "a") 11 ∷ Asked (codes "a") Start ∷ Enter (stage.Run level.L3) 5 ∷ Enter stage.Boot 5 ∷ booted
 
 pub sound : is_sound goal run ≡ true
 sound = refl

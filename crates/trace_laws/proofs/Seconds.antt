@@ -1,5 +1,14 @@
 -- The seconds between the two signals: a sound trace names those of its opening goal and of its requests alone.
-use Rattle.trace_laws.proofs.Words.{◌≡◌, refl, ℕ, Bool, true, not, ◌&&◌, cond, List, [], ◌∷◌, ◌++◌, Option, Some, None, arith, list_any, list_all, false≢true, and_parts, and_from, eqb-true, Entry, Letter, Stage, OrderKind, Start, Look, PowerKind, is_limited, Step, Reread, Order, Reexec, Goal, Event, table_of, stage_of, Child, is_of, is_quiet, is_idle, stop_due, is_sound, may_come, is_held, is_full, is_owed, goal_of, heard_level, other_than, level_wish, wants_reexec, wants_reread, powers, letters, wish_stands, in_run, step_if, steps_if, none_excluded, due_first, due_reexec, enter_level, power_steps, letter_steps, record_ids, stop_step, stops_of, stops_among, can_start, start_steps, starts_among, is_over, next_stage, is_announced, settle_step, can_look, looks_among, due, same_step}
+use Rattle.trace_laws.proofs.Words.{◌≡◌, refl, ℕ, Bool, true, not, ◌&&◌, cond, List, [], ◌∷◌, ◌++◌, Option, Some, None}
+use Rattle.trace_laws.proofs.Words.{arith, list_any, list_all, false≢true, and_parts, and_from, eqb-true, Entry, Letter}
+use Rattle.trace_laws.proofs.Words.{Stage, OrderKind, Start, Look, PowerKind, is_limited, Step, Reread, Order, Reexec}
+use Rattle.trace_laws.proofs.Words.{Goal, Event, table_of, stage_of, Child, is_of, is_quiet, is_idle, stop_due}
+use Rattle.trace_laws.proofs.Words.{is_sound, may_come, is_held, is_full, is_owed, goal_of, heard_level, other_than}
+use Rattle.trace_laws.proofs.Words.{level_wish, wants_reexec, wants_reread, powers, letters, wish_stands, in_run}
+use Rattle.trace_laws.proofs.Words.{step_if, steps_if, none_excluded, due_first, due_reexec, enter_level, power_steps}
+use Rattle.trace_laws.proofs.Words.{letter_steps, record_ids, stop_step, stops_of, stops_among, can_start, start_steps}
+use Rattle.trace_laws.proofs.Words.{starts_among, is_over, next_stage, is_announced, settle_step, can_look, looks_among}
+use Rattle.trace_laws.proofs.Words.{due, same_step}
 use Rattle.trace_events.specs.Range.{is_seconds, is_request, are_short}
 use Rattle.initctl_frame.specs.declared.requests.HeardRequest.TheVariants as got
 use Rattle.trace_events.specs.declared.happenings.Happening.TheVariants as past
@@ -22,9 +31,11 @@ ShortGoal (Some goal) = is_seconds goal.grace ≡ true
 
 -- ---- the goal and the wish for a level are of the opening or of a request
 
-goal_short : (goal : Goal) (so_far : List Event) → is_seconds goal.grace ≡ true → list_all is_short_request so_far ≡ true → is_seconds (goal_of goal so_far).grace ≡ true
+goal_short : (goal : Goal) (so_far : List Event) → is_seconds goal.grace ≡ true
+    → list_all is_short_request so_far ≡ true → is_seconds (goal_of goal so_far).grace ≡ true
 goal_short goal [] opening all = opening
-goal_short goal (past.Got (got.Level level seconds) ∷ so_far) opening all = (and_parts (is_seconds seconds) (list_all is_short_request so_far) all).0
+goal_short goal (past.Got (got.Level level seconds) ∷ so_far) opening all =
+    (and_parts (is_seconds seconds) (list_all is_short_request so_far) all).0
 goal_short goal (past.Got (got.Call letter) ∷ so_far) opening all = goal_short goal so_far opening all
 goal_short goal (past.Got got.Reload ∷ so_far) opening all = goal_short goal so_far opening all
 goal_short goal (past.Got got.Reexec ∷ so_far) opening all = goal_short goal so_far opening all
@@ -35,7 +46,8 @@ goal_short goal (_ ∷ so_far) opening all = goal_short goal so_far opening all
 heard_short : (so_far : List Event) → list_all is_short_request so_far ≡ true → ShortGoal (heard_level so_far)
 heard_short [] all = tt
 heard_short (past.Enter stage grace ∷ so_far) all = tt
-heard_short (past.Got (got.Level level seconds) ∷ so_far) all = (and_parts (is_seconds seconds) (list_all is_short_request so_far) all).0
+heard_short (past.Got (got.Level level seconds) ∷ so_far) all =
+    (and_parts (is_seconds seconds) (list_all is_short_request so_far) all).0
 heard_short (past.Got (got.Call letter) ∷ so_far) all = heard_short so_far all
 heard_short (past.Got got.Reload ∷ so_far) all = heard_short so_far all
 heard_short (past.Got got.Reexec ∷ so_far) all = heard_short so_far all
@@ -48,7 +60,8 @@ other_short o heard short = grind arith
 
 -- ---- the steps that are due
 
-firsts : (goal : Goal) (so_far : List Event) (o : Option Stage) → is_seconds (goal_of goal so_far).grace ≡ true → Each Short (due_first goal o so_far)
+firsts : (goal : Goal) (so_far : List Event) (o : Option Stage) → is_seconds (goal_of goal so_far).grace ≡ true
+    → Each Short (due_first goal o so_far)
 firsts goal so_far o short = grind arith
 
 levels : (so_far : List Event) (o : Option Goal) → ShortGoal o → Each Short (enter_level o so_far)
@@ -64,7 +77,9 @@ calls so_far (letter ∷ rest) = grind (arith, calls so_far rest)
 
 stops : (id : List ℕ) (so_far : List Event) (children : List Child) → Each Short (stops_of id children so_far)
 stops id so_far [] = tt
-stops id so_far (child ∷ children) = each_append Short (steps_if (is_of id child) (stop_step id (stop_due child so_far))) (stops_of id children so_far) (each_steps_if Short (is_of id child) (stop_step id (stop_due child so_far)) (λ _. by (stop_due child so_far))) (stops id so_far children)
+stops id so_far (child ∷ children) = each_append Short (steps_if (is_of id child)
+    (stop_step id (stop_due child so_far))) (stops_of id children so_far) (each_steps_if Short (is_of id child)
+    (stop_step id (stop_due child so_far)) (λ _. by (stop_due child so_far))) (stops id so_far children)
   where
     by : (o : Option OrderKind) → Each Short (stop_step id o)
     by o = grind arith
@@ -75,12 +90,15 @@ stops_all (id ∷ ids) so_far = grind (arith, each_append, each_steps_if, stops,
 
 starts : (so_far : List Event) (es : List Entry) → Each Short (starts_among es so_far)
 starts so_far [] = tt
-starts so_far (e ∷ es) = each_append Short (steps_if (can_start e so_far) (start_steps e so_far)) (cond (is_owed e so_far) [] (starts_among es so_far)) (each_steps_if Short (can_start e so_far) (start_steps e so_far) (λ _. by_act (is_limited e.act))) (later (is_owed e so_far) (starts so_far es))
+starts so_far (e ∷ es) = each_append Short (steps_if (can_start e so_far) (start_steps e so_far))
+    (cond (is_owed e so_far) [] (starts_among es so_far)) (each_steps_if Short (can_start e so_far)
+    (start_steps e so_far) (λ _. by_act (is_limited e.act))) (later (is_owed e so_far) (starts so_far es))
   where
     window : (full : Bool) → Each Short (cond full (Hold e.id) (Order e.id Start) ∷ [])
     window full = grind arith
 
-    by_act : (limited : Bool) → Each Short (cond limited (steps_if (not (is_held e.id so_far)) (cond (is_full e.id so_far) (Hold e.id) (Order e.id Start) ∷ [])) (Order e.id Start ∷ []))
+    by_act : (limited : Bool) → Each Short (cond limited (steps_if (not (is_held e.id so_far))
+        (cond (is_full e.id so_far) (Hold e.id) (Order e.id Start) ∷ [])) (Order e.id Start ∷ []))
     by_act limited = grind arith
 
     later : (owed : Bool) → Each Short (starts_among es so_far) → Each Short (cond owed [] (starts_among es so_far))
@@ -94,38 +112,53 @@ settles so_far o = grind arith
 
 looks : (so_far : List Event) (ids : List (List ℕ)) → Each Short (looks_among ids so_far)
 looks so_far [] = tt
-looks so_far (id ∷ ids) = each_append Short (step_if (can_look id so_far) (Order id Look)) (looks_among ids so_far) (each_step_if Short (can_look id so_far) (Order id Look) (λ _. tt)) (looks so_far ids)
+looks so_far (id ∷ ids) = each_append Short (step_if (can_look id so_far) (Order id Look)) (looks_among ids so_far)
+    (each_step_if Short (can_look id so_far) (Order id Look) (λ _. tt)) (looks so_far ids)
 
 join : (xs ys : List Step) → Each Short xs → Each Short ys → Each Short (xs ++ ys)
 join xs ys = each_append Short xs ys
 
-dues : (goal : Goal) (so_far : List Event) → is_seconds (goal_of goal so_far).grace ≡ true → ShortGoal (level_wish so_far) → Each Short (due goal so_far)
+dues : (goal : Goal) (so_far : List Event) → is_seconds (goal_of goal so_far).grace ≡ true
+    → ShortGoal (level_wish so_far) → Each Short (due goal so_far)
 dues goal so_far short wish =
-    join _ _ (join _ _ (join _ _ (join _ _ (join _ _ (join _ _ (join _ _ (join _ _ (join (due_first goal (stage_of so_far) so_far) (due_reexec so_far)
+    join _ _ (join _ _ (join _ _ (join _ _
+    (join _ _ (join _ _ (join _ _ (join _ _ (join (due_first goal (stage_of so_far) so_far) (due_reexec so_far)
     (firsts goal so_far (stage_of so_far) short)
     (each_step_if Short (is_quiet so_far && wants_reexec so_far) Reexec (λ _. tt)))
     (each_step_if Short (is_quiet so_far && wants_reread so_far) Reread (λ _. tt)))
-    (each_steps_if Short (is_quiet so_far) (enter_level (level_wish so_far) so_far) (λ _. levels so_far (level_wish so_far) wish)))
-    (each_steps_if Short (is_quiet so_far && in_run (stage_of so_far)) (power_steps powers so_far ++ letter_steps letters so_far) (λ _. join (power_steps powers so_far) (letter_steps letters so_far) (news so_far powers) (calls so_far letters))))
-    (each_steps_if Short (not (wish_stands so_far)) (stops_among (record_ids so_far) so_far) (λ _. stops_all (record_ids so_far) so_far)))
-    (each_steps_if Short (not (wish_stands so_far) && none_excluded so_far) (starts_among (table_of so_far) so_far) (λ _. starts so_far (table_of so_far))))
-    (each_steps_if Short (is_over so_far) (next_stage (goal_of goal so_far) (stage_of so_far)) (λ _. stages (goal_of goal so_far) (stage_of so_far) short)))
-    (each_steps_if Short (not (wish_stands so_far) && is_idle so_far && not (is_announced so_far)) (settle_step (stage_of so_far) so_far) (λ _. settles so_far (stage_of so_far))))
+    (each_steps_if Short (is_quiet so_far) (enter_level (level_wish so_far) so_far)
+    (λ _. levels so_far (level_wish so_far) wish)))
+    (each_steps_if Short (is_quiet so_far && in_run (stage_of so_far))
+    (power_steps powers so_far ++ letter_steps letters so_far)
+    (λ _. join (power_steps powers so_far) (letter_steps letters so_far) (news so_far powers) (calls so_far letters))))
+    (each_steps_if Short (not (wish_stands so_far)) (stops_among (record_ids so_far) so_far)
+    (λ _. stops_all (record_ids so_far) so_far)))
+    (each_steps_if Short (not (wish_stands so_far) && none_excluded so_far) (starts_among (table_of so_far) so_far)
+    (λ _. starts so_far (table_of so_far))))
+    (each_steps_if Short (is_over so_far) (next_stage (goal_of goal so_far) (stage_of so_far))
+    (λ _. stages (goal_of goal so_far) (stage_of so_far) short)))
+    (each_steps_if Short (not (wish_stands so_far) && is_idle so_far && not (is_announced so_far))
+    (settle_step (stage_of so_far) so_far) (λ _. settles so_far (stage_of so_far))))
     (looks so_far (record_ids so_far))
 
-at_enter : (now : Stage) (grace : ℕ) (steps : List Step) → Each Short steps → list_any (same_step (Enter now grace)) steps ≡ true → is_seconds grace ≡ true
+at_enter : (now : Stage) (grace : ℕ) (steps : List Step) → Each Short steps
+    → list_any (same_step (Enter now grace)) steps ≡ true → is_seconds grace ≡ true
 at_enter now grace [] all h = absurd (false≢true h)
 at_enter now grace (step ∷ steps) all h = grind (arith, eqb-true, at_enter now grace steps)
 
 -- where the opening goal and the requests name an hour at most, so does each happening of a sound trace
-pub sound_short : (goal : Goal) (trace : List Event) → is_seconds goal.grace ≡ true → is_sound goal trace ≡ true → list_all is_short_request trace ≡ true → are_short trace ≡ true
+pub sound_short : (goal : Goal) (trace : List Event) → is_seconds goal.grace ≡ true → is_sound goal trace ≡ true
+    → list_all is_short_request trace ≡ true → are_short trace ≡ true
 sound_short goal [] opening sound all = refl
 sound_short goal (past.Enter now grace ∷ so_far) opening sound all =
     let parts = and_parts (may_come goal (past.Enter now grace) so_far) (is_sound goal so_far) sound in
     and_from (is_seconds grace) (are_short so_far)
-    (at_enter now grace (due goal so_far) (dues goal so_far (goal_short goal so_far opening all) (other_short (stage_of so_far) (heard_level so_far) (heard_short so_far all))) parts.0)
+    (at_enter now grace (due goal so_far) (dues goal so_far (goal_short goal so_far opening all)
+    (other_short (stage_of so_far) (heard_level so_far) (heard_short so_far all))) parts.0)
     (sound_short goal so_far opening parts.1 all)
 sound_short goal (past.Got request ∷ so_far) opening sound all = grind (arith, sound_short goal so_far)
 sound_short goal (past.NewTable table ∷ []) opening sound all = refl
-sound_short goal (past.NewTable table ∷ before ∷ so_far) opening sound all = sound_short goal (before ∷ so_far) opening (and_parts (may_come goal (past.NewTable table) (before ∷ so_far)) (is_sound goal (before ∷ so_far)) sound).1 all
-sound_short goal (happening ∷ so_far) opening sound all = sound_short goal so_far opening (and_parts (may_come goal happening so_far) (is_sound goal so_far) sound).1 all
+sound_short goal (past.NewTable table ∷ before ∷ so_far) opening sound all = sound_short goal (before ∷ so_far) opening
+    (and_parts (may_come goal (past.NewTable table) (before ∷ so_far)) (is_sound goal (before ∷ so_far)) sound).1 all
+sound_short goal (happening ∷ so_far) opening sound all =
+    sound_short goal so_far opening (and_parts (may_come goal happening so_far) (is_sound goal so_far) sound).1 all

@@ -1,19 +1,35 @@
 -- The words of the proofs of this crate.
-pub use Rattle.std.proofs.Common.{◌≡◌, refl, sym, ◌∙◌, ap, ℕ, Bool, true, false, not, ◌&&◌, ◌||◌, ◌==◌, List, [], ◌∷◌, ◌++◌, filter, arith, ◌≤◌, cond, length, lit≤, subst, inl, inr, Option, Some, None, is_some, ◌⊎◌, is_none, map, append_assoc, ◌+◌, nat_le, le_trans, le_refl, length-append, find, ◌-◌, nat_lt, drop, suc, zero, codes}
+pub use Rattle.std.proofs.Common.{◌≡◌, refl, sym, ◌∙◌, ap, ℕ, Bool, true, false, not, ◌&&◌, ◌||◌, ◌==◌, List, [], ◌∷◌}
+pub use Rattle.std.proofs.Common.{◌++◌, filter, arith, ◌≤◌, cond, length, lit≤, subst, inl, inr, Option, Some, None}
+pub use Rattle.std.proofs.Common.{is_some, ◌⊎◌, is_none, map, append_assoc, ◌+◌, nat_le, le_trans, le_refl}
+pub use Rattle.std.proofs.Common.{length-append, find, ◌-◌, nat_lt, drop, suc, zero, codes}
 pub use Rattle.std.specs.List.{list_any, list_all}
-pub use Rattle.std.proofs.lemmas.Bool.{and_parts, or_parts, eqb-true, false≢true, and_from, and_right, or_left, or_right, or_from, not_from_true, not-true, and_left, le-leb, leb-true, ltb-false, leb-false, le-ltb, not_from_false}
+pub use Rattle.std.proofs.lemmas.Bool.{and_parts, or_parts, eqb-true, false≢true, and_from, and_right, or_left}
+pub use Rattle.std.proofs.lemmas.Bool.{or_right, or_from, not_from_true, not-true, and_left, le-leb, leb-true}
+pub use Rattle.std.proofs.lemmas.Bool.{ltb-false, leb-false, le-ltb, not_from_false}
 pub use Rattle.init_words.specs.declared.orders.OrderKind.TheVariants.{Look, Start, Term, Kill}
 pub use Rattle.init_words.specs.Ids.{same_id}
-pub use Rattle.trace_events.specs.declared.happenings.Happening.TheVariants.{Birth, NoBirth, Reaped, Still, NoLook, Hit, Miss, Told, NewTable, Asked, Death, Clock, Nudge}
+pub use Rattle.trace_events.specs.declared.happenings.Happening.TheVariants.{Birth, NoBirth, Reaped, Still, NoLook, Hit}
+pub use Rattle.trace_events.specs.declared.happenings.Happening.TheVariants.{Miss, Told, NewTable, Asked, Death, Clock}
+pub use Rattle.trace_events.specs.declared.happenings.Happening.TheVariants.{Nudge}
 pub use Rattle.trace_events.specs.declared.steps.Goal.{Goal}
 pub use Rattle.trace_events.specs.Event.{Event}
-pub use Rattle.trace_events.specs.Past.{Child, is_of, is_child, undone_of, is_untold, unreaped_children, known_children, has_child, newborn, kept_children, table_of, stage_of, open_of, is_dead, is_quiet, is_idle, has_number, grace_of, time_of, Open, open_orders}
-pub use Rattle.trace_events.specs.Wanted.{is_order, is_owed_before, starts_in, starts_now, brings, is_asked, is_called, is_wanted, nothing_runs, is_owed, is_excluded, entries_before, may_live}
+pub use Rattle.trace_events.specs.Past.{Child, is_of, is_child, undone_of, is_untold, unreaped_children, known_children}
+pub use Rattle.trace_events.specs.Past.{has_child, newborn, kept_children, table_of, stage_of, open_of, is_dead}
+pub use Rattle.trace_events.specs.Past.{is_quiet, is_idle, has_number, grace_of, time_of, Open, open_orders}
+pub use Rattle.trace_events.specs.Wanted.{is_order, is_owed_before, starts_in, starts_now, brings, is_asked, is_called}
+pub use Rattle.trace_events.specs.Wanted.{is_wanted, nothing_runs, is_owed, is_excluded, entries_before, may_live}
 pub use Rattle.trace_events.specs.Sound.{may_come, is_sound}
 pub use Rattle.trace_events.specs.Agreement.{has_untold_birth, has_untold_end, is_unreaped, is_known, Agrees}
-pub use Rattle.init_words.proofs.Same.{same_id-is, same_id-from, same_id-self, same_ask-is, same_level-is, same_id-apart, same_id-sym, same_ask-self, same_level-self, same_power-self, same_stage-self}
-pub use Rattle.init_words.proofs.Tests.{any_within, any_without, falsely, not_from, filter_none, both_ways, or_either, and_false, any_less, any_filtered, is_none-is, all_less, all_fail, same_tests, any_none, or_none, Passing, passing, or_false, any_filter, filter_within, filter_without, and_true, found_any, find_none}
-pub use Rattle.trace_events.specs.Lawful.{is_alone, is_placed, is_in_turn, are_spared, may_term, is_free, is_due_hold, may_kill, broken, is_lawful, first_breach, is_limited_id}
+pub use Rattle.init_words.proofs.Same.{same_id-is, same_id-from, same_id-self, same_ask-is, same_level-is}
+pub use Rattle.init_words.proofs.Same.{same_id-apart, same_id-sym, same_ask-self, same_level-self, same_power-self}
+pub use Rattle.init_words.proofs.Same.{same_stage-self}
+pub use Rattle.init_words.proofs.Tests.{any_within, any_without, falsely, not_from, filter_none, both_ways, or_either}
+pub use Rattle.init_words.proofs.Tests.{and_false, any_less, any_filtered, is_none-is, all_less, all_fail, same_tests}
+pub use Rattle.init_words.proofs.Tests.{any_none, or_none, Passing, passing, or_false, any_filter, filter_within}
+pub use Rattle.init_words.proofs.Tests.{filter_without, and_true, found_any, find_none}
+pub use Rattle.trace_events.specs.Lawful.{is_alone, is_placed, is_in_turn, are_spared, may_term, is_free, is_due_hold}
+pub use Rattle.trace_events.specs.Lawful.{may_kill, broken, is_lawful, first_breach, is_limited_id}
 pub use Rattle.std.specs.Option.{option_map_or, option_map}
 pub use Rattle.std.proofs.lemmas.Option.{same_Some, none-some}
 pub use Rattle.init_words.specs.declared.entries.Entry.{Entry}
@@ -23,15 +39,22 @@ pub use Rattle.init_words.specs.Orders.{same_ask, is_hit, is_miss, answers}
 pub use Rattle.init_words.specs.Actions.{wanted_by, is_limited, starts_by, served_by, waited_by, stays_called}
 pub use Rattle.init_words.specs.Entries.{starts_of, waited_of}
 pub use Rattle.inittab_text.specs.Tables.{entry_of, is_distinct, has_id, act_of, ids_of}
-pub use Rattle.trace_events.specs.Due.{next_stage, first, is_due, step_if, steps_if, none_excluded, due_first, due_reexec, due_reread, enter_level, due_level, power_steps, letter_steps, due_news, record_ids, stop_step, stops_of, stops_among, due_stops, can_start, start_steps, starts_among, due_starts, is_over, due_stage, is_announced, is_settled, settle_step, due_settle, looks_among, due_looks, due, same_step, can_look, is_served, left_ids, wants_look}
-pub use Rattle.trace_events.specs.Wishes.{goal_of, level_wish, powers, letters, wish_stands, in_run, heard_level, wants_reexec, wants_reread, is_level, other_than}
+pub use Rattle.trace_events.specs.Due.{next_stage, first, is_due, step_if, steps_if, none_excluded, due_first}
+pub use Rattle.trace_events.specs.Due.{due_reexec, due_reread, enter_level, due_level, power_steps, letter_steps}
+pub use Rattle.trace_events.specs.Due.{due_news, record_ids, stop_step, stops_of, stops_among, due_stops, can_start}
+pub use Rattle.trace_events.specs.Due.{start_steps, starts_among, due_starts, is_over, due_stage, is_announced}
+pub use Rattle.trace_events.specs.Due.{is_settled, settle_step, due_settle, looks_among, due_looks, due, same_step}
+pub use Rattle.trace_events.specs.Due.{can_look, is_served, left_ids, wants_look}
+pub use Rattle.trace_events.specs.Wishes.{goal_of, level_wish, powers, letters, wish_stands, in_run, heard_level}
+pub use Rattle.trace_events.specs.Wishes.{wants_reexec, wants_reread, is_level, other_than}
 pub use Rattle.trace_laws.specs.Runs.{is_awaited, BeginsWith, is_undisturbed, taken, is_mild}
 pub use Rattle.init_words.specs.declared.levels.Level.{Level}
 pub use Rattle.init_words.specs.declared.levels.Letter.{Letter}
 pub use Rattle.init_words.specs.declared.orders.PowerKind.{PowerKind}
 pub use Rattle.trace_events.specs.declared.steps.Step.{Step}
 pub use Rattle.trace_events.specs.declared.steps.Step.TheVariants.{Reread, Order, Reexec, Idle}
-pub use Rattle.trace_events.specs.Spells.{stop_due, Signal, stop_by, untold_hits, told_at, in_spell, spell_hits, is_ripe, has_untold_miss, is_missed, tells_hits}
+pub use Rattle.trace_events.specs.Spells.{stop_due, Signal, stop_by, untold_hits, told_at, in_spell, spell_hits}
+pub use Rattle.trace_events.specs.Spells.{is_ripe, has_untold_miss, is_missed, tells_hits}
 pub use Rattle.trace_events.specs.Timing.{is_held, is_full, start_times, hold_times}
 pub use Rattle.std.proofs.lemmas.List.{append-nil, nil_from_length}
 pub use Rattle.init_words.specs.declared.actions.Act.{Act}

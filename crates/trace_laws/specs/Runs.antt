@@ -2,7 +2,8 @@
 use Rattle.std.specs.Prelude.{◌≡◌, Bool, true, false, not, ◌&&◌, ◌||◌, List, [], ◌∷◌, ◌++◌}
 use Rattle.std.specs.List.{list_all}
 use Rattle.std.specs.Option.{option_map_or}
-use Rattle.trace_laws.specs.Words.{Start, waited_of, entry_of, Step, Order, Event, Child, has_number, table_of, unreaped_children}
+use Rattle.trace_laws.specs.Words.{Start, waited_of, entry_of, Step, Order, Event, Child, has_number, table_of}
+use Rattle.trace_laws.specs.Words.{unreaped_children}
 use Rattle.trace_events.specs.declared.happenings.Happening.TheVariants as happened
 use Rattle.trace_events.specs.declared.steps.Step.TheVariants.{Enter}
 
@@ -10,8 +11,8 @@ use Rattle.trace_events.specs.declared.steps.Step.TheVariants.{Enter}
 abbrev pub is_awaited : List Event → Child → Bool
 is_awaited past child = option_map_or waited_of (entry_of child.id (table_of past)) false
 
--- a happening that disturbs nothing: no request comes, no entry is called, inittab isn't read again, init isn't executed
--- anew, no start fails, and a child that ends is one that init waits for
+-- a happening that disturbs nothing: no request comes, no entry is called, inittab isn't read again, init isn't
+-- executed anew, no start fails, and a child that ends is one that init waits for
 abbrev pub is_mild : Event → List Event → Bool
 is_mild (happened.NewTable table) past = false
 is_mild happened.NotRead past = false

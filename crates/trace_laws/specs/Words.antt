@@ -6,7 +6,8 @@ pub use Rattle.trace_events.specs.Event.{Event}
 pub use Rattle.trace_events.specs.Past.{table_of, Child, has_number, unreaped_children, grace_of, time_of, is_of}
 pub use Rattle.trace_events.specs.Wanted.{may_live, is_excluded, is_order, is_owed_before}
 pub use Rattle.init_words.specs.declared.orders.OrderKind.TheVariants.{Start, Term}
-pub use Rattle.trace_events.specs.declared.happenings.Happening.TheVariants.{Asked, Hold, Settle, Birth, Hit, NewTable, Reaped, Told}
+pub use Rattle.trace_events.specs.declared.happenings.Happening.TheVariants.{Asked, Hold, Settle, Birth, Hit, NewTable}
+pub use Rattle.trace_events.specs.declared.happenings.Happening.TheVariants.{Reaped, Told}
 pub use Rattle.trace_events.specs.declared.steps.Goal.{Goal}
 pub use Rattle.trace_events.specs.Sound.{is_sound, may_come}
 pub use Rattle.trace_events.specs.declared.steps.Step.{Step}

@@ -2,8 +2,8 @@
 use Rattle.std.specs.Prelude.{ℕ, Bool, List, [], ◌∷◌, ◌++◌, Option}
 use Rattle.trace_events.specs.Event.{Event}
 
--- whether it took these happenings, the oldest first, as far as a contract sees; whether it has failed; and the id whose
--- ends it notes, where there is one
+-- whether it took these happenings, the oldest first, as far as a contract sees; whether it has failed; and the id
+-- whose ends it notes, where there is one
 pub record LogState : Type 1 where
   pub taken : List Event → Type 0
   pub failed : Bool

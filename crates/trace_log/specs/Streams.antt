@@ -18,8 +18,8 @@ pub record IsCut (part : List ℕ) : Type 0 where
   pub joined : part ++ rest ≡ event_text happening
   pub short : 0 < length rest
 
--- The bytes are the text of the trace; after it, once the log has failed, stands a part of the text of the happening that
--- it did not take, which may be empty.
+-- The bytes are the text of the trace; after it, once the log has failed, stands a part of the text of the happening
+-- that it did not take, which may be empty.
 pub record HasText (failed : Bool) (trace : List Event) (bytes : List ℕ) : Type 0 where
   pub ranged : are_in_range trace ≡ true
   pub part : List ℕ

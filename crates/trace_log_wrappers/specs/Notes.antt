@@ -7,8 +7,8 @@ use Rattle.init_words.specs.Ids.{same_id}
 use Rattle.trace_events.specs.Event.{Event}
 use Rattle.trace_log_wrappers.specs.Ends.{last_end, number_of}
 
--- the id whose last end is noted, if one is, and that end; the numbers of the unreaped children by id, and whether there
--- was memory to note all of these
+-- the id whose last end is noted, if one is, and that end; the numbers of the unreaped children by id, and whether
+-- there was memory to note all of these
 pub record Notes : Type 0 where
   pub wanted : Option (List ℕ)
   pub last : Option Status
@@ -27,7 +27,8 @@ IsLast last wanted past = (id : List ℕ) → is_wanted id wanted ≡ true → l
 abbrev pub number_in : List ℕ → List (List ℕ × ℕ) → Option ℕ
 number_in id running = lookup (same_id id) running
 
--- no id stands there twice, and each has the number that its unreaped child has in this trace, the newest happening first
+-- no id stands there twice, and each has the number that its unreaped child has in this trace, the newest happening
+-- first
 abbrev pub IsRunning : List (List ℕ × ℕ) → List Event → Type 0
 IsRunning running past =
     IsDistinct same_id (keys_of running) × ((id : List ℕ) → number_in id running ≡ number_of id past)

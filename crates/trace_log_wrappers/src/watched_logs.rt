@@ -135,7 +135,8 @@ impl<R: Eprint, L: Log, A: Allocator + Copy> Log for NotingLog<'_, R, L, A> {
         requires { (L.state self.old.log).failed ≡ false }
         ensures flag { (L.state self.new.log).failed ≡ is_err result }
         ensures ok { OnOk result (is_in_range happening.now ≡ true
-            → Gains (watched_state L.state self.old) (watched_state L.state self.new) happening.now) }
+            → Gains (watched_state L.state self.old)
+            (watched_state L.state self.new) happening.now) }
         ensures err { OnErr result (is_in_range happening.now ≡ true
             → Stays (watched_state L.state self.old) (watched_state L.state self.new)) }
         ensures log_ok { OnOk result (is_in_range happening.now ≡ true

@@ -1,5 +1,22 @@
 -- The text of a happening is read as the happening, and what is read has this text.
-use Rattle.trace_text.proofs.CommonWords.{◌≡◌, ℕ, ◌+◌, ◌*◌, ◌-◌, ◌<◌, ◌≤◌, ◌^◌, Bool, true, false, cond, not, ◌&&◌, nat_lt, nat_le, List, [], ◌∷◌, ◌++◌, length, Option, Some, None, refl, sym, ap, ◌∙◌, arith, codes, decimal, subst, append-nil, length-append, lit<, option_map, option_map_or, and_parts, and_from, ltb-true, leb-true, le-leb, lt-ltb, not-true, decimal_digit, length-decimal-le, append_assoc, option_and_then_some, some_pair_parts, cut, has_byte, newlines, cut-parts, cut-append, has_byte-append, pieces_of-joined, newlines-append, newlines-line, number_read-decimal, decimal-number_read, decimal-lacks, Status, Exit, Killed, Level, Letter, Stage, OrderKind, Start, Look, Term, Kill, PowerKind, GRACE_LIMIT, is_id, is_id_byte, same_id, same_id-is, number_read, Cause, option_map_some, NewTable, NotRead, Enter, Call, Power, Asked, Hold, Settle, Birth, NoBirth, Death, Reaped, Still, NoLook, Hit, Miss, Told, Clock, Nudge, Got, Handed, Event, words_of, words_behind, line_of_words, table_lines, event_text, level_word, letter_word, stage_word, order_word, power_word, cause_number, status_words, got_words, handed_words, is_in_range, is_number, is_status, is_request, is_hand_over, Begun, line_count, level_of_word, letter_of_word, stage_of_word, order_of_word, power_of_word, cause_of_word, words_read, words_in, entries_brought, use_begun, begun_by, begun}
+use Rattle.trace_text.proofs.CommonWords.{◌≡◌, ℕ, ◌+◌, ◌*◌, ◌-◌, ◌<◌, ◌≤◌, ◌^◌, Bool, true, false, cond, not, ◌&&◌}
+use Rattle.trace_text.proofs.CommonWords.{nat_lt, nat_le, List, [], ◌∷◌, ◌++◌, length, Option, Some, None, refl, sym}
+use Rattle.trace_text.proofs.CommonWords.{ap, ◌∙◌, arith, codes, decimal, subst, append-nil, length-append, lit<}
+use Rattle.trace_text.proofs.CommonWords.{option_map, option_map_or, and_parts, and_from, ltb-true, leb-true, le-leb}
+use Rattle.trace_text.proofs.CommonWords.{lt-ltb, not-true, decimal_digit, length-decimal-le, append_assoc}
+use Rattle.trace_text.proofs.CommonWords.{option_and_then_some, some_pair_parts, cut, has_byte, newlines, cut-parts}
+use Rattle.trace_text.proofs.CommonWords.{cut-append, has_byte-append, pieces_of-joined, newlines-append, newlines-line}
+use Rattle.trace_text.proofs.CommonWords.{number_read-decimal, decimal-number_read, decimal-lacks, Status, Exit, Killed}
+use Rattle.trace_text.proofs.CommonWords.{Level, Letter, Stage, OrderKind, Start, Look, Term, Kill, PowerKind}
+use Rattle.trace_text.proofs.CommonWords.{GRACE_LIMIT, is_id, is_id_byte, same_id, same_id-is, number_read, Cause}
+use Rattle.trace_text.proofs.CommonWords.{option_map_some, NewTable, NotRead, Enter, Call, Power, Asked, Hold, Settle}
+use Rattle.trace_text.proofs.CommonWords.{Birth, NoBirth, Death, Reaped, Still, NoLook, Hit, Miss, Told, Clock, Nudge}
+use Rattle.trace_text.proofs.CommonWords.{Got, Handed, Event, words_of, words_behind, line_of_words, table_lines}
+use Rattle.trace_text.proofs.CommonWords.{event_text, level_word, letter_word, stage_word, order_word, power_word}
+use Rattle.trace_text.proofs.CommonWords.{cause_number, status_words, got_words, handed_words, is_in_range, is_number}
+use Rattle.trace_text.proofs.CommonWords.{is_status, is_request, is_hand_over, Begun, line_count, level_of_word}
+use Rattle.trace_text.proofs.CommonWords.{letter_of_word, stage_of_word, order_of_word, power_of_word, cause_of_word}
+use Rattle.trace_text.proofs.CommonWords.{words_read, words_in, entries_brought, use_begun, begun_by, begun}
 use Rattle.std.specs.List.{list_all, join_with_byte}
 use Rattle.std.proofs.lemmas.List.Splits.{join_with_byte-slice_split}
 use Rattle.init_words.specs.declared.entries.Entry.{Entry}
@@ -30,7 +47,8 @@ clean word = not (has_byte 32 word) && not (has_byte 10 word) && nat_le (length 
 all_clean : List (List ℕ) → Type 0
 all_clean words = list_all clean words ≡ true
 
-clean_from : (word : List ℕ) → has_byte 32 word ≡ false → has_byte 10 word ≡ false → length word ≤ 20 → clean word ≡ true
+clean_from : (word : List ℕ) → has_byte 32 word ≡ false → has_byte 10 word ≡ false → length word ≤ 20
+    → clean word ≡ true
 unfolding clean
 clean_from word blank newline short = rw (blank, newline) (le-leb (length word) 20 short)
 
@@ -41,10 +59,12 @@ lacks_low byte (b ∷ bytes) low are = grind (arith, lacks_low byte bytes)
 clean_id : (id : List ℕ) → is_id id ≡ true → clean id ≡ true
 clean_id id is =
     let parts = id_parts id is in
-    clean_from id (lacks_low 32 id (lit< tt) parts.bytes) (lacks_low 10 id (lit< tt) parts.bytes) (omega (arith, parts.few))
+    clean_from id (lacks_low 32 id (lit< tt) parts.bytes) (lacks_low 10 id (lit< tt) parts.bytes)
+    (omega (arith, parts.few))
 
 clean_number : (n : ℕ) → n < 2 ^ 64 → clean (decimal n) ≡ true
-clean_number n small = clean_from (decimal n) (decimal-lacks 32 n (lit< tt) small) (decimal-lacks 10 n (lit< tt) small) (length-decimal-le 20 n (omega arith) (omega arith) small)
+clean_number n small = clean_from (decimal n) (decimal-lacks 32 n (lit< tt) small) (decimal-lacks 10 n (lit< tt) small)
+    (length-decimal-le 20 n (omega arith) (omega arith) small)
 
 clean_level : (level : Level) → clean (level_word level) ≡ true
 unfolding clean
@@ -105,50 +125,68 @@ named_id name id own is = one_more name (id ∷ []) own (one_more id [] (clean_i
 
 clean_got : (request : Request) → is_request request ≡ true → all_clean (got_words request)
 unfolding clean
-clean_got (got.Level level seconds) is = one_more (codes "level") _ refl (one_more (level_word level) _ (clean_level level) (one_more (decimal seconds) [] (clean_number seconds (below seconds (GRACE_LIMIT + 1) is (omega arith))) none_more))
-clean_got (got.Call letter) is = one_more (codes "call") _ refl (one_more (letter_word letter) [] (clean_letter letter) none_more)
+clean_got (got.Level level seconds) is =
+    one_more (codes "level") _ refl (one_more (level_word level) _ (clean_level level)
+    (one_more (decimal seconds) [] (clean_number seconds (below seconds (GRACE_LIMIT + 1) is (omega arith))) none_more))
+clean_got (got.Call letter) is =
+    one_more (codes "call") _ refl (one_more (letter_word letter) [] (clean_letter letter) none_more)
 clean_got got.Reload is = one_more (codes "reload") [] refl none_more
 clean_got got.Reexec is = one_more (codes "reexec") [] refl none_more
-clean_got (got.Power kind) is = one_more (codes "power") _ refl (one_more (power_word kind) [] (clean_power kind) none_more)
-clean_got (got.Nothing why) is = one_more (codes "nothing") _ refl (one_more (decimal (cause_number why)) [] (clean_number (cause_number why) (omega (arith, small_cause why))) none_more)
+clean_got (got.Power kind) is =
+    one_more (codes "power") _ refl (one_more (power_word kind) [] (clean_power kind) none_more)
+clean_got (got.Nothing why) is = one_more (codes "nothing") _ refl (one_more (decimal (cause_number why)) []
+    (clean_number (cause_number why) (omega (arith, small_cause why))) none_more)
 
 clean_handed : (how : HandOver) → is_hand_over how ≡ true → all_clean (handed_words how)
 unfolding clean
 clean_handed handed.Whole is = one_more (codes "whole") [] refl none_more
-clean_handed (handed.Cut bytes) is = one_more (codes "cut") _ refl (one_more (decimal bytes) [] (clean_number bytes (below bytes (2 ^ 64) is (omega arith))) none_more)
-clean_handed (handed.Older generation) is = one_more (codes "older") _ refl (one_more (decimal generation) [] (clean_number generation (below generation (2 ^ 64) is (omega arith))) none_more)
+clean_handed (handed.Cut bytes) is = one_more (codes "cut") _ refl
+    (one_more (decimal bytes) [] (clean_number bytes (below bytes (2 ^ 64) is (omega arith))) none_more)
+clean_handed (handed.Older generation) is = one_more (codes "older") _ refl
+    (one_more (decimal generation) [] (clean_number generation (below generation (2 ^ 64) is (omega arith))) none_more)
 clean_handed handed.Failed is = one_more (codes "none") [] refl none_more
 
 clean_status : (status : Status) → is_status status ≡ true → all_clean (status_words status)
 unfolding clean
-clean_status (Exit code) is = one_more (codes "exit") _ refl (one_more (decimal code) [] (clean_number code (below code 256 is (omega arith))) none_more)
+clean_status (Exit code) is = one_more (codes "exit") _ refl
+    (one_more (decimal code) [] (clean_number code (below code 256 is (omega arith))) none_more)
 clean_status Killed is = one_more (codes "killed") [] refl none_more
 
 clean_words : (h : Event) → is_in_range h ≡ true → all_clean (words_of h)
 unfolding clean
-clean_words (NewTable table) is = one_more (codes "use") _ refl (one_more (decimal (length table)) [] (clean_number (length table) (omega (arith, (table_parts table is).0))) none_more)
+clean_words (NewTable table) is = one_more (codes "use") _ refl (one_more (decimal (length table)) []
+    (clean_number (length table) (omega (arith, (table_parts table is).0))) none_more)
 clean_words NotRead is = one_more (codes "notread") [] refl none_more
-clean_words (Enter now seconds) is = one_more (codes "enter") _ refl (one_more (stage_word now) _ (clean_stage now) (one_more (decimal seconds) [] (clean_number seconds (below seconds (GRACE_LIMIT + 1) is (omega arith))) none_more))
-clean_words (Call letter) is = one_more (codes "call") _ refl (one_more (letter_word letter) [] (clean_letter letter) none_more)
-clean_words (Power kind) is = one_more (codes "power") _ refl (one_more (power_word kind) [] (clean_power kind) none_more)
-clean_words (Asked id order) is = one_more (codes "ask") _ refl (one_more id _ (clean_id id is) (one_more (order_word order) [] (clean_order order) none_more))
+clean_words (Enter now seconds) is = one_more (codes "enter") _ refl (one_more (stage_word now) _ (clean_stage now)
+    (one_more (decimal seconds) [] (clean_number seconds (below seconds (GRACE_LIMIT + 1) is (omega arith))) none_more))
+clean_words (Call letter) is =
+    one_more (codes "call") _ refl (one_more (letter_word letter) [] (clean_letter letter) none_more)
+clean_words (Power kind) is =
+    one_more (codes "power") _ refl (one_more (power_word kind) [] (clean_power kind) none_more)
+clean_words (Asked id order) is = one_more (codes "ask") _ refl
+    (one_more id _ (clean_id id is) (one_more (order_word order) [] (clean_order order) none_more))
 clean_words (Hold id) is = named_id (codes "hold") id refl is
-clean_words (Settle level) is = one_more (codes "settle") _ refl (one_more (level_word level) [] (clean_level level) none_more)
+clean_words (Settle level) is =
+    one_more (codes "settle") _ refl (one_more (level_word level) [] (clean_level level) none_more)
 clean_words (Birth id number) is =
     let parts = and_parts (is_id id) (is_number number) is in
-    one_more (codes "birth") _ refl (one_more id _ (clean_id id parts.0) (one_more (decimal number) [] (clean_number number (below number (2 ^ 32) parts.1 (omega arith))) none_more))
+    one_more (codes "birth") _ refl (one_more id _ (clean_id id parts.0)
+    (one_more (decimal number) [] (clean_number number (below number (2 ^ 32) parts.1 (omega arith))) none_more))
 clean_words (NoBirth id) is = named_id (codes "nobirth") id refl is
-clean_words (Death number) is = one_more (codes "death") _ refl (one_more (decimal number) [] (clean_number number (below number (2 ^ 32) is (omega arith))) none_more)
+clean_words (Death number) is = one_more (codes "death") _ refl
+    (one_more (decimal number) [] (clean_number number (below number (2 ^ 32) is (omega arith))) none_more)
 clean_words (Reaped id number status) is =
     let outer = and_parts (is_id id && is_number number) (is_status status) is in
     let parts = and_parts (is_id id) (is_number number) outer.0 in
-    one_more (codes "reaped") _ refl (one_more id _ (clean_id id parts.0) (one_more (decimal number) _ (clean_number number (below number (2 ^ 32) parts.1 (omega arith))) (clean_status status outer.1)))
+    one_more (codes "reaped") _ refl (one_more id _ (clean_id id parts.0) (one_more (decimal number) _
+    (clean_number number (below number (2 ^ 32) parts.1 (omega arith))) (clean_status status outer.1)))
 clean_words (Still id) is = named_id (codes "still") id refl is
 clean_words (NoLook id) is = named_id (codes "nolook") id refl is
 clean_words (Hit id) is = named_id (codes "hit") id refl is
 clean_words (Miss id) is = named_id (codes "miss") id refl is
 clean_words (Told id) is = named_id (codes "told") id refl is
-clean_words (Clock reading) is = one_more (codes "clock") _ refl (one_more (decimal reading) [] (clean_number reading (below reading (2 ^ 64) is (omega arith))) none_more)
+clean_words (Clock reading) is = one_more (codes "clock") _ refl
+    (one_more (decimal reading) [] (clean_number reading (below reading (2 ^ 64) is (omega arith))) none_more)
 clean_words Nudge is = one_more (codes "nudge") [] refl none_more
 clean_words (Got request) is = one_more (codes "got") _ refl (clean_got request is)
 clean_words (Handed how) is = one_more (codes "handed") _ refl (clean_handed how is)
@@ -179,7 +217,13 @@ Said (NewTable table) = entries_brought (words_of (NewTable table)) ≡ Some (le
 Said h = (entries_brought (words_of h) ≡ None) × (words_read (words_of h) ≡ Some h)
 
 got_said : (request : Request) → is_request request ≡ true → Said (Got request)
-got_said (got.Level level seconds) is = (refl, rw (level_back level, number_read-decimal (GRACE_LIMIT + 1) seconds (below seconds (GRACE_LIMIT + 1) is (omega arith)) is) refl)
+got_said (got.Level level seconds) is = (
+  refl,
+  rw (
+    level_back level,
+    number_read-decimal (GRACE_LIMIT + 1) seconds (below seconds (GRACE_LIMIT + 1) is (omega arith)) is,
+  ) refl,
+)
 got_said (got.Call letter) is = (refl, rw (letter_back letter) refl)
 got_said got.Reload is = (refl, refl)
 got_said got.Reexec is = (refl, refl)
@@ -188,20 +232,39 @@ got_said (got.Nothing why) is = (refl, rw (cause_back why) refl)
 
 handed_said : (how : HandOver) → is_hand_over how ≡ true → Said (Handed how)
 handed_said handed.Whole is = (refl, refl)
-handed_said (handed.Cut bytes) is = (refl, rw (number_read-decimal (2 ^ 64) bytes (below bytes (2 ^ 64) is (omega arith)) is) refl)
-handed_said (handed.Older generation) is = (refl, rw (number_read-decimal (2 ^ 64) generation (below generation (2 ^ 64) is (omega arith)) is) refl)
+handed_said (handed.Cut bytes) is =
+    (refl, rw (number_read-decimal (2 ^ 64) bytes (below bytes (2 ^ 64) is (omega arith)) is) refl)
+handed_said (handed.Older generation) is =
+    (refl, rw (number_read-decimal (2 ^ 64) generation (below generation (2 ^ 64) is (omega arith)) is) refl)
 handed_said handed.Failed is = (refl, refl)
 
-reaped_said : (id : List ℕ) (number : ℕ) (status : Status) → is_id id ≡ true → is_number number ≡ true → is_status status ≡ true → Said (Reaped id number status)
-reaped_said id number (Exit code) own counted is = (refl, rw (own, number_read-decimal (2 ^ 32) number (below number (2 ^ 32) counted (omega arith)) counted, number_read-decimal 256 code (below code 256 is (omega arith)) is) refl)
-reaped_said id number Killed own counted is = (refl, rw (own, number_read-decimal (2 ^ 32) number (below number (2 ^ 32) counted (omega arith)) counted) refl)
+reaped_said : (id : List ℕ) (number : ℕ) (status : Status) → is_id id ≡ true → is_number number ≡ true
+    → is_status status ≡ true → Said (Reaped id number status)
+reaped_said id number (Exit code) own counted is = (
+  refl,
+  rw (
+    own,
+    number_read-decimal (2 ^ 32) number (below number (2 ^ 32) counted (omega arith)) counted,
+    number_read-decimal 256 code (below code 256 is (omega arith)) is,
+  ) refl,
+)
+reaped_said id number Killed own counted is =
+    (refl, rw (own, number_read-decimal (2 ^ 32) number (below number (2 ^ 32) counted (omega arith)) counted) refl)
 
 said : (h : Event) → is_in_range h ≡ true → Said h
 said (NewTable table) is =
-    let few : nat_lt (length table) (ENTRY_LIMIT + 1) ≡ true = lt-ltb (length table) (ENTRY_LIMIT + 1) (omega (arith, (table_parts table is).0)) in
+    let few : nat_lt (length table) (ENTRY_LIMIT + 1) ≡ true =
+    lt-ltb (length table) (ENTRY_LIMIT + 1) (omega (arith, (table_parts table is).0)) in
     number_read-decimal (ENTRY_LIMIT + 1) (length table) (below (length table) (ENTRY_LIMIT + 1) few (omega arith)) few
 said NotRead is = (refl, refl)
-said (Enter now seconds) is = (refl, rw (stage_back now, number_read-decimal (GRACE_LIMIT + 1) seconds (below seconds (GRACE_LIMIT + 1) is (omega arith)) is) refl)
+said (Enter now seconds) is = (
+  refl,
+  rw (
+    stage_back now,
+    number_read-decimal (GRACE_LIMIT + 1) seconds (below seconds (GRACE_LIMIT + 1) is (omega arith)) is,
+  )
+      refl,
+)
 said (Call letter) is = (refl, rw (letter_back letter) refl)
 said (Power kind) is = (refl, rw (power_back kind) refl)
 said (Asked id order) is = (refl, rw (is, order_back order) refl)
@@ -211,7 +274,8 @@ said (Birth id number) is =
     let parts = and_parts (is_id id) (is_number number) is in
     (refl, rw (parts.0, number_read-decimal (2 ^ 32) number (below number (2 ^ 32) parts.1 (omega arith)) parts.1) refl)
 said (NoBirth id) is = (refl, rw is refl)
-said (Death number) is = (refl, rw (number_read-decimal (2 ^ 32) number (below number (2 ^ 32) is (omega arith)) is) refl)
+said (Death number) is =
+    (refl, rw (number_read-decimal (2 ^ 32) number (below number (2 ^ 32) is (omega arith)) is) refl)
 said (Reaped id number status) is =
     let outer = and_parts (is_id id && is_number number) (is_status status) is in
     let parts = and_parts (is_id id) (is_number number) outer.0 in
@@ -221,7 +285,8 @@ said (NoLook id) is = (refl, rw is refl)
 said (Hit id) is = (refl, rw is refl)
 said (Miss id) is = (refl, rw is refl)
 said (Told id) is = (refl, rw is refl)
-said (Clock reading) is = (refl, rw (number_read-decimal (2 ^ 64) reading (below reading (2 ^ 64) is (omega arith)) is) refl)
+said (Clock reading) is =
+    (refl, rw (number_read-decimal (2 ^ 64) reading (below reading (2 ^ 64) is (omega arith)) is) refl)
 said Nudge is = (refl, refl)
 said (Got request) is = got_said request is
 said (Handed how) is = handed_said how is
@@ -233,7 +298,8 @@ behind_joined : (word : List ℕ) (words : List (List ℕ)) → word ++ words_be
 behind_joined word [] = append-nil word
 behind_joined word (next ∷ words) = ap (λ t. word ++ 32 ∷ t) (behind_joined next words)
 
-line_joined : (word : List ℕ) (words : List (List ℕ)) → line_of_words (word ∷ words) ≡ join_with_byte 32 (word ∷ words) ++ 10 ∷ []
+line_joined : (word : List ℕ) (words : List (List ℕ))
+    → line_of_words (word ∷ words) ≡ join_with_byte 32 (word ∷ words) ++ 10 ∷ []
 line_joined word words = ap (λ t. t ++ 10 ∷ []) (behind_joined word words)
 
 -- a happening's line begins with a word
@@ -280,19 +346,22 @@ text_begins h more =
     ∙ append_assoc (line (words_of h)) (10 ∷ []) (table_lines h ++ more)
 
 -- clean words joined have no newline, are its pieces, and aren't long
-unblank : (word : List ℕ) → clean word ≡ true → (has_byte 32 word ≡ false) × (has_byte 10 word ≡ false) × (length word ≤ 20)
+unblank : (word : List ℕ) → clean word ≡ true
+    → (has_byte 32 word ≡ false) × (has_byte 10 word ≡ false) × (length word ≤ 20)
 unfolding clean
 unblank word is =
     let sized = and_parts (not (has_byte 32 word) && not (has_byte 10 word)) (nat_le (length word) 20) is in
     let parts = and_parts (not (has_byte 32 word)) (not (has_byte 10 word)) sized.0 in
     (not-true (has_byte 32 word) parts.0, not-true (has_byte 10 word) parts.1, leb-true (length word) 20 sized.1)
 
-no_newline : (word : List ℕ) (words : List (List ℕ)) → all_clean (word ∷ words) → has_byte 10 (join_with_byte 32 (word ∷ words)) ≡ false
+no_newline : (word : List ℕ) (words : List (List ℕ)) → all_clean (word ∷ words)
+    → has_byte 10 (join_with_byte 32 (word ∷ words)) ≡ false
 unfolding all_clean
 no_newline word [] are = (unblank word (and_parts (clean word) true are).0).1
 no_newline word (next ∷ words) are =
     let parts = and_parts (clean word) (list_all clean (next ∷ words)) are in
-    has_byte-append 10 word (32 ∷ join_with_byte 32 (next ∷ words)) (unblank word parts.0).1 (no_newline next words parts.1)
+    has_byte-append 10 word (32 ∷ join_with_byte 32 (next ∷ words)) (unblank word parts.0).1
+    (no_newline next words parts.1)
 
 no_blanks : (words : List (List ℕ)) → all_clean words → list_all (λ w. not (has_byte 32 w)) words ≡ true
 unfolding all_clean
@@ -301,12 +370,18 @@ no_blanks (word ∷ words) are =
     let parts = and_parts (clean word) (list_all clean words) are in
     and_from (not (has_byte 32 word)) _ (ap not (unblank word parts.0).0) (no_blanks words parts.1)
 
-joined_short : (word : List ℕ) (words : List (List ℕ)) → all_clean (word ∷ words) → length (join_with_byte 32 (word ∷ words)) ≤ length (word ∷ words) * 21
+joined_short : (word : List ℕ) (words : List (List ℕ)) → all_clean (word ∷ words)
+    → length (join_with_byte 32 (word ∷ words)) ≤ length (word ∷ words) * 21
 unfolding all_clean
 joined_short word [] are = omega (arith, (unblank word (and_parts (clean word) true are).0).2)
 joined_short word (next ∷ words) are =
     let parts = and_parts (clean word) (list_all clean (next ∷ words)) are in
-    omega (arith, (unblank word parts.0).2, joined_short next words parts.1, length-append word (32 ∷ join_with_byte 32 (next ∷ words)))
+    omega (
+      arith,
+      (unblank word parts.0).2,
+      joined_short next words parts.1,
+      length-append word (32 ∷ join_with_byte 32 (next ∷ words)),
+    )
 
 few_words : (h : Event) → length (words_of h) ≤ 5
 few_words h = grind arith
@@ -332,8 +407,10 @@ line_short h is =
     rw own.2 (omega (arith, few, short))
 
 -- the first line of a text that begins with a happening
-first_line : (h : Event) (more : List ℕ) → is_in_range h ≡ true → cut 10 (event_text h ++ more) ≡ Some (line (words_of h), table_lines h ++ more)
-first_line h more is = ap (cut 10) (text_begins h more) ∙ cut-append 10 (line (words_of h)) (table_lines h ++ more) (line_lacks h is)
+first_line : (h : Event) (more : List ℕ) → is_in_range h ≡ true
+    → cut 10 (event_text h ++ more) ≡ Some (line (words_of h), table_lines h ++ more)
+first_line h more is =
+    ap (cut 10) (text_begins h more) ∙ cut-append 10 (line (words_of h)) (table_lines h ++ more) (line_lacks h is)
 
 -- it is short, and so is the text of the happening
 pub record FirstLine (h : Event) (more : List ℕ) : Type 0 where
@@ -353,19 +430,33 @@ pub line_first : (h : Event) (more : List ℕ) → is_in_range h ≡ true → Fi
 line_first h more is = record {
   line = line (words_of h);
   first = first_line h more is;
-  brings = ap (λ words. option_map_or (λ count. count + 1) (entries_brought words) 1) (line_pieces h is) ∙ brings h (said h is);
+  brings =
+      ap (λ words. option_map_or (λ count. count + 1) (entries_brought words) 1) (line_pieces h is)
+      ∙ brings h (said h is);
   short = omega (arith, line_short h is);
-  size = omega (arith, line_short h is, table_short h is, ap length (line_text h), length-append (line (words_of h)) (10 ∷ []), length-append (line_of_words (words_of h)) (table_lines h));
+  size = omega (
+    arith,
+    line_short h is,
+    table_short h is,
+    ap length (line_text h),
+    length-append (line (words_of h)) (10 ∷ []),
+    length-append (line_of_words (words_of h)) (table_lines h),
+  );
 }
 
 -- what begins a text is found
-table_found : (table : List Entry) (more : List ℕ) → is_table table ≡ true → use_begun (length table) (text_of table ++ more) ≡ Some (NewTable table, more)
-table_found table more is = ap (option_map {U = Begun} (λ (parts : List Entry × List ℕ). (NewTable parts.0, parts.1))) (begun_back table more is)
+table_found : (table : List Entry) (more : List ℕ) → is_table table ≡ true
+    → use_begun (length table) (text_of table ++ more) ≡ Some (NewTable table, more)
+table_found table more is = ap (option_map {U = Begun} (λ (parts : List Entry × List ℕ). (NewTable parts.0, parts.1)))
+    (begun_back table more is)
 
-by_words : (h : Event) (more : List ℕ) → (entries_brought (words_of h) ≡ None) × (words_read (words_of h) ≡ Some h) → is_in_range h ≡ true → begun_by (entries_brought (words_in (line (words_of h)))) (line (words_of h)) more ≡ Some (h, more)
+by_words : (h : Event) (more : List ℕ) → (entries_brought (words_of h) ≡ None) × (words_read (words_of h) ≡ Some h)
+    → is_in_range h ≡ true
+    → begun_by (entries_brought (words_in (line (words_of h)))) (line (words_of h)) more ≡ Some (h, more)
 by_words h more own is = rw (line_pieces h is, own.0, line_pieces h is, own.1) refl
 
-found_by : (h : Event) (more : List ℕ) → is_in_range h ≡ true → Said h → begun_by (entries_brought (words_in (line (words_of h)))) (line (words_of h)) (table_lines h ++ more) ≡ Some (h, more)
+found_by : (h : Event) (more : List ℕ) → is_in_range h ≡ true → Said h → begun_by
+    (entries_brought (words_in (line (words_of h)))) (line (words_of h)) (table_lines h ++ more) ≡ Some (h, more)
 found_by (NewTable table) more is own = rw (line_pieces (NewTable table) is, own) (table_found table more is)
 found_by NotRead more is own = by_words NotRead more own is
 found_by (Enter now seconds) more is own = by_words (Enter now seconds) more own is
@@ -401,7 +492,8 @@ abbrev Lineless : Event → List (List ℕ) → Type 0
 Lineless h words = words_of h ≡ words → words_read words ≡ Some h → table_lines h ≡ []
 
 lineless : (h : Event) (words : List (List ℕ)) → Lineless h words
-lineless (NewTable table) words spoken read = absurd (never (sym (no_use (decimal (length table))) ∙ ap words_read spoken ∙ read))
+lineless (NewTable table) words spoken read =
+    absurd (never (sym (no_use (decimal (length table))) ∙ ap words_read spoken ∙ read))
   where
     never : ◌≡◌ {A = Option Event} None (Some (NewTable table)) → ⊥
     never is = cc
@@ -415,39 +507,51 @@ rejoined : (first : List ℕ) (words : List (List ℕ)) → words_in first ≡ w
 unfolding line
 rejoined first words is = ap (join_with_byte 32) (sym is) ∙ join_with_byte-slice_split 32 first
 
-words_begin : (first rest : List ℕ) (h : Event) → words_read (words_in first) ≡ Some h → Begins h rest (first ++ 10 ∷ rest)
+words_begin : (first rest : List ℕ) (h : Event) → words_read (words_in first) ≡ Some h
+    → Begins h rest (first ++ 10 ∷ rest)
 words_begin first rest h is =
     let own = words_read-of (words_in first) h is in
-    let none : table_lines h ≡ [] = lineless h (words_in first) own.0 is in
-    (own.1, text_begins h rest ∙ ap (λ t. line (words_of h) ++ 10 ∷ (t ++ rest)) none ∙ ap (λ t. t ++ 10 ∷ rest) (rejoined first (words_of h) (sym own.0)))
+    let none : table_lines h ≡ [] = lineless h (words_in first) own.0 is in (
+      own.1,
+      text_begins h rest ∙ ap (λ t. line (words_of h) ++ 10 ∷ (t ++ rest)) none
+          ∙ ap (λ t. t ++ 10 ∷ rest) (rejoined first (words_of h) (sym own.0)),
+    )
 
 -- the words that bring a table
-use_words : (words : List (List ℕ)) (count : ℕ) → entries_brought words ≡ Some count → words ≡ codes "use" ∷ decimal count ∷ []
+use_words : (words : List (List ℕ)) (count : ℕ) → entries_brought words ≡ Some count
+    → words ≡ codes "use" ∷ decimal count ∷ []
 use_words (word ∷ given ∷ []) count is = by (same_id word (codes "use")) refl is
   where
-    by : (b : Bool) → same_id word (codes "use") ≡ b → cond b (number_read (ENTRY_LIMIT + 1) given) None ≡ Some count → word ∷ given ∷ [] ≡ codes "use" ∷ decimal count ∷ []
-    by true same read = rw (same_id-is word (codes "use") same, (decimal-number_read (ENTRY_LIMIT + 1) given count read).0) refl
+    by : (b : Bool) → same_id word (codes "use") ≡ b → cond b (number_read (ENTRY_LIMIT + 1) given) None ≡ Some count
+        → word ∷ given ∷ [] ≡ codes "use" ∷ decimal count ∷ []
+    by true same read =
+        rw (same_id-is word (codes "use") same, (decimal-number_read (ENTRY_LIMIT + 1) given count read).0) refl
     by false same read = absurd (cc)
 use_words words count is = grind arith
 
-table_begins : (first rest : List ℕ) (count : ℕ) (h : Event) (more : List ℕ) → entries_brought (words_in first) ≡ Some count → use_begun count rest ≡ Some (h, more) → Begins h more (first ++ 10 ∷ rest)
+table_begins : (first rest : List ℕ) (count : ℕ) (h : Event) (more : List ℕ) → entries_brought (words_in first)
+    ≡ Some count → use_begun count rest ≡ Some (h, more) → Begins h more (first ++ 10 ∷ rest)
 table_begins first rest count h more brought is =
-    option_map_some {Y = Begun} (λ (parts : List Entry × List ℕ). (NewTable parts.0, parts.1)) (table_begun count rest) (h, more) is (λ parts at made.
+    option_map_some {Y = Begun} (λ (parts : List Entry × List ℕ). (NewTable parts.0, parts.1)) (table_begun count rest)
+    (h, more) is (λ parts at made.
     let table : List Entry = parts.0 in
     let same = some_pair_parts (NewTable table) h parts.1 more (ap Some made) in
     let own = begun_own count rest parts.1 table at in
-    let spelled : words_of (NewTable table) ≡ words_in first = ap (λ n. codes "use" ∷ decimal n ∷ []) (sym own.2) ∙ sym (use_words (words_in first) count brought) in
+    let spelled : words_of (NewTable table) ≡ words_in first =
+    ap (λ n. codes "use" ∷ decimal n ∷ []) (sym own.2) ∙ sym (use_words (words_in first) count brought) in
     let begins : event_text (NewTable table) ++ parts.1 ≡ first ++ 10 ∷ rest =
     text_begins (NewTable table) parts.1
     ∙ ap (λ t. t ++ 10 ∷ (text_of table ++ parts.1)) (rejoined first (words_of (NewTable table)) (sym spelled))
     ∙ ap (λ t. first ++ 10 ∷ t) own.0 in
     rw (← same.0, ← same.1) (own.1, begins))
 
-begins_by : (first rest : List ℕ) (o : Option ℕ) (h : Event) (more : List ℕ) → entries_brought (words_in first) ≡ o → begun_by o first rest ≡ Some (h, more) → Begins h more (first ++ 10 ∷ rest)
+begins_by : (first rest : List ℕ) (o : Option ℕ) (h : Event) (more : List ℕ) → entries_brought (words_in first) ≡ o
+    → begun_by o first rest ≡ Some (h, more) → Begins h more (first ++ 10 ∷ rest)
 begins_by first rest (Some count) h more brought is = table_begins first rest count h more brought is
 begins_by first rest None h more brought is = by (words_read (words_in first)) refl is
   where
-    by : (o : Option Event) → words_read (words_in first) ≡ o → option_map {U = Begun} (λ happening. (happening, rest)) o ≡ Some (h, more) → Begins h more (first ++ 10 ∷ rest)
+    by : (o : Option Event) → words_read (words_in first) ≡ o → option_map {U = Begun}
+        (λ happening. (happening, rest)) o ≡ Some (h, more) → Begins h more (first ++ 10 ∷ rest)
     by None was made = absurd (cc)
     by (Some k) was made =
         let same = some_pair_parts k h rest more made in
@@ -455,8 +559,10 @@ begins_by first rest None h more brought is = by (words_read (words_in first)) r
 
 pub text-begun : (text : List ℕ) (h : Event) (more : List ℕ) → begun text ≡ Some (h, more) → Begins h more text
 text-begun text h more is =
-    option_and_then_some (λ (parts : List ℕ × List ℕ). begun_by (entries_brought (words_in parts.0)) parts.0 parts.1) (cut 10 text) (h, more) is (λ parts at found.
-    rw (cut-parts 10 text parts.0 parts.1 at).0 (begins_by parts.0 parts.1 (entries_brought (words_in parts.0)) h more refl found))
+    option_and_then_some (λ (parts : List ℕ × List ℕ). begun_by (entries_brought (words_in parts.0)) parts.0 parts.1)
+    (cut 10 text) (h, more) is (λ parts at found.
+    rw (cut-parts 10 text parts.0 parts.1 at).0
+    (begins_by parts.0 parts.1 (entries_brought (words_in parts.0)) h more refl found))
 
 -- the newlines of a happening's text: a line, and one for each entry of its table
 line_and_more : (h : Event) → is_in_range h ≡ true → newlines (event_text h) ≡ newlines (table_lines h) + 1

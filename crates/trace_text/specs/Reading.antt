@@ -1,6 +1,7 @@
 -- A line of a trace word by word: the happening whose words these are. The meaning of a text is that it is printed so
 -- (Range); this is the way there.
-use Rattle.std.specs.Prelude.{ℕ, ◌==◌, ◌+◌, ◌&&◌, ◌^◌, if◌then◌else◌, List, [], ◌∷◌, codes, Option, Some, None, option_and_then}
+use Rattle.std.specs.Prelude.{ℕ, ◌==◌, ◌+◌, ◌&&◌, ◌^◌, if◌then◌else◌, List, [], ◌∷◌, codes, Option, Some, None}
+use Rattle.std.specs.Prelude.{option_and_then}
 use Rattle.std.specs.Option.{option_map}
 use Rattle.text_lines.specs.Lines.{cut, pieces_of}
 use Rattle.text_lines.specs.Numbers.{number_read}
@@ -23,7 +24,10 @@ use Rattle.initctl_frame.specs.declared.requests.Cause.{Cause}
 use Rattle.initctl_frame.specs.declared.requests.Cause.TheVariants as cause
 use Rattle.inittab_text.specs.declared.tables.TheConstants.{ENTRY_LIMIT}
 use Rattle.inittab_text.specs.Written.{table_begun}
-use Rattle.trace_events.specs.declared.happenings.Happening.TheVariants.{NewTable, NotRead, Enter, Call, Power, Asked, Hold, Settle, Birth, NoBirth, Death, Reaped, Still, NoLook, Hit, Miss, Told, Clock, Nudge, Got, Handed}
+use Rattle.trace_events.specs.declared.happenings.Happening.TheVariants.{NewTable, NotRead, Enter, Call, Power, Asked}
+use Rattle.trace_events.specs.declared.happenings.Happening.TheVariants.{Hold, Settle, Birth, NoBirth, Death, Reaped}
+use Rattle.trace_events.specs.declared.happenings.Happening.TheVariants.{Still, NoLook, Hit, Miss, Told, Clock, Nudge}
+use Rattle.trace_events.specs.declared.happenings.Happening.TheVariants.{Got, Handed}
 use Rattle.trace_events.specs.declared.happenings.Handed.{Handed as HandOver}
 use Rattle.trace_events.specs.declared.happenings.Handed.TheVariants as handed
 use Rattle.trace_events.specs.Event.{Event}

@@ -1,5 +1,12 @@
 -- What stays so when more of a text comes.
-use Rattle.trace_verdict.proofs.Words.{◌≡◌, ℕ, zero, suc, ◌+◌, ◌-◌, ◌<◌, ◌≤◌, true, false, ◌&&◌, nat_lt, nat_le, List, [], ◌∷◌, ◌++◌, length, take, drop, Option, Some, None, option_and_then, refl, sym, ap, ◌∙◌, subst, arith, length-append, option_map_or, append_assoc, take-append-drop, cut, has_byte, newlines, after_lines, newlines-append, newlines-line, Front, after_lines-front, take-front, Event, event_text, table_lines, is_in_range, Begun, line_count, BeginsNone, FirstLine, line_first, begun-text, text-begun, newlines-event, lines_of, lines_due, is_unfinished, size_limit, BeginsNever}
+use Rattle.trace_verdict.proofs.Words.{◌≡◌, ℕ, zero, suc, ◌+◌, ◌-◌, ◌<◌, ◌≤◌, true, false, ◌&&◌, nat_lt, nat_le, List}
+use Rattle.trace_verdict.proofs.Words.{[], ◌∷◌, ◌++◌, length, take, drop, Option, Some, None, option_and_then, refl}
+use Rattle.trace_verdict.proofs.Words.{sym, ap, ◌∙◌, subst, arith, length-append, option_map_or, append_assoc}
+use Rattle.trace_verdict.proofs.Words.{take-append-drop, cut, has_byte, newlines, after_lines, newlines-append}
+use Rattle.trace_verdict.proofs.Words.{newlines-line, Front, after_lines-front, take-front, Event, event_text}
+use Rattle.trace_verdict.proofs.Words.{table_lines, is_in_range, Begun, line_count, BeginsNone, FirstLine, line_first}
+use Rattle.trace_verdict.proofs.Words.{begun-text, text-begun, newlines-event, lines_of, lines_due, is_unfinished}
+use Rattle.trace_verdict.proofs.Words.{size_limit, BeginsNever}
 use Rattle.std.specs.Option.{option_map}
 use Rattle.std.proofs.lemmas.Bool.{ltb-true}
 use Rattle.std.proofs.lemmas.Bool.Decides.{nat_tests}
@@ -37,7 +44,8 @@ false-lt : (n d : ℕ) → d ≤ n → nat_lt n d ≡ false
 false-lt n d is = grind (arith, nat_tests)
 
 -- the table of so many lines that are there is that of a longer text
-table_more : (n : ℕ) (text more : List ℕ) → n ≤ newlines text → table_begun n text ≡ None → table_begun n (text ++ more) ≡ None
+table_more : (n : ℕ) (text more : List ℕ) → n ≤ newlines text → table_begun n text ≡ None
+    → table_begun n (text ++ more) ≡ None
 table_more n text more enough none = sym whole where
   rest : List ℕ
   rest = (after_lines-some n text enough).0
@@ -48,8 +56,10 @@ table_more n text more enough none = sym whole where
   front : Front n text rest
   front = after_lines-front n text rest after
 
-  begun_at : (t r : List ℕ) → after_lines n t ≡ Some r → table_begun n t ≡ option_map {U = List Entry × List ℕ} (λ table. (table, r)) (table_written (take (length t - length r) t))
-  begun_at t r is = ap (λ o. option_and_then {U = List Entry × List ℕ} (λ behind. option_map {U = List Entry × List ℕ} (λ table. (table, behind)) (table_written (take (length t - length behind) t))) o) is
+  begun_at : (t r : List ℕ) → after_lines n t ≡ Some r → table_begun n t
+      ≡ option_map {U = List Entry × List ℕ} (λ table. (table, r)) (table_written (take (length t - length r) t))
+  begun_at t r is = ap (λ o. option_and_then {U = List Entry × List ℕ} (λ behind. option_map {U = List Entry × List ℕ}
+      (λ table. (table, behind)) (table_written (take (length t - length behind) t))) o) is
 
   shorter : take (length text - length rest) text ≡ front.front
   shorter = ap (λ t. take (length t - length rest) t) front.whole ∙ take-front front.front rest
@@ -60,48 +70,56 @@ table_more n text more enough none = sym whole where
       ∙ ap (λ t. take (length t - length (rest ++ more)) t) (append_assoc front.front rest more)
       ∙ take-front front.front (rest ++ more)
 
-  unwritten : (o : Option (List Entry)) → option_map {U = List Entry × List ℕ} (λ table. (table, rest)) o ≡ None → option_map {U = List Entry × List ℕ} (λ table. (table, rest ++ more)) o ≡ None
+  unwritten : (o : Option (List Entry)) → option_map {U = List Entry × List ℕ} (λ table. (table, rest)) o ≡ None
+      → option_map {U = List Entry × List ℕ} (λ table. (table, rest ++ more)) o ≡ None
   unwritten o is = grind arith
 
   written : option_map {U = List Entry × List ℕ} (λ table. (table, rest)) (table_written front.front) ≡ None
-  written = ap (λ t. option_map {U = List Entry × List ℕ} (λ table. (table, rest)) (table_written t)) (sym shorter) ∙ sym (begun_at text rest after) ∙ none
+  written = ap (λ t. option_map {U = List Entry × List ℕ} (λ table. (table, rest)) (table_written t)) (sym shorter)
+      ∙ sym (begun_at text rest after) ∙ none
 
   whole : None ≡ table_begun n (text ++ more)
   whole = grind (arith, begun_at, rest, after_lines-more, after, longer, unwritten, front, written)
 
 -- where a finished happening is none, it is none of a longer text
 begun_more : (text more : List ℕ) → is_unfinished text ≡ false → begun text ≡ None → begun (text ++ more) ≡ None
-begun_more text more finished none = begun_at (text ++ more) line (rest ++ more) (cut-more text more line rest at) ∙ by (entries_brought (words_in line)) refl where
-  line : List ℕ
-  line = (finished_cut text finished).0.0
+begun_more text more finished none = begun_at (text ++ more) line (rest ++ more) (cut-more text more line rest at)
+    ∙ by (entries_brought (words_in line)) refl where
+      line : List ℕ
+      line = (finished_cut text finished).0.0
 
-  rest : List ℕ
-  rest = (finished_cut text finished).0.1
+      rest : List ℕ
+      rest = (finished_cut text finished).0.1
 
-  at : cut 10 text ≡ Some (line, rest)
-  at = (finished_cut text finished).1
+      at : cut 10 text ≡ Some (line, rest)
+      at = (finished_cut text finished).1
 
-  begun_at : (t l r : List ℕ) → cut 10 t ≡ Some (l, r) → begun t ≡ begun_by (entries_brought (words_in l)) l r
-  begun_at t l r is = ap (λ o. option_and_then (λ (parts : List ℕ × List ℕ). begun_by (entries_brought (words_in parts.0)) parts.0 parts.1) o) is
+      begun_at : (t l r : List ℕ) → cut 10 t ≡ Some (l, r) → begun t ≡ begun_by (entries_brought (words_in l)) l r
+      begun_at t l r is = ap (λ o. option_and_then
+          (λ (parts : List ℕ × List ℕ). begun_by (entries_brought (words_in parts.0)) parts.0 parts.1) o) is
 
-  own : begun_by (entries_brought (words_in line)) line rest ≡ None
-  own = sym (begun_at text line rest at) ∙ none
+      own : begun_by (entries_brought (words_in line)) line rest ≡ None
+      own = sym (begun_at text line rest at) ∙ none
 
-  enough : (count : ℕ) → entries_brought (words_in line) ≡ Some count → count ≤ newlines rest
-  enough count is = grind (arith, lt-false, newlines-cut, line, rest, at, due_cut)
+      enough : (count : ℕ) → entries_brought (words_in line) ≡ Some count → count ≤ newlines rest
+      enough count is = grind (arith, lt-false, newlines-cut, line, rest, at, due_cut)
 
-  unread : (o : Option Event) → option_map {U = Begun} (λ happening. (happening, rest)) o ≡ None → option_map {U = Begun} (λ happening. (happening, rest ++ more)) o ≡ None
-  unread o is = grind arith
+      unread : (o : Option Event) → option_map {U = Begun} (λ happening. (happening, rest)) o ≡ None
+          → option_map {U = Begun} (λ happening. (happening, rest ++ more)) o ≡ None
+      unread o is = grind arith
 
-  unused : (o : Option (List Entry × List ℕ)) → option_map {U = Begun} (λ parts. (NewTable parts.0, parts.1)) o ≡ None → o ≡ None
-  unused o is = grind arith
+      unused : (o : Option (List Entry × List ℕ))
+          → option_map {U = Begun} (λ parts. (NewTable parts.0, parts.1)) o ≡ None → o ≡ None
+      unused o is = grind arith
 
-  by : (o : Option ℕ) → entries_brought (words_in line) ≡ o → begun_by (entries_brought (words_in line)) line (rest ++ more) ≡ None
-  by None is = grind arith
-  by (Some count) is =
-      ap (λ o. begun_by o line (rest ++ more)) is
-      ∙ ap (λ o. option_map {U = Begun} (λ (parts : List Entry × List ℕ). (NewTable parts.0, parts.1)) o)
-      (table_more count rest more (enough count is) (unused (table_begun count rest) (ap (λ o. begun_by o line rest) (sym is) ∙ own)))
+      by : (o : Option ℕ) → entries_brought (words_in line) ≡ o
+          → begun_by (entries_brought (words_in line)) line (rest ++ more) ≡ None
+      by None is = grind arith
+      by (Some count) is =
+          ap (λ o. begun_by o line (rest ++ more)) is
+          ∙ ap (λ o. option_map {U = Begun} (λ (parts : List Entry × List ℕ). (NewTable parts.0, parts.1)) o)
+          (table_more count rest more (enough count is)
+          (unused (table_begun count rest) (ap (λ o. begun_by o line rest) (sym is) ∙ own)))
 
 unbegun : (text : List ℕ) → BeginsNone text → begun text ≡ None
 unbegun text none = by (begun text) refl where
@@ -113,11 +131,15 @@ unbegun text none = by (begun text) refl where
 
 pub none_more : (text more : List ℕ) → is_unfinished text ≡ false → BeginsNone text → BeginsNone (text ++ more)
 none_more text more finished none = λ happening rest ranged same.
-    none-some (happening, rest) (sym (begun_more text more finished (unbegun text none)) ∙ ap begun (sym same) ∙ begun-text happening rest ranged)
+    none-some (happening, rest)
+    (sym (begun_more text more finished (unbegun text none)) ∙ ap begun (sym same) ∙ begun-text happening rest ranged)
 
 -- what no happening begins, whatever comes behind: a finished one that is none, and what is too long for one
 pub finished_never : (text : List ℕ) → is_unfinished text ≡ false → BeginsNone text → BeginsNever text
-finished_never text finished none = (ap (λ b. b && nat_le (length text) (size_limit (newlines text))) finished, λ more. none_more text more finished none)
+finished_never text finished none = (
+  ap (λ b. b && nat_le (length text) (size_limit (newlines text))) finished,
+  λ more. none_more text more finished none,
+)
 
 -- a text that begins with a shorter one
 begins_with : (xs ys zs ws : List ℕ) → xs ++ ys ≡ zs ++ ws → length xs ≤ length zs → (s : List ℕ) × (zs ≡ xs ++ s)
@@ -133,8 +155,15 @@ limit_behind zero some = absurd (omega (arith, some))
 limit_behind (suc n) some = refl
 
 -- no happening has a first line that is so long
-long_line : (text more tail : List ℕ) (h : Event) → cut 10 text ≡ None → size_limit (newlines text) < length text → is_in_range h ≡ true → event_text h ++ tail ≡ text ++ more → ⊥
-long_line text more tail h whole long is same = omega (arith, none, newlines-line first.line parts.1, newlines-append (first.line ++ 10 ∷ []) begins.0, ap newlines begins.1) where
+long_line : (text more tail : List ℕ) (h : Event) → cut 10 text ≡ None → size_limit (newlines text) < length text
+    → is_in_range h ≡ true → event_text h ++ tail ≡ text ++ more → ⊥
+long_line text more tail h whole long is same = omega (
+  arith,
+  none,
+  newlines-line first.line parts.1,
+  newlines-append (first.line ++ 10 ∷ []) begins.0,
+  ap newlines begins.1,
+) where
   none : newlines text ≡ 0
   none = newlines-uncut text whole
 
@@ -151,35 +180,47 @@ long_line text more tail h whole long is same = omega (arith, none, newlines-lin
   split = append_assoc first.line (10 ∷ []) (table_lines h ++ tail) ∙ sym parts.0 ∙ same
 
   begins : (s : List ℕ) × (text ≡ (first.line ++ 10 ∷ []) ++ s)
-  begins = begins_with (first.line ++ 10 ∷ []) (table_lines h ++ tail) text more split (omega (arith, over, first.short, length-append first.line (10 ∷ [])))
+  begins = begins_with (first.line ++ 10 ∷ []) (table_lines h ++ tail) text more split
+      (omega (arith, over, first.short, length-append first.line (10 ∷ [])))
 
 -- and none so many bytes before its last line is whole
-long_table : (text more tail line rest : List ℕ) (h : Event) → cut 10 text ≡ Some (line, rest) → is_unfinished text ≡ true → size_limit (newlines text) < length text → is_in_range h ≡ true → event_text h ++ tail ≡ text ++ more → ⊥
-long_table text more tail line rest h at cut_off long is same = omega (arith, few, due, newlines-event h is, newlines-append (event_text h) begins.0, ap newlines begins.1) where
-  few : newlines text < lines_due text
-  few = ltb-true (newlines text) (lines_due text) cut_off
+long_table : (text more tail line rest : List ℕ) (h : Event) → cut 10 text ≡ Some (line, rest) → is_unfinished text
+    ≡ true → size_limit (newlines text) < length text → is_in_range h ≡ true → event_text h ++ tail ≡ text ++ more → ⊥
+long_table text more tail line rest h at cut_off long is same =
+    omega (arith, few, due, newlines-event h is, newlines-append (event_text h) begins.0, ap newlines begins.1) where
+      few : newlines text < lines_due text
+      few = ltb-true (newlines text) (lines_due text) cut_off
 
-  over : LINE_LIMIT + TEXT_LIMIT < length text
-  over = subst (λ n. n < length text) (limit_behind (newlines text) (omega (arith, newlines-cut text line rest at))) long
+      over : LINE_LIMIT + TEXT_LIMIT < length text
+      over =
+          subst (λ n. n < length text)
+          (limit_behind (newlines text) (omega (arith, newlines-cut text line rest at))) long
 
-  first : FirstLine h tail
-  first = line_first h tail is
+      first : FirstLine h tail
+      first = line_first h tail is
 
-  own : line ≡ first.line
-  own = (some_pair_parts line first.line (rest ++ more) (table_lines h ++ tail) (sym (cut-more text more line rest at) ∙ ap (cut 10) (sym same) ∙ first.first)).0
+      own : line ≡ first.line
+      own = (some_pair_parts line first.line (rest ++ more) (table_lines h ++ tail)
+          (sym (cut-more text more line rest at) ∙ ap (cut 10) (sym same) ∙ first.first)).0
 
-  due : lines_due text ≡ line_count h
-  due = due_cut text line rest at ∙ ap lines_of own ∙ first.brings
+      due : lines_due text ≡ line_count h
+      due = due_cut text line rest at ∙ ap lines_of own ∙ first.brings
 
-  begins : (s : List ℕ) × (text ≡ event_text h ++ s)
-  begins = begins_with (event_text h) tail text more same (omega (arith, over, first.size))
+      begins : (s : List ℕ) × (text ≡ event_text h ++ s)
+      begins = begins_with (event_text h) tail text more same (omega (arith, over, first.size))
 
-pub long_never : (text : List ℕ) → is_unfinished text ≡ true → size_limit (newlines text) < length text → BeginsNever text
-long_never text cut_off long = (ap (λ b. b && nat_le (length text) (size_limit (newlines text))) cut_off ∙ not-le (length text) (size_limit (newlines text)) long, λ more h tail is same. by more h tail is same (cut 10 text) refl) where
+pub long_never : (text : List ℕ) → is_unfinished text ≡ true → size_limit (newlines text) < length text
+    → BeginsNever text
+long_never text cut_off long = (
+  ap (λ b. b && nat_le (length text) (size_limit (newlines text))) cut_off
+      ∙ not-le (length text) (size_limit (newlines text)) long,
+  λ more h tail is same. by more h tail is same (cut 10 text) refl,
+) where
   not-le : (n k : ℕ) → k < n → nat_le n k ≡ false
   not-le n k less = grind (arith, nat_tests)
 
-  by : (more : List ℕ) (h : Event) (tail : List ℕ) → is_in_range h ≡ true → event_text h ++ tail ≡ text ++ more → (o : Option (List ℕ × List ℕ)) → cut 10 text ≡ o → ⊥
+  by : (more : List ℕ) (h : Event) (tail : List ℕ) → is_in_range h ≡ true → event_text h ++ tail ≡ text ++ more
+      → (o : Option (List ℕ × List ℕ)) → cut 10 text ≡ o → ⊥
   by more h tail is same None at = long_line text more tail h at long is same
   by more h tail is same (Some parts) at = long_table text more tail parts.0 parts.1 h at cut_off long is same
 
@@ -197,15 +238,19 @@ drop_front front rest = short (length (front ++ rest) - length rest) (omega (ari
   short : (n : ℕ) → n ≡ length front → drop n (front ++ rest) ≡ rest
   short n same = ap (λ k. drop k (front ++ rest)) same ∙ dropped front
 
-pub left_over : (bytes more : List ℕ) (at : ℕ) (happening : Event) → event_text happening ++ more ≡ drop at bytes → drop (length bytes - length more) bytes ≡ more
+pub left_over : (bytes more : List ℕ) (at : ℕ) (happening : Event) → event_text happening ++ more ≡ drop at bytes
+    → drop (length bytes - length more) bytes ≡ more
 left_over bytes more at happening begins =
     let whole : bytes ≡ (take at bytes ++ event_text happening) ++ more =
-    sym (take-append-drop at bytes) ∙ ap (λ t. take at bytes ++ t) (sym begins) ∙ sym (append_assoc (take at bytes) (event_text happening) more) in
+    sym (take-append-drop at bytes) ∙ ap (λ t. take at bytes ++ t) (sym begins)
+    ∙ sym (append_assoc (take at bytes) (event_text happening) more) in
     ap (λ t. drop (length t - length more) t) whole ∙ drop_front (take at bytes ++ event_text happening) more
 
 -- the newlines of a happening, and those behind it
-pub lines_off : (text more : List ℕ) (happening : Event) → is_in_range happening ≡ true → event_text happening ++ more ≡ text → newlines text ≡ line_count happening + newlines more
-lines_off text more happening is begins = ap newlines (sym begins) ∙ newlines-append (event_text happening) more ∙ ap (λ n. n + newlines more) (newlines-event happening is)
+pub lines_off : (text more : List ℕ) (happening : Event) → is_in_range happening ≡ true
+    → event_text happening ++ more ≡ text → newlines text ≡ line_count happening + newlines more
+lines_off text more happening is begins = ap newlines (sym begins) ∙ newlines-append (event_text happening) more
+    ∙ ap (λ n. n + newlines more) (newlines-event happening is)
 
 pub finished_by : (text : List ℕ) → lines_due text ≤ newlines text → is_unfinished text ≡ false
 finished_by text few = false-lt (newlines text) (lines_due text) few

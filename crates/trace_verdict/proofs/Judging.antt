@@ -1,5 +1,13 @@
 -- One happening more, and a piece more.
-use Rattle.trace_verdict.proofs.Words.{◌≡◌, ℕ, zero, suc, ◌+◌, ◌^◌, ◌<◌, ◌≤◌, true, List, [], ◌∷◌, ◌++◌, length, reverse, slice_get, Option, Some, append-nil, refl, sym, ap, ◌∙◌, subst, arith, length-append, option_map_or, append_assoc, reverse-append, length-reverse, take-append-le, newlines, newlines-append, Event, broken, breach_at, earlier, first_breach, event_text, trace_text, is_in_range, are_in_range, line_count, newlines-event, trace_text-push, are_in_range-push, newlines-few, shorter, law_number, Judging, Judged, is_open, BeginsNever, line_left, IsFront, IsTorn, Named, IsFirst, Answers, Reading, capped, ReadsNext, TextState, IsFound, HasRead, AtBy, TakenBy, left_of}
+use Rattle.trace_verdict.proofs.Words.{◌≡◌, ℕ, zero, suc, ◌+◌, ◌^◌, ◌<◌, ◌≤◌, true, List, [], ◌∷◌, ◌++◌, length}
+use Rattle.trace_verdict.proofs.Words.{reverse, slice_get, Option, Some, append-nil, refl, sym, ap, ◌∙◌, subst, arith}
+use Rattle.trace_verdict.proofs.Words.{length-append, option_map_or, append_assoc, reverse-append, length-reverse}
+use Rattle.trace_verdict.proofs.Words.{take-append-le, newlines, newlines-append, Event, broken, breach_at, earlier}
+use Rattle.trace_verdict.proofs.Words.{first_breach, event_text, trace_text, is_in_range, are_in_range, line_count}
+use Rattle.trace_verdict.proofs.Words.{newlines-event, trace_text-push, are_in_range-push, newlines-few, shorter}
+use Rattle.trace_verdict.proofs.Words.{law_number, Judging, Judged, is_open, BeginsNever, line_left, IsFront, IsTorn}
+use Rattle.trace_verdict.proofs.Words.{Named, IsFirst, Answers, Reading, capped, ReadsNext, TextState, IsFound, HasRead}
+use Rattle.trace_verdict.proofs.Words.{AtBy, TakenBy, left_of}
 use Rattle.std.specs.Option.{option_map}
 use Rattle.std.proofs.Math.Nat.{min-eq_left}
 use Rattle.std.proofs.Math.Seq.{take-append_seam}
@@ -16,15 +24,19 @@ capped_is n small = min-eq_left (omega (arith, small))
 pub one_line : (h : Event) → 1 ≤ line_count h
 one_line h = grind arith
 
-pub lines_push : (trace : List Event) (h : Event) → is_in_range h ≡ true → newlines (trace_text (trace ++ h ∷ [])) ≡ newlines (trace_text trace) + line_count h
-lines_push trace h is = ap newlines (trace_text-push trace h) ∙ newlines-append (trace_text trace) (event_text h) ∙ ap (λ n. newlines (trace_text trace) + n) (newlines-event h is)
+pub lines_push : (trace : List Event) (h : Event) → is_in_range h ≡ true
+    → newlines (trace_text (trace ++ h ∷ [])) ≡ newlines (trace_text trace) + line_count h
+lines_push trace h is = ap newlines (trace_text-push trace h) ∙ newlines-append (trace_text trace) (event_text h)
+    ∙ ap (λ n. newlines (trace_text trace) + n) (newlines-event h is)
 
 few_happenings : (trace : List Event) → are_in_range trace ≡ true → length trace ≤ newlines (trace_text trace)
 few_happenings [] are = grind (arith, newlines-append, newlines-event, one_line)
 few_happenings (h ∷ trace) are = grind (arith, few_happenings trace, newlines-append, newlines-event, one_line)
 
-pub lines_within : (trace : List Event) (over text : List ℕ) → trace_text trace ++ over ≡ text → newlines (trace_text trace) + length over ≤ length text
-lines_within trace over text whole = omega (arith, newlines-few (trace_text trace), length-append (trace_text trace) over, ap length whole)
+pub lines_within : (trace : List Event) (over text : List ℕ) → trace_text trace ++ over ≡ text
+    → newlines (trace_text trace) + length over ≤ length text
+lines_within trace over text whole =
+    omega (arith, newlines-few (trace_text trace), length-append (trace_text trace) over, ap length whole)
 
 -- the past of a trace with one happening more
 pub past_push : (trace : List Event) (h : Event) → reverse (trace ++ h ∷ []) ≡ h ∷ reverse trace
@@ -40,35 +52,45 @@ got_behind [] x = refl
 got_behind (y ∷ xs) x = got_behind xs x
 
 -- the first breach stays the first
-pub first_kept : (trace : List Event) (h : Event) (breach : Named) → IsFirst trace breach → IsFirst (trace ++ h ∷ []) breach
+pub first_kept : (trace : List Event) (h : Event) (breach : Named) → IsFirst trace breach
+    → IsFirst (trace ++ h ∷ []) breach
 first_kept trace h breach is = record {
-  first = ap first_breach (past_push trace h) ∙ ap (λ o. earlier o (breach_at (length (reverse trace)) (broken h (reverse trace)))) is.first;
+  first = ap first_breach (past_push trace h)
+      ∙ ap (λ o. earlier o (breach_at (length (reverse trace)) (broken h (reverse trace)))) is.first;
   within = omega (arith, is.within, length-append trace (h ∷ []));
-  line = is.line ∙ ap (λ t. newlines (trace_text t) + 1) (sym (take-append-le breach.position trace (h ∷ []) (omega (arith, is.within))));
+  line = is.line ∙ ap (λ t. newlines (trace_text t) + 1)
+      (sym (take-append-le breach.position trace (h ∷ []) (omega (arith, is.within))));
   text = is.text ∙ ap (λ o. option_map_or event_text o []) (sym (got_before trace (h ∷ []) breach.position is.within));
 }
 
-pub found_kept : (finding : Finding Named) (judging : Judging) (trace : List Event) (h : Event) → (finding ≡ Lawful → ⊥) → IsFound finding judging trace → IsFound finding judging (trace ++ h ∷ [])
+pub found_kept : (finding : Finding Named) (judging : Judging) (trace : List Event) (h : Event) → (finding ≡ Lawful → ⊥)
+    → IsFound finding judging trace → IsFound finding judging (trace ++ h ∷ [])
 found_kept Lawful judging trace h not found = absurd (not refl)
 found_kept (Breach breach) judging trace h not found = first_kept trace h breach found
 found_kept (Torn number) judging trace h not found = found
 
-pub found_breach : (trace : List Event) (h : Event) (judging : Judging) (law : Law) (breach : Named) → Judged judging (reverse trace) → Some (law_number law) ≡ broken h (reverse trace)
-    → breach ≡ record { position = length trace; law = law; line = newlines (trace_text trace) + 1; text = event_text h } → IsFirst (trace ++ h ∷ []) breach
+pub found_breach : (trace : List Event) (h : Event) (judging : Judging) (law : Law) (breach : Named)
+    → Judged judging (reverse trace) → Some (law_number law) ≡ broken h (reverse trace)
+    → breach
+    ≡ record { position = length trace; law = law; line = newlines (trace_text trace) + 1; text = event_text h }
+    → IsFirst (trace ++ h ∷ []) breach
 found_breach trace h judging law breach judged broke is = subst (IsFirst (trace ++ h ∷ [])) (sym is) (record {
-  first = ap first_breach (past_push trace h) ∙ breach_here h (reverse trace) (law_number law) judged.lawful broke ∙ ap (λ n. Some (record { position = n; law = law_number law })) (length-reverse trace);
+  first = ap first_breach (past_push trace h) ∙ breach_here h (reverse trace) (law_number law) judged.lawful broke
+      ∙ ap (λ n. Some (record { position = n; law = law_number law })) (length-reverse trace);
   within = omega (arith, length-append trace (h ∷ []));
   line = ap (λ t. newlines (trace_text t) + 1) (sym (take-append_seam trace (h ∷ [])));
   text = ap (λ o. option_map_or event_text o []) (sym (got_behind trace h));
 })
 
 -- by cases of what was found
-pub at_trace : (finding : Finding Named) (state : TextState) (text : List ℕ) (trace : List Event) → HasRead state trace text → state.finding ≡ finding → AtBy finding state text
+pub at_trace : (finding : Finding Named) (state : TextState) (text : List ℕ) (trace : List Event)
+    → HasRead state trace text → state.finding ≡ finding → AtBy finding state text
 at_trace Lawful state text trace read is = (trace, read)
 at_trace (Breach breach) state text trace read is = (trace, read)
 at_trace (Torn number) state text trace read is = absurd (subst (λ f. IsFound f state.judging trace) is read.found)
 
-pub trace_at : (finding : Finding Named) (state : TextState) (text : List ℕ) → ((number : ℕ) → finding ≡ Torn number → ⊥) → AtBy finding state text → (trace : List Event) × HasRead state trace text
+pub trace_at : (finding : Finding Named) (state : TextState) (text : List ℕ) → ((number : ℕ) → finding ≡ Torn number
+    → ⊥) → AtBy finding state text → (trace : List Event) × HasRead state trace text
 trace_at Lawful state text not at = at
 trace_at (Breach breach) state text not at = at
 trace_at (Torn number) state text not at = absurd (not number refl)
@@ -77,31 +99,38 @@ trace_at (Torn number) state text not at = absurd (not number refl)
 torn_more : (text piece : List ℕ) (number : ℕ) → IsTorn text number → IsTorn (text ++ piece) number
 torn_more text piece number torn = grind (arith, append_assoc)
 
-pub still_torn : (finding : Finding Named) (state : TextState) (text piece : List ℕ) (number : ℕ) → finding ≡ Torn number → AtBy finding state text → AtBy finding state (text ++ piece)
+pub still_torn : (finding : Finding Named) (state : TextState) (text piece : List ℕ) (number : ℕ)
+    → finding ≡ Torn number → AtBy finding state text → AtBy finding state (text ++ piece)
 still_torn (Torn n) state text piece number is taken = torn_more text piece n taken
 still_torn Lawful state text piece number is taken = absurd (cc)
 still_torn (Breach breach) state text piece number is taken = absurd (cc)
 
 -- what it has taken it is at work on
-pub taken_at : (finding : Finding Named) (state : TextState) (text : List ℕ) → TakenBy finding state text → AtBy finding state text
+pub taken_at : (finding : Finding Named) (state : TextState) (text : List ℕ) → TakenBy finding state text
+    → AtBy finding state text
 taken_at Lawful state text taken = (taken.0, taken.1)
 taken_at (Breach breach) state text taken = (taken.0, taken.1)
 taken_at (Torn number) state text taken = taken
 
 -- a happening more
-pub read_next : (old new : TextState) (trace : List Event) (text : List ℕ) (h : Event) → length text < 2 ^ 64 → HasRead old trace text → ReadsNext old.reading new.reading (Some h) → new.position ≡ capped (old.position + 1) → IsFound new.finding new.judging (trace ++ h ∷ []) → HasRead new (trace ++ h ∷ []) text
+pub read_next : (old new : TextState) (trace : List Event) (text : List ℕ) (h : Event) → length text < 2 ^ 64
+    → HasRead old trace text → ReadsNext old.reading new.reading (Some h) → new.position ≡ capped (old.position + 1)
+    → IsFound new.finding new.judging (trace ++ h ∷ []) → HasRead new (trace ++ h ∷ []) text
 read_next old new trace text h small read next position found = record {
   are = are_in_range-push trace h read.are next.0;
   whole = whole;
-  lines = next.2 ∙ ap (λ n. capped (n + line_count h)) read.lines ∙ capped_is (newlines (trace_text trace) + line_count h) (omega (arith, small, within, pushed)) ∙ sym pushed;
-  position = position ∙ ap (λ n. capped (n + 1)) read.position ∙ capped_is (length trace + 1) (omega (arith, small, within, few_happenings (trace ++ h ∷ []) are, longer)) ∙ sym longer;
+  lines = next.2 ∙ ap (λ n. capped (n + line_count h)) read.lines
+      ∙ capped_is (newlines (trace_text trace) + line_count h) (omega (arith, small, within, pushed)) ∙ sym pushed;
+  position = position ∙ ap (λ n. capped (n + 1)) read.position ∙ capped_is (length trace + 1)
+      (omega (arith, small, within, few_happenings (trace ++ h ∷ []) are, longer)) ∙ sym longer;
   found = found;
 } where
   are : are_in_range (trace ++ h ∷ []) ≡ true
   are = are_in_range-push trace h read.are next.0
 
   whole : trace_text (trace ++ h ∷ []) ++ new.reading.over ≡ text
-  whole = ap (λ t. t ++ new.reading.over) (trace_text-push trace h) ∙ append_assoc (trace_text trace) (event_text h) new.reading.over ∙ ap (λ t. trace_text trace ++ t) next.1 ∙ read.whole
+  whole = ap (λ t. t ++ new.reading.over) (trace_text-push trace h) ∙ append_assoc (trace_text trace)
+      (event_text h) new.reading.over ∙ ap (λ t. trace_text trace ++ t) next.1 ∙ read.whole
 
   within : newlines (trace_text (trace ++ h ∷ [])) + length new.reading.over ≤ length text
   within = lines_within (trace ++ h ∷ []) new.reading.over text whole
@@ -113,13 +142,18 @@ read_next old new trace text h small read next position found = record {
   longer = length-append trace (h ∷ [])
 
 -- the number of the line of the next happening
-next_line : (state : TextState) (trace : List Event) (text : List ℕ) → length text < 2 ^ 64 → HasRead state trace text → 1 ≤ length state.reading.over → capped (state.reading.lines + 1) ≡ newlines (trace_text trace) + 1
+next_line : (state : TextState) (trace : List Event) (text : List ℕ) → length text < 2 ^ 64 → HasRead state trace text
+    → 1 ≤ length state.reading.over → capped (state.reading.lines + 1) ≡ newlines (trace_text trace) + 1
 next_line state trace text small read some = grind (arith, capped_is, lines_within)
 
-pub line_of : (old : TextState) (new : Reading) (trace : List Event) (text : List ℕ) (h : Event) → length text < 2 ^ 64 → HasRead old trace text → ReadsNext old.reading new (Some h) → capped (old.reading.lines + 1) ≡ newlines (trace_text trace) + 1
-line_of old new trace text h small read next = next_line old trace text small read (omega (arith, shorter h new.over old.reading.over next.0 next.1))
+pub line_of : (old : TextState) (new : Reading) (trace : List Event) (text : List ℕ) (h : Event) → length text < 2 ^ 64
+    → HasRead old trace text → ReadsNext old.reading new (Some h)
+    → capped (old.reading.lines + 1) ≡ newlines (trace_text trace) + 1
+line_of old new trace text h small read next =
+    next_line old trace text small read (omega (arith, shorter h new.over old.reading.over next.0 next.1))
 
-pub torn_here : (state : TextState) (text : List ℕ) (number : ℕ) (trace : List Event) → length text < 2 ^ 64 → HasRead state trace text → number ≡ capped (state.reading.lines + 1) → BeginsNever state.reading.over → IsTorn text number
+pub torn_here : (state : TextState) (text : List ℕ) (number : ℕ) (trace : List Event) → length text < 2 ^ 64 → HasRead
+    state trace text → number ≡ capped (state.reading.lines + 1) → BeginsNever state.reading.over → IsTorn text number
 torn_here state text number trace small read is none = record {
   trace = trace;
   rest = state.reading.over;
@@ -131,15 +165,27 @@ torn_here state text number trace small read is none = record {
 }
 
 -- what is told of the text
-left_is : (state : TextState) (trace : List Event) (text over : List ℕ) → length text < 2 ^ 64 → HasRead state trace text → state.reading.over ≡ over → option_map capped (line_left state.reading.lines over) ≡ line_left (newlines (trace_text trace)) over
+left_is : (state : TextState) (trace : List Event) (text over : List ℕ) → length text < 2 ^ 64
+    → HasRead state trace text → state.reading.over ≡ over
+    → option_map capped (line_left state.reading.lines over) ≡ line_left (newlines (trace_text trace)) over
 left_is state trace text over small read is = grind (arith, next_line)
 
-front : (state : TextState) (trace : List Event) (text : List ℕ) (left : Option ℕ) → length text < 2 ^ 64 → HasRead state trace text → is_open state.reading.over ≡ true → left ≡ option_map capped (line_left state.reading.lines state.reading.over) → IsFront trace left text
+front : (state : TextState) (trace : List Event) (text : List ℕ) (left : Option ℕ) → length text < 2 ^ 64
+    → HasRead state trace text → is_open state.reading.over ≡ true
+    → left ≡ option_map capped (line_left state.reading.lines state.reading.over) → IsFront trace left text
 front state trace text left small read short is = grind (arith, left_is)
 
-pub told : (finding : Finding Named) (state : TextState) (text : List ℕ) (left : Option ℕ) → state.finding ≡ finding → length text < 2 ^ 64 → TakenBy finding state text → left ≡ left_of finding (option_map capped (line_left state.reading.lines state.reading.over)) → Answers text finding left state.position
+pub told : (finding : Finding Named) (state : TextState) (text : List ℕ) (left : Option ℕ) → state.finding ≡ finding
+    → length text < 2 ^ 64 → TakenBy finding state text → left ≡ left_of finding
+    (option_map capped (line_left state.reading.lines state.reading.over)) → Answers text finding left state.position
 told Lawful state text left is small taken at =
-    let judged : Judged state.judging (reverse taken.0) = subst (λ f. IsFound f state.judging taken.0) is taken.1.found in
+    let judged : Judged state.judging (reverse taken.0) =
+    subst (λ f. IsFound f state.judging taken.0) is taken.1.found in
     (taken.0, front state taken.0 text left small taken.1 taken.2 at, judged.lawful, taken.1.position)
-told (Breach breach) state text left is small taken at = (taken.0, front state taken.0 text left small taken.1 taken.2 at, subst (λ f. IsFound f state.judging taken.0) is taken.1.found, taken.1.position)
+told (Breach breach) state text left is small taken at = (
+  taken.0,
+  front state taken.0 text left small taken.1 taken.2 at,
+  subst (λ f. IsFound f state.judging taken.0) is taken.1.found,
+  taken.1.position,
+)
 told (Torn number) state text left is small taken at = (taken, at)

@@ -41,7 +41,8 @@ impl<A: Allocator> Model for Breach<A> {
 
 impl<A: Allocator> Breach<A> {
     pub(crate) fn new(position: u64, law: Law, line: u64, text: Vec<u8, A>) -> Breach<A>
-        ensures { result ≡ record { position = position; law = law; line = line; text = text.items } }
+        ensures { result
+            ≡ record { position = position; law = law; line = line; text = text.items } }
     {
         Breach {
             position,

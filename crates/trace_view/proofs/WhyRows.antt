@@ -1,5 +1,7 @@
 -- Entries of sound pasts and why each isn't started next, worked: `refl` computes them.
-use Rattle.trace_view.proofs.Words.{◌≡◌, refl, ℕ, true, List, [], ◌∷◌, ◌++◌, codes, Some, Entry, Act, Start, Look, Term, Goal, Event, RanBefore, StageOver, OtherStage, ChildKept, NotCalled, WasStarted, line_at_fault, line_behind, why}
+use Rattle.trace_view.proofs.Words.{◌≡◌, refl, ℕ, true, List, [], ◌∷◌, ◌++◌, codes, Some, Entry, Act, Start, Look, Term}
+use Rattle.trace_view.proofs.Words.{Goal, Event, RanBefore, StageOver, OtherStage, ChildKept, NotCalled, WasStarted}
+use Rattle.trace_view.proofs.Words.{line_at_fault, line_behind, why}
 use Rattle.init_words.specs.declared.actions.Act.TheVariants as act
 use Rattle.init_words.specs.declared.children.Status.TheVariants.{Exit}
 use Rattle.init_words.specs.declared.levels.Level.{Level}
@@ -9,11 +11,13 @@ use Rattle.init_words.specs.declared.levels.Mark.TheVariants.{At}
 use Rattle.init_words.specs.declared.orders.PowerKind.TheVariants.{Fail}
 use Rattle.init_words.specs.declared.stages.Stage.TheVariants.{Sysinit, Boot, Run}
 use Rattle.initctl_frame.specs.declared.requests.HeardRequest.TheVariants as got
-use Rattle.trace_events.specs.declared.happenings.Happening.TheVariants.{NewTable, Enter, Power, Asked, Birth, Death, Reaped, Hit, Told, Nudge, Got}
+use Rattle.trace_events.specs.declared.happenings.Happening.TheVariants.{NewTable, Enter, Power, Asked, Birth, Death}
+use Rattle.trace_events.specs.declared.happenings.Happening.TheVariants.{Reaped, Hit, Told, Nudge, Got}
 use Rattle.trace_events.specs.Sound.{is_sound}
 
 abbrev entry : List ℕ → List Mark → Act → Entry
-entry id levels action = record { id = id; levels = record { items = levels }; act = action; process = record { items = codes "x" } }
+entry id levels action =
+    record { id = id; levels = record { items = levels }; act = action; process = record { items = codes "x" } }
 
 abbrev opening : Level → Goal
 opening l = record { level = l; grace = 5 }
@@ -27,7 +31,8 @@ ended id n = Told id ∷ Reaped id n (Exit 0) ∷ Death n ∷ Asked id Look ∷ 
 
 -- a power entry in level 3: news of the power calls it, and its child ends
 abbrev powered : List Event
-powered = Enter (Run level.L3) 5 ∷ Enter Boot 5 ∷ Enter Sysinit 5 ∷ NewTable (entry (codes "p") (At level.L3 ∷ []) act.Powerfail ∷ []) ∷ []
+powered = Enter (Run level.L3) 5 ∷ Enter Boot 5 ∷ Enter Sysinit 5
+    ∷ NewTable (entry (codes "p") (At level.L3 ∷ []) act.Powerfail ∷ []) ∷ []
 
 abbrev called : List Event
 called = ended (codes "p") 2 ++ started (codes "p") 2 ++ Power Fail ∷ Got (got.Power Fail) ∷ powered
@@ -42,10 +47,12 @@ called-was_started : why (codes "p") called ≡ WasStarted
 called-was_started = refl
 
 -- behind a table read again nothing has called it
-read_again-not_called : why (codes "p") (NewTable (entry (codes "p") (At level.L3 ∷ []) act.Powerfail ∷ []) ∷ Got got.Reload ∷ called) ≡ NotCalled
+read_again-not_called : why (codes "p")
+    (NewTable (entry (codes "p") (At level.L3 ∷ []) act.Powerfail ∷ []) ∷ Got got.Reload ∷ called) ≡ NotCalled
 read_again-not_called = refl
 
--- a boot entry in level S, on the way to which Boot is passed by; and behind a request for level 3, which goes through it
+-- a boot entry in level S, on the way to which Boot is passed by; and behind a request for level 3, which goes
+-- through it
 abbrev booting : List Entry
 booting = entry (codes "b") [] act.Boot ∷ []
 
@@ -70,7 +77,9 @@ booted-ran = refl
 
 -- its line became boot's in the level, where it ran with another action: as boot's it never ran
 abbrev respawned : List Event
-respawned = Told (codes "x") ∷ Hit (codes "x") ∷ Asked (codes "x") Term ∷ NewTable (entry (codes "x") [] act.Boot ∷ []) ∷ Got got.Reload ∷ started (codes "x") 1 ++ Enter (Run level.L3) 5 ∷ Enter Boot 5 ∷ Enter Sysinit 5 ∷ NewTable (entry (codes "x") (At level.L3 ∷ []) act.Respawn ∷ []) ∷ []
+respawned = Told (codes "x") ∷ Hit (codes "x") ∷ Asked (codes "x") Term ∷ NewTable (entry (codes "x") [] act.Boot ∷ [])
+    ∷ Got got.Reload ∷ started (codes "x") 1 ++ Enter (Run level.L3) 5 ∷ Enter Boot 5 ∷ Enter Sysinit 5
+    ∷ NewTable (entry (codes "x") (At level.L3 ∷ []) act.Respawn ∷ []) ∷ []
 
 respawned-sound : is_sound (opening level.L3) (ended (codes "x") 1 ++ respawned) ≡ true
 respawned-sound = refl
@@ -83,7 +92,8 @@ ended-over = refl
 
 -- where it was boot's before that, it ran then, and the line is that of its birth then
 abbrev twice : List Event
-twice = NewTable booting ∷ Got got.Reload ∷ ended (codes "b") 2 ++ started (codes "b") 2 ++ NewTable (entry (codes "b") (At level.L3 ∷ []) act.Respawn ∷ []) ∷ Got got.Reload ∷ ended (codes "b") 1 ++ Enter (Run level.L3) 5 ∷ booted
+twice = NewTable booting ∷ Got got.Reload ∷ ended (codes "b") 2 ++ started (codes "b") 2 ++ NewTable (entry (codes "b")
+    (At level.L3 ∷ []) act.Respawn ∷ []) ∷ Got got.Reload ∷ ended (codes "b") 1 ++ Enter (Run level.L3) 5 ∷ booted
 
 twice-sound : is_sound (opening level.S) twice ≡ true
 twice-sound = refl
@@ -91,5 +101,6 @@ twice-sound = refl
 twice-ran : why (codes "b") twice ≡ RanBefore
 twice-ran = refl
 
-twice-line : line_at_fault (codes "b") RanBefore twice ≡ Some (line_behind (Asked (codes "b") Start ∷ Enter Boot 5 ∷ NewTable booting ∷ Got (got.Level level.L3 5) ∷ single))
+twice-line : line_at_fault (codes "b") RanBefore twice ≡ Some
+    (line_behind (Asked (codes "b") Start ∷ Enter Boot 5 ∷ NewTable booting ∷ Got (got.Level level.L3 5) ∷ single))
 twice-line = refl

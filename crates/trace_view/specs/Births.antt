@@ -1,8 +1,10 @@
 -- How often children of an id were born, and when the latest was; and which were born before the first level.
-use Rattle.std.specs.Prelude.{ℕ, Bool, false, ◌&&◌, ◌+◌, ◌-◌, ◌^◌, min, if◌then◌else◌, List, [], ◌∷◌, ◌++◌, Option, Some, None}
+use Rattle.std.specs.Prelude.{ℕ, Bool, false, ◌&&◌, ◌+◌, ◌-◌, ◌^◌, min, if◌then◌else◌, List, [], ◌∷◌, ◌++◌, Option}
+use Rattle.std.specs.Prelude.{Some, None}
 use Rattle.std.specs.List.{list_any}
 use Rattle.std.specs.Option.{option_map_or}
-use Rattle.trace_view.specs.Words.{Entry, ignores_levels, same_id, Birth, Event, time_of, Child, is_of, newborn, same_acts}
+use Rattle.trace_view.specs.Words.{Entry, ignores_levels, same_id, Birth, Event, time_of, Child, is_of, newborn}
+use Rattle.trace_view.specs.Words.{same_acts}
 use Rattle.trace_view.specs.declared.rows.Births.{Births}
 
 -- one birth more at this time, counted as far as numbers go

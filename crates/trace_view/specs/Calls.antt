@@ -1,6 +1,7 @@
 -- Which entries news of the power or a letter named since the last Enter and the last table (init(8), telinit(8)).
 use Rattle.std.specs.Prelude.{Bool, false, ◌&&◌, ◌||◌, List, [], ◌∷◌}
-use Rattle.trace_view.specs.Words.{Entry, Letter, PowerKind, is_called_by, is_ondemand, same_letter, same_power, NewTable, Enter, Call, Power, Event}
+use Rattle.trace_view.specs.Words.{Entry, Letter, PowerKind, is_called_by, is_ondemand, same_letter, same_power}
+use Rattle.trace_view.specs.Words.{NewTable, Enter, Call, Power, Event}
 use Rattle.init_words.specs.declared.levels.Letter.TheVariants as letter
 use Rattle.init_words.specs.declared.levels.Mark.TheVariants.{OnCall}
 use Rattle.init_words.specs.declared.orders.PowerKind.TheVariants as power

@@ -1,7 +1,10 @@
--- The lines of a trace's text at which its last happenings of each kind begin, and the line at fault where an entry isn't
--- started. A line is counted from 1, and a happening is one line, but for a table, whose entries have one each behind it.
-use Rattle.std.specs.Prelude.{◌≡◌, ℕ, ◌+◌, Bool, true, false, not, max, if◌then◌else◌, List, [], ◌∷◌, reverse, Option, Some, None}
-use Rattle.trace_view.specs.Words.{newlines, Entry, Stage, same_id, NewTable, Enter, Asked, Hold, Birth, NoBirth, Reaped, Got, Event, table_of, stage_of, is_level, trace_text, at}
+-- The lines of a trace's text at which its last happenings of each kind begin, and the line at fault where an entry
+-- isn't started. A line is counted from 1, and a happening is one line, but for a table, whose entries have one each
+-- behind it.
+use Rattle.std.specs.Prelude.{◌≡◌, ℕ, ◌+◌, Bool, true, false, not, max, if◌then◌else◌, List, [], ◌∷◌, reverse, Option}
+use Rattle.std.specs.Prelude.{Some, None}
+use Rattle.trace_view.specs.Words.{newlines, Entry, Stage, same_id, NewTable, Enter, Asked, Hold, Birth, NoBirth}
+use Rattle.trace_view.specs.Words.{Reaped, Got, Event, table_of, stage_of, is_level, trace_text, at}
 use Rattle.initctl_frame.specs.declared.requests.HeardRequest.TheVariants as got
 use Rattle.trace_view.specs.declared.whys.Why.{Why}
 use Rattle.trace_view.specs.declared.whys.Why.TheVariants as why
@@ -112,8 +115,9 @@ wish_line (wish.Level level) past = last_line is_goal past
 wish_line wish.News past = last_line is_news past
 
 -- the line at fault for each reason that has one: the table in force; its birth before the first level; the stage in
--- force; the birth of its child, or the reaping, where that is later; the open order; since when it wasn't called; its last start; the birth of the child that
--- is waited for, or the stage, where that is later; the birth of the child that has to end; the request; the hold
+-- force; the birth of its child, or the reaping, where that is later; the open order; since when it wasn't called;
+-- its last start; the birth of the child that is waited for, or the stage, where that is later; the birth of the
+-- child that has to end; the request; the hold
 abbrev pub line_at_fault : List ℕ → Why → List Event → Option ℕ
 line_at_fault id why.NoEntry past = last_line is_table past
 line_at_fault id why.NeverStarts past = last_line is_table past

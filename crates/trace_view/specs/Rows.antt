@@ -1,7 +1,9 @@
 -- What is told of an id: its action, why it isn't started next, its child, and how it last ended.
 use Rattle.std.specs.Prelude.{ℕ, Bool, if◌then◌else◌, false, List, [], ◌∷◌, map, filter, Option, Some, None, is_none}
 use Rattle.std.specs.Option.{option_map, option_map_or}
-use Rattle.trace_view.specs.Words.{Entry, Stage, Run, same_id, entry_of, act_of, NoBirth, Reaped, Event, table_of, stage_of, time_of, Child, open_of, unreaped_children, is_excluded, is_settled, child_of, term_of}
+use Rattle.trace_view.specs.Words.{Entry, Stage, Run, same_id, entry_of, act_of, NoBirth, Reaped, Event, table_of}
+use Rattle.trace_view.specs.Words.{stage_of, time_of, Child, open_of, unreaped_children, is_excluded, is_settled}
+use Rattle.trace_view.specs.Words.{child_of, term_of}
 use Rattle.init_words.specs.declared.children.Status.{Status}
 use Rattle.trace_view.specs.Births.{births_of}
 use Rattle.trace_view.specs.declared.rows.Ending.{Ending}

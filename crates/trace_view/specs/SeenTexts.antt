@@ -24,6 +24,7 @@ SeesOn has true old new text = IsSeeing has old text → IsSeeing has new text
 SeesOn has false old new text = IsSeeing has old text → HasSeenText has new text
 
 -- what is shown of a text: one trace, which both have seen
-abbrev pub IsSeen : {S : Type 0} → (S → List Event → Type 0) → List ℕ → Option ViewEnd → Option ℕ → ViewState → S → Type 0
+abbrev pub IsSeen : {S : Type 0} → (S → List Event → Type 0) → List ℕ → Option ViewEnd → Option ℕ → ViewState → S
+    → Type 0
 IsSeen has text stop left viewing seen =
     (trace : List Event) × IsShown text stop left trace × Viewed viewing (reverse trace) × has seen (reverse trace)

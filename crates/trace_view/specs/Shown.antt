@@ -1,7 +1,8 @@
--- The trace that a view shows of a text: all of it, or what stands before the first happening that breaks a law, or before
--- the first line that begins none; and nothing of a text that begins within a run.
+-- The trace that a view shows of a text: all of it, or what stands before the first happening that breaks a law, or
+-- before the first line that begins none; and nothing of a text that begins within a run.
 use Rattle.std.specs.Prelude.{◌≡◌, ℕ, ◌+◌, Bool, true, false, List, [], ◌∷◌, ◌++◌, reverse, Option, Some, None}
-use Rattle.trace_view.specs.Words.{newlines, Event, broken, are_in_range, Law, law_number, event_text, trace_text, IsFront, IsTorn}
+use Rattle.trace_view.specs.Words.{newlines, Event, broken, are_in_range, Law, law_number, event_text, trace_text}
+use Rattle.trace_view.specs.Words.{IsFront, IsTorn}
 use Rattle.trace_view.specs.LastLines.{is_table}
 use Rattle.trace_view.specs.declared.text_views.ViewEnd.{ViewEnd}
 use Rattle.trace_view.specs.declared.text_views.ViewEnd.TheVariants.{Breach, Torn, Within}

@@ -1,6 +1,7 @@
 -- A view of a trace: what it keeps, and which pasts it has seen.
 use Rattle.std.specs.Prelude.{◌≡◌, ℕ, Bool, not, List, [], ◌∷◌, Option, Some, None}
-use Rattle.trace_view.specs.Words.{Entry, Stage, entry_of, act_of, Event, Child, unreaped_children, kept_children, may_live, Law, at}
+use Rattle.trace_view.specs.Words.{Entry, Stage, entry_of, act_of, Event, Child, unreaped_children, kept_children}
+use Rattle.trace_view.specs.Words.{may_live, Law, at}
 use Rattle.trace_check.specs.Judging.{Judging, Judged, unjudged}
 use Rattle.trace_events.specs.declared.call_sets.CallSet.{CallSet}
 use Rattle.trace_view.specs.declared.wishes.Wishes.{Wishes}

@@ -3,14 +3,19 @@ use Rattle.std.specs.Prelude.{ℕ, Bool, true, false, not, ◌&&◌, ◌||◌, i
 use Rattle.std.specs.Option.{option_map, option_map_or}
 use Rattle.init_words.specs.declared.actions.Act.{Act}
 use Rattle.init_words.specs.declared.actions.Act.TheVariants as act
-use Rattle.trace_view.specs.Words.{Entry, Stage, Sysinit, Boot, Run, wanted_by, ignores_levels, is_limited, entry_of, Event, table_of, stage_of, Child, is_of, kept_children, open_of, starts_now, is_wanted, is_owed, entries_before, is_excluded, was_booted, newest}
+use Rattle.trace_view.specs.Words.{Entry, Stage, Sysinit, Boot, Run, wanted_by, ignores_levels, is_limited, entry_of}
+use Rattle.trace_view.specs.Words.{Event, table_of, stage_of, Child, is_of, kept_children, open_of, starts_now}
+use Rattle.trace_view.specs.Words.{is_wanted, is_owed, entries_before, is_excluded, was_booted, newest}
 use Rattle.init_words.specs.declared.orders.OrderKind.{OrderKind}
 use Rattle.trace_events.specs.Timing.{hold_times, is_held, is_full}
 use Rattle.trace_view.specs.declared.standings.Excluded.{Excluded}
 use Rattle.trace_view.specs.declared.standings.Standing.{Standing}
 use Rattle.trace_view.specs.declared.wishes.Wish.{Wish}
 use Rattle.trace_view.specs.declared.whys.Why.{Why}
-use Rattle.trace_view.specs.declared.whys.Why.TheVariants.{NoEntry, NeverStarts, NoStage, RanBefore, StageOver, StageOwed, OtherStage, ChildKept, OrderOpen, NotCalled, WasStarted, EarlierOwed, ExcludedKept, WishStands, Held, WindowFull, Nothing}
+use Rattle.trace_view.specs.declared.whys.Why.TheVariants.{NoEntry, NeverStarts, NoStage, RanBefore, StageOver}
+use Rattle.trace_view.specs.declared.whys.Why.TheVariants.{StageOwed, OtherStage, ChildKept, OrderOpen, NotCalled}
+use Rattle.trace_view.specs.declared.whys.Why.TheVariants.{WasStarted, EarlierOwed, ExcludedKept, WishStands, Held}
+use Rattle.trace_view.specs.declared.whys.Why.TheVariants.{WindowFull, Nothing}
 use Rattle.trace_view.specs.Births.{ran_early}
 use Rattle.trace_view.specs.Calls.{was_named}
 use Rattle.trace_view.specs.Wishes.{first_wish}
@@ -84,8 +89,8 @@ not_here action (Some stage) s =
     else if s.stops then elsewhere action stage s
     else by_child s.child (elsewhere action stage s)
 
--- it starts in the stage, and nothing of it runs, but its action doesn't ask for it: of one that has to be called nothing
--- named it, or it was called and started
+-- it starts in the stage, and nothing of it runs, but its action doesn't ask for it: of one that has to be called
+-- nothing named it, or it was called and started
 abbrev pub not_wanted : Act → Bool → Why
 not_wanted action named = if wanted_by action true true false || named then WasStarted else NotCalled
 

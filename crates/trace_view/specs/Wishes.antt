@@ -1,6 +1,8 @@
 -- The wishes, as a view keeps them, and which of them is carried out first (telinit(8), initreq.h).
 use Rattle.std.specs.Prelude.{ℕ, Bool, not, ◌&&◌, ◌||◌, if◌then◌else◌, List, ◌∷◌, Option, Some, None}
-use Rattle.trace_view.specs.Words.{Stage, Boot, Run, same_level, Event, stage_of, enter_level, is_level, in_run, other_than, wants_reexec, wants_reread, heard_level, level_wish, was_booted, keeps_news}
+use Rattle.trace_view.specs.Words.{Stage, Boot, Run, same_level, Event, stage_of, enter_level, is_level, in_run}
+use Rattle.trace_view.specs.Words.{other_than, wants_reexec, wants_reread, heard_level, level_wish, was_booted}
+use Rattle.trace_view.specs.Words.{keeps_news}
 use Rattle.init_words.specs.declared.levels.Level.{Level}
 use Rattle.init_words.specs.declared.levels.Level.TheVariants.{S}
 use Rattle.trace_events.specs.CallSets.{has_news, news_of}

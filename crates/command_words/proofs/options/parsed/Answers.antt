@@ -2,7 +2,9 @@ use Rattle.command_words.proofs.KnownLines.{known_faults, known_rows}
 use Rattle.command_words.proofs.options.parsed.Goals as goal
 
 pub returns-clause-rows : goal.returns-clause-rows
-returns-clause-rows c = λ free. known_rows _ _ c.in_ok-table_line.ensures.0 free _ c.try_get_matches_from.result c.try_get_matches_from.ensures.matches
+returns-clause-rows c = λ free. known_rows _ _ c.in_ok-table_line.ensures.0 free _ c.try_get_matches_from.result
+    c.try_get_matches_from.ensures.matches
 
 pub returns-clause-faults : goal.returns-clause-faults
-returns-clause-faults c = λ free. known_faults _ _ c.in_ok-table_line.ensures.0 free _ c.try_get_matches_from.result c.try_get_matches_from.ensures.kinds
+returns-clause-faults c = λ free. known_faults _ _ c.in_ok-table_line.ensures.0 free _ c.try_get_matches_from.result
+    c.try_get_matches_from.ensures.kinds

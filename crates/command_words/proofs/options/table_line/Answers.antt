@@ -7,5 +7,8 @@ use Rattle.command_words.proofs.options.table_line.Goals as goal
 pub returns : goal.returns
 unfolding line_of
 returns c = IfOk-weaker c.with_rows.result _ _
-    (λ made adds. (adds.whole ∙ ap (λ (app : App). with_rules app (map row_rule (texts_of c.args.table.now))) c.bare_line.ensures.0, adds.local ∙ c.bare_line.ensures.1))
+    (λ made adds. (
+      adds.whole ∙ ap (λ (app : App). with_rules app (map row_rule (texts_of c.args.table.now))) c.bare_line.ensures.0,
+      adds.local ∙ c.bare_line.ensures.1,
+    ))
     c.with_rows.ensures

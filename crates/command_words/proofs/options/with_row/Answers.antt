@@ -11,5 +11,7 @@ or_false false = refl
 pub returns : goal.returns
 returns c = IfOk-weaker c.arg.result _ _ (λ made adds. record {
   whole = adds.shape c.argument.ensures.local ∙ ap (with_rule (app_of c.args.line)) c.argument.ensures.rule;
-  local = adds.globals ∙ ap (λ global. (out-Command c.args.line).has_globals || global) c.argument.ensures.local ∙ or_false _;
+  local =
+      adds.globals ∙ ap (λ global. (out-Command c.args.line).has_globals || global) c.argument.ensures.local
+      ∙ or_false _;
 }) c.arg.ensures

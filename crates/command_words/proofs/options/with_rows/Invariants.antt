@@ -7,6 +7,7 @@ use Rattle.command_words.proofs.options.with_rows.Given as goal
 -- what is there with the rows that are left is the whole
 abbrev pub invariant-loop-row : goal.invariant-loop-row
 invariant-loop-row l = record {
-  whole : with_rules (app_of l.line) (map row_rule (texts_of (drop l.row-index l.table))) ≡ with_rules (app_of l.fn.line) (map row_rule (texts_of l.table));
+  whole : with_rules (app_of l.line) (map row_rule (texts_of (drop l.row-index l.table)))
+      ≡ with_rules (app_of l.fn.line) (map row_rule (texts_of l.table));
   local : (out-Command l.line).has_globals ≡ (out-Command l.fn.line).has_globals;
 }

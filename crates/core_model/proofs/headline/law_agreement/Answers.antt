@@ -45,7 +45,8 @@ pub returns-clause-reaped_between : goal.returns-clause-reaped_between
 returns-clause-reaped_between c = reaped_between
 
 pub returns-clause-apart : goal.returns-clause-apart
-returns-clause-apart c goal later between past id h steady enough = apart goal later between past id h steady (omega (arith, enough))
+returns-clause-apart c goal later between past id h steady enough =
+    apart goal later between past id h steady (omega (arith, enough))
 
 pub returns-clause-rested : goal.returns-clause-rested
 returns-clause-rested c = rested
@@ -60,7 +61,8 @@ pub returns-clause-records : goal.returns-clause-records
 returns-clause-records c core goal past sound fits id n = unreaped_recorded goal past core sound fits id n
 
 pub returns-clause-one_record : goal.returns-clause-one_record
-returns-clause-one_record c core goal past sound fits id m n has_m has_n = one_recorded goal past core sound fits id m n has_m has_n
+returns-clause-one_record c core goal past sound fits id m n has_m has_n =
+    one_recorded goal past core sound fits id m n has_m has_n
 
 pub returns-clause-bounded : goal.returns-clause-bounded
 returns-clause-bounded c core goal past sound fits = bounded core goal past sound fits

@@ -8,4 +8,5 @@ no_table (NewTable table) act = absurd (false≢true act)
 no_table _ act = refl
 
 pub returns : goal.returns
-returns c goal happening past core act sound fits = fits_act goal past core (sound_step goal happening past (no_table happening act) sound).1 fits happening act sound
+returns c goal happening past core act sound fits =
+    fits_act goal past core (sound_step goal happening past (no_table happening act) sound).1 fits happening act sound

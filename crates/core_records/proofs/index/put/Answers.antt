@@ -6,5 +6,7 @@ use Rattle.core_records.proofs.index.put.Goals as goal
 pub returns-else-is_err-clause-sorted : goal.returns-else-is_err-clause-sorted
 returns-else-is_err-clause-sorted g c =
     let ok : is_ok c.insert.result ≡ true = search rules in
-    let within : c.first_from-position.result ≤ length c.args.items.now.items = rw c.as_slice.ensures.value at c.first_from-position.ensures.within in
-    rw (c.insert.ensures.items, ok) (sorted_insert c.args.items.now.items c.first_from-position.result c.in-Some.item within c.requires.sorted (rw c.as_slice.ensures.value at c.first_from-position.ensures.point))
+    let within : c.first_from-position.result ≤ length c.args.items.now.items =
+    rw c.as_slice.ensures.value at c.first_from-position.ensures.within in
+    rw (c.insert.ensures.items, ok) (sorted_insert c.args.items.now.items c.first_from-position.result c.in-Some.item
+    within c.requires.sorted (rw c.as_slice.ensures.value at c.first_from-position.ensures.point))

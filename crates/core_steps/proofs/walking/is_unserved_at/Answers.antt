@@ -5,4 +5,8 @@ use Rattle.core_steps.proofs.Places.{not_so}
 use Rattle.core_steps.proofs.walking.is_unserved_at.Goals as goal
 
 pub returns : goal.returns
-returns g c unserved = not_all (λ (p : Entry × RecordState). is_served_record c.args.level c.args.now p.0 p.1) (zip c.args.table.now c.args.slots.now) c.args.position (c.in-Some.entry.now, c.index-slots-position.result) (pair_got c.args.table.now c.args.slots.now c.args.position c.in-Some.entry.now c.index-slots-position.result (sym c.in-Some.ensures) (omega (arith, c.if-position-slots.false)) c.index-slots-position.is) (sym c.is_served.ensures ∙ not_so c.is_served.result unserved)
+returns g c unserved = not_all (λ (p : Entry × RecordState). is_served_record c.args.level c.args.now p.0 p.1)
+    (zip c.args.table.now c.args.slots.now) c.args.position (c.in-Some.entry.now, c.index-slots-position.result)
+    (pair_got c.args.table.now c.args.slots.now c.args.position c.in-Some.entry.now c.index-slots-position.result
+    (sym c.in-Some.ensures) (omega (arith, c.if-position-slots.false)) c.index-slots-position.is)
+    (sym c.is_served.ensures ∙ not_so c.is_served.result unserved)

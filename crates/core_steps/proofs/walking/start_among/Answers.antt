@@ -3,10 +3,14 @@ use Rattle.core_steps.proofs.Places.{first_on, next_on, all_on}
 use Rattle.core_steps.proofs.walking.start_among.Goals as goal
 
 pub returns-then-places : goal.returns-then-places
-returns-then-places g c = c.start_from.ensures ∙ sym (all_on c.args.stage c.args.now c.args.table.now c.args.slots.now c.args.places c.requires.passed c.if-places.true)
+returns-then-places g c = c.start_from.ensures ∙ sym
+    (all_on c.args.stage c.args.now c.args.table.now c.args.slots.now c.args.places c.requires.passed c.if-places.true)
 
 pub returns-in-Some : goal.returns-in-Some
-returns-in-Some g c = c.in-Some.ensures.ends ∙ sym (first_on c.args.stage c.args.now c.args.table.now c.args.slots.now c.args.places c.requires.passed)
+returns-in-Some g c = c.in-Some.ensures.ends
+    ∙ sym (first_on c.args.stage c.args.now c.args.table.now c.args.slots.now c.args.places c.requires.passed)
 
 pub returns-in-None : goal.returns-in-None
-returns-in-None g c = c.start_from-in-None.ensures ∙ sym (first_on c.args.stage c.args.now c.args.table.now c.args.slots.now c.args.places c.requires.passed ∙ c.in-None.ensures.goes_on refl ∙ next_on c.args.stage c.args.now c.args.table.now c.args.slots.now c.args.places c.requires.passed (omega (arith, c.if-places.false)))
+returns-in-None g c = c.start_from-in-None.ensures ∙ sym (first_on c.args.stage c.args.now c.args.table.now
+    c.args.slots.now c.args.places c.requires.passed ∙ c.in-None.ensures.goes_on refl ∙ next_on c.args.stage c.args.now
+    c.args.table.now c.args.slots.now c.args.places c.requires.passed (omega (arith, c.if-places.false)))

@@ -1,4 +1,5 @@
-use Rattle.core_text.proofs.CommonWords.{[], ◌∷◌, clock_line, flags_line, generation_line, goal_line, stage_line, wish_line}
+use Rattle.core_text.proofs.CommonWords.{[], ◌∷◌, clock_line, flags_line, generation_line, goal_line, stage_line}
+use Rattle.core_text.proofs.CommonWords.{wish_line}
 use Rattle.core_text.proofs.Written.{more_lines}
 use Rattle.core_text.proofs.writing.put_fields.Goals as goal
 

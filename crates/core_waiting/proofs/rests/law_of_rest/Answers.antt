@@ -26,7 +26,10 @@ pub returns-clause-looked : goal.returns-clause-looked
 returns-clause-looked c = rest_looked
 
 pub returns-clause-idle : goal.returns-clause-idle
-returns-clause-idle c core goal past sound fits = (λ h. idle_none_due goal past (sym (decide_due goal past sound core fits) ∙ h), λ h. decide_due goal past sound core fits ∙ ap first h)
+returns-clause-idle c core goal past sound fits = (
+  λ h. idle_none_due goal past (sym (decide_due goal past sound core fits) ∙ h),
+  λ h. decide_due goal past sound core fits ∙ ap first h,
+)
 
 pub returns-clause-once : goal.returns-clause-once
 returns-clause-once c = starts_once

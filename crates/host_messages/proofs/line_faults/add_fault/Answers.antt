@@ -9,5 +9,7 @@ returns g c =
     let position = place_text c.args.parts.now fault.part in
     let one : c.extend_from_slice.new.self.items ≡ c.args.text.now.items ++ codes "initd: inittab " = search rules in
     let two : c.add_place.new.text.items ≡ c.extend_from_slice.new.self.items ++ position = search rules in
-    let three : c.extend_from_slice-2.new.self.items ≡ c.add_place.new.text.items ++ line_text fault.line fault.kind = search rules in
-    three_more c.args.text.now.items (codes "initd: inittab ") position (line_text fault.line fault.kind) c.extend_from_slice.new.self.items c.add_place.new.text.items c.extend_from_slice-2.new.self.items one two three
+    let three : c.extend_from_slice-2.new.self.items ≡ c.add_place.new.text.items ++ line_text fault.line fault.kind =
+    search rules in
+    three_more c.args.text.now.items (codes "initd: inittab ") position (line_text fault.line fault.kind)
+    c.extend_from_slice.new.self.items c.add_place.new.text.items c.extend_from_slice-2.new.self.items one two three

@@ -4,4 +4,5 @@ use Rattle.host_messages.proofs.line_faults.faults_text.Given as goal
 
 -- what is told, and what is left to tell, make the whole
 abbrev pub invariant-loop-fault : goal.invariant-loop-fault
-invariant-loop-fault g l = l.text.items ++ faults_text l.parts (drop l.fault-index l.faults) ≡ faults_text l.parts l.faults
+invariant-loop-fault g l =
+    l.text.items ++ faults_text l.parts (drop l.fault-index l.faults) ≡ faults_text l.parts l.faults

@@ -8,7 +8,8 @@ returns-in-Later-clause-hears g c =
     let is : c.args.reply.now ≡ Later = search rules in
     let core = c.args.core.now in
     let log = g.L.Log.state c.args.edge.now.log in
-    subst (λ reply. Hears (Tracks core) (Tracks core) log log (replied c.args.id reply)) (sym is) (Hears-none (Tracks core) log)
+    subst (λ reply. Hears (Tracks core) (Tracks core) log log (replied c.args.id reply)) (sym is)
+    (Hears-none (Tracks core) log)
 
 pub returns-in-Later-clause-grows : goal.returns-in-Later-clause-grows
 returns-in-Later-clause-grows g c = search (rules, GrowsBy-none)

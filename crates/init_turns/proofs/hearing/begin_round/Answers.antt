@@ -15,4 +15,5 @@ returns-clause-hears g c =
 pub returns-clause-grows : goal.returns-clause-grows
 returns-clause-grows g c =
     let lasts = round_lasts c.args.core.now c.begin_round.new.self c.begin_round.ensures.state in
-    GrowsBy-one c.args.core.now c.begin_round.new.self (g.L.Log.state c.args.edge.now.log) (g.L.Log.state c.note.new.self.log) lasts.short (c.note.ensures.grows refl)
+    GrowsBy-one c.args.core.now c.begin_round.new.self (g.L.Log.state c.args.edge.now.log)
+    (g.L.Log.state c.note.new.self.log) lasts.short (c.note.ensures.grows refl)

@@ -1,25 +1,38 @@
-use Rattle.init_turns.proofs.Words.{rules, ◌≡◌, ◌++◌, ◌∙◌, refl, sym, ap, subst, [], ◌∷◌, take, drop, append-nil, append_assoc, Ok, TakeBytes, Leads, Leads-no_bytes, Leads-pieces, GrowsReading-none, GrowsReading-then}
+use Rattle.init_turns.proofs.Words.{rules, ◌≡◌, ◌++◌, ◌∙◌, refl, sym, ap, subst, [], ◌∷◌, take, drop, append-nil}
+use Rattle.init_turns.proofs.Words.{append_assoc, Ok, TakeBytes, Leads, Leads-no_bytes, Leads-pieces, GrowsReading-none}
+use Rattle.init_turns.proofs.Words.{GrowsReading-then}
 use Rattle.std.proofs.lemmas.List.{nil_from_length, take-append-drop, take_rest}
 use Rattle.host_trace.specs.Leads.{At}
 use Rattle.init_turns.proofs.hearing.hear_bytes.Goals as goal
 
 pub loop-rest-init : goal.loop-rest-init
-loop-rest-init g c = ([], refl, refl, (λ room. Leads-no_bytes (At c.args.core.now c.args.blocks.now) (g.L.Log.state c.args.edge.now.log) room), GrowsReading-none c.args.core.now c.args.blocks.now (g.L.Log.state c.args.edge.now.log))
+loop-rest-init g c = (
+  [],
+  refl,
+  refl,
+  (λ room. Leads-no_bytes (At c.args.core.now c.args.blocks.now) (g.L.Log.state c.args.edge.now.log) room),
+  GrowsReading-none c.args.core.now c.args.blocks.now (g.L.Log.state c.args.edge.now.log),
+)
 
 pub loop-rest-preserved : goal.loop-rest-preserved
 loop-rest-preserved g c =
     let (part, whole, told, leads, grows) = c.loop-rest.invariant in
     let front = take c.hear_front-count.result c.loop-rest.rest.now in
     let rest = drop c.hear_front-count.result c.loop-rest.rest.now in
-    let joined : (part ++ front) ++ rest ≡ c.args.bytes.now = append_assoc part front rest ∙ ap (λ l. part ++ l) (take-append-drop c.hear_front-count.result c.loop-rest.rest.now) ∙ whole in
+    let joined : (part ++ front) ++ rest ≡ c.args.bytes.now = append_assoc part front rest
+    ∙ ap (λ l. part ++ l) (take-append-drop c.hear_front-count.result c.loop-rest.rest.now) ∙ whole in
     rw take_rest (
       part ++ front,
       joined,
       c.hear_front-count.ensures.told ∙ told,
-      (λ room. Leads-pieces (At c.args.core.now c.args.blocks.now) (At c.loop-rest.core c.loop-rest.blocks) (At c.hear_front-count.new.core c.hear_front-count.new.blocks)
-          (g.L.Log.state c.args.edge.now.log) (g.L.Log.state c.loop-rest.edge.log) (g.L.Log.state c.hear_front-count.new.edge.log) room part front (leads room) (c.hear_front-count.ensures.leads room)),
-      GrowsReading-then c.args.core.now c.loop-rest.core c.hear_front-count.new.core c.args.blocks.now c.loop-rest.blocks c.hear_front-count.new.blocks
-          (g.L.Log.state c.args.edge.now.log) (g.L.Log.state c.loop-rest.edge.log) (g.L.Log.state c.hear_front-count.new.edge.log) grows c.hear_front-count.ensures.grows,
+      (λ room. Leads-pieces (At c.args.core.now c.args.blocks.now) (At c.loop-rest.core c.loop-rest.blocks)
+          (At c.hear_front-count.new.core c.hear_front-count.new.blocks)
+          (g.L.Log.state c.args.edge.now.log) (g.L.Log.state c.loop-rest.edge.log) (g.L.Log.state
+          c.hear_front-count.new.edge.log) room part front (leads room) (c.hear_front-count.ensures.leads room)),
+      GrowsReading-then c.args.core.now c.loop-rest.core c.hear_front-count.new.core c.args.blocks.now
+          c.loop-rest.blocks c.hear_front-count.new.blocks
+          (g.L.Log.state c.args.edge.now.log) (g.L.Log.state c.loop-rest.edge.log)
+          (g.L.Log.state c.hear_front-count.new.edge.log) grows c.hear_front-count.ensures.grows,
     )
 
 pub returns-clause-told : goal.returns-clause-told
@@ -30,7 +43,9 @@ returns-clause-leads g c =
     let (part, whole, told, leads, grows) = c.loop-rest.invariant in
     let none : c.loop-rest.rest.now ≡ [] = search (rules, nil_from_length) in
     let all : part ≡ c.args.bytes.now = sym (append-nil part) ∙ ap (λ l. part ++ l) (sym none) ∙ whole in
-    λ room. subst (λ l. Leads (At c.args.core.now c.args.blocks.now) (At c.loop-rest.core c.loop-rest.blocks) (g.L.Log.state c.args.edge.now.log) (g.L.Log.state c.loop-rest.edge.log) (TakeBytes room (Ok l) ∷ [])) all (leads room)
+    λ room. subst (λ l. Leads (At c.args.core.now c.args.blocks.now) (At c.loop-rest.core c.loop-rest.blocks)
+    (g.L.Log.state c.args.edge.now.log) (g.L.Log.state c.loop-rest.edge.log) (TakeBytes room (Ok l) ∷ [])) all
+    (leads room)
 
 pub returns-clause-grows : goal.returns-clause-grows
 returns-clause-grows g c = c.loop-rest.invariant.4

@@ -6,7 +6,8 @@ use Rattle.init_turns.proofs.hearing.hear_bytes.Given as goal
 abbrev pub invariant-loop-rest : goal.invariant-loop-rest
 invariant-loop-rest g l = (part : List ℕ) × (part ++ l.rest ≡ l.bytes)
     × (l.edge.told ≡ l.fn.edge.told)
-    × ((room : ℕ) → Leads (At l.fn.core l.fn.blocks) (At l.core l.blocks) (g.L.Log.state l.fn.edge.log) (g.L.Log.state l.edge.log) (TakeBytes room (Ok part) ∷ []))
+    × ((room : ℕ) → Leads (At l.fn.core l.fn.blocks) (At l.core l.blocks) (g.L.Log.state l.fn.edge.log)
+    (g.L.Log.state l.edge.log) (TakeBytes room (Ok part) ∷ []))
     × GrowsReading l.fn.core l.core l.fn.blocks l.blocks (g.L.Log.state l.fn.edge.log) (g.L.Log.state l.edge.log)
 
 abbrev pub decreases-loop-rest : goal.decreases-loop-rest

@@ -1,4 +1,6 @@
-use Rattle.init_turns.proofs.Words.{rules, ◌≡◌, ◌∙◌, ◌+◌, refl, sym, subst, true, false, Late, Counted, Hears, Tracks, come, Hears-last, Hears-more, Leads-late, AddsStamped-same, IsLate, kept_still, Grows-none, GrowsBy-call, GrowsBy-then}
+use Rattle.init_turns.proofs.Words.{rules, ◌≡◌, ◌∙◌, ◌+◌, refl, sym, subst, true, false, Late, Counted, Hears, Tracks}
+use Rattle.init_turns.proofs.Words.{come, Hears-last, Hears-more, Leads-late, AddsStamped-same, IsLate, kept_still}
+use Rattle.init_turns.proofs.Words.{Grows-none, GrowsBy-call, GrowsBy-then}
 use Rattle.init_turns.proofs.Parts.{Makes-one}
 use Rattle.init_turns.proofs.Taken.{room_left}
 use Rattle.init_turns.proofs.hearing.hear_late.Goals as goal
@@ -14,11 +16,16 @@ returns-then-last-clause-lates g c =
     let told = c.args.edge.now.told in
     let now_told = c.begin_round.new.edge.told in
     let now : c.is_last-last.result ≡ true = search rules in
-    Makes-one g.L.Log.state told now_told old new log (Late late) (IsLate c.args.asked c.is_last-last.result) (λ goal p. Tracks core goal p × Counted c.args.asked goal p) (λ goal p. Tracks c.begin_round.new.core goal p × Counted (c.args.asked + 1) goal p)
-    (AddsStamped-same told told c.late-late.new.self.told now_told (Late late) log refl (c.begin_round.ensures.told ∙ c.hear_come.ensures.told) c.late-late.ensures.adds) (late, refl, c.is_last-last.ensures)
+    Makes-one g.L.Log.state told now_told old new log (Late late) (IsLate c.args.asked c.is_last-last.result)
+    (λ goal p. Tracks core goal p × Counted c.args.asked goal p)
+    (λ goal p. Tracks c.begin_round.new.core goal p × Counted (c.args.asked + 1) goal p)
+    (AddsStamped-same told told c.late-late.new.self.told now_told (Late late) log refl (c.begin_round.ensures.told
+    ∙ c.hear_come.ensures.told) c.late-late.ensures.adds) (late, refl, c.is_last-last.ensures)
     (Leads-late core c.begin_round.new.core old new late c.args.asked
-    (Hears-last (Tracks core) (Tracks c.hear_come.new.core) (Tracks c.begin_round.new.core) old mid new late c.args.asked (sym c.is_last-last.ensures ∙ now)
-    (subst (λ l. Hears (Tracks core) (Tracks c.hear_come.new.core) (g.L.Log.state l) mid (come late)) c.late-late.ensures.log c.hear_come.ensures.hears) c.begin_round.ensures.hears))
+    (Hears-last (Tracks core) (Tracks c.hear_come.new.core)
+    (Tracks c.begin_round.new.core) old mid new late c.args.asked (sym c.is_last-last.ensures ∙ now)
+    (subst (λ l. Hears (Tracks core) (Tracks c.hear_come.new.core) (g.L.Log.state l) mid (come late))
+    c.late-late.ensures.log c.hear_come.ensures.hears) c.begin_round.ensures.hears))
     (kept_still (λ goal p. Tracks core goal p × Counted c.args.asked goal p) old (Late late) (λ so_far. refl))
 
 pub returns-else-last-clause-more : goal.returns-else-last-clause-more
@@ -35,21 +42,30 @@ returns-else-last-clause-lates g c =
     let told = c.args.edge.now.told in
     let now_told = c.hear_come.new.edge.told in
     let more : c.is_last-last.result ≡ false = search rules in
-    Makes-one g.L.Log.state told now_told old new log (Late late) (IsLate c.args.asked c.is_last-last.result) (λ goal p. Tracks core goal p × Counted c.args.asked goal p) (λ goal p. Tracks c.hear_come.new.core goal p × Counted (c.args.asked + 1) goal p)
-    (AddsStamped-same told told c.late-late.new.self.told now_told (Late late) log refl c.hear_come.ensures.told c.late-late.ensures.adds) (late, refl, c.is_last-last.ensures)
+    Makes-one g.L.Log.state told now_told old new log (Late late) (IsLate c.args.asked c.is_last-last.result)
+    (λ goal p. Tracks core goal p × Counted c.args.asked goal p)
+    (λ goal p. Tracks c.hear_come.new.core goal p × Counted (c.args.asked + 1) goal p)
+    (AddsStamped-same told told c.late-late.new.self.told now_told
+    (Late late) log refl c.hear_come.ensures.told c.late-late.ensures.adds) (late, refl, c.is_last-last.ensures)
     (Leads-late core c.hear_come.new.core old new late c.args.asked
-    (Hears-more (Tracks core) (Tracks c.hear_come.new.core) old new late c.args.asked (sym c.is_last-last.ensures ∙ more)
-    (subst (λ l. Hears (Tracks core) (Tracks c.hear_come.new.core) (g.L.Log.state l) new (come late)) c.late-late.ensures.log c.hear_come.ensures.hears)))
+    (Hears-more (Tracks core) (Tracks c.hear_come.new.core) old new late c.args.asked
+    (sym c.is_last-last.ensures ∙ more)
+    (subst (λ l. Hears (Tracks core) (Tracks c.hear_come.new.core) (g.L.Log.state l) new (come late))
+    c.late-late.ensures.log c.hear_come.ensures.hears)))
     (kept_still (λ goal p. Tracks core goal p × Counted c.args.asked goal p) old (Late late) (λ so_far. refl))
 
 pub returns-then-last-clause-grows : goal.returns-then-last-clause-grows
 returns-then-last-clause-grows g c =
     let old = g.L.Log.state c.args.edge.now.log in
     let come = g.L.Log.state c.hear_come.new.edge.log in
-    GrowsBy-then c.args.core.now c.hear_come.new.core c.begin_round.new.core old come (g.L.Log.state c.begin_round.new.edge.log)
-    (GrowsBy-call g.L.Log.state c.args.core.now c.hear_come.new.core old come c.args.edge.now.log c.late-late.new.self.log c.late-late.ensures.log (Grows-none old) c.hear_come.ensures.grows) c.begin_round.ensures.grows
+    GrowsBy-then c.args.core.now c.hear_come.new.core c.begin_round.new.core old come
+    (g.L.Log.state c.begin_round.new.edge.log)
+    (GrowsBy-call g.L.Log.state c.args.core.now c.hear_come.new.core old come c.args.edge.now.log
+    c.late-late.new.self.log c.late-late.ensures.log (Grows-none old) c.hear_come.ensures.grows)
+    c.begin_round.ensures.grows
 
 pub returns-else-last-clause-grows : goal.returns-else-last-clause-grows
 returns-else-last-clause-grows g c =
     let old = g.L.Log.state c.args.edge.now.log in
-    GrowsBy-call g.L.Log.state c.args.core.now c.hear_come.new.core old (g.L.Log.state c.hear_come.new.edge.log) c.args.edge.now.log c.late-late.new.self.log c.late-late.ensures.log (Grows-none old) c.hear_come.ensures.grows
+    GrowsBy-call g.L.Log.state c.args.core.now c.hear_come.new.core old (g.L.Log.state c.hear_come.new.edge.log)
+    c.args.edge.now.log c.late-late.new.self.log c.late-late.ensures.log (Grows-none old) c.hear_come.ensures.grows

@@ -1,10 +1,17 @@
-use Rattle.init_turns.proofs.Words.{rules, ◌≡◌, ◌+◌, refl, subst, List, true, false, arith, Goal, HostCall, Counted, Tracks, Point, are_lates, Leads-weaken, IsLate, MakesOver, GrowsBy-none, GrowsBy-then}
+use Rattle.init_turns.proofs.Words.{rules, ◌≡◌, ◌+◌, refl, subst, List, true, false, arith, Goal, HostCall, Counted}
+use Rattle.init_turns.proofs.Words.{Tracks, Point, are_lates, Leads-weaken, IsLate, MakesOver, GrowsBy-none}
+use Rattle.init_turns.proofs.Words.{GrowsBy-then}
 use Rattle.init_turns.proofs.Parts.{Makes-map, Makes-none, Makes-then}
 use Rattle.init_turns.proofs.Taken.{HaveCome, come_end, come_more}
 use Rattle.init_turns.proofs.hearing.hear_lates.Goals as goal
 
 pub loop-asked-init : goal.loop-asked-init
-loop-asked-init g c = (omega arith, Makes-none g.L.Log.state _ (g.L.Log.state c.args.edge.now.log) (HaveCome 0) (λ goal p. Tracks c.args.core.now goal p × Counted 0 goal p) (record { all = refl; counted = refl }), GrowsBy-none c.args.core.now (g.L.Log.state c.args.edge.now.log))
+loop-asked-init g c = (
+  omega arith,
+  Makes-none g.L.Log.state _ (g.L.Log.state c.args.edge.now.log) (HaveCome 0)
+      (λ goal p. Tracks c.args.core.now goal p × Counted 0 goal p) (record { all = refl; counted = refl }),
+  GrowsBy-none c.args.core.now (g.L.Log.state c.args.edge.now.log),
+)
 
 pub loop-asked-preserved : goal.loop-asked-preserved
 loop-asked-preserved g c =
@@ -15,10 +22,17 @@ loop-asked-preserved g c =
     let f₁ : Goal → Point → Type 0 = λ goal p. Tracks c.loop-asked.core goal p × Counted asked goal p in
     let f₂ : Goal → Point → Type 0 = λ goal p. Tracks c.hear_late.new.core goal p × Counted (asked + 1) goal p in (
       c.hear_late.ensures.more more,
-      Makes-then g.L.Log.state c.args.edge.now.told c.loop-asked.edge.told c.hear_late.new.edge.told (g.L.Log.state c.args.edge.now.log) (g.L.Log.state c.loop-asked.edge.log) (g.L.Log.state c.hear_late.new.edge.log) (HaveCome asked) (IsLate asked false) (HaveCome (asked + 1)) f₀ f₁ f₂
+      Makes-then g.L.Log.state c.args.edge.now.told c.loop-asked.edge.told c.hear_late.new.edge.told
+          (g.L.Log.state c.args.edge.now.log) (g.L.Log.state c.loop-asked.edge.log)
+          (g.L.Log.state c.hear_late.new.edge.log)
+          (HaveCome asked) (IsLate asked false) (HaveCome (asked + 1)) f₀ f₁ f₂
           (λ goal p fits. (c.hear_late.ensures.grows (grows fits.0.short).0).1) makes
-          (subst (λ last. MakesOver g.L.Log.state c.loop-asked.edge.told c.hear_late.new.edge.told (g.L.Log.state c.loop-asked.edge.log) (g.L.Log.state c.hear_late.new.edge.log) (IsLate asked last) f₁ f₂) more c.hear_late.ensures.lates) (λ xs ys have late. come_more asked xs ys have late),
-      GrowsBy-then c.args.core.now c.loop-asked.core c.hear_late.new.core (g.L.Log.state c.args.edge.now.log) (g.L.Log.state c.loop-asked.edge.log) (g.L.Log.state c.hear_late.new.edge.log) grows c.hear_late.ensures.grows,
+          (subst (λ last. MakesOver g.L.Log.state c.loop-asked.edge.told c.hear_late.new.edge.told
+          (g.L.Log.state c.loop-asked.edge.log) (g.L.Log.state c.hear_late.new.edge.log) (IsLate asked last) f₁ f₂) more
+          c.hear_late.ensures.lates) (λ xs ys have late. come_more asked xs ys have late),
+      GrowsBy-then c.args.core.now c.loop-asked.core c.hear_late.new.core (g.L.Log.state c.args.edge.now.log)
+          (g.L.Log.state c.loop-asked.edge.log)
+          (g.L.Log.state c.hear_late.new.edge.log) grows c.hear_late.ensures.grows,
     )
 
 pub returns-clause-makes : goal.returns-clause-makes
@@ -30,12 +44,24 @@ returns-clause-makes g c =
     let f₁ : Goal → Point → Type 0 = λ goal p. Tracks c.loop-asked.core goal p × Counted asked goal p in
     let f₂ : Goal → Point → Type 0 = λ goal p. Tracks c.hear_late.new.core goal p × Counted (asked + 1) goal p in
     let Lates : List HostCall → Type 0 = λ calls. are_lates calls ≡ true in
-    Makes-map g.L.Log.state c.args.edge.now.told c.hear_late.new.edge.told (g.L.Log.state c.args.edge.now.log) (g.L.Log.state c.hear_late.new.edge.log) Lates Lates f₀ f₂ f₀ (Tracks c.hear_late.new.core) (λ goal p sound fits. fits)
-    (Makes-then g.L.Log.state c.args.edge.now.told c.loop-asked.edge.told c.hear_late.new.edge.told (g.L.Log.state c.args.edge.now.log) (g.L.Log.state c.loop-asked.edge.log) (g.L.Log.state c.hear_late.new.edge.log) (HaveCome asked) (IsLate asked true) Lates f₀ f₁ f₂
+    Makes-map g.L.Log.state c.args.edge.now.told c.hear_late.new.edge.told (g.L.Log.state c.args.edge.now.log)
+    (g.L.Log.state c.hear_late.new.edge.log) Lates Lates f₀ f₂ f₀ (Tracks c.hear_late.new.core)
+    (λ goal p sound fits. fits)
+    (Makes-then g.L.Log.state c.args.edge.now.told c.loop-asked.edge.told c.hear_late.new.edge.told
+    (g.L.Log.state c.args.edge.now.log) (g.L.Log.state c.loop-asked.edge.log) (g.L.Log.state c.hear_late.new.edge.log)
+    (HaveCome asked) (IsLate asked true) Lates f₀ f₁ f₂
     (λ goal p fits. (c.hear_late.ensures.grows (grows fits.0.short).0).1) makes
-    (subst (λ b. MakesOver g.L.Log.state c.loop-asked.edge.told c.hear_late.new.edge.told (g.L.Log.state c.loop-asked.edge.log) (g.L.Log.state c.hear_late.new.edge.log) (IsLate asked b) f₁ f₂) last c.hear_late.ensures.lates) (λ xs ys have late. come_end asked xs ys within have late))
-    (λ calls lates leads. (lates, Leads-weaken f₀ f₀ f₂ (Tracks c.hear_late.new.core) (g.L.Log.state c.args.edge.now.log) (g.L.Log.state c.hear_late.new.edge.log) calls (λ goal p fits. fits) (λ goal p fits. fits.0) leads))
+    (subst (λ b. MakesOver g.L.Log.state c.loop-asked.edge.told c.hear_late.new.edge.told
+    (g.L.Log.state c.loop-asked.edge.log) (g.L.Log.state c.hear_late.new.edge.log) (IsLate asked b) f₁ f₂) last
+    c.hear_late.ensures.lates) (λ xs ys have late. come_end asked xs ys within have late))
+    (λ calls lates leads. (
+      lates,
+      Leads-weaken f₀ f₀ f₂ (Tracks c.hear_late.new.core) (g.L.Log.state c.args.edge.now.log)
+          (g.L.Log.state c.hear_late.new.edge.log) calls (λ goal p fits. fits) (λ goal p fits. fits.0) leads,
+    ))
 
 pub returns-clause-grows : goal.returns-clause-grows
 returns-clause-grows g c =
-    GrowsBy-then c.args.core.now c.loop-asked.core c.hear_late.new.core (g.L.Log.state c.args.edge.now.log) (g.L.Log.state c.loop-asked.edge.log) (g.L.Log.state c.hear_late.new.edge.log) c.loop-asked.invariant.2 c.hear_late.ensures.grows
+    GrowsBy-then c.args.core.now c.loop-asked.core c.hear_late.new.core (g.L.Log.state c.args.edge.now.log)
+    (g.L.Log.state c.loop-asked.edge.log)
+    (g.L.Log.state c.hear_late.new.edge.log) c.loop-asked.invariant.2 c.hear_late.ensures.grows

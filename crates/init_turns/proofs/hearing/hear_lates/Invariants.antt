@@ -4,8 +4,10 @@ use Rattle.init_turns.proofs.hearing.hear_lates.Given as goal
 
 -- so many answers have come late
 abbrev pub invariant-loop-asked : goal.invariant-loop-asked
-invariant-loop-asked g l = (l.asked < LATE_LIMIT) × MakesOver g.L.Log.state l.fn.edge.told l.edge.told (g.L.Log.state l.fn.edge.log) (g.L.Log.state l.edge.log)
-    (HaveCome l.asked) (λ goal p. Tracks l.fn.core goal p × Counted 0 goal p) (λ goal p. Tracks l.core goal p × Counted l.asked goal p)
+invariant-loop-asked g l = (l.asked < LATE_LIMIT)
+    × MakesOver g.L.Log.state l.fn.edge.told l.edge.told (g.L.Log.state l.fn.edge.log) (g.L.Log.state l.edge.log)
+    (HaveCome l.asked) (λ goal p. Tracks l.fn.core goal p × Counted 0 goal p)
+    (λ goal p. Tracks l.core goal p × Counted l.asked goal p)
     × GrowsBy l.fn.core l.core (g.L.Log.state l.fn.edge.log) (g.L.Log.state l.edge.log)
 
 abbrev pub decreases-loop-asked : goal.decreases-loop-asked

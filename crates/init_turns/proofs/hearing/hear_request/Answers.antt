@@ -9,7 +9,8 @@ returns-clause-hears g c asks =
     let new = c.receive.new.self in
     let old = g.L.Log.state c.args.edge.now.log in
     let now = g.L.Log.state c.note.new.self.log in
-    Hears-tracks core new old now (λ so_far. past.Got c.args.request ∷ so_far) (request_lasts core new c.args.request asks c.receive.ensures.state)
+    Hears-tracks core new old now (λ so_far. past.Got c.args.request ∷ so_far)
+    (request_lasts core new c.args.request asks c.receive.ensures.state)
     (Hears-told core new old now (past.Got c.args.request) refl c.receive.ensures.fits
     c.note.ensures.logs)
 

@@ -1,11 +1,17 @@
-use Rattle.init_turns.proofs.Words.{rules, ◌≡◌, ◌+◌, ◌<◌, refl, subst, true, arith, are_takes, BYTE_LIMIT, IsTake, MakesOver, GrowsReading-none, GrowsReading-then}
+use Rattle.init_turns.proofs.Words.{rules, ◌≡◌, ◌+◌, ◌<◌, refl, subst, true, arith, are_takes, BYTE_LIMIT, IsTake}
+use Rattle.init_turns.proofs.Words.{MakesOver, GrowsReading-none, GrowsReading-then}
 use Rattle.host_trace.specs.Leads.{At}
 use Rattle.init_turns.proofs.Parts.{Makes-map, Makes-none, Makes-then}
 use Rattle.init_turns.proofs.Taken.{HaveTaken, taken_more, takes_all, takes_end}
 use Rattle.init_turns.proofs.hearing.hear_requests.Goals as goal
 
 pub loop-taken-init : goal.loop-taken-init
-loop-taken-init g c = (omega arith, Makes-none g.L.Log.state _ (g.L.Log.state c.args.edge.now.log) (HaveTaken 0) (At c.args.core.now c.args.blocks.now) (record { full = refl; taken = refl }), GrowsReading-none c.args.core.now c.args.blocks.now (g.L.Log.state c.args.edge.now.log))
+loop-taken-init g c = (
+  omega arith,
+  Makes-none g.L.Log.state _ (g.L.Log.state c.args.edge.now.log) (HaveTaken 0) (At c.args.core.now c.args.blocks.now)
+      (record { full = refl; taken = refl }),
+  GrowsReading-none c.args.core.now c.args.blocks.now (g.L.Log.state c.args.edge.now.log),
+)
 
 pub returns-then-count-eq0-clause-makes : goal.returns-then-count-eq0-clause-makes
 returns-then-count-eq0-clause-makes g c =
@@ -13,12 +19,16 @@ returns-then-count-eq0-clause-makes g c =
     let none : c.take_piece-count.result ≡ 0 = search rules in
     let f₁ = At c.loop-taken.core c.loop-taken.blocks in
     let f₂ = At c.take_piece-count.new.core c.take_piece-count.new.blocks in
-    Makes-then g.L.Log.state c.args.edge.now.told c.loop-taken.edge.told c.take_piece-count.new.edge.told (g.L.Log.state c.args.edge.now.log) (g.L.Log.state c.loop-taken.edge.log) (g.L.Log.state c.take_piece-count.new.edge.log) (HaveTaken taken) (IsTake taken 0) (λ calls. are_takes calls ≡ true)
+    Makes-then g.L.Log.state c.args.edge.now.told c.loop-taken.edge.told c.take_piece-count.new.edge.told
+    (g.L.Log.state c.args.edge.now.log) (g.L.Log.state c.loop-taken.edge.log)
+    (g.L.Log.state c.take_piece-count.new.edge.log) (HaveTaken taken) (IsTake taken 0) (λ calls. are_takes calls ≡ true)
     (At c.args.core.now c.args.blocks.now) f₁ f₂
     (λ goal p fits.
     let one = c.loop-taken.invariant.2 (p.over, fits.1) in
     ((c.take_piece-count.ensures.grows one.0).1 (one.1 fits.0.short).0).1) c.loop-taken.invariant.1
-    (subst (λ n. MakesOver g.L.Log.state c.loop-taken.edge.told c.take_piece-count.new.edge.told (g.L.Log.state c.loop-taken.edge.log) (g.L.Log.state c.take_piece-count.new.edge.log) (IsTake taken n) f₁ f₂) none c.take_piece-count.ensures.takes) (λ xs ys have take. takes_end taken xs ys have take)
+    (subst (λ n. MakesOver g.L.Log.state c.loop-taken.edge.told c.take_piece-count.new.edge.told
+    (g.L.Log.state c.loop-taken.edge.log) (g.L.Log.state c.take_piece-count.new.edge.log) (IsTake taken n) f₁ f₂) none
+    c.take_piece-count.ensures.takes) (λ xs ys have take. takes_end taken xs ys have take)
 
 pub loop-taken-preserved : goal.loop-taken-preserved
 loop-taken-preserved g c =
@@ -26,14 +36,20 @@ loop-taken-preserved g c =
     let count = c.take_piece-count.result in
     let some : 0 < count = search rules in (
       c.take_piece-count.ensures.within,
-      Makes-then g.L.Log.state c.args.edge.now.told c.loop-taken.edge.told c.take_piece-count.new.edge.told (g.L.Log.state c.args.edge.now.log) (g.L.Log.state c.loop-taken.edge.log) (g.L.Log.state c.take_piece-count.new.edge.log) (HaveTaken taken) (IsTake taken count) (HaveTaken (taken + count))
-          (At c.args.core.now c.args.blocks.now) (At c.loop-taken.core c.loop-taken.blocks) (At c.take_piece-count.new.core c.take_piece-count.new.blocks)
+      Makes-then g.L.Log.state c.args.edge.now.told c.loop-taken.edge.told c.take_piece-count.new.edge.told
+          (g.L.Log.state c.args.edge.now.log) (g.L.Log.state c.loop-taken.edge.log)
+          (g.L.Log.state c.take_piece-count.new.edge.log) (HaveTaken taken) (IsTake taken count)
+          (HaveTaken (taken + count))
+          (At c.args.core.now c.args.blocks.now) (At c.loop-taken.core c.loop-taken.blocks)
+          (At c.take_piece-count.new.core c.take_piece-count.new.blocks)
           (λ goal p fits.
           let one = c.loop-taken.invariant.2 (p.over, fits.1) in
           ((c.take_piece-count.ensures.grows one.0).1 (one.1 fits.0.short).0).1) c.loop-taken.invariant.1
           c.take_piece-count.ensures.takes (λ xs ys have take. taken_more taken count xs ys some have take),
-      GrowsReading-then c.args.core.now c.loop-taken.core c.take_piece-count.new.core c.args.blocks.now c.loop-taken.blocks c.take_piece-count.new.blocks
-          (g.L.Log.state c.args.edge.now.log) (g.L.Log.state c.loop-taken.edge.log) (g.L.Log.state c.take_piece-count.new.edge.log) c.loop-taken.invariant.2 c.take_piece-count.ensures.grows,
+      GrowsReading-then c.args.core.now c.loop-taken.core c.take_piece-count.new.core c.args.blocks.now
+          c.loop-taken.blocks c.take_piece-count.new.blocks
+          (g.L.Log.state c.args.edge.now.log) (g.L.Log.state c.loop-taken.edge.log)
+          (g.L.Log.state c.take_piece-count.new.edge.log) c.loop-taken.invariant.2 c.take_piece-count.ensures.grows,
     )
 
 pub returns-clause-makes : goal.returns-clause-makes
@@ -42,13 +58,16 @@ returns-clause-makes g c =
     let all : c.loop-taken.taken ≡ BYTE_LIMIT = search rules in
     let f₀ = At c.args.core.now c.args.blocks.now in
     let f₁ = At c.loop-taken.core c.loop-taken.blocks in
-    Makes-map g.L.Log.state _ _ _ _ (HaveTaken c.loop-taken.taken) (λ calls. are_takes calls ≡ true) f₀ f₁ f₀ f₁ (λ goal p sound fits. fits) makes
+    Makes-map g.L.Log.state _ _ _ _ (HaveTaken c.loop-taken.taken) (λ calls. are_takes calls ≡ true) f₀ f₁ f₀ f₁
+    (λ goal p sound fits. fits) makes
     (λ calls have leads. (takes_all calls (subst (λ n. HaveTaken n calls) all have), leads))
 
 pub returns-then-count-eq0-clause-grows : goal.returns-then-count-eq0-clause-grows
 returns-then-count-eq0-clause-grows g c =
-    GrowsReading-then c.args.core.now c.loop-taken.core c.take_piece-count.new.core c.args.blocks.now c.loop-taken.blocks c.take_piece-count.new.blocks
-    (g.L.Log.state c.args.edge.now.log) (g.L.Log.state c.loop-taken.edge.log) (g.L.Log.state c.take_piece-count.new.edge.log) c.loop-taken.invariant.2 c.take_piece-count.ensures.grows
+    GrowsReading-then c.args.core.now c.loop-taken.core c.take_piece-count.new.core c.args.blocks.now
+    c.loop-taken.blocks c.take_piece-count.new.blocks
+    (g.L.Log.state c.args.edge.now.log) (g.L.Log.state c.loop-taken.edge.log)
+    (g.L.Log.state c.take_piece-count.new.edge.log) c.loop-taken.invariant.2 c.take_piece-count.ensures.grows
 
 pub returns-clause-grows : goal.returns-clause-grows
 returns-clause-grows g c = c.loop-taken.invariant.2

@@ -1,4 +1,6 @@
-use Rattle.init_turns.proofs.Words.{rules, ◌≡◌, ◌∙◌, refl, sym, ap, subst, length, take, ◌∷◌, [], Ok, Err, arith, TakeBytes, front_read, Leads, bytes_in, Leads-still, AddsStamped-same, IsTake, MakesOver, kept_still, GrowsReading, GrowsReading-none}
+use Rattle.init_turns.proofs.Words.{rules, ◌≡◌, ◌∙◌, refl, sym, ap, subst, length, take, ◌∷◌, [], Ok, Err, arith}
+use Rattle.init_turns.proofs.Words.{TakeBytes, front_read, Leads, bytes_in, Leads-still, AddsStamped-same, IsTake}
+use Rattle.init_turns.proofs.Words.{MakesOver, kept_still, GrowsReading, GrowsReading-none}
 use Rattle.std.proofs.lemmas.Grind.{common_steps}
 use Rattle.host_trace.specs.Leads.{At}
 use Rattle.init_turns.proofs.Parts.{Makes-one}
@@ -15,9 +17,12 @@ returns-in_default-clause-takes g c =
     let is : c.take_bytes.result ≡ Err c.in_default.field-0 = search rules in
     let none : taken ≡ Err c.in_default.field-0 = ap (λ r. front_read r c.take_bytes.new.buffer) is in
     let at = At c.args.core.now c.args.blocks.now in
-    subst (λ l. MakesOver g.L.Log.state told now_told old (g.L.Log.state l) (IsTake c.args.taken 0) at at) (sym c.take_bytes.ensures.log)
-    (Makes-one g.L.Log.state told now_told old old log (TakeBytes room taken) (IsTake c.args.taken 0) at at c.take_bytes.ensures.adds (room, taken, refl, c.requires, ap bytes_in none)
-    (subst (λ t. Leads at at old old (TakeBytes room t ∷ [])) (sym none) (Leads-still at old (TakeBytes room (Err c.in_default.field-0)) (λ p. refl) (λ goal so_far. refl) (λ goal p. tt)))
+    subst (λ l. MakesOver g.L.Log.state told now_told old (g.L.Log.state l) (IsTake c.args.taken 0) at at)
+    (sym c.take_bytes.ensures.log)
+    (Makes-one g.L.Log.state told now_told old old log (TakeBytes room taken) (IsTake c.args.taken 0) at
+    at c.take_bytes.ensures.adds (room, taken, refl, c.requires, ap bytes_in none)
+    (subst (λ t. Leads at at old old (TakeBytes room t ∷ [])) (sym none)
+    (Leads-still at old (TakeBytes room (Err c.in_default.field-0)) (λ p. refl) (λ goal so_far. refl) (λ goal p. tt)))
     (kept_still at old (TakeBytes room taken) (λ so_far. refl)))
 
 pub returns-clause-takes : goal.returns-clause-takes
@@ -35,17 +40,22 @@ returns-clause-takes g c =
     let whole : length (take c.in-Ok.count buffer) ≡ c.in-Ok.count = grind (arith, common_steps) in
     let before = At c.args.core.now c.args.blocks.now in
     let behind = At c.hear_bytes.new.core c.hear_bytes.new.blocks in
-    Makes-one g.L.Log.state told now_told old new log (TakeBytes room taken) (IsTake c.args.taken c.in-Ok.count) before behind
-    (AddsStamped-same told told c.take_bytes.new.self.told now_told (TakeBytes room taken) log refl c.hear_bytes.ensures.told c.take_bytes.ensures.adds) (room, taken, refl, c.requires, ap bytes_in some ∙ whole)
+    Makes-one g.L.Log.state told now_told old new log (TakeBytes room taken)
+    (IsTake c.args.taken c.in-Ok.count) before behind
+    (AddsStamped-same told told c.take_bytes.new.self.told now_told (TakeBytes room taken) log refl
+    c.hear_bytes.ensures.told c.take_bytes.ensures.adds) (room, taken, refl, c.requires, ap bytes_in some ∙ whole)
     (subst (λ t. Leads before behind old new (TakeBytes room t ∷ [])) (sym some)
-    (subst (λ l. Leads before behind (g.L.Log.state l) new (TakeBytes room (Ok (take c.in-Ok.count buffer)) ∷ [])) c.take_bytes.ensures.log (c.hear_bytes.ensures.leads room)))
+    (subst (λ l. Leads before behind (g.L.Log.state l) new (TakeBytes room (Ok (take c.in-Ok.count buffer)) ∷ []))
+    c.take_bytes.ensures.log (c.hear_bytes.ensures.leads room)))
     (kept_still before old (TakeBytes room taken) (λ so_far. refl))
 
 pub returns-in_default-clause-grows : goal.returns-in_default-clause-grows
 returns-in_default-clause-grows g c =
     let old = g.L.Log.state c.args.edge.now.log in
-    subst (λ l. GrowsReading c.args.core.now c.args.core.now c.args.blocks.now c.args.blocks.now old (g.L.Log.state l)) (sym c.take_bytes.ensures.log) (GrowsReading-none c.args.core.now c.args.blocks.now old)
+    subst (λ l. GrowsReading c.args.core.now c.args.core.now c.args.blocks.now c.args.blocks.now old (g.L.Log.state l))
+    (sym c.take_bytes.ensures.log) (GrowsReading-none c.args.core.now c.args.blocks.now old)
 
 pub returns-clause-grows : goal.returns-clause-grows
 returns-clause-grows g c =
-    subst (λ l. GrowsReading c.args.core.now c.hear_bytes.new.core c.args.blocks.now c.hear_bytes.new.blocks (g.L.Log.state l) (g.L.Log.state c.hear_bytes.new.edge.log)) c.take_bytes.ensures.log c.hear_bytes.ensures.grows
+    subst (λ l. GrowsReading c.args.core.now c.hear_bytes.new.core c.args.blocks.now c.hear_bytes.new.blocks
+    (g.L.Log.state l) (g.L.Log.state c.hear_bytes.new.edge.log)) c.take_bytes.ensures.log c.hear_bytes.ensures.grows

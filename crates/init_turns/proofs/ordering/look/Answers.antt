@@ -11,12 +11,16 @@ returns-clause-makes g c =
     let reply = c.look-reply.result in
     let old = g.L.Log.state c.args.edge.now.log in
     let new = g.L.Log.state c.hear_reply.new.edge.log in
-    Makes-ordered g.L.Log.state c.args.edge.now c.note.new.self c.look-reply.new.self c.hear_reply.new.edge core c.hear_reply.new.core (Look id reply) id ask.Look reply
-    c.note.ensures.told c.look-reply.ensures.adds c.look-reply.ensures.log c.hear_reply.ensures.told refl (λ so_far. refl) c.note.ensures.logs c.hear_reply.ensures.hears
-    (λ hears. Leads-heard (Gave (Tracks core) (step.Order id ask.Look)) (Tracks c.hear_reply.new.core) old new (Look id reply) (ordered id ask.Look reply) hears
+    Makes-ordered g.L.Log.state c.args.edge.now c.note.new.self c.look-reply.new.self c.hear_reply.new.edge core
+    c.hear_reply.new.core (Look id reply) id ask.Look reply
+    c.note.ensures.told c.look-reply.ensures.adds c.look-reply.ensures.log c.hear_reply.ensures.told refl
+    (λ so_far. refl) c.note.ensures.logs c.hear_reply.ensures.hears
+    (λ hears. Leads-heard (Gave (Tracks core) (step.Order id ask.Look)) (Tracks c.hear_reply.new.core) old new
+    (Look id reply) (ordered id ask.Look reply) hears
     (λ p. refl) (λ goal p sound gave. first_is goal p.past (step.Order id ask.Look) gave.0) (λ goal p. tt))
 
 pub returns-clause-grows : goal.returns-clause-grows
 returns-clause-grows g c =
-    GrowsBy-call g.L.Log.state c.args.core.now c.hear_reply.new.core (g.L.Log.state c.args.edge.now.log) (g.L.Log.state c.hear_reply.new.edge.log) c.note.new.self.log c.look-reply.new.self.log
+    GrowsBy-call g.L.Log.state c.args.core.now c.hear_reply.new.core (g.L.Log.state c.args.edge.now.log)
+    (g.L.Log.state c.hear_reply.new.edge.log) c.note.new.self.log c.look-reply.new.self.log
     c.look-reply.ensures.log (c.note.ensures.grows refl) c.hear_reply.ensures.grows

@@ -4,13 +4,21 @@ use Rattle.init_turns.proofs.Carried.{Makes-given}
 use Rattle.init_turns.proofs.ordering.order.Goals as goal
 
 pub returns-in-Start-clause-makes : goal.returns-in-Start-clause-makes
-returns-in-Start-clause-makes g c = Makes-given g.L.Log.state c.args.edge.now.told c.start.new.edge.told (g.L.Log.state c.args.edge.now.log) (g.L.Log.state c.start.new.edge.log) c.args.core.now c.start.new.core _ _ (ap (step.Order c.args.id) c.in-Start.is) c.start.ensures.makes
+returns-in-Start-clause-makes g c = Makes-given g.L.Log.state c.args.edge.now.told c.start.new.edge.told
+    (g.L.Log.state c.args.edge.now.log) (g.L.Log.state c.start.new.edge.log) c.args.core.now c.start.new.core _ _
+    (ap (step.Order c.args.id) c.in-Start.is) c.start.ensures.makes
 
 pub returns-in-Look-clause-makes : goal.returns-in-Look-clause-makes
-returns-in-Look-clause-makes g c = Makes-given g.L.Log.state c.args.edge.now.told c.look.new.edge.told (g.L.Log.state c.args.edge.now.log) (g.L.Log.state c.look.new.edge.log) c.args.core.now c.look.new.core _ _ (ap (step.Order c.args.id) c.in-Look.is) c.look.ensures.makes
+returns-in-Look-clause-makes g c = Makes-given g.L.Log.state c.args.edge.now.told c.look.new.edge.told
+    (g.L.Log.state c.args.edge.now.log) (g.L.Log.state c.look.new.edge.log) c.args.core.now c.look.new.core _ _
+    (ap (step.Order c.args.id) c.in-Look.is) c.look.ensures.makes
 
 pub returns-in-Term-clause-makes : goal.returns-in-Term-clause-makes
-returns-in-Term-clause-makes g c = Makes-given g.L.Log.state c.args.edge.now.told c.signal.new.edge.told (g.L.Log.state c.args.edge.now.log) (g.L.Log.state c.signal.new.edge.log) c.args.core.now c.signal.new.core _ _ (ap (step.Order c.args.id) c.in-Term.is) c.signal.ensures.makes
+returns-in-Term-clause-makes g c = Makes-given g.L.Log.state c.args.edge.now.told c.signal.new.edge.told
+    (g.L.Log.state c.args.edge.now.log) (g.L.Log.state c.signal.new.edge.log) c.args.core.now c.signal.new.core _ _
+    (ap (step.Order c.args.id) c.in-Term.is) c.signal.ensures.makes
 
 pub returns-in-Kill-clause-makes : goal.returns-in-Kill-clause-makes
-returns-in-Kill-clause-makes g c = Makes-given g.L.Log.state c.args.edge.now.told c.signal-in-Kill.new.edge.told (g.L.Log.state c.args.edge.now.log) (g.L.Log.state c.signal-in-Kill.new.edge.log) c.args.core.now c.signal-in-Kill.new.core _ _ (ap (step.Order c.args.id) c.in-Kill.is) c.signal-in-Kill.ensures.makes
+returns-in-Kill-clause-makes g c = Makes-given g.L.Log.state c.args.edge.now.told c.signal-in-Kill.new.edge.told
+    (g.L.Log.state c.args.edge.now.log) (g.L.Log.state c.signal-in-Kill.new.edge.log) c.args.core.now
+    c.signal-in-Kill.new.core _ _ (ap (step.Order c.args.id) c.in-Kill.is) c.signal-in-Kill.ensures.makes

@@ -1,4 +1,5 @@
-use Rattle.init_turns.proofs.Words.{refl, subst, List, ◌∷◌, Asked, Event, Signal, Gave, Logs, Tracks, order_for, ordered, first_is, Leads-heard, GrowsBy-call}
+use Rattle.init_turns.proofs.Words.{refl, subst, List, ◌∷◌, Asked, Event, Signal, Gave, Logs, Tracks, order_for}
+use Rattle.init_turns.proofs.Words.{ordered, first_is, Leads-heard, GrowsBy-call}
 use Rattle.trace_events.specs.declared.steps.Step.TheVariants as step
 use Rattle.init_turns.proofs.Carried.{Makes-ordered}
 use Rattle.init_turns.proofs.ordering.signal.Goals as goal
@@ -11,13 +12,18 @@ returns-clause-makes g c =
     let ask = order_for c.args.sent in
     let old = g.L.Log.state c.args.edge.now.log in
     let new = g.L.Log.state c.hear_reply.new.edge.log in
-    Makes-ordered g.L.Log.state c.args.edge.now c.note.new.self c.signal-reply.new.self c.hear_reply.new.edge core c.hear_reply.new.core (Signal id c.args.sent reply) id ask reply
-    c.note.ensures.told c.signal-reply.ensures.adds c.signal-reply.ensures.log c.hear_reply.ensures.told refl (λ so_far. refl)
-    (subst (λ order. (so_far : List Event) → Logs old (g.L.Log.state c.note.new.self.log) so_far (Asked id order ∷ so_far)) c.order_for.ensures c.note.ensures.logs) c.hear_reply.ensures.hears
-    (λ hears. Leads-heard (Gave (Tracks core) (step.Order id ask)) (Tracks c.hear_reply.new.core) old new (Signal id c.args.sent reply) (ordered id ask reply) hears
+    Makes-ordered g.L.Log.state c.args.edge.now c.note.new.self c.signal-reply.new.self c.hear_reply.new.edge core
+    c.hear_reply.new.core (Signal id c.args.sent reply) id ask reply
+    c.note.ensures.told c.signal-reply.ensures.adds c.signal-reply.ensures.log c.hear_reply.ensures.told refl
+    (λ so_far. refl)
+    (subst (λ order. (so_far : List Event) → Logs old (g.L.Log.state c.note.new.self.log) so_far
+    (Asked id order ∷ so_far)) c.order_for.ensures c.note.ensures.logs) c.hear_reply.ensures.hears
+    (λ hears. Leads-heard (Gave (Tracks core) (step.Order id ask)) (Tracks c.hear_reply.new.core) old new
+    (Signal id c.args.sent reply) (ordered id ask reply) hears
     (λ p. refl) (λ goal p sound gave. first_is goal p.past (step.Order id ask) gave.0) (λ goal p. tt))
 
 pub returns-clause-grows : goal.returns-clause-grows
 returns-clause-grows g c =
-    GrowsBy-call g.L.Log.state c.args.core.now c.hear_reply.new.core (g.L.Log.state c.args.edge.now.log) (g.L.Log.state c.hear_reply.new.edge.log) c.note.new.self.log c.signal-reply.new.self.log
+    GrowsBy-call g.L.Log.state c.args.core.now c.hear_reply.new.core (g.L.Log.state c.args.edge.now.log)
+    (g.L.Log.state c.hear_reply.new.edge.log) c.note.new.self.log c.signal-reply.new.self.log
     c.signal-reply.ensures.log (c.note.ensures.grows refl) c.hear_reply.ensures.grows

@@ -1,4 +1,5 @@
-use Rattle.init_turns.proofs.Words.{refl, ◌∷◌, [], Announce, Gave, Leads, Tracks, Leads-not_handed, IsStep, kept_led, GrowsBy-one}
+use Rattle.init_turns.proofs.Words.{refl, ◌∷◌, [], Announce, Gave, Leads, Tracks, Leads-not_handed, IsStep, kept_led}
+use Rattle.init_turns.proofs.Words.{GrowsBy-one}
 use Rattle.trace_events.specs.declared.happenings.Handed.TheVariants as handed
 use Rattle.trace_events.specs.declared.happenings.Happening.TheVariants as past
 use Rattle.trace_events.specs.declared.steps.Step.TheVariants as step
@@ -16,12 +17,15 @@ returns-clause-makes g c =
     let happening = past.Handed handed.Failed in
     let before = Gave (Tracks core) step.Reexec in
     let leads : Leads before (Tracks new) old now (Announce happening ∷ []) =
-    Leads-not_handed core new old now (λ goal so_far sound fits. c.not_handed.ensures.fits goal so_far sound fits handed.Failed)
+    Leads-not_handed core new old now
+    (λ goal so_far sound fits. c.not_handed.ensures.fits goal so_far sound fits handed.Failed)
     (unhanded_lasts core new c.not_handed.ensures.state) c.tell.ensures.log in
-    Makes-one g.L.Log.state c.args.edge.now.told c.tell.new.edge.told old now log (Announce happening) IsStep before (Tracks new)
+    Makes-one g.L.Log.state c.args.edge.now.told c.tell.new.edge.told old now log (Announce happening) IsStep before
+    (Tracks new)
     c.tell.ensures.said refl leads (kept_led before (Tracks new) old now happening [] leads)
 
 pub returns-clause-grows : goal.returns-clause-grows
 returns-clause-grows g c =
     let lasts = unhanded_lasts c.args.core.now c.not_handed.new.self c.not_handed.ensures.state in
-    GrowsBy-one c.args.core.now c.not_handed.new.self (g.L.Log.state c.args.edge.now.log) (g.L.Log.state c.tell.new.edge.log) lasts.short c.tell.ensures.grows
+    GrowsBy-one c.args.core.now c.not_handed.new.self (g.L.Log.state c.args.edge.now.log)
+    (g.L.Log.state c.tell.new.edge.log) lasts.short c.tell.ensures.grows

@@ -1,4 +1,6 @@
-use Rattle.init_turns.proofs.Words.{rules, ◌≡◌, subst, ap, ◌∙◌, List, ◌∷◌, Event, Logs, state_of, IsFit, V2, IsTextIn, Gave, Tracks, IsStep, MakesOver, has_short_seconds, Grows-none, GrowsBy, GrowsBy-call, GrowsBy-one}
+use Rattle.init_turns.proofs.Words.{rules, ◌≡◌, subst, ap, ◌∙◌, List, ◌∷◌, Event, Logs, state_of, IsFit, V2, IsTextIn}
+use Rattle.init_turns.proofs.Words.{Gave, Tracks, IsStep, MakesOver, has_short_seconds, Grows-none, GrowsBy}
+use Rattle.init_turns.proofs.Words.{GrowsBy-call, GrowsBy-one}
 use Rattle.trace_events.specs.declared.happenings.Happening.TheVariants.{Handed}
 use Rattle.trace_events.specs.declared.steps.Step.TheVariants as step
 use Rattle.init_turns.proofs.HandOvers.{Makes-carried}
@@ -15,22 +17,28 @@ returns-clause-makes g c =
     c.args.core.now next c.carry-how.new.core c.carry-how.result c.deref.result.now back adds c.tell.ensures.said
     c.in-Ok.ensures.state c.in-Ok.ensures.fits
     (λ short. subst (λ text. IsTextIn V2 text (state_of next) × IsFit next) is (c.in-Ok.ensures.said short)) comes
-    (subst (λ l. (so_far : List Event) → Logs (g.L.Log.state l) (g.L.Log.state now) so_far (Handed c.carry-how.result ∷ so_far)) c.carry-how.ensures.log c.tell.ensures.log)
+    (subst (λ l. (so_far : List Event) → Logs (g.L.Log.state l) (g.L.Log.state now) so_far
+    (Handed c.carry-how.result ∷ so_far)) c.carry-how.ensures.log c.tell.ensures.log)
 
 -- no text was made, and nothing was changed
 pub returns-in_default-clause-makes : goal.returns-in_default-clause-makes
 returns-in_default-clause-makes g c =
     let same : c.hand_over.new.core ≡ c.args.core.now = search rules in
-    subst (λ core. MakesOver g.L.Log.state c.args.edge.now.told c.not_handed.new.edge.told (g.L.Log.state c.args.edge.now.log) (g.L.Log.state c.not_handed.new.edge.log) IsStep (Gave (Tracks core) step.Reexec) (Tracks c.not_handed.new.core)) same c.not_handed.ensures.makes
+    subst (λ core. MakesOver g.L.Log.state c.args.edge.now.told c.not_handed.new.edge.told
+    (g.L.Log.state c.args.edge.now.log) (g.L.Log.state c.not_handed.new.edge.log) IsStep
+    (Gave (Tracks core) step.Reexec) (Tracks c.not_handed.new.core)) same c.not_handed.ensures.makes
 
 pub returns-clause-grows : goal.returns-clause-grows
 returns-clause-grows g c =
     let old = g.L.Log.state c.args.edge.now.log in
     let now = g.L.Log.state c.tell.new.edge.log in
-    GrowsBy-call g.L.Log.state c.args.core.now c.carry-how.new.core old now c.args.edge.now.log c.carry-how.new.edge.log c.carry-how.ensures.log (Grows-none old)
-    (GrowsBy-one c.args.core.now c.carry-how.new.core (g.L.Log.state c.carry-how.new.edge.log) now (λ short. c.carry-how.ensures.short (ap has_short_seconds c.in-Ok.ensures.state ∙ short)) c.tell.ensures.grows)
+    GrowsBy-call g.L.Log.state c.args.core.now c.carry-how.new.core old now c.args.edge.now.log c.carry-how.new.edge.log
+    c.carry-how.ensures.log (Grows-none old)
+    (GrowsBy-one c.args.core.now c.carry-how.new.core (g.L.Log.state c.carry-how.new.edge.log) now
+    (λ short. c.carry-how.ensures.short (ap has_short_seconds c.in-Ok.ensures.state ∙ short)) c.tell.ensures.grows)
 
 pub returns-in_default-clause-grows : goal.returns-in_default-clause-grows
 returns-in_default-clause-grows g c =
     let same : c.hand_over.new.core ≡ c.args.core.now = search rules in
-    subst (λ core. GrowsBy core c.not_handed.new.core (g.L.Log.state c.args.edge.now.log) (g.L.Log.state c.not_handed.new.edge.log)) same c.not_handed.ensures.grows
+    subst (λ core. GrowsBy core c.not_handed.new.core (g.L.Log.state c.args.edge.now.log)
+    (g.L.Log.state c.not_handed.new.edge.log)) same c.not_handed.ensures.grows

@@ -11,4 +11,5 @@ returns-in-Generation c state says other cuts =
 
 pub returns-in_default : goal.returns-in_default
 returns-in_default c state says other cuts =
-    failed_said c.args.text.now c.args.back.now state says (λ cut. let is : c.args.why ≡ fault.Cut = cuts cut in search rules)
+    failed_said c.args.text.now c.args.back.now state says
+    (λ cut. let is : c.args.why ≡ fault.Cut = cuts cut in search rules)

@@ -13,7 +13,8 @@ pub returns-in-Err-clause-comes : goal.returns-in-Err-clause-comes
 returns-in-Err-clause-comes g c fit says comes = (
   refl,
   c.refused.ensures (state_of c.args.core.now) says
-      (subst (λ generation. NotTaken c.args.back.now generation c.in-Err.why) c.generation.ensures c.in-Err.ensures.refused)
+      (subst
+      (λ generation. NotTaken c.args.back.now generation c.in-Err.why) c.generation.ensures c.in-Err.ensures.refused)
       (λ cut. let is = c.in-Err.ensures.cut cut in cc),
 )
 

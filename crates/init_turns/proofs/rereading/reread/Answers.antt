@@ -1,4 +1,7 @@
-use Rattle.init_turns.proofs.Words.{rules, ◌≡◌, refl, sym, subst, List, ◌∷◌, [], false, StillFits, Announce, ReadTables, OnEachTrace, Event, Gave, Lasts, Leads, Logs, Tracks, Leads-not_read, AddsStamped-same, IsReread, MakesOver, kept_led, kept_still, GrowsBy, GrowsBy-one, GrowsBy-then}
+use Rattle.init_turns.proofs.Words.{rules, ◌≡◌, refl, sym, subst, List, ◌∷◌, [], false, StillFits, Announce, ReadTables}
+use Rattle.init_turns.proofs.Words.{OnEachTrace, Event, Gave, Lasts, Leads, Logs, Tracks, Leads-not_read}
+use Rattle.init_turns.proofs.Words.{AddsStamped-same, IsReread, MakesOver, kept_led, kept_still, GrowsBy, GrowsBy-one}
+use Rattle.init_turns.proofs.Words.{GrowsBy-then}
 use Rattle.trace_events.specs.declared.happenings.Happening.TheVariants as past
 use Rattle.trace_events.specs.declared.steps.Step.TheVariants as step
 use Rattle.init_turns.proofs.Parts.{Makes-two}
@@ -21,13 +24,20 @@ returns-clause-makes g c =
     let before = Gave (Tracks core) step.Reread in
     let leads : Leads before (Tracks new) old now (Announce past.NotRead ∷ ReadTables read.0 ∷ []) =
     Leads-not_read core new old now read.0
-    (subst (λ s. OnEachTrace s (λ goal so_far. StillFits s new goal so_far (past.NotRead ∷ so_far))) (c.use_table.ensures.core failed) c.not_read.ensures.fits)
-    (subst (λ s. Lasts s new) (c.use_table.ensures.core failed) (unread_lasts c.use_table.new.core new c.not_read.ensures.state))
-    (subst (λ l. (so_far : List Event) → Logs (g.L.Log.state l) now so_far (past.NotRead ∷ so_far)) (c.use_table.ensures.log failed) c.write.ensures.logs) in
-    subst (λ l. MakesOver g.L.Log.state told now_told old (g.L.Log.state l) (IsReread c.args.strict) before (Tracks new)) (sym c.announce.ensures.log)
-    (Makes-two g.L.Log.state told mid_told now_told old now log now_log (ReadTables read.0) (Announce past.NotRead) (IsReread c.args.strict) before (Tracks new)
-    refl read.1 (AddsStamped-same mid_told c.write.new.self.told now_told now_told (Announce past.NotRead) now_log c.write.ensures.told refl c.announce.ensures.adds) refl leads
-    (kept_still before old (ReadTables read.0) (λ so_far. refl)) (kept_led before (Tracks new) old now past.NotRead (ReadTables read.0 ∷ []) leads))
+    (subst (λ s. OnEachTrace s (λ goal so_far. StillFits s new goal so_far (past.NotRead ∷ so_far)))
+    (c.use_table.ensures.core failed) c.not_read.ensures.fits)
+    (subst (λ s. Lasts s new) (c.use_table.ensures.core failed)
+    (unread_lasts c.use_table.new.core new c.not_read.ensures.state))
+    (subst (λ l. (so_far : List Event) → Logs (g.L.Log.state l) now so_far (past.NotRead ∷ so_far))
+    (c.use_table.ensures.log failed) c.write.ensures.logs) in
+    subst (λ l. MakesOver g.L.Log.state told now_told old (g.L.Log.state l) (IsReread c.args.strict) before
+    (Tracks new)) (sym c.announce.ensures.log)
+    (Makes-two g.L.Log.state told mid_told now_told old now log now_log (ReadTables read.0) (Announce past.NotRead)
+    (IsReread c.args.strict) before (Tracks new)
+    refl read.1 (AddsStamped-same mid_told c.write.new.self.told now_told now_told
+    (Announce past.NotRead) now_log c.write.ensures.told refl c.announce.ensures.adds) refl leads
+    (kept_still before old (ReadTables read.0) (λ so_far. refl))
+    (kept_led before (Tracks new) old now past.NotRead (ReadTables read.0 ∷ []) leads))
 
 pub returns-clause-grows : goal.returns-clause-grows
 returns-clause-grows g c =

@@ -1,11 +1,15 @@
-use Rattle.init_turns.proofs.Words.{rules, ◌≡◌, refl, sym, ◌∙◌, ap, ◌∷◌, List, subst, is_err, Bool, true, false, not, ◌||◌, ◌==◌, inl, inr, length, arith, and_from, OnOk, Result, Ok, Err, false≢true, NewTable, Event, is_quiet, StillFits, OnEachTrace, has_short_seconds, Logs, Grows-none, GrowsBy-none, GrowsBy-one}
+use Rattle.init_turns.proofs.Words.{rules, ◌≡◌, refl, sym, ◌∙◌, ap, ◌∷◌, List, subst, is_err, Bool, true, false, not}
+use Rattle.init_turns.proofs.Words.{◌||◌, ◌==◌, inl, inr, length, arith, and_from, OnOk, Result, Ok, Err, false≢true}
+use Rattle.init_turns.proofs.Words.{NewTable, Event, is_quiet, StillFits, OnEachTrace, has_short_seconds, Logs}
+use Rattle.init_turns.proofs.Words.{Grows-none, GrowsBy-none, GrowsBy-one}
 use Rattle.std.specs.Prelude.{◌⊎◌}
 use Rattle.init_words.specs.Parts.{texts_of}
 use Rattle.inittab_text.specs.Parts.{are_readable, faults_of_parts, table_of_texts}
 use Rattle.inittab_text.proofs.PartLemmas.{was_readable}
 use Rattle.init_turns.proofs.Lasting.{adopt_lasts}
 use Rattle.init_turns.proofs.rereading.use_parts.Goals as goal
-use Rattle.init_turns.proofs.rereading.use_parts.Goals.{else-strict-via-then-strict+else-not-is_empty, else-strict-via-else-strict}
+use Rattle.init_turns.proofs.rereading.use_parts.Goals.{else-strict-via-then-strict+else-not-is_empty}
+use Rattle.init_turns.proofs.rereading.use_parts.Goals.{else-strict-via-else-strict}
 
 was_ok : {E : Type 0} (result : Result (Unit {0}) E) (P : Type 0) → is_err result ≡ false → OnOk result P → P
 was_ok (Ok tt) P no_fault holds = holds
@@ -15,7 +19,8 @@ pub returns-clause-fits : goal.returns-clause-fits
 returns-clause-fits g c taken =
     let works : is_err c.adopt.result ≡ false = search rules in
     let read : c.in-Ok.table ≡ table_of_texts (texts_of c.args.parts.now) = search rules in
-    subst (λ table. OnEachTrace c.args.core.now (λ goal past. StillFits c.args.core.now c.adopt.new.self goal past (NewTable table ∷ past))) read (was_ok c.adopt.result _ works c.adopt.ensures.fits)
+    subst (λ table. OnEachTrace c.args.core.now (λ goal past. StillFits c.args.core.now c.adopt.new.self goal past
+    (NewTable table ∷ past))) read (was_ok c.adopt.result _ works c.adopt.ensures.fits)
 
 pub returns-clause-lasts : goal.returns-clause-lasts
 returns-clause-lasts g c taken =
@@ -29,15 +34,19 @@ either strict none holds = grind arith
 pub returns-clause-taken : goal.returns-clause-taken
 returns-clause-taken g c taken =
     let texts = texts_of c.args.parts.now in
-    let readable : are_readable texts ≡ true = was_readable c.read_parts.result (c.in-Ok.table, c.in-Ok.faults) texts c.in-Ok.is c.read_parts.ensures.parts c.read_parts.ensures.too_long in
+    let readable : are_readable texts ≡ true = was_readable c.read_parts.result
+    (c.in-Ok.table, c.in-Ok.faults) texts c.in-Ok.is c.read_parts.ensures.parts c.read_parts.ensures.too_long in
     let told : c.in-Ok.faults.items ≡ faults_of_parts texts = c.in-Ok.ensures.faults in
-    let none : (length (faults_of_parts texts) == 0) ≡ (length c.in-Ok.faults.items == 0) = ap (λ faults. length faults == 0) (sym told) in
-    and_from (are_readable texts) (not c.args.strict || length (faults_of_parts texts) == 0) readable (either c.args.strict (length (faults_of_parts texts) == 0) (elim c.else-strict.branch [
+    let none : (length (faults_of_parts texts) == 0) ≡ (length c.in-Ok.faults.items == 0) =
+    ap (λ faults. length faults == 0) (sym told) in
+    and_from (are_readable texts) (not c.args.strict || length (faults_of_parts texts) == 0) readable
+    (either c.args.strict (length (faults_of_parts texts) == 0) (elim c.else-strict.branch [
       | else-strict-via-then-strict+else-not-is_empty w ↦ inr (none ∙ search rules)
       | else-strict-via-else-strict w ↦ inl w.if-strict.false
     ]))
 
-was_quiet : {E : Type 0} (quiet : Bool) (result : Result (Unit {0}) E) (why : E) → (quiet ≡ false → result ≡ Err why) → is_err result ≡ false → quiet ≡ true
+was_quiet : {E : Type 0} (quiet : Bool) (result : Result (Unit {0}) E) (why : E) → (quiet ≡ false → result ≡ Err why)
+    → is_err result ≡ false → quiet ≡ true
 was_quiet true result why busy works = refl
 was_quiet false result why busy works = absurd (false≢true (sym works ∙ ap is_err (busy refl)))
 
@@ -56,8 +65,10 @@ returns-clause-took g c taken =
 pub returns-clause-grows : goal.returns-clause-grows
 returns-clause-grows g c =
     let works : is_err c.adopt.result ≡ false = search rules in
-    let lasts = adopt_lasts c.args.core.now c.adopt.new.self c.in-Ok.table (was_ok c.adopt.result _ works c.adopt.ensures.adopted) in
-    GrowsBy-one c.args.core.now c.adopt.new.self (g.L.Log.state c.args.edge.now.log) (g.L.Log.state c.write.new.self.log) lasts.short (c.write.ensures.grows refl)
+    let lasts = adopt_lasts c.args.core.now c.adopt.new.self c.in-Ok.table
+    (was_ok c.adopt.result _ works c.adopt.ensures.adopted) in
+    GrowsBy-one c.args.core.now c.adopt.new.self (g.L.Log.state c.args.edge.now.log)
+    (g.L.Log.state c.write.new.self.log) lasts.short (c.write.ensures.grows refl)
 
 pub returns-then-is_err-clause-grows : goal.returns-then-is_err-clause-grows
 returns-then-is_err-clause-grows g c =

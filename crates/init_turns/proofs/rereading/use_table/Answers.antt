@@ -1,4 +1,6 @@
-use Rattle.init_turns.proofs.Words.{rules, ◌≡◌, refl, sym, ap, ◌∙◌, subst, true, and_parts, may_take, List, ◌∷◌, [], Ok, NewTable, ReadTables, parts_read, Event, Gave, Leads, Logs, Tracks, Leads-used, AddsStamped-same, IsReread, kept_still, Grows-none, GrowsBy-call}
+use Rattle.init_turns.proofs.Words.{rules, ◌≡◌, refl, sym, ap, ◌∙◌, subst, true, and_parts, may_take, List, ◌∷◌, [], Ok}
+use Rattle.init_turns.proofs.Words.{NewTable, ReadTables, parts_read, Event, Gave, Leads, Logs, Tracks, Leads-used}
+use Rattle.init_turns.proofs.Words.{AddsStamped-same, IsReread, kept_still, Grows-none, GrowsBy-call}
 use Rattle.init_words.specs.Parts.{texts_of}
 use Rattle.inittab_text.specs.Parts.{are_readable, table_of_texts}
 use Rattle.trace_events.specs.declared.steps.Step.TheVariants as step
@@ -19,13 +21,17 @@ returns-clause-used g c took =
     let taken : may_take c.args.strict (Ok c.deref.result.now) ≡ true = c.use_parts.ensures.taken took in
     let before = Gave (Tracks core) step.Reread in
     Makes-one g.L.Log.state told now_told old now log (ReadTables parts) (IsReread c.args.strict) before (Tracks new)
-    (AddsStamped-same told told c.read_tables.new.self.told now_told (ReadTables parts) log refl c.use_parts.ensures.told c.read_tables.ensures.adds) (ap (may_take c.args.strict) is ∙ taken)
+    (AddsStamped-same told told c.read_tables.new.self.told now_told (ReadTables parts) log refl
+    c.use_parts.ensures.told c.read_tables.ensures.adds) (ap (may_take c.args.strict) is ∙ taken)
     (subst (λ t. Leads before (Tracks new) old now (ReadTables t ∷ [])) (sym is)
-    (Leads-used core new old now c.deref.result.now (and_parts (are_readable (texts_of c.deref.result.now)) _ taken).0 (c.use_parts.ensures.quiet took) (c.use_parts.ensures.fits took) (c.use_parts.ensures.lasts took)
-    (subst (λ l. (so_far : List Event) → Logs (g.L.Log.state l) now so_far (NewTable (table_of_texts (texts_of c.deref.result.now)) ∷ so_far)) c.read_tables.ensures.log (c.use_parts.ensures.took took))))
+    (Leads-used core new old now c.deref.result.now (and_parts (are_readable (texts_of c.deref.result.now)) _ taken).0
+    (c.use_parts.ensures.quiet took) (c.use_parts.ensures.fits took) (c.use_parts.ensures.lasts took)
+    (subst (λ l. (so_far : List Event) → Logs (g.L.Log.state l) now so_far (NewTable (table_of_texts
+    (texts_of c.deref.result.now)) ∷ so_far)) c.read_tables.ensures.log (c.use_parts.ensures.took took))))
     (kept_still before old (ReadTables parts) (λ so_far. refl))
 
 pub returns-clause-grows : goal.returns-clause-grows
 returns-clause-grows g c =
     let old = g.L.Log.state c.args.edge.now.log in
-    GrowsBy-call g.L.Log.state c.args.core.now c.use_parts.new.core old (g.L.Log.state c.use_parts.new.edge.log) c.args.edge.now.log c.read_tables.new.self.log c.read_tables.ensures.log (Grows-none old) c.use_parts.ensures.grows
+    GrowsBy-call g.L.Log.state c.args.core.now c.use_parts.new.core old (g.L.Log.state c.use_parts.new.edge.log)
+    c.args.edge.now.log c.read_tables.new.self.log c.read_tables.ensures.log (Grows-none old) c.use_parts.ensures.grows

@@ -1,4 +1,5 @@
-use Rattle.init_turns.proofs.Words.{◌∙◌, sym, ap, subst, Tracks, AndRests, IsStepUnless, MakesOver, is_listed, is_short_step}
+use Rattle.init_turns.proofs.Words.{◌∙◌, sym, ap, subst, Tracks, AndRests, IsStepUnless, MakesOver, is_listed}
+use Rattle.init_turns.proofs.Words.{is_short_step}
 use Rattle.init_turns.proofs.Carried.{Makes-stepped}
 use Rattle.init_turns.proofs.Listed.{decide_listed, table_kept}
 use Rattle.init_turns.proofs.Lasting.{step_lasts}
@@ -18,10 +19,16 @@ returns-clause-makes g c =
     let now_told = c.carry_out.new.edge.told in
     let log = g.L.Log.state c.args.edge.now.log in
     let now_log = g.L.Log.state c.carry_out.new.edge.log in
-    subst (λ idle. MakesOver g.L.Log.state told now_told log now_log (IsStepUnless c.args.strict idle) (Tracks c.args.core.now) (AndRests idle (Tracks c.carry_out.new.core))) (sym c.is_idle.ensures)
-    (Makes-stepped g.L.Log.state c.args.strict told now_told log now_log c.args.core.now c.next-step.new.self c.carry_out.new.core c.next-step.result c.next-step.ensures.due c.next-step.ensures.fits (step_lasts c.args.core.now c.next-step.new.self c.next-step.result c.next-step.ensures.step c.next-step.ensures.state) c.carry_out.ensures.makes)
+    subst (λ idle. MakesOver g.L.Log.state told now_told log now_log (IsStepUnless c.args.strict idle)
+    (Tracks c.args.core.now) (AndRests idle (Tracks c.carry_out.new.core))) (sym c.is_idle.ensures)
+    (Makes-stepped g.L.Log.state c.args.strict told now_told log now_log c.args.core.now c.next-step.new.self
+    c.carry_out.new.core c.next-step.result c.next-step.ensures.due c.next-step.ensures.fits
+    (step_lasts c.args.core.now c.next-step.new.self c.next-step.result c.next-step.ensures.step
+    c.next-step.ensures.state) c.carry_out.ensures.makes)
 
 pub returns-clause-grows : goal.returns-clause-grows
 returns-clause-grows g c short =
-    let lasts = step_lasts c.args.core.now c.next-step.new.self c.next-step.result c.next-step.ensures.step c.next-step.ensures.state in
-    c.carry_out.ensures.grows (ap is_short_step c.next-step.ensures.step ∙ decide_short c.args.core.now short) (lasts.short short)
+    let lasts = step_lasts c.args.core.now c.next-step.new.self c.next-step.result c.next-step.ensures.step
+    c.next-step.ensures.state in
+    c.carry_out.ensures.grows (ap is_short_step c.next-step.ensures.step ∙ decide_short c.args.core.now short)
+    (lasts.short short)

@@ -1,10 +1,14 @@
-use Rattle.initctl_frame.proofs.Words.{◌≡◌, ◌∙◌, ℕ, ◌+◌, List, ◌++◌, length, take, drop, ap, sym, subst, arith, append_assoc, length-drop, take-add, take_rest, take_all, HeardRequest, Stands, gots_of, Fills}
+use Rattle.initctl_frame.proofs.Words.{◌≡◌, ◌∙◌, ℕ, ◌+◌, List, ◌++◌, length, take, drop, ap, sym, subst, arith}
+use Rattle.initctl_frame.proofs.Words.{append_assoc, length-drop, take-add, take_rest, take_all, HeardRequest, Stands}
+use Rattle.initctl_frame.proofs.Words.{gots_of, Fills}
 use Rattle.initctl_frame.proofs.pieces.read_piece.Goals as goal
 
 -- the bytes up to the end of what was taken now
-next : (bytes piece : List ℕ) (done taken : ℕ) → (bytes ++ take done piece) ++ take taken (drop done piece) ≡ bytes ++ take (done + taken) piece
+next : (bytes piece : List ℕ) (done taken : ℕ)
+    → (bytes ++ take done piece) ++ take taken (drop done piece) ≡ bytes ++ take (done + taken) piece
 next bytes piece done taken =
-    append_assoc bytes (take done piece) (take taken (drop done piece)) ∙ ap (λ (xs : List ℕ). bytes ++ xs) (sym (take-add done taken piece))
+    append_assoc bytes (take done piece) (take taken (drop done piece))
+    ∙ ap (λ (xs : List ℕ). bytes ++ xs) (sym (take-add done taken piece))
 
 pub loop-done-preserved : goal.loop-done-preserved
 loop-done-preserved c =
@@ -19,9 +23,11 @@ loop-done-preserved c =
       within = c.put-count.ensures.within;
       stands = λ bytes stood. subst (λ (xs : List ℕ). Stands c.feed-taken.new.self xs) (next bytes piece done taken)
           (stands (bytes ++ take done piece) (held.stands bytes stood));
-      fills = λ bytes places stood filled. subst (λ (gots : List HeardRequest). Fills places gots c.put-count.result c.put-count.new.room)
+      fills = λ bytes places stood filled. subst
+          (λ (gots : List HeardRequest). Fills places gots c.put-count.result c.put-count.new.room)
           (sym (got (bytes ++ take done piece) (held.stands bytes stood)) ∙ ap gots_of (next bytes piece done taken))
-          (c.put-count.ensures.fills places (gots_of (bytes ++ take done piece)) (held.fills bytes places stood filled));
+          (c.put-count.ensures.fills places (gots_of (bytes ++ take done piece))
+          (held.fills bytes places stood filled));
     }
 
 pub returns-clause-stands : goal.returns-clause-stands

@@ -7,7 +7,8 @@ invariant-loop-done l = record {
   within : l.count ≤ length l.room;
   stands : (bytes : List ℕ) → Stands l.fn.blocks bytes → Stands l.blocks (bytes ++ take l.done l.piece);
   fills : (bytes : List ℕ) (places : List HeardRequest) → Stands l.fn.blocks bytes
-      → Fills places (gots_of bytes) l.fn.count l.fn.room → Fills places (gots_of (bytes ++ take l.done l.piece)) l.count l.room;
+      → Fills places (gots_of bytes) l.fn.count l.fn.room
+      → Fills places (gots_of (bytes ++ take l.done l.piece)) l.count l.room;
 }
 
 abbrev pub decreases-loop-done : goal.decreases-loop-done

@@ -12,7 +12,8 @@ returns-then-options g c =
       served,
       reported,
       λ bytes is table opens. Since-map _ _ _ _ (made table opens) (λ calls.
-          made_traced _ _ (run_of c.args.options.now) table end (c.new.ensures.nothing taken) bytes calls c.requires.trace
+          made_traced _ _ (run_of c.args.options.now) table end
+          (c.new.ensures.nothing taken) bytes calls c.requires.trace
           (brief_written _ bytes is c.args.options.now.brief c.if-options.true)),
     )
 

@@ -14,7 +14,8 @@ returns-in_default g c =
       [],
       none,
       λ table opens. Since-map _ _ _ _ (made table opens) (λ calls.
-          made_untraced _ _ (run_of c.args.options.now) table end tt calls (sym c.requires ∙ ap is_some c.in_default.is)),
+          made_untraced _ _ (run_of c.args.options.now) table end tt calls
+          (sym c.requires ∙ ap is_some c.in_default.is)),
     )
 
 pub returns : goal.returns

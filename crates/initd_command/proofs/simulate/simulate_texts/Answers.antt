@@ -11,7 +11,8 @@ returns-then-is_err g c =
       unflushed,
       c.report_fault.ensures.status,
       either_kept s before after (g.W.Write.contents c.flush.new.self)
-          (either_end c.simulate-ended.result (Done s before after) (λ f. Ends s f before after) c.simulate-ended.ensures.done c.simulate-ended.ensures.ended) c.flush.ensures.bytes,
+          (either_end c.simulate-ended.result (Done s before after) (λ f. Ends s f before after)
+          c.simulate-ended.ensures.done c.simulate-ended.ensures.ended) c.flush.ensures.bytes,
       c.report_fault.ensures.reported,
     )
 
@@ -23,7 +24,8 @@ returns-in-Err g c =
       c.report_fault-in-Err.ensures.status,
       (
         refl,
-        ends_kept s c.in-Err.fault (g.W.Write.contents c.args.out.now) (g.W.Write.contents c.simulate-ended.new.out) (g.W.Write.contents c.flush.new.self)
+        ends_kept s c.in-Err.fault (g.W.Write.contents c.args.out.now) (g.W.Write.contents c.simulate-ended.new.out)
+            (g.W.Write.contents c.flush.new.self)
             c.in-Err.ensures.ended c.flush.ensures.bytes,
       ),
       c.report_fault-in-Err.ensures.reported,
@@ -32,5 +34,10 @@ returns-in-Err g c =
 -- the run is done
 pub returns-in-Ok : goal.returns-in-Ok
 returns-in-Ok g c =
-    let s = scenario c.args.level c.args.inittab.now c.args.script.now in
-    (done, refl, done_kept s (g.W.Write.contents c.args.out.now) (g.W.Write.contents c.simulate-ended.new.out) (g.W.Write.contents c.flush.new.self) c.in-Ok.ensures.done c.flush.ensures.bytes, Keeps-refl (g.E.Write.contents c.args.err.now))
+    let s = scenario c.args.level c.args.inittab.now c.args.script.now in (
+      done,
+      refl,
+      done_kept s (g.W.Write.contents c.args.out.now) (g.W.Write.contents c.simulate-ended.new.out)
+          (g.W.Write.contents c.flush.new.self) c.in-Ok.ensures.done c.flush.ensures.bytes,
+      Keeps-refl (g.E.Write.contents c.args.err.now),
+    )

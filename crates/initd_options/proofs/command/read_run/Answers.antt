@@ -6,7 +6,8 @@ use Rattle.initd_options.specs.Options.{run_said}
 use Rattle.initd_options.proofs.FreeLines.{is_free_run}
 use Rattle.initd_options.proofs.command.read_run.Goals as goal
 
-handed_on : {T E : Type 0} (r : Result T E) (given : E) (So : E → Type 0) → IsErrAnd r (λ fault. fault ≡ given) → So given → IfErr r So
+handed_on : {T E : Type 0} (r : Result T E) (given : E) (So : E → Type 0) → IsErrAnd r (λ fault. fault ≡ given)
+    → So given → IfErr r So
 handed_on (Ok value) given So is so = tt
 handed_on (Err error) given So is so = subst So (sym is) so
 
@@ -21,8 +22,10 @@ returns-in_err-matches-clause-usage c =
 
 pub returns-clause-ok : goal.returns-clause-ok
 returns-clause-ok c =
-    IfOk-weaker c.read_matches.result _ _ (λ said is. ap (option_and_then run_said) (c.in_ok-matches.ensures.ok is_free_run) ∙ is) c.read_matches.ensures.ok
+    IfOk-weaker c.read_matches.result _ _
+    (λ said is. ap (option_and_then run_said) (c.in_ok-matches.ensures.ok is_free_run) ∙ is) c.read_matches.ensures.ok
 
 pub returns-clause-usage : goal.returns-clause-usage
 returns-clause-usage c =
-    weaker c.read_matches.result _ _ (λ fault none some. ap (option_and_then run_said) (c.in_ok-matches.ensures.ok is_free_run) ∙ none some) c.read_matches.ensures.usage
+    weaker c.read_matches.result _ _ (λ fault none some. ap (option_and_then run_said)
+    (c.in_ok-matches.ensures.ok is_free_run) ∙ none some) c.read_matches.ensures.usage

@@ -3,7 +3,8 @@ use Rattle.inittab_text.proofs.WriteLemmas.{only_written, found_written, none_wr
 use Rattle.inittab_text.proofs.written.read_written.Goals as goal
 
 pub returns-clause-found : goal.returns-clause-found
-returns-clause-found g c = IfOk-weaker c.table_written.result _ _ (found_written c.args.text.now) c.table_written.ensures
+returns-clause-found g c =
+    IfOk-weaker c.table_written.result _ _ (found_written c.args.text.now) c.table_written.ensures
 
 pub returns-clause-only : goal.returns-clause-only
 returns-clause-only g c = IfOk-weaker c.table_written.result _ _ (only_written c.args.text.now) c.table_written.ensures

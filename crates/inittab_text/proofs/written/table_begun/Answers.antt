@@ -1,4 +1,5 @@
-use Rattle.inittab_text.proofs.Words.{rules, ◌≡◌, Some, arith, length, length-append, ap, after_lines, after_lines-front}
+use Rattle.inittab_text.proofs.Words.{rules, ◌≡◌, Some, arith, length, length-append, ap, after_lines}
+use Rattle.inittab_text.proofs.Words.{after_lines-front}
 use Rattle.inittab_text.proofs.written.table_begun.Goals as goal
 
 pub slice_bounds-read_written-count : goal.slice_bounds-read_written-count

@@ -12,7 +12,10 @@ abbrev scene : List Entry → List TimelineMark → Option Stage → Bool → Op
 scene entries marks stage settled start end =
     record { entries = entries; marks = marks; stage = stage; settled = settled; start = start; end = end }
 
-scene_is : (entries : List Entry) (marks : List TimelineMark) (stage : Option Stage) (settled : Bool) (start : Option ℕ) (end : ℕ) (past : List Event) → entries ≡ table_of past → marks ≡ marks_of past → stage ≡ stage_of past → settled ≡ is_settled_now past → start ≡ start_of past → end ≡ time_of past → scene entries marks stage settled start end ≡ drawn_of past
+scene_is : (entries : List Entry) (marks : List TimelineMark) (stage : Option Stage) (settled : Bool) (start : Option ℕ)
+    (end : ℕ) (past : List Event) → entries ≡ table_of past → marks ≡ marks_of past → stage ≡ stage_of past
+    → settled ≡ is_settled_now past → start ≡ start_of past → end ≡ time_of past
+    → scene entries marks stage settled start end ≡ drawn_of past
 scene_is entries marks stage settled start end past e1 e2 e3 e4 e5 e6 =
     ap (λ x. scene x marks stage settled start end) e1
     ∙ ap (λ x. scene (table_of past) x stage settled start end) e2
@@ -23,5 +26,7 @@ scene_is entries marks stage settled start end past e1 e2 e3 e4 e5 e6 =
 
 pub returns : goal.returns
 returns c = λ past seen marked.
-    scene_is _ _ _ _ _ _ past (c.entries.ensures.value ∙ c.table.ensures.value past seen) (c.as_slice.ensures ∙ ap (λ (m : SeenMarks). m.marks) marked)
-    (c.stage.ensures past seen) (c.is_settled.ensures past seen) (c.start.ensures ∙ ap (λ (m : SeenMarks). m.start) marked) (c.time.ensures past seen)
+    scene_is _ _ _ _ _ _ past (c.entries.ensures.value ∙ c.table.ensures.value past seen)
+    (c.as_slice.ensures ∙ ap (λ (m : SeenMarks). m.marks) marked)
+    (c.stage.ensures past seen) (c.is_settled.ensures past seen)
+    (c.start.ensures ∙ ap (λ (m : SeenMarks). m.start) marked) (c.time.ensures past seen)

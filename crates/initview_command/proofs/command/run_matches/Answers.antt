@@ -10,7 +10,8 @@ returns-in-Some-clause-ends g c =
     let old = g.S.Says.said c.args.out.now in
     let new = g.S.Says.said c.run_given.new.out in
     let rows = rows_of (found_of c.args.matches.now) in
-    words_given text_at growing_at writers c.run_given.result old new rows (map (λ word. word.now) c.in-Some.words.now) _
+    words_given text_at growing_at writers c.run_given.result old new rows
+    (map (λ word. word.now) c.in-Some.words.now) _
     c.in-Some.ensures refl c.run_given.ensures.ends
 
 pub returns-in-None-clause-ends : goal.returns-in-None-clause-ends
@@ -26,8 +27,10 @@ returns-in-None-clause-ends g c =
 
 pub returns-in-Some-clause-refused : goal.returns-in-Some-clause-refused
 returns-in-Some-clause-refused g c = λ none.
-    c.run_given.ensures.refused (words_none (rows_of (found_of c.args.matches.now)) (map (λ word. word.now) c.in-Some.words.now) _ c.in-Some.ensures refl none)
+    c.run_given.ensures.refused (words_none (rows_of (found_of c.args.matches.now))
+    (map (λ word. word.now) c.in-Some.words.now) _ c.in-Some.ensures refl none)
 
 pub returns-in-None-clause-refused : goal.returns-in-None-clause-refused
 returns-in-None-clause-refused g c = λ none.
-    c.run_given-in-None.ensures.refused (words_none (rows_of (found_of c.args.matches.now)) _ _ c.in-None.ensures refl none)
+    c.run_given-in-None.ensures.refused
+    (words_none (rows_of (found_of c.args.matches.now)) _ _ c.in-None.ensures refl none)

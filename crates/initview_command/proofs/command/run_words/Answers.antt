@@ -18,7 +18,8 @@ returns-in-Ok-clause-ends g c =
     let rows = rows_of (found_of c.in-Ok.matches) in
     let other = sym c.is_version.ensures ∙ c.if-is_version.false in
     words_done text_at growing_at writers c.run_matches.result old new words _ other
-    (given_done text_at growing_at writers c.run_matches.result old new words rows c.in-Ok.ensures.ok c.run_matches.ensures.ends)
+    (given_done text_at growing_at writers c.run_matches.result old new words rows c.in-Ok.ensures.ok
+    c.run_matches.ensures.ends)
 
 pub returns-in-Err-clause-ends : goal.returns-in-Err-clause-ends
 returns-in-Err-clause-ends g c =
@@ -35,4 +36,5 @@ returns-in-Err-clause-ends g c =
 
 pub returns-in-Ok-clause-refused : goal.returns-in-Ok-clause-refused
 returns-in-Ok-clause-refused g c = λ _ none.
-    c.run_matches.ensures.refused (asked_none (map string_bytes c.args.words.now) (rows_of (found_of c.in-Ok.matches)) c.in-Ok.ensures.ok none)
+    c.run_matches.ensures.refused
+    (asked_none (map string_bytes c.args.words.now) (rows_of (found_of c.in-Ok.matches)) c.in-Ok.ensures.ok none)

@@ -12,13 +12,17 @@ returns-clause-ok g c =
     let left = g.R.Read.remaining c.args.from.now in
     let now = g.S.Says.said c.args.out.now in
     let reader = c.deref_mut.ensures.value in
-    let begun = from_first left c.deref_mut.result.now now (ap judges reader ∙ c.in_ok-reader.ensures.0) (subst (λ r. HasLines r [] []) (sym reader) c.in_ok-reader.ensures.1) in
-    if_ok _ _ c.write_lines.result (λ end all. ([], refl, all (start_of None [] now) left begun)) c.write_lines.ensures.ok
+    let begun = from_first left c.deref_mut.result.now now (ap judges reader ∙ c.in_ok-reader.ensures.0)
+    (subst (λ r. HasLines r [] []) (sym reader) c.in_ok-reader.ensures.1) in
+    if_ok _ _ c.write_lines.result
+    (λ end all. ([], refl, all (start_of None [] now) left begun)) c.write_lines.ensures.ok
 
 pub returns-clause-err : goal.returns-clause-err
 returns-clause-err g c =
     let left = g.R.Read.remaining c.args.from.now in
     let now = g.S.Says.said c.args.out.now in
     let reader = c.deref_mut.ensures.value in
-    let begun = from_first left c.deref_mut.result.now now (ap judges reader ∙ c.in_ok-reader.ensures.0) (subst (λ r. HasLines r [] []) (sym reader) c.in_ok-reader.ensures.1) in
-    if_err _ _ c.write_lines.result (λ part. ([], refl, part (start_of None [] now) left begun)) c.write_lines.ensures.err
+    let begun = from_first left c.deref_mut.result.now now (ap judges reader ∙ c.in_ok-reader.ensures.0)
+    (subst (λ r. HasLines r [] []) (sym reader) c.in_ok-reader.ensures.1) in
+    if_err _ _ c.write_lines.result
+    (λ part. ([], refl, part (start_of None [] now) left begun)) c.write_lines.ensures.err

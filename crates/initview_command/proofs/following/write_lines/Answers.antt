@@ -1,4 +1,6 @@
-use Rattle.initview_command.proofs.Words.{rules, subst, ◌≡◌, sym, ◌∙◌, ◌+◌, ◌*◌, ◌<◌, ◌≤◌, true, is_some, ℕ, List, ◌++◌, take, length, length-append, arith, Consumes, Consumes-trans, common_steps, length-take, PIECE_LIMIT, PIECES_LIMIT, on_err, there_limit}
+use Rattle.initview_command.proofs.Words.{rules, subst, ◌≡◌, sym, ◌∙◌, ◌+◌, ◌*◌, ◌<◌, ◌≤◌, true, is_some, ℕ, List, ◌++◌}
+use Rattle.initview_command.proofs.Words.{take, length, length-append, arith, Consumes, Consumes-trans, common_steps}
+use Rattle.initview_command.proofs.Words.{length-take, PIECE_LIMIT, PIECES_LIMIT, on_err, there_limit}
 use Rattle.initview_command.proofs.Followed.{all_read, all_stopped, begins, part_of, written_part}
 use Rattle.initview_command.proofs.following.write_lines.Goals as goal
 
@@ -16,16 +18,19 @@ returns-in_err-write_piece-clause-err g c =
     let piece : List ℕ = take c.in_ok-taken.taken c.read.new.buf in
     let few : c.loop.counter < PIECES_LIMIT = c.loop-test.true in
     let short : length piece ≤ PIECE_LIMIT = grind (arith, common_steps, length-take) in
-    let bound : length (text ++ piece) ≤ there_limit + PIECE_LIMIT * (c.loop.counter + 1) = omega (arith, length-append text piece, small, short) in
+    let bound : length (text ++ piece) ≤ there_limit + PIECE_LIMIT * (c.loop.counter + 1) =
+    omega (arith, length-append text piece, small, short) in
     let joined = Consumes-trans _ _ _ _ _ consumed c.in_ok-taken.ensures.bytes.0 in
-    part_of start _ _ (text ++ piece) _ joined (c.in_err-write_piece.ensures.err start text (omega (arith, bound, few)) written))
+    part_of start _ _ (text ++ piece) _ joined
+    (c.in_err-write_piece.ensures.err start text (omega (arith, bound, few)) written))
 
 pub returns-then-is_some-clause-ok : goal.returns-then-is_some-clause-ok
 returns-then-is_some-clause-ok g c = λ start left has.
     let (text, consumed, small, written) = c.loop.invariant start left has in
     let few : c.loop.counter < PIECES_LIMIT = c.loop-test.true in
     let stopped : is_some c.end_of-end.result.0 ≡ true = sym c.is_some.ensures ∙ c.if-is_some.true in
-    all_stopped start left _ c.end_of-end.result.0 c.end_of-end.result.1 c.loop.reader text _ stopped consumed (λ said so. c.end_of-end.ensures said text (omega (arith, small, few)) so) written
+    all_stopped start left _ c.end_of-end.result.0 c.end_of-end.result.1 c.loop.reader text _ stopped consumed
+    (λ said so. c.end_of-end.ensures said text (omega (arith, small, few)) so) written
 
 pub loop-preserved : goal.loop-preserved
 loop-preserved g c = λ start left has.
@@ -33,8 +38,13 @@ loop-preserved g c = λ start left has.
     let piece : List ℕ = take c.in_ok-taken.taken c.read.new.buf in
     let few : c.loop.counter < PIECES_LIMIT = c.loop-test.true in
     let short : length piece ≤ PIECE_LIMIT = grind (arith, common_steps, length-take) in
-    let bound : length (text ++ piece) ≤ there_limit + PIECE_LIMIT * (c.loop.counter + 1) = omega (arith, length-append text piece, small, short) in
-    (text ++ piece, Consumes-trans _ _ _ _ _ consumed c.in_ok-taken.ensures.bytes.0, bound, c.in_ok-write_piece.ensures.ok start text (omega (arith, bound, few)) written)
+    let bound : length (text ++ piece) ≤ there_limit + PIECE_LIMIT * (c.loop.counter + 1) =
+    omega (arith, length-append text piece, small, short) in (
+      text ++ piece,
+      Consumes-trans _ _ _ _ _ consumed c.in_ok-taken.ensures.bytes.0,
+      bound,
+      c.in_ok-write_piece.ensures.ok start text (omega (arith, bound, few)) written,
+    )
 
 pub returns-clause-err : goal.returns-clause-err
 returns-clause-err g c = λ start left has.
@@ -49,5 +59,7 @@ returns-then-taken-eq0-clause-ok g c = λ start left has.
     let zero : c.in_ok-taken.taken ≡ 0 = first_of (search rules, grind (arith, common_steps)) in
     let room : 0 < length c.read.new.buf = first_of (search rules, grind (arith, common_steps)) in
     all_read start left _ _ c.end_of-end.result.0 c.end_of-end.result.1 c.loop.reader text _ consumed
-    (subst (λ n. Consumes (g.R.Read.remaining c.loop.from) (g.R.Read.remaining c.read.new.self) (take n c.read.new.buf)) zero c.in_ok-taken.ensures.bytes.0)
-    (c.in_ok-taken.ensures.bytes.1 zero room) (λ said so. c.end_of-end.ensures said text (omega (arith, small, few)) so) written
+    (subst (λ n. Consumes (g.R.Read.remaining c.loop.from) (g.R.Read.remaining c.read.new.self) (take n c.read.new.buf))
+    zero c.in_ok-taken.ensures.bytes.0)
+    (c.in_ok-taken.ensures.bytes.1 zero room)
+    (λ said so. c.end_of-end.ensures said text (omega (arith, small, few)) so) written

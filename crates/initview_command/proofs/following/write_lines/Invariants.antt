@@ -1,9 +1,12 @@
-use Rattle.initview_command.proofs.Words.{ℕ, List, ◌≤◌, ◌*◌, ◌+◌, length, Option, Consumes, PIECE_LIMIT, HasWritten, Start, HasFollowed, there_limit}
+use Rattle.initview_command.proofs.Words.{ℕ, List, ◌≤◌, ◌*◌, ◌+◌, length, Option, Consumes, PIECE_LIMIT, HasWritten}
+use Rattle.initview_command.proofs.Words.{Start, HasFollowed, there_limit}
 use Rattle.initview_command.proofs.following.write_lines.Given as goal
 
 -- the lines of what was read so far were written
 abbrev pub invariant-loop : goal.invariant-loop
 invariant-loop g l =
-    (start : Start) (left : Option (List ℕ)) → HasFollowed start left l.fn.reader (g.R.Read.remaining l.fn.from) (g.S.Says.said l.fn.out)
-    → (text : List ℕ) × Consumes left (g.R.Read.remaining l.from) text × (length text ≤ there_limit + PIECE_LIMIT * l.counter)
+    (start : Start) (left : Option (List ℕ))
+    → HasFollowed start left l.fn.reader (g.R.Read.remaining l.fn.from) (g.S.Says.said l.fn.out)
+    → (text : List ℕ) × Consumes left (g.R.Read.remaining l.from) text
+    × (length text ≤ there_limit + PIECE_LIMIT * l.counter)
     × HasWritten start l.reader text (g.S.Says.said l.out)

@@ -8,4 +8,5 @@ returns c past viewed =
     subst (λ level. Viewed c.show.new.self.viewing.viewing (with_request level past)) (sym c.in-Some.is)
     (subst (λ seconds. Viewed c.show.new.self.viewing.viewing (Got (got.Level c.in-Some.level seconds) ∷ past))
     (c.grace-grace.ensures past (subst (λ (v : ViewState). Viewed v past) (sym c.view.ensures) viewed))
-    (seen c.in_ok-_lawful._lawful c.args.text.now.viewing.viewing c.show.new.self.viewing.viewing _ past (c.in_ok-_lawful.ensures.law past viewed) c.in_ok-_lawful.ensures.next viewed))
+    (seen c.in_ok-_lawful._lawful c.args.text.now.viewing.viewing c.show.new.self.viewing.viewing _ past
+    (c.in_ok-_lawful.ensures.law past viewed) c.in_ok-_lawful.ensures.next viewed))

@@ -4,7 +4,8 @@ use Rattle.initview_lines.proofs.left.add_starts.Given as goal
 
 -- the lines so far, and behind them those of the entries that are left, are the lines of all
 abbrev pub invariant-loop-entry : goal.invariant-loop-entry
-invariant-loop-entry l = (past : List Event) → Viewed l.view past → l.lines.items ++ map (start_line l.shape) (filter (is_open past) l.rest) ≡ l.fn.lines.items ++ map (start_line l.shape) (filter (is_open past) l.entries)
+invariant-loop-entry l = (past : List Event) → Viewed l.view past → l.lines.items ++ map (start_line l.shape)
+    (filter (is_open past) l.rest) ≡ l.fn.lines.items ++ map (start_line l.shape) (filter (is_open past) l.entries)
 
 abbrev pub decreases-loop-entry : goal.decreases-loop-entry
 decreases-loop-entry l = length l.rest

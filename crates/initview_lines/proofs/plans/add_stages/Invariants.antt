@@ -3,7 +3,8 @@ use Rattle.initview_lines.proofs.plans.add_stages.Given as goal
 
 -- the lines so far, and behind them those of the stages that are left, are the lines of all
 abbrev pub invariant-loop-stage : goal.invariant-loop-stage
-invariant-loop-stage l = l.lines.items ++ stages_lines l.entries l.rest ≡ l.fn.lines.items ++ stages_lines l.entries l.stages
+invariant-loop-stage l =
+    l.lines.items ++ stages_lines l.entries l.rest ≡ l.fn.lines.items ++ stages_lines l.entries l.stages
 
 abbrev pub decreases-loop-stage : goal.decreases-loop-stage
 decreases-loop-stage l = length l.rest

@@ -3,7 +3,8 @@ use Rattle.initview_lines.proofs.plans.path_along.Given as goal
 
 -- the path so far, and behind it that of the stages that are left, is the path of all
 abbrev pub invariant-loop-stage : goal.invariant-loop-stage
-invariant-loop-stage l = l.path.items ++ map waiting (path_along l.entries l.rest) ≡ map waiting (path_along l.entries l.stages)
+invariant-loop-stage l =
+    l.path.items ++ map waiting (path_along l.entries l.rest) ≡ map waiting (path_along l.entries l.stages)
 
 abbrev pub decreases-loop-stage : goal.decreases-loop-stage
 decreases-loop-stage l = length l.rest

@@ -3,7 +3,8 @@ use Rattle.initview_lines.proofs.reloads.add_left.Given as goal
 
 -- the lines so far, and behind them those of what is left, are the lines of all
 abbrev pub invariant-loop-id : goal.invariant-loop-id
-invariant-loop-id l = (past : List Event) → Viewed l.view past → l.lines.items ++ map (line_now l.old past) (filter (is_new l.old) l.rest) ≡ l.fn.lines.items ++ map (line_now l.old past) (filter (is_new l.old) l.ids)
+invariant-loop-id l = (past : List Event) → Viewed l.view past → l.lines.items ++ map (line_now l.old past)
+    (filter (is_new l.old) l.rest) ≡ l.fn.lines.items ++ map (line_now l.old past) (filter (is_new l.old) l.ids)
 
 abbrev pub decreases-loop-id : goal.decreases-loop-id
 decreases-loop-id l = length l.rest

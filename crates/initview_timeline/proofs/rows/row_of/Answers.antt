@@ -1,8 +1,12 @@
-use Rattle.initview_timeline.proofs.Words.{◌≡◌, ◌∙◌, ap, ℕ, Bool, List, [], ◌∷◌, ◌++◌, Some, append_assoc, Life, TimelineMark, Piece, State, lives_of, marks_for, Drawing, bars_of, marks_bars, marks_signs, signs_of, Scene, due_bars, is_waited, row_of, scene_of, state_of}
+use Rattle.initview_timeline.proofs.Words.{◌≡◌, ◌∙◌, ap, ℕ, Bool, List, [], ◌∷◌, ◌++◌, Some, append_assoc, Life}
+use Rattle.initview_timeline.proofs.Words.{TimelineMark, Piece, State, lives_of, marks_for, Drawing, bars_of}
+use Rattle.initview_timeline.proofs.Words.{marks_bars, marks_signs, signs_of, Scene, due_bars, is_waited, row_of}
+use Rattle.initview_timeline.proofs.Words.{scene_of, state_of}
 use Rattle.initview_timeline.specs.declared.rows.Row.{Row}
 use Rattle.initview_timeline.proofs.rows.row_of.Goals as goal
 
-behind : (xs ys zs one two three : List Piece) → one ≡ xs → two ≡ one ++ ys → three ≡ two ++ zs → three ≡ xs ++ (ys ++ zs)
+behind : (xs ys zs one two three : List Piece) → one ≡ xs → two ≡ one ++ ys → three ≡ two ++ zs
+    → three ≡ xs ++ (ys ++ zs)
 behind xs ys zs one two three is so then =
     then ∙ ap (λ t. t ++ zs) (so ∙ ap (λ t. t ++ ys) is) ∙ append_assoc xs ys zs
 
@@ -17,16 +21,21 @@ row_with s id end waited lives = record {
   };
 }
 
-drawn : (id : List ℕ) (end : State) (pieces : Drawing) (bars signs : List Piece) → pieces.bars ≡ bars → pieces.signs ≡ signs → ◌≡◌ {A = Row} (record { id = id; state = end; pieces = pieces }) (record { id = id; state = end; pieces = record { bars = bars; signs = signs } })
+drawn : (id : List ℕ) (end : State) (pieces : Drawing) (bars signs : List Piece) → pieces.bars ≡ bars
+    → pieces.signs ≡ signs → ◌≡◌ {A = Row} (record { id = id; state = end; pieces = pieces })
+    (record { id = id; state = end; pieces = record { bars = bars; signs = signs } })
 drawn id end pieces bars signs b s =
     ap (λ bs. record { id = id; state = end; pieces = record { bars = bs; signs = pieces.signs } }) b
     ∙ ap (λ ss. record { id = id; state = end; pieces = record { bars = bars; signs = ss } }) s
 
-parts : (s : Scene) (id : List ℕ) (own : List TimelineMark) (end : State) (waited : Bool) (lives : List Life) → own ≡ marks_for (Some id) s.marks → end ≡ state_of s id own → waited ≡ is_waited id s.entries → lives ≡ lives_of own → row_with s id end waited lives ≡ row_of s id
+parts : (s : Scene) (id : List ℕ) (own : List TimelineMark) (end : State) (waited : Bool) (lives : List Life)
+    → own ≡ marks_for (Some id) s.marks → end ≡ state_of s id own → waited ≡ is_waited id s.entries
+    → lives ≡ lives_of own → row_with s id end waited lives ≡ row_of s id
 parts s id own end waited lives marked ended waits lived =
     ap (λ w. row_with s id end w lives) waits
     ∙ ap (λ ls. row_with s id end (is_waited id s.entries) ls) (lived ∙ ap lives_of marked)
-    ∙ ap (λ e. row_with s id e (is_waited id s.entries) (lives_of (marks_for (Some id) s.marks))) (ended ∙ ap (λ o. state_of s id o) marked)
+    ∙ ap (λ e. row_with s id e (is_waited id s.entries) (lives_of (marks_for (Some id) s.marks)))
+    (ended ∙ ap (λ o. state_of s id o) marked)
 
 pub returns : goal.returns
 returns c =

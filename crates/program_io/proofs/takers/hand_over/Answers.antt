@@ -11,5 +11,10 @@ loop-preserved g c =
     let piece : List ℕ = take c.in_ok-taken.taken c.read.new.buf in
     let few : c.loop.counter < PIECES_LIMIT = c.loop-test.true in
     let short : length piece ≤ PIECE_LIMIT = grind (arith, common_steps, length-take) in
-    let bound : length (text ++ piece) ≤ PIECE_LIMIT * (c.loop.counter + 1) = omega (arith, length-append text piece, small, short) in
-    (text ++ piece, Consumes-trans _ _ _ _ _ consumed c.in_ok-taken.ensures.bytes.0, bound, λ none. c.in_ok-take_piece.ensures text (omega (arith, bound, few)) (taken none))
+    let bound : length (text ++ piece) ≤ PIECE_LIMIT * (c.loop.counter + 1) =
+    omega (arith, length-append text piece, small, short) in (
+      text ++ piece,
+      Consumes-trans _ _ _ _ _ consumed c.in_ok-taken.ensures.bytes.0,
+      bound,
+      λ none. c.in_ok-take_piece.ensures text (omega (arith, bound, few)) (taken none),
+    )

@@ -4,11 +4,13 @@ use Rattle.rc_command.proofs.command.read_words.Goals as goal
 
 pub returns-in-Ok-clause-ok : goal.returns-in-Ok-clause-ok
 returns-in-Ok-clause-ok c =
-    IfOk-weaker c.read_matches.result _ _ (λ said is. ap (option_and_then rows_said) (c.in-Ok.ensures.ok is_free_line) ∙ is) c.read_matches.ensures.ok
+    IfOk-weaker c.read_matches.result _ _
+    (λ said is. ap (option_and_then rows_said) (c.in-Ok.ensures.ok is_free_line) ∙ is) c.read_matches.ensures.ok
 
 pub returns-in-Ok-clause-usage : goal.returns-in-Ok-clause-usage
 returns-in-Ok-clause-usage c =
-    IfErr-weaker c.read_matches.result _ _ (λ fault none some. ap (option_and_then rows_said) (c.in-Ok.ensures.ok is_free_line) ∙ none some) c.read_matches.ensures.usage
+    IfErr-weaker c.read_matches.result _ _ (λ fault none some. ap (option_and_then rows_said)
+    (c.in-Ok.ensures.ok is_free_line) ∙ none some) c.read_matches.ensures.usage
 
 pub returns-in-Err-clause-usage : goal.returns-in-Err-clause-usage
 returns-in-Err-clause-usage c = λ some. ap (option_and_then rows_said) (c.in-Err.ensures.usage is_free_line some)

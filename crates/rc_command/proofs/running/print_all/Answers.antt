@@ -8,11 +8,13 @@ report_end-requires g c =
 
 pub returns-clause-statuses : goal.returns-clause-statuses
 returns-clause-statuses g c =
-    print_known c.args.way c.args.path.now c.args.rc.now _ _ _ _ _ c.requires c.report_end.ensures.status c.print_links-ended.ensures
+    print_known c.args.way c.args.path.now c.args.rc.now _ _ _ _ _ c.requires c.report_end.ensures.status
+    c.print_links-ended.ensures
 
 pub returns-clause-done : goal.returns-clause-done
 returns-clause-done g c =
-    print_done c.args.way c.args.path.now c.args.rc.now _ _ _ _ _ c.requires c.report_end.ensures.status c.print_links-ended.ensures
+    print_done c.args.way c.args.path.now c.args.rc.now _ _ _ _ _ c.requires c.report_end.ensures.status
+    c.print_links-ended.ensures
 
 pub returns-clause-part : goal.returns-clause-part
 returns-clause-part g c = c.print_links-ended.ensures.part

@@ -10,4 +10,5 @@ returns-clause-statuses g c = known_by c.args.options.strict _ _ c.report_end.en
 
 pub returns-clause-ran : goal.returns-clause-ran
 returns-clause-ran g c =
-    runs_scripts c.args.options _ _ c.args.path.now _ _ _ _ _ _ _ _ _ c.report_end.ensures.status c.report_end.ensures.report c.run_links-ended.ensures.calls
+    runs_scripts c.args.options _ _ c.args.path.now _ _ _ _ _ _ _ _ _ c.report_end.ensures.status
+    c.report_end.ensures.report c.run_links-ended.ensures.calls

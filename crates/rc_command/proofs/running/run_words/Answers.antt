@@ -3,7 +3,8 @@ use Rattle.command_words.proofs.Refusals.{refused_by}
 use Rattle.rc_command.proofs.running.run_words.Goals as goal
 
 pub returns-in-Ok-clause-done : goal.returns-in-Ok-clause-done
-returns-in-Ok-clause-done g c = λ _ is. let reads = rw c.as_slice-2.ensures.value at c.in-Ok.ensures.ok in (_, reads, c.run_asked.ensures.done is)
+returns-in-Ok-clause-done g c = λ _ is. let reads = rw c.as_slice-2.ensures.value at c.in-Ok.ensures.ok in
+    (_, reads, c.run_asked.ensures.done is)
 
 pub returns-in-Ok-clause-part : goal.returns-in-Ok-clause-part
 returns-in-Ok-clause-part g c = λ _.
@@ -13,10 +14,12 @@ returns-in-Ok-clause-part g c = λ _.
 pub returns-in-Ok-clause-ran : goal.returns-in-Ok-clause-ran
 returns-in-Ok-clause-ran g c = λ _.
     let reads = rw c.as_slice-2.ensures.value at c.in-Ok.ensures.ok in
-    elim c.run_asked.ensures.ran [ inl (fault, same, told) ↦ inl (inr fault, same, told) | inr ran ↦ inr (_, reads, ran) ]
+    elim c.run_asked.ensures.ran
+    [ inl (fault, same, told) ↦ inl (inr fault, same, told) | inr ran ↦ inr (_, reads, ran) ]
 
 pub returns-in-Ok-clause-said : goal.returns-in-Ok-clause-said
-returns-in-Ok-clause-said g c = λ _ _. let reads = rw c.as_slice-2.ensures.value at c.in-Ok.ensures.ok in subst IsSome (sym reads) refl
+returns-in-Ok-clause-said g c = λ _ _. let reads = rw c.as_slice-2.ensures.value at c.in-Ok.ensures.ok in
+    subst IsSome (sym reads) refl
 
 pub returns-clause-refused : goal.returns-clause-refused
 returns-clause-refused g c = λ is.
@@ -24,4 +27,5 @@ returns-clause-refused g c = λ is.
     refused_by c.in-Err.fault c.report_word_fault.result usage c.report_word_fault.ensures.memory is
 
 pub returns-in-Ok-clause-kept : goal.returns-in-Ok-clause-kept
-returns-in-Ok-clause-kept g c = λ _ is. let reads = rw c.as_slice-2.ensures.value at c.in-Ok.ensures.ok in (_, reads, c.run_asked.ensures.kept is)
+returns-in-Ok-clause-kept g c = λ _ is. let reads = rw c.as_slice-2.ensures.value at c.in-Ok.ensures.ok in
+    (_, reads, c.run_asked.ensures.kept is)

@@ -6,7 +6,8 @@ use Rattle.rc_driver.proofs.driving.run_links.Goals as goal
 pub loop-ended-preserved : goal.loop-ended-preserved
 loop-ended-preserved g c = (
   λ ended new after told went.
-      c.loop-ended.invariant.0 ended new after told (runs_more _ _ _ _ _ _ _ _ _ _ _ _ _ _ _ _ (c.run_next.ensures.one c.in_default.is) went),
+      c.loop-ended.invariant.0 ended new after told
+      (runs_more _ _ _ _ _ _ _ _ _ _ _ _ _ _ _ _ (c.run_next.ensures.one c.in_default.is) went),
   λ none. c.run_next.ensures.silent none ∙ c.loop-ended.invariant.1 none,
 )
 
@@ -15,7 +16,8 @@ returns-in-Some-clause-calls g c = c.loop-ended.invariant.0 _ _ _ _ c.in-Some.en
 
 pub returns-in-Some-clause-written : goal.returns-in-Some-clause-written
 returns-in-Some-clause-written g c =
-    writes_ends _ _ c.args.way c.args.dir.now c.args.limit _ _ _ _ _ (c.loop-ended.invariant.0 _ _ _ _ c.in-Some.ensures.last)
+    writes_ends _ _ c.args.way c.args.dir.now c.args.limit _ _ _ _ _
+    (c.loop-ended.invariant.0 _ _ _ _ c.in-Some.ensures.last)
 
 pub returns-in-Some-clause-silent : goal.returns-in-Some-clause-silent
 returns-in-Some-clause-silent g c = λ none. c.run_next.ensures.silent none ∙ c.loop-ended.invariant.1 none

@@ -2,7 +2,8 @@ use Rattle.rc_header.proofs.Words.{◌≡◌, ◌++◌, length, lines_of, block_
 use Rattle.rc_header.proofs.pieces.continue_text.Given as goal
 
 abbrev pub invariant-loop-line : goal.invariant-loop-line
-invariant-loop-line g l = l.text.items ++ continued (block_of (lines_of l.rest)) ≡ l.fn.text.items ++ continued (block_of (lines_of l.body))
+invariant-loop-line g l =
+    l.text.items ++ continued (block_of (lines_of l.rest)) ≡ l.fn.text.items ++ continued (block_of (lines_of l.body))
 
 abbrev pub decreases-loop-line : goal.decreases-loop-line
 decreases-loop-line g l = length l.rest

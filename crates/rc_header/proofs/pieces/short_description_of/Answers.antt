@@ -6,4 +6,5 @@ use Rattle.rc_header.proofs.pieces.short_description_of.Goals as goal
 pub string_of-requires : goal.string_of-requires
 string_of-requires g c =
     let block = block_of (lines_of c.args.body.now) in
-    rw (c.in_ok-from_slice.ensures.items, c.trimmed-text.ensures, c.args_of.ensures) (trim-utf8 (text_at keyword.ShortDescription block) (text_at-utf8 keyword.ShortDescription block c.requires))
+    rw (c.in_ok-from_slice.ensures.items, c.trimmed-text.ensures, c.args_of.ensures)
+    (trim-utf8 (text_at keyword.ShortDescription block) (text_at-utf8 keyword.ShortDescription block c.requires))

@@ -4,4 +4,5 @@ use Rattle.rc_links.proofs.all_last.others.Given as goal
 
 abbrev pub invariant-loop-script : goal.invariant-loop-script
 invariant-loop-script g l =
-    map string_bytes l.names.items ++ flat_map (other_names l.phase) (drop l.script-index l.scripts) ≡ flat_map (other_names l.phase) l.scripts
+    map string_bytes l.names.items ++ flat_map (other_names l.phase) (drop l.script-index l.scripts)
+    ≡ flat_map (other_names l.phase) l.scripts

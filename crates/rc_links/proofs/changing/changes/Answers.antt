@@ -1,4 +1,5 @@
-use Rattle.rc_links.proofs.Words.{◌≡◌, take, sym, subst, map, AllByRecursion, append-nil, drop_all, changes_of, targets_of, kept_script, IsMended, behind}
+use Rattle.rc_links.proofs.Words.{◌≡◌, take, sym, subst, map, AllByRecursion, append-nil, drop_all, changes_of}
+use Rattle.rc_links.proofs.Words.{targets_of, kept_script, IsMended, behind}
 use Rattle.std.proofs.Common.{flat_map}
 use Rattle.rc_links.proofs.MendingLemmas.{all_mended, all_own, kept_stays}
 use Rattle.rc_links.proofs.changing.changes.Goals as goal
@@ -13,7 +14,9 @@ returns g c =
     record {
       changes = whole;
       mended = λ apart count.
-          subst (λ cs. AllByRecursion (IsMended targets (take count cs)) folders) (sym whole) (all_mended targets all count folders (all_own targets folders apart));
+          subst (λ cs. AllByRecursion (IsMended targets (take count cs)) folders) (sym whole)
+          (all_mended targets all count folders (all_own targets folders apart));
       kept = λ apart count s stays.
-          subst (λ cs. kept_script (map (behind (take count cs)) folders) s ≡ kept_script folders s) (sym whole) (kept_stays targets all count folders s (all_own targets folders apart) stays);
+          subst (λ cs. kept_script (map (behind (take count cs)) folders) s ≡ kept_script folders s) (sym whole)
+          (kept_stays targets all count folders s (all_own targets folders apart) stays);
     }

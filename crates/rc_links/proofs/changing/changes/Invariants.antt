@@ -4,4 +4,5 @@ use Rattle.rc_links.proofs.changing.changes.Given as goal
 
 abbrev pub invariant-loop-folder : goal.invariant-loop-folder
 invariant-loop-folder g l =
-    l.found.items ++ flat_map (changes_of (targets_of l.targets)) (drop l.folder-index l.folders) ≡ flat_map (changes_of (targets_of l.targets)) l.folders
+    l.found.items ++ flat_map (changes_of (targets_of l.targets)) (drop l.folder-index l.folders)
+    ≡ flat_map (changes_of (targets_of l.targets)) l.folders

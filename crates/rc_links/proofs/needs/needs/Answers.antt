@@ -5,7 +5,9 @@ use Rattle.rc_links.proofs.needs.needs.Goals as goal
 pub loop-position-preserved : goal.loop-position-preserved
 loop-position-preserved g c =
     rw c.in_ok-add_script.ensures
-    (needs-next c.args.phase c.args.scripts.now c.loop-position.position c.index-scripts-position.result (position_in c.args.table.now) c.loop-position.edges.items _ c.loop-position-test.true c.index-scripts-position.is c.requires c.loop-position.invariant)
+    (needs-next c.args.phase c.args.scripts.now c.loop-position.position c.index-scripts-position.result
+    (position_in c.args.table.now) c.loop-position.edges.items _ c.loop-position-test.true c.index-scripts-position.is
+    c.requires c.loop-position.invariant)
 
 pub returns-clause-range : goal.returns-clause-range
 returns-clause-range g c =

@@ -5,7 +5,9 @@ use Rattle.rc_links.proofs.planning.planned_all.Goals as goal
 
 pub returns-in_err-script-clause-deep : goal.returns-in_err-script-clause-deep
 returns-in_err-script-clause-deep g c =
-    err_and c.from_residual.result c.in_err-script.field-0.0 _ c.from_residual.ensures.1 (Says-weaker c.in_err-script.field-0.0 (any_deep c.args.starts.now c.args.stops.now c.loop-position.position) c.in_err-script.ensures.deep)
+    err_and c.from_residual.result c.in_err-script.field-0.0 _ c.from_residual.ensures.1
+    (Says-weaker c.in_err-script.field-0.0
+    (any_deep c.args.starts.now c.args.stops.now c.loop-position.position) c.in_err-script.ensures.deep)
 
 pub loop-position-preserved : goal.loop-position-preserved
 loop-position-preserved g c =
@@ -19,6 +21,8 @@ loop-position-preserved g c =
     let second = drop_more stops n 0 (omega (arith, c.loop-position-test.true, c.requires.stops)) in
     let kept = rw (cut.0, first, second) at c.loop-position.invariant.planned in
     rw (c.in_ok-push.ensures.items, c.in_ok-script.ensures.planned) (record {
-      planned = planned-step c.loop-position.plan.items _ s (drop (n + 1) scripts) (get_or starts n 0) (get_or stops n 0) (drop (n + 1) starts) (drop (n + 1) stops) kept;
-      short = short-push c.loop-position.plan.items _ c.loop-position.invariant.short (subst (λ (t : PlannedText). IsShort t) c.in_ok-script.ensures.planned c.in_ok-script.ensures.short);
+      planned = planned-step c.loop-position.plan.items _ s (drop (n + 1) scripts) (get_or starts n 0)
+          (get_or stops n 0) (drop (n + 1) starts) (drop (n + 1) stops) kept;
+      short = short-push c.loop-position.plan.items _ c.loop-position.invariant.short
+          (subst (λ (t : PlannedText). IsShort t) c.in_ok-script.ensures.planned c.in_ok-script.ensures.short);
     })

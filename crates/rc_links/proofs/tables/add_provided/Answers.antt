@@ -4,5 +4,7 @@ use Rattle.rc_links.proofs.tables.add_provided.Goals as goal
 
 pub returns : goal.returns
 returns g c = λ bs.
-    let past = drop_all c.loop-name.name-index c.provides-name-items.result.now (omega (arith, c.loop-name-test.false)) in
-    rw (← put_all-is c.args.position c.args.script.now.header.provides bs (position_in c.args.table.now bs)) (rw past at c.loop-name.invariant.known bs)
+    let past =
+    drop_all c.loop-name.name-index c.provides-name-items.result.now (omega (arith, c.loop-name-test.false)) in
+    rw (← put_all-is c.args.position c.args.script.now.header.provides bs (position_in c.args.table.now bs))
+    (rw past at c.loop-name.invariant.known bs)

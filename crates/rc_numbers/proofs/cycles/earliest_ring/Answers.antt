@@ -6,7 +6,8 @@ pub ring_through-requires-clause-range : goal.ring_through-requires-clause-range
 ring_through-requires-clause-range g c =
     let count = length c.args.numbers.now in
     let P : List (ℕ × ℕ) → Type 0 = λ xs. InRange count xs in
-    subst P (sym c.as_slice.ensures.value) (InRange-needs count c.args.edges.now c.in_ok-needs.needs.items c.requires (AreNeeds-permutation c.args.edges.now c.in_ok-needs.needs.items c.in_ok-needs.ensures))
+    subst P (sym c.as_slice.ensures.value) (InRange-needs count c.args.edges.now c.in_ok-needs.needs.items c.requires
+    (AreNeeds-permutation c.args.edges.now c.in_ok-needs.needs.items c.in_ok-needs.ensures))
 
 pub returns-in-Some-clause-ring : goal.returns-in-Some-clause-ring
 returns-in-Some-clause-ring g c =

@@ -24,5 +24,6 @@ loop-other-preserved g c =
     let here : at.0 < length steps = rw (rest_at needs first i) (omega (arith, range.0, c.loop-other.invariant.size)) in
     record {
       size = grind (arith, common_steps);
-      steps = λ old. rw c.in_ok-join_paths.ensures.steps (AreSteps-met needs steps at.0 at.1 here need (c.loop-other.invariant.steps old));
+      steps = λ old. rw c.in_ok-join_paths.ensures.steps
+          (AreSteps-met needs steps at.0 at.1 here need (c.loop-other.invariant.steps old));
     }

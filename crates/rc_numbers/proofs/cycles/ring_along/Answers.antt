@@ -1,4 +1,5 @@
-use Rattle.rc_numbers.proofs.Words.{◌≡◌, ◌++◌, ◌∷◌, ◌∙◌, [], ℕ, List, arith, length, subst, sym, common_steps, AllBelow, IsRing}
+use Rattle.rc_numbers.proofs.Words.{◌≡◌, ◌++◌, ◌∷◌, ◌∙◌, [], ℕ, List, arith, length, subst, sym, common_steps, AllBelow}
+use Rattle.rc_numbers.proofs.Words.{IsRing}
 use Rattle.rc_numbers.proofs.CycleLemmas.{AllBelow-append, AllBelow-one, Trail, Trail-push}
 use Rattle.rc_numbers.proofs.StepLemmas.{first_kept, path_closed}
 use Rattle.rc_numbers.proofs.cycles.ring_along.Goals as goal
@@ -10,7 +11,8 @@ returns-then-need-position-clause-ring g c = λ edges are.
     let next = c.in-Some.need in
     let pushed : c.push.new.self.items ≡ path ++ at ∷ [] = grind (arith, common_steps) in
     let P : List ℕ → Type 0 = λ xs. IsRing edges xs in
-    subst P (sym pushed) (path_closed edges path at next c.args.position (c.steps.invariant.trail edges are) (are at next c.in-Some.is) c.steps.invariant.first c.if-need-position.true)
+    subst P (sym pushed) (path_closed edges path at next c.args.position (c.steps.invariant.trail edges are)
+    (are at next c.in-Some.is) c.steps.invariant.first c.if-need-position.true)
 
 pub steps-preserved : goal.steps-preserved
 steps-preserved g c =
@@ -22,8 +24,10 @@ steps-preserved g c =
     let P : List ℕ → Type 0 = λ xs. AllBelow count xs in
     record {
       at = c.requires.range at next c.in-Some.is;
-      below = subst P (sym pushed) (AllBelow-append count path (at ∷ []) c.steps.invariant.below (AllBelow-one count at c.steps.invariant.at));
+      below = subst P (sym pushed)
+          (AllBelow-append count path (at ∷ []) c.steps.invariant.below (AllBelow-one count at c.steps.invariant.at));
       trail = λ edges are. (let Q : List ℕ → Type 0 = λ xs. Trail edges xs next in
-          subst Q (sym pushed) (Trail-push edges path at next (c.steps.invariant.trail edges are) (are at next c.in-Some.is)));
+          subst Q (sym pushed)
+          (Trail-push edges path at next (c.steps.invariant.trail edges are) (are at next c.in-Some.is)));
       first = rw pushed (first_kept path at next ∙ c.steps.invariant.first);
     }

@@ -11,4 +11,5 @@ returns-in-None-clause-least g c =
     (λ a within. all a (omega (arith, c.in_ok-numbers.ensures.partial.size)))
 
 pub returns-in_ok-cycle-in-Some-clause-none : goal.returns-in_ok-cycle-in-Some-clause-none
-returns-in_ok-cycle-in-Some-clause-none g c = λ number numbering. IsCycle-none c.args.edges.now c.in_ok-cycle-in-Some.field-0.items c.in_ok-cycle-in-Some.ensures.cycle number numbering
+returns-in_ok-cycle-in-Some-clause-none g c = λ number numbering. IsCycle-none c.args.edges.now
+    c.in_ok-cycle-in-Some.field-0.items c.in_ok-cycle-in-Some.ensures.cycle number numbering

@@ -1,4 +1,5 @@
-use Rattle.rc_numbers.proofs.Words.{◌≡◌, arith, sym, ◌∙◌, false, length, replicate, inl, inr, bytes_eq, common_steps, true≢false, AreHeights, settled}
+use Rattle.rc_numbers.proofs.Words.{◌≡◌, arith, sym, ◌∙◌, false, length, replicate, inl, inr, bytes_eq, common_steps}
+use Rattle.rc_numbers.proofs.Words.{true≢false, AreHeights, settled}
 use Rattle.rc_numbers.proofs.PassLemmas.{IsPartial-next, IsPartial-start, IsStuck-same, fewer, same_lists, same_self}
 use Rattle.rc_numbers.proofs.passes.numbers.Goals as goal
 
@@ -14,7 +15,8 @@ returns-then-eq-clause-stuck g c =
     let next : c.in_ok-next.next.items ≡ settled numbers heights = grind (arith, common_steps) in
     let size : length heights ≡ length numbers = grind (arith, common_steps) in
     let are : AreHeights c.args.edges.now numbers heights = grind (arith, common_steps) in
-    let still : c.in_ok-next.next.items ≡ numbers = same_lists c.in_ok-next.next.items numbers (grind (arith, common_steps)) in
+    let still : c.in_ok-next.next.items ≡ numbers =
+    same_lists c.in_ok-next.next.items numbers (grind (arith, common_steps)) in
     IsStuck-same c.args.count c.args.edges.now numbers heights c.passes.invariant.size size are (sym next ∙ still)
 
 pub passes-smaller : goal.passes-smaller

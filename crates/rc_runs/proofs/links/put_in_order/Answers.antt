@@ -7,4 +7,5 @@ pub returns : goal.returns
 returns g c =
     ap texts_of (dedup_is _ c.sort_unstable.new.self.items c.dedup.new.self.items c.dedup.ensures.filtered)
     ∙ map-dedup (λ link. link.now) c.sort_unstable.new.self.items
-    ∙ ap (dedup bytes_eq) (sorted_texts (λ link. link.now) c.args.links.now.items c.sort_unstable.new.self.items c.sort_unstable.ensures.permutation c.sort_unstable.ensures.sorted)
+    ∙ ap (dedup bytes_eq) (sorted_texts (λ link. link.now) c.args.links.now.items c.sort_unstable.new.self.items
+    c.sort_unstable.ensures.permutation c.sort_unstable.ensures.sorted)

@@ -60,7 +60,8 @@ returns-in-None-clause-told g c = λ plain.
     let new = c.plan_all.new.reading.report.items in
     let first = rw c.deref.ensures.value at c.in-None.ensures.value in
     let all =
-    all_given (keeps_going (line_said c.args.line.now)) text_at paths scripts faults first c.in_ok-faults.ensures.read in
+    all_given
+    (keeps_going (line_said c.args.line.now)) text_at paths scripts faults first c.in_ok-faults.ensures.read in
     let warned = warned_told text_at paths faults old c.read_files.new.reading.report.items
     (c.in_ok-faults.ensures.told plain) (none_first faults first) in
     let same = subst (λ report. Warns old report.items) (sym c.add_last.ensures.untold) warned in

@@ -3,4 +3,5 @@ use Rattle.rclinks_command.proofs.planned.planned_at.Given as goal
 
 abbrev pub invariant-loop-link : goal.invariant-loop-link
 invariant-loop-link l =
-    l.planned.items ++ map link_entry (map (λ link. link.items) (drop l.link-index l.link-items)) ≡ planned_at l.plan l.fn.level
+    l.planned.items ++ map link_entry (map (λ link. link.items) (drop l.link-index l.link-items))
+    ≡ planned_at l.plan l.fn.level

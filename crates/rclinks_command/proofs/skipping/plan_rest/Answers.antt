@@ -8,7 +8,8 @@ returns-in_err-leave_out-clause-left c =
     c.in-Err.fault c.in-Some.position c.loop-plan.invariant (rw c.as_slice.ensures.value at c.in-Err.ensures.refused)
     (rw c.as_slice-in-loop-plan.ensures.value at c.in-Some.ensures.fault)
     (subst (λ s. c.leave_out.new.reading.scripts.items
-    ≡ take c.in-Some.position s.items ++ drop (c.in-Some.position + 1) s.items) c.tell_fault.ensures c.leave_out.ensures)
+    ≡ take c.in-Some.position s.items
+    ++ drop (c.in-Some.position + 1) s.items) c.tell_fault.ensures c.leave_out.ensures)
 
 pub loop-plan-preserved-in_ok-leave_out : goal.loop-plan-preserved-in_ok-leave_out
 loop-plan-preserved-in_ok-leave_out c =
@@ -16,7 +17,8 @@ loop-plan-preserved-in_ok-leave_out c =
     c.in-Err.fault c.in-Some.position c.loop-plan.invariant (rw c.as_slice.ensures.value at c.in-Err.ensures.refused)
     (rw c.as_slice-in-loop-plan.ensures.value at c.in-Some.ensures.fault)
     (subst (λ s. c.leave_out.new.reading.scripts.items
-    ≡ take c.in-Some.position s.items ++ drop (c.in-Some.position + 1) s.items) c.tell_fault.ensures c.leave_out.ensures)
+    ≡ take c.in-Some.position s.items
+    ++ drop (c.in-Some.position + 1) s.items) c.tell_fault.ensures c.leave_out.ensures)
 
 pub loop-plan-preserved-in_ok-leave_out-2 : goal.loop-plan-preserved-in_ok-leave_out-2
 loop-plan-preserved-in_ok-leave_out-2 c =
@@ -24,7 +26,8 @@ loop-plan-preserved-in_ok-leave_out-2 c =
     c.in-Err.fault c.in-Some.position c.loop-plan.invariant (rw c.as_slice.ensures.value at c.in-Err.ensures.refused)
     (rw c.as_slice-in-loop-plan.ensures.value at c.in-Some.ensures.fault)
     (subst (λ s. c.leave_out.new.reading.scripts.items
-    ≡ take c.in-Some.position s.items ++ drop (c.in-Some.position + 1) s.items) c.tell_fault.ensures c.leave_out.ensures)
+    ≡ take c.in-Some.position s.items
+    ++ drop (c.in-Some.position + 1) s.items) c.tell_fault.ensures c.leave_out.ensures)
 
 pub loop-plan-preserved-in_ok-leave_out-3 : goal.loop-plan-preserved-in_ok-leave_out-3
 loop-plan-preserved-in_ok-leave_out-3 c =
@@ -32,4 +35,5 @@ loop-plan-preserved-in_ok-leave_out-3 c =
     c.in-Err.fault c.in-Some.position c.loop-plan.invariant (rw c.as_slice.ensures.value at c.in-Err.ensures.refused)
     (rw c.as_slice-in-loop-plan.ensures.value at c.in-Some.ensures.fault)
     (subst (λ s. c.leave_out.new.reading.scripts.items
-    ≡ take c.in-Some.position s.items ++ drop (c.in-Some.position + 1) s.items) c.tell_fault.ensures c.leave_out.ensures)
+    ≡ take c.in-Some.position s.items
+    ++ drop (c.in-Some.position + 1) s.items) c.tell_fault.ensures c.leave_out.ensures)

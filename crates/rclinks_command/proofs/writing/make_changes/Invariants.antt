@@ -3,4 +3,5 @@ use Rattle.rclinks_command.proofs.writing.make_changes.Given as goal
 
 abbrev pub invariant-loop-position : goal.invariant-loop-position
 invariant-loop-position g l =
-    Becomes (g.F.LinkFolders.held l.fn.folders) (g.F.LinkFolders.held l.folders) (changed_by l.dir (take l.position l.changes))
+    Becomes (g.F.LinkFolders.held l.fn.folders) (g.F.LinkFolders.held l.folders)
+    (changed_by l.dir (take l.position l.changes))

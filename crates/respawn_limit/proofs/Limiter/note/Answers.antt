@@ -1,5 +1,6 @@
 use Rattle.respawn_limit.proofs.Words.{◌≡◌, ◌++◌, ◌∷◌, [], rules, subst, IsNonDecreasing, LimiterState, last_starts}
-use Rattle.respawn_limit.proofs.WindowLemmas.{length-last_starts, IsNonDecreasing-last_starts, IsNonDecreasing-push, Remembers-push}
+use Rattle.respawn_limit.proofs.WindowLemmas.{length-last_starts, IsNonDecreasing-last_starts, IsNonDecreasing-push}
+use Rattle.respawn_limit.proofs.WindowLemmas.{Remembers-push}
 use Rattle.respawn_limit.proofs.PastLemmas.{StandsAfter-Noted, is_run-Noted}
 use Rattle.respawn_limit.proofs.Limiter.note.Goals as goal
 
@@ -24,4 +25,5 @@ returns-clause-past c = λ past stands.
     StandsAfter-Noted c.args.self.now _ past c.args.now stands c.requires.late (search rules)
 
 pub returns-clause-run : goal.returns-clause-run
-returns-clause-run c = λ past stands run late. is_run-Noted c.args.self.now past c.args.now stands c.requires.allowed run late
+returns-clause-run c =
+    λ past stands run late. is_run-Noted c.args.self.now past c.args.now stands c.requires.allowed run late

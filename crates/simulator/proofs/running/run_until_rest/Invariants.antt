@@ -8,7 +8,8 @@ abbrev pub invariant-steps : goal.invariant-steps
 invariant-steps g l = record {
   some : SomeMoment l.core l.side;
   generation : l.core.fields.generation ≡ l.fn.core.fields.generation;
-  all : FromMoment l.fn.core l.fn.side (λ goal past. WentOn goal past l.core l.side (g.W.Write.contents l.fn.out) (g.W.Write.contents l.out));
+  all : FromMoment l.fn.core l.fn.side
+      (λ goal past. WentOn goal past l.core l.side (g.W.Write.contents l.fn.out) (g.W.Write.contents l.out));
 }
 
 abbrev pub decreases-steps : goal.decreases-steps

@@ -1,5 +1,6 @@
 use Rattle.std.proofs.Common.{Result, Ok, Err, OnOk}
-use Rattle.program_io.proofs.WritingLemmas.{AppendsFront-prefix, AppendsPrefix-first, AppendsPrefix-of_write, AppendsPrefix-then}
+use Rattle.program_io.proofs.WritingLemmas.{AppendsFront-prefix, AppendsPrefix-first, AppendsPrefix-of_write}
+use Rattle.program_io.proofs.WritingLemmas.{AppendsPrefix-then}
 use Rattle.telinit_command.proofs.channel.append_between.Goals as goal
 
 on_ok : {T E : Type 0} (ended : Result T E) (P : Type 0) → P → OnOk ended P

@@ -10,7 +10,8 @@ loop-end-preserved c =
     let back : last + 1 ≡ c.loop-end.end = omega arith in
     record {
       within = omega arith;
-      same = sym (trim_end-shorter text last (omega arith) (sym c.is_blank.ensures ∙ c.if-is_blank.true)) ∙ ap (λ k. trim_end (take k text)) back ∙ c.loop-end.invariant.same;
+      same = sym (trim_end-shorter text last (omega arith) (sym c.is_blank.ensures ∙ c.if-is_blank.true))
+          ∙ ap (λ k. trim_end (take k text)) back ∙ c.loop-end.invariant.same;
     }
 
 pub returns : goal.returns
@@ -20,7 +21,8 @@ returns c =
       | then-loop-end-test+else-is_blank w ↦
           (let last = c.loop-end.end - 1 in
           let back : last + 1 ≡ c.loop-end.end = omega (arith, w.loop-end-test) in
-          sym (rw back at (trim_end-done text last (omega (arith, w.loop-end-test)) (sym w.is_blank.ensures ∙ w.if-is_blank.false))) ∙ c.loop-end.invariant.same)
+          sym (rw back at (trim_end-done text last (omega (arith, w.loop-end-test))
+          (sym w.is_blank.ensures ∙ w.if-is_blank.false))) ∙ c.loop-end.invariant.same)
       | else-loop-end-test w ↦
           (let none : c.loop-end.end ≡ 0 = omega (arith, w.loop-end-test) in
           rw none (sym trim_end-nil ∙ rw none at c.loop-end.invariant.same))

@@ -9,7 +9,8 @@ loop-preserved c =
     let line = c.in_ok-rest.field-0-0.now in
     let rest = c.in_ok-rest.field-0-1.now in
     let found : cut 10 c.loop.rest.now ≡ Some (line, rest) = search rules in
-    ap (λ n. after_lines n rest) less ∙ sym (after_lines-step left c.loop.rest.now line rest (omega arith) found) ∙ c.loop.invariant
+    ap (λ n. after_lines n rest) less ∙ sym (after_lines-step left c.loop.rest.now line rest (omega arith) found)
+    ∙ c.loop.invariant
 
 pub returns-in_err-rest : goal.returns-in_err-rest
 returns-in_err-rest c =

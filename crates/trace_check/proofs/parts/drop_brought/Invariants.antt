@@ -3,4 +3,5 @@ use Rattle.trace_check.proofs.parts.drop_brought.Given as goal
 
 -- what was asked before and is brought by no entry so far
 abbrev pub invariant-loop-position : goal.invariant-loop-position
-invariant-loop-position g l = (id : List ℕ) → among id l.asked.keys ≡ (not (list_any (λ e. has_id id e && is_changed e.id l.next l.before) (take l.position l.next)) && among id l.fn.asked.keys)
+invariant-loop-position g l = (id : List ℕ) → among id l.asked.keys ≡ (not (list_any
+    (λ e. has_id id e && is_changed e.id l.next l.before) (take l.position l.next)) && among id l.fn.asked.keys)

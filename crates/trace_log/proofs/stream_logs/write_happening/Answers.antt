@@ -10,4 +10,5 @@ returns-in_err-write_text-clause-err g c =
     let is : c.from_residual-in_err-write_text.result ≡ Err fault.Device = search rules in
     let same : c.deref.result.now ≡ event_text c.args.happening.now = search rules in
     err_is c.from_residual-in_err-write_text.result fault.Device _ is
-    (subst (λ (text : List ℕ). AppendsFront (g.W.Write.contents c.args.out.now) (g.W.Write.contents c.write_text.new.out) text) same c.in_err-write_text.ensures.err)
+    (subst (λ (text : List ℕ). AppendsFront (g.W.Write.contents c.args.out.now)
+    (g.W.Write.contents c.write_text.new.out) text) same c.in_err-write_text.ensures.err)

@@ -7,4 +7,5 @@ returns-then-failed-clause-handed g c = hands_failed (g.L.Log.state c.args.log.n
 
 pub returns-clause-handed : goal.returns-clause-handed
 returns-clause-handed g c =
-    hands_held c.write_held.result (g.L.Log.state c.args.log.now) (g.L.Log.state c.write_held.new.log) c.args.held.now (search rules) c.write_held.ensures.ok c.write_held.ensures.err c.is_ok.result c.is_ok.ensures.value
+    hands_held c.write_held.result (g.L.Log.state c.args.log.now) (g.L.Log.state c.write_held.new.log) c.args.held.now
+    (search rules) c.write_held.ensures.ok c.write_held.ensures.err c.is_ok.result c.is_ok.ensures.value

@@ -8,6 +8,8 @@ returns-clause-err g c =
     let old = (g.L.Log.state c.args.log.now) in
     let one = (g.L.Log.state c.write_reading.new.log) in
     let two = (g.L.Log.state c.write_round.new.log) in
-    front_err c.write_look.result old two (g.L.Log.state c.write_look.new.log) (reading_events c.args.held.now.reading ++ round_events c.args.held.now.round) (reverse (look_events c.args.held.now.look))
-    (adds_two old one two (reading_events c.args.held.now.reading) (round_events c.args.held.now.round) c.in_ok-write_reading.ensures.ok c.in_ok-write_round.ensures.ok)
+    front_err c.write_look.result old two (g.L.Log.state c.write_look.new.log) (reading_events c.args.held.now.reading
+    ++ round_events c.args.held.now.round) (reverse (look_events c.args.held.now.look))
+    (adds_two old one two (reading_events c.args.held.now.reading)
+    (round_events c.args.held.now.round) c.in_ok-write_reading.ensures.ok c.in_ok-write_round.ensures.ok)
     c.write_look.ensures.err

@@ -7,14 +7,21 @@ use Rattle.trace_pass.proofs.pass.first_breach.Goals as goal
 
 pub returns-in-Some : goal.returns-in-Some
 returns-in-Some g c =
-    let broke : Some (law_number c.in-Some.law) ≡ broken c.index-trace-position.result (reverse (take c.loop-position.position c.args.trace.now)) =
+    let broke : Some (law_number c.in-Some.law)
+    ≡ broken c.index-trace-position.result (reverse (take c.loop-position.position c.args.trace.now)) =
     ap (option_map law_number) (sym c.in-Some.is) ∙ c.in_ok-law.ensures.law _ c.loop-position.invariant in
-    breach_found c.args.trace.now c.loop-position.position (law_number c.in-Some.law) c.index-trace-position.result c.loop-position.invariant.lawful c.loop-position-test.true c.index-trace-position.is broke
+    breach_found c.args.trace.now c.loop-position.position (law_number c.in-Some.law) c.index-trace-position.result
+    c.loop-position.invariant.lawful c.loop-position-test.true c.index-trace-position.is broke
 
 pub loop-position-preserved : goal.loop-position-preserved
 loop-position-preserved g c =
-    let next : TakesNext None c.loop-position.judge c.take.new.self c.index-trace-position.result = subst (λ law. TakesNext law c.loop-position.judge c.take.new.self c.index-trace-position.result) c.in_default.is c.in_ok-law.ensures.next in
-    subst (λ past. Judged c.take.new.self past) (sym (one_more c.args.trace.now c.loop-position.position c.index-trace-position.result c.loop-position-test.true c.index-trace-position.is)) (next _ c.loop-position.invariant)
+    let next : TakesNext None c.loop-position.judge c.take.new.self c.index-trace-position.result =
+    subst (λ law. TakesNext law c.loop-position.judge c.take.new.self c.index-trace-position.result) c.in_default.is
+    c.in_ok-law.ensures.next in
+    subst (λ past. Judged c.take.new.self past) (sym (one_more c.args.trace.now c.loop-position.position
+    c.index-trace-position.result c.loop-position-test.true c.index-trace-position.is))
+    (next _ c.loop-position.invariant)
 
 pub returns : goal.returns
-returns g c = passed_all c.args.trace.now c.loop-position.position c.loop-position.invariant.lawful c.loop-position-test.false
+returns g c =
+    passed_all c.args.trace.now c.loop-position.position c.loop-position.invariant.lawful c.loop-position-test.false

@@ -2,7 +2,8 @@ use Rattle.trace_text.proofs.CommonWords.{refl, sym, pieces_of-cut, pieces_of-wh
 use Rattle.trace_text.proofs.words.read_use.Goals as goal
 
 pub returns-in-Some : goal.returns-in-Some
-returns-in-Some c = rw (pieces_of-cut 32 c.args.line.now c.in-Some.word.now c.in-Some.rest.now (sym c.in-Some.ensures)) c.read_count.ensures
+returns-in-Some c = rw (pieces_of-cut 32 c.args.line.now c.in-Some.word.now c.in-Some.rest.now (sym c.in-Some.ensures))
+    c.read_count.ensures
 
 pub returns-in-None : goal.returns-in-None
 returns-in-None c = rw (pieces_of-whole 32 c.args.line.now (sym c.in-None.ensures)) refl

@@ -1,4 +1,5 @@
-use Rattle.core_records.proofs.Words.{rules, refl, ap, sym, ◌∙◌, map_same_pairs, CLOCK_LIMIT, after_enter, counts_of, child_of, termed_of}
+use Rattle.core_records.proofs.Words.{rules, refl, ap, sym, ◌∙◌, map_same_pairs, CLOCK_LIMIT, after_enter, counts_of}
+use Rattle.core_records.proofs.Words.{child_of, termed_of}
 use Rattle.core_records.proofs.Changed.{timely_enter}
 use Rattle.core_records.proofs.Counted.{same_counts}
 use Rattle.core_records.proofs.Found.{all_written}
@@ -7,13 +8,18 @@ use Rattle.core_records.proofs.records.Records.entered.Goals as goal
 
 pub invariant_of-self : goal.invariant_of-self
 invariant_of-self g c =
-    let left = all_written after_enter c.self.inside.records.entries c.retain.new.self.entries c.args.self.now (λ s. refl) c.self.invariant.0 c.self.view_is (map_same_pairs _ after_enter _ (λ k v b w f t. search rules) _ _ c.retain.ensures.filtered) in (
+    let left = all_written after_enter c.self.inside.records.entries c.retain.new.self.entries c.args.self.now
+    (λ s. refl) c.self.invariant.0 c.self.view_is
+    (map_same_pairs _ after_enter _ (λ k v b w f t. search rules) _ _ c.retain.ensures.filtered) in (
       left.own,
       left.timely CLOCK_LIMIT (λ s kept. timely_enter CLOCK_LIMIT s kept) (rw c.self.view_is at c.self.invariant.1),
-      c.self.invariant.2 ∙ ap counts_of c.self.view_is ∙ same_counts after_enter (λ s. refl) (λ s. refl) c.args.self.now ∙ sym (ap counts_of left.values),
+      c.self.invariant.2 ∙ ap counts_of c.self.view_is ∙ same_counts after_enter (λ s. refl) (λ s. refl) c.args.self.now
+          ∙ sym (ap counts_of left.values),
       same_index child_of after_enter (λ s. refl) c.self.inside.children c.self.view_is left.values c.self.invariant.3,
       same_index termed_of after_enter (λ s. refl) c.self.inside.termed c.self.view_is left.values c.self.invariant.4,
     )
 
 pub returns : goal.returns
-returns g c = (all_written after_enter c.self.inside.records.entries c.retain.new.self.entries c.args.self.now (λ s. refl) c.self.invariant.0 c.self.view_is (map_same_pairs _ after_enter _ (λ k v b w f t. search rules) _ _ c.retain.ensures.filtered)).values
+returns g c = (all_written after_enter c.self.inside.records.entries c.retain.new.self.entries c.args.self.now
+    (λ s. refl) c.self.invariant.0 c.self.view_is
+    (map_same_pairs _ after_enter _ (λ k v b w f t. search rules) _ _ c.retain.ensures.filtered)).values

@@ -4,7 +4,9 @@ use Rattle.core_records.proofs.Found.{looked_up, placed}
 use Rattle.core_records.proofs.records.Records.place_of.Goals as goal
 
 pub returns-clause-found : goal.returns-clause-found
-returns-clause-found g c = c.get_index_of.ensures.found ∙ ap is_some (looked_up c.args.id.now c.self.inside.records.entries c.args.self.now c.self.invariant.0 c.self.view_is)
+returns-clause-found g c = c.get_index_of.ensures.found ∙ ap is_some
+    (looked_up c.args.id.now c.self.inside.records.entries c.args.self.now c.self.invariant.0 c.self.view_is)
 
 pub returns-clause-position : goal.returns-clause-position
-returns-clause-position g c = placed c.args.id.now c.self.inside.records.entries c.args.self.now c.self.invariant.0 c.self.view_is c.get_index_of.result c.get_index_of.ensures.value
+returns-clause-position g c = placed c.args.id.now c.self.inside.records.entries c.args.self.now c.self.invariant.0
+    c.self.view_is c.get_index_of.result c.get_index_of.ensures.value

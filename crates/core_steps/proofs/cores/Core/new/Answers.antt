@@ -2,7 +2,9 @@ use Rattle.core_steps.proofs.Words.{opening_goal, fits_opening, opening_keeps}
 use Rattle.core_steps.proofs.cores.Core.new.Goals as goal
 
 pub invariant_of-result : goal.invariant_of-result
-invariant_of-result g c = rw c.in_ok-bare.ensures.state (opening_keeps c.args.table (opening_goal c.args.level c.args.table) c.new_by_state.ensures.distinct)
+invariant_of-result g c = rw c.in_ok-bare.ensures.state
+    (opening_keeps c.args.table (opening_goal c.args.level c.args.table) c.new_by_state.ensures.distinct)
 
 pub returns-clause-fits : goal.returns-clause-fits
-returns-clause-fits g c = rw c.in_ok-bare.ensures.state (fits_opening c.args.table (opening_goal c.args.level c.args.table) c.new_by_state.ensures.distinct)
+returns-clause-fits g c = rw c.in_ok-bare.ensures.state
+    (fits_opening c.args.table (opening_goal c.args.level c.args.table) c.new_by_state.ensures.distinct)

@@ -6,5 +6,14 @@ pub invariant_of-self : goal.invariant_of-self
 invariant_of-self g c =
     let kept : c.self.inside.fields.time ≤ CLOCK_LIMIT = c.self.invariant.0 in
     let later : c.self.inside.fields.time ≤ c.max-self-inside.result = omega arith in
-    let capped : c.max-self-inside.result ≤ CLOCK_LIMIT = omega arith in
-    (capped, timely_later c.self.inside.fields.time c.max-self-inside.result later c.self.inside.slots c.self.invariant.1, c.self.invariant.2, c.self.invariant.3, c.all_if-self-inside.ensures (is_passed_at c.self.inside.fields.stage c.max-self-inside.result (zip c.self.inside.table c.self.inside.slots)) (λ same. still_passed c.self.inside.fields.stage c.self.inside.fields.time c.max-self-inside.result (zip c.self.inside.table c.self.inside.slots) c.self.inside.starts later same c.self.invariant.4))
+    let capped : c.max-self-inside.result ≤ CLOCK_LIMIT = omega arith in (
+      capped,
+      timely_later c.self.inside.fields.time c.max-self-inside.result later c.self.inside.slots c.self.invariant.1,
+      c.self.invariant.2,
+      c.self.invariant.3,
+      c.all_if-self-inside.ensures
+          (is_passed_at c.self.inside.fields.stage c.max-self-inside.result
+          (zip c.self.inside.table c.self.inside.slots))
+          (λ same. still_passed c.self.inside.fields.stage c.self.inside.fields.time c.max-self-inside.result
+          (zip c.self.inside.table c.self.inside.slots) c.self.inside.starts later same c.self.invariant.4),
+    )

@@ -4,4 +4,5 @@ use Rattle.host_system.proofs.Holding.{found_held}
 use Rattle.host_system.proofs.children.Children.holds.Goals as goal
 
 pub returns : goal.returns
-returns g c = c.contains_key.ensures ∙ found_held c.args.id.now c.self.inside.handles.entries ∙ ap (holds_child c.args.id.now) c.self.view_is
+returns g c = c.contains_key.ensures ∙ found_held c.args.id.now c.self.inside.handles.entries
+    ∙ ap (holds_child c.args.id.now) c.self.view_is

@@ -8,4 +8,5 @@ use Rattle.host_system.proofs.children.Children.release.Goals as goal
 pub returns : goal.returns
 returns g c =
     let left = c.shift_remove.ensures in
-    left.entries ∙ released c.args.id.now c.self.inside.handles.entries (ap (lookup (same_id c.args.id.now)) (sym left.entries) ∙ left.updates.1) ∙ ap (without_child c.args.id.now) c.self.view_is
+    left.entries ∙ released c.args.id.now c.self.inside.handles.entries (ap (lookup (same_id c.args.id.now))
+    (sym left.entries) ∙ left.updates.1) ∙ ap (without_child c.args.id.now) c.self.view_is

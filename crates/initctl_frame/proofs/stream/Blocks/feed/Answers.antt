@@ -1,4 +1,6 @@
-use Rattle.initctl_frame.proofs.Words.{rules, arith, ◌≡◌, ◌∙◌, ap, sym, ◌+◌, ◌-◌, ◌<◌, ◌≤◌, ◌++◌, ℕ, [], ◌∷◌, length, take, lit≤, length-take-le, append-nil, HeardRequest, heard_of, Begun, gots_of, over_of}
+use Rattle.initctl_frame.proofs.Words.{rules, arith, ◌≡◌, ◌∙◌, ap, sym, ◌+◌, ◌-◌, ◌<◌, ◌≤◌, ◌++◌, ℕ, [], ◌∷◌, length}
+use Rattle.initctl_frame.proofs.Words.{take, lit≤, length-take-le, append-nil, HeardRequest, heard_of, Begun, gots_of}
+use Rattle.initctl_frame.proofs.Words.{over_of}
 use Rattle.std.proofs.Common.{min}
 use Rattle.initctl_frame.proofs.BlockLemmas.{count_feeds, front_joins, heard_of_front, gots_grow, gots_stay, over_feeds}
 use Rattle.initctl_frame.proofs.stream.Blocks.feed.Goals as goal
@@ -17,7 +19,8 @@ returns-then-self-taken-lt-BLOCK-clause-stands c = λ bytes stood.
     record {
       count = ap (λ (k : ℕ). k + taken) count ∙ sym (count_feeds bytes piece taken within short);
       front = items ∙ ap (λ (k : ℕ). front ++ take k piece) kept
-          ∙ front_joins 16 taken (over_of bytes) piece front within (ap (λ (b : Begun). b.front) c.self.view_is ∙ stood.front)
+          ∙ front_joins 16 taken (over_of bytes) piece front within
+          (ap (λ (b : Begun). b.front) c.self.view_is ∙ stood.front)
           ∙ ap (take 16) (sym (over_feeds bytes piece taken within short));
     }
 
@@ -39,7 +42,9 @@ returns-clause-got c = λ bytes stood.
     let items : c.as_slice.result.now ≡ front ++ take c.min-kept.result piece = search rules in
     let kept = c.min-kept.ensures ∙ ap (λ (k : ℕ). min taken (16 - k)) c.len.ensures.value in
     let block = items ∙ ap (λ (k : ℕ). front ++ take k piece) kept
-    ∙ front_joins 16 taken (over_of bytes) piece front within (ap (λ (b : Begun). b.front) c.self.view_is ∙ stood.front) in
+    ∙ front_joins 16 taken (over_of bytes) piece front within
+    (ap (λ (b : Begun). b.front) c.self.view_is ∙ stood.front) in
     gots_grow bytes (take taken piece) (omega arith)
     ∙ ap (λ (got : HeardRequest). gots_of bytes ++ got ∷ [])
-    (sym (c.decode_front-got.ensures ∙ ap heard_of block ∙ heard_of_front 16 (over_of bytes ++ take taken piece) (lit≤ tt)))
+    (sym
+    (c.decode_front-got.ensures ∙ ap heard_of block ∙ heard_of_front 16 (over_of bytes ++ take taken piece) (lit≤ tt)))

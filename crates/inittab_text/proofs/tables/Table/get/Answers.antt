@@ -4,4 +4,7 @@ use Rattle.inittab_text.proofs.tables.Table.get.Goals as goal
 
 -- the map finds what the list of its values has
 pub returns : goal.returns
-returns g c = record { value = rw (← c.self.view_is) (c.get.ensures.value ∙ lookup-find (λ (e : Entry). e.id) (same_id c.args.id.now) c.self.inside.entries.entries c.self.invariant.0) }
+returns g c = record {
+  value = rw (← c.self.view_is) (c.get.ensures.value
+      ∙ lookup-find (λ (e : Entry). e.id) (same_id c.args.id.now) c.self.inside.entries.entries c.self.invariant.0);
+}

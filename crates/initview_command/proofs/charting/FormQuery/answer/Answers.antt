@@ -5,6 +5,7 @@ pub returns : goal.returns
 returns c = λ past seen has. (
   c.in_ok-push.ensures.items
       ∙ ap (λ ls. ls ++ c.in_ok-drawn.drawn ∷ []) c.new-lines.ensures.items
-      ∙ ap (λ l. l ∷ []) (c.in_ok-drawn.ensures past (subst (λ (v : ViewState). Viewed v past) (sym c.view.ensures) seen) (c.seen.ensures ∙ has)),
+      ∙ ap (λ l. l ∷ []) (c.in_ok-drawn.ensures past
+      (subst (λ (v : ViewState). Viewed v past) (sym c.view.ensures) seen) (c.seen.ensures ∙ has)),
   c.stop_status.ensures,
 )

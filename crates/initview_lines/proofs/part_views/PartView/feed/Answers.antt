@@ -4,4 +4,5 @@ use Rattle.initview_lines.proofs.part_views.PartView.feed.Goals as goal
 
 pub returns-in-Some : goal.returns-in-Some
 returns-in-Some c = λ said text told.
-    fed_stopped c.args.self.now c.in-Some.field-0 said text c.args.piece.now (sym (ap (λ (s : PartState). s.stop) c.self.view_is) ∙ c.in-Some.is) told
+    fed_stopped c.args.self.now c.in-Some.field-0 said text c.args.piece.now
+    (sym (ap (λ (s : PartState). s.stop) c.self.view_is) ∙ c.in-Some.is) told

@@ -4,10 +4,12 @@ use Rattle.initview_lines.proofs.part_views.PartView.take.Goals as goal
 
 pub loop-preserved : goal.loop-preserved
 loop-preserved c = λ said text small told.
-    more_told c.in_ok-tell_next.field-0 c.loop.self c.tell_next.new.self (said ++ c.loop.lines.items) (said ++ c.tell_next.new.lines.items) (text ++ c.args.piece.now) c.if-branch.true
+    more_told c.in_ok-tell_next.field-0 c.loop.self c.tell_next.new.self (said ++ c.loop.lines.items)
+    (said ++ c.tell_next.new.lines.items) (text ++ c.args.piece.now) c.if-branch.true
     (c.in_ok-tell_next.ensures.goes said (text ++ c.args.piece.now) small) (c.loop.invariant said text small told)
 
 pub returns : goal.returns
 returns c = λ said text small told.
-    all_told c.in_ok-tell_next.field-0 c.loop.self c.tell_next.new.self (said ++ c.loop.lines.items) (said ++ c.tell_next.new.lines.items) (text ++ c.args.piece.now) c.if-branch.false
+    all_told c.in_ok-tell_next.field-0 c.loop.self c.tell_next.new.self (said ++ c.loop.lines.items)
+    (said ++ c.tell_next.new.lines.items) (text ++ c.args.piece.now) c.if-branch.false
     (c.in_ok-tell_next.ensures.goes said (text ++ c.args.piece.now) small) (c.loop.invariant said text small told)

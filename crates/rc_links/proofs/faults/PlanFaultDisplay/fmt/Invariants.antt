@@ -6,4 +6,5 @@ use Rattle.rc_links.proofs.faults.PlanFaultDisplay.fmt.Given as goal
 
 abbrev pub invariant-loop-name : goal.invariant-loop-name
 invariant-loop-name g l =
-    IsPlainFormatter l.initial.f → HasWritten g.W.Write.write_str_gives l.initial.f (flat_map with_blank (take l.name-index l.name-items)) l.f
+    IsPlainFormatter l.initial.f
+    → HasWritten g.W.Write.write_str_gives l.initial.f (flat_map with_blank (take l.name-index l.name-items)) l.f

@@ -8,4 +8,6 @@ three (Ok x) P Q R S f p q t = f p q t
 three (Err e) P Q R S f p q t = tt
 
 pub returns-clause-ok : goal.returns-clause-ok
-returns-clause-ok g c = three c.take_by_state.result _ _ _ _ (λ orders answers children goal past sound fits. follows_after goal c.args.happening.now past c.args.self.now c.take_by_state.new.self orders answers children sound fits) c.take_by_state.ensures.orders c.take_by_state.ensures.answers c.take_by_state.ensures.children
+returns-clause-ok g c = three c.take_by_state.result _ _ _ _ (λ orders answers children goal past sound fits.
+    follows_after goal c.args.happening.now past c.args.self.now c.take_by_state.new.self orders answers children sound
+    fits) c.take_by_state.ensures.orders c.take_by_state.ensures.answers c.take_by_state.ensures.children

@@ -1,4 +1,5 @@
-use Rattle.std.proofs.Common.{rules, arith, Some, None, if◌then◌else◌, ◌≡◌, ℕ, Bool, true, false, List, ◌++◌, ◌∙◌, refl, string_bytes, take, drop}
+use Rattle.std.proofs.Common.{rules, arith, Some, None, if◌then◌else◌, ◌≡◌, ℕ, Bool, true, false, List, ◌++◌, ◌∙◌, refl}
+use Rattle.std.proofs.Common.{string_bytes, take, drop}
 use Rattle.std.proofs.lemmas.List.{take-append-drop, take_all}
 use Rattle.std.specs.Option.{option_map}
 use Rattle.std.specs.Str.{bytes_eq}

@@ -3,4 +3,5 @@ use Rattle.trace_check.proofs.judge.Judge.first_owed.Given as goal
 
 -- the answer is that of what is left
 abbrev pub invariant-loop-position : goal.invariant-loop-position
-invariant-loop-position g l = find (is_owed_in l.self) (entries_before l.id (drop l.position l.table)) ≡ find (is_owed_in l.self) (entries_before l.id l.table)
+invariant-loop-position g l = find (is_owed_in l.self) (entries_before l.id (drop l.position l.table))
+    ≡ find (is_owed_in l.self) (entries_before l.id l.table)

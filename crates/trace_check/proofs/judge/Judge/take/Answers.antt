@@ -18,7 +18,16 @@ returns-clause-ok g c =
       termed = c.room_for_one-5.new.map.entries;
     } in
     let same : roomy ≡ c.args.self.now =
-    rw (c.room_for_one.ensures.same, c.room_for.ensures.same, c.room_for-2.ensures.same, c.room_for-3.ensures.same, c.room_for_one-2.ensures.same, c.room_for_one-3.ensures.same, c.room_for_one-4.ensures.same, c.room_for_one-5.ensures.same) c.self.view_is in
+    rw (
+      c.room_for_one.ensures.same,
+      c.room_for.ensures.same,
+      c.room_for-2.ensures.same,
+      c.room_for-3.ensures.same,
+      c.room_for_one-2.ensures.same,
+      c.room_for_one-3.ensures.same,
+      c.room_for_one-4.ensures.same,
+      c.room_for_one-5.ensures.same,
+    ) c.self.view_is in
     let after : JudgeState = record {
       stage = c.stage_after-self-inside.result;
       grace = c.grace_after-self-inside.result;

@@ -10,5 +10,6 @@ returns-in-Ok-None g c = λ past finds.
     let happening = c.args.happening.now in
     let found = subst (λ j. FindsBy c.args.judge.now j past) c.in-Lawful.is finds in
     let next : TakesNext None c.args.judge.now c.take.new.self happening =
-    subst (λ law. TakesNext law c.args.judge.now c.take.new.self happening) c.in-Ok-None.field-0-is c.in-Ok-None.ensures.next in
+    subst (λ law. TakesNext law c.args.judge.now c.take.new.self happening) c.in-Ok-None.field-0-is
+    c.in-Ok-None.ensures.next in
     c.lawful.ensures c.take.new.self (happening ∷ past) (next past found.0) (simp unary_clauses (ap suc (sym found.1)))

@@ -8,4 +8,5 @@ returns-clause-none g c =
     let none : BeginsNone over = search rules in
     let due : c.lines_due-self-inside.result ≡ lines_due over = search rules in
     let whole : c.lines_due-self-inside.result ≤ c.self.inside.whole = c.if-self-2.false in
-    rw (← c.self.view_is) (search rules, finished_never over (finished_by over (omega (arith, due, whole, c.self.invariant.1))) none)
+    rw (← c.self.view_is)
+    (search rules, finished_never over (finished_by over (omega (arith, due, whole, c.self.invariant.1))) none)

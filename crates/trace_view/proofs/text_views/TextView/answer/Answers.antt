@@ -4,5 +4,6 @@ use Rattle.trace_view.proofs.text_views.TextView.answer.Goals as goal
 
 pub returns : goal.returns
 returns g c = λ trace text small taken.
-    subst (λ (s : TextState). IsShown text s.stop c.left-left.result trace × Viewed s.viewing (reverse trace)) (sym c.self.view_is)
+    subst (λ (s : TextState). IsShown text s.stop c.left-left.result trace × Viewed s.viewing (reverse trace))
+    (sym c.self.view_is)
     (shown c.args.self.now.stop c.args.self.now trace text c.left-left.result small taken c.left-left.ensures)

@@ -1,4 +1,5 @@
-use Rattle.trace_view.proofs.Words.{◌≡◌, ◌∙◌, ◌∷◌, ◌++◌, [], ap, subst, sym, true, entry_of, is_distinct, Viewed, entry_id}
+use Rattle.trace_view.proofs.Words.{◌≡◌, ◌∙◌, ◌∷◌, ◌++◌, [], ap, subst, sym, true, entry_of, is_distinct, Viewed}
+use Rattle.trace_view.proofs.Words.{entry_id}
 use Rattle.std.proofs.Common.{option_map}
 use Rattle.trace_view.proofs.Awaited.{awaited_is, empty_is, found_last, none_awaited}
 use Rattle.trace_view.proofs.views.TraceView.awaited.Goals as goal
@@ -20,4 +21,5 @@ returns-in-Some g c = λ past seen.
 pub returns-in-None : goal.returns-in-None
 returns-in-None g c = λ past seen.
     let judged = (subst (λ v. Viewed v past) (sym c.self.view_is) seen).judged in
-    none_awaited past c.table.result.now (sym c.entries.ensures.value ∙ empty_is _ c.in-None.ensures.cases) (c.table.ensures.value past judged)
+    none_awaited past c.table.result.now (sym c.entries.ensures.value ∙ empty_is _ c.in-None.ensures.cases)
+    (c.table.ensures.value past judged)

@@ -1,4 +1,5 @@
-use Rattle.trace_view.proofs.Words.{◌∙◌, ap, cond, false, find, subst, None, list_any, option_map_or, is_of, starts_in, is_born_as, is_named_by, Viewed, Wishes, number_of, is_excluded_by, entry_id}
+use Rattle.trace_view.proofs.Words.{◌∙◌, ap, cond, false, find, subst, None, list_any, option_map_or, is_of, starts_in}
+use Rattle.trace_view.proofs.Words.{is_born_as, is_named_by, Viewed, Wishes, number_of, is_excluded_by, entry_id}
 use Rattle.std.proofs.Common.{option_map}
 use Rattle.trace_view.proofs.Stands.{stands, excluded_is, lives_not, wish_is, held_is, full_is}
 use Rattle.trace_view.proofs.views.TraceView.standing.Goals as goal
@@ -9,8 +10,11 @@ returns g c = rw (← c.self.view_is) (λ past seen found.
     let on = c.stage-stage.ensures past judged in
     stands c.args.entry.now past _ _ _ _ _ _ _ _ _ _ _ _ _ _
     (c.starts_in.ensures ∙ ap (starts_in c.args.entry.now) on)
-    (c.number_of_id.ensures ∙ ap (λ xs. option_map number_of (find (is_of c.args.entry.now.id) xs)) (c.as_slice-kept.ensures.value ∙ seen.kept))
-    (c.excludes.ensures ∙ ap (λ o. option_map_or (is_excluded_by c.table-table.result.now c.stage-stage.result) o false) c.child_of_id.ensures ∙ lives_not c.args.entry.now.id _ _ _ _ past (c.table-table.ensures.value past judged) on (c.as_slice-kept.ensures.value ∙ seen.kept))
+    (c.number_of_id.ensures
+    ∙ ap (λ xs. option_map number_of (find (is_of c.args.entry.now.id) xs)) (c.as_slice-kept.ensures.value ∙ seen.kept))
+    (c.excludes.ensures ∙ ap (λ o. option_map_or (is_excluded_by c.table-table.result.now c.stage-stage.result) o false)
+    c.child_of_id.ensures ∙ lives_not c.args.entry.now.id _ _ _ _ past (c.table-table.ensures.value past judged) on
+    (c.as_slice-kept.ensures.value ∙ seen.kept))
     (ap (λ (w : Wishes). w.booted) seen.wishes)
     (c.has_born_as.ensures ∙ ap (list_any (is_born_as c.args.entry.now)) (c.as_slice.ensures.value ∙ seen.early))
     (c.awaited.ensures past (subst (λ v. Viewed v past) c.self.view_is seen))
@@ -18,7 +22,11 @@ returns g c = rw (← c.self.view_is) (λ past seen found.
     (c.is_wanted.ensures past judged found)
     (c.is_named.ensures ∙ ap (is_named_by c.args.entry.now) seen.calls)
     (c.id_of.ensures ∙ ap (option_map entry_id) (c.first_owed.ensures past judged))
-    (c.excluded_of.ensures ∙ excluded_is _ _ _ past (c.table-table.ensures.value past judged) on (c.as_slice-kept.ensures.value ∙ seen.kept))
+    (c.excluded_of.ensures
+    ∙ excluded_is _ _ _ past (c.table-table.ensures.value past judged) on (c.as_slice-kept.ensures.value ∙ seen.kept))
     (c.first.ensures ∙ wish_is _ _ past on seen.wishes)
-    (c.only_if.ensures ∙ ap (λ b. cond b c.held_since-since.result None) c.both-holds.ensures ∙ held_is _ _ _ c.args.entry.now past c.is_limited-limited.ensures (c.is_held-held.ensures past judged) (c.held_since-since.ensures past judged))
-    (c.both-fills.ensures ∙ full_is _ _ c.args.entry.now past c.is_limited-limited.ensures (c.is_full-full.ensures past judged)))
+    (c.only_if.ensures ∙ ap (λ b. cond b c.held_since-since.result None) c.both-holds.ensures
+    ∙ held_is _ _ _ c.args.entry.now past c.is_limited-limited.ensures (c.is_held-held.ensures past judged)
+    (c.held_since-since.ensures past judged))
+    (c.both-fills.ensures
+    ∙ full_is _ _ c.args.entry.now past c.is_limited-limited.ensures (c.is_full-full.ensures past judged)))

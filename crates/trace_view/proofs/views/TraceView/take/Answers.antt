@@ -4,17 +4,20 @@ use Rattle.trace_view.proofs.views.TraceView.take.Goals as goal
 
 pub returns-in-Some-clause-law : goal.returns-in-Some-clause-law
 returns-in-Some-clause-law g c = λ past seen.
-    ap (option_map law_number) (sym c.in-Some.is) ∙ c.in_ok-law.ensures.law past (subst (λ v. Viewed v past) (sym c.self.view_is) seen).judged
+    ap (option_map law_number) (sym c.in-Some.is)
+    ∙ c.in_ok-law.ensures.law past (subst (λ v. Viewed v past) (sym c.self.view_is) seen).judged
 
 pub returns-clause-law : goal.returns-clause-law
 returns-clause-law g c = λ past seen.
-    ap (option_map law_number) (sym c.in_default.is) ∙ c.in_ok-law.ensures.law past (subst (λ v. Viewed v past) (sym c.self.view_is) seen).judged
+    ap (option_map law_number) (sym c.in_default.is)
+    ∙ c.in_ok-law.ensures.law past (subst (λ v. Viewed v past) (sym c.self.view_is) seen).judged
 
 pub returns-clause-next : goal.returns-clause-next
 returns-clause-next g c = λ past seen.
     let was = subst (λ v. Viewed v past) (sym c.self.view_is) seen in
     let next : TakesNext None c.self.inside.judge c.take.new.self c.args.happening.now =
-    subst (λ law. TakesNext law c.self.inside.judge c.take.new.self c.args.happening.now) c.in_default.is c.in_ok-law.ensures.next in
+    subst (λ law. TakesNext law c.self.inside.judge c.take.new.self c.args.happening.now) c.in_default.is
+    c.in_ok-law.ensures.next in
     let judged = next past was.judged in
     let in_force = c.table-table.ensures.value (c.args.happening.now ∷ past) judged in
     let at_time = c.time-time.ensures (c.args.happening.now ∷ past) judged in
