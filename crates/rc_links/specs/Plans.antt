@@ -1,6 +1,8 @@
 -- What a plan of scripts says, and why scripts have none (LSB Core 5.0).
-use Rattle.std.specs.Prelude.{string_bytes, ◌≡◌, ◌⊎◌, ℕ, ◌<◌, ◌≤◌, List, [], ◌∷◌, map, get_or, length, Some, None}
+use Rattle.std.specs.Prelude.{string_bytes, ◌≡◌, ◌⊎◌, ℕ, ◌<◌, ◌≤◌, List, [], ◌∷◌, map, find, get_or, length, Option}
+use Rattle.std.specs.Prelude.{Some, None}
 use Rattle.std.specs.List.{AllByRecursion}
+use Rattle.std.specs.Str.{bytes_eq}
 use Rattle.rc_links.specs.declared.planning.TheConstants.{NUMBER_LIMIT}
 use Rattle.rc_links.specs.declared.needs.Phase.{Phase}
 use Rattle.rc_links.specs.declared.needs.Phase.TheVariants as phase
@@ -38,6 +40,10 @@ pub record IsPlan (scripts : List ScriptText) (plan : List PlannedText) : Type 0
   pub least_starts : AreLeast phase.Start scripts (map (λ s. s.start) plan)
   pub least_stops : AreLeast phase.Stop scripts (map (λ s. s.stop) plan)
   pub short : AllByRecursion IsShort plan
+
+-- the script of a name, the first that has it
+abbrev pub planned_named : List ℕ → List PlannedText → Option PlannedText
+planned_named name plan = find (λ s. bytes_eq s.name name) plan
 
 -- a script with these numbers
 abbrev pub planned : ScriptText → ℕ → ℕ → PlannedText

@@ -1,6 +1,7 @@
 //! A plan: each script with its start and stop numbers.
 
-ghost use Rattle.std.specs.Prelude.{◌≡◌, IfOk};
+ghost use Rattle.std.specs.Prelude.{◌≡◌, option_map, IfOk};
+ghost use Rattle.rc_links.specs.Plans.{planned_named};
 
 use init_words::Level;
 use std::alloc::{AllocError, Allocator, Global};
@@ -65,4 +66,28 @@ impl<A: Allocator> Model for Plan<A> {
     ghost Value = { List PlannedText };
 
     ghost view = { λ p. p.scripts.items };
+}
+
+impl<A: Allocator> Plan<A> {
+    /// The number by which the script of this name starts, 1 to 99; none where the plan has no such script.
+    pub fn start_number(&self, name: &str) -> Option<u8>
+        ensures { result ≡ option_map (λ s. s.start) (planned_named name.now self.now) }
+    {
+        Some(self.script_named(name)?.start)
+    }
+
+    /// The number by which the script of this name stops, 1 to 99; none where the plan has no such script.
+    pub fn stop_number(&self, name: &str) -> Option<u8>
+        ensures { result ≡ option_map (λ s. s.stop) (planned_named name.now self.now) }
+    {
+        Some(self.script_named(name)?.stop)
+    }
+
+    fn script_named(&self, name: &str) -> Option<&Planned<A>>
+        ensures { option_map (λ s. s.now) result ≡ planned_named name.now self.now }
+    {
+        self.scripts
+            .iter()
+            .find(|script| script.name.as_str() == name)
+    }
 }
