@@ -1,5 +1,6 @@
 -- The command line `telinit [-t SEC] [-d DIR] [--initctl P] CHAR`, or `--power KIND` in place of CHAR (telinit(8)).
-use Rattle.std.specs.Prelude.{ℕ, Bool, ◌&&◌, not, if◌then◌else◌, nat_le, List, ◌++◌, codes, Option, Some, None}
+use Rattle.std.specs.Prelude.{ℕ, Bool, ◌&&◌, not, if◌then◌else◌, nat_le, List, [], ◌++◌, codes, Option, Some, None, fst}
+use Rattle.std.specs.Prelude.{snd, ◌×◌}
 use Rattle.std.specs.Prelude.{option_and_then, option_map, length, string_bytes, ◌==◌}
 use Rattle.std.specs.List.{list_all}
 use Rattle.std.specs.Char.{is_ascii_digit}
@@ -39,14 +40,12 @@ power_read word =
     else if bytes_eq word (codes "ok") then Some power.Ok
     else None
 
--- the request of one character of the list in the place of CHAR, with these seconds, or of the power's word: one is
--- given
-abbrev pub request_in : ℕ → Option Text → Option Text → Option Request
-request_in secs None None = None
-request_in secs (Some sign) None =
-    option_map (λ code. request.Runlvl code secs) (option_and_then sign_read (only_byte sign))
-request_in secs None (Some word) = option_map request.Power (power_read word)
-request_in secs (Some sign) (Some word) = None
+-- the word in the place of CHAR, or the news of the power's word: one is given
+abbrev pub sign_or_power : Option Text → Option Text → Option (Text × Option PowerKind)
+sign_or_power None None = None
+sign_or_power (Some sign) None = Some (sign, None)
+sign_or_power None (Some word) = option_map (λ kind. ([], Some kind)) (power_read word)
+sign_or_power (Some sign) (Some word) = None
 
 -- a name in a folder; in no folder the name alone
 abbrev pub in_folder : Text → Text → Text
@@ -60,28 +59,52 @@ path_in None folder home = in_folder (if length folder == 0 then home else folde
 abbrev pub path_said : Text → List Row → Text
 path_said home rows = path_in (first_of (codes "--initctl") rows) (value_said (codes "-d") rows) home
 
+-- what words say, with the defaults for what they leave out
+pub record TelinitWords : Type 0 where
+  pub secs : ℕ
+  pub path : Text
+  pub sign : Text
+  pub power : Option PowerKind
+
+abbrev pub words_of : Words → TelinitWords
+words_of words = record {
+  secs = words.secs;
+  path = string_bytes words.path;
+  sign = string_bytes words.sign;
+  power = words.power;
+}
+
+-- the words of a command line, where its seconds are 0 to 3,600 and the environment names this folder
+abbrev pub words_said_by : Text → List Row → Option TelinitWords
+words_said_by home rows =
+    option_and_then
+    (λ secs. option_map
+    (λ asked. record { secs = secs; path = path_said home rows; sign = fst asked; power = snd asked })
+    (sign_or_power (first_of (codes "CHAR") rows) (first_of (codes "--power") rows)))
+    (seconds_read (value_said (codes "-t") rows))
+
+abbrev pub words_read_of : Text → List Text → Option TelinitWords
+words_read_of home words = option_and_then (words_said_by home) (given_by command_line words)
+
+-- a request for the sign, which is one character of the list, with the seconds; or the news of the power
+abbrev pub request_by : ℕ → Text → Option PowerKind → Option Request
+request_by secs sign None = option_map (λ code. request.Runlvl code secs) (option_and_then sign_read (only_byte sign))
+request_by secs sign (Some kind) = Some (request.Power kind)
+
+abbrev pub request_of : TelinitWords → Option Request
+request_of words = request_by words.secs words.sign words.power
+
 -- the channel and the request
 pub record TelinitSaid : Type 0 where
   pub path : Text
   pub request : Request
 
-abbrev pub said_of : Words → TelinitSaid
-said_of words = record { path = string_bytes words.path; request = words.request }
+abbrev pub said_of : TelinitWords → Option TelinitSaid
+said_of words = option_map (λ asked. record { path = words.path; request = asked }) (request_of words)
 
-abbrev pub request_said : ℕ → List Row → Option Request
-request_said secs rows = request_in secs (first_of (codes "CHAR") rows) (first_of (codes "--power") rows)
-
--- what is said where the environment names this folder: the values that are given or the defaults, where the seconds
--- are 0 to 3,600
-abbrev pub telinit_said_by : Text → List Row → Option TelinitSaid
-telinit_said_by home rows =
-    option_and_then
-    (λ secs. option_map (λ asked. record { path = path_said home rows; request = asked }) (request_said secs rows))
-    (seconds_read (value_said (codes "-t") rows))
-
--- what words say; where the command line has a fault in them, nothing
+-- what words ask for; where the command line has a fault in it, or no request, nothing
 abbrev pub telinit_read_of : Text → List Text → Option TelinitSaid
-telinit_read_of home words = option_and_then (telinit_said_by home) (given_by command_line words)
+telinit_read_of home words = option_and_then said_of (words_read_of home words)
 
 -- the request block that words ask for
 abbrev pub block_said : Text → List Text → Option (List ℕ)

@@ -1,18 +1,21 @@
-//! The words of `telinit`, and the request that they ask for.
+//! The words of `telinit`, and the request block that they ask for.
 
-ghost use Rattle.std.specs.Prelude.{◌≡◌, map, option_and_then, option_map, string_bytes, IfErr, IfOk, IsSome, None, Some};
+ghost use Rattle.std.specs.Prelude.{◌≡◌, map, codes, option_and_then, option_map, string_bytes, IfErr, IfOk, IsSome, None, Some};
 ghost use Rattle.std.specs.List.{list_all};
 ghost use Rattle.std.specs.Char.{is_ascii_digit};
 ghost use Rattle.clap.specs.Words.{found_of, rows_of};
 ghost use Rattle.command_words.specs.Faults.{reason_of};
 ghost use Rattle.initctl_frame.specs.Signs.{sign_read};
 ghost use Rattle.program_io.specs.Arguments.{only_byte};
-ghost use Rattle.telinit_command.specs.CommandLine.{path_said, power_read, request_in, said_of, seconds_read, telinit_read_of, telinit_said_by};
+ghost use Rattle.initctl_frame.specs.Frames.{block_of};
+ghost use Rattle.telinit_command.specs.Channels.{IsAsked};
+ghost use Rattle.telinit_command.specs.CommandLine.{path_said, power_read, request_of, seconds_read, sign_or_power};
+ghost use Rattle.telinit_command.specs.CommandLine.{telinit_read_of, words_of, words_read_of, words_said_by};
 
 use clap::ArgMatches;
 use command_words::{Row, WordFault, checked, read_line, value_of, word_of};
 use init_words::{GRACE_LIMIT, PowerKind};
-use initctl_frame::{Request, Sign};
+use initctl_frame::{BLOCK, Request, Sign, encode};
 use program_io::only_byte;
 use std::alloc::{AllocError, Global};
 
@@ -25,24 +28,75 @@ const OPTIONS: &[Row] = &[
     ("CHAR", "?", ""),
 ];
 
-/// What a command line says.
+/// What a command line says, with the defaults for what it leaves out.
 #[derive(Drop)]
-pub(crate) struct Words {
+pub struct Words {
+    /// Seconds between the two signals that stop a child, 0 to 3,600.
+    pub secs: u16,
     /// The file that the request block is appended to.
     pub path: String,
-    /// The request.
-    pub request: Request,
+    /// The word in the place of CHAR, any; empty where news of the power is given.
+    pub sign: String,
+    /// News of the power, in place of a sign.
+    pub power: Option<PowerKind>,
+}
+
+/// What a command line asks for: the channel's file and the request block (initreq.h).
+#[derive(Drop)]
+pub(crate) struct Asked {
+    pub(crate) path: String,
+    pub(crate) block: [u8; BLOCK],
 }
 
 /// Reads a command line, without the program's name in front. The channel that it doesn't name is `initctl` in the
-/// folder that it names by `-d`, else in `home`; where that is empty too, in this one.
-#[tactic(auto, using(crate::proofs::FreeLine::is_free_line))]
-pub(crate) fn read_words(alloc: Global, home: &str, words: Vec<String>) -> Result<Words, WordFault>
-    // What it reads is what the words say, with the defaults for what they leave out.
-    ensures ok { IfOk result (λ said. telinit_read_of home.now (map string_bytes words.items)
-        ≡ Some (said_of said)) }
+/// folder that it names by `-d`, else in this one. Of its sign nothing is asked: see [`frame_of`].
+pub fn read_words(alloc: Global, words: Vec<String>) -> Result<Words, WordFault>
+    ensures ok { IfOk result (λ said. words_read_of (codes "") (map string_bytes words.items)
+        ≡ Some (words_of said)) }
+    ensures usage { IfErr result (λ fault. IsSome (reason_of fault)
+        → words_read_of (codes "") (map string_bytes words.items) ≡ None) }
+{
+    read_words_in(alloc, "", words)
+}
+
+/// The request block of words (initreq.h); none where their sign is no character of telinit(8).
+pub fn frame_of(words: &Words) -> Option<[u8; BLOCK]>
+    ensures { result ≡ option_map block_of (request_of (words_of words.now)) }
+{
+    let request = match words.power {
+        Some(kind) => Request::Power(kind),
+        None => Request::Runlvl(read_sign(words.sign.as_str())?, words.secs),
+    };
+    Some(encode(&request))
+}
+
+/// What a command line asks for, where the environment names the folder `home` for the channel, or none if it is empty.
+pub(crate) fn read_asked(alloc: Global, home: &str, words: Vec<String>) -> Result<Asked, WordFault>
+    // What it asks for is what the words say, with the defaults for what they leave out.
+    ensures ok { IfOk result (λ asked. IsAsked home.now (map string_bytes words.items)
+        (string_bytes asked.path) asked.block) }
     ensures usage { IfErr result (λ fault. IsSome (reason_of fault)
         → telinit_read_of home.now (map string_bytes words.items) ≡ None) }
+{
+    let words = read_words_in(alloc, home, words)?;
+    match frame_of(&words) {
+        Some(block) => Ok(Asked {
+            path: words.path,
+            block,
+        }),
+        None => Err(WordFault::Usage(format!(in alloc;
+            "{}: not a runlevel, a letter, q or u",
+            words.sign
+        )?)),
+    }
+}
+
+#[tactic(auto, using(crate::proofs::FreeLine::is_free_line))]
+fn read_words_in(alloc: Global, home: &str, words: Vec<String>) -> Result<Words, WordFault>
+    ensures ok { IfOk result (λ said. words_read_of home.now (map string_bytes words.items)
+        ≡ Some (words_of said)) }
+    ensures usage { IfErr result (λ fault. IsSome (reason_of fault)
+        → words_read_of home.now (map string_bytes words.items) ≡ None) }
 {
     let matches = read_line(alloc, "telinit", OPTIONS, words.as_slice())?;
     read_matches(alloc, &matches, home)
@@ -50,18 +104,19 @@ pub(crate) fn read_words(alloc: Global, home: &str, words: Vec<String>) -> Resul
 
 /// What matches say.
 fn read_matches(alloc: Global, matches: &ArgMatches, home: &str) -> Result<Words, WordFault>
-    ensures ok { IfOk result (λ said. telinit_said_by home.now (rows_of (found_of matches.now))
-        ≡ Some (said_of said)) }
+    ensures ok { IfOk result (λ said. words_said_by home.now (rows_of (found_of matches.now))
+        ≡ Some (words_of said)) }
     ensures usage { IfErr result (λ fault. IsSome (reason_of fault)
-        → telinit_said_by home.now (rows_of (found_of matches.now)) ≡ None) }
+        → words_said_by home.now (rows_of (found_of matches.now)) ≡ None) }
 {
     let word = value_of(matches, "-t");
     let secs = checked(alloc, "-t", word, read_grace(word), "not 0 to 3600 seconds")?;
-    let sign = word_of(matches, "CHAR");
-    let request = read_request(alloc, secs, sign, word_of(matches, "--power"))?;
+    let asked = read_sign_or_power(alloc, word_of(matches, "CHAR"), word_of(matches, "--power"))?;
     Ok(Words {
+        secs,
         path: path_of(alloc, matches, home)?,
-        request,
+        sign: asked.0,
+        power: asked.1,
     })
 }
 
@@ -88,26 +143,22 @@ fn is_all_digits(word: &str) -> bool
     word.bytes().all(|byte| byte.is_ascii_digit())
 }
 
-/// The request of a sign and its seconds, or of news of the power.
-fn read_request(
+/// The sign, or the news of the power: one of the two is given.
+fn read_sign_or_power(
     alloc: Global,
-    secs: u16,
     sign: Option<&str>,
     power: Option<&str>,
-) -> Result<Request, WordFault>
-    ensures ok { IfOk result (λ request. request_in secs (option_map (λ word. word.now) sign.entry)
-        (option_map (λ word. word.now) power.entry) ≡ Some request) }
+) -> Result<(String, Option<PowerKind>), WordFault>
+    ensures ok { IfOk result (λ asked. sign_or_power (option_map (λ word. word.now) sign.entry)
+        (option_map (λ word. word.now) power.entry) ≡ Some (string_bytes asked.0, asked.1)) }
     ensures usage { IfErr result (λ fault. IsSome (reason_of fault)
-        → request_in secs (option_map (λ word. word.now) sign.entry)
+        → sign_or_power (option_map (λ word. word.now) sign.entry)
         (option_map (λ word. word.now) power.entry) ≡ None) }
 {
     let reason = match (sign, power) {
-        (Some(sign), None) => match read_sign(sign) {
-            Some(code) => return Ok(Request::Runlvl(code, secs)),
-            None => format!(in alloc; "{sign}: not a runlevel, a letter, q or u")?,
-        },
+        (Some(sign), None) => return Ok((String::from_str(alloc, sign)?, None)),
         (None, Some(word)) => match read_power(word) {
-            Some(kind) => return Ok(Request::Power(kind)),
+            Some(kind) => return Ok((String::new(alloc), Some(kind))),
             None => format!(in alloc; "--power {word}: not fail, failnow or ok")?,
         },
         (Some(sign), Some(word)) => format!(in alloc; "--power {word}: not beside {sign}")?,

@@ -10,9 +10,9 @@ ghost use Rattle.telinit_command.specs.Notes.{IsTold};
 
 use crate::channel::{ChannelFault, append_block};
 use crate::channels::Channels;
-use crate::command::read_words;
+use crate::command::read_asked;
 use command_words::{is_version, print_version, report_word_fault};
-use initctl_frame::{BLOCK, encode};
+use initctl_frame::BLOCK;
 use program_io::{DEVICE_FAULT, DONE, REFUSED, Reason, report_no_memory};
 use std::alloc::Global;
 use std::io::Write;
@@ -78,11 +78,10 @@ pub fn run_words<C: Channels, W: Write, E: Write>(
     if is_version(words.as_slice()) {
         return print_version("telinit", out, err);
     }
-    match read_words(alloc, home, words) {
-        Ok(words) => {
-            let block = encode(&words.request);
-            let path = words.path.as_str();
-            match append_block(channels, alloc, path, &block, err) {
+    match read_asked(alloc, home, words) {
+        Ok(asked) => {
+            let path = asked.path.as_str();
+            match append_block(channels, alloc, path, &asked.block, err) {
                 Ok(()) => DONE,
                 Err(fault) => report_channel(path, &fault, err),
             }
