@@ -50,6 +50,7 @@ fn seen_by<'a>(marks: &'a Marks, view: &'a TraceView) -> Seen<'a>
         marks: marks.as_slice(),
         stage: view.stage(),
         settled: view.is_settled(),
+        complete: view.is_complete(),
         start: marks.start(),
         end: view.time(),
     }

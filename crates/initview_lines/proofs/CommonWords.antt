@@ -28,7 +28,8 @@ pub use Rattle.trace_laws.specs.Plans.{path_along}
 pub use Rattle.initview_lines.specs.Plans.{last_of, path_lines, stages_lines, waiting}
 pub use Rattle.inittab_text.specs.Tables.{entry_of, act_of}
 pub use Rattle.trace_view.specs.declared.rows.Row.{Row}
-pub use Rattle.trace_view.specs.Rows.{row_of, is_settled_now, gone_ids}
+pub use Rattle.trace_events.specs.Due.{is_announced}
+pub use Rattle.trace_view.specs.Rows.{row_of, is_complete_now, gone_ids}
 pub use Rattle.initview_lines.specs.Changes.{same_process, is_gone}
 pub use Rattle.initview_lines.specs.Rows.{head_of, id_row, row_by, entry_row, row_at}
 pub use Rattle.initview_lines.specs.Left.{child_line}

@@ -1,6 +1,7 @@
 -- What a view says of a past.
 use Rattle.initview_lines.proofs.CommonWords.{◌≡◌, refl, ap, ◌∙◌, ℕ, Bool, List, [], ◌∷◌, ◌++◌, Option, Level, Stage}
-use Rattle.initview_lines.proofs.CommonWords.{Event, stage_of, grace_of, time_of, Row, row_of, is_settled_now}
+use Rattle.initview_lines.proofs.CommonWords.{Event, stage_of, grace_of, time_of, Row, row_of, is_announced}
+use Rattle.initview_lines.proofs.CommonWords.{is_complete_now}
 use Rattle.initview_lines.proofs.CommonWords.{asked_level, first_wish, Line, head_of, id_row, row_by}
 use Rattle.std.proofs.lemmas.List.{append_assoc}
 use Rattle.trace_view.specs.declared.wishes.Wish.{Wish}
@@ -16,8 +17,17 @@ pub row_is : (now grace : ℕ) (row : Row) (id : List ℕ) (past : List Event) �
     → grace ≡ grace_of past → row_by now grace id row ≡ id_row past id
 row_is now grace row id past e1 e2 e3 = rw (e1, e2, e3) refl
 
-pub head_is : (stage : Option Stage) (settled : Bool) (now grace : ℕ) (goal : Option Level) (wish : Option Wish)
-    (past : List Event) → stage ≡ stage_of past → settled ≡ is_settled_now past → now ≡ time_of past
+pub head_is : (stage : Option Stage) (settled complete : Bool) (now grace : ℕ) (goal : Option Level)
+    (wish : Option Wish) (past : List Event) → stage ≡ stage_of past → settled ≡ is_announced past
+    → complete ≡ is_complete_now past → now ≡ time_of past
     → grace ≡ grace_of past → goal ≡ asked_level past → wish ≡ first_wish past
-    → record { stage = stage; settled = settled; time = now; grace = grace; goal = goal; wish = wish } ≡ head_of past
-head_is stage settled now grace goal wish past e1 e2 e3 e4 e5 e6 = rw (e1, e2, e3, e4, e5, e6) refl
+    → record {
+      stage = stage;
+      settled = settled;
+      complete = complete;
+      time = now;
+      grace = grace;
+      goal = goal;
+      wish = wish;
+    } ≡ head_of past
+head_is stage settled complete now grace goal wish past e1 e2 e3 e4 e5 e6 e7 = rw (e1, e2, e3, e4, e5, e6, e7) refl

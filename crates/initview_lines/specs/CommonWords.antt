@@ -17,7 +17,8 @@ pub use Rattle.trace_events.specs.Past.{is_quiet}
 pub use Rattle.trace_check.specs.Reading.{child_of}
 pub use Rattle.trace_view.specs.Why.{number_of}
 pub use Rattle.trace_view.specs.declared.rows.Row.{Row}
-pub use Rattle.trace_view.specs.Rows.{row_of, gone_ids, is_settled_now}
+pub use Rattle.trace_events.specs.Due.{is_announced}
+pub use Rattle.trace_view.specs.Rows.{row_of, gone_ids, is_complete_now}
 pub use Rattle.trace_verdict.specs.Readers.{Reading, capped}
 pub use Rattle.init_words.specs.declared.stages.Stage.{Stage}
 pub use Rattle.init_words.specs.Entries.{waited_of}

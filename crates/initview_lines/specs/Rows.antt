@@ -3,8 +3,8 @@ use Rattle.std.specs.Prelude.{ℕ, ◌-◌, List, ◌∷◌, ◌++◌, map, Opti
 use Rattle.std.specs.Option.{option_map}
 use Rattle.respawn_limit.specs.declared.TheConstants.{HOLD}
 use Rattle.initview_lines.specs.CommonWords.{Entry, Event, table_of, stage_of, grace_of, time_of, unreaped_children}
-use Rattle.initview_lines.specs.CommonWords.{Ending, Row, Why, row_of, gone_ids, is_settled_now, asked_level}
-use Rattle.initview_lines.specs.CommonWords.{first_wish}
+use Rattle.initview_lines.specs.CommonWords.{Ending, Row, Why, row_of, gone_ids, is_complete_now, asked_level}
+use Rattle.initview_lines.specs.CommonWords.{first_wish, is_announced}
 use Rattle.trace_view.specs.declared.rows.Births.{Births}
 use Rattle.trace_view.specs.declared.whys.Why.TheVariants as why
 use Rattle.initview_lines.specs.declared.lines.Head.{Head}
@@ -18,7 +18,8 @@ use Rattle.initview_lines.specs.declared.lines.Stopping.{Stopping}
 abbrev pub head_of : List Event → Head
 head_of past = record {
   stage = stage_of past;
-  settled = is_settled_now past;
+  settled = is_announced past;
+  complete = is_complete_now past;
   time = time_of past;
   grace = grace_of past;
   goal = asked_level past;

@@ -1,6 +1,6 @@
 //! The time of day of a reading of the clock.
 
-use crate::dimensions::YEAR;
+use crate::dimensions::{DATES_END, YEAR};
 use crate::words::{add_number, put};
 use std::alloc::AllocError;
 
@@ -38,8 +38,12 @@ pub(crate) fn add_day(text: &mut Vec<u8>, seconds: u64) -> Result<(), AllocError
     add_two(text, b"-", day)
 }
 
-/// Adds the day and the time of day, or that alone in 1970, where no clock of init's has been.
+/// Adds the day and the time of day, or that alone in 1970, where no clock of init's has been; the seconds where the year
+/// has more than four digits.
 pub(crate) fn add_moment(text: &mut Vec<u8>, seconds: u64) -> Result<(), AllocError> {
+    if seconds >= DATES_END {
+        return add_number(text, b"", seconds, b"");
+    }
     if seconds >= YEAR {
         add_day(text, seconds)?;
         put(text, b" ")?;
@@ -48,8 +52,11 @@ pub(crate) fn add_moment(text: &mut Vec<u8>, seconds: u64) -> Result<(), AllocEr
 }
 
 /// Adds the time of day of a reading of the clock, in seconds since the beginning of 1970, in Coordinated Universal Time
-/// as RFC 3339 writes it: `2026-01-31T07:15:00Z`.
+/// as RFC 3339 writes it: `2026-01-31T07:15:00Z`. It has no years of five digits: then the seconds.
 pub(crate) fn add_time_of_day(text: &mut Vec<u8>, seconds: u64) -> Result<(), AllocError> {
+    if seconds >= DATES_END {
+        return add_number(text, b"", seconds, b"");
+    }
     add_day(text, seconds)?;
     put(text, b"T")?;
     add_hours(text, seconds)?;

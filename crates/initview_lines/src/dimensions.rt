@@ -27,6 +27,9 @@ pub const DAY: u64 = 86_400;
 
 pub const YEAR: u64 = 31_536_000;
 
+/// The beginning of the year 10000, in seconds.
+pub const DATES_END: u64 = 253_402_300_800;
+
 /// The steps of an axis, in seconds, and how many ticks there are at most.
 pub const STEPS: [u64; 18] = [
     1, 2, 5, 10, 20, 30, 60, 120, 300, 600, 1_200, 1_800, 3_600, 7_200, 14_400, 21_600, 43_200,

@@ -137,15 +137,19 @@ fn add_last(text: &mut Vec<u8>, row: &Row) -> Result<(), AllocError> {
     }
 }
 
+fn truth(so: bool) -> &'static [u8] {
+    if so { b"true" } else { b"false" }
+}
+
 /// Adds the object of init, in a line.
 pub(crate) fn add_head(text: &mut Vec<u8>, head: &Head) -> Result<(), AllocError> {
-    let settled: &[u8] = if head.settled { b"true" } else { b"false" };
     fill(
         text,
-        b"{\"stage\":\"@\",\"settled\":@,\"clock\":@,\"time\":\"@\",\"grace\":@",
+        b"{\"stage\":\"@\",\"settled\":@,\"complete\":@,\"clock\":@,\"time\":\"@\",\"grace\":@",
         &[
             Value::Stage(head.stage),
-            Value::Text(settled),
+            Value::Text(truth(head.settled)),
+            Value::Text(truth(head.complete)),
             Value::Number(head.time),
             Value::Time(head.time),
             Value::Number(head.grace),

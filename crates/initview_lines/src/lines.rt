@@ -28,8 +28,10 @@ pub enum RowFormat {
 pub struct Head {
     /// The stage in force.
     pub stage: Option<Stage>,
-    /// It is a level that is settled.
+    /// It is a level that was announced settled, and no table was read since.
     pub settled: bool,
+    /// It is a level in which nothing is owed at this moment.
+    pub complete: bool,
     pub time: u64,
     /// Between the two signals that stop a child.
     pub grace: u64,

@@ -51,6 +51,7 @@ pub(crate) fn read_head(view: &TraceView) -> Head
     Head {
         stage: view.stage(),
         settled: view.is_settled(),
+        complete: view.is_complete(),
         time: view.time(),
         grace: u64::from(view.grace()),
         goal: view.asked_level(),

@@ -3,10 +3,10 @@
 use crate::chart::{add_facts, add_state, add_times, ill, stage_letter};
 use crate::days::{add_day, add_hours, add_moment};
 use crate::dimensions::{
-    AT_END, BAND, DAY, DRAWING, DUE, FAILED, FAULTS, HEAD, HELD, HOUR, KILLED, LEGEND, LETTER_ROOM,
-    LEVEL, LIVES, LOW, LOW_HOURS, LOW_ROWS, LOW_SECONDS, MANY, MARGINS, NAME, NAME_AT, SETTLED,
-    STAGE, STATE, STEPS, STOPS, STYLE, TALL, TALL_ROWS, TICK, TICKS, TOP_HOURS, TOP_SECONDS,
-    UNBORN, WAITED, WORDS_ROOM, YEAR,
+    AT_END, BAND, DATES_END, DAY, DRAWING, DUE, FAILED, FAULTS, HEAD, HELD, HOUR, KILLED, LEGEND,
+    LETTER_ROOM, LEVEL, LIVES, LOW, LOW_HOURS, LOW_ROWS, LOW_SECONDS, MANY, MARGINS, NAME, NAME_AT,
+    SETTLED, STAGE, STATE, STEPS, STOPS, STYLE, TALL, TALL_ROWS, TICK, TICKS, TOP_HOURS,
+    TOP_SECONDS, UNBORN, WAITED, WORDS_ROOM, YEAR,
 };
 use crate::words::{add_number, add_stage, add_status, put};
 use init_words::Stage;
@@ -141,7 +141,7 @@ fn add_axis_time(
     put(text, below)?;
     if frame.span() < HOUR {
         add_number(text, b"+", time.saturating_sub(frame.start), b" s")?;
-    } else if frame.span() >= DAY && time >= YEAR {
+    } else if frame.span() >= DAY && (YEAR..DATES_END).contains(&time) {
         add_day(text, time)?;
     }
     put(text, b"</text>")

@@ -155,7 +155,11 @@ fn add_columns(text: &mut Vec<u8>, id: &Id, act: Option<Act>) -> Result<(), Allo
 }
 
 fn add_head(text: &mut Vec<u8>, head: &Head) -> Result<(), AllocError> {
-    let settled: &[u8] = if head.settled { b", settled" } else { b"" };
+    let settled: &[u8] = match (head.settled, head.complete) {
+        (true, true) => b", settled",
+        (true, false) => b", settled, not complete",
+        (false, _) => b"",
+    };
     fill(
         text,
         b"@@, clock @, @ s from TERM to KILL\n",

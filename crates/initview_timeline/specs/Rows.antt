@@ -12,7 +12,8 @@ use Rattle.init_words.specs.declared.stages.Stage.{Stage}
 use Rattle.respawn_limit.specs.declared.TheConstants.{HOLD}
 use Rattle.trace_events.specs.Event.{Event}
 use Rattle.trace_events.specs.Past.{stage_of, table_of, time_of}
-use Rattle.trace_view.specs.Rows.{is_settled_now}
+use Rattle.trace_events.specs.Due.{is_announced}
+use Rattle.trace_view.specs.Rows.{is_complete_now}
 use Rattle.initview_timeline.specs.declared.lives.Life.{Life}
 use Rattle.initview_timeline.specs.declared.marks.Shown.{Shown}
 use Rattle.initview_timeline.specs.declared.marks.Shown.TheVariants.{Entered, Born, NotBorn, Ended, Sent, Held}
@@ -35,6 +36,7 @@ pub record Scene : Type 0 where
   pub marks : List TimelineMark
   pub stage : Option Stage
   pub settled : Bool
+  pub complete : Bool
   pub start : Option ℕ
   pub end : ℕ
 
@@ -44,6 +46,7 @@ scene_of s = record {
   marks = s.marks.now;
   stage = s.stage;
   settled = s.settled;
+  complete = s.complete;
   start = s.start;
   end = s.end;
 }
@@ -53,7 +56,8 @@ drawn_of past = record {
   entries = table_of past;
   marks = marks_of past;
   stage = stage_of past;
-  settled = is_settled_now past;
+  settled = is_announced past;
+  complete = is_complete_now past;
   start = start_of past;
   end = time_of past;
 }
@@ -120,7 +124,7 @@ abbrev pub of_stage : List TimelineMark → List TimelineMark → List TimelineM
 of_stage found [] = found
 of_stage found (mark ∷ marks) = of_stage (from_stage found mark.what (mark ∷ marks)) marks
 
--- an id waits: it starts in the stage in force, which isn't settled, and was not started in it
+-- an id waits: it starts in the stage in force, in which something is owed, and was not started in it
 abbrev pub starts_there : List ℕ → Option Stage → List Entry → Bool
 starts_there id stage entries = list_any (λ (e : Entry). same_id id e.id && starts_now e stage) entries
 
@@ -128,7 +132,7 @@ abbrev pub is_begun : List ℕ → List TimelineMark → Bool
 is_begun id marks = list_any (λ (mark : TimelineMark). is_start (Some id) mark.what) marks
 
 abbrev pub waits : Scene → List ℕ → Bool
-waits s id = not s.settled && starts_there id s.stage s.entries && not (is_begun id (of_stage s.marks s.marks))
+waits s id = not s.complete && starts_there id s.stage s.entries && not (is_begun id (of_stage s.marks s.marks))
 
 abbrev pub is_up : State → Bool
 is_up state.Runs = true

@@ -12,14 +12,15 @@ use respawn_limit::HOLD;
 use std::alloc::{AllocError, Global};
 use std::marker::Model;
 
-/// What a timeline is drawn of: the table in force, the marks, the oldest first, the stage in force, and whether that is
-/// settled, the first reading of the clock and the last one, in seconds.
+/// What a timeline is drawn of: the table in force, the marks, the oldest first, the stage in force, whether that is
+/// settled, and whether nothing is owed in it, the first reading of the clock and the last one, in seconds.
 #[derive(Clone, Copy)]
 pub struct Seen<'a> {
     pub entries: &'a [Entry],
     pub marks: &'a [TimelineMark],
     pub stage: Option<Stage>,
     pub settled: bool,
+    pub complete: bool,
     pub start: Option<u64>,
     pub end: u64,
 }
@@ -206,11 +207,11 @@ fn is_begun(id: Id, marks: &[TimelineMark]) -> bool
     marks.iter().any(|mark| is_start(&Some(id), mark.what))
 }
 
-/// It starts in the stage in force, which isn't settled, and was not started in it.
+/// It starts in the stage in force, in which something is owed, and was not started in it.
 fn waits(seen: &Seen, id: Id) -> bool
     ensures { result ≡ waits (scene_of seen.now) id }
 {
-    !seen.settled
+    !seen.complete
         && starts_there(id, seen.stage, seen.entries)
         && !is_begun(id, of_stage(seen.marks))
 }

@@ -48,7 +48,7 @@ pub use Rattle.trace_view.specs.Wishes.{first_of, first_wish, wishes_of, first_w
 pub use Rattle.trace_check.specs.Judging.{Judged, TakesNext}
 pub use Rattle.trace_view.specs.Births.{births_of, early_children, ran_early, is_born_as}
 pub use Rattle.trace_view.specs.Calls.{calls_of, was_named, is_named_by}
-pub use Rattle.trace_view.specs.Rows.{ended_of, row_of, settled_in}
+pub use Rattle.trace_view.specs.Rows.{ended_of, row_of, complete_in}
 pub use Rattle.trace_view.specs.Viewing.{ViewState, Viewed, is_excluded_by}
 pub use Rattle.trace_text.proofs.ReadTexts.{trace_text-push, are_in_range-push, shorter}
 pub use Rattle.trace_check.specs.Laws.{law_number}

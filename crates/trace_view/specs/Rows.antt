@@ -21,13 +21,13 @@ ended_of id (Reaped i number status ∷ past) =
     if same_id id i then ended_at (time_of past) (Some status) else ended_of id past
 ended_of id (_ ∷ past) = ended_of id past
 
--- the stage in force is a level, and settled
-abbrev pub settled_in : Option Stage → List Event → Bool
-settled_in (Some (Run level)) past = is_settled level (unreaped_children past) past
-settled_in _ past = false
+-- the stage in force is a level that could be announced settled at this moment: nothing is owed in it
+abbrev pub complete_in : Option Stage → List Event → Bool
+complete_in (Some (Run level)) past = is_settled level (unreaped_children past) past
+complete_in _ past = false
 
-abbrev pub is_settled_now : List Event → Bool
-is_settled_now past = settled_in (stage_of past) past
+abbrev pub is_complete_now : List Event → Bool
+is_complete_now past = complete_in (stage_of past) past
 
 -- what is told of it
 abbrev pub row_of : List ℕ → List Event → Row

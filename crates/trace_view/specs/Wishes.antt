@@ -2,7 +2,7 @@
 use Rattle.std.specs.Prelude.{ℕ, Bool, not, ◌&&◌, ◌||◌, if◌then◌else◌, List, ◌∷◌, Option, Some, None}
 use Rattle.trace_view.specs.Words.{Stage, Boot, Run, same_level, Event, stage_of, enter_level, is_level, in_run}
 use Rattle.trace_view.specs.Words.{other_than, wants_reexec, wants_reread, heard_level, level_wish, was_booted}
-use Rattle.trace_view.specs.Words.{keeps_news}
+use Rattle.trace_view.specs.Words.{is_announced, keeps_news}
 use Rattle.init_words.specs.declared.levels.Level.{Level}
 use Rattle.init_words.specs.declared.levels.Level.TheVariants.{S}
 use Rattle.trace_events.specs.CallSets.{has_news, news_of}
@@ -51,6 +51,7 @@ wishes_of past = record {
   heard = heard_level past;
   news = news_of past;
   booted = was_booted past;
+  announced = is_announced past;
 }
 
 abbrev pub first_wish_in : Option Stage → Wishes → Option Wish

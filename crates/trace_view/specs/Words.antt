@@ -22,7 +22,7 @@ pub use Rattle.trace_text.specs.Lines.{trace_text, event_text}
 pub use Rattle.trace_check.specs.State.{at}
 pub use Rattle.init_words.specs.declared.stages.Stage.TheVariants.{Run, Sysinit, Boot}
 pub use Rattle.inittab_text.specs.Tables.{entry_of, act_of, is_distinct}
-pub use Rattle.trace_events.specs.Due.{is_settled, enter_level, due_starts, same_step}
+pub use Rattle.trace_events.specs.Due.{is_settled, is_announced, enter_level, due_starts, same_step}
 pub use Rattle.trace_check.specs.Reading.{child_of, term_of, newest}
 pub use Rattle.trace_events.specs.Lawful.{broken}
 pub use Rattle.trace_events.specs.Range.{are_in_range}

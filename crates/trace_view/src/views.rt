@@ -2,10 +2,10 @@
 
 ghost use Rattle.std.specs.Prelude.{◌≡◌, ◌&&◌, ◌||◌, if◌then◌else◌, true, List, Some, None, option_map, option_copied, IfOk};
 ghost use Rattle.std.specs.Option.{option_or};
-ghost use Rattle.trace_view.specs.Words.{Start, Entry, Event, table_of, stage_of, grace_of, time_of, unreaped_children, broken, is_order, is_owed, starts_in, entry_of, is_distinct, law_number, open_of, child_of};
+ghost use Rattle.trace_view.specs.Words.{Start, Entry, Event, table_of, stage_of, grace_of, time_of, unreaped_children, broken, is_order, is_owed, starts_in, entry_of, is_distinct, law_number, open_of, child_of, is_announced};
 ghost use Rattle.trace_view.specs.Viewing.{unviewed, Viewed, SeesNext};
 ghost use Rattle.trace_view.specs.Why.{entry_id, first_awaited, standing_of, stops_now, number_of, why, why_entry};
-ghost use Rattle.trace_view.specs.Rows.{row_of, gone_ids, is_settled_now, settled_in};
+ghost use Rattle.trace_view.specs.Rows.{row_of, gone_ids, is_complete_now, complete_in};
 ghost use Rattle.trace_view.specs.Wishes.{asked_level, first_wish, next_stage};
 
 use crate::calls::{is_named, take_call};
@@ -347,20 +347,27 @@ impl<A: Allocator> TraceView<A> {
         self.wishes.next_stage(self.judge.stage())
     }
 
-    /// The stage in force is a runlevel, and settled.
+    /// The runlevel in force was announced settled, and no table was read since.
     pub fn is_settled(&self) -> bool
-        ensures { (past : List Event) → Viewed self.now past → result ≡ is_settled_now past }
+        ensures { (past : List Event) → Viewed self.now past → result ≡ is_announced past }
+    {
+        self.wishes.announced
+    }
+
+    /// The stage in force is a runlevel, and nothing is owed in it at this moment, whether that was announced or not.
+    pub fn is_complete(&self) -> bool
+        ensures { (past : List Event) → Viewed self.now past → result ≡ is_complete_now past }
     {
         match self.judge.stage() {
-            Some(stage) => self.settles(stage),
+            Some(stage) => self.completes(stage),
             None => false,
         }
     }
 
-    /// The stage is a runlevel that is in force and settled.
-    fn settles(&self, stage: Stage) -> bool
+    /// The stage is a runlevel that is in force, and nothing is owed in it.
+    fn completes(&self, stage: Stage) -> bool
         ensures { (past : List Event) → Viewed self.now past
-            → result ≡ settled_in (Some stage) past }
+            → result ≡ complete_in (Some stage) past }
     {
         match stage {
             Stage::Run(level) => self.judge.is_settled(level),

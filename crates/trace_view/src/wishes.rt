@@ -31,6 +31,8 @@ pub(crate) struct Wishes {
     pub(crate) news: CallSet,
     /// Boot was entered.
     pub(crate) booted: bool,
+    /// The level was announced settled, and neither a stage nor a table came since.
+    pub(crate) announced: bool,
 }
 
 impl Wishes {
@@ -41,12 +43,21 @@ impl Wishes {
     {
         match happening {
             Happening::Handed(_) => self.reexec = false,
-            Happening::NewTable(_) | Happening::NotRead => self.reread = false,
+            Happening::NewTable(_) => {
+                self.reread = false;
+                self.announced = false;
+            }
+            Happening::NotRead => self.reread = false,
             Happening::Enter(Stage::Boot, _) => {
                 self.heard = None;
                 self.booted = true;
+                self.announced = false;
             }
-            Happening::Enter(_, _) => self.heard = None,
+            Happening::Enter(_, _) => {
+                self.heard = None;
+                self.announced = false;
+            }
+            Happening::Settle(_) => self.announced = true,
             Happening::Power(kind) => self.news.set_power(*kind, false),
             Happening::Call(letter) => self.news.set_letter(*letter, false),
             Happening::Got(request) => self.hear(stage, request),

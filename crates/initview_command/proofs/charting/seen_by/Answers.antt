@@ -2,31 +2,45 @@ use Rattle.initview_command.proofs.Words.{◌≡◌, ◌∙◌, ap, ℕ, Bool, L
 use Rattle.init_words.specs.declared.entries.Entry.{Entry}
 use Rattle.init_words.specs.declared.stages.Stage.{Stage}
 use Rattle.trace_events.specs.Past.{stage_of, table_of, time_of}
-use Rattle.trace_view.specs.Rows.{is_settled_now}
+use Rattle.trace_events.specs.Due.{is_announced}
+use Rattle.trace_view.specs.Rows.{is_complete_now}
 use Rattle.initview_timeline.specs.declared.marks.TimelineMark.{TimelineMark}
 use Rattle.initview_timeline.specs.Marks.{start_of}
 use Rattle.initview_timeline.specs.Rows.{Scene, drawn_of}
 use Rattle.initview_command.proofs.charting.seen_by.Goals as goal
 
-abbrev scene : List Entry → List TimelineMark → Option Stage → Bool → Option ℕ → ℕ → Scene
-scene entries marks stage settled start end =
-    record { entries = entries; marks = marks; stage = stage; settled = settled; start = start; end = end }
+abbrev scene : List Entry → List TimelineMark → Option Stage → Bool → Bool → Option ℕ → ℕ → Scene
+scene entries marks stage settled complete start end = record {
+  entries = entries;
+  marks = marks;
+  stage = stage;
+  settled = settled;
+  complete = complete;
+  start = start;
+  end = end;
+}
 
-scene_is : (entries : List Entry) (marks : List TimelineMark) (stage : Option Stage) (settled : Bool) (start : Option ℕ)
-    (end : ℕ) (past : List Event) → entries ≡ table_of past → marks ≡ marks_of past → stage ≡ stage_of past
-    → settled ≡ is_settled_now past → start ≡ start_of past → end ≡ time_of past
-    → scene entries marks stage settled start end ≡ drawn_of past
-scene_is entries marks stage settled start end past e1 e2 e3 e4 e5 e6 =
-    ap (λ x. scene x marks stage settled start end) e1
-    ∙ ap (λ x. scene (table_of past) x stage settled start end) e2
-    ∙ ap (λ x. scene (table_of past) (marks_of past) x settled start end) e3
-    ∙ ap (λ x. scene (table_of past) (marks_of past) (stage_of past) x start end) e4
-    ∙ ap (λ x. scene (table_of past) (marks_of past) (stage_of past) (is_settled_now past) x end) e5
-    ∙ ap (λ x. scene (table_of past) (marks_of past) (stage_of past) (is_settled_now past) (start_of past) x) e6
+scene_is : (entries : List Entry) (marks : List TimelineMark) (stage : Option Stage) (settled complete : Bool)
+    (start : Option ℕ) (end : ℕ) (past : List Event) → entries ≡ table_of past → marks ≡ marks_of past
+    → stage ≡ stage_of past → settled ≡ is_announced past → complete ≡ is_complete_now past
+    → start ≡ start_of past → end ≡ time_of past
+    → scene entries marks stage settled complete start end ≡ drawn_of past
+scene_is entries marks stage settled complete start end past e1 e2 e3 e4 e5 e6 e7 =
+    ap (λ x. scene x marks stage settled complete start end) e1
+    ∙ ap (λ x. scene (table_of past) x stage settled complete start end) e2
+    ∙ ap (λ x. scene (table_of past) (marks_of past) x settled complete start end) e3
+    ∙ ap (λ x. scene (table_of past) (marks_of past) (stage_of past) x complete start end) e4
+    ∙ ap (λ x. scene (table_of past) (marks_of past) (stage_of past) (is_announced past) x start end) e5
+    ∙ ap
+    (λ x. scene (table_of past) (marks_of past) (stage_of past) (is_announced past) (is_complete_now past) x end) e6
+    ∙ ap
+    (λ x. scene (table_of past) (marks_of past) (stage_of past) (is_announced past) (is_complete_now past)
+    (start_of past)
+    x) e7
 
 pub returns : goal.returns
 returns c = λ past seen marked.
-    scene_is _ _ _ _ _ _ past (c.entries.ensures.value ∙ c.table.ensures.value past seen)
+    scene_is _ _ _ _ _ _ _ past (c.entries.ensures.value ∙ c.table.ensures.value past seen)
     (c.as_slice.ensures ∙ ap (λ (m : SeenMarks). m.marks) marked)
-    (c.stage.ensures past seen) (c.is_settled.ensures past seen)
+    (c.stage.ensures past seen) (c.is_settled.ensures past seen) (c.is_complete.ensures past seen)
     (c.start.ensures ∙ ap (λ (m : SeenMarks). m.start) marked) (c.time.ensures past seen)
