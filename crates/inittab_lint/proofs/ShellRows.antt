@@ -1,28 +1,51 @@
--- Processes whose operators count, and such as stand in quotes: `refl` computes them.
-use Rattle.inittab_lint.proofs.Words.{◌≡◌, refl, codes, None, Some, operator_in}
-use Rattle.inittab_lint.specs.declared.shell.Operator.TheVariants.{Chain, Unclosed}
+-- Processes whose operators count, and such as stand in quotes, in parts or in a comment: `refl` computes them.
+use Rattle.inittab_lint.proofs.Words.{◌≡◌, refl, codes, None, Some, operator_of}
+use Rattle.inittab_lint.specs.declared.shell.Operator.TheVariants.{Chain, Pipe, Unclosed}
 
 -- a backslash takes the quote that follows with it
-quoted : operator_in None (codes "sh -c \"echo \\\"hi\\\"; exec sleep 9\"") ≡ None
+quoted : operator_of (codes "sh -c \"echo \\\"hi\\\"; exec sleep 9\"") ≡ None
 quoted = refl
 
-one_quoted : operator_in None (codes "echo \"a\\\"b\" c") ≡ None
+one_quoted : operator_of (codes "echo \"a\\\"b\" c") ≡ None
 one_quoted = refl
 
-backquoted : operator_in None (codes "echo `a \\` ; b`") ≡ None
+backquoted : operator_of (codes "echo `a \\` ; b`") ≡ None
 backquoted = refl
 
-parenthesis : operator_in None (codes "echo $(a \\) ; b)") ≡ None
+parenthesis : operator_of (codes "echo $(a \\) ; b)") ≡ None
 parenthesis = refl
 
 -- so this one is open
-unfinished : operator_in None (codes "\"exec\\\"") ≡ Some Unclosed
+unfinished : operator_of (codes "\"exec\\\"") ≡ Some Unclosed
 unfinished = refl
 
 -- two of them are one
-behind_two : operator_in None (codes "echo \"a\\\\\" ; b") ≡ Some Chain
+behind_two : operator_of (codes "echo \"a\\\\\" ; b") ≡ Some Chain
 behind_two = refl
 
 -- none does within single quotes
-single : operator_in None (codes "echo 'a\\' ; b'") ≡ Some Chain
+single : operator_of (codes "echo 'a\\' ; b'") ≡ Some Chain
 single = refl
+
+-- parts within parts
+nested : operator_of (codes "a $(cat $(which b); echo) | c") ≡ Some Pipe
+nested = refl
+
+quoted_within : operator_of (codes "a \"$(hostname \"b;c\")\"") ≡ None
+quoted_within = refl
+
+arithmetic : operator_of (codes "a $(( (1) | 2 ))") ≡ None
+arithmetic = refl
+
+default : operator_of (codes "a ${B:-c;d}") ≡ None
+default = refl
+
+open_within : operator_of (codes "a $( ( b )") ≡ Some Unclosed
+open_within = refl
+
+-- what stands in a comment counts for nothing; # within a word begins none
+comment : operator_of (codes "a >b 2>&1 # it's the web; c") ≡ None
+comment = refl
+
+hash : operator_of (codes "a b#c ${#d} $# ; e") ≡ Some Chain
+hash = refl

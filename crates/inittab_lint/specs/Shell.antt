@@ -1,28 +1,58 @@
 -- What of a process the shell does otherwise than it seems, since it is started by `sh -c "exec PROCESS"` (inittab(5)).
-use Rattle.std.specs.Prelude.{ℕ, Bool, true, false, not, ◌&&◌, ◌||◌, ◌==◌, nat_le, if◌then◌else◌, List, [], ◌∷◌, codes}
-use Rattle.std.specs.Prelude.{Option, Some, None}
+use Rattle.std.specs.Prelude.{ℕ, Bool, true, false, not, ◌&&◌, ◌||◌, ◌==◌, ◌-◌, nat_le, if◌then◌else◌, List, [], ◌∷◌}
+use Rattle.std.specs.Prelude.{◌++◌, codes, length, take, slice_get, Option, Some, None, is_some, unwrap_or}
+use Rattle.std.specs.Prelude.{option_to_list}
 use Rattle.std.specs.List.{list_all, list_any}
 use Rattle.std.specs.Option.{option_or}
 use Rattle.std.specs.Str.{bytes_eq}
 use Rattle.text_lines.specs.Lines.{cut, is_blank, words_of}
 use Rattle.inittab_text.specs.Written.{is_empty}
+use Rattle.init_words.specs.declared.entries.TheConstants.{PROCESS_LIMIT}
 use Rattle.inittab_lint.specs.declared.shell.Operator.{Operator}
 use Rattle.inittab_lint.specs.declared.shell.Operator.TheVariants.{Chain, Pipe, Background, Unclosed}
 
--- what ends a part that the shell takes as one: it begins with a quote, a backquote or a parenthesis
-abbrev pub closing : ℕ → Option ℕ
-closing b = if b == 39 || (b == 34 || b == 96) then Some b else if b == 40 then Some 41 else None
+-- the innermost part that is open is closed by this character
+abbrev pub is_part : ℕ → Option ℕ → Bool
+is_part close None = false
+is_part close (Some b) = b == close
 
--- the character that ends the part that is open, where one is: as a character of the text leaves it
-abbrev pub part_behind : Option ℕ → ℕ → Option ℕ
-part_behind None b = closing b
-part_behind (Some close) b = if b == close then None else Some close
+-- commands are read: outside all parts, or in a parenthesis
+abbrev pub in_commands : Option ℕ → Bool
+in_commands None = true
+in_commands (Some close) = close == 41
 
--- two characters that are read as one, and are no operator: a backslash and any other, but not within single quotes;
--- and outside parts <& and >& and >|
-abbrev pub is_pair : Option ℕ → ℕ → ℕ → Bool
-is_pair None b c = b == 92 || (b == 60 && c == 38 || b == 62 && (c == 38 || c == 124))
-is_pair (Some close) b c = b == 92 && not (close == 39)
+-- within quotes that are read as they stand
+abbrev pub is_literal : Option ℕ → Bool
+is_literal part = is_part 39 part || is_part 96 part
+
+-- $( or ${ begins here
+abbrev pub is_dollar : Option ℕ → ℕ → ℕ → Bool
+is_dollar part b c = b == 36 && ((c == 40 || c == 123) && not (is_literal part))
+
+-- what closes the part that begins here: $( and ${, a parenthesis among commands, a quote or a backquote
+abbrev pub opened : Option ℕ → ℕ → ℕ → Option ℕ
+opened part b c =
+    if is_dollar part b c then (if c == 40 then Some 41 else Some 125)
+    else if b == 40 && in_commands part then Some 41
+    else if b == 96 && not (is_literal part) then Some b
+    else if (b == 34 || b == 39) && (in_commands part || is_part 125 part) then Some b
+    else None
+
+-- two characters that are read as one: a backslash and any other, but not within single quotes; $( and ${; and among
+-- commands <& and >& and >|
+abbrev pub is_two : Option ℕ → ℕ → ℕ → Bool
+is_two part b c =
+    b == 92 && not (is_part 39 part)
+    || (is_dollar part b c || in_commands part && (b == 60 && c == 38 || b == 62 && (c == 38 || c == 124)))
+
+-- behind it a word begins: a blank, an operator, a parenthesis
+abbrev pub starts_word : Option ℕ → ℕ → ℕ → Bool
+starts_word part b c =
+    is_blank b || (list_any (λ d. d == b) (codes ";&|<>(") || (is_dollar part b c || b == 41 && not (is_part 41 part)))
+
+-- a comment begins: # at the beginning of a word of commands
+abbrev pub is_comment : Option ℕ → Bool → ℕ → Bool
+is_comment part start b = start && (b == 35 && in_commands part)
 
 -- the operator that begins here, outside parts: ; && || chain programs, | is a pipe, & puts into the background
 abbrev pub operator_at : Option ℕ → ℕ → ℕ → Option Operator
@@ -38,16 +68,39 @@ abbrev pub unclosed : Option ℕ → Option Operator
 unclosed None = None
 unclosed (Some close) = Some Unclosed
 
-abbrev pub last_operator : Option ℕ → ℕ → Option Operator
-last_operator part b = option_or (operator_at part b 0) (unclosed (part_behind part b))
+-- of what closes the parts that are open, the outermost first, the last
+abbrev pub innermost : List ℕ → Option ℕ
+innermost parts = slice_get parts (length parts - 1)
 
--- the first operator of a text that stands outside such parts
-abbrev pub operator_in : Option ℕ → List ℕ → Option Operator
-operator_in part [] = unclosed part
-operator_in part (b ∷ []) = last_operator part b
-operator_in part (b ∷ c ∷ text) =
-    if is_pair part b c then operator_in part text
-    else option_or (operator_at part b c) (operator_in (part_behind part b) (c ∷ text))
+-- those that are open behind two characters that are read as one, or behind the first
+abbrev pub parts_after : List ℕ → ℕ → ℕ → List ℕ
+parts_after parts b c =
+    if is_part b (innermost parts) then take (length parts - 1) parts
+    else parts ++ option_to_list (opened (innermost parts) b c)
+
+-- more parts within each other than a process has characters
+abbrev pub is_deep : List ℕ → ℕ → ℕ → Bool
+is_deep parts b c =
+    not (is_part b (innermost parts)) && (is_some (opened (innermost parts) b c) && length parts == PROCESS_LIMIT)
+
+abbrev pub next_in : List ℕ → ℕ
+next_in text = unwrap_or (slice_get text 0) 0
+
+-- the first operator of a text that stands outside parts, and before a comment: with the parts that are open, whether
+-- its first character was read with the one before it, and whether a word begins with it
+abbrev pub operator_in : List ℕ → Bool → Bool → List ℕ → Option Operator
+operator_in parts was_read start [] = unclosed (innermost parts)
+operator_in parts true start (b ∷ text) = operator_in parts false start text
+operator_in parts false start (b ∷ text) =
+    let part = innermost parts in
+    let c = next_in text in
+    if is_comment part start b then unclosed part
+    else option_or (operator_at part b c)
+    (if is_deep parts b c then None
+    else operator_in (parts_after parts b c) (is_two part b c) (starts_word part b c) text)
+
+abbrev pub operator_of : List ℕ → Option Operator
+operator_of process = operator_in [] false true process
 
 -- one of these has init start the process by the shell
 abbrev pub is_special : ℕ → Bool
@@ -70,12 +123,24 @@ first_of (word ∷ words) = word
 abbrev pub first_word : List ℕ → List ℕ
 first_word process = first_of (words_of process)
 
--- words that the shell knows, and that are no programs
-abbrev pub shell_words : List (List ℕ)
-shell_words =
-    codes "cd" ∷ codes "exec" ∷ codes "export" ∷ codes "set" ∷ codes "ulimit" ∷ codes "umask" ∷ codes "trap"
-    ∷ codes "." ∷ codes "source" ∷ codes "if" ∷ codes "for" ∷ codes "while" ∷ codes "until" ∷ codes "case"
-    ∷ codes "{" ∷ codes "!" ∷ []
+-- the reserved words of sh(1), and its builtins that are no programs
+abbrev pub reserved_words : List (List ℕ)
+reserved_words =
+    codes "if" ∷ codes "then" ∷ codes "elif" ∷ codes "else" ∷ codes "fi" ∷ codes "for" ∷ codes "while"
+    ∷ codes "until" ∷ codes "do" ∷ codes "done" ∷ codes "case" ∷ codes "esac" ∷ codes "in" ∷ codes "function"
+    ∷ codes "{" ∷ codes "}" ∷ codes "!" ∷ codes "[[" ∷ []
+
+abbrev pub special_builtins : List (List ℕ)
+special_builtins =
+    codes "." ∷ codes ":" ∷ codes "source" ∷ codes "exec" ∷ codes "eval" ∷ codes "exit" ∷ codes "return" ∷ codes "break"
+    ∷ codes "continue" ∷ codes "export" ∷ codes "readonly" ∷ codes "local" ∷ codes "set" ∷ codes "unset" ∷ codes "shift"
+    ∷ codes "trap" ∷ codes "times" ∷ []
+
+abbrev pub builtins : List (List ℕ)
+builtins =
+    codes "cd" ∷ codes "command" ∷ codes "wait" ∷ codes "read" ∷ codes "ulimit" ∷ codes "umask" ∷ codes "type"
+    ∷ codes "hash" ∷ codes "getopts" ∷ codes "alias" ∷ codes "unalias" ∷ codes "jobs" ∷ codes "fg" ∷ codes "bg"
+    ∷ codes "fc" ∷ []
 
 abbrev pub begins_with : ℕ → List ℕ → Bool
 begins_with mark [] = false
@@ -83,7 +148,10 @@ begins_with mark (b ∷ text) = b == mark
 
 -- one of these, or a parenthesis
 abbrev pub is_shell_word : List ℕ → Bool
-is_shell_word word = begins_with 40 word || list_any (bytes_eq word) shell_words
+is_shell_word word =
+    begins_with 40 word
+    || (list_any (bytes_eq word) reserved_words
+    || (list_any (bytes_eq word) special_builtins || list_any (bytes_eq word) builtins))
 
 -- a letter, a digit or _
 abbrev pub is_name_byte : ℕ → Bool

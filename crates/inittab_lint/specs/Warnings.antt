@@ -15,7 +15,7 @@ use Rattle.inittab_lint.specs.declared.shell.Operator.TheVariants as operator
 use Rattle.inittab_lint.specs.declared.traps.LineWarning.{LineWarning}
 use Rattle.inittab_lint.specs.declared.traps.Warning.{Warning}
 use Rattle.inittab_lint.specs.declared.traps.Warning.TheVariants as warning
-use Rattle.inittab_lint.specs.Shell.{begins_with, first_word, has_comment, is_assigned, is_shell_word, operator_in}
+use Rattle.inittab_lint.specs.Shell.{begins_with, first_word, has_comment, is_assigned, is_shell_word, operator_of}
 
 -- a character of the runlevels counts: a letter of ondemand entries, none of sysinit, boot and bootwait, else a level
 abbrev pub counts : Act → ℕ → Bool
@@ -56,10 +56,10 @@ holds_of warning.Return process = ends_with 13 process
 holds_of warning.At process = begins_with 64 (first_word process)
 holds_of warning.ShellWord process = is_shell_word (first_word process)
 holds_of warning.Assignment process = is_assigned (first_word process)
-holds_of warning.Chain process = is_operator operator.Chain (operator_in None process)
-holds_of warning.Pipe process = is_operator operator.Pipe (operator_in None process)
-holds_of warning.Background process = is_operator operator.Background (operator_in None process)
-holds_of warning.Unclosed process = is_operator operator.Unclosed (operator_in None process)
+holds_of warning.Chain process = is_operator operator.Chain (operator_of process)
+holds_of warning.Pipe process = is_operator operator.Pipe (operator_of process)
+holds_of warning.Background process = is_operator operator.Background (operator_of process)
+holds_of warning.Unclosed process = is_operator operator.Unclosed (operator_of process)
 holds_of warning.Comment process = has_comment process
 holds_of _ process = false
 

@@ -1,11 +1,19 @@
 //! What of a process the shell does otherwise than it seems, since init has it execute the process (inittab(5)).
 
-ghost use Rattle.std.specs.Prelude.{◌≡◌, None, true};
+ghost use Rattle.std.specs.Prelude.{◌≡◌, ◌&&◌, ◌||◌, ◌==◌, not, true, IsTrue};
 ghost use Rattle.std.specs.List.{list_all, list_any};
 ghost use Rattle.std.specs.Str.{bytes_eq};
-ghost use Rattle.inittab_lint.specs.Shell.{begins_with, closing, first_word, has_comment, has_hash, is_assigned, is_special, is_name, is_name_byte, is_pair, is_shell_word, last_operator, operator_at, operator_in, part_behind, unclosed};
+ghost use Rattle.inittab_lint.specs.Shell.{begins_with, builtins, first_word, has_comment, has_hash, in_commands, innermost};
+ghost use Rattle.inittab_lint.specs.Shell.{is_assigned, is_comment, is_deep, is_dollar, is_literal, is_name, is_name_byte};
+ghost use Rattle.inittab_lint.specs.Shell.{is_part, is_shell_word, is_special, is_two, next_in, opened, operator_at};
+ghost use Rattle.inittab_lint.specs.Shell.{operator_of, parts_after, reserved_words, special_builtins, starts_word, unclosed};
 
+use arrayvec::ArrayVec;
+use init_words::PROCESS_LIMIT;
 use text_lines::{cut, is_blank, next_word};
+
+/// What closes each part of a process that is open, the outermost first.
+type Parts = ArrayVec<u8, PROCESS_LIMIT>;
 
 /// An operator of the shell, which `exec` before the process has do something else.
 #[derive(Clone, Copy, PartialEq, Eq)]
@@ -20,40 +28,88 @@ pub enum Operator {
     Unclosed,
 }
 
-/// What ends a part that the shell takes as one.
-fn closing(byte: u8) -> Option<u8>
-    ensures { result ≡ closing byte }
-{
-    match byte {
-        b'\'' | b'"' | b'`' => Some(byte),
-        b'(' => Some(b')'),
-        _ => None,
-    }
-}
-
-/// What ends the part that is open behind the byte.
-fn part_behind(part: Option<u8>, byte: u8) -> Option<u8>
-    ensures { result ≡ part_behind part byte }
+fn is_part(close: u8, part: Option<u8>) -> bool
+    ensures { result ≡ is_part close part }
 {
     match part {
-        None => closing(byte),
-        Some(close) if byte == close => None,
-        Some(close) => Some(close),
+        None => false,
+        Some(byte) => byte == close,
     }
 }
 
-/// Two bytes that are read as one, and are no operator.
-fn is_pair(part: Option<u8>, byte: u8, next: u8) -> bool
-    ensures { result ≡ is_pair part byte next }
+/// Commands are read: outside all parts, or in a parenthesis.
+fn in_commands(part: Option<u8>) -> bool
+    ensures { result ≡ in_commands part }
 {
-    match (part, byte) {
-        (Some(close), b'\\') => close != b'\'',
-        (Some(_), _) => false,
-        (None, b'\\') => true,
-        (None, b'<') => next == b'&',
-        (None, b'>') => next == b'&' || next == b'|',
-        (None, _) => false,
+    match part {
+        None => true,
+        Some(close) => close == b')',
     }
+}
+
+/// Within quotes that are read as they stand.
+fn is_literal(part: Option<u8>) -> bool
+    ensures { result ≡ is_literal part }
+{
+    is_part(b'\'', part) || is_part(b'`', part)
+}
+
+/// `$(` or `${` begins here.
+fn is_dollar(part: Option<u8>, byte: u8, next: u8) -> bool
+    ensures { result ≡ is_dollar part byte next }
+{
+    byte == b'$' && (next == b'(' || next == b'{') && !is_literal(part)
+}
+
+/// What closes the part that begins here.
+fn opened(part: Option<u8>, byte: u8, next: u8) -> Option<u8>
+    ensures { result ≡ opened part byte next }
+{
+    if is_dollar(part, byte, next) {
+        return if next == b'(' { Some(b')') } else { Some(b'}') };
+    }
+    if byte == b'(' && in_commands(part) {
+        return Some(b')');
+    }
+    if byte == b'`' && !is_literal(part) {
+        return Some(byte);
+    }
+    let is_quote = byte == b'"' || byte == b'\'';
+    if is_quote && (in_commands(part) || is_part(b'}', part)) {
+        return Some(byte);
+    }
+    None
+}
+
+/// Two bytes that are read as one.
+fn is_two(part: Option<u8>, byte: u8, next: u8) -> bool
+    ensures { result ≡ is_two part byte next }
+{
+    byte == b'\\' && !is_part(b'\'', part)
+        || (is_dollar(part, byte, next) || in_commands(part) && is_redirection(byte, next))
+}
+
+/// `<&`, `>&` or `>|`.
+fn is_redirection(byte: u8, next: u8) -> bool
+    ensures { result ≡ (byte == 60 && next == 38 || byte == 62 && (next == 38 || next == 124)) }
+{
+    byte == b'<' && next == b'&' || byte == b'>' && (next == b'&' || next == b'|')
+}
+
+/// Behind it a word begins.
+fn starts_word(part: Option<u8>, byte: u8, next: u8) -> bool
+    ensures { result ≡ starts_word part byte next }
+{
+    is_blank(byte)
+        || (b";&|<>(".contains(&byte)
+            || (is_dollar(part, byte, next) || byte == b')' && !is_part(b')', part)))
+}
+
+/// A comment begins.
+fn is_comment(part: Option<u8>, start: bool, byte: u8) -> bool
+    ensures { result ≡ is_comment part start byte }
+{
+    start && (byte == b'#' && in_commands(part))
 }
 
 /// The operator that begins here.
@@ -83,38 +139,65 @@ fn unclosed(part: Option<u8>) -> Option<Operator>
     }
 }
 
-/// The operator of the last byte.
-fn last_operator(part: Option<u8>, byte: u8) -> Option<Operator>
-    ensures { result ≡ last_operator part byte }
+/// What closes the innermost part that is open.
+fn innermost(parts: &Parts) -> Option<u8>
+    ensures { result ≡ innermost parts.now.items }
 {
-    match operator_at(part, byte, 0) {
-        Some(operator) => Some(operator),
-        None => unclosed(part_behind(part, byte)),
+    parts.as_slice().last().copied()
+}
+
+fn next_in(text: &[u8]) -> u8
+    ensures { result ≡ next_in text.now }
+{
+    text.first().copied().unwrap_or(0)
+}
+
+/// Reads on behind these bytes, where the parts are not too many.
+fn read_on(parts: &mut Parts, byte: u8, next: u8) -> bool
+    ensures deep { result ≡ not (is_deep parts.old.items byte next) }
+    ensures parts { IsTrue result → parts.new.items ≡ parts_after parts.old.items byte next }
+{
+    let part = innermost(parts);
+    if is_part(byte, part) {
+        parts.pop();
+        return true;
+    }
+    match opened(part, byte, next) {
+        Some(close) => parts.try_push(close).is_ok(),
+        None => true,
     }
 }
 
-/// The first operator of a process that stands outside quotes and parentheses.
+/// The first operator of a process that stands outside quotes, parentheses, `${..}` and a comment.
 pub fn operator_of(process: &[u8]) -> Option<Operator>
-    ensures { result ≡ operator_in None process.now }
+    ensures { result ≡ operator_of process.now }
 {
-    let mut part = None;
+    let mut parts: Parts = ArrayVec::new();
+    let mut was_read = false;
+    let mut start = true;
     let mut rest = process;
     while let Some((byte, after)) = rest.split_first() {
-        let Some((next, more)) = after.split_first() else {
-            return last_operator(part, *byte);
-        };
-        if is_pair(part, *byte, *next) {
-            rest = more;
+        rest = after;
+        if was_read {
+            was_read = false;
             continue;
         }
-        let found = operator_at(part, *byte, *next);
+        let part = innermost(&parts);
+        let next = next_in(after);
+        if is_comment(part, start, *byte) {
+            return unclosed(part);
+        }
+        let found = operator_at(part, *byte, next);
         if found.is_some() {
             return found;
         }
-        part = part_behind(part, *byte);
-        rest = after;
+        if !read_on(&mut parts, *byte, next) {
+            return None;
+        }
+        was_read = is_two(part, *byte, next);
+        start = starts_word(part, *byte, next);
     }
-    unclosed(part)
+    unclosed(innermost(&parts))
 }
 
 /// The byte has init start the process by the shell.
@@ -173,23 +256,75 @@ pub(crate) fn is(word: &[u8], known: &[u8]) -> bool
 pub(crate) fn is_shell_word(word: &[u8]) -> bool
     ensures { result ≡ is_shell_word word.now }
 {
-    begins_with(b'(', word)
-        || is(word, b"cd")
-        || is(word, b"exec")
-        || is(word, b"export")
-        || is(word, b"set")
-        || is(word, b"ulimit")
-        || is(word, b"umask")
-        || is(word, b"trap")
-        || is(word, b".")
-        || is(word, b"source")
-        || is(word, b"if")
+    begins_with(b'(', word) || (is_reserved(word) || (is_special_builtin(word) || is_builtin(word)))
+}
+
+/// A reserved word of sh(1).
+fn is_reserved(word: &[u8]) -> bool
+    ensures { result ≡ list_any (bytes_eq word.now) reserved_words }
+{
+    is(word, b"if")
+        || is(word, b"then")
+        || is(word, b"elif")
+        || is(word, b"else")
+        || is(word, b"fi")
         || is(word, b"for")
         || is(word, b"while")
         || is(word, b"until")
+        || is(word, b"do")
+        || is(word, b"done")
         || is(word, b"case")
+        || is(word, b"esac")
+        || is(word, b"in")
+        || is(word, b"function")
         || is(word, b"{")
+        || is(word, b"}")
         || is(word, b"!")
+        || is(word, b"[[")
+}
+
+/// A special builtin of sh(1), or one that other shells have as such.
+fn is_special_builtin(word: &[u8]) -> bool
+    ensures { result ≡ list_any (bytes_eq word.now) special_builtins }
+{
+    is(word, b".")
+        || is(word, b":")
+        || is(word, b"source")
+        || is(word, b"exec")
+        || is(word, b"eval")
+        || is(word, b"exit")
+        || is(word, b"return")
+        || is(word, b"break")
+        || is(word, b"continue")
+        || is(word, b"export")
+        || is(word, b"readonly")
+        || is(word, b"local")
+        || is(word, b"set")
+        || is(word, b"unset")
+        || is(word, b"shift")
+        || is(word, b"trap")
+        || is(word, b"times")
+}
+
+/// Another builtin of sh(1) that is no program.
+fn is_builtin(word: &[u8]) -> bool
+    ensures { result ≡ list_any (bytes_eq word.now) builtins }
+{
+    is(word, b"cd")
+        || is(word, b"command")
+        || is(word, b"wait")
+        || is(word, b"read")
+        || is(word, b"ulimit")
+        || is(word, b"umask")
+        || is(word, b"type")
+        || is(word, b"hash")
+        || is(word, b"getopts")
+        || is(word, b"alias")
+        || is(word, b"unalias")
+        || is(word, b"jobs")
+        || is(word, b"fg")
+        || is(word, b"bg")
+        || is(word, b"fc")
 }
 
 pub(crate) fn begins_with(mark: u8, text: &[u8]) -> bool

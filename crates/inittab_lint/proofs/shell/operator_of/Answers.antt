@@ -1,19 +1,24 @@
-use Rattle.inittab_lint.proofs.Words.{rules, ◌≡◌, ◌∷◌, None, operator_at}
-use Rattle.inittab_lint.proofs.Parts.{pair, other}
+use Rattle.inittab_lint.proofs.Words.{rules, ◌≡◌, ◌∷◌, None, true, false, not, operator_in, operator_of}
+use Rattle.inittab_lint.specs.Shell.{innermost, is_comment, is_deep, is_two, next_in, operator_at, parts_after}
+use Rattle.inittab_lint.specs.Shell.{starts_word}
+use Rattle.inittab_lint.proofs.Reading.{not_so, read_on}
 use Rattle.inittab_lint.proofs.shell.operator_of.Goals as goal
-
-pub loop-byte-preserved-then-is_pair : goal.loop-byte-preserved-then-is_pair
-loop-byte-preserved-then-is_pair c =
-    let rest : c.loop-byte.rest.now ≡ c.in-Some.byte.now ∷ c.in-Some.after.now = search rules in
-    let after : c.in-Some.after.now ≡ c.in-Some-split_first.next.now ∷ c.in-Some-split_first.more.now = search rules in
-    pair c.loop-byte.part c.args.process.now c.loop-byte.rest.now c.in-Some.after.now c.in-Some-split_first.more.now
-    c.in-Some.byte.now c.in-Some-split_first.next.now rest after (search rules) c.loop-byte.invariant
 
 pub loop-byte-preserved : goal.loop-byte-preserved
 loop-byte-preserved c =
-    let rest : c.loop-byte.rest.now ≡ c.in-Some.byte.now ∷ c.in-Some.after.now = search rules in
-    let after : c.in-Some.after.now ≡ c.in-Some-split_first.next.now ∷ c.in-Some-split_first.more.now = search rules in
-    let no : operator_at c.loop-byte.part c.in-Some.byte.now c.in-Some-split_first.next.now ≡ None = search rules in
-    other c.loop-byte.part c.part_behind-part.result c.args.process.now c.loop-byte.rest.now c.in-Some.after.now
-    c.in-Some-split_first.more.now c.in-Some.byte.now c.in-Some-split_first.next.now rest after
-    (search rules) no c.part_behind-part.ensures c.loop-byte.invariant
+    let parts = c.loop-byte.parts.items in
+    let b = c.in-Some.byte.now in
+    let text = c.in-Some.after.now in
+    let rest : c.loop-byte.rest.now ≡ b ∷ text = search rules in
+    let next = next_in text in
+    let comment : is_comment (innermost parts) c.loop-byte.start b ≡ false = search rules in
+    let no : operator_at (innermost parts) b next ≡ None = search rules in
+    let deep : is_deep parts b next ≡ false =
+    let shallow : true ≡ not (is_deep parts b next) = search rules in not_so _ shallow in
+    let on : c.read_on.new.parts.items ≡ parts_after parts b next = search rules in
+    let two : c.is_two-was_read.result ≡ is_two (innermost parts) b next = search rules in
+    let starts : c.starts_word-start.result ≡ starts_word (innermost parts) b next = search rules in
+    let here : operator_in parts false c.loop-byte.start c.loop-byte.rest.now ≡ operator_of c.args.process.now =
+    search rules in
+    read_on parts c.read_on.new.parts.items c.args.process.now c.loop-byte.rest.now text c.loop-byte.start
+    c.is_two-was_read.result c.starts_word-start.result b rest comment no deep on two starts here
