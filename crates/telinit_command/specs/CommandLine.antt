@@ -1,6 +1,5 @@
 -- The command line `telinit [-t SEC] [-d DIR] [--initctl P] CHAR`, or `--power KIND` in place of CHAR (telinit(8)).
-use Rattle.std.specs.Prelude.{ℕ, Bool, ◌&&◌, not, if◌then◌else◌, nat_le, List, [], ◌++◌, codes, Option, Some, None, fst}
-use Rattle.std.specs.Prelude.{snd, ◌×◌}
+use Rattle.std.specs.Prelude.{ℕ, Bool, ◌&&◌, not, if◌then◌else◌, nat_le, List, [], ◌++◌, codes, Option, Some, None}
 use Rattle.std.specs.Prelude.{option_and_then, option_map, length, string_bytes, ◌==◌}
 use Rattle.std.specs.List.{list_all}
 use Rattle.std.specs.Char.{is_ascii_digit}
@@ -79,7 +78,7 @@ abbrev pub words_said_by : Text → List Row → Option TelinitWords
 words_said_by home rows =
     option_and_then
     (λ secs. option_map
-    (λ asked. record { secs = secs; path = path_said home rows; sign = fst asked; power = snd asked })
+    (λ asked. record { secs = secs; path = path_said home rows; sign = asked.0; power = asked.1 })
     (sign_or_power (first_of (codes "CHAR") rows) (first_of (codes "--power") rows)))
     (seconds_read (value_said (codes "-t") rows))
 

@@ -1,6 +1,6 @@
 use Rattle.initview_timeline.proofs.Words.{◌≡◌, ◌∙◌, ap, ◌∷◌, ◌++◌, ℕ, List, Option, time_of, TimelineMark, SeenMarks}
 use Rattle.initview_timeline.proofs.Words.{mark_at, shown_of, start_after}
-use Rattle.initview_timeline.proofs.marks.MarksSees.see.Goals as goal
+use Rattle.initview_timeline.proofs.marks.MarksTraceObserver.see.Goals as goal
 
 joined : (m n : List TimelineMark) (s t : Option ℕ) → m ≡ n → s ≡ t
     → ◌≡◌ {A = SeenMarks} (record { marks = m; start = s }) (record { marks = n; start = t })

@@ -1,7 +1,7 @@
 use Rattle.trace_log_wrappers.proofs.Words.{◌∷◌, [], rules, sym, subst, List, reverse, ◌++◌, reverse-append, Event}
 use Rattle.trace_log_wrappers.proofs.Words.{NotesOf}
 use Rattle.trace_log_wrappers.specs.Judgements.{FindsBy}
-use Rattle.trace_log_wrappers.proofs.watched_logs.WatchedLogLog.take.Goals as goal
+use Rattle.trace_log_wrappers.proofs.watched_logs.NotingLogLog.take.Goals as goal
 
 pub returns-clause-ok : goal.returns-clause-ok
 returns-clause-ok g c = λ ranged before kept. (noted before (search rules), found before (search rules), search rules)

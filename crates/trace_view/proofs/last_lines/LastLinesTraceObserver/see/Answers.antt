@@ -1,6 +1,6 @@
 use Rattle.trace_view.proofs.Words.{◌∙◌, ◌∷◌, sym, ap, subst, at, LinesState, Lined, line_after, names}
 use Rattle.trace_view.proofs.Lining.{lined_more}
-use Rattle.trace_view.proofs.last_lines.LastLinesSees.see.Goals as goal
+use Rattle.trace_view.proofs.last_lines.LastLinesTraceObserver.see.Goals as goal
 
 pub returns : goal.returns
 returns g c = λ past seen on is lined.
