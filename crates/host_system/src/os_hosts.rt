@@ -332,7 +332,7 @@ impl<
         };
         host.pauses.note(has_stirred(&reply));
         host.faults = counted(host.faults, is_failed_reply(&reply));
-        host.told = adding::with::<_, adding::Start>(&host.told, (&id, command, &reply));
+        host.told = adding::and_call::<_, adding::Start>(&host.told, (&id, command, &reply));
         reply
     }
 
@@ -353,7 +353,7 @@ impl<
         let reply = Reply::Now(host.children.look(&host.rt, &mut host.system, &id));
         host.pauses.note(has_stirred(&reply));
         host.faults = counted(host.faults, is_failed_reply(&reply));
-        host.told = adding::with::<_, adding::Look>(&host.told, (&id, &reply));
+        host.told = adding::and_call::<_, adding::Look>(&host.told, (&id, &reply));
         reply
     }
 
@@ -377,7 +377,7 @@ impl<
         let reply = Reply::Now(answer);
         host.pauses.note(has_stirred(&reply));
         host.faults = counted(host.faults, is_failed_reply(&reply));
-        host.told = adding::with::<_, adding::Signal>(&host.told, (&id, signal, &reply));
+        host.told = adding::and_call::<_, adding::Signal>(&host.told, (&id, signal, &reply));
         reply
     }
 
@@ -388,7 +388,7 @@ impl<
             ≡ record self.old { calls = call.Late result ∷ self.old.calls } }
     {
         let host = &mut *self.host;
-        host.told = adding::with::<_, adding::Late>(&host.told, &None);
+        host.told = adding::and_call::<_, adding::Late>(&host.told, &None);
         None
     }
 
@@ -402,7 +402,7 @@ impl<
         let host = &mut *self.host;
         let reading = host_result(host.clock.seconds(&host.rt));
         host.faults = counted(host.faults, reading.is_err());
-        host.told = adding::with::<_, adding::Clock>(&host.told, reading);
+        host.told = adding::and_call::<_, adding::Clock>(&host.told, reading);
         reading
     }
 
@@ -419,7 +419,7 @@ impl<
         let taken = host_result(host.channel.take_bytes(&host.rt, buffer));
         host.pauses.note(matches!(taken, Ok(count) if count > 0));
         host.faults = counted(host.faults, taken.is_err());
-        host.told = adding::with::<_, adding::TakeBytes>(&host.told, (&*buffer, taken));
+        host.told = adding::and_call::<_, adding::TakeBytes>(&host.told, (&*buffer, taken));
         taken
     }
 
@@ -437,7 +437,7 @@ impl<
             Err(_) => false,
         };
         host.faults = counted(host.faults, !is_told);
-        host.told = adding::with::<_, adding::ReadTables>(&host.told, &parts);
+        host.told = adding::and_call::<_, adding::ReadTables>(&host.told, &parts);
         parts
     }
 
@@ -454,7 +454,7 @@ impl<
         let back = host.state.carry(&host.rt, alloc, inittab, channel, text);
         let back = host_result(back);
         host.faults = counted(host.faults, back.is_err());
-        host.told = adding::with::<_, adding::Carry>(&host.told, (text, &back));
+        host.told = adding::and_call::<_, adding::Carry>(&host.told, (text, &back));
         back
     }
 
@@ -468,7 +468,7 @@ impl<
         let host = &mut *self.host;
         let is_printed = host.output.announce(&host.rt, happening);
         host.faults = counted(host.faults, !is_printed);
-        host.told = adding::with::<_, adding::Announce>(&host.told, happening);
+        host.told = adding::and_call::<_, adding::Announce>(&host.told, happening);
         match happening {
             Happening::Enter(stage, _) => host.children.enter(*stage),
             Happening::Hold(id) => host.children.tell_last_end(&host.rt, id),
@@ -485,7 +485,7 @@ impl<
         let length = host.pauses.next(&host.rt, host.children.count());
         host.channel.rest(&host.rt, length);
         host.pauses.begin_turn(&host.rt);
-        host.told = adding::with::<_, adding::Pause>(&host.told, ());
+        host.told = adding::and_call::<_, adding::Pause>(&host.told, ());
     }
 
     fn faults(&self) -> u64 {
