@@ -2,53 +2,43 @@
 //! to come. With a hand-over of init's state behind any of its happenings the rest of each trace is the same.
 #![tactic(auto)]
 
+mod differences;
 mod rows;
 mod runs;
 
 use init_words::Memory;
 use program_io::{DEVICE_FAULT, DONE, REFUSED, read_all};
-use rows::row_of;
-use runs::tried;
-use std::io;
+use rows::{Fields, row_of, rows_of};
+use runs::{Outcome, tried};
 use std::io::ErrorKind;
 use std::process::ExitCode;
+use std::{io, str};
 
-/// What was run.
-#[derive(Clone, Copy)]
-struct Counts {
-    rows: u64,
-    handed: u64,
-}
-
-/// Runs each row, and counts what was run; None where a row answers otherwise, which is told.
-fn run_rows(rt: &HostRuntime, text: &[u8]) -> io::Result<Option<Counts>> {
-    let mut counts = Counts { rows: 0, handed: 0 };
-    for line in text.split(|byte| *byte == b'\n') {
-        if line.is_empty() || line.starts_with(b"#") {
-            continue;
-        }
-        counts.rows = counts.rows.saturating_add(1);
-        let row = row_of(rt.alloc(), line)?;
+/// Runs each row; whether one was run and each is as it says. The first that isn't is told.
+fn are_run(rt: &HostRuntime, rows: &[Fields]) -> io::Result<bool> {
+    for fields in rows {
+        let row = row_of(fields);
         match tried(rt.alloc(), &row) {
-            Ok(Some(handed)) => counts.handed = counts.handed.saturating_add(handed),
-            Ok(None) => {
-                let number = counts.rows;
-                println!(rt; "row {number} has another trace")?;
-                return Ok(None);
+            Ok(Outcome::Same) => {}
+            Ok(Outcome::Other(other)) => {
+                let line = fields.line;
+                let words = str::from_utf8(row.words).unwrap_or("?");
+                println!(rt; "line {line}: {words}\n    {other}")?;
+                return Ok(false);
             }
             Err(Memory) => return Err(io::Error::from(ErrorKind::OutOfMemory)),
         }
     }
-    Ok(Some(counts))
+    Ok(!rows.is_empty())
 }
 
 fn run(rt: &HostRuntime) -> io::Result<u8> {
     let text = read_all(rt.alloc(), &mut rt.stdin())?;
-    let Some(counts) = run_rows(rt, &text)? else {
+    let rows = rows_of(rt.alloc(), &text)?;
+    if !are_run(rt, &rows)? {
         return Ok(REFUSED);
-    };
-    let Counts { rows, handed } = counts;
-    println!(rt; "{rows} rows, {handed} hand-overs")?;
+    }
+    println!(rt; "each row has its trace")?;
     Ok(DONE)
 }
 

@@ -1,86 +1,126 @@
 //! Runs of init over a row.
 
+use crate::differences::difference;
 use crate::rows::Row;
 use init_words::Memory;
 use simulator::{SimFault, Untold, simulate};
 use std::alloc::{AllocError, Global};
+use std::str;
+use text_lines::newlines;
 use trace_text::first_happening;
 
 /// The line of a hand-over in a script and in a trace.
 const HANDED: &[u8] = b"handed whole\n";
 
-/// The run ended so.
-fn is_end(alloc: Global, ended: Result<(), SimFault>, fault: &[u8]) -> Result<bool, AllocError> {
-    match ended {
-        Ok(()) => Ok(fault.is_empty()),
-        Err(why) => {
-            let told = format!(in alloc; "{why}")?;
-            Ok(told.as_bytes() == fault)
-        }
+/// A run that is as its row says, or in which way it isn't.
+#[derive(Drop)]
+pub(crate) enum Outcome {
+    Same,
+    Other(String),
+}
+
+/// What is wrong with the end of a run; nothing where it ended as the row says.
+fn other_end(
+    alloc: Global,
+    ended: Result<(), SimFault>,
+    fault: &[u8],
+) -> Result<String, AllocError> {
+    let told = match ended {
+        Ok(()) => String::new(alloc),
+        Err(why) => format!(in alloc; "{why}")?,
+    };
+    if told.as_bytes() == fault {
+        return Ok(String::new(alloc));
     }
+    format!(in alloc;
+        "its end is: {told}\n    and not: {}",
+        str::from_utf8(fault).unwrap_or("?")
+    )
 }
 
-/// The trace of a run over a script, and whether it ended as the row says.
-fn run_over(alloc: Global, row: &Row, script: &[u8]) -> Result<(Vec<u8>, bool), AllocError> {
-    let mut out = Vec::new(alloc);
-    let ended = simulate::<Global, Vec<u8>, Untold>(alloc, &row.inittab, None, script, &mut out);
-    let is_end = is_end(alloc, ended, &row.fault)?;
-    Ok((out, is_end))
-}
-
-/// A trace without its hand-overs, and how many it has.
-fn without_handed(alloc: Global, trace: &[u8]) -> Result<(Vec<u8>, u64), AllocError> {
+/// A trace without its hand-overs.
+fn without_handed(alloc: Global, trace: &[u8]) -> Result<Vec<u8>, AllocError> {
     let mut text = Vec::new(alloc);
-    let mut count: u64 = 0;
     for line in trace.split_inclusive(|byte| *byte == b'\n') {
-        if line == HANDED {
-            count = count.saturating_add(1);
-        } else {
+        if line != HANDED {
             text.extend_from_slice(line)?;
         }
     }
-    Ok((text, count))
+    Ok(text)
+}
+
+/// A run over a script, of which the trace without its hand-overs is wanted where `is_handed`.
+fn run_over(
+    alloc: Global,
+    row: &Row<'_>,
+    script: &[u8],
+    is_handed: bool,
+) -> Result<Outcome, AllocError> {
+    let mut out = Vec::new(alloc);
+    let ended = simulate::<Global, Vec<u8>, Untold>(alloc, row.inittab, None, script, &mut out);
+    let mut other = other_end(alloc, ended, row.fault)?;
+    if is_handed {
+        let text = without_handed(alloc, &out)?;
+        if text.len().saturating_add(HANDED.len()) != out.len() {
+            other = String::from_str(alloc, "its trace has no such line")?;
+        }
+        out = text;
+    }
+    if out.as_slice() != row.trace {
+        other = difference(alloc, &out, row.trace)?;
+    }
+    Ok(if other.is_empty() {
+        Outcome::Same
+    } else {
+        Outcome::Other(other)
+    })
 }
 
 /// With a hand-over between these parts of its script the rest of the row's trace is the same.
-fn is_same(alloc: Global, row: &Row, front: &[u8], behind: &[u8]) -> Result<bool, AllocError> {
+fn tried_between(
+    alloc: Global,
+    row: &Row<'_>,
+    front: &[u8],
+    behind: &[u8],
+) -> Result<Outcome, AllocError> {
     let mut script = Vec::from_slice(alloc, front)?;
     script.extend_from_slice(HANDED)?;
     script.extend_from_slice(behind)?;
-    let (trace, is_end) = run_over(alloc, row, &script)?;
-    let (text, count) = without_handed(alloc, &trace)?;
-    Ok(is_end && count == 1 && text.as_slice() == row.trace.as_slice())
+    Ok(match run_over(alloc, row, &script, true)? {
+        Outcome::Same => Outcome::Same,
+        Outcome::Other(other) => {
+            let lines = newlines(front);
+            Outcome::Other(format!(in alloc;
+                "with a hand-over behind line {lines} of its script, {other}"
+            )?)
+        }
+    })
 }
 
-/// How many hand-overs were put into the row's script, one behind each of its happenings and one before them; None where
-/// one changes the rest of the trace.
-fn handed(alloc: Global, row: &Row) -> Result<Option<u64>, Memory> {
-    let script = row.script.as_slice();
+/// With a hand-over behind any happening of the row's script, or before them, the rest of its trace is the same.
+fn handed(alloc: Global, row: &Row<'_>) -> Result<Outcome, Memory> {
+    let script = row.script;
     let mut rest = script;
-    let mut count: u64 = 0;
     for _ in 0..=script.len() {
         let (front, behind) = script.split_at(script.len().saturating_sub(rest.len()));
-        if !is_same(alloc, row, front, behind)? {
-            return Ok(None);
+        if let Outcome::Other(other) = tried_between(alloc, row, front, behind)? {
+            return Ok(Outcome::Other(other));
         }
-        count = count.saturating_add(1);
         match first_happening(alloc, rest)? {
             Some((_, more)) => rest = more,
-            None => return Ok(Some(count)),
+            None => return Ok(Outcome::Same),
         }
     }
-    Ok(Some(count))
+    Ok(Outcome::Same)
 }
 
-/// How many hand-overs were tried beside the row itself; None where it answers otherwise. A script that has some of its
-/// own, or doesn't come to its end, gets none.
-pub(crate) fn tried(alloc: Global, row: &Row) -> Result<Option<u64>, Memory> {
-    let (trace, is_end) = run_over(alloc, row, &row.script)?;
-    if !is_end || trace.as_slice() != row.trace.as_slice() {
-        return Ok(None);
+/// Runs the row, and then with each hand-over. A script that has some of its own, or doesn't come to its end, gets none.
+pub(crate) fn tried(alloc: Global, row: &Row<'_>) -> Result<Outcome, Memory> {
+    if let Outcome::Other(other) = run_over(alloc, row, row.script, false)? {
+        return Ok(Outcome::Other(other));
     }
-    if !row.fault.is_empty() || has_handed(&row.script) {
-        return Ok(Some(0));
+    if !row.fault.is_empty() || has_handed(row.script) {
+        return Ok(Outcome::Same);
     }
     handed(alloc, row)
 }
