@@ -1,6 +1,8 @@
 -- The files of a folder that are parts of an inittab.
 use Rattle.std.specs.Prelude.{◌≡◌, ◌⊎◌, ℕ, Bool, ◌&&◌, ◌||◌, ◌==◌, not, List, [], ◌∷◌, ◌++◌, false, codes, string_bytes}
 use Rattle.std.specs.Prelude.{Option, Some, ⊤}
+use Rattle.program_io.specs.Known.{IsTextAt, KnownTexts}
+use Rattle.init_words.specs.Parts.{NamedText}
 use Rattle.std.specs.Char.{is_ascii_alphanumeric}
 use Rattle.std.specs.List.{ends_with, list_all}
 use Rattle.host_files.specs.declared.folders.FolderFault.{FolderFault}
@@ -36,3 +38,8 @@ abbrev pub IsFolderFault : {A : Type 0} → Option (List ℕ) → FolderFault A 
 IsFolderFault folder (fault.Unread path error) =
     (at : List ℕ) × (folder ≡ Some at) × IsWithin at (string_bytes path)
 IsFolderFault folder fault.Memory = ⊤
+
+-- the first part is the file at the path, with the text that stands there
+abbrev pub BeginsWith : KnownTexts → List ℕ → List NamedText → Type 0
+BeginsWith text_at path parts = (text : List ℕ) × (more : List NamedText) × IsTextAt text_at path text
+    × (parts ≡ record { name = path; bytes = text } ∷ more)

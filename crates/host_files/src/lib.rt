@@ -4,13 +4,17 @@
 
 mod bells;
 mod boxes;
+mod channel_files;
+mod channel_notes;
 mod channels;
 mod folders;
 mod inittab_files;
+mod places;
 mod state_files;
 
 pub use boxes::boxed;
+pub use channel_files::{ChannelCallList, ChannelFile, FoundFile, OsChannelFile, nothing_read};
 pub use channels::Channel;
 pub use folders::{FolderFault, PassedNames, is_hidden, with_folder};
-pub use inittab_files::InittabFiles;
+pub use inittab_files::{InittabFiles, PlainTexts};
 pub use state_files::StateFile;

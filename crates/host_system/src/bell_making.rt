@@ -5,7 +5,7 @@ ghost use Rattle.host_system.specs.Asking.{AsksHelpers};
 use crate::commands::{BoxedCommand, add_word, bare_command};
 use crate::host_options::HostOptions;
 use crate::systems::System;
-use host_files::Channel;
+use host_files::{Channel, OsChannelFile};
 use host_messages::tell_no_bell;
 use std::alloc::{AllocError, Allocator};
 use std::io;
@@ -17,7 +17,7 @@ pub(crate) fn make_bell<R: Files + Eprint, S: System, A: Allocator + Copy>(
     rt: &R,
     system: &mut S,
     alloc: A,
-    channel: &Channel<A>,
+    channel: &Channel<OsChannelFile, A>,
     options: &HostOptions,
 )
     ensures { AsksHelpers (S.told system.old) (S.told system.new) }

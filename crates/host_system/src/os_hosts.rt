@@ -12,7 +12,7 @@ use crate::pauses::{Pauses, has_stirred};
 use crate::steady_clocks::SteadyClock;
 use crate::systems::System;
 use host_calls::{Host, HostFault, Reply, counted, is_failed_reply};
-use host_files::{Channel, InittabFiles, StateFile, boxed};
+use host_files::{Channel, InittabFiles, OsChannelFile, StateFile, boxed};
 use host_messages::{Output, tell_refused};
 use host_telling::{CallList, Noted, adding, no_calls};
 use init_words::{Answer, Id, Memory, Part, SignalKind};
@@ -63,7 +63,7 @@ struct OsHostParts<
     alloc: A,
     children: Box<Children<S, A>, A>,
     logs: Logs<A>,
-    channel: Box<Channel<A>, A>,
+    channel: Box<Channel<OsChannelFile, A>, A>,
     inittab: Box<InittabFiles<A>, A>,
     state: Box<StateFile<A>, A>,
     output: Output<A>,
@@ -196,7 +196,7 @@ impl<
 
 /// What a host reads and writes files by.
 type HostFiles<A> = (
-    Box<Channel<A>, A>,
+    Box<Channel<OsChannelFile, A>, A>,
     Box<InittabFiles<A>, A>,
     Box<StateFile<A>, A>,
 );
@@ -431,7 +431,7 @@ impl<
         } }
     {
         let host = &mut *self.host;
-        let parts = host_result(host.inittab.read(&host.rt, alloc));
+        let parts = host_result(host.inittab.read(&host.rt, &host.rt, alloc));
         let is_told = match &parts {
             Ok(parts) => host.tell_reading(alloc, parts),
             Err(_) => false,

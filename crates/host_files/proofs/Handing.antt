@@ -1,0 +1,32 @@
+-- What a channel reads and hands on.
+use Rattle.std.proofs.Common.{◌≡◌, sym, ◌∙◌, ap, subst, ◌≤◌, ℕ, ◌+◌, List, [], ◌∷◌, ◌++◌, length, drop, Bool}
+use Rattle.std.proofs.lemmas.List.{drop_all}
+use Rattle.program_io.specs.declared.channel_files.TheConstants.{REQUEST}
+use Rattle.host_files.specs.declared.places.Place.{Place}
+use Rattle.host_files.specs.Channels.{ChannelCall, ChannelState, HasHanded, IsReadOn, bytes_read}
+use Rattle.host_files.specs.Channels.{place_of}
+use Rattle.host_files.specs.Channels.ChannelCall.{read}
+
+abbrev pub Stands : Bool → Place → List ChannelCall → Type 0
+Stands fresh place told = IsReadOn fresh told × (place ≡ place_of fresh told)
+
+-- a place that is heard up to this byte
+abbrev pub heard_to : Place → ℕ → Place
+heard_to place end = record { begun = place.begun; heard = end; missing = place.missing; file = place.file }
+
+-- a whole request was read where the channel stands
+pub read_on : (fresh : Bool) (told new : List ChannelCall) (place : Place) (block : List ℕ) (end : ℕ)
+    → Stands fresh place told → new ≡ read place.heard block ∷ told → length block ≡ REQUEST
+    → end ≡ place.heard + REQUEST → Stands fresh (heard_to place end) new
+read_on fresh told new place block end (are, at) reads long adds =
+    subst (Stands fresh (heard_to place end)) (sym reads) (
+      (ap (λ (p : Place). p.heard) at, long, are),
+      ap (heard_to place) adds ∙ ap (λ (p : Place). heard_to p (p.heard + REQUEST)) at,
+    )
+
+-- a reading failed, where nothing was left to hand on: whatever its buffer has
+pub still_none : (old : ChannelState) (h : ℕ) (request again : List ℕ) (told new : List ChannelCall)
+    → drop h request ≡ old.rest → length again ≤ h → bytes_read told ≡ bytes_read old.told → new ≡ told
+    → old.rest ≡ [] → (handed : List ℕ) → HasHanded old handed → handed ++ drop h again ≡ bytes_read new
+still_none old h request again told new rest past same is none handed was =
+    ap (λ xs. handed ++ xs) (drop_all h again past ∙ sym none) ∙ was ∙ sym same ∙ ap bytes_read (sym is)

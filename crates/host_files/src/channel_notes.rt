@@ -1,0 +1,154 @@
+//! What is noted of a channel to tell what is wrong with it.
+
+use crate::channel_files::FoundFile;
+use crate::places::Place;
+use host_messages::{
+    PassedOver, Trouble, tell_made_anew, tell_old, tell_other_owner, tell_torn, tell_written_over,
+};
+use initctl_frame::{HeardRequest, decode};
+use program_io::REQUEST;
+use std::io;
+use std::rt::Clock;
+use std::time::{Duration, Instant};
+
+/// After how many microseconds what was begun is taken for done.
+pub(crate) const LOOK: u64 = 40_000;
+
+/// What is noted of a channel.
+#[derive(Drop)]
+pub(crate) struct ChannelNotes {
+    /// The user that it is of.
+    owner: Option<u32>,
+    /// Its length, and when it was last written to, as it was found read to this end: seconds and nanoseconds.
+    end: Option<(u64, i64, i64)>,
+    /// When its length was found to be another last.
+    resized: Option<Instant>,
+    /// Since when each look has found it written to behind its end, and as long as it was.
+    changed: Option<Instant>,
+    hearing: Trouble,
+    passed_over: PassedOver,
+    /// How many bytes it had when it was last read to an end that is not a request's.
+    torn: u64,
+    told_torn: bool,
+}
+
+impl ChannelNotes {
+    /// Nothing was noted yet.
+    pub fn new(program: &'static str) -> ChannelNotes {
+        ChannelNotes {
+            owner: None,
+            end: None,
+            resized: None,
+            changed: None,
+            hearing: Trouble::new(program, "read", "read"),
+            passed_over: PassedOver::new(),
+            torn: 0,
+            told_torn: false,
+        }
+    }
+
+    /// Tells that it can't be read, or can again.
+    pub fn tell_taken(&mut self, rt: &impl Eprint, path: &str, taken: &io::Result<usize>) {
+        self.hearing.tell(rt, path, taken);
+    }
+
+    /// Tells of the bytes that stand in the channel at its first reading.
+    pub fn tell_first(rt: &impl Eprint, path: &str, found: Option<FoundFile>, fresh: bool) {
+        match found {
+            Some(found) if found.length > 0 => tell_old(rt, path, found.length, fresh),
+            _ => {}
+        }
+    }
+
+    /// Notes that it is read on here, and was to be there.
+    pub fn note_place(&mut self, before: &Place, now: &Place) {
+        if before.heard != now.heard {
+            self.torn = 0;
+            self.told_torn = false;
+        }
+    }
+
+    /// Tells that this file is another than before, or of another user, or shorter than what was read.
+    pub fn note_file<R: Clock + Eprint>(
+        &mut self,
+        rt: &R,
+        path: &str,
+        before: &Place,
+        found: &FoundFile,
+    ) {
+        if before.is_anew(found) {
+            self.end = None;
+            self.resized = Instant::now(rt).ok();
+            tell_made_anew(rt, path);
+        }
+        let owner = self.owner.replace(found.owner).unwrap_or(found.owner);
+        if owner != found.owner {
+            tell_other_owner(rt, path, owner, found.owner);
+        }
+    }
+
+    /// Notes a channel that was read to its end, and tells what is wrong with that.
+    pub fn note_end<R: Clock + Eprint>(&mut self, rt: &R, path: &str, found: &FoundFile) {
+        self.note_written(rt, path, found);
+        self.note_torn(rt, path, found.length);
+    }
+
+    /// Tells that it was written to since it was read to this end, where it is as long as it was: for
+    /// some time before its time changed, and behind. For a file that is appended to has its new time for a moment before
+    /// its new length, and one that is cut behind it.
+    fn note_written(&mut self, rt: &(impl Clock + Eprint), path: &str, found: &FoundFile) {
+        let end = (found.length, found.written.0, found.written.1);
+        let before = self.end.unwrap_or(end);
+        if before.0 != end.0 {
+            self.resized = Instant::now(rt).ok();
+        } else if before != end && is_past(rt, self.resized) {
+            if self.changed.is_none() {
+                self.changed = Instant::now(rt).ok();
+                return;
+            }
+            if !is_past(rt, self.changed) {
+                return;
+            }
+            tell_written_over(rt, path);
+        }
+        self.changed = None;
+        self.end = Some(end);
+    }
+
+    /// Tells that its end is none of a request: where it was so the last time
+    /// too, since a writer may be in the middle, and once until it is over.
+    fn note_torn(&mut self, rt: &impl Eprint, path: &str, length: u64) {
+        let over = length % REQUEST as u64;
+        if over == 0 {
+            self.told_torn = false;
+            self.torn = 0;
+            return;
+        }
+        if self.torn == length && !self.told_torn {
+            tell_torn(rt, path, over);
+            self.told_torn = true;
+        }
+        self.torn = length;
+    }
+
+    /// Tells why init passes over a request that ends at this byte, where it does.
+    pub fn tell_passed_over(
+        &mut self,
+        rt: &impl Eprint,
+        path: &str,
+        request: &[u8; REQUEST],
+        end: u64,
+    ) {
+        if let HeardRequest::Nothing(cause) = decode(request) {
+            self.passed_over.tell(rt, path, end / REQUEST as u64, cause);
+        }
+    }
+}
+
+/// It was some time ago, or never.
+fn is_past(rt: &impl Clock, since: Option<Instant>) -> bool {
+    let Some(since) = since else {
+        return true;
+    };
+    matches!(since.elapsed(rt), Ok(passed) if passed >= Duration::from_micros(LOOK))
+}
