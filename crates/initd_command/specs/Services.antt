@@ -2,7 +2,8 @@
 -- and how the exit status follows from what ended the turns.
 use Rattle.std.specs.Prelude.{◌≡◌, ◌≤◌, ◌<◌, ◌⊎◌, ◌&&◌, ◌==◌, not, if◌then◌else◌, ℕ, Bool, true, false, List, [], ◌∷◌}
 use Rattle.std.specs.Prelude.{◌++◌, length, string_bytes, Option, Some, None, option_map, is_none, is_some, unwrap_or}
-use Rattle.std.specs.Prelude.{IfSome, IsTrue, ⊤}
+use Rattle.std.specs.Prelude.{IfSome, IsTrue, ⊤, ◌≢◌}
+use Rattle.std.specs.List.{AllByRecursion}
 use Rattle.std.specs.Bool.{then_some}
 use Rattle.std.specs.Io.KnownBytes.{Appends, Keeps}
 use Rattle.initd_command.specs.Words.{AppendsPrefix, IsTextAt, KnownTexts, NamedText, texts_of, Entry, Level, Judgement}
@@ -147,6 +148,11 @@ abbrev pub StandBy : List ℕ → List ℕ → List (List ℕ) → Type 0
 StandBy one other paths =
     (before between behind : List (List ℕ)) × (paths ≡ before ++ one ∷ (between ++ other ∷ behind))
 
+-- no two of them are the same
+abbrev pub AreApart : List (List ℕ) → Type 0
+AreApart [] = ⊤
+AreApart (path ∷ paths) = AllByRecursion (λ other. path ≢ other) paths × AreApart paths
+
 -- what is in the way of a run
 abbrev pub IsInWay : KnownTexts → RunSaid → Obstacle → Type 0
 IsInWay text_at service (why.Unread path error) = (string_bytes path ≡ service.inittab)
@@ -176,12 +182,12 @@ Writes false text old new = AppendsPrefix old new text
 abbrev pub EndsTold : RunSaid → List ℕ → Bool → End → Option (List ℕ) → Option (List ℕ) → Type 0
 EndsTold service told written end old new = EndsServed service end × Writes written told old new
 
--- how a run ends: something is in its way, and nothing is written, or it takes the inittab at its paths, whose faults
--- it tells, and makes turns
+-- how a run ends: something is in its way, and nothing is written, or its paths are apart, it takes the inittab that
+-- stands there, whose faults it tells, and makes turns
 abbrev pub EndsRun : KnownTexts → RunSaid → Ending → Option (List ℕ) → Option (List ℕ) → Type 0
 EndsRun text_at service ending old new =
     ((obstacle : Obstacle) × (ending ≡ refused obstacle) × IsInWay text_at service obstacle × Keeps old new)
-    ⊎ HasInittab text_at service (λ parts. TakesParts service parts
+    ⊎ AreApart (own_paths service) × HasInittab text_at service (λ parts. TakesParts service parts
     × (spoken : Spoken) × (spoken.unled ≡ has_no_level service.level (table_in parts))
     × (end : End) × (ending ≡ turned spoken end)
     × EndsTold service (told_of parts) spoken.told end old new)

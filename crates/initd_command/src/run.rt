@@ -1,11 +1,11 @@
 //! `initd run`: what it stands on, and its turns.
 
-ghost use Rattle.std.specs.Prelude.{◌≡◌, ◌∷◌, ◌++◌, ◌&&◌, if◌then◌else◌, ℕ, true, List, None, Some, [], is_some, option_map, unwrap_or, IfErr, IfOk, IfSome, OnErr, OnOk};
+ghost use Rattle.std.specs.Prelude.{◌≡◌, ◌≢◌, ◌∷◌, ◌++◌, ◌&&◌, if◌then◌else◌, ℕ, true, List, None, Some, [], is_some, option_map, unwrap_or, IfErr, IfOk, IfSome, OnErr, OnOk};
 ghost use Rattle.initd_command.specs.Words.{KnownTexts, NamedText, Entry, Since, IsOpeningOf, RunSaid, run_of};
 ghost use Rattle.initd_command.specs.Endings.{Ending, Reports, ReportsObstacle, Spoken, obstacle_status, status_of, turned};
 ghost use Rattle.initd_command.specs.Ran.{MakesLogged, MakesTraced, RanBy};
 ghost use Rattle.initd_command.specs.Turned.{End, ReportsEnd, end_status};
-ghost use Rattle.initd_command.specs.Services.{AreFiles, EndsRun, EndsServed, EndsTold, HasInittab, IsInWay, IsInittab, IsReadOf, StandBy, TakesParts, is_taken, has_no_level, own_paths, table_in, told_of};
+ghost use Rattle.initd_command.specs.Services.{AreApart, AreFiles, EndsRun, EndsServed, EndsTold, HasInittab, IsInWay, IsInittab, IsReadOf, StandBy, TakesParts, is_taken, has_no_level, own_paths, table_in, told_of};
 
 use crate::ends::report_end;
 use crate::hosts::Hosts;
@@ -153,6 +153,7 @@ where
         × (run.has_no_level ≡ has_no_level options.now.level (table_in parts))
         × TakesParts (run_of options.now) parts
         × IsOpeningOf options.now.level (table_in parts) run.opening)) }
+    ensures apart { OnOk result (AreApart (own_paths (run_of options.now))) }
     ensures host { IfOk result (λ run. H.told run.host ≡ S.told hosts.old) }
     ensures opened { OnOk result (Since (S.opened hosts.old) (S.opened hosts.new)
         (λ saids. saids ≡ run_of options.now ∷ [])) }
@@ -238,7 +239,8 @@ fn has_no_level(level: Option<Level>, table: &Table) -> bool
 
 /// Refuses two paths of the run that lead to one file: what is written to one would be lost in the other.
 fn refuse_shared<R: Files>(rt: &R, alloc: Global, options: &RunWords) -> Result<(), Obstacle>
-    ensures { (text_at : KnownTexts) → IfErr result (IsInWay text_at (run_of options.now)) }
+    ensures refused { (text_at : KnownTexts) → IfErr result (IsInWay text_at (run_of options.now)) }
+    ensures apart { OnOk result (AreApart (own_paths (run_of options.now))) }
 {
     let inittab = options.inittab.as_str();
     let initctl = options.initctl.as_str();
@@ -254,9 +256,10 @@ fn refuse_shared<R: Files>(rt: &R, alloc: Global, options: &RunWords) -> Result<
 
 /// Refuses two paths that lead to one file.
 fn refuse_pair<R: Files>(rt: &R, alloc: Global, one: &str, other: &str) -> Result<(), Obstacle>
-    ensures { (text_at : KnownTexts) (service : RunSaid)
+    ensures refused { (text_at : KnownTexts) (service : RunSaid)
         → StandBy one.now other.now (own_paths service)
         → IfErr result (IsInWay text_at service) }
+    ensures apart { OnOk result (one.now ≢ other.now) }
 {
     if !are_one_file(rt, one, other) {
         return Ok(());

@@ -17,4 +17,5 @@ pub returns-in_err-refuse_shared-clause-err : goal.returns-in_err-refuse_shared-
 returns-in_err-refuse_shared-clause-err g c =
     let text_at = g.T.Texts.text_at c.args.texts.now in
     handed_on c.from_residual.result c.in_err-refuse_shared.field-0.0
-    (IsInWay text_at (run_of c.args.options.now)) c.from_residual.ensures.1 (c.in_err-refuse_shared.ensures text_at)
+    (IsInWay text_at (run_of c.args.options.now)) c.from_residual.ensures.1
+    (c.in_err-refuse_shared.ensures.refused text_at)

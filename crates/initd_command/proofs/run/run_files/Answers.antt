@@ -16,7 +16,7 @@ returns-in-Ok g c =
     let tells = subst (λ text. EndsTold service text spoken.told end out now_out) lines told in (
       turned spoken end,
       status,
-      inr (parts, are, read, (taken, spoken, unled ∙ led, end, refl, tells)),
+      inr (c.in-Ok.ensures.apart, (parts, are, read, (taken, spoken, unled ∙ led, end, refl, tells))),
       reported,
       ran_to text_at service (g.S.Hosts.own c.make_run.new.hosts) run.opening spoken end bytes
           (record {
