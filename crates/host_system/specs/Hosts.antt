@@ -6,17 +6,18 @@ use Rattle.host_calls.specs.declared.calls.Reply.{Reply}
 use Rattle.host_calls.specs.declared.calls.Reply.TheVariants.{Now, Later}
 use Rattle.host_calls.specs.Calls.{HostCall}
 use Rattle.host_calls.specs.Held.{HeldChildren}
+use Rattle.host_files.specs.Channels.{ChannelState}
 use Rattle.host_system.specs.Systems.{SystemCall}
 
 -- how many of its calls failed; whether its init takes no inittab with a faulty line; whether it tells what children
--- do; whether it passes over the requests from before; the folder of the children's output, where that goes to logs;
--- the children that it holds; its calls, and those that the system was asked, the newest first
+-- do; the folder of the children's output, where that goes to logs; its channel; the children that it holds; its calls,
+-- and those that the system was asked, the newest first
 pub record HostState : Type 0 where
   pub faults : ℕ
   pub strict : Bool
   pub verbose : Bool
-  pub fresh : Bool
   pub logs : Option (List ℕ)
+  pub channel : ChannelState
   pub held : HeldChildren
   pub calls : List HostCall
   pub asked : List SystemCall

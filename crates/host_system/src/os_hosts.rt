@@ -12,7 +12,7 @@ use crate::pauses::{Pauses, has_stirred};
 use crate::steady_clocks::SteadyClock;
 use crate::systems::System;
 use host_calls::{Host, HostFault, Reply, counted, is_failed_reply};
-use host_files::{Channel, InittabFiles, OsChannelFile, StateFile, boxed};
+use host_files::{Channel, ChannelCallList, InittabFiles, OsChannelFile, StateFile, boxed};
 use host_messages::{Output, tell_refused};
 use host_telling::{CallList, Noted, adding, no_calls};
 use init_words::{Answer, Id, Memory, Part, SignalKind};
@@ -71,7 +71,6 @@ struct OsHostParts<
     clock: SteadyClock,
     strict: bool,
     verbose: bool,
-    fresh: bool,
     faults: u64,
     told: Noted<CallList>,
 }
@@ -79,14 +78,17 @@ struct OsHostParts<
 impl<R: Files<File = File> + Clock + Print + Eprint + Drop, S: System + Drop, A: Allocator> Model
     for OsHost<R, S, A> {
     ghost use Rattle.host_system.specs.Asking.{AreAsked};
+    ghost use Rattle.host_system.specs.Hearing.{bytes_taken};
     ghost use Rattle.host_system.specs.Hosts.{HostState};
+    ghost use Rattle.host_files.specs.Channels.{HasHanded};
 
     ghost Value = { HostState };
 
     ghost view = { λ os. os.host.value };
 
     ghost invariant = { λ os. let host = os.host.value in
-        AreAsked host.logs host.calls host.held host.asked };
+        AreAsked host.logs host.calls host.held host.asked
+        × HasHanded host.channel (bytes_taken host.calls) };
 }
 
 impl<R: Files<File = File> + Clock + Print + Eprint + Drop, S: System + Drop, A: Allocator> Model
@@ -100,8 +102,8 @@ impl<R: Files<File = File> + Clock + Print + Eprint + Drop, S: System + Drop, A:
       faults = host.faults;
       strict = host.strict;
       verbose = host.verbose;
-      fresh = host.fresh;
       logs = option_map string_bytes host.logs.folder;
+      channel = host.channel.value;
       held = host.children.value;
       calls = host.told.value;
       asked = S.told host.system;
@@ -114,6 +116,7 @@ impl<
     A: Allocator + Copy,
 > OsHost<R, S, A> {
     ghost use Rattle.host_system.specs.Asking.{AreAsked};
+    ghost use Rattle.host_system.specs.Hearing.{IsHeard};
 
     /// A host without children, which has a system over the source to itself.
     pub fn new(
@@ -127,8 +130,8 @@ impl<
           faults = 0;
           strict = options.now.strict;
           verbose = options.now.verbose;
-          fresh = options.now.fresh;
           logs = option_map (λ path. path.now) options.now.logs;
+          channel = record { fresh = options.now.fresh; told = []; rest = [] };
           held = [];
           calls = [];
           asked = host.asked;
@@ -151,7 +154,6 @@ impl<
             clock: SteadyClock::new(options.program),
             strict: options.strict,
             verbose: options.verbose,
-            fresh: options.fresh,
             faults: 0,
             told: no_calls(),
         };
@@ -187,6 +189,15 @@ impl<
         host.system.calls()
     }
 
+    /// What it read of its channel's file.
+    pub fn heard(&self) -> Noted<ChannelCallList>
+        ensures value { result.value ≡ self.now.channel.told }
+        ensures own { IsHeard self.now.calls self.now.channel }
+    {
+        let host = &*self.host;
+        host.channel.told()
+    }
+
     /// All could be printed that it was to print: announcements, and faults of the inittab's lines.
     pub fn has_printed(&self) -> bool {
         let host = &*self.host;
@@ -201,7 +212,10 @@ type HostFiles<A> = (
     Box<StateFile<A>, A>,
 );
 
-fn files_of<A: Allocator + Copy>(alloc: A, options: &HostOptions) -> Result<HostFiles<A>, Memory> {
+fn files_of<A: Allocator + Copy>(alloc: A, options: &HostOptions) -> Result<HostFiles<A>, Memory>
+    ensures { IfOk result (λ files.
+        files.0.value ≡ record { fresh = options.now.fresh; told = []; rest = [] }) }
+{
     let program = options.program;
     let channel = Channel::new(alloc, program, options.channel, options.fresh)?;
     let inittab = InittabFiles::new(alloc, program, options.inittab, options.folder)?;
@@ -288,7 +302,8 @@ impl<
     S: System + Drop,
     A: Allocator + Copy,
 > Host for OsHost<R, S, A> {
-    ghost use Rattle.std.specs.Prelude.{◌≡◌, ◌≤◌, ◌∷◌, length, Some, None, IfOk, is_err, false, IsTrue};
+    ghost use Rattle.std.specs.Prelude.{◌≡◌, ◌≤◌, ◌∷◌, length, take, Some, None, IfOk, is_err, false, IsTrue};
+    ghost use Rattle.host_files.specs.Channels.{HandsOn};
     ghost use Rattle.host_calls.specs.declared.calls.Call.TheVariants as call;
     ghost use Rattle.host_calls.specs.Calls.{HasCause, front_read, is_failed_reply, parts_read, text_read};
     ghost use Rattle.host_calls.specs.Held.{Starts, Looks, Signals};
@@ -409,8 +424,12 @@ impl<
     fn take_bytes(&mut self, buffer: &mut [u8]) -> Result<usize, HostFault>
         ensures within { IfOk result (λ count. count ≤ length buffer.old) }
         ensures cause { HasCause self.old.faults self.new.faults (is_err result) }
+        ensures fresh { self.new.channel.fresh ≡ self.old.channel.fresh }
+        ensures handed { IfOk result (λ count.
+            HandsOn self.old.channel self.new.channel (take count buffer.new)) }
         ensures kept { self.new ≡ record self.old {
           faults = self.new.faults;
+          channel = self.new.channel;
           calls = call.TakeBytes (length buffer.old) (front_read result buffer.new)
               ∷ self.old.calls;
         } }

@@ -6,6 +6,7 @@ ghost use Rattle.initd_command.specs.Hosts.{host_said};
 
 use crate::hosts::Hosts;
 use crate::run::{folder_of, trace_of};
+use host_files::{ChannelCallList, nothing_read};
 use host_messages::StampedRuntime;
 use host_system::{HostOptions, OsHost, OsSystem, Pace, SystemCallList, nothing_asked};
 use host_telling::{CallList, Noted, no_calls};
@@ -18,8 +19,8 @@ use std::marker::Model;
 use std::process::Processes;
 use std::rt::{Clock, Files};
 
-/// The host that asks the operating system: one, which tells the calls that it was asked, and those that it asked the
-/// system for them. Proofs alone can read them.
+/// The host that asks the operating system: one, which tells the calls that it was asked, those that it asked the system
+/// for them, and what it read of its channel. Proofs alone can read them.
 ///
 /// It is opened once. Another would hold none of the children of the first, so there is none: it is refused, as where
 /// memory is lacking, and so it is behind an opening that failed.
@@ -29,6 +30,7 @@ pub struct OsHosts<R: Processes + Files<File = File> + Clock + Print + Eprint + 
     rt: Option<R>,
     calls: Noted<CallList>,
     asked: Noted<SystemCallList>,
+    heard: Noted<ChannelCallList>,
 }
 
 /// The host.
@@ -41,7 +43,11 @@ impl<R: Processes + Files<File = File> + Clock + Print + Eprint + Clone + Drop> 
 
     ghost Value = { HostsState };
 
-    ghost view = { λ hosts. record { calls = hosts.calls.value; asked = hosts.asked.value } };
+    ghost view = { λ hosts. record {
+      calls = hosts.calls.value;
+      asked = hosts.asked.value;
+      heard = hosts.heard.value;
+    } };
 
     ghost invariant = { λ hosts. IsSome hosts.rt → hosts.calls.value ≡ [] };
 }
@@ -49,12 +55,13 @@ impl<R: Processes + Files<File = File> + Clock + Print + Eprint + Clone + Drop> 
 impl<R: Processes + Files<File = File> + Clock + Print + Eprint + Clone + Drop> OsHosts<R> {
     /// The host, of which no call was asked yet.
     pub fn new(rt: R) -> OsHosts<R>
-        ensures { result ≡ record { calls = []; asked = [] } }
+        ensures { result ≡ record { calls = []; asked = []; heard = [] } }
     {
         OsHosts {
             rt: Some(rt),
             calls: no_calls(),
             asked: nothing_asked(),
+            heard: nothing_read(),
         }
     }
 }
@@ -91,6 +98,7 @@ impl<R: Processes + Files<File = File> + Clock + Print + Eprint + Clone + Drop> 
         self.rt = None;
         self.calls = host.calls();
         self.asked = host.asked();
+        self.heard = host.heard();
         host.has_printed()
     }
 }
