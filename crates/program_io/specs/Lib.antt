@@ -1,3 +1,4 @@
 pub mod Arguments
 pub mod Known
+pub mod Reports
 pub mod Writing

@@ -3,17 +3,15 @@
 ghost use Rattle.std.specs.Prelude.{◌≡◌, ◌≢◌};
 ghost use Rattle.std.specs.IoError.{error_kind};
 ghost use Rattle.program_io.specs.Arguments.{no_memory_text, only_byte};
-ghost use Rattle.program_io.specs.Writing.{AppendsPrefix};
+ghost use Rattle.program_io.specs.Reports.{HasReported};
 
+use crate::faults::report_no_memory;
+use crate::reports::Reporter;
 use crate::statuses::{DEVICE_FAULT, REFUSED};
-use crate::writing::{write_text, write_texts};
 use std::alloc::Global;
 use std::env::Env;
-use std::io::{ErrorKind, Write};
+use std::io::ErrorKind;
 use std::{env, io};
-
-/// What is reported after the program's name where memory ran out.
-const NO_MEMORY: &str = ": out of memory: nothing was written; free some memory and ask again\n";
 
 /// The words after the program's name. A word that is no UTF-8 is an error, `InvalidData`.
 pub fn words<R: Env + AllocGlobal>(rt: &R, alloc: Global) -> io::Result<Vec<String>> {
@@ -43,11 +41,16 @@ pub fn unread_status(error: &io::Error) -> u8
 }
 
 /// Reports that memory ran out while the words were read, or else the usage, and gives `unread_status`.
-pub fn report_unread_words<E: Write>(name: &str, usage: &str, error: &io::Error, err: &mut E) -> u8
+pub fn report_unread_words<E: Reporter>(
+    name: &str,
+    usage: &str,
+    error: &io::Error,
+    err: &mut E,
+) -> u8
     ensures memory { error_kind error.now ≡ ErrorKind.OutOfMemory → (result ≡ DEVICE_FAULT)
-        × AppendsPrefix (E.contents err.old) (E.contents err.new) (no_memory_text name.now) }
+        × HasReported (E.reports err.old) (E.reports err.new) (no_memory_text name.now) }
     ensures text { error_kind error.now ≢ ErrorKind.OutOfMemory → (result ≡ REFUSED)
-        × AppendsPrefix (E.contents err.old) (E.contents err.new) usage.now }
+        × HasReported (E.reports err.old) (E.reports err.new) usage.now }
 {
     if unread_status(error) == DEVICE_FAULT {
         report_no_memory(name, err)
@@ -56,23 +59,11 @@ pub fn report_unread_words<E: Write>(name: &str, usage: &str, error: &io::Error,
     }
 }
 
-/// Writes the usage, as much of it as `err` takes, and gives the status of words that are no command line.
-pub fn report_usage<E: Write>(usage: &str, err: &mut E) -> u8
+/// Reports the usage, and gives the status of words that are no command line.
+pub fn report_usage<E: Reporter>(usage: &str, err: &mut E) -> u8
     ensures status { result ≡ REFUSED }
-    ensures report { AppendsPrefix (E.contents err.old) (E.contents err.new) usage.now }
+    ensures report { HasReported (E.reports err.old) (E.reports err.new) usage.now }
 {
-    let _ = write_text(err, usage.as_bytes());
+    err.report(usage.as_bytes());
     REFUSED
-}
-
-/// Reports that memory ran out before anything was written, by as much of the text as `err` takes, and gives the
-/// status.
-#[tactic(auto, unfolding(crate::specs::Arguments::no_memory_text))]
-pub fn report_no_memory<E: Write>(name: &str, err: &mut E) -> u8
-    ensures status { result ≡ DEVICE_FAULT }
-    ensures report { AppendsPrefix (E.contents err.old) (E.contents err.new)
-        (no_memory_text name.now) }
-{
-    let _ = write_texts(err, &[name, NO_MEMORY]);
-    DEVICE_FAULT
 }

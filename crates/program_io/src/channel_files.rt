@@ -3,6 +3,7 @@
 
 ghost use Rattle.std.specs.Prelude.{◌≡◌, true, false, IfOk};
 
+use crate::limits::refuse_too_large;
 use crate::writing::write_text;
 use std::fs::{File, Metadata, OpenOptions, TryLockError};
 use std::io::{Error, ErrorKind};
@@ -54,8 +55,9 @@ impl OpenChannel {
         }
     }
 
-    /// Appends a block.
+    /// Appends a block, and nothing of it where the limit of file sizes has no room for the whole.
     pub fn append(&mut self, block: &[u8]) -> io::Result<()> {
+        refuse_too_large(&self.file, self.file.metadata()?.len(), block.len())?;
         write_text(&mut self.file, block)
     }
 

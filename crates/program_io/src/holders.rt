@@ -1,4 +1,4 @@
-//! Who holds the lock of a channel, as far as the system tells it.
+//! Who holds the lock of a file, as far as the system tells it.
 
 use crate::files::read_file;
 use std::alloc::Allocator;
@@ -9,20 +9,49 @@ use std::{fs, str};
 /// The file in which Linux lists the locks of files (proc_locks(5)).
 const LOCKS: &str = "/proc/locks";
 
-/// The number of the process that holds the lock of the channel at the path. None where the system doesn't tell it, as
-/// of a process of another container.
-pub fn lock_holder<R: Files, A: Allocator + Copy>(rt: &R, alloc: A, path: &str) -> Option<u32> {
+/// The process that holds the lock of the file at the path, by its name and its number: `initd run 4711`, `flock 4712`,
+/// and of a name that is no word `process 4713`. None where the system doesn't tell it, as of a process of another
+/// container.
+pub fn lock_holder<R: Files, A: Allocator + Copy>(
+    rt: &R,
+    alloc: A,
+    path: &str,
+) -> Option<String<A>> {
     let found = fs::metadata(rt, path).ok()?;
     let (major, minor) = device_of(found.dev());
     let file = format!(in alloc; "{major:02x}:{minor:02x}:{}", found.ino()).ok()?;
     let locks = read_file(rt, alloc, LOCKS).ok()?;
     let lines = str::from_utf8(&locks).ok()?.lines();
     for line in lines {
-        if let Some(holder) = holder_in(line, file.as_str()) {
-            return Some(holder);
+        if let Some(number) = holder_in(line, file.as_str()) {
+            return named(rt, alloc, number);
         }
     }
     None
+}
+
+/// The process of this number, by its name and its number.
+fn named<R: Files, A: Allocator + Copy>(rt: &R, alloc: A, number: u32) -> Option<String<A>> {
+    let path = format!(in alloc; "/proc/{number}/comm").ok()?;
+    match read_file(rt, alloc, path.as_str()) {
+        Ok(text) => {
+            let name = name_in(&text);
+            format!(in alloc; "{name} {number}").ok()
+        }
+        Err(_) => format!(in alloc; "process {number}").ok(),
+    }
+}
+
+/// What is said of a process whose name is this text of its `comm`.
+fn name_in(text: &[u8]) -> &str {
+    let name = text.trim_ascii_end();
+    if name == b"initd".as_slice() {
+        return "initd run";
+    }
+    if name.is_empty() || !name.iter().all(|byte| byte.is_ascii_graphic()) {
+        return "process";
+    }
+    str::from_utf8(name).unwrap_or("process")
 }
 
 /// The major and the minor number of a device.

@@ -5,7 +5,7 @@ use std::fmt::{Display, Formatter, Write};
 use std::{fmt, io};
 
 /// How many bytes of a reason are looked through; a longer one is said as it is.
-const REASON_LIMIT: usize = 512;
+pub const REASON_LIMIT: usize = 512;
 
 /// The reason of an error in the words of strerror(3), without the error's number.
 #[derive(Clone, Copy)]
@@ -22,4 +22,11 @@ impl Display for Reason<'_> {
             None => f.pad(whole.as_str()),
         }
     }
+}
+
+/// The same as a text; nothing of a reason that is longer than 512 bytes.
+pub fn reason_text(error: &io::Error) -> ArrayString<REASON_LIMIT> {
+    let mut text = ArrayString::new();
+    let _ = write!(text, "{}", Reason(error));
+    text
 }
