@@ -1,7 +1,7 @@
 -- Why words are refused, and what is reported of it.
 use Rattle.std.specs.Prelude.{◌==◌, if◌then◌else◌, ◌++◌, codes, length, Option, Some, None, string_bytes}
 use Rattle.clap.specs.Words.{Text}
-use Rattle.program_io.specs.Writing.{AppendsPrefix}
+use Rattle.program_io.specs.Reports.{HasReported, ReportList}
 use Rattle.command_words.specs.declared.faults.WordFault.{WordFault}
 use Rattle.command_words.specs.declared.faults.WordFault.TheVariants.{Usage, Memory}
 
@@ -19,7 +19,7 @@ reason_line name reason = name ++ (codes ": " ++ (reason ++ codes "\n"))
 abbrev pub usage_report : Text → Text → Text → Text → Text
 usage_report name reason whole short = if length reason == 0 then whole else reason_line name reason ++ short
 
--- a writer gained why a program's words are refused and its usage, as much of it as it took
-abbrev pub ReportsUsage : Text → Text → Text → Option Text → Option Text → Type 0
+-- it was reported why a program's words are refused, with its usage
+abbrev pub ReportsUsage : Text → Text → Text → ReportList → ReportList → Type 0
 ReportsUsage name whole short old new =
-    (reason : Text) × AppendsPrefix old new (usage_report name reason whole short)
+    (reason : Text) × HasReported old new (usage_report name reason whole short)

@@ -3,15 +3,14 @@
 ghost use Rattle.std.specs.Prelude.{◌≡◌, ◌≢◌, ◌↔◌, IfSome, IsSome, IsTrue};
 ghost use Rattle.clap.specs.Words.{kind_of};
 ghost use Rattle.program_io.specs.Arguments.{no_memory_text};
-ghost use Rattle.program_io.specs.Writing.{AppendsPrefix};
+ghost use Rattle.program_io.specs.Reports.{HasReported, HasSpoken};
 ghost use Rattle.command_words.specs.Faults.{reason_of, usage_report};
 ghost use Rattle.command_words.specs.declared.faults.WordFault.TheVariants.{Memory};
 
 use clap::Error;
 use clap::error::ErrorKind;
-use program_io::{DEVICE_FAULT, REFUSED, report_no_memory, report_usage, write_texts};
+use program_io::{DEVICE_FAULT, REFUSED, Reporter, report_no_memory, report_usage};
 use std::alloc::{AllocError, Global};
-use std::io::Write;
 
 /// Why words were not read.
 #[derive(Debug, Drop, PartialEq, Eq, thiserror::Error)]
@@ -120,9 +119,9 @@ fn guess_in(text: &str) -> Option<&str> {
     Some(guess)
 }
 
-/// Reports why words were not read, by as much of the text as `err` takes, and gives the status: for words that are no
-/// command line as `report_refused_words`, for want of memory as `report_no_memory`.
-pub fn report_word_fault<E: Write>(
+/// Reports why words were not read, and gives the status: for words that are no command line as `report_refused_words`,
+/// for want of memory as `report_no_memory`.
+pub fn report_word_fault<E: Reporter>(
     name: &str,
     fault: &WordFault,
     whole: &str,
@@ -130,10 +129,11 @@ pub fn report_word_fault<E: Write>(
     err: &mut E,
 ) -> u8
     ensures usage { IfSome (reason_of fault.now) (λ reason. (result ≡ REFUSED)
-        × AppendsPrefix (E.contents err.old) (E.contents err.new)
+        × HasReported (E.reports err.old) (E.reports err.new)
         (usage_report name.now reason whole.now short.now)) }
     ensures memory { fault.now ≡ Memory → (result ≡ DEVICE_FAULT)
-        × AppendsPrefix (E.contents err.old) (E.contents err.new) (no_memory_text name.now) }
+        × HasReported (E.reports err.old) (E.reports err.new) (no_memory_text name.now) }
+    ensures spoken { result ≡ DEVICE_FAULT → HasSpoken (E.reports err.new) }
 {
     match fault {
         WordFault::Usage(reason) => report_refused_words(name, reason.as_str(), whole, short, err),
@@ -141,10 +141,9 @@ pub fn report_word_fault<E: Write>(
     }
 }
 
-/// Reports that words are no command line, by as much of the text as `err` takes, and gives the status: a line of the
-/// program's name and the reason, with the usage in a line; or the whole usage where the reason is empty, since help is
-/// asked for.
-pub fn report_refused_words<E: Write>(
+/// Reports that words are no command line, and gives the status: a line of the program's name and the reason, with the
+/// usage in a line; or the whole usage where the reason is empty, since help is asked for.
+pub fn report_refused_words<E: Reporter>(
     name: &str,
     reason: &str,
     whole: &str,
@@ -152,12 +151,12 @@ pub fn report_refused_words<E: Write>(
     err: &mut E,
 ) -> u8
     ensures status { result ≡ REFUSED }
-    ensures report { AppendsPrefix (E.contents err.old) (E.contents err.new)
+    ensures report { HasReported (E.reports err.old) (E.reports err.new)
         (usage_report name.now reason.now whole.now short.now) }
 {
     if reason.is_empty() {
         return report_usage(whole, err);
     }
-    let _ = write_texts(err, &[name, ": ", reason, "\n", short]);
+    err.report_texts(&[name, ": ", reason, "\n", short]);
     REFUSED
 }

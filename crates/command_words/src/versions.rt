@@ -1,11 +1,12 @@
 //! The version of the programs, and the line that says it.
 
-ghost use Rattle.std.specs.Prelude.{◌≡◌, ◌⊎◌, true};
+ghost use Rattle.std.specs.Prelude.{◌≡◌, ◌⊎◌, codes, true};
 ghost use Rattle.std.specs.Io.KnownBytes.{Appends};
+ghost use Rattle.program_io.specs.Reports.{HasReported, HasSpoken, fault_text};
 ghost use Rattle.program_io.specs.Writing.{AppendsPrefix};
 ghost use Rattle.command_words.specs.VersionLine.{PrintsVersion, version_line};
 
-use program_io::{DEVICE_FAULT, DONE, write_texts};
+use program_io::{DEVICE_FAULT, DONE, Reporter, report_fault, write_texts};
 use std::io::Write;
 
 /// The version of the programs.
@@ -26,14 +27,17 @@ pub fn write_version<W: Write>(name: &str, out: &mut W) -> bool
 
 /// Writes the line of the version on `out`, and gives the exit status: 0, or 4 where it was not written whole, which is
 /// reported on `err`.
-pub fn print_version<W: Write, E: Write>(name: &str, out: &mut W, err: &mut E) -> u8
+pub fn print_version<W: Write, E: Reporter>(name: &str, out: &mut W, err: &mut E) -> u8
     ensures statuses { (result ≡ DONE) ⊎ (result ≡ DEVICE_FAULT) }
     ensures version { PrintsVersion name.now result (W.contents out.old) (W.contents out.new) }
     ensures silent { result ≡ DONE → err.new ≡ err.old }
+    ensures reported { result ≡ DEVICE_FAULT
+        → HasReported (E.reports err.old) (E.reports err.new)
+        (fault_text name.now (codes "cannot write")) }
+    ensures spoken { result ≡ DEVICE_FAULT → HasSpoken (E.reports err.new) }
 {
     if write_version(name, out) {
         return DONE;
     }
-    let _ = writeln!(err, "{name}: cannot write");
-    DEVICE_FAULT
+    report_fault(name, "cannot write", err)
 }

@@ -1,7 +1,8 @@
 -- The calls of one script's run, put together.
 use Rattle.rc_driver.proofs.Words.{◌≡◌, refl, ap, ◌∙◌, subst, cond, nat_lt, ℕ, ◌+◌, ◌-◌, Bool, true, false, List, []}
 use Rattle.rc_driver.proofs.Words.{◌∷◌, ◌++◌, length, filter, Option, Some, None, Result, Ok, Err, arith, HostCall}
-use Rattle.rc_driver.proofs.Words.{AddsCall, Since, Since-map, Since-one, Since-then, ScriptOptions, AppendsPrefix}
+use Rattle.rc_driver.proofs.Words.{AddsCall, Since, Since-map, Since-one, Since-then, ScriptOptions}
+use Rattle.rc_driver.proofs.Words.{HasReported, ReportList}
 use Rattle.rc_driver.proofs.Words.{Begins, Goes, GoesFurther, GoneTo, RunsTo, by_late, by_look, by_reply, by_start}
 use Rattle.rc_driver.proofs.Words.{count_pauses, is_pause, is_waiting, script_id, Tells, due_by, due_signal}
 use Rattle.rc_driver.proofs.Words.{signal_line, time_lines, timer_at, timer_by}
@@ -103,8 +104,8 @@ tells_by way dir link None now time signal due = absurd (none-some signal due)
 tells_by way dir link (Some seconds) now time signal due = tells_due way dir link seconds now time signal due
 
 pub tells_signal : (way : ScriptOptions) (dir link : List ℕ) (limit : Option ℕ) (now : ℕ) (time : Timer)
-    (signal : SignalKind) (before told tells : Option (List ℕ))
-    → due_by limit time (Ok now) ≡ Some signal → AppendsPrefix told tells (signal_line way.seconds dir link signal)
+    (signal : SignalKind) (before told tells : ReportList)
+    → due_by limit time (Ok now) ≡ Some signal → HasReported told tells (signal_line way.seconds dir link signal)
     → Tells before told (time_lines way dir link time)
     → Tells before tells (time_lines way dir link (timer_at time now (Some signal)))
 tells_signal way dir link limit now time signal before told tells due line earlier =

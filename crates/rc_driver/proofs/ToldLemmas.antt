@@ -5,7 +5,7 @@ use Rattle.rc_driver.proofs.Words.{true≢false, AppendsPrefix, HostCall, Since,
 use Rattle.rc_driver.proofs.Words.{RunEnd, RcAnswer, ScriptOptions, Advanced, EndsCommand, EndsEarly, HasRun, RunsTo}
 use Rattle.rc_driver.proofs.Words.{count_pauses, Output, TellsStart, begin_line, command_text, done_end, is_over}
 use Rattle.rc_driver.proofs.Words.{line_of, lines_of, output, LinkRun, RcState, is_failure, ScriptsEndAt, RanBy}
-use Rattle.rc_driver.proofs.Words.{RunsFrom, RunsLinks}
+use Rattle.rc_driver.proofs.Words.{RunsFrom, RunsLinks, ReportList}
 use Rattle.std.specs.Borrow.{Bor}
 use Rattle.rc_driver.specs.declared.driving.RunEnd.TheVariants as run_end
 use Rattle.rc_runs.specs.declared.runs.Arg.{Arg}
@@ -13,7 +13,7 @@ use Rattle.rc_driver.proofs.RunLemmas.{lines_told, stops_early}
 
 -- the text that started it is the script's
 pub run_by : (old new : Option (List HostCall)) (way : ScriptOptions) (dir link command text : List ℕ)
-    (given : RcAnswer) (pauses still : ℕ) (told tells : Option (List ℕ)) → command ≡ text
+    (given : RcAnswer) (pauses still : ℕ) (told tells : ReportList) → command ≡ text
     → Since old new (HasRun way dir link command given pauses still told tells)
     → Since old new (HasRun way dir link text given pauses still told tells)
 run_by old new way dir link command text given pauses still told tells same gone =
@@ -21,7 +21,7 @@ run_by old new way dir link command text given pauses still told tells same gone
 
 -- the pauses are used up
 pub ends_early : (old new : Option (List HostCall)) (way : ScriptOptions) (dir command : List ℕ) (pauses : ℕ)
-    (link : Bor (List ℕ)) (given : Arg) (bytes told tells : Option (List ℕ))
+    (link : Bor (List ℕ)) (given : Arg) (bytes : Option (List ℕ)) (told tells : ReportList)
     → Since old new (EndsEarly way dir link.now command pauses told tells)
     → Since old new
     (EndsCommand way dir command pauses (link.now, given) (output bytes told) (run_end.Limit link) (output bytes tells))
@@ -33,7 +33,7 @@ ends_early old new way dir command pauses link given bytes told tells early =
 
 -- what ran to its end with fewer pauses ran with so many at most
 ran_by : (way : ScriptOptions) (dir command : List ℕ) (pauses still : ℕ) (s : LinkRun) (given : RcAnswer)
-    (told tells : Option (List ℕ)) (calls : List HostCall)
+    (told tells : ReportList) (calls : List HostCall)
     → HasRun way dir s.0 command given pauses still told tells calls
     → RanBy way dir command pauses s given told tells calls
 ran_by way dir command pauses still s given told tells calls (time, (ran, count), lines) =
@@ -41,7 +41,7 @@ ran_by way dir command pauses still s given told tells calls (time, (ran, count)
 
 -- the line was not written
 pub ends_unwritten : (old new : Option (List HostCall)) (way : ScriptOptions) (dir command : List ℕ) (pauses still : ℕ)
-    (s : LinkRun) (given : RcAnswer) (before after told tells : Option (List ℕ)) (ended : RunEnd)
+    (s : LinkRun) (given : RcAnswer) (before after : Option (List ℕ)) (told tells : ReportList) (ended : RunEnd)
     → Since old new (HasRun way dir s.0 command given pauses still told tells)
     → (ended ≡ run_end.Write) × AppendsPrefix before after (line_of s given)
     → Since old new (EndsCommand way dir command pauses s (output before told) ended (output after tells))
@@ -54,7 +54,7 @@ ends_unwritten old new way dir command pauses still s given before after told te
 
 -- the line of its start was not written
 pub ends_unbegun : (record_told : Option (List HostCall)) (way : ScriptOptions) (dir : List ℕ) (pauses : ℕ)
-    (s : LinkRun) (before after told : Option (List ℕ)) (ended : RunEnd)
+    (s : LinkRun) (before after : Option (List ℕ)) (told : ReportList) (ended : RunEnd)
     → (ended ≡ run_end.Write) × (way.verbose ≡ true) × AppendsPrefix before after (begin_line s)
     → Since record_told record_told (ScriptsEndAt way dir pauses s (output before told) ended (output after told))
 ends_unbegun record_told way dir pauses s before after told ended (is, verbose, line) =
@@ -64,7 +64,7 @@ ends_unbegun record_told way dir pauses s before after told ended (is, verbose, 
 
 -- a run of a command, behind the line of its script's start
 ends_at : (way : ScriptOptions) (dir command : List ℕ) (pauses : ℕ) (s : LinkRun)
-    (before mid after told tells : Option (List ℕ)) (ended : RunEnd) (calls : List HostCall)
+    (before mid after : Option (List ℕ)) (told tells : ReportList) (ended : RunEnd) (calls : List HostCall)
     → command ≡ command_text way dir s → TellsStart way s before mid
     → EndsCommand way dir command pauses s (output mid told) ended (output after tells) calls
     → ScriptsEndAt way dir pauses s (output before told) ended (output after tells) calls
@@ -87,7 +87,7 @@ ends_at way dir command pauses s before mid after told tells run_end.Failed call
 ends_at way dir command pauses s before mid after told tells run_end.Waiting calls same begun at = absurd at
 
 pub ends_told : (old new : Option (List HostCall)) (way : ScriptOptions) (dir command : List ℕ) (pauses : ℕ)
-    (s : LinkRun) (before mid after told tells : Option (List ℕ)) (ended : RunEnd)
+    (s : LinkRun) (before mid after : Option (List ℕ)) (told tells : ReportList) (ended : RunEnd)
     → command ≡ command_text way dir s → TellsStart way s before mid
     → Since old new (EndsCommand way dir command pauses s (output mid told) ended (output after tells))
     → Since old new (ScriptsEndAt way dir pauses s (output before told) ended (output after tells))
@@ -105,7 +105,7 @@ started_lines (Ok given) way s before mid after begun line = lines_told way s gi
 started_lines (Err ended) way s before mid after begun line = tt
 
 pub started_ran : (ran : Result RcAnswer RunEnd) (old new : Option (List HostCall)) (way : ScriptOptions)
-    (dir link command text : List ℕ) (pauses still : ℕ) (told tells : Option (List ℕ)) → command ≡ text
+    (dir link command text : List ℕ) (pauses still : ℕ) (told tells : ReportList) → command ≡ text
     → IfOk ran (λ given. Since old new (HasRun way dir link command given pauses still told tells))
     → IfOk ran (λ given. Since old new (HasRun way dir link text given pauses still told tells))
 started_ran (Ok given) old new way dir link command text pauses still told tells same gone =
@@ -113,7 +113,7 @@ started_ran (Ok given) old new way dir link command text pauses still told tells
 started_ran (Err ended) old new way dir link command text pauses still told tells same gone = tt
 
 pub started_ends : (ran : Result RcAnswer RunEnd) (old new : Option (List HostCall)) (way : ScriptOptions)
-    (dir command : List ℕ) (pauses : ℕ) (s : LinkRun) (before mid after told tells : Option (List ℕ))
+    (dir command : List ℕ) (pauses : ℕ) (s : LinkRun) (before mid after : Option (List ℕ)) (told tells : ReportList)
     → command ≡ command_text way dir s → TellsStart way s before mid
     → IfErr ran
     (λ ended. Since old new (EndsCommand way dir command pauses s (output mid told) ended (output after tells)))

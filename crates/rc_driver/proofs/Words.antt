@@ -7,6 +7,7 @@ pub use Rattle.host_calls.specs.Record.{Since}
 pub use Rattle.host_calls.proofs.Record.{Since-map, Since-one, Since-then, Since-none}
 pub use Rattle.rc_runs.specs.declared.runs.RcAnswer.{RcAnswer}
 pub use Rattle.rc_runs.specs.declared.runs.ScriptOptions.{ScriptOptions}
+pub use Rattle.program_io.specs.Reports.{HasReported, ReportList}
 pub use Rattle.program_io.specs.Writing.{AppendsPrefix}
 pub use Rattle.rc_driver.specs.Parts.{Begins, EndsEarly, Goes, GoesFurther, GoneTo, HasRun, Advanced, EndsCommand}
 pub use Rattle.rc_driver.specs.Parts.{is_born, is_found}

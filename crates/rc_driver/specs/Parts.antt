@@ -15,6 +15,7 @@ use Rattle.rc_driver.specs.Report.{Output, Tells, command_text, line_of, lines_o
 use Rattle.rc_runs.specs.Runs.{LinkRun, RcState, is_failure}
 use Rattle.rc_driver.specs.Times.{time_lines}
 use Rattle.rc_driver.specs.Told.{RanBy}
+use Rattle.program_io.specs.Reports.{ReportList}
 use Rattle.program_io.specs.Writing.{AppendsPrefix}
 
 -- the calls begin the script's run, with no pause
@@ -36,14 +37,14 @@ abbrev pub GoneTo : Option ℕ → List ℕ → Progress → Timer → ℕ → �
 GoneTo limit command now time old new calls = RunsTo limit command now time calls × (old ≡ count_pauses calls + new)
 
 -- the script came to this end, and what its time has told was told
-abbrev pub HasRun : ScriptOptions → List ℕ → List ℕ → List ℕ → RcAnswer → ℕ → ℕ → Option (List ℕ) → Option (List ℕ)
+abbrev pub HasRun : ScriptOptions → List ℕ → List ℕ → List ℕ → RcAnswer → ℕ → ℕ → ReportList → ReportList
     → List HostCall → Type 0
 HasRun way dir link command given pauses still told tells calls = (time : Timer)
     × GoneTo way.seconds command (progress.Over given) time pauses still calls
     × Tells told tells (time_lines way dir link time)
 
 -- so many pauses are used up, and the script has not come to its end
-abbrev pub EndsEarly : ScriptOptions → List ℕ → List ℕ → List ℕ → ℕ → Option (List ℕ) → Option (List ℕ) → List HostCall
+abbrev pub EndsEarly : ScriptOptions → List ℕ → List ℕ → List ℕ → ℕ → ReportList → ReportList → List HostCall
     → Type 0
 EndsEarly way dir link command pauses told tells calls = (now : Progress) × (time : Timer) × (is_waiting now ≡ true)
     × RunsTo way.seconds command now time calls × (count_pauses calls ≡ pauses)

@@ -7,6 +7,7 @@ use Rattle.init_words.specs.Levels.{level_code}
 use Rattle.init_words.specs.declared.levels.Level.{Level}
 use Rattle.init_words.specs.declared.children.Status.{Status}
 use Rattle.init_words.specs.declared.children.Status.TheVariants as status
+use Rattle.program_io.specs.Reports.{HasReported, ReportList}
 use Rattle.program_io.specs.Writing.{AppendsPrefix}
 use Rattle.rc_driver.specs.declared.driving.RunEnd.{RunEnd}
 use Rattle.rc_driver.specs.declared.driving.RunEnd.TheVariants as run_end
@@ -54,16 +55,16 @@ lines_of way s given = (if way.verbose then begin_line s else []) ++ line_of s g
 -- what stands in the writer of lines, and in that of what is told, where it is known
 pub record Output : Type 0 where
   pub lines : Option (List ℕ)
-  pub told : Option (List ℕ)
+  pub told : ReportList
 
-abbrev pub output : Option (List ℕ) → Option (List ℕ) → Output
+abbrev pub output : Option (List ℕ) → ReportList → Output
 output lines told = record { lines = lines; told = told }
 
--- lines were told, the newest first, of each as much as the writer took
-abbrev pub Tells : Option (List ℕ) → Option (List ℕ) → List (List ℕ) → Type 0
+-- lines were reported, the newest first
+abbrev pub Tells : ReportList → ReportList → List (List ℕ) → Type 0
 Tells before after [] = after ≡ before
 Tells before after (line ∷ lines) =
-    (between : Option (List ℕ)) × Tells before between lines × AppendsPrefix between after line
+    (between : ReportList) × Tells before between lines × HasReported between after line
 
 -- the line of a script's start was written, where starts are told
 abbrev pub TellsStart : ScriptOptions → LinkRun → Option (List ℕ) → Option (List ℕ) → Type 0

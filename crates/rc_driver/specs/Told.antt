@@ -1,6 +1,7 @@
 -- A run of scripts over a host, by the calls of it.
 use Rattle.std.specs.Prelude.{◌≡◌, ◌⊎◌, ◌≤◌, ◌-◌, ℕ, Bool, true, false, not, ◌||◌, List, [], ◌∷◌, ◌++◌, Option}
 use Rattle.std.specs.Io.KnownBytes.{Appends}
+use Rattle.program_io.specs.Reports.{ReportList}
 use Rattle.program_io.specs.Writing.{AppendsPrefix}
 use Rattle.host_calls.specs.Calls.{HostCall}
 use Rattle.rc_driver.specs.declared.driving.RunEnd.{RunEnd}
@@ -18,14 +19,14 @@ use Rattle.rc_driver.specs.Times.{time_lines}
 
 -- the calls run the script that a command starts to this end, with so many pauses at most, and what its time has told
 -- was told
-abbrev pub RanBy : ScriptOptions → List ℕ → List ℕ → ℕ → LinkRun → RcAnswer → Option (List ℕ) → Option (List ℕ)
+abbrev pub RanBy : ScriptOptions → List ℕ → List ℕ → ℕ → LinkRun → RcAnswer → ReportList → ReportList
     → List HostCall → Type 0
 RanBy way dir command pauses s given told tells calls = (time : Timer)
     × RunsTo way.seconds command (progress.Over given) time calls × (count_pauses calls ≤ pauses)
     × Tells told tells (time_lines way dir s.0 time)
 
 -- the calls run the script of a link
-abbrev pub Ran : ScriptOptions → List ℕ → ℕ → LinkRun → RcAnswer → Option (List ℕ) → Option (List ℕ) → List HostCall
+abbrev pub Ran : ScriptOptions → List ℕ → ℕ → LinkRun → RcAnswer → ReportList → ReportList → List HostCall
     → Type 0
 Ran way dir pauses s given told tells calls =
     RanBy way dir (command_text way dir s) pauses s given told tells calls

@@ -12,6 +12,7 @@ use crate::progress::run_script;
 use crate::writing::{command_of, tell_end, tell_start};
 use host_calls::Host;
 use init_words::Status;
+use program_io::Reporter;
 use rc_runs::{Arg, Rc, RcAnswer, RcStep, ScriptOptions};
 use std::alloc::Allocator;
 use std::io::Write;
@@ -59,7 +60,7 @@ fn done_end(failed: bool) -> RunEnd<'static>
 
 /// Runs the script that the command starts, and writes its line at its end.
 #[tactic(auto, using(crate::proofs::ToldLemmas::ends_early, crate::proofs::ToldLemmas::ends_unwritten))]
-fn run_command<'n, A: Allocator + Copy, H: Host, W: Write, E: Write>(
+fn run_command<'n, A: Allocator + Copy, H: Host, W: Write, E: Reporter>(
     alloc: A,
     host: &mut H,
     way: ScriptOptions,
@@ -74,12 +75,12 @@ fn run_command<'n, A: Allocator + Copy, H: Host, W: Write, E: Write>(
     ensures ok { IfOk result (λ answer. Appends (W.contents out.old) (W.contents out.new)
         (line_of (link.now, arg) answer)) }
     ensures ran { IfOk result (λ answer. Since (H.told host.old) (H.told host.new) (HasRun way
-        dir.now link.now command.now answer pauses.old pauses.new (E.contents err.old)
-        (E.contents err.new))) }
+        dir.now link.now command.now answer pauses.old pauses.new (E.reports err.old)
+        (E.reports err.new))) }
     ensures ends { IfErr result (λ ended. Since (H.told host.old) (H.told host.new)
         (EndsCommand way dir.now command.now pauses.old (link.now, arg)
-        (output (W.contents out.old) (E.contents err.old)) ended
-        (output (W.contents out.new) (E.contents err.new)))) }
+        (output (W.contents out.old) (E.reports err.old)) ended
+        (output (W.contents out.new) (E.reports err.new)))) }
     ensures silent { way.seconds ≡ None → err.new ≡ err.old }
 {
     let Some(answer) = run_script(alloc, host, way, dir, link, command, pauses, err) else {
@@ -92,7 +93,7 @@ fn run_command<'n, A: Allocator + Copy, H: Host, W: Write, E: Write>(
 }
 
 /// Runs a script, and writes its lines.
-fn run_link<'n, A: Allocator + Copy, H: Host, W: Write, E: Write>(
+fn run_link<'n, A: Allocator + Copy, H: Host, W: Write, E: Reporter>(
     alloc: A,
     host: &mut H,
     way: ScriptOptions,
@@ -107,11 +108,11 @@ fn run_link<'n, A: Allocator + Copy, H: Host, W: Write, E: Write>(
         (lines_of way (link.now, arg) answer)) }
     ensures ran { IfOk result (λ answer. Since (H.told host.old) (H.told host.new) (HasRun way
         dir.now link.now (command_text way dir.now (link.now, arg)) answer pauses.old pauses.new
-        (E.contents err.old) (E.contents err.new))) }
+        (E.reports err.old) (E.reports err.new))) }
     ensures ends { IfErr result (λ ended. Since (H.told host.old) (H.told host.new)
         (ScriptsEndAt way dir.now pauses.old (link.now, arg)
-        (output (W.contents out.old) (E.contents err.old)) ended
-        (output (W.contents out.new) (E.contents err.new)))) }
+        (output (W.contents out.old) (E.reports err.old)) ended
+        (output (W.contents out.new) (E.reports err.new)))) }
     ensures silent { way.seconds ≡ None → err.new ≡ err.old }
 {
     let Ok(command) = command_of(alloc, way, dir, link, arg) else {
@@ -135,7 +136,7 @@ fn run_link<'n, A: Allocator + Copy, H: Host, W: Write, E: Write>(
 }
 
 /// Runs the next script, and notes whether it failed; gives how the run ended, where it did.
-fn run_next<'n, A: Allocator + Copy, B: Allocator, H: Host, W: Write, E: Write>(
+fn run_next<'n, A: Allocator + Copy, B: Allocator, H: Host, W: Write, E: Reporter>(
     alloc: A,
     rc: &mut Rc<'n, B>,
     host: &mut H,
@@ -147,12 +148,12 @@ fn run_next<'n, A: Allocator + Copy, B: Allocator, H: Host, W: Write, E: Write>(
     err: &mut E,
 ) -> Option<RunEnd<'n>>
     ensures last { IfSome result (λ ended. Since (H.told host.old) (H.told host.new) (RunsLinks way
-        dir.now pauses.old failed.old rc.old (output (W.contents out.old) (E.contents err.old))
-        ended rc.new (output (W.contents out.new) (E.contents err.new)))) }
+        dir.now pauses.old failed.old rc.old (output (W.contents out.old) (E.reports err.old))
+        ended rc.new (output (W.contents out.new) (E.reports err.new)))) }
     ensures one { result ≡ None → Since (H.told host.old) (H.told host.new) (Advanced way dir.now
         pauses.old pauses.new failed.old failed.new rc.old
-        (output (W.contents out.old) (E.contents err.old)) rc.new
-        (output (W.contents out.new) (E.contents err.new))) }
+        (output (W.contents out.old) (E.reports err.old)) rc.new
+        (output (W.contents out.new) (E.reports err.new))) }
     ensures silent { way.seconds ≡ None → err.new ≡ err.old }
 {
     match rc.next() {
@@ -181,7 +182,7 @@ fn run_next<'n, A: Allocator + Copy, B: Allocator, H: Host, W: Write, E: Write>(
 /// than init's grace; each is told on `err`, in a line that names the link. How a script ends doesn't end the run.
 /// Where the run ends early, `rc` waits for the answer to the script that was handed out last; where it waited for one
 /// before, nothing is run.
-pub fn run_links<'n, A: Allocator + Copy, B: Allocator, H: Host, W: Write, E: Write>(
+pub fn run_links<'n, A: Allocator + Copy, B: Allocator, H: Host, W: Write, E: Reporter>(
     alloc: A,
     rc: &mut Rc<'n, B>,
     host: &mut H,
@@ -194,8 +195,8 @@ pub fn run_links<'n, A: Allocator + Copy, B: Allocator, H: Host, W: Write, E: Wr
     ensures written { WritesEnds way rc.old (W.contents out.old) result rc.new
         (W.contents out.new) }
     ensures calls { Since (H.told host.old) (H.told host.new) (RunsLinks way dir.now limit false
-        rc.old (output (W.contents out.old) (E.contents err.old)) result rc.new
-        (output (W.contents out.new) (E.contents err.new))) }
+        rc.old (output (W.contents out.old) (E.reports err.old)) result rc.new
+        (output (W.contents out.new) (E.reports err.new))) }
     ensures silent { way.seconds ≡ None → err.new ≡ err.old }
 {
     let mut pauses = limit;

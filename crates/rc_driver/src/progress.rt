@@ -1,7 +1,8 @@
 //! How far one script has come: ordered, started, looked at, ended.
 
-ghost use Rattle.std.specs.Prelude.{◌≡◌, ℕ, List, Option, None, true, false, IfNone, IfSome};
+ghost use Rattle.std.specs.Prelude.{◌≡◌, None, true, false, IfNone, IfSome};
 ghost use Rattle.host_calls.specs.Record.{Since};
+ghost use Rattle.program_io.specs.Reports.{ReportList};
 ghost use Rattle.rc_driver.specs.Parts.{Begins, EndsEarly, Goes, GoesFurther, HasRun, is_born, is_found};
 ghost use Rattle.rc_driver.specs.Progress.{alive, by_late, by_look, by_start, is_waiting, script_id};
 ghost use Rattle.rc_driver.specs.Report.{Tells};
@@ -11,9 +12,9 @@ use crate::times::{Timer, due_at, timer_at};
 use crate::writing::tell_signal;
 use host_calls::{Host, Reply};
 use init_words::{Answer, Id};
+use program_io::Reporter;
 use rc_runs::{RcAnswer, ScriptOptions};
 use std::alloc::Allocator;
-use std::io::Write;
 
 /// How far a script is.
 #[derive(Clone, Copy)]
@@ -112,7 +113,7 @@ fn looked<H: Host>(host: &mut H, limit: Option<u32>) -> Progress
 }
 
 /// Looks at the time of a script that was found alive: sends it the signal that is due, and tells of that.
-fn timed<H: Host, E: Write>(
+fn timed<H: Host, E: Reporter>(
     host: &mut H,
     way: ScriptOptions,
     dir: &str,
@@ -122,8 +123,8 @@ fn timed<H: Host, E: Write>(
 )
     ensures calls { Since (H.told host.old) (H.told host.new)
         (Goes way.seconds Progress.Found timer.old Progress.Living timer.new 0) }
-    ensures told { (before : Option (List ℕ)) → Tells before (E.contents err.old)
-        (time_lines way dir.now link.now timer.old) → Tells before (E.contents err.new)
+    ensures told { (before : ReportList) → Tells before (E.reports err.old)
+        (time_lines way dir.now link.now timer.old) → Tells before (E.reports err.new)
         (time_lines way dir.now link.now timer.new) }
     ensures silent { way.seconds ≡ None → err.new ≡ err.old }
 {
@@ -150,7 +151,7 @@ fn paused<H: Host>(host: &mut H, limit: Option<u32>, progress: Progress) -> Prog
 
 /// Starts a script and waits for its end; None where no pause is left and it hasn't come to its end. Where it has a
 /// limit of seconds it is sent TERM behind them, and KILL behind the grace; that is told on `err`, by the link's name.
-pub(crate) fn run_script<A: Allocator + Copy, H: Host, E: Write>(
+pub(crate) fn run_script<A: Allocator + Copy, H: Host, E: Reporter>(
     alloc: A,
     host: &mut H,
     way: ScriptOptions,
@@ -162,10 +163,10 @@ pub(crate) fn run_script<A: Allocator + Copy, H: Host, E: Write>(
 ) -> Option<RcAnswer>
     ensures ended { IfSome result (λ given. Since (H.told host.old) (H.told host.new)
         (HasRun way dir.now link.now command.now given pauses.old pauses.new
-        (E.contents err.old) (E.contents err.new))) }
+        (E.reports err.old) (E.reports err.new))) }
     ensures limit { IfNone result (Since (H.told host.old) (H.told host.new)
-        (EndsEarly way dir.now link.now command.now pauses.old (E.contents err.old)
-        (E.contents err.new))) }
+        (EndsEarly way dir.now link.now command.now pauses.old (E.reports err.old)
+        (E.reports err.new))) }
     ensures silent { way.seconds ≡ None → err.new ≡ err.old }
 {
     let mut timer = Timer::Unread;

@@ -2,6 +2,7 @@
 
 ghost use Rattle.std.specs.Prelude.{◌≡◌, ◌++◌, string_bytes, true, codes, IfOk, IfErr, OnOk};
 ghost use Rattle.std.specs.Io.KnownBytes.{Appends};
+ghost use Rattle.program_io.specs.Reports.{HasReported};
 ghost use Rattle.program_io.specs.Writing.{AppendsPrefix};
 ghost use Rattle.rc_driver.specs.Report.{TellsStart, arg_word, before_code, begin_line, command_text, level_words, line_of, script_line, shell_word};
 ghost use Rattle.rc_driver.specs.Times.{signal_line, signal_word};
@@ -11,7 +12,7 @@ use crate::driving::RunEnd;
 use crate::times::wait_of;
 use init_words::{Level, SignalKind, Status};
 use itoa::Buffer;
-use program_io::write_texts;
+use program_io::{Reporter, write_texts};
 use rc_runs::{Arg, LevelChange, RcAnswer, ScriptOptions};
 use std::alloc::{AllocError, Allocator};
 use std::io;
@@ -162,24 +163,24 @@ fn signal_word(signal: SignalKind) -> &'static str
 /// What is told of a script that is late, behind its link.
 const LATE: &str = " has not ended after ";
 
-/// Tells by how much of its time a script is late, and what it was sent, by as much of the line as `err` takes.
-fn tell_late<E: Write>(err: &mut E, dir: &str, link: &str, seconds: &str, sent: &str)
-    ensures { AppendsPrefix (E.contents err.old) (E.contents err.new) (codes "rc: " ++ (dir.now
+/// Tells by how much of its time a script is late, and what it was sent.
+fn tell_late<E: Reporter>(err: &mut E, dir: &str, link: &str, seconds: &str, sent: &str)
+    ensures { HasReported (E.reports err.old) (E.reports err.new) (codes "rc: " ++ (dir.now
         ++ (codes "/" ++ (link.now ++ (codes " has not ended after " ++ (seconds.now
         ++ (sent.now ++ codes "\n"))))))) }
 {
-    let _ = write_texts(err, &["rc: ", dir, "/", link, LATE, seconds, sent, "\n"]);
+    err.report_texts(&["rc: ", dir, "/", link, LATE, seconds, sent, "\n"]);
 }
 
-/// Tells that a script was sent a signal, by as much of the line as `err` takes.
-pub(crate) fn tell_signal<E: Write>(
+/// Tells that a script was sent a signal.
+pub(crate) fn tell_signal<E: Reporter>(
     err: &mut E,
     limit: Option<u32>,
     dir: &str,
     link: &str,
     signal: SignalKind,
 )
-    ensures { AppendsPrefix (E.contents err.old) (E.contents err.new)
+    ensures { HasReported (E.reports err.old) (E.reports err.new)
         (signal_line limit dir.now link.now signal) }
 {
     let mut buffer = Buffer::new();

@@ -6,9 +6,9 @@ use Rattle.rc_driver.proofs.driving.run_links.Given as goal
 abbrev pub invariant-loop-ended : goal.invariant-loop-ended
 invariant-loop-ended g l = ((ended : RunEnd) (new : RcState) (after : Output) (told : Option (List HostCall))
     → Since (g.H.Host.told l.host) told (RunsLinks l.way l.dir l.pauses l.failed l.rc
-    (output (g.W.Write.contents l.out) (g.E.Write.contents l.err)) ended new after)
+    (output (g.W.Write.contents l.out) (g.E.Reporter.reports l.err)) ended new after)
     → Since (g.H.Host.told l.fn.host) told (RunsLinks l.way l.dir l.limit false l.fn.rc
-    (output (g.W.Write.contents l.fn.out) (g.E.Write.contents l.fn.err)) ended new after))
+    (output (g.W.Write.contents l.fn.out) (g.E.Reporter.reports l.fn.err)) ended new after))
     × (l.way.seconds ≡ None → l.err ≡ l.fn.err)
 
 abbrev pub decreases-loop-ended : goal.decreases-loop-ended

@@ -5,7 +5,7 @@ abbrev pub invariant-loop-progress : goal.invariant-loop-progress
 invariant-loop-progress g l =
     Since (g.H.Host.told l.fn.host) (g.H.Host.told l.host)
     (GoneTo l.way.seconds l.command l.progress l.timer l.fn.pauses l.pauses)
-    × Tells (g.E.Write.contents l.fn.err) (g.E.Write.contents l.err) (time_lines l.way l.dir l.link l.timer)
+    × Tells (g.E.Reporter.reports l.fn.err) (g.E.Reporter.reports l.err) (time_lines l.way l.dir l.link l.timer)
     × (l.way.seconds ≡ None → l.err ≡ l.fn.err)
 
 -- a pause, or the look that is due, or the one at its time

@@ -22,7 +22,7 @@ returns-clause-calls g c =
 pub returns-clause-told : goal.returns-clause-told
 returns-clause-told g c = λ before earlier.
     let behind = c.timer_at.ensures ∙ ap (λ due. timer_at c.args.timer.now c.in-Ok.now due) c.in-Some.is in
-    subst (λ time. Tells before (g.E.Write.contents c.tell_signal.new.err)
+    subst (λ time. Tells before (g.E.Reporter.reports c.tell_signal.new.err)
     (time_lines c.args.way c.args.dir.now c.args.link.now time)) (sym behind)
     (tells_signal c.args.way c.args.dir.now c.args.link.now c.args.way.seconds c.in-Ok.now c.args.timer.now
     c.in-Some.signal before _ _
