@@ -2,14 +2,15 @@
 //! System Initialization).
 #![tactic(auto)]
 
-use program_io::{StandardFiles, report_no_memory, report_unread_words, words};
+use program_io::{Reports, StandardFiles, report_no_memory, report_unread_words, words};
 use rc_command::{SHORT_USAGE, os_host, run_words};
 use std::process::ExitCode;
 
 fn main(rt: HostRuntime) -> ExitCode {
     let _standard = StandardFiles::hold(&rt);
+    let mut err = Reports::to(rt.stderr());
     let Ok(mut host) = os_host(rt, rt.alloc()) else {
-        return ExitCode::from(report_no_memory("rc", &mut rt.stderr()));
+        return ExitCode::from(report_no_memory("rc", &mut err));
     };
     let mut files = rt;
     let status = match words(&rt, rt.alloc()) {
@@ -20,9 +21,9 @@ fn main(rt: HostRuntime) -> ExitCode {
             rt.alloc(),
             words,
             &mut rt.stdout(),
-            &mut rt.stderr(),
+            &mut err,
         ),
-        Err(error) => report_unread_words("rc", SHORT_USAGE, &error, &mut rt.stderr()),
+        Err(error) => report_unread_words("rc", SHORT_USAGE, &error, &mut err),
     };
     drop(host);
     ExitCode::from(status)

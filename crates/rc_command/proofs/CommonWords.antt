@@ -8,7 +8,7 @@ pub use Rattle.rc_command.specs.CommandLine.{RcSaid, entering, said_at, said_of}
 pub use Rattle.rc_command.specs.declared.command.RunOptions.{RunOptions}
 pub use Rattle.std.proofs.lemmas.Bool.{true≢false}
 pub use Rattle.rc_command.specs.Endings.{AreNames, AsksFor, IsBefore, IsStatusOf, IsWhole, Reports, ReportsFirst}
-pub use Rattle.rc_command.specs.Endings.{ReportsNames, RunsAsked, RunsNames, RunsSaid, RunsScripts, ended_text, rc_of}
+pub use Rattle.rc_command.specs.Endings.{ReportsNames, RunsAsked, RunsNames, RunsSaid, RunsScripts, ReportsEnd, rc_of}
 pub use Rattle.rc_command.specs.Endings.{status_of, written}
 pub use Rattle.rc_runs.specs.Runs.{LinkRun, RcState, is_failure}
 pub use Rattle.rc_driver.proofs.RunLemmas.{writes_ends, AppendsPrefix-none}

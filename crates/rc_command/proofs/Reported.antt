@@ -3,9 +3,10 @@ use Rattle.rc_command.proofs.CommonWords.{◌≡◌, ◌≢◌, ◌⊎◌, ◌�
 use Rattle.rc_command.proofs.CommonWords.{cond, ◌||◌, List, [], ◌∷◌, length, Option, ap, subst, true≢false, Asked}
 use Rattle.rc_command.proofs.CommonWords.{RcSaid, entering, said_at, RunOptions, AreNames, AsksFor, IsBefore}
 use Rattle.rc_command.proofs.CommonWords.{IsStatusOf, IsWhole, Reports, ReportsFirst, ReportsNames, RunsAsked}
-use Rattle.rc_command.proofs.CommonWords.{RunsNames, RunsSaid, RunsScripts, ended_text, rc_of, status_of, written}
+use Rattle.rc_command.proofs.CommonWords.{RunsNames, RunsSaid, RunsScripts, ReportsEnd, rc_of, status_of, written}
 use Rattle.rc_command.proofs.CommonWords.{LinkRun, RcState, is_failure, writes_ends}
 use Rattle.std.specs.Io.KnownBytes.{Appends}
+use Rattle.program_io.specs.Reports.{ReportList}
 use Rattle.program_io.specs.Writing.{AppendsPrefix}
 use Rattle.program_io.specs.declared.statuses.TheConstants.{DEVICE_FAULT, DONE, LIMIT_REACHED}
 use Rattle.host_calls.specs.Calls.{HostCall}
@@ -51,8 +52,8 @@ not_waiting old now way dir pauses failed rc new before after ended ready (calls
 
 -- a run, with what is reported of it
 pub runs_scripts : (options : RunOptions) (old now : Option (List HostCall)) (dir : List ℕ) (rc new : RcState)
-    (before after told between tells : Option (List ℕ)) (ended : RunEnd) (status : ℕ)
-    → status ≡ status_of options.strict ended → AppendsPrefix between tells (ended_text dir ended)
+    (before after : Option (List ℕ)) (told between tells : ReportList) (ended : RunEnd) (status : ℕ)
+    → status ≡ status_of options.strict ended → ReportsEnd dir ended between tells
     → Since old now
     (RunsLinks options.way dir PAUSES_LIMIT false rc (output before told) ended new (output after between))
     → Since old now (RunsScripts options dir rc before told status after tells)
@@ -128,7 +129,7 @@ dry_text options path previous names rc answers is dry =
 
 -- a run of the scripts of two folders' names
 pub run_reports : (options : RunOptions) (path : List ℕ) (previous names : List (List ℕ))
-    (old now : Option (List HostCall)) (rc : RcState) (before after told tells : Option (List ℕ)) (status : ℕ)
+    (old now : Option (List HostCall)) (rc : RcState) (before after : Option (List ℕ)) (told tells : ReportList) (status : ℕ)
     → rc ≡ rc_of options.way.levels previous names → options.dry ≡ false
     → Since old now (RunsScripts options path rc before told status after tells)
     → IsWhole status → ReportsNames options path previous names before status after
@@ -146,7 +147,7 @@ run_reports options path previous names old now rc before after told tells statu
     )
 
 pub run_part : (options : RunOptions) (path : List ℕ) (previous names : List (List ℕ))
-    (old now : Option (List HostCall)) (rc : RcState) (before after told tells : Option (List ℕ)) (status : ℕ)
+    (old now : Option (List HostCall)) (rc : RcState) (before after : Option (List ℕ)) (told tells : ReportList) (status : ℕ)
     → rc ≡ rc_of options.way.levels previous names → options.dry ≡ false
     → Since old now (RunsScripts options path rc before told status after tells)
     → ReportsFirst options path previous names before after
@@ -159,7 +160,7 @@ run_part options path previous names old now rc before after told tells status i
     )
 
 pub run_names : (options : RunOptions) (path : List ℕ) (previous names : List (List ℕ))
-    (old now : Option (List HostCall)) (rc : RcState) (before after told tells : Option (List ℕ)) (status : ℕ)
+    (old now : Option (List HostCall)) (rc : RcState) (before after : Option (List ℕ)) (told tells : ReportList) (status : ℕ)
     → rc ≡ rc_of options.way.levels previous names
     → Since old now (RunsScripts options path rc before told status after tells)
     → Since old now (RunsNames options path previous names before told status after tells)
@@ -262,7 +263,7 @@ said_reports names_at said dir path listed previous names before after status sa
 )
 
 pub said_runs : (names_at : KnownNames) (said : RcSaid) (dir path listed : List ℕ) (previous names : List (List ℕ))
-    (old new : Option (List HostCall)) (before told after tells : Option (List ℕ)) (status : ℕ)
+    (old new : Option (List HostCall)) (before : Option (List ℕ)) (told : ReportList) (after : Option (List ℕ)) (tells : ReportList) (status : ℕ)
     → dir ≡ said.dir → path ≡ folder_of dir said.new → listed ≡ folder_of dir said.new
     → ArePrevious names_at dir said.previous previous → AreNamesAt names_at listed names
     → Since old new (RunsNames said.options path previous names before told status after tells)
@@ -277,19 +278,19 @@ said_runs names_at said dir path listed previous names old new before told after
     )
 
 -- a status of a run that is whole is that of the run
-pub whole_status : (file : Option (List ℕ)) (inner : ℕ) (told : Option (List ℕ)) (status : ℕ) (tells : Option (List ℕ))
+pub whole_status : (file : Option (List ℕ)) (inner : ℕ) (told : ReportList) (status : ℕ) (tells : ReportList)
     → IsStatusOf file inner told status tells → IsWhole status → status ≡ inner
 whole_status file inner told status tells (inl (is, same)) whole = is
 whole_status file inner told status tells (inr (named, fault, was)) whole = absurd (not_whole_fault status fault whole)
 
 -- a fault of the run is one of the whole
-pub fault_of : (file : Option (List ℕ)) (inner : ℕ) (told : Option (List ℕ)) (status : ℕ) (tells : Option (List ℕ))
+pub fault_of : (file : Option (List ℕ)) (inner : ℕ) (told : ReportList) (status : ℕ) (tells : ReportList)
     → IsStatusOf file inner told status tells → inner ≡ DEVICE_FAULT → status ≡ DEVICE_FAULT
 fault_of file inner told status tells (inl (is, same)) fault = is ∙ fault
 fault_of file inner told status tells (inr (named, fault, was)) _ = fault
 
 -- it is known where that is
-pub known_of : (file : Option (List ℕ)) (inner : ℕ) (told : Option (List ℕ)) (status : ℕ) (tells : Option (List ℕ))
+pub known_of : (file : Option (List ℕ)) (inner : ℕ) (told : ReportList) (status : ℕ) (tells : ReportList)
     → IsStatusOf file inner told status tells → IsKnown inner → IsKnown status
 known_of file inner told status tells (inl (is, same)) known = subst IsKnown (sym is) known
 known_of file inner told status tells (inr (named, fault, was)) known = inr (inr fault)
@@ -310,7 +311,7 @@ asks_for file_at asked before dir options P is same so holds = (
 -- where that is whole, what is so of the lines of a run is so of those that are asked for
 pub reports_asked : (file_at : KnownFiles) (names_at : KnownNames) (asked : Asked) (before : Option Level)
     (dir : List ℕ) (options : RunOptions) (inner status : ℕ)
-    (out told after tells : Option (List ℕ))
+    (out : Option (List ℕ)) (told : ReportList) (after : Option (List ℕ)) (tells : ReportList)
     → IsBefore file_at asked before → dir ≡ asked.dir
     → options ≡ entering asked.sysv (record { before = before; new = asked.new }) asked.options
     → IsStatusOf asked.file inner told status tells
@@ -327,7 +328,7 @@ reports_asked file_at names_at asked before dir options inner status out told af
 -- what is so of how scripts were run is so of those that are asked for, where nothing was told before
 pub runs_asked : (file_at : KnownFiles) (names_at : KnownNames) (asked : Asked) (before : Option Level) (dir : List ℕ)
     (options : RunOptions) (inner status : ℕ)
-    (old new : Option (List HostCall)) (out first told between after tells : Option (List ℕ))
+    (old new : Option (List HostCall)) (out : Option (List ℕ)) (first told between : ReportList) (after : Option (List ℕ)) (tells : ReportList)
     → IsBefore file_at asked before → dir ≡ asked.dir
     → options ≡ entering asked.sysv (record { before = before; new = asked.new }) asked.options
     → IsStatusOf asked.file inner between status tells → told ≡ first
@@ -339,7 +340,7 @@ runs_asked file_at names_at asked before dir options inner status old new out fi
     ends silent (dry, runs) =
     asks_for file_at asked before dir options
     (λ said. (said.options.dry ≡ true → new ≡ old)
-    × (said.options.dry ≡ false → (inner : ℕ) × (between : Option (List ℕ))
+    × (said.options.dry ≡ false → (inner : ℕ) × (between : ReportList)
     × RunsSaid names_at said old new out first inner after between × IsStatusOf asked.file inner between status tells))
     is same so (
       dry,

@@ -3,6 +3,7 @@ use Rattle.std.specs.Prelude.{◌≡◌, ◌⊎◌, ℕ, Bool, true, false, if�
 use Rattle.std.specs.Prelude.{Some, None, IsSome}
 use Rattle.std.specs.List.{list_any}
 use Rattle.std.specs.Io.KnownBytes.{Appends}
+use Rattle.program_io.specs.Reports.{HasReported, ReportList}
 use Rattle.program_io.specs.Writing.{AppendsPrefix}
 use Rattle.program_io.specs.declared.statuses.TheConstants.{DEVICE_FAULT, DONE, LIMIT_REACHED}
 use Rattle.host_calls.specs.Calls.{HostCall}
@@ -54,18 +55,24 @@ ended_text path run_end.Write = codes "rc: cannot write\n"
 ended_text path run_end.Memory = codes "rc: out of memory\n"
 ended_text path _ = []
 
--- scripts were run from the folder at the path, with these calls; the status is that of how the run ended, and so much
--- of what is reported of it was written as the other writer took, behind what their times have told
-abbrev pub RunsScripts : RunOptions → List ℕ → RcState → Option (List ℕ) → Option (List ℕ) → ℕ → Option (List ℕ)
-    → Option (List ℕ) → List HostCall → Type 0
+-- it is reported, where the run was not done
+abbrev pub ReportsEnd : List ℕ → RunEnd → ReportList → ReportList → Type 0
+ReportsEnd path run_end.Done old new = new ≡ old
+ReportsEnd path run_end.Failed old new = new ≡ old
+ReportsEnd path ended old new = HasReported old new (ended_text path ended)
+
+-- scripts were run from the folder at the path, with these calls; the status is that of how the run ended, which is
+-- reported behind what their times have told
+abbrev pub RunsScripts : RunOptions → List ℕ → RcState → Option (List ℕ) → ReportList → ℕ → Option (List ℕ)
+    → ReportList → List HostCall → Type 0
 RunsScripts options path rc before told status after tells calls = (ended : RunEnd) × (new : RcState)
-    × (between : Option (List ℕ))
+    × (between : ReportList)
     × RunsLinks options.way path PAUSES_LIMIT false rc (output before told) ended new (output after between) calls
-    × (status ≡ status_of options.strict ended) × AppendsPrefix between tells (ended_text path ended)
+    × (status ≡ status_of options.strict ended) × ReportsEnd path ended between tells
 
 -- those of two folders' names
-abbrev pub RunsNames : RunOptions → List ℕ → List (List ℕ) → List (List ℕ) → Option (List ℕ) → Option (List ℕ) → ℕ
-    → Option (List ℕ) → Option (List ℕ) → List HostCall → Type 0
+abbrev pub RunsNames : RunOptions → List ℕ → List (List ℕ) → List (List ℕ) → Option (List ℕ) → ReportList → ℕ
+    → Option (List ℕ) → ReportList → List HostCall → Type 0
 RunsNames options path previous names before told status after tells calls =
     RunsScripts options path (rc_of options.way.levels previous names) before told status after tells calls
 
@@ -76,7 +83,7 @@ AreNames names_at said previous names =
 
 -- the scripts that a command line asks for were run so, with the calls that are told
 abbrev pub RunsSaid : KnownNames → RcSaid → Option (List HostCall) → Option (List HostCall) → Option (List ℕ)
-    → Option (List ℕ) → ℕ → Option (List ℕ) → Option (List ℕ) → Type 0
+    → ReportList → ℕ → Option (List ℕ) → ReportList → Type 0
 RunsSaid names_at said old new before told status after tells =
     (previous names : List (List ℕ)) × AreNames names_at said previous names × Since old new (λ calls.
     RunsNames said.options (folder_of said.dir said.new) previous names before told status after tells calls)
@@ -140,18 +147,18 @@ Asks file_at words P = Says words (λ asked. AsksFor file_at asked P)
 abbrev pub Keeps : Asked → KnownFiles → KnownFiles → Type 0
 Keeps asked old new = KeepsIn asked.options.dry asked.file asked.new old new
 
--- the status of a run, and what stands then in the writer of what is told; or that of a fault, where a file is named
--- and the new level was not kept in it although all scripts were carried out
-abbrev pub IsStatusOf : Option (List ℕ) → ℕ → Option (List ℕ) → ℕ → Option (List ℕ) → Type 0
+-- the status of a run, and nothing more is reported; or that of a fault, where a file is named and the new level was not
+-- kept in it although all scripts were carried out
+abbrev pub IsStatusOf : Option (List ℕ) → ℕ → ReportList → ℕ → ReportList → Type 0
 IsStatusOf file inner told status tells =
     ((status ≡ inner) × (tells ≡ told)) ⊎ (IsSome file × (status ≡ DEVICE_FAULT) × IsWhole inner)
 
 -- nothing is asked of a host in a dry run; else the scripts that are asked for were run so, and behind them the new
 -- level was kept
 abbrev pub RunsAsked : KnownFiles → KnownNames → Asked → Option (List HostCall) → Option (List HostCall)
-    → Option (List ℕ) → Option (List ℕ) → ℕ → Option (List ℕ) → Option (List ℕ) → Type 0
+    → Option (List ℕ) → ReportList → ℕ → Option (List ℕ) → ReportList → Type 0
 RunsAsked file_at names_at asked old new before told status after tells = AsksFor file_at asked (λ said.
     (said.options.dry ≡ true → new ≡ old)
-    × (said.options.dry ≡ false → (inner : ℕ) × (between : Option (List ℕ))
+    × (said.options.dry ≡ false → (inner : ℕ) × (between : ReportList)
     × RunsSaid names_at said old new before told inner after between
     × IsStatusOf asked.file inner between status tells))

@@ -1,18 +1,19 @@
 //! rc at work: the scripts of two runlevels' links, stopped and started over a host, or printed.
 
-ghost use Rattle.std.specs.Prelude.{◌≡◌, ◌≢◌, ◌⊎◌, ◌↔◌, ℕ, true, false, codes, IfErr, IfOk, IfSome, IsSome, IsTrue, None, OnOk, List, Option, map, string_bytes};
+ghost use Rattle.std.specs.Prelude.{◌≡◌, ◌≢◌, ◌++◌, ◌⊎◌, ◌↔◌, ℕ, true, false, codes, IfErr, IfOk, IfSome, IsSome, IsTrue, None, OnErr, OnOk, List, Option, map, string_bytes};
 ghost use Rattle.host_calls.specs.Calls.{HostCall};
 ghost use Rattle.host_calls.specs.Record.{Since};
 ghost use Rattle.command_words.specs.CommandLines.{asks_version};
 ghost use Rattle.command_words.specs.Faults.{ReportsUsage};
+ghost use Rattle.program_io.specs.Reports.{HasReported, HasSpoken};
 ghost use Rattle.program_io.specs.Writing.{AppendsPrefix};
 ghost use Rattle.command_words.specs.VersionLine.{PrintsVersion};
 ghost use Rattle.rc_command.specs.CommandLine.{rc_read_of, said_of};
-ghost use Rattle.rc_command.specs.Endings.{Asks, AsksFor, IsBefore, IsStatusOf, IsWhole, Keeps, Reports, ReportsFirst, ReportsNames, ReportsPart, RunsAsked, Says};
+ghost use Rattle.rc_command.specs.Endings.{Asks, AsksFor, IsBefore, IsStatusOf, IsWhole, Keeps, Reports, ReportsEnd, ReportsFirst, ReportsNames, ReportsPart, RunsAsked, Says};
 ghost use Rattle.rc_command.specs.LevelFiles.{AreSame};
 ghost use Rattle.std.specs.Io.KnownBytes.{Appends};
 ghost use Rattle.rc_driver.specs.Printing.{command_lines};
-ghost use Rattle.rc_command.specs.Endings.{IsSilent, RunsNames, RunsSaid, RunsScripts, ended_text, limit_text, rc_of, status_of};
+ghost use Rattle.rc_command.specs.Endings.{IsSilent, RunsNames, RunsSaid, RunsScripts, limit_text, rc_of, status_of};
 
 use crate::command::{RunOptions, Words, entering, read_words};
 use crate::folders::{Folders, folder_of, previous_names};
@@ -21,11 +22,11 @@ use command_words::{is_version, print_version, report_word_fault};
 use host_calls::Host;
 use init_words::{Level, Memory};
 use program_io::{
-    DEVICE_FAULT, DONE, LIMIT_REACHED, REFUSED, Reason, report_no_memory, write_text, write_texts,
+    DEVICE_FAULT, DONE, LIMIT_REACHED, REFUSED, Reporter, report_failure, report_fault,
+    report_no_memory,
 };
 use rc_driver::{LevelChange, Rc, RunEnd, ScriptOptions, print_links, run_links};
 use std::alloc::Global;
-use std::io;
 use std::io::Write;
 
 /// The greatest number of pauses of a run: of a second at most, they are some 27 hours of one script.
@@ -80,7 +81,7 @@ where
     F: Folders,
     L: LevelFiles,
     W: Write,
-    E: Write,
+    E: Reporter,
     ensures statuses { IsWhole result ⊎ (result ≡ REFUSED) ⊎ (result ≡ LIMIT_REACHED)
         ⊎ (result ≡ DEVICE_FAULT) }
     ensures refused { result ≡ REFUSED → rc_read_of (map string_bytes words.items) ≡ None }
@@ -103,8 +104,8 @@ where
         × (H.told host.new ≡ H.told host.old))
         ⊎ Says (map string_bytes words.items) (λ asked. RunsAsked (L.file_at levels.old)
         (F.names_at folders.now) asked (H.told host.old) (H.told host.new)
-        (W.contents out.old) (E.contents err.old) result
-        (W.contents out.new) (E.contents err.new)) }
+        (W.contents out.old) (E.reports err.old) result
+        (W.contents out.new) (E.reports err.new)) }
     ensures unasked { asks_version (map string_bytes words.items) ≡ true
         → H.told host.new ≡ H.told host.old }
     // The new level stands in the file that is named, where all scripts were carried out; else each file is as it was.
@@ -115,7 +116,8 @@ where
         → AreSame (L.file_at levels.old) (L.file_at levels.new) }
     ensures report { result ≡ REFUSED
         → ReportsUsage (codes "rc") USAGE.now SHORT_USAGE.now
-        (E.contents err.old) (E.contents err.new) }
+        (E.reports err.old) (E.reports err.new) }
+    ensures spoken { result ≡ DEVICE_FAULT → HasSpoken (E.reports err.new) }
 {
     if is_version(words.as_slice()) {
         return print_version("rc", out, err);
@@ -127,7 +129,7 @@ where
 }
 
 /// Runs the scripts that words ask for, behind the level before, and keeps the new one.
-fn run_asked<H: Host, F: Folders, L: LevelFiles, W: Write, E: Write>(
+fn run_asked<H: Host, F: Folders, L: LevelFiles, W: Write, E: Reporter>(
     host: &mut H,
     folders: &F,
     levels: &mut L,
@@ -145,11 +147,12 @@ fn run_asked<H: Host, F: Folders, L: LevelFiles, W: Write, E: Write>(
     ensures ran { ((result ≡ DEVICE_FAULT) × (out.new ≡ out.old)
         × (H.told host.new ≡ H.told host.old))
         ⊎ RunsAsked (L.file_at levels.old) (F.names_at folders.now) (said_of said.now)
-        (H.told host.old) (H.told host.new) (W.contents out.old) (E.contents err.old) result
-        (W.contents out.new) (E.contents err.new) }
+        (H.told host.old) (H.told host.new) (W.contents out.old) (E.reports err.old) result
+        (W.contents out.new) (E.reports err.new) }
     ensures kept { IsWhole result
         → Keeps (said_of said.now) (L.file_at levels.old) (L.file_at levels.new) }
     ensures unkept { (IsWhole result → ⊥) → AreSame (L.file_at levels.old) (L.file_at levels.new) }
+    ensures spoken { result ≡ DEVICE_FAULT → HasSpoken (E.reports err.new) }
 {
     let before = match level_before(levels, alloc, said, err) {
         Ok(before) => before,
@@ -166,11 +169,11 @@ fn run_asked<H: Host, F: Folders, L: LevelFiles, W: Write, E: Write>(
     };
     let previous = match previous_names(folders, alloc, dir, before) {
         Ok(previous) => previous,
-        Err(error) => return report_refusal("cannot list", dir, &error, "", err),
+        Err(error) => return report_failure("rc", "cannot list", dir, &error, "", err),
     };
     let names = match folders.names(alloc, path.as_str()) {
         Ok(names) => names,
-        Err(error) => return report_refusal("cannot list", path.as_str(), &error, "", err),
+        Err(error) => return report_failure("rc", "cannot list", path.as_str(), &error, "", err),
     };
     let status = run_names(
         alloc,
@@ -187,7 +190,7 @@ fn run_asked<H: Host, F: Folders, L: LevelFiles, W: Write, E: Write>(
 
 /// The level before: that of the words, or that of the file that they name; the exit status where that has none, which
 /// is told.
-fn level_before<L: LevelFiles, E: Write>(
+fn level_before<L: LevelFiles, E: Reporter>(
     levels: &L,
     alloc: Global,
     said: &Words,
@@ -196,6 +199,7 @@ fn level_before<L: LevelFiles, E: Write>(
     ensures ok { IfOk result (λ before. IsBefore (L.file_at levels.now) (said_of said.now) before) }
     ensures silent { OnOk result (err.new ≡ err.old) }
     ensures status { IfErr result (λ status. status ≡ DEVICE_FAULT) }
+    ensures spoken { OnErr result (HasSpoken (E.reports err.new)) }
 {
     let Some(path) = &said.level_file else {
         return Ok(said.previous);
@@ -208,45 +212,43 @@ fn level_before<L: LevelFiles, E: Write>(
         },
         Err(error) => {
             let rest = ": nothing was run; give PREV as a word without --level-file";
-            Err(report_refusal("cannot read", path.as_str(), &error, rest, err))
+            Err(report_failure("rc", "cannot read", path.as_str(), &error, rest, err))
         }
     }
 }
 
-/// Reports that a file has no runlevel, and gives the exit status.
-fn report_no_level<E: Write>(path: &str, err: &mut E) -> u8
-    ensures { result ≡ DEVICE_FAULT }
-{
-    let _ = writeln!(
-        err,
-        "rc: {path}: not a runlevel, 0 to 9 or S, and a newline: nothing was run; write the level that is left \
-         into it, or remove it for N"
-    );
-    DEVICE_FAULT
-}
+/// What is reported of a file that has no runlevel, behind its path.
+const NO_LEVEL: &str =
+    ": not a runlevel, 0 to 9 or S, and a newline: nothing was run; write the level that is left \
+    into it, or remove it for N\n";
 
-/// Reports why something can't be done with a path, and gives the exit status.
-fn report_refusal<E: Write>(act: &str, path: &str, error: &io::Error, rest: &str, err: &mut E) -> u8
-    ensures { result ≡ DEVICE_FAULT }
+/// Reports that a file has no runlevel, and gives the exit status.
+fn report_no_level<E: Reporter>(path: &str, err: &mut E) -> u8
+    ensures status { result ≡ DEVICE_FAULT }
+    ensures report { HasReported (E.reports err.old) (E.reports err.new)
+        (codes "rc: " ++ (path.now ++ NO_LEVEL.now)) }
+    ensures spoken { HasSpoken (E.reports err.new) }
 {
-    let _ = writeln!(err, "rc: {act} {path}: {}{rest}", Reason(error));
+    err.report_texts(&["rc: ", path, NO_LEVEL]);
     DEVICE_FAULT
 }
 
 /// Keeps the new level in the file that is named, where scripts were run and all were carried out, and gives the exit
 /// status.
-fn keep_level<L: LevelFiles, E: Write>(
+fn keep_level<L: LevelFiles, E: Reporter>(
     levels: &mut L,
     alloc: Global,
     said: &Words,
     status: u8,
     err: &mut E,
 ) -> u8
-    ensures status { IsStatusOf (said_of said.now).file status (E.contents err.old) result
-        (E.contents err.new) }
+    ensures status { IsStatusOf (said_of said.now).file status (E.reports err.old) result
+        (E.reports err.new) }
     ensures kept { IsWhole result
         → Keeps (said_of said.now) (L.file_at levels.old) (L.file_at levels.new) }
     ensures unkept { (IsWhole result → ⊥) → AreSame (L.file_at levels.old) (L.file_at levels.new) }
+    ensures spoken { (status ≡ DEVICE_FAULT → HasSpoken (E.reports err.old))
+        → result ≡ DEVICE_FAULT → HasSpoken (E.reports err.new) }
 {
     if said.options.dry || !is_whole(status) {
         return status;
@@ -258,7 +260,7 @@ fn keep_level<L: LevelFiles, E: Write>(
         Ok(()) => status,
         Err(error) => {
             let rest = ": all scripts were carried out, and it has not the new level";
-            report_refusal("cannot write", path.as_str(), &error, rest, err)
+            report_failure("rc", "cannot write", path.as_str(), &error, rest, err)
         }
     }
 }
@@ -275,7 +277,7 @@ fn is_whole(status: u8) -> bool
 /// script has not ended after `PAUSES_LIMIT` pauses, 4 where the output fails or memory runs out. A line for each script
 /// is written on `out` at its end, a fault is reported on `err`; the script that has not ended is named there, and one
 /// that was sent a signal since its time was up. Where the options say so nothing is run: what would start each script is written, and nothing is asked of the host.
-pub fn run_names<H: Host, W: Write, E: Write>(
+pub fn run_names<H: Host, W: Write, E: Reporter>(
     alloc: Global,
     host: &mut H,
     path: &str,
@@ -297,9 +299,10 @@ pub fn run_names<H: Host, W: Write, E: Write>(
     ensures ran { ((result ≡ DEVICE_FAULT) × (out.new ≡ out.old) × (host.new ≡ host.old))
         ⊎ (options.dry ≡ false → Since (H.told host.old) (H.told host.new) (RunsNames options
         path.now (map string_bytes previous.now) (map string_bytes names.now)
-        (W.contents out.old) (E.contents err.old) result (W.contents out.new)
-        (E.contents err.new))) }
+        (W.contents out.old) (E.reports err.old) result (W.contents out.new)
+        (E.reports err.new))) }
     ensures silent { IsWhole result → IsSilent options → err.new ≡ err.old }
+    ensures spoken { result ≡ DEVICE_FAULT → HasSpoken (E.reports err.new) }
 {
     let Ok(mut rc) = rc_of(alloc, options.way.levels, previous, names) else {
         return report_no_memory("rc", err);
@@ -328,7 +331,7 @@ fn rc_of<'n>(
 }
 
 /// Runs scripts, and reports how their run ended.
-fn run_all<'n, H: Host, W: Write, E: Write>(
+fn run_all<'n, H: Host, W: Write, E: Reporter>(
     alloc: Global,
     rc: &mut Rc<'n>,
     host: &mut H,
@@ -340,16 +343,17 @@ fn run_all<'n, H: Host, W: Write, E: Write>(
     requires { rc.old.waits ≡ false }
     ensures statuses { IsWhole result ⊎ (result ≡ LIMIT_REACHED) ⊎ (result ≡ DEVICE_FAULT) }
     ensures ran { Since (H.told host.old) (H.told host.new) (RunsScripts options path.now rc.old
-        (W.contents out.old) (E.contents err.old) result (W.contents out.new)
-        (E.contents err.new)) }
+        (W.contents out.old) (E.reports err.old) result (W.contents out.new)
+        (E.reports err.new)) }
     ensures silent { IsWhole result → options.way.seconds ≡ None → err.new ≡ err.old }
+    ensures spoken { result ≡ DEVICE_FAULT → HasSpoken (E.reports err.new) }
 {
     let ended = run_links(alloc, rc, host, options.way, path, PAUSES_LIMIT, out, err);
     report_end(path, options.strict, ended, err)
 }
 
 /// Prints scripts, and reports how that ended.
-fn print_all<'n, W: Write, E: Write>(
+fn print_all<'n, W: Write, E: Reporter>(
     alloc: Global,
     rc: &mut Rc<'n>,
     path: &str,
@@ -364,27 +368,27 @@ fn print_all<'n, W: Write, E: Write>(
     ensures part { AppendsPrefix (W.contents out.old) (W.contents out.new)
         (command_lines way path.now rc.old.left) }
     ensures silent { result ≡ DONE → err.new ≡ err.old }
+    ensures spoken { result ≡ DEVICE_FAULT → HasSpoken (E.reports err.new) }
 {
     let ended = print_links(alloc, rc, way, path, out);
     report_end(path, false, ended, err)
 }
 
-/// Reports how a run of the folder at `path` ended, where it wasn't done, by as much of the text as `err` takes, and
-/// gives the exit status.
-fn report_end<E: Write>(path: &str, strict: bool, ended: RunEnd, err: &mut E) -> u8
+/// Reports how a run of the folder at `path` ended, where it wasn't done, and gives the exit status.
+fn report_end<E: Reporter>(path: &str, strict: bool, ended: RunEnd, err: &mut E) -> u8
     requires { ended ≢ RunEnd.Waiting }
     ensures status { result ≡ status_of strict ended.entry }
-    ensures report { AppendsPrefix (E.contents err.old) (E.contents err.new)
-        (ended_text path.now ended.entry) }
+    ensures report { ReportsEnd path.now ended.entry (E.reports err.old) (E.reports err.new) }
     ensures silent { IsWhole result → err.new ≡ err.old }
+    ensures spoken { result ≡ DEVICE_FAULT → HasSpoken (E.reports err.new) }
 {
     match ended {
         RunEnd::Done => DONE,
         RunEnd::Failed => failed_status(strict),
         RunEnd::Limit(link) => report_limit(path, link, err),
         RunEnd::Waiting => unreachable!(),
-        RunEnd::Write => tell(DEVICE_FAULT, "rc: cannot write\n", err),
-        RunEnd::Memory => tell(DEVICE_FAULT, "rc: out of memory\n", err),
+        RunEnd::Write => report_fault("rc", "cannot write", err),
+        RunEnd::Memory => report_fault("rc", "out of memory", err),
     }
 }
 
@@ -400,20 +404,11 @@ const RUNS_ON: &str = " has not ended after 100000 pauses, of a second at most: 
     and no script behind it was run\n";
 
 /// Reports that the pauses are used up while a script runs, and gives the exit status.
-fn report_limit<E: Write>(path: &str, link: &str, err: &mut E) -> u8
+fn report_limit<E: Reporter>(path: &str, link: &str, err: &mut E) -> u8
     ensures status { result ≡ LIMIT_REACHED }
-    ensures report { AppendsPrefix (E.contents err.old) (E.contents err.new)
+    ensures report { HasReported (E.reports err.old) (E.reports err.new)
         (limit_text path.now link.now) }
 {
-    let _ = write_texts(err, &["rc: ", path, "/", link, RUNS_ON]);
+    err.report_texts(&["rc: ", path, "/", link, RUNS_ON]);
     LIMIT_REACHED
-}
-
-/// Reports a line, by as much of it as `err` takes, and gives the exit status.
-fn tell<E: Write>(status: u8, line: &str, err: &mut E) -> u8
-    ensures status { result ≡ status }
-    ensures report { AppendsPrefix (E.contents err.old) (E.contents err.new) line.now }
-{
-    let _ = write_text(err, line.as_bytes());
-    status
 }

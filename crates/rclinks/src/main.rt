@@ -2,7 +2,7 @@
 //! headers allow (LSB Core 5.0), or makes them in a directory.
 #![tactic(auto)]
 
-use program_io::{StandardFiles, report_unread_words, words};
+use program_io::{Reports, StandardFiles, report_unread_words, words};
 use rclinks_command::{SHORT_USAGE, SystemFolders, run_words};
 use std::alloc::Global;
 use std::fs::{read_dir, read_link};
@@ -29,6 +29,7 @@ fn facilities(rt: &HostRuntime, alloc: Global) -> io::Result<Vec<String>> {
 
 fn main(rt: HostRuntime) -> ExitCode {
     let _standard = StandardFiles::hold(&rt);
+    let mut err = Reports::to(rt.stderr());
     let alloc = rt.alloc();
     let mut folders = SystemFolders::new(rt, rt);
     let status = match words(&rt, alloc) {
@@ -41,10 +42,10 @@ fn main(rt: HostRuntime) -> ExitCode {
                 facilities.as_slice(),
                 words.as_slice(),
                 &mut rt.stdout(),
-                &mut rt.stderr(),
+                &mut err,
             )
         }
-        Err(error) => report_unread_words("rclinks", SHORT_USAGE, &error, &mut rt.stderr()),
+        Err(error) => report_unread_words("rclinks", SHORT_USAGE, &error, &mut err),
     };
     ExitCode::from(status)
 }

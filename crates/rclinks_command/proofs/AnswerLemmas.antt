@@ -3,6 +3,7 @@ use Rattle.rclinks_command.proofs.Words.{◌≡◌, ◌⊎◌, inl, inr, ℕ, Bo
 use Rattle.rclinks_command.proofs.Words.{Some, Result, Ok, Err, IfErr, IfOk, ap, subst, ◌∙◌}
 use Rattle.rclinks_command.proofs.Words.{KnownTexts, Line, ScriptText, PlannedText, KnownFolders, KnownScripts}
 use Rattle.std.specs.Io.KnownBytes.{Appends}
+use Rattle.program_io.specs.Reports.{HasReported, ReportList}
 use Rattle.program_io.specs.Writing.{AppendsPrefix}
 use Rattle.rclinks_command.specs.Answers.{Did, DidPart, IsRefusal, IsWork}
 use Rattle.rclinks_command.specs.Command.{Does, DoesBy, DoesPart, PartBy, PlanOf, ScriptsOf, TakenBy, TellsRefused}
@@ -74,10 +75,10 @@ pub refused : (P : Type 0) (work : Result Work Refusal) → IfErr work (λ why. 
 refused P (Ok work) reason is = absurd is
 refused P (Err why) reason is = reason is
 
--- the report that was written tells it
+-- the report tells it
 pub told : (text_at : KnownTexts) (line : Line) (scripts : KnownScripts) (before : KnownFolders)
-    (old new : Option (List ℕ)) (report : List ℕ)
-    → AppendsPrefix old new report
+    (old new : ReportList) (report : List ℕ)
+    → HasReported old new report
     → ReportsRefused text_at line.last line.files [] report ⊎ PlanOf text_at line (TakenBy line.dir line scripts before)
     → TellsRefused text_at line scripts before old new
 told text_at line scripts before old new report wrote why = elim why [

@@ -4,6 +4,7 @@ use Rattle.std.specs.Prelude.{codes, option_map, unwrap_or}
 use Rattle.std.specs.Option.{is_some}
 use Rattle.std.specs.Io.KnownBytes.{Appends}
 use Rattle.std.specs.declared.alloc.Global.{Global}
+use Rattle.program_io.specs.Reports.{HasReported, ReportList}
 use Rattle.program_io.specs.Writing.{AppendsPrefix}
 use Rattle.program_io.specs.Known.{KnownTexts}
 use Rattle.rc_links.specs.AllLast.{with_all}
@@ -168,8 +169,8 @@ abbrev pub IsRefusedBy : KnownTexts → Line → KnownScripts → KnownFolders �
 IsRefusedBy text_at line scripts before =
     IsRefusedFor text_at line.skips line.last line.files ⊎ PlanOf text_at line (TakenBy line.dir line scripts before)
 
--- the report of a run that is refused for a file or the plan was written, as far as it was taken; or a name is taken
-abbrev pub TellsRefused : KnownTexts → Line → KnownScripts → KnownFolders → Option (List ℕ) → Option (List ℕ) → Type 0
+-- a run that is refused for a file or the plan is reported; or a name is taken
+abbrev pub TellsRefused : KnownTexts → Line → KnownScripts → KnownFolders → ReportList → ReportList → Type 0
 TellsRefused text_at line scripts before old new =
-    ((report : List ℕ) × ReportsRefused text_at line.last line.files [] report × AppendsPrefix old new report)
+    ((report : List ℕ) × ReportsRefused text_at line.last line.files [] report × HasReported old new report)
     ⊎ PlanOf text_at line (TakenBy line.dir line scripts before)

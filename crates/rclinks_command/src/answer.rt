@@ -2,6 +2,7 @@
 
 ghost use Rattle.std.specs.Prelude.{◌≡◌, ◌⊎◌, ℕ, false, [], map, take, IfErr, IfOk, OnOk};
 ghost use Rattle.std.specs.Io.KnownBytes.{Appends};
+ghost use Rattle.program_io.specs.Reports.{HasReported, HasSpoken};
 ghost use Rattle.program_io.specs.Writing.{AppendsPrefix};
 ghost use Rattle.rc_links.specs.AllLast.{with_all};
 ghost use Rattle.rc_links.specs.Plans.{IsPlan};
@@ -22,7 +23,9 @@ use crate::skipping::{add_first, plan_rest, refusal_of};
 use crate::telling::odd_names;
 use crate::writing::{changes_for, changes_text, failure_lines, make_changes};
 use init_words::Memory;
-use program_io::{DEVICE_FAULT, DONE, REFUSED, Texts, report_no_memory, write_text};
+use program_io::{
+    DEVICE_FAULT, DONE, REFUSED, Reporter, Texts, report_fault, report_no_memory, write_text,
+};
 use rc_links::{LinkChange, Plan, PlanFault, add_all, plan};
 use std::alloc::Global;
 use std::io::Write;
@@ -185,20 +188,20 @@ pub(crate) fn answer_of<'w, T: Texts, F: LinkFolders>(
 }
 
 /// Prints a text, and gives the exit status.
-fn print<W: Write, E: Write>(text: &[u8], out: &mut W, err: &mut E) -> u8
+fn print<W: Write, E: Reporter>(text: &[u8], out: &mut W, err: &mut E) -> u8
     ensures statuses { (result ≡ DONE) ⊎ (result ≡ DEVICE_FAULT) }
     ensures done { result ≡ DONE → Appends (W.contents out.old) (W.contents out.new) text.now }
     ensures part { AppendsPrefix (W.contents out.old) (W.contents out.new) text.now }
+    ensures spoken { result ≡ DEVICE_FAULT → HasSpoken (E.reports err.new) }
 {
     if write_text(out, text).is_err() || out.flush().is_err() {
-        let _ = writeln!(err, "rclinks: cannot write");
-        return DEVICE_FAULT;
+        return report_fault("rclinks", "cannot write", err);
     }
     DONE
 }
 
 /// Makes an answer's changes, and gives the exit status.
-fn change<F: LinkFolders, E: Write>(
+fn change<F: LinkFolders, E: Reporter>(
     folders: &mut F,
     alloc: Global,
     dir: &str,
@@ -210,19 +213,28 @@ fn change<F: LinkFolders, E: Write>(
         → Becomes (F.held folders.old) (F.held folders.new) (changed_by dir.now changes.now) }
     ensures part { (count : ℕ) × Becomes (F.held folders.old) (F.held folders.new)
         (changed_by dir.now (take count changes.now)) }
+    ensures spoken { result ≡ DEVICE_FAULT → HasSpoken (E.reports err.new) }
 {
     match make_changes(folders, alloc, dir, changes) {
         Ok(()) => DONE,
-        Err(failure) => {
-            let told = failure_lines(alloc, dir, changes, &failure);
-            let _ = write_text(err, told.as_slice());
-            DEVICE_FAULT
-        }
+        Err(failure) => report_lines(&failure_lines(alloc, dir, changes, &failure), err),
     }
 }
 
+/// Reports lines that tell a fault, or that there was no memory to make them, and gives the status.
+fn report_lines<E: Reporter>(lines: &[u8], err: &mut E) -> u8
+    ensures status { result ≡ DEVICE_FAULT }
+    ensures spoken { HasSpoken (E.reports err.new) }
+{
+    if lines.is_empty() {
+        return report_no_memory("rclinks", err);
+    }
+    err.report(lines);
+    DEVICE_FAULT
+}
+
 /// Writes the report of an answer, then does its work, and gives the exit status.
-pub(crate) fn write<F: LinkFolders, W: Write, E: Write>(
+pub(crate) fn write<F: LinkFolders, W: Write, E: Reporter>(
     folders: &mut F,
     alloc: Global,
     answer: &Answer,
@@ -233,19 +245,21 @@ pub(crate) fn write<F: LinkFolders, W: Write, E: Write>(
     ensures done { result ≡ DONE → Did answer.now.work (F.held folders.old) (F.held folders.new)
         (W.contents out.old) (W.contents out.new) }
     ensures refused { result ≡ REFUSED → IsRefusal answer.now.work
-        × AppendsPrefix (E.contents err.old) (E.contents err.new) answer.now.report.items
+        × HasReported (E.reports err.old) (E.reports err.new) answer.now.report.items
         × (out.new ≡ out.old) × (folders.new ≡ folders.old) }
     ensures kept { makes answer.now.work ≡ false → folders.new ≡ folders.old }
     ensures silent { prints answer.now.work ≡ false → out.new ≡ out.old }
     ensures part { (out.new ≡ out.old) × (folders.new ≡ folders.old)
         ⊎ DidPart answer.now.work (F.held folders.old) (F.held folders.new)
         (W.contents out.old) (W.contents out.new) }
+    ensures spoken { result ≡ DEVICE_FAULT → HasSpoken (E.reports err.new) }
 {
-    let _ = write_text(err, answer.report.as_slice());
+    err.report(answer.report.as_slice());
     match &answer.work {
         Ok(Work::Print(text)) => print(text.as_slice(), out, err),
         Ok(Work::Change(dir, changes)) => change(folders, alloc, dir, changes.as_slice(), err),
-        Err(Refusal::Memory) => report_no_memory("rclinks", err),
-        Err(refusal) => refusal.status(),
+        Err(Refusal::Refused) => REFUSED,
+        Err(Refusal::Failed) if !answer.report.is_empty() => DEVICE_FAULT,
+        Err(Refusal::Failed | Refusal::Memory) => report_no_memory("rclinks", err),
     }
 }

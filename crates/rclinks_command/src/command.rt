@@ -5,6 +5,7 @@ ghost use Rattle.clap.specs.Words.{found_of, rows_of};
 ghost use Rattle.command_words.specs.CommandLines.{asks_version};
 ghost use Rattle.command_words.specs.Faults.{ReportsUsage};
 ghost use Rattle.command_words.specs.VersionLine.{PrintsVersion};
+ghost use Rattle.program_io.specs.Reports.{HasSpoken};
 ghost use Rattle.rclinks_command.specs.Said.{line_said};
 ghost use Rattle.rclinks_command.specs.Command.{keeps_going, Does, DoesPart, IsRefusedBy, Says, TellsRefused, asked_by, line_with, rclinks_read_of, writes_by};
 
@@ -17,7 +18,7 @@ use command_words::{
     Row, is_set, is_version, print_version, read_line, report_word_fault, word_of, words_of,
 };
 use init_words::Memory;
-use program_io::{DEVICE_FAULT, DONE, REFUSED, Texts, report_no_memory};
+use program_io::{DEVICE_FAULT, DONE, REFUSED, Reporter, Texts, report_no_memory};
 use std::alloc::Global;
 use std::io::Write;
 
@@ -106,7 +107,7 @@ fn files_of<'w>(
 /// files are read in front of the scripts, but for those whose name a script has. What is odd in a header is told on
 /// `err` too, whatever the status.
 #[tactic(auto, using(crate::proofs::FreeLine::is_free_line))]
-pub fn run_words<'w, T: Texts, F: LinkFolders, W: Write, E: Write>(
+pub fn run_words<'w, T: Texts, F: LinkFolders, W: Write, E: Reporter>(
     texts: &T,
     folders: &mut F,
     alloc: Global,
@@ -119,7 +120,7 @@ pub fn run_words<'w, T: Texts, F: LinkFolders, W: Write, E: Write>(
     ensures usage { asks_version (map string_bytes words.now) ≡ false
         → rclinks_read_of (map string_bytes words.now) ≡ None
         → (result ≡ DEVICE_FAULT) ⊎ (result ≡ REFUSED) × ReportsUsage (codes "rclinks") USAGE.now
-        SHORT_USAGE.now (E.contents err.old) (E.contents err.new) }
+        SHORT_USAGE.now (E.reports err.old) (E.reports err.new) }
     ensures version { asks_version (map string_bytes words.now) ≡ true
         → PrintsVersion (codes "rclinks") result (W.contents out.old) (W.contents out.new) }
     // The links of all of the files, or of those that are not left out, were printed or made, or the changes printed.
@@ -137,7 +138,8 @@ pub fn run_words<'w, T: Texts, F: LinkFolders, W: Write, E: Write>(
         → (rclinks_read_of (map string_bytes words.now) ≡ None)
         ⊎ Says (map string_bytes words.now) (λ line. keeps_going line ≡ false
         → TellsRefused (T.text_at texts.now) (line_with (map string_bytes facilities.now) line)
-        (F.scripts_in folders.old) (F.held folders.old) (E.contents err.old) (E.contents err.new)) }
+        (F.scripts_in folders.old) (F.held folders.old) (E.reports err.old) (E.reports err.new)) }
+    ensures spoken { result ≡ DEVICE_FAULT → HasSpoken (E.reports err.new) }
     ensures quiet { result ≡ REFUSED → (out.new ≡ out.old) × (folders.new ≡ folders.old) }
     // Nothing is changed but by `--write` without `-n`, and then nothing is printed.
     ensures kept { writes_by (rclinks_read_of (map string_bytes words.now)) ≡ false

@@ -4,10 +4,8 @@
 
 ghost use Rattle.std.specs.Prelude.{◌≡◌, ◌++◌, OnOk};
 ghost use Rattle.rclinks_command.specs.Reports.{TellsLines, TellsWhy, Warns, line_of};
-ghost use Rattle.rclinks_command.specs.Refusals.{refusal_status};
 
 use init_words::Memory;
-use program_io::{DEVICE_FAULT, REFUSED};
 use text_lines::next_line;
 
 /// Why a run does nothing.
@@ -29,18 +27,6 @@ impl From<Memory> for Refusal {
 
     fn from(_error: Memory) -> Refusal {
         Refusal::Memory
-    }
-}
-
-impl Refusal {
-    /// The exit status.
-    pub(crate) fn status(self) -> u8
-        ensures { result ≡ refusal_status self }
-    {
-        match self {
-            Refusal::Refused => REFUSED,
-            Refusal::Failed | Refusal::Memory => DEVICE_FAULT,
-        }
     }
 }
 

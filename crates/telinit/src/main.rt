@@ -2,13 +2,14 @@
 //! re-execution, by one request block at the end of the channel file (telinit(8), initreq.h).
 #![tactic(auto)]
 
-use program_io::{StandardFiles, report_unread_words, words};
+use program_io::{Reports, StandardFiles, report_unread_words, words};
 use std::env;
 use std::process::ExitCode;
 use telinit_command::{OsChannels, SHORT_USAGE, run_words};
 
 fn main(rt: HostRuntime) -> ExitCode {
     let _standard = StandardFiles::hold(&rt);
+    let mut err = Reports::to(rt.stderr());
     let status = match words(&rt, rt.alloc()) {
         Ok(words) => {
             let mut channels = OsChannels::new(&rt, rt.alloc());
@@ -19,10 +20,10 @@ fn main(rt: HostRuntime) -> ExitCode {
                 home.as_str(),
                 words,
                 &mut rt.stdout(),
-                &mut rt.stderr(),
+                &mut err,
             )
         }
-        Err(error) => report_unread_words("telinit", SHORT_USAGE, &error, &mut rt.stderr()),
+        Err(error) => report_unread_words("telinit", SHORT_USAGE, &error, &mut err),
     };
     ExitCode::from(status)
 }

@@ -1,16 +1,13 @@
 //! A request block, appended to the channel.
 
-ghost use Rattle.std.specs.Prelude.{◌≡◌, ◌++◌, ◌⊎◌, string_bytes, IfOk, OnOk, OnErr};
-ghost use Rattle.program_io.specs.Writing.{AppendsPrefix};
+ghost use Rattle.std.specs.Prelude.{◌≡◌, ◌⊎◌, OnOk, OnErr};
 ghost use Rattle.telinit_command.specs.Channels.{AreSame, HasGained, HasGainedFront, IsWholeAt};
-ghost use Rattle.telinit_command.specs.Notes.{IsTold, Reading, made_note, reading_note};
+ghost use Rattle.telinit_command.specs.Notes.{IsTold, Reading, TellsMade, TellsReading};
 
 use crate::channels::Channels;
 use initctl_frame::BLOCK;
-use program_io::{REQUEST, Reason, write_text};
-use std::alloc::{AllocError, Global};
+use program_io::{REQUEST, Reporter, reason_text};
 use std::io;
-use std::io::Write;
 
 /// Why a block was not appended.
 #[derive(Drop)]
@@ -19,8 +16,6 @@ pub(crate) enum ChannelFault {
     Torn(u64),
     /// It could not be opened or written.
     Device(io::Error),
-    /// Memory ran out before the block was written.
-    Memory,
 }
 
 impl From<io::Error> for ChannelFault {
@@ -29,23 +24,16 @@ impl From<io::Error> for ChannelFault {
     }
 }
 
-impl From<AllocError> for ChannelFault {
-    fn from(_error: AllocError) -> ChannelFault {
-        ChannelFault::Memory
-    }
-}
-
-/// Appends the block to the channel at the path, which is made where it is missing. That it was made, and that no init
-/// reads it, is told on `err`, as much of it as that takes. After a refusal the channel has gained a front of the block at
-/// most.
-pub(crate) fn append_block<C: Channels, E: Write>(
+/// Appends the block to the channel at the path, which is made where it is missing. That it was made is told on `err`
+/// before, and behind it that no init reads it: the request doesn't wait for that look. After a refusal the channel has
+/// gained a front of the block at most.
+pub(crate) fn append_block<C: Channels, E: Reporter>(
     channels: &mut C,
-    alloc: Global,
     path: &str,
     block: &[u8; BLOCK],
     err: &mut E,
 ) -> Result<(), ChannelFault>
-    ensures told { OnOk result (IsTold path.now (E.contents err.old) (E.contents err.new)) }
+    ensures told { OnOk result (IsTold path.now (E.reports err.old) (E.reports err.new)) }
     ensures whole { OnOk result (IsWholeAt path.now (C.bytes_at channels.old)) }
     ensures gained { OnOk result (HasGained path.now block.now
         (C.bytes_at channels.old) (C.bytes_at channels.new)) }
@@ -56,63 +44,46 @@ pub(crate) fn append_block<C: Channels, E: Write>(
     if found.length % REQUEST as u64 != 0 {
         return Err(ChannelFault::Torn(found.length));
     }
-    let made = made_note(alloc, path, found.was_made)?;
-    let reading = reading_note(alloc, path, found.is_read)?;
-    append_between(channels, path, block, made.as_str(), reading.as_str(), err)?;
+    tell_made(path, found.was_made, err);
+    channels.append(path, block)?;
+    tell_reading(path, channels.is_read(path), err);
     Ok(())
 }
 
-/// Tells the one note, appends the block, and tells the other note, where the one could be told.
-fn append_between<C: Channels, E: Write>(
-    channels: &mut C,
-    path: &str,
-    block: &[u8; BLOCK],
-    before: &str,
-    behind: &str,
-    err: &mut E,
-) -> io::Result<()>
-    ensures told { OnOk result (AppendsPrefix (E.contents err.old) (E.contents err.new)
-        (before.now ++ behind.now)) }
-    ensures gained { OnOk result (HasGained path.now block.now
-        (C.bytes_at channels.old) (C.bytes_at channels.new)) }
-    ensures refused { OnErr result (HasGainedFront path.now block.now
-        (C.bytes_at channels.old) (C.bytes_at channels.new)) }
-{
-    match write_text(err, before.as_bytes()) {
-        Ok(()) => {
-            channels.append(path, block)?;
-            let _ = write_text(err, behind.as_bytes());
-            Ok(())
-        }
-        Err(_) => channels.append(path, block),
-    }
-}
-
-/// What is told of a channel that was made, or was there.
-fn made_note(alloc: Global, path: &str, was_made: bool) -> Result<String, AllocError>
-    ensures { IfOk result (λ note. string_bytes note ≡ made_note path.now was_made) }
+/// Tells that the channel was made, where it was.
+fn tell_made<E: Reporter>(path: &str, was_made: bool, err: &mut E)
+    ensures { TellsMade path.now was_made (E.reports err.old) (E.reports err.new) }
 {
     if was_made {
-        format!(in alloc; "telinit: made {path}\n")
-    } else {
-        Ok(String::new(alloc))
+        err.report_texts(&["telinit: made ", path, "\n"]);
     }
 }
 
-/// What is told of whether an init reads the channel.
-fn reading_note(alloc: Global, path: &str, is_read: io::Result<bool>) -> Result<String, AllocError>
-    ensures { IfOk result (λ note. (reading : Reading)
-        × (string_bytes note ≡ reading_note path.now reading)) }
+/// Tells that no init reads the channel, or that it isn't known.
+fn tell_reading<E: Reporter>(path: &str, is_read: io::Result<bool>, err: &mut E)
+    ensures { (reading : Reading)
+        × TellsReading path.now reading (E.reports err.old) (E.reports err.new) }
 {
     match is_read {
-        Ok(true) => Ok(String::new(alloc)),
-        Ok(false) => format!(in alloc;
-            "telinit: no init reads {path}: the request stands there until one does\n"
-        ),
-        Err(error) => {
-            let reason = format!(in alloc; "{}", Reason(&error))?;
-            let reason = reason.as_str();
-            format!(in alloc; "telinit: cannot tell whether an init reads {path}: {reason}\n")
-        }
+        Ok(true) => {}
+        Ok(false) => err.report_texts(&["telinit: no init reads ", path, STANDS]),
+        Err(error) => tell_unknown(path, reason_text(&error).as_str(), err),
     }
+}
+
+/// What is told of a channel that no init reads, behind its path.
+const STANDS: &str = ": the request stands there until one does\n";
+
+/// Tells that it isn't known whether an init reads the channel.
+fn tell_unknown<E: Reporter>(path: &str, reason: &str, err: &mut E)
+    ensures { TellsReading path.now (Reading.unknown reason.now)
+        (E.reports err.old) (E.reports err.new) }
+{
+    err.report_texts(&[
+        "telinit: cannot tell whether an init reads ",
+        path,
+        ": ",
+        reason,
+        "\n",
+    ]);
 }

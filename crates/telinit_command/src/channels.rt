@@ -13,8 +13,6 @@ pub struct FoundChannel {
     pub was_made: bool,
     /// Its bytes.
     pub length: u64,
-    /// An init reads it, or the one that stood there before.
-    pub is_read: io::Result<bool>,
 }
 
 /// What opens channels of requests (initreq.h), and appends to them.
@@ -37,4 +35,7 @@ pub trait Channels {
             (HasGained path.now block.now (bytes_at self.old) (bytes_at self.new)) }
         ensures err { OnErr result
             (HasGainedFront path.now block.now (bytes_at self.old) (bytes_at self.new)) };
+
+    /// An init reads the channel at a path, which was opened last, or the one that stood there before.
+    fn is_read(&self, path: &str) -> io::Result<bool>;
 }

@@ -46,12 +46,6 @@ impl<R: Files<File = File> + Alloc + Eprint + Clone + Drop> Channels for OsChann
         let found = FoundChannel {
             was_made: channel.was_made,
             length: channel.length,
-            is_read: match channel.is_read() {
-                Ok(false) if is_read_before(self.rt, self.alloc, path).unwrap_or(false) => Ok(true),
-                // An init may have gone over to this file meanwhile.
-                Ok(false) => channel.is_read(),
-                told => told,
-            },
         };
         self.opened = Some(channel);
         Ok(found)
@@ -70,10 +64,22 @@ impl<R: Files<File = File> + Alloc + Eprint + Clone + Drop> Channels for OsChann
         }
         Ok(())
     }
+
+    fn is_read(&self, path: &str) -> io::Result<bool> {
+        let Some(channel) = &self.opened else {
+            return Err(Error::from(ErrorKind::NotFound));
+        };
+        match channel.is_read() {
+            Ok(false) if is_read_before(self.rt, self.alloc, path).unwrap_or(false) => Ok(true),
+            // An init may have gone over to this file meanwhile.
+            Ok(false) => channel.is_read(),
+            told => told,
+        }
+    }
 }
 
 /// A process holds a lock and has a file open that stood at the path of the channel before the one that stands there:
-/// an init that sees within a pause that another came.
+/// an init that sees within a pause that another came. Each process is looked at once, however many locks it holds.
 fn is_read_before<R: Files + Alloc + Clone + Drop>(
     rt: &R,
     alloc: Global,
@@ -82,10 +88,14 @@ fn is_read_before<R: Files + Alloc + Clone + Drop>(
     let stood = canonicalize(rt, path)?;
     let removed = format!(in alloc; "{} (deleted)", stood.as_path().as_str())?;
     let locks = read_file(rt, alloc, LOCKS)?;
+    let mut seen: Vec<u32> = Vec::new(alloc);
     for line in str::from_utf8(&locks).unwrap_or("").lines() {
         if let Some(number) = holder_in(line) {
-            if has_open(rt, alloc, number, removed.as_str()).unwrap_or(false) {
-                return Ok(true);
+            if !seen.contains(&number) {
+                if has_open(rt, alloc, number, removed.as_str()).unwrap_or(false) {
+                    return Ok(true);
+                }
+                seen.push(number)?;
             }
         }
     }

@@ -4,6 +4,7 @@ ghost use Rattle.std.specs.Prelude.{◌≡◌, ◌⊎◌, true, false, codes, ma
 ghost use Rattle.command_words.specs.CommandLines.{asks_version};
 ghost use Rattle.command_words.specs.Faults.{ReportsUsage};
 ghost use Rattle.command_words.specs.VersionLine.{PrintsVersion};
+ghost use Rattle.program_io.specs.Reports.{HasSpoken};
 ghost use Rattle.telinit_command.specs.Channels.{AreSame, Asks, AsksPartly};
 ghost use Rattle.telinit_command.specs.CommandLine.{block_said, telinit_read_of};
 ghost use Rattle.telinit_command.specs.Notes.{IsTold};
@@ -12,8 +13,8 @@ use crate::channel::{ChannelFault, append_block};
 use crate::channels::Channels;
 use crate::command::read_asked;
 use command_words::{is_version, print_version, report_word_fault};
-use initctl_frame::BLOCK;
-use program_io::{DEVICE_FAULT, DONE, REFUSED, Reason, report_no_memory};
+use itoa::Buffer;
+use program_io::{DEVICE_FAULT, DONE, REFUSED, Reporter, report_failure};
 use std::alloc::Global;
 use std::io::Write;
 
@@ -43,7 +44,7 @@ pub const SHORT_USAGE: &str = "usage: telinit [OPTION].. CHAR | --power fail|fai
 /// the output fails or memory runs out. The version goes to `out`, where the words are `--version` alone. A fault is
 /// reported on `err`, and that the channel was made, or that no init reads it. Of a block that could not be written the
 /// channel has a front at most.
-pub fn run_words<C: Channels, W: Write, E: Write>(
+pub fn run_words<C: Channels, W: Write, E: Reporter>(
     channels: &mut C,
     alloc: Global,
     home: &str,
@@ -70,10 +71,11 @@ pub fn run_words<C: Channels, W: Write, E: Write>(
     // What is told of a channel that a block was appended to.
     ensures told { result ≡ DONE → (err.new ≡ err.old)
         ⊎ IfSome (telinit_read_of home.now (map string_bytes words.items))
-        (λ said. IsTold said.path (E.contents err.old) (E.contents err.new)) }
+        (λ said. IsTold said.path (E.reports err.old) (E.reports err.new)) }
     ensures report { result ≡ REFUSED
         → ReportsUsage (codes "telinit") USAGE.now SHORT_USAGE.now
-        (E.contents err.old) (E.contents err.new) }
+        (E.reports err.old) (E.reports err.new) }
+    ensures spoken { result ≡ DEVICE_FAULT → HasSpoken (E.reports err.new) }
 {
     if is_version(words.as_slice()) {
         return print_version("telinit", out, err);
@@ -81,7 +83,7 @@ pub fn run_words<C: Channels, W: Write, E: Write>(
     match read_asked(alloc, home, words) {
         Ok(asked) => {
             let path = asked.path.as_str();
-            match append_block(channels, alloc, path, &asked.block, err) {
+            match append_block(channels, path, &asked.block, err) {
                 Ok(()) => DONE,
                 Err(fault) => report_channel(path, &fault, err),
             }
@@ -90,22 +92,37 @@ pub fn run_words<C: Channels, W: Write, E: Write>(
     }
 }
 
-fn report_channel<E: Write>(path: &str, fault: &ChannelFault, err: &mut E) -> u8
-    ensures { result ≡ DEVICE_FAULT }
+/// What helps where the channel could not be opened or written, behind the reason.
+const SEE: &str = "\ntelinit: see that it is a file that you may write, in a folder that is there, \
+    with room on its disk";
+
+fn report_channel<E: Reporter>(path: &str, fault: &ChannelFault, err: &mut E) -> u8
+    ensures status { result ≡ DEVICE_FAULT }
+    ensures spoken { HasSpoken (E.reports err.new) }
 {
-    let _ = match fault {
-        ChannelFault::Torn(length) => writeln!(
-            err,
-            "telinit: cannot append to {path}: it has {length} bytes, which is no whole number of requests\n\
-             telinit: cut off what is over by truncate -s /{BLOCK} {path}, or stop init and remove {path}"
-        ),
-        ChannelFault::Device(error) => writeln!(
-            err,
-            "telinit: cannot append to {path}: {}\n\
-             telinit: see that it is a file that you may write, in a folder that is there, with room on its disk",
-            Reason(error)
-        ),
-        ChannelFault::Memory => return report_no_memory("telinit", err),
-    };
+    match fault {
+        ChannelFault::Torn(length) => report_torn(path, Buffer::new().format(*length), err),
+        ChannelFault::Device(error) => {
+            report_failure("telinit", "cannot append to", path, error, SEE, err)
+        }
+    }
+}
+
+/// Tells that the channel ends within a request, by the bytes that it has, and gives the exit status.
+fn report_torn<E: Reporter>(path: &str, length: &str, err: &mut E) -> u8
+    ensures status { result ≡ DEVICE_FAULT }
+    ensures spoken { HasSpoken (E.reports err.new) }
+{
+    err.report_texts(&[
+        "telinit: cannot append to ",
+        path,
+        ": it has ",
+        length,
+        " bytes, which is no whole number of requests\ntelinit: cut off what is over by truncate -s /384 ",
+        path,
+        ", or stop init and remove ",
+        path,
+        "\n",
+    ]);
     DEVICE_FAULT
 }

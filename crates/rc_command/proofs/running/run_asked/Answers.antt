@@ -34,7 +34,7 @@ returns-clause-ran g c = elim c.run_names-status.ensures.ran [
       inr (runs_asked (g.L.LevelFiles.file_at c.args.levels.now) names_at (said_of c.args.said.now) c.in-Ok.before
       c.as_str-dir.result.now c.entering-options.result c.run_names-status.result c.keep_level.result _ _ _ _ _ _ _ _
       c.in-Ok.ensures.ok c.as_str-dir.ensures.value c.entering-options.ensures c.keep_level.ensures.status
-      (ap g.E.Write.contents c.in-Ok.ensures.silent) (
+      (ap g.E.Reporter.reports c.in-Ok.ensures.silent) (
         (λ dry. ap g.H.Host.told (c.run_names-status.ensures.dry dry)),
         (λ wet. said_runs names_at run c.as_str-dir.result.now c.as_str-2.result.now c.as_str.result.now
             (texts c.in-Ok-previous_names.previous.items) (texts c.in-Ok-names.names.items) _ _ _ _ _ _ _ refl
@@ -44,3 +44,6 @@ returns-clause-ran g c = elim c.run_names-status.ensures.ran [
             (rw (c.deref.ensures.value, c.deref-2.ensures.value) at some wet)),
       )))
 ]
+
+pub returns-clause-spoken : goal.returns-clause-spoken
+returns-clause-spoken g c = c.keep_level.ensures.spoken c.run_names-status.ensures.spoken

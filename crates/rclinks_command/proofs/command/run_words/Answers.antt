@@ -65,10 +65,10 @@ returns-clause-told g c = λ _ is.
       ap (option_map asked_by) (c.in-Ok.ensures.ok is_free_line),
       λ plain. subst (λ line. TellsRefused (g.T.Texts.text_at c.args.texts.now) line
           (g.F.LinkFolders.scripts_in c.args.folders.now) (g.F.LinkFolders.held c.args.folders.now)
-          (g.E.Write.contents c.args.err.now) (g.E.Write.contents c.write.new.err)) same
+          (g.E.Reporter.reports c.args.err.now) (g.E.Reporter.reports c.write.new.err)) same
           (told (g.T.Texts.text_at c.args.texts.now) said (g.F.LinkFolders.scripts_in c.args.folders.now)
-          (g.F.LinkFolders.held c.args.folders.now) (g.E.Write.contents c.args.err.now)
-          (g.E.Write.contents c.write.new.err) c.answer_of-answer.result.report.items (c.write.ensures.refused is).1
+          (g.F.LinkFolders.held c.args.folders.now) (g.E.Reporter.reports c.args.err.now)
+          (g.E.Reporter.reports c.write.new.err) c.answer_of-answer.result.report.items (c.write.ensures.refused is).1
           (refused _ c.answer_of-answer.result.work (c.answer_of-answer.ensures.told (ap keeps_going same ∙ plain))
           (c.write.ensures.refused is).0)),
     )
