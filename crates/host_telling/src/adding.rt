@@ -2,9 +2,9 @@
 
 ghost use Rattle.std.specs.Prelude.{◌≡◌, ◌∷◌, []};
 
-use crate::noted::{Noted, Reads};
 use host_calls::{Call, HostFault, Reply};
 use init_words::{Answer, Id, Part, SignalKind};
+use program_io::{Noted, Reads};
 use std::alloc::Allocator;
 use std::marker::{Model, PhantomData};
 use trace_events::HappeningIn;

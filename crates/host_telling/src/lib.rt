@@ -3,7 +3,5 @@
 #![tactic(auto)]
 
 pub mod adding;
-mod noted;
 
 pub use adding::{CallList, no_calls};
-pub use noted::{Noted, Reads};

@@ -9,8 +9,8 @@ ghost use Rattle.host_trace.specs.Leads.{Logs};
 
 use crate::noting::{StampedCalls, and_call, calls_until};
 use host_calls::{Call, Host, HostFault, Reply};
-use host_telling::Noted;
 use init_words::{Answer, Id, Part, SignalKind};
+use program_io::Noted;
 use std::alloc::Allocator;
 use std::marker::Model;
 use trace_events::{Happening, HappeningIn, law_of_ranges};

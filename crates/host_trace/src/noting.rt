@@ -4,7 +4,7 @@ ghost use Rattle.std.specs.Prelude.{◌≡◌};
 ghost use Rattle.host_trace.specs.Edges.{first_told, newest_told};
 
 use host_calls::Host;
-use host_telling::{Noted, Reads};
+use program_io::{Noted, Reads};
 use std::marker::{Model, PhantomData};
 
 /// The calls that an edge tells, each with the log at it, the newest first. None is ever made: it is the type of what is

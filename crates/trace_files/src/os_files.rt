@@ -3,17 +3,27 @@
 ghost use Rattle.std.specs.Prelude.{◌≡◌, ◌++◌, [], take, Some};
 
 use crate::files::{TraceFiles, Traces};
-use host_telling::{Noted, Reads};
+use program_io::{Noted, Reads, refuse_too_large};
 use std::alloc::Global;
 use std::fs::{File, OpenOptions, TryLockError, hard_link, metadata, remove_file, rename};
 use std::io;
 use std::io::{ErrorKind, Write};
 use std::marker::Model;
+use std::os::unix::fs::{MetadataExt, OpenOptionsExt};
 use std::rt::Files;
 use trace_pieces::{are_same, newest_piece, piece_path};
 
 /// How often the lock of a trace is asked for, since one that asks whether an init lives holds it too, for a moment.
 const LOCK_TRIES: u32 = 100;
+
+/// How many names are tried for the file that is to come to the path of a trace.
+const NAMES: u32 = 100;
+
+/// The bits of a mode that say who may read and write.
+const MODES: u32 = 0o666;
+
+/// The error by which link(2) says that a file system has no links (EPERM).
+const NO_LINKS: i32 = 1;
 
 /// Takes the lock of a trace, a plain file, where the file system has locks: it is released where the file is dropped,
 /// and tells until then that init lives. False where another run holds it.
@@ -98,9 +108,7 @@ impl<R: Files<File = File>> OsFiles<'_, R> {
 
     /// A new file at the path, whose own file is put away. The new one has its lock before it comes there.
     fn next_file(&self, path: &str) -> io::Result<File> {
-        let new = format!(in self.alloc; "{path}.new")?;
-        let _ = remove_file(self.rt, new.as_str());
-        let file = created(self.rt, new.as_str())?;
+        let (file, new) = self.made_beside(path)?;
         match self.exchange(path, new.as_str()) {
             Ok(()) => Ok(file),
             Err(error) => {
@@ -110,14 +118,38 @@ impl<R: Files<File = File>> OsFiles<'_, R> {
         }
     }
 
+    /// A new file beside the path, and its own path, at which nothing stood: `TRACE.new`, else `TRACE.new-1`, and so on.
+    fn made_beside(&self, path: &str) -> io::Result<(File, String)> {
+        let mut new = format!(in self.alloc; "{path}.new")?;
+        for number in 1..NAMES {
+            match self.created(new.as_str()) {
+                Ok(file) => return Ok((file, new)),
+                Err(error) if error.kind() == ErrorKind::AlreadyExists => {}
+                Err(error) => return Err(error),
+            }
+            new = format!(in self.alloc; "{path}.new-{number}")?;
+        }
+        Ok((self.created(new.as_str())?, new))
+    }
+
+    /// A new file, under its lock, which no more users may read than the one before.
+    fn created(&self, path: &str) -> io::Result<File> {
+        let mode = self.file.metadata()?.mode();
+        let file = OpenOptions::new()
+            .write(true)
+            .create_new(true)
+            .mode(mode & MODES)
+            .open(self.rt, path)?;
+        let _ = takes_lock(&file);
+        Ok(file)
+    }
+
     /// Gives the file at the path the name of a piece, where it is the trace's own, and another file that of the path.
     fn exchange(&self, path: &str, new: &str) -> io::Result<()> {
         match metadata(self.rt, path) {
             Ok(found) if !found.is_file() => return Err(io::Error::other("it is no plain file")),
             Ok(found) if are_same(&found, &self.file.metadata()?) => {
-                let newest = newest_piece(self.rt, self.alloc, path)?;
-                let piece = piece_path(self.alloc, path, newest.saturating_add(1))?;
-                name_piece(self.rt, path, piece.as_str())?;
+                return self.exchange_piece(path, new);
             }
             Ok(_) => return Err(io::Error::other("another file stands there")),
             Err(error) if error.kind() == ErrorKind::NotFound => {}
@@ -125,25 +157,43 @@ impl<R: Files<File = File>> OsFiles<'_, R> {
         }
         rename(self.rt, new, path)
     }
-}
 
-/// Gives a file the name of a piece, which no file has. Where the file system lets it, the file has both names until the
-/// new one comes.
-fn name_piece<R: Files>(rt: &R, path: &str, piece: &str) -> io::Result<()> {
-    match hard_link(rt, path, piece) {
-        Err(error) if error.kind() != ErrorKind::AlreadyExists => rename(rt, path, piece),
-        linked => linked,
+    /// The same, of the trace's own file. Where the file system lets it, that has both names until the new one comes; where
+    /// this fails it keeps its own alone.
+    fn exchange_piece(&self, path: &str, new: &str) -> io::Result<()> {
+        let newest = newest_piece(self.rt, self.alloc, path)?;
+        let Some(number) = newest.checked_add(1) else {
+            return Err(io::Error::other("a piece has the greatest number"));
+        };
+        let piece = piece_path(self.alloc, path, number)?;
+        let is_linked = has_linked(self.rt, path, piece.as_str())?;
+        if !is_linked {
+            rename(self.rt, path, piece.as_str())?;
+        }
+        let exchanged = rename(self.rt, new, path);
+        if exchanged.is_err() && is_linked {
+            let _ = remove_file(self.rt, piece.as_str());
+        }
+        exchanged
     }
 }
 
-/// A new file, under its lock.
-fn created<R: Files<File = File>>(rt: &R, path: &str) -> io::Result<File> {
-    let file = OpenOptions::new()
-        .write(true)
-        .create_new(true)
-        .open(rt, path)?;
-    let _ = takes_lock(&file);
-    Ok(file)
+/// Gives a file a name more, which no file has. False where it can't have two.
+fn has_linked<R: Files>(rt: &R, path: &str, other: &str) -> io::Result<bool> {
+    match hard_link(rt, path, other) {
+        Ok(()) => Ok(true),
+        Err(error) if is_without_links(&error) => Ok(false),
+        Err(error) => Err(error),
+    }
+}
+
+/// A file system answers so where it has no links, or none from one to the other.
+fn is_without_links(error: &io::Error) -> bool {
+    error.raw_os_error() == Some(NO_LINKS)
+        || matches!(
+            error.kind(),
+            ErrorKind::Unsupported | ErrorKind::CrossesDevices | ErrorKind::TooManyLinks
+        )
 }
 
 impl<R: Files<File = File>> Write for OsFiles<'_, R> {
@@ -153,6 +203,7 @@ impl<R: Files<File = File>> Write for OsFiles<'_, R> {
 
     fn write(&mut self, buf: &[u8]) -> io::Result<usize> {
         self.begin()?;
+        refuse_too_large(&self.file, self.length, buf.len())?;
         let count = self.file.write(buf)?;
         self.length = self.length.saturating_add(count as u64);
         self.taken = Noted::of::<(&Noted<ByteList>, &[u8], usize), Taken>(&(
@@ -180,7 +231,7 @@ impl<R: Files<File = File>> TraceFiles for OsFiles<'_, R> {
     }
 
     fn begin_anew(&mut self, path: &str) -> io::Result<()> {
-        let file = created(self.rt, path)?;
+        let file = self.created(path)?;
         self.go_on_in(file);
         Ok(())
     }

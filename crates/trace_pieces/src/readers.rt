@@ -67,7 +67,7 @@ impl<'a, R: Files<File = File> + Eprint> TraceReader<'a, R> {
 
     /// Goes back to the piece in which the run begins; where none is such a piece, the file at the path is read alone.
     fn go_back(&mut self) -> io::Result<()> {
-        let newest = newest_piece(self.rt, self.alloc, self.path.as_str())?;
+        let newest = self.newest()?;
         let mut behind = written(&self.file.metadata()?);
         for number in (1..=newest).rev() {
             let mut file = self.piece(number)?;
@@ -83,6 +83,22 @@ impl<'a, R: Files<File = File> + Eprint> TraceReader<'a, R> {
             }
         }
         Ok(())
+    }
+
+    /// The number of the newest piece. Where none stands beside the path, which is a link, the trace is the file to which it
+    /// leads, where one stands beside that.
+    fn newest(&mut self) -> io::Result<u64> {
+        let newest = newest_piece(self.rt, self.alloc, self.path.as_str())?;
+        if newest > 0 {
+            return Ok(newest);
+        }
+        let file = self.rt.canonicalize(self.alloc, self.path.as_str())?;
+        let path = String::from_str(self.alloc, file.as_path().as_str())?;
+        let newest = newest_piece(self.rt, self.alloc, path.as_str())?;
+        if newest > 0 {
+            self.path = path;
+        }
+        Ok(newest)
     }
 
     /// Opens a piece.
