@@ -1,7 +1,8 @@
 //! The bell of a channel: a FIFO beside it, which whoever appends a request may ring, so that a pause ends at once.
 
 use crate::boxes::boxed;
-use host_messages::Trouble;
+use host_messages::{Trouble, tell_other_owner};
+use libc::geteuid;
 use libc::net::{POLLIN, poll};
 use libc::types::pollfd;
 use std::alloc::{AllocError, Allocator};
@@ -76,8 +77,8 @@ impl<A: Allocator + Copy> Bell<A> {
         }
     }
 
-    /// Opens the FIFO that stands at the path, where it isn't open.
-    fn listen<R: Files<File = File>>(&mut self, rt: &R) -> io::Result<()> {
+    /// Opens the FIFO that stands at the path, where it isn't open. Of another user's that is told.
+    fn listen<R: Files<File = File> + Eprint>(&mut self, rt: &R) -> io::Result<()> {
         let found = found_at(rt, self.path.as_str());
         let Ok(Some(found)) = found else {
             self.open = None;
@@ -90,6 +91,9 @@ impl<A: Allocator + Copy> Bell<A> {
             self.file = file;
             self.open = None;
             let path = self.path.as_str();
+            if found.uid() != geteuid() {
+                tell_other_owner(rt, path, geteuid(), found.uid(), "wakes init");
+            }
             self.open = Some(OpenOptions::new().read(true).write(true).open(rt, path)?);
         }
         Ok(())

@@ -5,8 +5,7 @@ ghost use Rattle.program_io.specs.declared.channel_files.TheConstants.{REQUEST};
 ghost use Rattle.host_files.specs.Channels.{ChannelCall};
 ghost use Rattle.host_files.specs.Channels.ChannelCall.{found, read};
 
-use host_telling::{Noted, Reads};
-use program_io::{ChannelLock, REQUEST, lock_channel};
+use program_io::{ChannelLock, Noted, REQUEST, Reads, lock_channel};
 use std::fs::{File, Metadata};
 use std::io::{Error, ErrorKind, Read, Seek, SeekFrom};
 use std::marker::{Model, PhantomData};

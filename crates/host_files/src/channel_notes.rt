@@ -3,9 +3,11 @@
 use crate::channel_files::FoundFile;
 use crate::places::Place;
 use host_messages::{
-    PassedOver, Trouble, tell_made_anew, tell_old, tell_other_owner, tell_torn, tell_written_over,
+    PassedOver, Trouble, tell_made_anew, tell_old, tell_other_owner, tell_torn, tell_whole,
+    tell_written_over,
 };
 use initctl_frame::{HeardRequest, decode};
+use libc::geteuid;
 use program_io::REQUEST;
 use std::io;
 use std::rt::Clock;
@@ -13,6 +15,9 @@ use std::time::{Duration, Instant};
 
 /// After how many microseconds what was begun is taken for done.
 pub(crate) const LOOK: u64 = 40_000;
+
+/// After how many microseconds without a byte more a request that was begun is taken for torn.
+const TORN: u64 = 3_000_000;
 
 /// What is noted of a channel.
 #[derive(Drop)]
@@ -27,8 +32,9 @@ pub(crate) struct ChannelNotes {
     changed: Option<Instant>,
     hearing: Trouble,
     passed_over: PassedOver,
-    /// How many bytes it had when it was last read to an end that is not a request's.
+    /// How many bytes it had when it was last read to an end that is not a request's, and since when.
     torn: u64,
+    torn_since: Option<Instant>,
     told_torn: bool,
 }
 
@@ -43,6 +49,7 @@ impl ChannelNotes {
             hearing: Trouble::new(program, "read", "read"),
             passed_over: PassedOver::new(),
             torn: 0,
+            torn_since: None,
             told_torn: false,
         }
     }
@@ -68,7 +75,7 @@ impl ChannelNotes {
         }
     }
 
-    /// Tells that this file is another than before, or of another user, or shorter than what was read.
+    /// Tells that this file is another than before, or of another user than that or init's, or shorter than what was read.
     pub fn note_file<R: Clock + Eprint>(
         &mut self,
         rt: &R,
@@ -81,9 +88,9 @@ impl ChannelNotes {
             self.resized = Instant::now(rt).ok();
             tell_made_anew(rt, path);
         }
-        let owner = self.owner.replace(found.owner).unwrap_or(found.owner);
+        let owner = self.owner.replace(found.owner).unwrap_or(geteuid());
         if owner != found.owner {
-            tell_other_owner(rt, path, owner, found.owner);
+            tell_other_owner(rt, path, owner, found.owner, "asks init for levels");
         }
     }
 
@@ -101,12 +108,12 @@ impl ChannelNotes {
         let before = self.end.unwrap_or(end);
         if before.0 != end.0 {
             self.resized = Instant::now(rt).ok();
-        } else if before != end && is_past(rt, self.resized) {
+        } else if before != end && is_past(rt, self.resized, LOOK) {
             if self.changed.is_none() {
                 self.changed = Instant::now(rt).ok();
                 return;
             }
-            if !is_past(rt, self.changed) {
+            if !is_past(rt, self.changed, LOOK) {
                 return;
             }
             tell_written_over(rt, path);
@@ -115,20 +122,25 @@ impl ChannelNotes {
         self.end = Some(end);
     }
 
-    /// Tells that its end is none of a request: where it was so the last time
-    /// too, since a writer may be in the middle, and once until it is over.
-    fn note_torn(&mut self, rt: &impl Eprint, path: &str, length: u64) {
+    /// Tells, once until it is over, that its end is none of a request, where nothing was added for some time, since a
+    /// writer may be in the middle; and that it is over.
+    fn note_torn(&mut self, rt: &(impl Clock + Eprint), path: &str, length: u64) {
         let over = length % REQUEST as u64;
         if over == 0 {
+            if self.told_torn {
+                tell_whole(rt, path);
+            }
             self.told_torn = false;
             self.torn = 0;
             return;
         }
-        if self.torn == length && !self.told_torn {
+        if self.torn != length {
+            self.torn = length;
+            self.torn_since = Instant::now(rt).ok();
+        } else if !self.told_torn && is_past(rt, self.torn_since, TORN) {
             tell_torn(rt, path, over);
             self.told_torn = true;
         }
-        self.torn = length;
     }
 
     /// Tells why init passes over a request that ends at this byte, where it does.
@@ -145,10 +157,10 @@ impl ChannelNotes {
     }
 }
 
-/// It was some time ago, or never.
-fn is_past(rt: &impl Clock, since: Option<Instant>) -> bool {
+/// It was so many microseconds ago, or never.
+fn is_past(rt: &impl Clock, since: Option<Instant>, length: u64) -> bool {
     let Some(since) = since else {
         return true;
     };
-    matches!(since.elapsed(rt), Ok(passed) if passed >= Duration::from_micros(LOOK))
+    matches!(since.elapsed(rt), Ok(passed) if passed >= Duration::from_micros(length))
 }

@@ -2,9 +2,9 @@
 
 use crate::boxes::boxed;
 use host_messages::Trouble;
-use program_io::{are_one_file, read_file, write_text};
+use program_io::{are_one_file, read_file, refuse_too_large, write_text};
 use std::alloc::{AllocError, Allocator};
-use std::fs::{OpenFile, OpenOptions};
+use std::fs::{File, OpenOptions};
 use std::io::{Error, ErrorKind};
 use std::rt::Files;
 use std::{fs, io};
@@ -75,7 +75,7 @@ impl<A: Allocator + Copy> StateFile<A> {
     }
 
     /// Writes the text beside the path and puts it there whole; then reads what is there.
-    pub fn carry<R: Files + Eprint, B: Allocator>(
+    pub fn carry<R: Files<File = File> + Eprint, B: Allocator>(
         &mut self,
         rt: &R,
         alloc: B,
@@ -89,7 +89,7 @@ impl<A: Allocator + Copy> StateFile<A> {
         back
     }
 
-    fn written_and_read<R: Files, B: Allocator>(
+    fn written_and_read<R: Files<File = File>, B: Allocator>(
         &self,
         rt: &R,
         alloc: B,
@@ -107,7 +107,7 @@ fn refusal(reason: &'static str) -> Error {
 
 /// Writes a file anew that has the text, and waits until it is on the disk. What stood at the path is taken away first,
 /// so that nothing is written through it.
-fn write_whole<R: Files>(rt: &R, path: &str, text: &[u8]) -> io::Result<()> {
+fn write_whole<R: Files<File = File>>(rt: &R, path: &str, text: &[u8]) -> io::Result<()> {
     match fs::remove_file(rt, path) {
         Err(error) if error.kind() != ErrorKind::NotFound => return Err(error),
         _ => {}
@@ -116,6 +116,7 @@ fn write_whole<R: Files>(rt: &R, path: &str, text: &[u8]) -> io::Result<()> {
         .write(true)
         .create_new(true)
         .open(rt, path)?;
+    refuse_too_large(&file, 0, text.len())?;
     write_text(&mut file, text)?;
     file.sync_all()
 }

@@ -34,10 +34,10 @@ pub fn tell_made_anew(rt: &impl Eprint, path: &str) {
     let _ = eprintln!(rt; "initd: {path} was made anew: read from its beginning");
 }
 
-/// Says that the channel was made anew by another user than it was of.
-pub fn tell_other_owner(rt: &impl Eprint, path: &str, before: u32, owner: u32) {
+/// Says of the channel, or its bell, that it is another user's than before, or than init's, and what that lets him do.
+pub fn tell_other_owner(rt: &impl Eprint, path: &str, before: u32, owner: u32, power: &str) {
     let _ = eprintln!(rt;
-        "initd: {path} is of user {owner} now, who was {before}: whoever writes it asks init for levels; where that is wrong, remove it"
+        "initd: {path} is of user {owner}, not {before}: whoever writes it {power}; where that is wrong, remove it"
     );
 }
 
@@ -53,6 +53,11 @@ pub fn tell_torn(rt: &impl Eprint, path: &str, over: u64) {
     let _ = eprintln!(rt;
         "initd: {path} has {over} bytes that are no whole request: every later request is out of step; truncate -s /384 {path}, or remove it"
     );
+}
+
+/// Says that the channel, of which that was told, ends with a whole request again.
+pub fn tell_whole(rt: &impl Eprint, path: &str) {
+    let _ = eprintln!(rt; "initd: {path} ends with a whole request again");
 }
 
 /// How many requests are told of one by one.

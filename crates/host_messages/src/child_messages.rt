@@ -12,6 +12,9 @@ use std::io::{Error, ErrorKind};
 use std::os::unix::process::ExitStatusExt;
 use std::process::ExitStatus;
 
+/// The error of waitpid(2) for a child that is none, or none any more (ECHILD).
+const NO_CHILD: i32 = 10;
+
 /// What a child did, or was sent.
 #[derive(Clone, Copy)]
 enum ChildMessage {
@@ -158,6 +161,31 @@ impl<A: Allocator + Copy> ChildMessages<A> {
             ErrorKind::NotFound => eprintln!(rt; "{program}: {id}: {executed}: not found"),
             _ => eprintln!(rt; "{program}: {id}: {executed}: {}", Reason(error)),
         };
+    }
+
+    /// Says that the id's child can't be waited for, and what to do where the system has none of its number: then no look
+    /// asks the system again.
+    pub fn tell_unwaited(&self, rt: &impl Eprint, id: &Id, number: ChildNumber, error: &Error) {
+        let id = shown(id.as_bytes());
+        let number = number.0;
+        let _ = eprintln!(rt;
+            "{}: {id} (pid {number}) cannot be waited for: {}: init no longer knows when it ends",
+            self.program,
+            Reason(error)
+        );
+        if error.raw_os_error() == Some(NO_CHILD) {
+            let _ = eprintln!(rt;
+                "{}: {id} (pid {number}): no look and no KILL is tried any more: if each child is so, start init by env --default-signal=CHLD",
+                self.program
+            );
+        }
+    }
+
+    /// Says that the id's child, of which that was told, can be waited for.
+    pub fn tell_waited(&self, rt: &impl Eprint, id: &Id, number: ChildNumber) {
+        let id = shown(id.as_bytes());
+        let number = number.0;
+        let _ = eprintln!(rt; "{}: {id} (pid {number}): waited for again", self.program);
     }
 
     /// Says how the id's last child ended, and what that mostly means.

@@ -19,12 +19,13 @@ mod troubles;
 
 pub use announcements::announcement_text;
 pub use channel_lines::{
-    PassedOver, tell_made_anew, tell_old, tell_other_owner, tell_torn, tell_written_over,
+    PassedOver, tell_made_anew, tell_old, tell_other_owner, tell_torn, tell_whole,
+    tell_written_over,
 };
 pub use child_messages::ChildMessages;
 pub use costs::ChildLine;
 pub use file_lines::{tell_log, tell_no_bell, tell_no_log, tell_passed};
-pub use line_faults::{faults_text, tell_refused, tell_too_long, tell_too_many};
+pub use line_faults::{faults_text, tell_marked, tell_refused, tell_too_long, tell_too_many};
 pub use names::{Escaped, escape, shown};
 pub use outputs::Output;
 pub use stamped_runtimes::StampedRuntime;

@@ -67,6 +67,18 @@ fn add_place<A: Allocator, B: Allocator>(
     Ok(())
 }
 
+/// Says of each part that begins with a byte order mark what to do: the line of its fault doesn't show it.
+pub fn tell_marked<B: Allocator>(rt: &impl Eprint, parts: &[Part<B>]) {
+    for part in parts {
+        if part.bytes.starts_with(b"\xef\xbb\xbf") {
+            let name = part.name.as_str();
+            let _ = eprintln!(rt;
+                "initd: {name} line 1 begins with a byte order mark: save the file without it"
+            );
+        }
+    }
+}
+
 pub fn tell_too_long(rt: &impl Eprint, path: &str) {
     let _ = eprintln!(rt;
         "initd: {path} is longer than 1048576 bytes: shorten it, and give telinit q"

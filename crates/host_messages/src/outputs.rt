@@ -1,7 +1,7 @@
 //! What init prints on standard output: its announcements, and the faults of the inittab's lines.
 
 use crate::announcements::announcement_text;
-use crate::line_faults::faults_text;
+use crate::line_faults::{faults_text, tell_marked};
 use crate::troubles::Trouble;
 use init_words::Part;
 use inittab_text::PartFault;
@@ -38,13 +38,14 @@ impl<A: Allocator + Copy> Output<A> {
         self.print(rt, announcement_text(self.alloc, happening))
     }
 
-    /// Prints the faults of the lines of an inittab's parts. Gives whether it could, which is told.
+    /// Prints the faults of the lines of an inittab's parts, and tells of byte order marks. Gives whether it could, which is told.
     pub fn print_faults<R: Print + Eprint, B: Allocator>(
         &mut self,
         rt: &R,
         parts: &[Part<B>],
         faults: &[PartFault],
     ) -> bool {
+        tell_marked(rt, parts);
         self.print(rt, faults_text(self.alloc, parts, faults))
     }
 

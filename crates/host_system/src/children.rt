@@ -26,7 +26,7 @@ use std::io;
 use std::io::ErrorKind;
 use std::marker::Model;
 use std::process::{Command, ExitStatus};
-use std::rt::Files;
+use std::rt::{Clock, Files};
 use text_lines::next_word;
 
 /// The children of a host, each under its id.
@@ -39,6 +39,8 @@ pub(crate) struct Children<S: System, A: Allocator> {
     /// The stage, and that in which an inittab was read again last.
     stage: Option<Stage>,
     read_in: Option<Stage>,
+    /// That stage isn't waited for.
+    is_settled: bool,
     /// What is told of them.
     messages: ChildMessages<A>,
 }
@@ -62,6 +64,7 @@ impl<S: System, A: Allocator + Copy> Children<S, A> {
             handles: IndexMap::new(alloc),
             stage: None,
             read_in: None,
+            is_settled: true,
             messages: ChildMessages::new(alloc, options.program, options.verbose),
         };
         Ok(boxed(alloc, children)?)
@@ -150,13 +153,13 @@ impl<S: System, A: Allocator + Copy> Children<S, A> {
     }
 
     /// Reaps the id's child if it has ended.
-    pub(crate) fn look<R: Eprint>(&mut self, rt: &R, system: &mut S, id: &Id) -> Answer
+    pub(crate) fn look<R: Eprint + Clock>(&mut self, rt: &R, system: &mut S, id: &Id) -> Answer
         ensures kind { IsTrue (is_look_answer result) }
         ensures held { Looks self.old self.new id.now (Now result) }
         ensures asked { AsksLook (number_of id.now self.old) result
             (S.told system.old) (S.told system.new) }
     {
-        match self.try_wait(system, id) {
+        match self.try_wait(rt, system, id) {
             Ok(Some(status)) => {
                 self.release(id);
                 self.messages.note_end(rt, id, &status);
@@ -168,7 +171,12 @@ impl<S: System, A: Allocator + Copy> Children<S, A> {
     }
 
     /// How the id's child ended, where it has. An id without child has none to wait for.
-    fn try_wait(&mut self, system: &mut S, id: &Id) -> io::Result<Option<ExitStatus>>
+    fn try_wait<R: Eprint + Clock>(
+        &mut self,
+        rt: &R,
+        system: &mut S,
+        id: &Id,
+    ) -> io::Result<Option<ExitStatus>>
         ensures held { OnOk result (IsTrue (holds_child id.now self.old)) }
         ensures same { self.new ≡ self.old }
         ensures asked { AsksWait (number_of id.now self.old) (waited result)
@@ -177,7 +185,7 @@ impl<S: System, A: Allocator + Copy> Children<S, A> {
         let Some(held) = self.handles.get_mut(id) else {
             return Err(io::Error::from(ErrorKind::NotFound));
         };
-        held.try_wait(system)
+        held.try_wait(system, rt, &self.messages, id, self.is_settled)
     }
 
     /// Holds the id's child no longer.
@@ -197,6 +205,14 @@ impl<S: System, A: Allocator + Copy> Children<S, A> {
         ensures { self.new ≡ self.old }
     {
         self.stage = Some(stage);
+        self.is_settled = false;
+    }
+
+    /// The level is settled.
+    pub(crate) fn settle(&mut self)
+        ensures { self.new ≡ self.old }
+    {
+        self.is_settled = true;
     }
 
     /// Notes what an inittab that was read again has for each child.

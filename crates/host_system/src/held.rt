@@ -11,6 +11,11 @@ use std::alloc::Allocator;
 use std::io;
 use std::marker::Model;
 use std::process::ExitStatus;
+use std::rt::Clock;
+use std::time::{Duration, Instant};
+
+/// After how many seconds it is told again that a child can't be waited for.
+const AGAIN: u64 = 60;
 
 /// A child with the number that it was born with, and whether TERM could be sent to it.
 #[derive(Drop)]
@@ -18,6 +23,9 @@ pub(crate) struct HeldChild<S: System> {
     number: ChildNumber,
     process: S::Started,
     stopping: Trouble,
+    /// It is told that it can't be waited for, and when that was.
+    is_unwaited: bool,
+    told: Option<Instant>,
     /// What an inittab that was read since its birth has for it.
     line: Option<ChildLine>,
 }
@@ -41,6 +49,8 @@ impl<S: System> HeldChild<S> {
             number: ChildNumber(system.number_of(&process)),
             process,
             stopping: Trouble::new(program, "send TERM to", "TERM was sent"),
+            is_unwaited: false,
+            told: None,
             line: None,
         }
     }
@@ -52,13 +62,58 @@ impl<S: System> HeldChild<S> {
         self.number
     }
 
-    /// How it ended, where it has (waitpid(2) with WNOHANG).
-    pub(crate) fn try_wait(&mut self, system: &mut S) -> io::Result<Option<ExitStatus>>
+    /// How it ended, where it has (waitpid(2) with WNOHANG). That it can't be waited for is told, and again from time to
+    /// time while the stage waits; and that it can be again.
+    pub(crate) fn try_wait<R: Eprint + Clock, A: Allocator + Copy>(
+        &mut self,
+        system: &mut S,
+        rt: &R,
+        messages: &ChildMessages<A>,
+        id: &Id,
+        is_settled: bool,
+    ) -> io::Result<Option<ExitStatus>>
         ensures same { self.new ≡ self.old }
         ensures asked { S.told system.new
             ≡ try_wait self.old (waited result) ∷ S.told system.old }
     {
-        system.try_wait(&mut self.process)
+        let said = system.try_wait(&mut self.process);
+        match &said {
+            Ok(_) => self.tell_waited(rt, messages, id),
+            Err(error) => self.tell_unwaited(rt, messages, id, error, is_settled),
+        }
+        said
+    }
+
+    fn tell_waited<A: Allocator + Copy>(
+        &mut self,
+        rt: &impl Eprint,
+        messages: &ChildMessages<A>,
+        id: &Id,
+    )
+        ensures { self.new ≡ self.old }
+    {
+        if self.is_unwaited {
+            self.is_unwaited = false;
+            messages.tell_waited(rt, id, self.number);
+        }
+    }
+
+    fn tell_unwaited<R: Eprint + Clock, A: Allocator + Copy>(
+        &mut self,
+        rt: &R,
+        messages: &ChildMessages<A>,
+        id: &Id,
+        error: &io::Error,
+        is_settled: bool,
+    )
+        ensures { self.new ≡ self.old }
+    {
+        if self.is_unwaited && (is_settled || !is_past(rt, self.told)) {
+            return;
+        }
+        self.is_unwaited = true;
+        self.told = Instant::now(rt).ok();
+        messages.tell_unwaited(rt, id, self.number, error);
     }
 
     /// Sends it the signal, and gives whether that was done: TERM by the shell, of which it is told what fails, and KILL
@@ -112,4 +167,12 @@ impl<S: System> HeldChild<S> {
             _ => {}
         }
     }
+}
+
+/// It was told long enough ago to tell it again.
+fn is_past(rt: &impl Clock, told: Option<Instant>) -> bool {
+    let Some(told) = told else {
+        return false;
+    };
+    matches!(told.elapsed(rt), Ok(passed) if passed >= Duration::from_secs(AGAIN))
 }

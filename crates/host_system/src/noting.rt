@@ -2,7 +2,7 @@
 
 ghost use Rattle.std.specs.Prelude.{◌≡◌, []};
 
-use host_telling::{Noted, Reads};
+use program_io::{Noted, Reads};
 use std::alloc::Allocator;
 use std::io;
 use std::marker::{Model, PhantomData};

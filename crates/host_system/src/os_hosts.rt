@@ -14,10 +14,10 @@ use crate::systems::System;
 use host_calls::{Host, HostFault, Reply, counted, is_failed_reply};
 use host_files::{Channel, ChannelCallList, InittabFiles, OsChannelFile, StateFile, boxed};
 use host_messages::{Output, tell_refused};
-use host_telling::{CallList, Noted, adding, no_calls};
+use host_telling::{CallList, adding, no_calls};
 use init_words::{Answer, Id, Memory, Part, SignalKind};
 use inittab_text::read_parts;
-use program_io::ChannelLock;
+use program_io::{ChannelLock, Noted};
 use std::alloc::{Allocator, Global};
 use std::fs::File;
 use std::io;
@@ -490,6 +490,7 @@ impl<
         host.told = adding::and_call::<_, adding::Announce>(&host.told, happening);
         match happening {
             Happening::Enter(stage, _) => host.children.enter(*stage),
+            Happening::Settle(_) => host.children.settle(),
             Happening::Hold(id) => host.children.tell_last_end(&host.rt, id),
             _ => {}
         }

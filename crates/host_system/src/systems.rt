@@ -10,7 +10,7 @@ use crate::noting::{
     Killed, Ran, Spawned, Started, SystemCallList, Terminated, Waited, noted, nothing_asked,
 };
 use crate::terms::TermSender;
-use host_telling::Noted;
+use program_io::Noted;
 use std::alloc::Allocator;
 use std::io;
 use std::process::{Child, Command, ExitStatus, OpenProcess, Processes};
