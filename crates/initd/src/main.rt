@@ -2,12 +2,13 @@
 #![tactic(auto)]
 
 use initd_command::{OsHosts, SHORT_USAGE, run_words};
-use program_io::{StandardFiles, report_unread_words, words};
+use program_io::{Reports, StandardFiles, report_unread_words, words};
 use std::process::ExitCode;
 use trace_files::OsTraces;
 
 fn main(rt: HostRuntime) -> ExitCode {
     let _standard = StandardFiles::hold(&rt);
+    let mut err = Reports::to(rt.stderr());
     let status = match words(&rt, rt.alloc()) {
         Ok(words) => run_words(
             &rt,
@@ -17,9 +18,9 @@ fn main(rt: HostRuntime) -> ExitCode {
             rt.alloc(),
             words,
             &mut rt.stdout(),
-            &mut rt.stderr(),
+            &mut err,
         ),
-        Err(error) => report_unread_words("initd", SHORT_USAGE, &error, &mut rt.stderr()),
+        Err(error) => report_unread_words("initd", SHORT_USAGE, &error, &mut err),
     };
     ExitCode::from(status)
 }

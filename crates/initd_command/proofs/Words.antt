@@ -33,6 +33,7 @@ pub use Rattle.initd_options.specs.CommandLine.{InitdSaid, judges, runs, simulat
 pub use Rattle.initd_options.specs.CommandLine.{initd_read_of, simulation_of}
 pub use Rattle.initd_command.specs.Turned.{End, ReportsText, listed_after}
 pub use Rattle.initd_command.specs.Ran.{AsksSaid, MakesLogged, MakesTraced, RanBy, RunTold, AsksBy}
+pub use Rattle.program_io.specs.Reports.{HasReported, ReportList}
 pub use Rattle.program_io.specs.Writing.{AppendsPrefix}
 pub use Rattle.initd_command.specs.Verdicts.{cut_at, within_of, breach_message, unlawful_text, EndsFound, judged_of}
 pub use Rattle.initd_command.specs.Verdicts.{verdict_of}

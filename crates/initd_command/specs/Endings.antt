@@ -1,21 +1,21 @@
 -- How a command line of initd ends: its exit status, what was written, and what is reported of it.
 use Rattle.std.specs.Prelude.{◌≡◌, ◌&&◌, not, ℕ, Bool, true, false, if◌then◌else◌, List, [], ◌∷◌, ◌++◌, codes, decimal}
-use Rattle.std.specs.Prelude.{Option, Some, None, unwrap_or, string_bytes}
+use Rattle.std.specs.Prelude.{Option, Some, None, option_map, unwrap_or, string_bytes}
 use Rattle.std.specs.Io.KnownBytes.{Keeps}
 use Rattle.std.specs.Str.{bytes_eq}
-use Rattle.initd_command.specs.Words.{AppendsPrefix, DONE, REFUSED, UNLAWFUL, DEVICE_FAULT, SimFault}
+use Rattle.initd_command.specs.Words.{HasReported, ReportList, DONE, REFUSED, UNLAWFUL, DEVICE_FAULT, SimFault}
 use Rattle.simulator.specs.declared.running.SimFault.TheVariants as fault
 use Rattle.simulator.specs.Faults.{fault_text}
 use Rattle.simulator.specs.declared.objections.Objection.{Objection}
 use Rattle.simulator.specs.Objections.{objection_text}
 use Rattle.initd_command.specs.Lines.{line_at, line_told}
 use Rattle.initd_command.specs.declared.check.TheConstants.{UNWRITTEN}
-use Rattle.initd_command.specs.declared.reports.TheConstants.{FLAWED, NO_MEMORY, TOO_MANY}
+use Rattle.initd_command.specs.declared.reports.TheConstants.{FLAWED, NO_MEMORY, TOO_MANY, UNWAITED}
 use Rattle.initd_command.specs.declared.command.TheConstants.{CHECK_USAGE, RUN_USAGE, SHORT_USAGE, SIMULATE_USAGE}
 use Rattle.initd_command.specs.declared.command.TheConstants.{UNVERSIONED, VERSION_USAGE}
 use Rattle.initd_command.specs.declared.run.Obstacle.{Obstacle}
 use Rattle.initd_command.specs.declared.run.Obstacle.TheVariants as why
-use Rattle.initd_command.specs.declared.run.TheConstants.{UNLED, UNTOLD}
+use Rattle.initd_command.specs.declared.run.TheConstants.{UNLED, UNPRINTED, UNTOLD}
 use Rattle.initd_command.specs.Turned.{End, ReportsEnd, ReportsText, end_status}
 use Rattle.command_words.specs.Faults.{usage_report}
 
@@ -117,14 +117,14 @@ unfinished_message line verdict =
     codes "initd: the happening at trace line "
     ++ (decimal line ++ (codes " is not finished: --growing judges what stands before it: " ++ verdict))
 
--- by the number of the process that holds it, where that is known
-abbrev pub busy_message : List ℕ → Option ℕ → List ℕ
+-- by the name and the number of the process that holds it, where they are known
+abbrev pub busy_message : List ℕ → Option (List ℕ) → List ℕ
 busy_message path None =
     codes "initd: " ++ path
     ++ codes " is in use by another initd run: end that one, or give this one a file of its own\n"
 busy_message path (Some holder) =
-    codes "initd: " ++ (path ++ (codes " is in use by initd run "
-    ++ (decimal holder ++ codes ": end that one, or give this one a file of its own\n")))
+    codes "initd: " ++ (path ++ (codes " is in use by "
+    ++ (holder ++ codes ": end that one, or give this one a file of its own\n")))
 
 abbrev pub shared_message : List ℕ → List ℕ → List ℕ
 shared_message one other =
@@ -135,45 +135,47 @@ abbrev pub unlisted_message : List ℕ → List ℕ
 unlisted_message id = codes "initd: no entry has the id " ++ (id ++ codes ": give --result an id of the inittab\n")
 
 -- the faults of an inittab that is to have none, and that it isn't taken
-abbrev pub ReportsFlawed : List ℕ → Option (List ℕ) → Option (List ℕ) → Type 0
-ReportsFlawed told old new = (mid : Option (List ℕ)) × AppendsPrefix old mid told × AppendsPrefix mid new FLAWED.now
+abbrev pub ReportsFlawed : List ℕ → ReportList → ReportList → Type 0
+ReportsFlawed told old new = (mid : ReportList) × HasReported old mid told × HasReported mid new FLAWED.now
 
 -- a text is reported where that is so
-abbrev pub ReportsWhere : Bool → List ℕ → Option (List ℕ) → Option (List ℕ) → Type 0
-ReportsWhere true text old new = AppendsPrefix old new text
-ReportsWhere false text old new = Keeps old new
+abbrev pub ReportsWhere : Bool → List ℕ → ReportList → ReportList → Type 0
+ReportsWhere true text old new = HasReported old new text
+ReportsWhere false text old new = new ≡ old
 
 -- what is told of a happening that isn't finished
-abbrev pub ReportsLeft : Option ℕ → Option (List ℕ) → Option (List ℕ) → Type 0
-ReportsLeft None old new = Keeps old new
+abbrev pub ReportsLeft : Option ℕ → ReportList → ReportList → Type 0
+ReportsLeft None old new = new ≡ old
 ReportsLeft (Some line) old new = ReportsText (left_message line) old new
 
 -- what is told of a trace that begins within a run
-abbrev pub ReportsWithin : Option (List ℕ) → Option (List ℕ) → Option (List ℕ) → Type 0
-ReportsWithin None old new = Keeps old new
+abbrev pub ReportsWithin : Option (List ℕ) → ReportList → ReportList → Type 0
+ReportsWithin None old new = new ≡ old
 ReportsWithin (Some path) old new = ReportsText (within_message path) old new
 
 abbrev pub count_message : ℕ → List ℕ
 count_message count = codes "initd: " ++ decimal count ++ codes " happenings\n"
 
 -- what is told of a trace that was judged: that it begins within a run, how many happenings it has, what isn't finished
-abbrev pub ReportsJudged : Judged → Option (List ℕ) → Option (List ℕ) → Type 0
+abbrev pub ReportsJudged : Judged → ReportList → ReportList → Type 0
 ReportsJudged judged old new =
-    (first : Option (List ℕ)) × ReportsWithin judged.within old first
-    × (mid : Option (List ℕ)) × ReportsText (count_message judged.count) first mid × ReportsLeft judged.left mid new
+    (first : ReportList) × ReportsWithin judged.within old first
+    × (mid : ReportList) × ReportsText (count_message judged.count) first mid × ReportsLeft judged.left mid new
 
 -- what could not be done with a file is reported, and why
-abbrev pub ReportsCannot : List ℕ → List ℕ → Option (List ℕ) → Option (List ℕ) → Type 0
+abbrev pub ReportsCannot : List ℕ → List ℕ → ReportList → ReportList → Type 0
 ReportsCannot verb path old new = (reason : List ℕ) × ReportsText (cannot_message verb path reason) old new
 
-abbrev pub ReportsObstacle : Obstacle → Option (List ℕ) → Option (List ℕ) → Type 0
+abbrev pub ReportsObstacle : Obstacle → ReportList → ReportList → Type 0
 ReportsObstacle (why.Unread path error) old new = ReportsCannot (codes "read") (string_bytes path) old new
-ReportsObstacle why.Memory old new = AppendsPrefix old new NO_MEMORY.now
-ReportsObstacle why.TooMany old new = AppendsPrefix old new TOO_MANY.now
+ReportsObstacle why.Memory old new = HasReported old new NO_MEMORY.now
+ReportsObstacle why.Unwaited old new = HasReported old new UNWAITED.now
+ReportsObstacle why.TooMany old new = HasReported old new TOO_MANY.now
 ReportsObstacle why.TooLong old new = ReportsText (fault_message [] fault.Table) old new
 ReportsObstacle (why.Flawed told) old new = ReportsFlawed told.items old new
 ReportsObstacle (why.Unlisted id) old new = ReportsText (unlisted_message id) old new
-ReportsObstacle (why.Busy path holder) old new = ReportsText (busy_message (string_bytes path) holder) old new
+ReportsObstacle (why.Busy path holder) old new =
+    ReportsText (busy_message (string_bytes path) (option_map string_bytes holder)) old new
 ReportsObstacle (why.Shared one other) old new =
     ReportsText (shared_message (string_bytes one) (string_bytes other)) old new
 ReportsObstacle (why.Unlocked path error) old new = ReportsCannot (codes "lock") (string_bytes path) old new
@@ -192,36 +194,37 @@ usage_named [] = None
 usage_named (command ∷ words) = usage_of command
 
 -- the usage of all commands is reported
-abbrev pub ReportsAll : Option (List ℕ) → Option (List ℕ) → Type 0
+abbrev pub ReportsAll : ReportList → ReportList → Type 0
 ReportsAll old new =
-    (run simulate check : Option (List ℕ)) × AppendsPrefix old run RUN_USAGE.now
-    × AppendsPrefix run simulate SIMULATE_USAGE.now × AppendsPrefix simulate check CHECK_USAGE.now
-    × AppendsPrefix check new VERSION_USAGE.now
+    (run simulate check : ReportList) × HasReported old run RUN_USAGE.now
+    × HasReported run simulate SIMULATE_USAGE.now × HasReported simulate check CHECK_USAGE.now
+    × HasReported check new VERSION_USAGE.now
 
 -- what is reported of words that are refused, by the usage of the command that they begin with and the reason, which is
 -- empty where help is asked for
-abbrev pub ReportsRefused : Option (List ℕ) → List ℕ → Option (List ℕ) → Option (List ℕ) → Type 0
+abbrev pub ReportsRefused : Option (List ℕ) → List ℕ → ReportList → ReportList → Type 0
 ReportsRefused None [] old new = ReportsAll old new
 ReportsRefused help reason old new =
-    AppendsPrefix old new (usage_report (codes "initd") reason (unwrap_or help []) SHORT_USAGE.now)
+    HasReported old new (usage_report (codes "initd") reason (unwrap_or help []) SHORT_USAGE.now)
 
 -- what is reported of an ending
-abbrev pub Reports : Ending → Option (List ℕ) → Option (List ℕ) → Type 0
-Reports done old new = Keeps old new
+abbrev pub Reports : Ending → ReportList → ReportList → Type 0
+Reports done old new = new ≡ old
 Reports (usage help reason) old new = ReportsRefused help reason old new
 Reports (refused obstacle) old new = ReportsObstacle obstacle old new
 Reports (stopped script f) old new = ReportsText (fault_message script f) old new
 Reports unflushed old new = ReportsText (fault_message [] fault.Write) old new
 Reports (lawful judged) old new = ReportsJudged judged old new
 Reports (unlawful message judged) old new =
-    (mid : Option (List ℕ)) × AppendsPrefix old mid message × ReportsJudged judged mid new
+    (mid : ReportList) × HasReported old mid message × ReportsJudged judged mid new
 Reports (torn line) old new = ReportsText (torn_message line) old new
 Reports (unfinished line verdict) old new = ReportsText (unfinished_message line verdict) old new
-Reports unwritten old new = AppendsPrefix old new UNWRITTEN.now
+Reports unwritten old new = HasReported old new UNWRITTEN.now
 Reports (turned spoken end) old new =
-    (first : Option (List ℕ)) × ReportsWhere (not spoken.told) UNTOLD.now old first
-    × (mid : Option (List ℕ)) × ReportsWhere spoken.unled UNLED.now first mid × ReportsEnd end mid new
-Reports unversioned old new = AppendsPrefix old new UNVERSIONED.now
+    (first : ReportList) × ReportsWhere (not spoken.told) UNTOLD.now old first
+    × (mid : ReportList) × ReportsWhere spoken.unled UNLED.now first mid
+    × (last : ReportList) × ReportsEnd end mid last × ReportsWhere (not spoken.printed) UNPRINTED.now last new
+Reports unversioned old new = HasReported old new UNVERSIONED.now
 
 -- the file of this path was not read, and nothing was written
 abbrev pub EndsUnread : List ℕ → Ending → Option (List ℕ) → Option (List ℕ) → Type 0

@@ -68,7 +68,7 @@ entry_end last entry = option_map (λ id. record { id = id; last = last }) entry
 
 -- how turns end: the trace was written whole or not, and the run was to end where it is drained, and is
 abbrev pub turns_at : RunSaid → Noted → Bool → Bool → TurnsEnd
-turns_at service noted false _ = unlogged noted.waiting
+turns_at service noted false ends = unlogged (not ends) noted.waiting
 turns_at service noted true true = drained (entry_end noted.last service.result)
 turns_at service noted true false = limited noted.running noted.waiting
 
@@ -153,11 +153,12 @@ abbrev pub AreApart : List (List ℕ) → Type 0
 AreApart [] = ⊤
 AreApart (path ∷ paths) = AllByRecursion (λ other. path ≢ other) paths × AreApart paths
 
--- what is in the way of a run
+-- what is in the way of a run; of signals nothing is known
 abbrev pub IsInWay : KnownTexts → RunSaid → Obstacle → Type 0
 IsInWay text_at service (why.Unread path error) = (string_bytes path ≡ service.inittab)
     ⊎ ((folder : List ℕ) × (service.inittab_dir ≡ Some folder) × IsWithin folder (string_bytes path))
 IsInWay text_at service why.Memory = ⊤
+IsInWay text_at service why.Unwaited = ⊤
 IsInWay text_at service why.TooMany =
     (parts : List NamedText) × AreFiles text_at service parts × AreTooMany (texts_of parts)
 IsInWay text_at service why.TooLong =

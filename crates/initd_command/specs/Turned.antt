@@ -1,8 +1,7 @@
 -- How the turns of a run ended: its exit status, and what is reported.
-use Rattle.std.specs.Prelude.{◌⊎◌, ◌||◌, ◌==◌, if◌then◌else◌, unwrap_or, ℕ, Bool, true, false, List, [], ◌∷◌, ◌++◌}
+use Rattle.std.specs.Prelude.{◌≡◌, ◌⊎◌, ◌||◌, ◌==◌, if◌then◌else◌, unwrap_or, ℕ, Bool, true, false, List, [], ◌∷◌, ◌++◌}
 use Rattle.std.specs.Prelude.{codes, decimal, Option, Some, None}
-use Rattle.std.specs.Io.KnownBytes.{Keeps}
-use Rattle.initd_command.specs.Words.{AppendsPrefix, DONE, UNLAWFUL, LIMIT_REACHED, DEVICE_FAULT, Judgement, Status}
+use Rattle.initd_command.specs.Words.{HasReported, ReportList, DONE, UNLAWFUL, LIMIT_REACHED, DEVICE_FAULT, Judgement, Status}
 use Rattle.initd_command.specs.Words.{law_words}
 use Rattle.init_words.specs.declared.children.Status.TheVariants.{Exit, Killed}
 use Rattle.trace_log_wrappers.specs.declared.judgements.Judgement.TheVariants.{Lawful, Breach, Unjudged}
@@ -16,11 +15,11 @@ pub record EntryEnd : Type 0 where
 
 -- it ended drained, with an entry's result or without one; it made all its turns, and these children with their numbers
 -- go on, or there was no memory to note them all, and these lines tell what init waits for; or its trace was not
--- written whole, and so do these
+-- written whole, it made all its turns or not, and so do these
 pub data TurnsEnd : Type 0 where
   drained : Option EntryEnd → TurnsEnd
   limited : Option (List (List ℕ × ℕ)) → List ℕ → TurnsEnd
-  unlogged : List ℕ → TurnsEnd
+  unlogged : Bool → List ℕ → TurnsEnd
 
 -- how the turns ended, whether their trace was written whole, and what was found of them, where they were to be judged
 pub record End : Type 0 where
@@ -54,7 +53,7 @@ judged_status (Some judgement) status =
 abbrev pub turns_status : TurnsEnd → ℕ
 turns_status (drained result) = drained_status result
 turns_status (limited running waiting) = LIMIT_REACHED
-turns_status (unlogged waiting) = DEVICE_FAULT
+turns_status (unlogged is_limited waiting) = DEVICE_FAULT
 
 abbrev pub end_status : End → ℕ
 end_status end = judged_status end.judgement (turns_status end.turns)
@@ -97,34 +96,41 @@ judgement_text whole (Breach position law) = breach_text position (law_words law
 judgement_text whole Unjudged = UNJUDGED.now
 
 -- the text is reported, as far as the writer takes it, or that there was no memory for it
-abbrev pub ReportsText : List ℕ → Option (List ℕ) → Option (List ℕ) → Type 0
-ReportsText text old new = AppendsPrefix old new text ⊎ AppendsPrefix old new NO_MEMORY.now
+abbrev pub ReportsText : List ℕ → ReportList → ReportList → Type 0
+ReportsText text old new = HasReported old new text ⊎ HasReported old new NO_MEMORY.now
 
-abbrev pub ReportsResult : Option EntryEnd → Option (List ℕ) → Option (List ℕ) → Type 0
-ReportsResult None old new = Keeps old new
+abbrev pub ReportsResult : Option EntryEnd → ReportList → ReportList → Type 0
+ReportsResult None old new = new ≡ old
 ReportsResult (Some entry) old new = ReportsText (result_text entry) old new
 
 -- what is reported of the children that go on
-abbrev pub ReportsRunning : Option (List (List ℕ × ℕ)) → Option (List ℕ) → Option (List ℕ) → Type 0
-ReportsRunning None old new = AppendsPrefix old new UNNAMED.now
-ReportsRunning (Some []) old new = Keeps old new
+abbrev pub ReportsRunning : Option (List (List ℕ × ℕ)) → ReportList → ReportList → Type 0
+ReportsRunning None old new = HasReported old new UNNAMED.now
+ReportsRunning (Some []) old new = new ≡ old
 ReportsRunning (Some (child ∷ children)) old new = ReportsText (running_text (child ∷ children)) old new
 
 -- what is reported of a run that was to be judged
-abbrev pub ReportsJudgement : Bool → Option Judgement → Option (List ℕ) → Option (List ℕ) → Type 0
-ReportsJudgement whole None old new = Keeps old new
+abbrev pub ReportsJudgement : Bool → Option Judgement → ReportList → ReportList → Type 0
+ReportsJudgement whole None old new = new ≡ old
 ReportsJudgement whole (Some judgement) old new = ReportsText (judgement_text whole judgement) old new
 
--- what is reported of how turns ended
-abbrev pub ReportsTurns : TurnsEnd → Option (List ℕ) → Option (List ℕ) → Type 0
+-- what is reported where all turns were made
+abbrev pub ReportsLimit : Option (List (List ℕ × ℕ)) → List ℕ → ReportList → ReportList → Type 0
+ReportsLimit running waiting old new =
+    (limit : ReportList) × HasReported old limit LIMITED.now
+    × (mid : ReportList) × ReportsRunning running limit mid × ReportsText waiting mid new
+
+-- what is reported of how turns ended; which children are named where the trace was not written whole is not said
+abbrev pub ReportsTurns : TurnsEnd → ReportList → ReportList → Type 0
 ReportsTurns (drained result) old new = ReportsResult result old new
-ReportsTurns (limited running waiting) old new =
-    (limit : Option (List ℕ)) × AppendsPrefix old limit LIMITED.now
-    × (mid : Option (List ℕ)) × ReportsRunning running limit mid × ReportsText waiting mid new
-ReportsTurns (unlogged waiting) old new =
-    (mid : Option (List ℕ)) × AppendsPrefix old mid UNLOGGED.now × ReportsText waiting mid new
+ReportsTurns (limited running waiting) old new = ReportsLimit running waiting old new
+ReportsTurns (unlogged true waiting) old new =
+    (lost : ReportList) × HasReported old lost UNLOGGED.now
+    × (running : Option (List (List ℕ × ℕ))) × ReportsLimit running waiting lost new
+ReportsTurns (unlogged false waiting) old new =
+    (lost : ReportList) × HasReported old lost UNLOGGED.now × ReportsText waiting lost new
 
 -- what is reported of an end
-abbrev pub ReportsEnd : End → Option (List ℕ) → Option (List ℕ) → Type 0
-ReportsEnd end old new = (mid : Option (List ℕ)) × ReportsTurns end.turns old mid
+abbrev pub ReportsEnd : End → ReportList → ReportList → Type 0
+ReportsEnd end old new = (mid : ReportList) × ReportsTurns end.turns old mid
     × ReportsJudgement end.whole end.judgement mid new

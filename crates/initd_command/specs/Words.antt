@@ -1,4 +1,5 @@
 -- The words of the definitions and clauses of this crate that come from others.
+pub use Rattle.program_io.specs.Reports.{HasReported, ReportList}
 pub use Rattle.program_io.specs.Writing.{AppendsPrefix}
 pub use Rattle.program_io.specs.declared.statuses.TheConstants.{DONE, REFUSED, UNLAWFUL, DEVICE_FAULT, LIMIT_REACHED}
 pub use Rattle.simulator.specs.declared.running.SimFault.{SimFault}

@@ -12,7 +12,7 @@ use crate::reports::{report, report_bytes, report_cannot, report_made, report_me
 use init_words::Memory;
 use initd_options::CheckWords;
 use itoa::Buffer;
-use program_io::{DEVICE_FAULT, DONE, PieceTaker, REFUSED, Texts, UNLAWFUL};
+use program_io::{DEVICE_FAULT, DONE, PieceTaker, REFUSED, Reporter, Texts, UNLAWFUL};
 use std::alloc::{AllocError, Global};
 use std::fs::File;
 use std::io;
@@ -63,7 +63,7 @@ fn file_judge(alloc: Global) -> Result<Box<FileJudge>, AllocError>
 }
 
 /// Reads a trace, with the pieces that were put away before it where they are asked for, and judges it.
-pub(crate) fn check_files<R: Files<File = File> + Eprint, T: Texts, W: Write, E: Write>(
+pub(crate) fn check_files<R: Files<File = File> + Eprint, T: Texts, W: Write, E: Reporter>(
     rt: &R,
     texts: &T,
     alloc: Global,
@@ -75,7 +75,7 @@ pub(crate) fn check_files<R: Files<File = File> + Eprint, T: Texts, W: Write, E:
         × EndsCheck (judged_at (T.text_at texts.now) (check_of options.now))
         (check_of options.now) ending
         (W.contents out.old) (W.contents out.new)
-        × Reports ending (E.contents err.old) (E.contents err.new) }
+        × Reports ending (E.reports err.old) (E.reports err.new) }
 {
     if options.pieces {
         let pieces = PiecedFiles::new(rt, alloc, "initd", false);
@@ -85,7 +85,7 @@ pub(crate) fn check_files<R: Files<File = File> + Eprint, T: Texts, W: Write, E:
 }
 
 /// Reads a trace and judges it.
-fn check_file<T: Texts, W: Write, E: Write>(
+fn check_file<T: Texts, W: Write, E: Reporter>(
     texts: &T,
     alloc: Global,
     options: &CheckWords,
@@ -95,7 +95,7 @@ fn check_file<T: Texts, W: Write, E: Write>(
     ensures { (ending : Ending) × (result ≡ status_of ending)
         × EndsCheck (T.text_at texts.now) (check_of options.now) ending
         (W.contents out.old) (W.contents out.new)
-        × Reports ending (E.contents err.old) (E.contents err.new) }
+        × Reports ending (E.reports err.old) (E.reports err.new) }
 {
     match file_judge(alloc) {
         Ok(mut file) => judge_text(texts, alloc, options, &mut file, out, err),
@@ -107,7 +107,7 @@ fn check_file<T: Texts, W: Write, E: Write>(
 }
 
 /// Hands a trace to a judge that has taken none, and tells what it found.
-fn judge_text<T: Texts, W: Write, E: Write>(
+fn judge_text<T: Texts, W: Write, E: Reporter>(
     texts: &T,
     alloc: Global,
     options: &CheckWords,
@@ -119,7 +119,7 @@ fn judge_text<T: Texts, W: Write, E: Write>(
     ensures { (ending : Ending) × (result ≡ status_of ending)
         × EndsCheck (T.text_at texts.now) (check_of options.now) ending
         (W.contents out.old) (W.contents out.new)
-        × Reports ending (E.contents err.old) (E.contents err.new) }
+        × Reports ending (E.reports err.old) (E.reports err.new) }
 {
     let path = options.trace.as_str();
     match texts.read_pieces(path, file) {
@@ -155,7 +155,7 @@ fn cut_at(growing: bool, left: Option<u64>) -> Option<u64>
 }
 
 /// Tells what is found of a text, or that it isn't finished.
-fn tell_text<W: Write, E: Write>(
+fn tell_text<W: Write, E: Reporter>(
     alloc: Global,
     growing: bool,
     finding: &Finding,
@@ -166,7 +166,7 @@ fn tell_text<W: Write, E: Write>(
     ensures { (ending : Ending) × (result ≡ status_of ending)
         × EndsTold (cut_at growing judged.entry.left) finding.now (judged_of judged.entry) ending
         (W.contents out.old) (W.contents out.new)
-        × Reports ending (E.contents err.old) (E.contents err.new) }
+        × Reports ending (E.reports err.old) (E.reports err.new) }
 {
     match cut_at(growing, judged.left) {
         Some(line) => report_unfinished(alloc, line, finding, err),
@@ -175,7 +175,7 @@ fn tell_text<W: Write, E: Write>(
 }
 
 /// Tells what is found of a text, and beside it what else there is to tell.
-fn tell_finding<W: Write, E: Write>(
+fn tell_finding<W: Write, E: Reporter>(
     alloc: Global,
     finding: &Finding,
     judged: JudgedTrace,
@@ -185,7 +185,7 @@ fn tell_finding<W: Write, E: Write>(
     ensures { (ending : Ending) × (result ≡ status_of ending)
         × EndsFound finding.now (judged_of judged.entry) ending
         (W.contents out.old) (W.contents out.new)
-        × Reports ending (E.contents err.old) (E.contents err.new) }
+        × Reports ending (E.reports err.old) (E.reports err.new) }
 {
     match finding {
         Finding::Lawful => tell_lawful(alloc, judged, out, err),
@@ -198,7 +198,7 @@ fn tell_finding<W: Write, E: Write>(
 const UNWRITTEN: &str = "initd: the verdict could not be written\n";
 
 /// Writes that the trace is lawful.
-fn tell_lawful<W: Write, E: Write>(
+fn tell_lawful<W: Write, E: Reporter>(
     alloc: Global,
     judged: JudgedTrace,
     out: &mut W,
@@ -206,7 +206,7 @@ fn tell_lawful<W: Write, E: Write>(
 ) -> u8
     ensures { (ending : Ending) × (result ≡ status_of ending)
         × EndsLawful (judged_of judged.entry) ending (W.contents out.old) (W.contents out.new)
-        × Reports ending (E.contents err.old) (E.contents err.new) }
+        × Reports ending (E.reports err.old) (E.reports err.new) }
 {
     if !tell(b"lawful\n", out) {
         report(UNWRITTEN, err);
@@ -217,7 +217,7 @@ fn tell_lawful<W: Write, E: Write>(
 }
 
 /// Writes where the breach is, and tells a person its line and the law.
-fn tell_breach<W: Write, E: Write>(
+fn tell_breach<W: Write, E: Reporter>(
     alloc: Global,
     breach: &Breach,
     judged: JudgedTrace,
@@ -227,7 +227,7 @@ fn tell_breach<W: Write, E: Write>(
     ensures { (ending : Ending) × (result ≡ status_of ending)
         × EndsBreach breach.now (judged_of judged.entry) ending
         (W.contents out.old) (W.contents out.new)
-        × Reports ending (E.contents err.old) (E.contents err.new) }
+        × Reports ending (E.reports err.old) (E.reports err.new) }
 {
     let Ok(verdict) = verdict_text(alloc, breach.position(), breach.law().number()) else {
         return report_memory(err);
@@ -280,8 +280,8 @@ fn breach_message(alloc: Global, breach: &Breach) -> Result<Vec<u8>, AllocError>
 
 /// Tells of a trace that was judged that it begins within a run, how many happenings it has, and the line at which the
 /// last one isn't finished.
-fn report_judged<E: Write>(alloc: Global, judged: JudgedTrace, err: &mut E)
-    ensures { ReportsJudged (judged_of judged.entry) (E.contents err.old) (E.contents err.new) }
+fn report_judged<E: Reporter>(alloc: Global, judged: JudgedTrace, err: &mut E)
+    ensures { ReportsJudged (judged_of judged.entry) (E.reports err.old) (E.reports err.new) }
 {
     report_within(alloc, judged.within, err);
     let count = judged.count;
@@ -290,9 +290,9 @@ fn report_judged<E: Write>(alloc: Global, judged: JudgedTrace, err: &mut E)
 }
 
 /// Tells that the trace of a path begins within a run.
-fn report_within<E: Write>(alloc: Global, within: Option<&str>, err: &mut E)
+fn report_within<E: Reporter>(alloc: Global, within: Option<&str>, err: &mut E)
     ensures { ReportsWithin (option_map (λ path. path.now) within.entry)
-        (E.contents err.old) (E.contents err.new) }
+        (E.reports err.old) (E.reports err.new) }
 {
     if let Some(path) = within {
         report_made(within_text(alloc, path), err);
@@ -308,8 +308,8 @@ fn within_text(alloc: Global, path: &str) -> Result<String, AllocError>
 }
 
 /// Tells the line at which the last happening of a trace isn't finished.
-fn report_left<E: Write>(alloc: Global, left: Option<u64>, err: &mut E)
-    ensures { ReportsLeft left (E.contents err.old) (E.contents err.new) }
+fn report_left<E: Reporter>(alloc: Global, left: Option<u64>, err: &mut E)
+    ensures { ReportsLeft left (E.reports err.old) (E.reports err.new) }
 {
     if let Some(line) = left {
         report_made(left_text(alloc, line), err);
@@ -325,10 +325,10 @@ fn left_text(alloc: Global, line: u64) -> Result<String, AllocError>
 }
 
 /// Reports that the happening at a line of a trace isn't finished, and what is found up to it, and gives the exit status.
-fn report_unfinished<E: Write>(alloc: Global, line: u64, finding: &Finding, err: &mut E) -> u8
+fn report_unfinished<E: Reporter>(alloc: Global, line: u64, finding: &Finding, err: &mut E) -> u8
     ensures status { result ≡ REFUSED }
     ensures reported { ReportsText (unfinished_message line (verdict_of finding.now))
-        (E.contents err.old) (E.contents err.new) }
+        (E.reports err.old) (E.reports err.new) }
 {
     report_made(unfinished_text(alloc, line, finding), err);
     REFUSED
@@ -346,9 +346,9 @@ fn unfinished_text(alloc: Global, line: u64, finding: &Finding) -> Result<String
 }
 
 /// Reports that a line of a trace is none, and gives the exit status.
-fn report_torn<E: Write>(alloc: Global, number: u64, err: &mut E) -> u8
+fn report_torn<E: Reporter>(alloc: Global, number: u64, err: &mut E) -> u8
     ensures status { result ≡ REFUSED }
-    ensures reported { ReportsText (torn_message number) (E.contents err.old) (E.contents err.new) }
+    ensures reported { ReportsText (torn_message number) (E.reports err.old) (E.reports err.new) }
 {
     report_made(
         format!(in alloc; "initd: trace line {number} is not a line\n"),

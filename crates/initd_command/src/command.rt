@@ -13,7 +13,7 @@ use crate::simulate::simulate_files;
 use command_words::{report_refused_words, write_version};
 use host_calls::Host;
 use initd_options::{WordFault, Words, read_words};
-use program_io::{DEVICE_FAULT, DONE, REFUSED, Texts, report_usage};
+use program_io::{DEVICE_FAULT, DONE, REFUSED, Reporter, Texts, report_usage};
 use std::alloc::Global;
 use std::fs::File;
 use std::io::Write;
@@ -118,14 +118,14 @@ where
     S: Hosts<H>,
     F: Traces,
     W: Write,
-    E: Write,
+    E: Reporter,
     // it ends for a reason of which its status, output and report are; of hosts a run asks what its turns ask, and nothing
     // else asks anything; and the files of a run's trace took the text of the trace of these calls, or where its log
     // failed a front of that, and nothing else
     ensures { (ending : Ending) × (result ≡ status_of ending)
         × EndsBy (T.text_at texts.now) (map string_bytes words.items) ending
         (W.contents out.old) (W.contents out.new)
-        × Reports ending (E.contents err.old) (E.contents err.new)
+        × Reports ending (E.reports err.old) (E.reports err.new)
         × AsksBy (T.text_at texts.now) (map string_bytes words.items) (S.own hosts.new) ending
         (record {
           opened = S.opened hosts.old;
@@ -151,10 +151,10 @@ where
 }
 
 /// Writes the version.
-fn tell_version<W: Write, E: Write>(out: &mut W, err: &mut E) -> u8
+fn tell_version<W: Write, E: Reporter>(out: &mut W, err: &mut E) -> u8
     ensures { (ending : Ending) × (result ≡ status_of ending)
         × EndsVersion ending (W.contents out.old) (W.contents out.new)
-        × Reports ending (E.contents err.old) (E.contents err.new) }
+        × Reports ending (E.reports err.old) (E.reports err.new) }
 {
     if write_version("initd", out) {
         return DONE;
@@ -165,10 +165,10 @@ fn tell_version<W: Write, E: Write>(out: &mut W, err: &mut E) -> u8
 
 /// Reports why words are refused, with a line of usage. Where no reason is given, since help is asked for, it reports the
 /// usage of the command that they begin with, or of all.
-fn report_refused<E: Write>(words: &[String], reason: &str, err: &mut E) -> u8
+fn report_refused<E: Reporter>(words: &[String], reason: &str, err: &mut E) -> u8
     ensures status { result ≡ REFUSED }
     ensures reported { ReportsRefused (usage_named (map string_bytes words.now)) reason.now
-        (E.contents err.old) (E.contents err.new) }
+        (E.reports err.old) (E.reports err.new) }
 {
     match usage_named(words) {
         Some(usage) => report_refused_words("initd", reason, usage, SHORT_USAGE, err),
@@ -199,9 +199,9 @@ fn usage_of(command: &str) -> Option<&'static str>
 }
 
 /// Reports the usage of all commands.
-fn report_all<E: Write>(err: &mut E) -> u8
+fn report_all<E: Reporter>(err: &mut E) -> u8
     ensures status { result ≡ REFUSED }
-    ensures reported { ReportsAll (E.contents err.old) (E.contents err.new) }
+    ensures reported { ReportsAll (E.reports err.old) (E.reports err.new) }
 {
     report(RUN_USAGE, err);
     report(SIMULATE_USAGE, err);

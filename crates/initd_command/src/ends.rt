@@ -1,20 +1,20 @@
 //! How the turns of a run ended, as it is reported, and the exit status.
 
-ghost use Rattle.std.specs.Prelude.{◌≡◌, ◌++◌, ◌&&◌, [], None, Some, string_bytes, IfOk, OnOk};
+ghost use Rattle.std.specs.Prelude.{◌≡◌, ◌++◌, ◌&&◌, ℕ, List, [], Option, None, Some, option_map, string_bytes, IfOk, OnOk};
 ghost use Rattle.initd_command.specs.Words.{run_of, waiting_text};
 ghost use Rattle.initd_command.specs.Services.{end_of, entry_end, noted_of, turns_at};
-ghost use Rattle.initd_command.specs.Turned.{ReportsEnd, ReportsJudgement, ReportsResult, ReportsRunning, ReportsText, ReportsTurns, breach_text, child_text, drained_status, end_status, judged_status, judgement_text, lawful_text, result_status, result_text, running_text, turns_status};
+ghost use Rattle.initd_command.specs.Turned.{ReportsEnd, ReportsJudgement, ReportsLimit, ReportsResult, ReportsRunning, ReportsText, ReportsTurns, breach_text, child_text, drained_status, end_status, judged_status, judgement_text, lawful_text, result_status, result_text, running_text, turns_status};
 
 use crate::reports::{report, report_lines, report_made};
 use core_steps::Core;
 use core_waiting::waiting_lines;
+use indexmap::IndexMap;
 use init_turns::Served;
 use init_words::{ChildNumber, Id, Status};
 use initd_options::RunWords;
 use itoa::Buffer;
-use program_io::{DEVICE_FAULT, DONE, LIMIT_REACHED, UNLAWFUL};
+use program_io::{DEVICE_FAULT, DONE, LIMIT_REACHED, Reporter, UNLAWFUL};
 use std::alloc::{AllocError, Global};
-use std::io::Write;
 use trace_log_wrappers::{Judgement, Numbers, RunNotes};
 
 /// What is reported where a run made all its turns.
@@ -33,7 +33,7 @@ const UNJUDGED: &str = "initd: there was no memory to judge the run to its end\n
 const KILLED: u8 = 137;
 
 /// Reports how the turns of a run ended, and gives its exit status.
-pub(crate) fn report_end<E: Write>(
+pub(crate) fn report_end<E: Reporter>(
     alloc: Global,
     options: &RunWords,
     served: &Served,
@@ -46,7 +46,7 @@ pub(crate) fn report_end<E: Write>(
         (noted_of notes.now (waiting_text core.now) judgement) served.now) }
     ensures reported { ReportsEnd (end_of (run_of options.now)
         (noted_of notes.now (waiting_text core.now) judgement) served.now)
-        (E.contents err.old) (E.contents err.new) }
+        (E.reports err.old) (E.reports err.new) }
 {
     let status = report_turns(alloc, options, served, notes, core, err);
     report_judgement(alloc, served.logged, judgement, err);
@@ -54,7 +54,7 @@ pub(crate) fn report_end<E: Write>(
 }
 
 /// Reports how turns ended, and gives the exit status that they have by themselves.
-fn report_turns<E: Write>(
+fn report_turns<E: Reporter>(
     alloc: Global,
     options: &RunWords,
     served: &Served,
@@ -68,25 +68,72 @@ fn report_turns<E: Write>(
     ensures reported { ReportsTurns (turns_at (run_of options.now)
         (noted_of notes.now (waiting_text core.now) None) served.now.logged
         ((run_of options.now).drain && served.now.drained))
-        (E.contents err.old) (E.contents err.new) }
+        (E.reports err.old) (E.reports err.new) }
 {
+    let is_drained = options.drain && served.drained;
     if !served.logged {
         report(UNLOGGED, err);
-        report_waiting(alloc, core, err);
+        if is_drained {
+            report_waiting(alloc, core, err);
+        } else {
+            report_lost_limit(alloc, core, err);
+        }
         return DEVICE_FAULT;
     }
-    if options.drain && served.drained {
+    if is_drained {
         return report_result(alloc, options.result, notes, err);
     }
-    report(LIMITED, err);
-    report_running(alloc, notes, err);
-    report_waiting(alloc, core, err);
+    report_limit(alloc, notes, core, err);
     LIMIT_REACHED
 }
 
+/// Reports that all turns were made, the children that go on, and what init waits for.
+fn report_limit<E: Reporter>(alloc: Global, notes: &RunNotes, core: &Core, err: &mut E)
+    ensures { ReportsLimit (noted_of notes.now [] None).running (waiting_text core.now)
+        (E.reports err.old) (E.reports err.new) }
+{
+    report(LIMITED, err);
+    report_running(alloc, notes, err);
+    report_waiting(alloc, core, err);
+}
+
+/// The same where the trace was lost, and with it what is noted of later children: those are named that init has.
+fn report_lost_limit<E: Reporter>(alloc: Global, core: &Core, err: &mut E)
+    ensures { (running : Option (List (List ℕ × ℕ))) × ReportsLimit running
+        (waiting_text core.now) (E.reports err.old) (E.reports err.new) }
+{
+    report(LIMITED, err);
+    let children = children_of(alloc, core);
+    report_children(alloc, &children, err);
+    report_waiting(alloc, core, err);
+}
+
+/// The children that init has; None where there is no memory for them.
+fn children_of(alloc: Global, core: &Core) -> Option<Numbers> {
+    let mut children: Numbers = IndexMap::new(alloc);
+    for record in core.slots().as_slice() {
+        if let Some(number) = record.child() {
+            children.insert(record.id(), number).ok()?;
+        }
+    }
+    Some(children)
+}
+
+/// Reports these children, where there are any, or that there was no memory for them.
+fn report_children<E: Reporter>(alloc: Global, children: &Option<Numbers>, err: &mut E)
+    ensures { ReportsRunning (option_map (λ numbers. numbers.entries) children.now)
+        (E.reports err.old) (E.reports err.new) }
+{
+    match children {
+        Some(numbers) if numbers.is_empty() => {}
+        Some(numbers) => report_lines(running_text(alloc, numbers), err),
+        None => report(UNNAMED, err),
+    }
+}
+
 /// Reports what init waits for.
-fn report_waiting<E: Write>(alloc: Global, core: &Core, err: &mut E)
-    ensures { ReportsText (waiting_text core.now) (E.contents err.old) (E.contents err.new) }
+fn report_waiting<E: Reporter>(alloc: Global, core: &Core, err: &mut E)
+    ensures { ReportsText (waiting_text core.now) (E.reports err.old) (E.reports err.new) }
 {
     report_lines(waiting_lines(alloc, core), err);
 }
@@ -107,8 +154,13 @@ fn judged_status(judgement: Option<Judgement>, status: u8) -> u8
 }
 
 /// Reports what was found of a run that was to be judged, and was logged whole or up to where the log failed.
-fn report_judgement<E: Write>(alloc: Global, whole: bool, judgement: Option<Judgement>, err: &mut E)
-    ensures { ReportsJudgement whole judgement (E.contents err.old) (E.contents err.new) }
+fn report_judgement<E: Reporter>(
+    alloc: Global,
+    whole: bool,
+    judgement: Option<Judgement>,
+    err: &mut E,
+)
+    ensures { ReportsJudgement whole judgement (E.reports err.old) (E.reports err.new) }
 {
     if let Some(judgement) = judgement {
         report_made(judgement_text(alloc, whole, judgement), err);
@@ -141,10 +193,10 @@ fn breach_text(alloc: Global, position: u64, why: &str) -> Result<String, AllocE
 }
 
 /// Reports how the last child of an entry ended, where a run has an entry's result, and gives the exit status.
-fn report_result<E: Write>(alloc: Global, entry: Option<Id>, notes: &RunNotes, err: &mut E) -> u8
+fn report_result<E: Reporter>(alloc: Global, entry: Option<Id>, notes: &RunNotes, err: &mut E) -> u8
     ensures status { result ≡ drained_status (entry_end (noted_of notes.now [] None).last entry) }
     ensures reported { ReportsResult (entry_end (noted_of notes.now [] None).last entry)
-        (E.contents err.old) (E.contents err.new) }
+        (E.reports err.old) (E.reports err.new) }
 {
     let Some(id) = entry else {
         return DONE;
@@ -176,9 +228,9 @@ fn result_text(alloc: Global, id: &str, last: Option<Status>) -> Result<String, 
 }
 
 /// Reports the children that go on, where there are any, or that there was no memory to note them all.
-fn report_running<E: Write>(alloc: Global, notes: &RunNotes, err: &mut E)
-    ensures { ReportsRunning (noted_of notes.now [] None).running (E.contents err.old)
-        (E.contents err.new) }
+fn report_running<E: Reporter>(alloc: Global, notes: &RunNotes, err: &mut E)
+    ensures { ReportsRunning (noted_of notes.now [] None).running (E.reports err.old)
+        (E.reports err.new) }
 {
     match notes.running() {
         Some(numbers) if numbers.is_empty() => {}

@@ -5,6 +5,7 @@ mod check;
 mod command;
 mod ends;
 mod hosts;
+mod inherited;
 mod laws;
 mod lines;
 mod logs;
@@ -16,7 +17,7 @@ mod watchers;
 
 pub use command::{SHORT_USAGE, run_words};
 pub use hosts::Hosts;
-pub use laws::law_of_telinit;
+pub use laws::{law_of_a_channel, law_of_telinit};
 pub use os_hosts::OsHosts;
 pub use run::make_turns;
 pub use simulate::simulate_texts;

@@ -1,14 +1,14 @@
 //! Messages about files and faults.
 
-ghost use Rattle.std.specs.Prelude.{◌≡◌, true, ℕ, List, None, Some, OnOk, OnErr, string_bytes, IfOk, ◌++◌};
+ghost use Rattle.std.specs.Prelude.{◌≡◌, true, ℕ, List, None, Some, OnOk, OnErr, option_map, string_bytes, IfOk, ◌++◌};
 ghost use Rattle.std.specs.Io.KnownBytes.{Appends};
-ghost use Rattle.initd_command.specs.Words.{AppendsPrefix};
+ghost use Rattle.initd_command.specs.Words.{AppendsPrefix, HasReported};
 ghost use Rattle.initd_command.specs.Endings.{ReportsCannot, ReportsFlawed, ReportsWhere, busy_message, fault_message, fault_status, reason_message, shared_message, unlisted_message};
 ghost use Rattle.initd_command.specs.Turned.{ReportsText};
 
 use crate::lines::{line_at, line_told};
 use init_words::Id;
-use program_io::{DEVICE_FAULT, REFUSED, Reason, write_text};
+use program_io::{DEVICE_FAULT, REFUSED, Reason, Reporter, write_text};
 use simulator::{Objection, SimFault};
 use std::alloc::{AllocError, Global};
 use std::io;
@@ -20,20 +20,24 @@ pub(crate) const NO_MEMORY: &str = "initd: out of memory\n";
 /// What is reported where the inittab has too many files.
 pub(crate) const TOO_MANY: &str = "initd: inittab has more than 256 files: put some together\n";
 
+/// What is reported where CHLD is ignored.
+const UNWAITED: &str = "initd: SIGCHLD is ignored, so no child can be waited for: start init by \
+    env --default-signal=CHLD initd run ..\n";
+
 /// What is reported behind the faults of an inittab that is to have none.
 const FLAWED: &str =
     "initd: the inittab has faulty lines and is not taken, as --strict says: mend them\n";
 
 /// Reports a fault of a run over a script, and gives the exit status.
-pub(crate) fn report_fault<E: Write>(
+pub(crate) fn report_fault<E: Reporter>(
     alloc: Global,
     script: &[u8],
     fault: &SimFault,
     err: &mut E,
 ) -> u8
     ensures status { result ≡ fault_status fault.now }
-    ensures reported { ReportsText (fault_message script.now fault.now) (E.contents err.old)
-        (E.contents err.new) }
+    ensures reported { ReportsText (fault_message script.now fault.now) (E.reports err.old)
+        (E.reports err.new) }
 {
     report_lines(fault_message(alloc, script, fault), err);
     match fault {
@@ -74,7 +78,7 @@ fn add_reason(
 }
 
 /// Reports what could not be done with a file, by a verb as `read`, and gives the exit status.
-pub(crate) fn report_cannot<E: Write>(
+pub(crate) fn report_cannot<E: Reporter>(
     alloc: Global,
     verb: &str,
     path: &str,
@@ -82,7 +86,7 @@ pub(crate) fn report_cannot<E: Write>(
     err: &mut E,
 ) -> u8
     ensures status { result ≡ DEVICE_FAULT }
-    ensures reported { ReportsCannot verb.now path.now (E.contents err.old) (E.contents err.new) }
+    ensures reported { ReportsCannot verb.now path.now (E.reports err.old) (E.reports err.new) }
 {
     let Ok(reason) = format!(in alloc; "{}", Reason(error)) else {
         return report_memory(err);
@@ -95,28 +99,29 @@ pub(crate) fn report_cannot<E: Write>(
     DEVICE_FAULT
 }
 
-/// Reports that another run has the channel of requests or the trace, by its process number where that is known, and
-/// gives the exit status.
-pub(crate) fn report_busy<E: Write>(
+/// Reports that another process has the channel of requests or the trace, by its name and number where they are known,
+/// and gives the exit status.
+pub(crate) fn report_busy<E: Reporter>(
     alloc: Global,
     path: &str,
-    holder: Option<u32>,
+    holder: &Option<String>,
     err: &mut E,
 ) -> u8
     ensures status { result ≡ DEVICE_FAULT }
-    ensures reported { ReportsText (busy_message path.now holder) (E.contents err.old)
-        (E.contents err.new) }
+    ensures reported { ReportsText (busy_message path.now (option_map string_bytes holder.now))
+        (E.reports err.old) (E.reports err.new) }
 {
     report_made(busy_message(alloc, path, holder), err);
     DEVICE_FAULT
 }
 
-fn busy_message(alloc: Global, path: &str, holder: Option<u32>) -> Result<String, AllocError>
-    ensures { IfOk result (λ text. string_bytes text ≡ busy_message path.now holder) }
+fn busy_message(alloc: Global, path: &str, holder: &Option<String>) -> Result<String, AllocError>
+    ensures { IfOk result (λ text.
+        string_bytes text ≡ busy_message path.now (option_map string_bytes holder.now)) }
 {
     match holder {
-        Some(number) => format!(in alloc;
-            "initd: {path} is in use by initd run {number}: end that one, or give this one a file of its own\n"
+        Some(holder) => format!(in alloc;
+            "initd: {path} is in use by {holder}: end that one, or give this one a file of its own\n"
         ),
         None => format!(in alloc;
             "initd: {path} is in use by another initd run: end that one, or give this one a file of its own\n"
@@ -125,10 +130,10 @@ fn busy_message(alloc: Global, path: &str, holder: Option<u32>) -> Result<String
 }
 
 /// Reports that two of a run's files are one, and gives the exit status.
-pub(crate) fn report_shared<E: Write>(alloc: Global, one: &str, other: &str, err: &mut E) -> u8
+pub(crate) fn report_shared<E: Reporter>(alloc: Global, one: &str, other: &str, err: &mut E) -> u8
     ensures status { result ≡ REFUSED }
-    ensures reported { ReportsText (shared_message one.now other.now) (E.contents err.old)
-        (E.contents err.new) }
+    ensures reported { ReportsText (shared_message one.now other.now) (E.reports err.old)
+        (E.reports err.new) }
 {
     report_made(
         format!(in alloc; "initd: {one} and {other} are one file: give each its own\n"),
@@ -138,11 +143,11 @@ pub(crate) fn report_shared<E: Write>(alloc: Global, one: &str, other: &str, err
 }
 
 /// Reports a message that was made, or that there was no memory to make it.
-pub(crate) fn report_made<E: Write>(message: Result<String, AllocError>, err: &mut E)
+pub(crate) fn report_made<E: Reporter>(message: Result<String, AllocError>, err: &mut E)
     ensures made { IfOk message (λ text.
-        AppendsPrefix (E.contents err.old) (E.contents err.new) (string_bytes text)) }
+        HasReported (E.reports err.old) (E.reports err.new) (string_bytes text)) }
     ensures unmade { OnErr message
-        (AppendsPrefix (E.contents err.old) (E.contents err.new) NO_MEMORY.now) }
+        (HasReported (E.reports err.old) (E.reports err.new) NO_MEMORY.now) }
 {
     match &message {
         Ok(text) => report(text.as_str(), err),
@@ -151,11 +156,11 @@ pub(crate) fn report_made<E: Write>(message: Result<String, AllocError>, err: &m
 }
 
 /// Reports lines that may not be text, or that there was no memory to make them.
-pub(crate) fn report_lines<E: Write>(message: Result<Vec<u8>, AllocError>, err: &mut E)
+pub(crate) fn report_lines<E: Reporter>(message: Result<Vec<u8>, AllocError>, err: &mut E)
     ensures made { IfOk message (λ text.
-        AppendsPrefix (E.contents err.old) (E.contents err.new) text.items) }
+        HasReported (E.reports err.old) (E.reports err.new) text.items) }
     ensures unmade { OnErr message
-        (AppendsPrefix (E.contents err.old) (E.contents err.new) NO_MEMORY.now) }
+        (HasReported (E.reports err.old) (E.reports err.new) NO_MEMORY.now) }
 {
     match &message {
         Ok(text) => report_bytes(text, err),
@@ -163,51 +168,60 @@ pub(crate) fn report_lines<E: Write>(message: Result<Vec<u8>, AllocError>, err: 
     }
 }
 
-/// Writes a text as far as the writer takes it.
-pub(crate) fn report<E: Write>(text: &str, err: &mut E)
-    ensures { AppendsPrefix (E.contents err.old) (E.contents err.new) text.now }
+/// Reports a text.
+pub(crate) fn report<E: Reporter>(text: &str, err: &mut E)
+    ensures { HasReported (E.reports err.old) (E.reports err.new) text.now }
 {
     report_bytes(text.as_bytes(), err);
 }
 
-/// Writes a text as far as the writer takes it, where that is so.
-pub(crate) fn report_where<E: Write>(is_so: bool, text: &str, err: &mut E)
-    ensures { ReportsWhere is_so text.now (E.contents err.old) (E.contents err.new) }
+/// Reports a text where that is so.
+pub(crate) fn report_where<E: Reporter>(is_so: bool, text: &str, err: &mut E)
+    ensures { ReportsWhere is_so text.now (E.reports err.old) (E.reports err.new) }
 {
     if is_so {
         report(text, err);
     }
 }
 
-/// Writes bytes as far as the writer takes them.
-pub(crate) fn report_bytes<E: Write>(text: &[u8], err: &mut E)
-    ensures { AppendsPrefix (E.contents err.old) (E.contents err.new) text.now }
+/// Reports bytes.
+pub(crate) fn report_bytes<E: Reporter>(text: &[u8], err: &mut E)
+    ensures { HasReported (E.reports err.old) (E.reports err.new) text.now }
 {
-    let _ = write_text(err, text);
+    err.report(text);
 }
 
 /// Reports that memory ran out, and gives the exit status.
-pub(crate) fn report_memory<E: Write>(err: &mut E) -> u8
+pub(crate) fn report_memory<E: Reporter>(err: &mut E) -> u8
     ensures status { result ≡ DEVICE_FAULT }
-    ensures reported { AppendsPrefix (E.contents err.old) (E.contents err.new) NO_MEMORY.now }
+    ensures reported { HasReported (E.reports err.old) (E.reports err.new) NO_MEMORY.now }
 {
     report(NO_MEMORY, err);
     DEVICE_FAULT
 }
 
+/// Reports that no child can be waited for, and gives the exit status.
+pub(crate) fn report_unwaited<E: Reporter>(err: &mut E) -> u8
+    ensures status { result ≡ DEVICE_FAULT }
+    ensures reported { HasReported (E.reports err.old) (E.reports err.new) UNWAITED.now }
+{
+    report(UNWAITED, err);
+    DEVICE_FAULT
+}
+
 /// Reports that the inittab has too many files, and gives the exit status.
-pub(crate) fn report_too_many<E: Write>(err: &mut E) -> u8
+pub(crate) fn report_too_many<E: Reporter>(err: &mut E) -> u8
     ensures status { result ≡ REFUSED }
-    ensures reported { AppendsPrefix (E.contents err.old) (E.contents err.new) TOO_MANY.now }
+    ensures reported { HasReported (E.reports err.old) (E.reports err.new) TOO_MANY.now }
 {
     report(TOO_MANY, err);
     REFUSED
 }
 
 /// Reports the faults of an inittab that is to have none, by these lines, and gives the exit status.
-pub(crate) fn report_flawed<E: Write>(faults: &[u8], err: &mut E) -> u8
+pub(crate) fn report_flawed<E: Reporter>(faults: &[u8], err: &mut E) -> u8
     ensures status { result ≡ REFUSED }
-    ensures reported { ReportsFlawed faults.now (E.contents err.old) (E.contents err.new) }
+    ensures reported { ReportsFlawed faults.now (E.reports err.old) (E.reports err.new) }
 {
     report_bytes(faults, err);
     report(FLAWED, err);
@@ -215,10 +229,10 @@ pub(crate) fn report_flawed<E: Write>(faults: &[u8], err: &mut E) -> u8
 }
 
 /// Reports that an inittab has no entry of the id, and gives the exit status.
-pub(crate) fn report_unlisted<E: Write>(alloc: Global, id: &Id, err: &mut E) -> u8
+pub(crate) fn report_unlisted<E: Reporter>(alloc: Global, id: &Id, err: &mut E) -> u8
     ensures status { result ≡ REFUSED }
-    ensures reported { ReportsText (unlisted_message id.now) (E.contents err.old)
-        (E.contents err.new) }
+    ensures reported { ReportsText (unlisted_message id.now) (E.reports err.old)
+        (E.reports err.new) }
 {
     report_made(unlisted_message(alloc, id.as_str()), err);
     REFUSED

@@ -9,10 +9,11 @@ ghost use Rattle.initd_command.specs.Services.{AreApart, AreFiles, EndsRun, Ends
 
 use crate::ends::report_end;
 use crate::hosts::Hosts;
+use crate::inherited::{refuse_unwaited, tell_ignored};
 use crate::logs::NoLog;
 use crate::reports::{
     report_busy, report_cannot, report_fault, report_flawed, report_memory, report_shared,
-    report_too_many, report_unlisted, report_where, tell,
+    report_too_many, report_unlisted, report_unwaited, report_where, tell,
 };
 use crate::watchers::Progress;
 use host_calls::Host;
@@ -24,13 +25,15 @@ use init_words::{Id, Level, Memory, Part};
 use initd_options::RunWords;
 use inittab_text::{Table, TableFault, read_parts};
 use program_io::{
-    ChannelLock, DEVICE_FAULT, Texts, are_one_file, lock_channel, lock_holder, refuse_special,
+    ChannelLock, DEVICE_FAULT, Reporter, Texts, are_one_file, file_size_limit, lock_channel,
+    lock_holder, refuse_special,
 };
 use simulator::SimFault;
 use std::alloc::{AllocError, Global};
 use std::fs::{File, OpenOptions, canonicalize, metadata, remove_file};
 use std::io;
 use std::io::{ErrorKind, Write};
+use std::os::unix::fs::OpenOptionsExt;
 use std::rt::{Clock, Files};
 use trace_files::{FileLog, TraceFiles, Traces, takes_lock};
 use trace_log::EndedLog;
@@ -39,13 +42,21 @@ use trace_log_wrappers::{BriefLog, NotingLog};
 /// What is reported where the faults of inittab's lines could not be written.
 const UNTOLD: &str = "initd: the faults of the inittab could not be written\n";
 
+/// What is reported at the end of a run where not all could be printed that its host was to print.
+const UNPRINTED: &str = "initd: not all that init announces could be written\n";
+
 /// What is reported at the opening where nothing names a level.
 const UNLED: &str = "initd: the inittab names no level (initdefault), and --level is not given: \
     init goes to level S\n";
 
+/// The mode of a trace that is made: who can read one can take its lock.
+const MODE: u32 = 0o600;
+
 /// Why a command is refused, or can't go on, before it writes anything.
 #[derive(Drop)]
-enum Obstacle {
+pub(crate) enum Obstacle {
+    /// No child can be waited for, since CHLD is ignored.
+    Unwaited,
     /// The file or the folder of this path was not read.
     Unread(String, io::Error),
     /// Out of memory.
@@ -58,8 +69,8 @@ enum Obstacle {
     Flawed(Vec<u8>),
     /// The inittab has no entry of the id whose result the run's is to be.
     Unlisted(Id),
-    /// Another run has the file of this path, the channel or the trace; its process number, where that is known.
-    Busy(String, Option<u32>),
+    /// Another process has the file of this path, the channel or the trace; its name and number, where they are known.
+    Busy(String, Option<String>),
     /// These two paths of the run lead to one file.
     Shared(String, String),
     /// The channel of this path could not be made, opened or locked.
@@ -101,7 +112,7 @@ struct Run<H> {
 
 /// Runs init over the operating system: reads the inittab, opens the trace, takes the lock of the channel, and makes the
 /// turns.
-pub(crate) fn run_files<R, T: Texts, H: Host + Drop, S: Hosts<H>, F: Traces, W: Write, E: Write>(
+pub(crate) fn run_files<R, T: Texts, H: Host + Drop, S: Hosts<H>, F: Traces, W: Write, E: Reporter>(
     rt: &R,
     texts: &T,
     hosts: &mut S,
@@ -116,7 +127,7 @@ where
     ensures { (ending : Ending) × (result ≡ status_of ending)
         × EndsRun (T.text_at texts.now) (run_of options.now) ending
         (W.contents out.old) (W.contents out.new)
-        × Reports ending (E.contents err.old) (E.contents err.new)
+        × Reports ending (E.reports err.old) (E.reports err.new)
         × RanBy (T.text_at texts.now) (run_of options.now) (S.own hosts.new) ending
         (record {
           opened = S.opened hosts.old;
@@ -162,6 +173,7 @@ where
     ensures err { IfErr result (IsInWay (T.text_at texts.now) (run_of options.now)) }
     ensures unasked { OnErr result (S.told hosts.new ≡ S.told hosts.old) }
 {
+    refuse_unwaited(rt, alloc)?;
     refuse_shared(rt, alloc, options)?;
     let Inittab { table, faults } = read_inittab(rt, texts, alloc, options)?;
     let has_no_level = has_no_level(options.level, &table);
@@ -399,7 +411,11 @@ fn opened<R: Files<File = File>>(rt: &R, path: &str) -> io::Result<(Option<File>
         refuse_special(rt, path)?;
     }
     let was_missing = metadata(rt, path).is_err();
-    let file = OpenOptions::new().write(true).create(true).open(rt, path)?;
+    let file = OpenOptions::new()
+        .write(true)
+        .create(true)
+        .mode(MODE)
+        .open(rt, path)?;
     if !takes_lock(&file) {
         return Ok((None, false));
     }
@@ -407,18 +423,19 @@ fn opened<R: Files<File = File>>(rt: &R, path: &str) -> io::Result<(Option<File>
 }
 
 /// Reports what is in the way, and gives the exit status.
-fn report_obstacle<E: Write>(alloc: Global, why: &Obstacle, err: &mut E) -> u8
+fn report_obstacle<E: Reporter>(alloc: Global, why: &Obstacle, err: &mut E) -> u8
     ensures status { result ≡ obstacle_status why.now }
-    ensures reported { ReportsObstacle why.now (E.contents err.old) (E.contents err.new) }
+    ensures reported { ReportsObstacle why.now (E.reports err.old) (E.reports err.new) }
 {
     match why {
+        Obstacle::Unwaited => report_unwaited(err),
         Obstacle::Unread(path, error) => report_cannot(alloc, "read", path.as_str(), error, err),
         Obstacle::Memory => report_memory(err),
         Obstacle::TooMany => report_too_many(err),
         Obstacle::TooLong => report_fault(alloc, &[], &SimFault::Table, err),
         Obstacle::Flawed(faults) => report_flawed(faults, err),
         Obstacle::Unlisted(id) => report_unlisted(alloc, id, err),
-        Obstacle::Busy(path, holder) => report_busy(alloc, path.as_str(), *holder, err),
+        Obstacle::Busy(path, holder) => report_busy(alloc, path.as_str(), holder, err),
         Obstacle::Shared(one, other) => report_shared(alloc, one.as_str(), other.as_str(), err),
         Obstacle::Unlocked(path, error) => report_cannot(alloc, "lock", path.as_str(), error, err),
         Obstacle::Uncreated(path, error) => {
@@ -439,7 +456,7 @@ pub(crate) fn trace_of(options: &RunWords) -> &str
 
 /// Tells the faults of the inittab's lines, and makes the turns. Where these faults, or what the host was to print, could
 /// not be written, the exit status is 4.
-fn make_run<R, H: Host + Drop, S: Hosts<H>, F: Traces, W: Write, E: Write>(
+fn make_run<R, H: Host + Drop, S: Hosts<H>, F: Traces, W: Write, E: Reporter>(
     rt: &R,
     hosts: &mut S,
     traces: &mut F,
@@ -456,7 +473,7 @@ where
         × (result ≡ status_of (turned spoken end))
         × EndsTold (run_of options.now) run.faults.items spoken.told end
         (W.contents out.old) (W.contents out.new)
-        × Reports (turned spoken end) (E.contents err.old) (E.contents err.new)
+        × Reports (turned spoken end) (E.reports err.old) (E.reports err.new)
         × (bytes : List ℕ) × (F.told traces.new ≡ F.told traces.old ++ bytes)
         × ((table : List Entry) → IsOpeningOf (run_of options.now).level table run.opening
         → Since (H.told run.host) (S.told hosts.new)
@@ -475,9 +492,12 @@ where
     report_where(!is_told, UNTOLD, err);
     report_where(has_no_level, UNLED, err);
     tell_endless(rt, options);
+    tell_limit(rt, options, &trace);
+    tell_ignored(rt, alloc);
     let stamped = StampedRuntime::new(rt, alloc, options.stamp);
     let (status, host) = make_traced(&stamped, traces, alloc, options, opening, host, trace, err);
     let is_printed = hosts.close(host);
+    report_where(!is_printed, UNPRINTED, err);
     status_where(is_told, is_printed, status)
 }
 
@@ -505,8 +525,22 @@ fn tell_endless(rt: &impl Eprint, options: &RunWords) {
     }
 }
 
+/// Says of a trace that is not put away before the limit of file sizes that it ends there.
+fn tell_limit(rt: &impl Eprint, options: &RunWords, trace: &Option<File>) {
+    let (Some(file), Some(limit)) = (trace, file_size_limit()) else {
+        return;
+    };
+    let is_put_away = options.trace_size.is_some_and(|size| size < limit);
+    if !is_put_away && file.metadata().is_ok_and(|found| found.is_file()) {
+        let path = trace_of(options);
+        let _ = eprintln!(rt;
+            "initd: {path}: ulimit -f ends it at {limit} bytes: give a --trace-size below that"
+        );
+    }
+}
+
 /// Makes the turns, and writes the trace where there is a file for it.
-fn make_traced<R: Files + Eprint, H: Host, F: Traces, E: Write>(
+fn make_traced<R: Files + Eprint, H: Host, F: Traces, E: Reporter>(
     rt: &R,
     traces: &mut F,
     alloc: Global,
@@ -518,7 +552,7 @@ fn make_traced<R: Files + Eprint, H: Host, F: Traces, E: Write>(
 ) -> (u8, H)
     requires { is_some trace ≡ is_some (run_of options.now).trace }
     ensures { (end : End) × (result.0 ≡ end_status end) × EndsServed (run_of options.now) end
-        × ReportsEnd end (E.contents err.old) (E.contents err.new)
+        × ReportsEnd end (E.reports err.old) (E.reports err.new)
         × (bytes : List ℕ) × (F.told traces.new ≡ F.told traces.old ++ bytes)
         × ((table : List Entry) → IsOpeningOf (run_of options.now).level table opening
         → Since (H.told host) (H.told result.1)
@@ -535,7 +569,7 @@ fn make_traced<R: Files + Eprint, H: Host, F: Traces, E: Write>(
 }
 
 /// Makes the turns over a log in the files of their trace, and gives these back.
-fn make_over<R: Files + Eprint, H: Host, S: TraceFiles, E: Write>(
+fn make_over<R: Files + Eprint, H: Host, S: TraceFiles, E: Reporter>(
     rt: &R,
     alloc: Global,
     options: &RunWords,
@@ -547,7 +581,7 @@ fn make_over<R: Files + Eprint, H: Host, S: TraceFiles, E: Write>(
     requires trace { is_some (run_of options.now).trace ≡ true }
     requires nothing { S.contents files ≡ Some [] }
     ensures { (end : End) × (result.0 ≡ end_status end) × EndsServed (run_of options.now) end
-        × ReportsEnd end (E.contents err.old) (E.contents err.new)
+        × ReportsEnd end (E.reports err.old) (E.reports err.new)
         × ((bytes : List ℕ) → IfSome (S.contents result.2) (λ taken. taken ≡ bytes)
         → (table : List Entry) → IsOpeningOf (run_of options.now).level table opening
         → Since (H.told host) (H.told result.1)
@@ -564,7 +598,7 @@ fn make_over<R: Files + Eprint, H: Host, S: TraceFiles, E: Write>(
 /// of the entry whose result the run's is, where it ended drained, 3 at the limit of turns, and 4 where the log failed. A
 /// run that is judged and breaks a law has 2 in place of 0 and 3, and 4 where memory ran out for the judge. Gives the host
 /// back, and what is left of the log.
-pub fn make_turns<R: Files + Eprint, H: Host, L: EndedLog, E: Write>(
+pub fn make_turns<R: Files + Eprint, H: Host, L: EndedLog, E: Reporter>(
     rt: &R,
     alloc: Global,
     options: &RunWords,
@@ -577,7 +611,7 @@ pub fn make_turns<R: Files + Eprint, H: Host, L: EndedLog, E: Write>(
     // those of init's turns, which ended so; and if the log was fresh, so has it, and when each call was made, it had
     // taken the whole trace until then, or had failed
     ensures { (end : End) × (result.0 ≡ end_status end) × EndsServed (run_of options.now) end
-        × ReportsEnd end (E.contents err.old) (E.contents err.new)
+        × ReportsEnd end (E.reports err.old) (E.reports err.new)
         × ((table : List Entry) → IsOpeningOf (run_of options.now).level table opening
         → Since (H.told host) (H.told result.1) (MakesLogged L.state ((L.state log).taken [])
         (L.has_ended result.2) (run_of options.now) table end)) }

@@ -8,13 +8,13 @@ ghost use Rattle.initd_command.specs.Runs.{EndsSimulate, EndsSimulation};
 use crate::reports::{report_cannot, report_fault};
 use init_words::Level;
 use initd_options::SimulateWords;
-use program_io::{DONE, Texts};
+use program_io::{DONE, Reporter, Texts};
 use simulator::{SimFault, Untold, simulate};
 use std::alloc::Global;
 use std::io::Write;
 
 /// Reads the two files, the inittab first, and runs init over them.
-pub(crate) fn simulate_files<T: Texts, W: Write, E: Write>(
+pub(crate) fn simulate_files<T: Texts, W: Write, E: Reporter>(
     texts: &T,
     alloc: Global,
     options: &SimulateWords,
@@ -24,7 +24,7 @@ pub(crate) fn simulate_files<T: Texts, W: Write, E: Write>(
     ensures { (ending : Ending) × (result ≡ status_of ending)
         × EndsSimulate (T.text_at texts.now) (simulation_of options.now) ending
         (W.contents out.old) (W.contents out.new)
-        × Reports ending (E.contents err.old) (E.contents err.new) }
+        × Reports ending (E.reports err.old) (E.reports err.new) }
 {
     let table = options.table.as_str();
     let inittab = match texts.read(alloc, table) {
@@ -40,7 +40,7 @@ pub(crate) fn simulate_files<T: Texts, W: Write, E: Write>(
 
 /// Runs init over the texts of an inittab and a script, sees that what was written is out, reports a fault, and gives the
 /// exit status.
-pub fn simulate_texts<W: Write, E: Write>(
+pub fn simulate_texts<W: Write, E: Reporter>(
     alloc: Global,
     inittab: &[u8],
     level: Option<Level>,
@@ -51,7 +51,7 @@ pub fn simulate_texts<W: Write, E: Write>(
     ensures { (ending : Ending) × (result ≡ status_of ending)
         × EndsSimulation (scenario level inittab.now script.now) ending (W.contents out.old)
         (W.contents out.new)
-        × Reports ending (E.contents err.old) (E.contents err.new) }
+        × Reports ending (E.reports err.old) (E.reports err.new) }
 {
     let ended = simulate::<Global, W, Untold>(alloc, inittab, level, script, out);
     if out.flush().is_err() {

@@ -39,5 +39,5 @@ returns g c =
       unlawful c.deref.result.now _,
       refl,
       (message, refl, options),
-      (g.E.Write.contents c.report_bytes.new.err, c.report_bytes.ensures, c.report_judged.ensures),
+      (g.E.Reporter.reports c.report_bytes.new.err, c.report_bytes.ensures, c.report_judged.ensures),
     )

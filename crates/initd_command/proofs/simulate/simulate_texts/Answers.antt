@@ -39,5 +39,5 @@ returns-in-Ok g c =
       refl,
       done_kept s (g.W.Write.contents c.args.out.now) (g.W.Write.contents c.simulate-ended.new.out)
           (g.W.Write.contents c.flush.new.self) c.in-Ok.ensures.done c.flush.ensures.bytes,
-      Keeps-refl (g.E.Write.contents c.args.err.now),
+      refl,
     )
