@@ -1,5 +1,6 @@
 -- Processes whose operators count, and such as stand in quotes, in parts or in a comment: `refl` computes them.
-use Rattle.inittab_lint.proofs.Words.{◌≡◌, refl, codes, None, Some, operator_of}
+use Rattle.inittab_lint.proofs.Words.{◌≡◌, refl, codes, true, false, None, Some, operator_of}
+use Rattle.inittab_lint.specs.Shell.{expands_early}
 use Rattle.inittab_lint.specs.declared.shell.Operator.TheVariants.{Chain, Pipe, Unclosed}
 
 -- a backslash takes the quote that follows with it
@@ -49,3 +50,26 @@ comment = refl
 
 hash : operator_of (codes "a b#c ${#d} $# ; e") ≡ Some Chain
 hash = refl
+
+-- a command in double quotes is expanded before the shell that gets it reads it, unless a backslash stands before the $
+-- or the quotes are single ones; and one that no shell gets is meant so
+handed : expands_early (codes "env A=b /bin/sh -c \"echo $A\"") ≡ true
+handed = refl
+
+handed_flags : expands_early (codes "bash  -ec \"for i in a; do echo ${i}; done\"") ≡ true
+handed_flags = refl
+
+handed_behind : expands_early (codes "exec 'a b' \"$HOME\" | sh -c \"x $(y)\"") ≡ true
+handed_behind = refl
+
+handed_escaped : expands_early (codes "sh -c \"echo \\$A \\\"b\\\" 5$\"") ≡ false
+handed_escaped = refl
+
+handed_single : expands_early (codes "sh -c 'sh -c \"echo $A\"' \"$B\"") ≡ false
+handed_single = refl
+
+meant_so : expands_early (codes "/sbin/agetty -c \"$TTY\"") ≡ false
+meant_so = refl
+
+not_read : expands_early (codes "a # sh -c \"echo $A\"") ≡ false
+not_read = refl

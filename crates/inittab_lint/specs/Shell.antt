@@ -3,9 +3,10 @@ use Rattle.std.specs.Prelude.{ℕ, Bool, true, false, not, ◌&&◌, ◌||◌, �
 use Rattle.std.specs.Prelude.{◌++◌, codes, length, take, slice_get, Option, Some, None, is_some, unwrap_or}
 use Rattle.std.specs.Prelude.{option_to_list}
 use Rattle.std.specs.List.{list_all, list_any}
+use Rattle.std.specs.List as list
 use Rattle.std.specs.Option.{option_or}
 use Rattle.std.specs.Str.{bytes_eq}
-use Rattle.text_lines.specs.Lines.{cut, is_blank, words_of}
+use Rattle.text_lines.specs.Lines.{cut, is_blank, skip_blanks, words_of}
 use Rattle.inittab_text.specs.Written.{is_empty}
 use Rattle.init_words.specs.declared.entries.TheConstants.{PROCESS_LIMIT}
 use Rattle.inittab_lint.specs.declared.shell.Operator.{Operator}
@@ -106,6 +107,71 @@ operator_of process = operator_in [] false true process
 abbrev pub is_special : ℕ → Bool
 is_special b = list_any (λ c. c == b) (codes "~`!$^&*()=|\\{}[];\"'<>?")
 
+abbrev pub begins_with : ℕ → List ℕ → Bool
+begins_with mark [] = false
+begins_with mark (b ∷ text) = b == mark
+
+abbrev pub is_byte : ℕ → Option ℕ → Bool
+is_byte mark None = false
+is_byte mark (Some b) = b == mark
+
+abbrev pub ends_with : ℕ → List ℕ → Bool
+ends_with mark text = is_byte mark (slice_get text (length text - 1))
+
+-- a letter, a digit or _
+abbrev pub is_name_byte : ℕ → Bool
+is_name_byte b =
+    nat_le 48 b && nat_le b 57 || (nat_le 65 b && nat_le b 90 || (nat_le 97 b && nat_le b 122 || b == 95))
+
+-- a $ before this character stands for something else: a name, or one of these
+abbrev pub is_expansion : ℕ → Bool
+is_expansion b = is_name_byte b || list_any (λ c. c == b) (codes "{(@*#?-$!")
+
+-- within double quotes, up to the one that closes them, such a $ stands, and no backslash before it
+abbrev pub expands : Bool → List ℕ → Bool
+expands was_read [] = false
+expands true (b ∷ text) = expands false text
+expands false (b ∷ text) =
+    if b == 34 then false
+    else b == 36 && is_expansion (next_in text) || expands (b == 92) text
+
+abbrev pub quote_expands : List ℕ → Bool
+quote_expands [] = false
+quote_expands (b ∷ text) = b == 34 && expands false text
+
+-- the words that are behind a shell are a flag that ends with c, and a command in double quotes that init's shell
+-- expands before that shell reads it
+abbrev pub is_command_flag : List ℕ → Bool
+is_command_flag word = begins_with 45 word && ends_with 99 word
+
+abbrev pub flag_expands : Option (List ℕ × List ℕ) → Bool
+flag_expands None = false
+flag_expands (Some parts) = is_command_flag parts.0 && quote_expands (skip_blanks parts.1)
+
+-- the first word is a shell: it ends with sh, and is nothing else by quotes and such
+abbrev pub is_shell : List ℕ → Bool
+is_shell word = not (list_any is_special word) && list.ends_with (λ a b. a == b) word (codes "sh")
+
+abbrev pub shell_expands : Option (List ℕ × List ℕ) → Bool
+shell_expands None = false
+shell_expands (Some parts) = is_shell parts.0 && flag_expands (cut 32 (skip_blanks parts.1))
+
+-- so behind a word of a text's commands, with the parts that are open, whether its first character was read with the
+-- one before it, and whether a word begins with it
+abbrev pub early_in : List ℕ → Bool → Bool → List ℕ → Bool
+early_in parts was_read start [] = false
+early_in parts true start (b ∷ text) = early_in parts false start text
+early_in parts false start (b ∷ text) =
+    let part = innermost parts in
+    let c = next_in text in
+    if is_comment part start b then false
+    else if start && (in_commands part && shell_expands (cut 32 (b ∷ text))) then true
+    else if is_deep parts b c then false
+    else early_in (parts_after parts b c) (is_two part b c) (starts_word part b c) text
+
+abbrev pub expands_early : List ℕ → Bool
+expands_early process = early_in [] false true process
+
 -- a word begins with #, at the beginning or behind a blank
 abbrev pub has_hash : Bool → List ℕ → Bool
 has_hash before [] = false
@@ -142,21 +208,12 @@ builtins =
     ∷ codes "hash" ∷ codes "getopts" ∷ codes "alias" ∷ codes "unalias" ∷ codes "jobs" ∷ codes "fg" ∷ codes "bg"
     ∷ codes "fc" ∷ []
 
-abbrev pub begins_with : ℕ → List ℕ → Bool
-begins_with mark [] = false
-begins_with mark (b ∷ text) = b == mark
-
 -- one of these, or a parenthesis
 abbrev pub is_shell_word : List ℕ → Bool
 is_shell_word word =
     begins_with 40 word
     || (list_any (bytes_eq word) reserved_words
     || (list_any (bytes_eq word) special_builtins || list_any (bytes_eq word) builtins))
-
--- a letter, a digit or _
-abbrev pub is_name_byte : ℕ → Bool
-is_name_byte b =
-    nat_le 48 b && nat_le b 57 || (nat_le 65 b && nat_le b 90 || (nat_le 97 b && nat_le b 122 || b == 95))
 
 abbrev pub is_name : List ℕ → Bool
 is_name text = not (is_empty text) && list_all is_name_byte text

@@ -1,7 +1,7 @@
 -- What a line that is kept does otherwise than it seems to (inittab(5)).
 use Rattle.std.specs.Prelude.{ℕ, Bool, true, false, not, ◌&&◌, ◌||◌, ◌==◌, ◌-◌, ◌+◌, if◌then◌else◌, List, [], ◌∷◌, ◌++◌}
 use Rattle.std.specs.Prelude.{map, filter, length, slice_get, Option, Some, None, is_some}
-use Rattle.std.specs.List.{list_any}
+use Rattle.std.specs.List.{list_any, starts_with}
 use Rattle.text_lines.specs.Lines.{lines_of, skip_blanks}
 use Rattle.init_words.specs.declared.actions.Act.{Act}
 use Rattle.init_words.specs.declared.actions.Act.TheVariants as act
@@ -15,7 +15,8 @@ use Rattle.inittab_lint.specs.declared.shell.Operator.TheVariants as operator
 use Rattle.inittab_lint.specs.declared.traps.LineWarning.{LineWarning}
 use Rattle.inittab_lint.specs.declared.traps.Warning.{Warning}
 use Rattle.inittab_lint.specs.declared.traps.Warning.TheVariants as warning
-use Rattle.inittab_lint.specs.Shell.{begins_with, first_word, has_comment, is_assigned, is_shell_word, operator_of}
+use Rattle.inittab_lint.specs.Shell.{begins_with, ends_with, expands_early, first_word, has_comment, is_assigned}
+use Rattle.inittab_lint.specs.Shell.{is_shell_word, operator_of}
 
 -- a character of the runlevels counts: a letter of ondemand entries, none of sysinit, boot and bootwait, else a level
 abbrev pub counts : Act → ℕ → Bool
@@ -36,13 +37,6 @@ counts_none action levels = not (list_any (counts action) (levels_meant action l
 abbrev pub run_by : Act → List ℕ → List ℕ
 run_by action process = if needs_process action then without_plus process else []
 
-abbrev pub is_byte : ℕ → Option ℕ → Bool
-is_byte mark None = false
-is_byte mark (Some b) = b == mark
-
-abbrev pub ends_with : ℕ → List ℕ → Bool
-ends_with mark text = is_byte mark (slice_get text (length text - 1))
-
 abbrev pub is_operator : Operator → Option Operator → Bool
 is_operator operator.Chain (Some operator.Chain) = true
 is_operator operator.Pipe (Some operator.Pipe) = true
@@ -61,6 +55,7 @@ holds_of warning.Pipe process = is_operator operator.Pipe (operator_of process)
 holds_of warning.Background process = is_operator operator.Background (operator_of process)
 holds_of warning.Unclosed process = is_operator operator.Unclosed (operator_of process)
 holds_of warning.Comment process = has_comment process
+holds_of warning.Early process = expands_early process
 holds_of _ process = false
 
 -- the warnings about an action, its runlevels and its process
@@ -78,7 +73,7 @@ abbrev pub all_warnings : List Warning
 all_warnings =
     warning.Runlevel ∷ warning.NoLevel ∷ warning.NoLetter ∷ warning.Boot ∷ warning.Return ∷ warning.At
     ∷ warning.ShellWord ∷ warning.Assignment ∷ warning.Chain ∷ warning.Pipe ∷ warning.Background
-    ∷ warning.Unclosed ∷ warning.Comment ∷ []
+    ∷ warning.Unclosed ∷ warning.Comment ∷ warning.Early ∷ []
 
 -- those that hold
 abbrev pub warnings_by : Act → FieldBytes → List Warning
@@ -93,10 +88,16 @@ abbrev pub warnings_at : Option FieldBytes → List Warning
 warnings_at None = []
 warnings_at (Some f) = warnings_with (act_read f.action) f
 
+-- a byte order mark, which editors put before a text
+abbrev pub begins_marked : List ℕ → Bool
+begins_marked line = starts_with (λ a b. a == b) line (239 ∷ 187 ∷ 191 ∷ [])
+
+-- where a line begins with one, it is no other line than the one that was meant: this alone
 abbrev pub warnings_of_line : List ℕ → List Warning
 warnings_of_line line =
     let text = skip_blanks line in
-    if is_ignored text then [] else warnings_at (fields_of text)
+    if begins_marked line then warning.Marked ∷ []
+    else if is_ignored text then [] else warnings_at (fields_of text)
 
 -- a warning about the line of a number, in the file of a number
 abbrev pub at_line : ℕ → ℕ → Warning → LineWarning

@@ -1,8 +1,11 @@
 //! What of a process the shell does otherwise than it seems, since init has it execute the process (inittab(5)).
 
-ghost use Rattle.std.specs.Prelude.{◌≡◌, ◌&&◌, ◌||◌, ◌==◌, not, true, IsTrue};
+ghost use Rattle.std.specs.Prelude.{◌≡◌, ◌&&◌, ◌||◌, ◌==◌, not, true, false, IsTrue};
 ghost use Rattle.std.specs.List.{list_all, list_any};
 ghost use Rattle.std.specs.Str.{bytes_eq};
+ghost use Rattle.text_lines.specs.Lines.{cut};
+ghost use Rattle.inittab_lint.specs.Shell.{ends_with, expands, expands_early, flag_expands, is_command_flag};
+ghost use Rattle.inittab_lint.specs.Shell.{is_expansion, is_shell, quote_expands, shell_expands};
 ghost use Rattle.inittab_lint.specs.Shell.{begins_with, builtins, first_word, has_comment, has_hash, in_commands, innermost};
 ghost use Rattle.inittab_lint.specs.Shell.{is_assigned, is_comment, is_deep, is_dollar, is_literal, is_name, is_name_byte};
 ghost use Rattle.inittab_lint.specs.Shell.{is_part, is_shell_word, is_special, is_two, next_in, opened, operator_at};
@@ -10,7 +13,7 @@ ghost use Rattle.inittab_lint.specs.Shell.{operator_of, parts_after, reserved_wo
 
 use arrayvec::ArrayVec;
 use init_words::PROCESS_LIMIT;
-use text_lines::{cut, is_blank, next_word};
+use text_lines::{cut, is_blank, next_word, without_blanks};
 
 /// What closes each part of a process that is open, the outermost first.
 type Parts = ArrayVec<u8, PROCESS_LIMIT>;
@@ -336,6 +339,15 @@ pub(crate) fn begins_with(mark: u8, text: &[u8]) -> bool
     }
 }
 
+pub(crate) fn ends_with(mark: u8, text: &[u8]) -> bool
+    ensures { result ≡ ends_with mark text.now }
+{
+    match text.last() {
+        Some(byte) => *byte == mark,
+        None => false,
+    }
+}
+
 fn is_name_byte(byte: u8) -> bool
     ensures { result ≡ is_name_byte byte }
 {
@@ -362,4 +374,107 @@ pub(crate) fn is_assigned(word: &[u8]) -> bool
         Some((name, _)) => is_name(name),
         None => false,
     }
+}
+
+/// A `$` before this byte stands for something else.
+fn is_expansion(byte: u8) -> bool
+    ensures { result ≡ is_expansion byte }
+{
+    is_name_byte(byte) || b"{(@*#?-$!".contains(&byte)
+}
+
+/// Up to the double quote that ends a text such a `$` stands, and no backslash before it.
+fn expands(text: &[u8]) -> bool
+    ensures { result ≡ expands false text.now }
+{
+    let mut was_read = false;
+    let mut rest = text;
+    while let Some((byte, after)) = rest.split_first() {
+        rest = after;
+        if was_read {
+            was_read = false;
+            continue;
+        }
+        if *byte == b'"' {
+            return false;
+        }
+        if *byte == b'$' && is_expansion(next_in(after)) {
+            return true;
+        }
+        was_read = *byte == b'\\';
+    }
+    false
+}
+
+fn quote_expands(text: &[u8]) -> bool
+    ensures { result ≡ quote_expands text.now }
+{
+    match text {
+        [] => false,
+        [byte, rest @ ..] => *byte == b'"' && expands(rest),
+    }
+}
+
+fn is_command_flag(word: &[u8]) -> bool
+    ensures { result ≡ is_command_flag word.now }
+{
+    begins_with(b'-', word) && ends_with(b'c', word)
+}
+
+fn is_shell(word: &[u8]) -> bool
+    ensures { result ≡ is_shell word.now }
+{
+    !has_special(word) && word.ends_with(b"sh")
+}
+
+/// A flag stands here, and behind it a command in double quotes that init's shell expands.
+fn flag_expands(text: &[u8]) -> bool
+    ensures { result ≡ flag_expands (cut 32 text.now) }
+{
+    match cut(b' ', text) {
+        Some((flag, behind)) => is_command_flag(flag) && quote_expands(without_blanks(behind)),
+        None => false,
+    }
+}
+
+/// A shell stands here, with such a flag.
+fn shell_expands(text: &[u8]) -> bool
+    ensures { result ≡ shell_expands (cut 32 text.now) }
+{
+    match cut(b' ', text) {
+        Some((shell, behind)) => is_shell(shell) && flag_expands(without_blanks(behind)),
+        None => false,
+    }
+}
+
+/// A shell is handed a command in double quotes of which init's shell, which starts it, expands a part.
+pub(crate) fn expands_early(process: &[u8]) -> bool
+    ensures { result ≡ expands_early process.now }
+{
+    let mut parts: Parts = ArrayVec::new();
+    let mut was_read = false;
+    let mut start = true;
+    let mut rest = process;
+    while let Some((byte, after)) = rest.split_first() {
+        let here = rest;
+        rest = after;
+        if was_read {
+            was_read = false;
+            continue;
+        }
+        let part = innermost(&parts);
+        let next = next_in(after);
+        if is_comment(part, start, *byte) {
+            return false;
+        }
+        if start && (in_commands(part) && shell_expands(here)) {
+            return true;
+        }
+        if !read_on(&mut parts, *byte, next) {
+            return false;
+        }
+        was_read = is_two(part, *byte, next);
+        start = starts_word(part, *byte, next);
+    }
+    false
 }

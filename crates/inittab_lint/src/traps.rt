@@ -4,10 +4,11 @@ ghost use Rattle.std.specs.Prelude.{◌≡◌, ◌++◌, map, OnOk};
 ghost use Rattle.std.specs.List.{list_any};
 ghost use Rattle.inittab_text.specs.Kept.{levels_meant};
 ghost use Rattle.inittab_text.specs.Lines.{fields_at, fields_of, is_ignored};
-ghost use Rattle.inittab_lint.specs.Warnings.{at_line, counts, counts_none, ends_with, has_idle, holds, holds_of, run_by, warnings_by, warnings_of_line};
+ghost use Rattle.inittab_lint.specs.Warnings.{at_line, begins_marked, counts, counts_none, has_idle, holds, holds_of, run_by, warnings_by, warnings_of_line};
 
 use crate::shell::{
-    Operator, begins_with, first_word, has_comment, is_assigned, is_shell_word, operator_of,
+    Operator, begins_with, ends_with, expands_early, first_word, has_comment, is_assigned,
+    is_shell_word, operator_of,
 };
 use init_words::{Act, Letter, Level, without_plus};
 use inittab_text::Fields;
@@ -43,6 +44,10 @@ pub enum Warning {
     Unclosed,
     /// A word of the process begins with `#`, and no shell reads it.
     Comment,
+    /// A command in double quotes is handed to a shell, and init's shell expands a `$` of it before.
+    Early,
+    /// The line begins with a byte order mark.
+    Marked,
     /// The program of the process isn't found, where somebody looked for it.
     Missing,
 }
@@ -58,7 +63,7 @@ pub struct LineWarning {
 }
 
 /// All warnings of which the line itself says whether they hold, in the order in which they are told.
-const WARNINGS: [Warning; 13] = [
+const WARNINGS: [Warning; 14] = [
     Warning::Runlevel,
     Warning::NoLevel,
     Warning::NoLetter,
@@ -72,6 +77,7 @@ const WARNINGS: [Warning; 13] = [
     Warning::Background,
     Warning::Unclosed,
     Warning::Comment,
+    Warning::Early,
 ];
 
 /// A character of the runlevels counts for something in an entry of the action.
@@ -128,15 +134,6 @@ pub(crate) fn run_by(act: Act, process: &[u8]) -> &[u8]
     }
 }
 
-fn ends_with(mark: u8, text: &[u8]) -> bool
-    ensures { result ≡ ends_with mark text.now }
-{
-    match text.last() {
-        Some(byte) => *byte == mark,
-        None => false,
-    }
-}
-
 /// A warning about a process holds.
 fn holds_of(kind: Warning, process: &[u8]) -> bool
     ensures { result ≡ holds_of kind process.now }
@@ -151,6 +148,7 @@ fn holds_of(kind: Warning, process: &[u8]) -> bool
         Warning::Background => operator_of(process) == Some(Operator::Background),
         Warning::Unclosed => operator_of(process) == Some(Operator::Unclosed),
         Warning::Comment => has_comment(process),
+        Warning::Early => expands_early(process),
         _ => false,
     }
 }
@@ -175,6 +173,13 @@ fn holds(act: Act, levels: &[u8], process: &[u8], kind: Warning) -> bool
     }
 }
 
+/// A byte order mark stands before the line.
+fn begins_marked(line: &[u8]) -> bool
+    ensures { result ≡ begins_marked line.now }
+{
+    line.starts_with(b"\xef\xbb\xbf")
+}
+
 /// Adds the warnings about a line of a file that is an entry's.
 pub(crate) fn add_line<A: Allocator>(
     found: &mut Vec<LineWarning, A>,
@@ -185,6 +190,11 @@ pub(crate) fn add_line<A: Allocator>(
     ensures { OnOk result (found.new.items
         ≡ found.old.items ++ map (at_line part line) (warnings_of_line text.now)) }
 {
+    if begins_marked(text) {
+        let kind = Warning::Marked;
+        found.push(LineWarning { part, line, kind })?;
+        return Ok(());
+    }
     let text = without_blanks(text);
     if is_ignored(text) {
         return Ok(());
@@ -262,6 +272,10 @@ impl Warning {
             Warning::Comment => {
                 b"# begins no comment here: the program gets it as an argument: take it out"
             }
+            Warning::Early => {
+                b"init's shell expands the $ in double quotes before the other shell: write '..' or \\$"
+            }
+            Warning::Marked => b"it begins with a byte order mark: save the file without it",
             Warning::Missing => {
                 b"its program is in none of the folders: mend the line, or the folders"
             }

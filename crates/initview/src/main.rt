@@ -2,12 +2,13 @@
 #![tactic(auto)]
 
 use initview_command::{GrowingFiles, Printed, USAGE, run_words};
-use program_io::{StandardFiles, report_unread_words, words};
+use program_io::{Reports, StandardFiles, report_unread_words, words};
 use std::process::ExitCode;
 use trace_pieces::PiecedFiles;
 
 fn main(rt: HostRuntime) -> ExitCode {
     let _standard = StandardFiles::hold(&rt);
+    let mut err = Reports::to(rt.stderr());
     let alloc = rt.alloc();
     let status = match words(&rt, alloc) {
         Ok(words) => {
@@ -17,10 +18,10 @@ fn main(rt: HostRuntime) -> ExitCode {
                 alloc,
                 words.as_slice(),
                 &mut Printed::on(rt.stdout()),
-                &mut rt.stderr(),
+                &mut err,
             )
         }
-        Err(error) => report_unread_words("initview", USAGE, &error, &mut rt.stderr()),
+        Err(error) => report_unread_words("initview", USAGE, &error, &mut err),
     };
     ExitCode::from(status)
 }

@@ -13,6 +13,7 @@ use Rattle.command_words.specs.VersionLine.{version_line}
 use Rattle.initview_lines.specs.declared.lines.Line.TheVariants as line
 use Rattle.initview_command.specs.declared.asking.Command.{Command}
 use Rattle.initview_command.specs.Refusals.{ReportsRefusal}
+use Rattle.program_io.specs.Reports.{ReportList}
 
 -- the command line uses no more of clap than what is known of it
 pub is_free_line : is_simple_and_free command_line ≡ true
@@ -60,13 +61,13 @@ module _ (text_at growing_at : KnownTexts) (writers : KnownWriters) (status : �
       inl (subst (λ r. EndsWhere text_at growing_at writers r status old new) (sym is) done)
 
 -- the exit statuses of words that are refused
-pub refuses : (status : ℕ) (before after : Option (List ℕ)) (now : Heard) → ReportsRefusal status before after
+pub refuses : (status : ℕ) (before after : ReportList) (now : Heard) → ReportsRefusal status before after
     → Refuses status now now
 refuses status before after now (inl told) = (inl told.0, says_nothing now)
 refuses status before after now (inr told) = (inr told.0, says_nothing now)
 
 pub fault_done : (text_at growing_at : KnownTexts) (writers : KnownWriters) (status : ℕ)
-    (before after : Option (List ℕ)) (now : Heard)
+    (before after : ReportList) (now : Heard)
     (words : List (List ℕ)) (fault : WordFault) → (IsSome (reason_of fault) → given_by command_line words ≡ None)
     → ReportsRefusal status before after → (fault ≡ Memory → status ≡ DEVICE_FAULT)
     → EndsOn text_at growing_at writers words status now now

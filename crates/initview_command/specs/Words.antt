@@ -14,7 +14,7 @@ pub use Rattle.trace_view.specs.declared.text_views.ViewEnd.{ViewEnd}
 pub use Rattle.init_words.specs.declared.entries.Entry.{Entry}
 pub use Rattle.initview_timeline.specs.Marks.{marks_of, seen_of}
 pub use Rattle.command_words.specs.Faults.{ReportsUsage, reason_of}
-pub use Rattle.program_io.specs.Writing.{AppendsPrefix}
+pub use Rattle.program_io.specs.Reports.{HasReported, ReportList}
 pub use Rattle.initview_lines.specs.Reloads.{reload_in, reloaded, gone_on, with_request}
 pub use Rattle.inittab_lint.specs.Programs.{is_missing}
 pub use Rattle.program_io.specs.declared.takers.TheConstants.{PIECE_LIMIT, PIECES_LIMIT}

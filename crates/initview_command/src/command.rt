@@ -22,9 +22,8 @@ use crate::with_files::show_with_files;
 use clap::ArgMatches;
 use command_words::{is_version, word_of, words_of, write_version};
 use initview_lines::{Says, text_line};
-use program_io::{DONE, Texts};
+use program_io::{DONE, Reporter, Texts};
 use std::alloc::Global;
-use std::io::Write;
 
 /// What is told where help is asked for, and of words that are not read. Its lines up to the last that begins with
 /// blanks and `initview` are one for each command.
@@ -83,7 +82,7 @@ pub const USAGE: &str = "usage: initview why [--inittab-dir DIR] ID TRACE [TABLE
 /// followed is read on in `growing` until it ends, and each of its lines is written when it comes. Of an inittab the
 /// status is 1 where it isn't read for its size, of `lint` also where it has faults, and 2 where it has warnings alone.
 /// Faults of files are told on `err`.
-pub fn run_words<T: Texts, G: LiveTraces, S: Says, E: Write>(
+pub fn run_words<T: Texts, G: LiveTraces, S: Says, E: Reporter>(
     texts: &T,
     growing: &G,
     alloc: Global,
@@ -97,7 +96,7 @@ pub fn run_words<T: Texts, G: LiveTraces, S: Says, E: Write>(
     // Of words that ask nothing a reason and the usage of a command are reported.
     ensures refused { asks_version (map string_bytes words.now) ≡ false
         → asked_of (map string_bytes words.now) ≡ None
-        → ReportsRefusal result (E.contents err.old) (E.contents err.new) }
+        → ReportsRefusal result (E.reports err.old) (E.reports err.new) }
 {
     if is_version(words) {
         return say_version(alloc, out, err);
@@ -110,7 +109,7 @@ pub fn run_words<T: Texts, G: LiveTraces, S: Says, E: Write>(
 
 /// Says the version, and gives the exit status.
 #[tactic(auto, using(crate::proofs::Shown::none_written))]
-fn say_version<S: Says, E: Write>(alloc: Global, out: &mut S, err: &mut E) -> u8
+fn say_version<S: Says, E: Reporter>(alloc: Global, out: &mut S, err: &mut E) -> u8
     ensures { Writes (line.Text (version_line (codes "initview")) ∷ []) DONE result
         (S.said out.old) (S.said out.new) }
 {
@@ -125,7 +124,7 @@ fn say_version<S: Says, E: Write>(alloc: Global, out: &mut S, err: &mut E) -> u8
 }
 
 /// Runs initview on what its words give.
-fn run_matches<T: Texts, G: LiveTraces, S: Says, E: Write>(
+fn run_matches<T: Texts, G: LiveTraces, S: Says, E: Reporter>(
     texts: &T,
     growing: &G,
     alloc: Global,
@@ -137,7 +136,7 @@ fn run_matches<T: Texts, G: LiveTraces, S: Says, E: Write>(
         (rows_of (found_of matches.now)) result (S.said out.old) (S.said out.new) }
     ensures refused { what_of (rows_of (found_of matches.now))
         (words_said (rows_of (found_of matches.now))) ≡ None
-        → ReportsRefusal result (E.contents err.old) (E.contents err.new) }
+        → ReportsRefusal result (E.reports err.old) (E.reports err.new) }
 {
     match words_of(matches, "WORD") {
         Some(words) => run_given(texts, growing, alloc, matches, words, out, err),
@@ -146,7 +145,7 @@ fn run_matches<T: Texts, G: LiveTraces, S: Says, E: Write>(
 }
 
 /// The same, by the words that are no options.
-fn run_given<'a, T: Texts, G: LiveTraces, S: Says, E: Write>(
+fn run_given<'a, T: Texts, G: LiveTraces, S: Says, E: Reporter>(
     texts: &T,
     growing: &G,
     alloc: Global,
@@ -159,7 +158,7 @@ fn run_given<'a, T: Texts, G: LiveTraces, S: Says, E: Write>(
         (rows_of (found_of matches.now)) (map (λ word. word.now) words.now)
         result (S.said out.old) (S.said out.new) }
     ensures refused { what_of (rows_of (found_of matches.now)) (map (λ word. word.now) words.now)
-        ≡ None → ReportsRefusal result (E.contents err.old) (E.contents err.new) }
+        ≡ None → ReportsRefusal result (E.reports err.old) (E.reports err.new) }
 {
     match what_of(matches, words) {
         Some(what) => {
@@ -173,7 +172,7 @@ fn run_given<'a, T: Texts, G: LiveTraces, S: Says, E: Write>(
 }
 
 /// Does what is asked of the trace at a path, or of files and the programs of folders.
-fn run_asked<T: Texts, G: LiveTraces, S: Says, E: Write>(
+fn run_asked<T: Texts, G: LiveTraces, S: Says, E: Reporter>(
     texts: &T,
     growing: &G,
     alloc: Global,

@@ -11,8 +11,8 @@ use crate::with_files::NeedsFiles;
 use init_words::{Id, Memory, Part};
 use inittab_text::TableFault;
 use initview_lines::{Chain, Line, chain_of, id_lines, why_lines};
+use program_io::Reporter;
 use std::alloc::{AllocError, Global};
-use std::io::Write;
 use trace_view::{LastLines, ObservedTrace, TraceView};
 
 /// Why the id isn't started is asked, with what the files have of it.
@@ -96,7 +96,7 @@ impl NeedsFiles for ReasonOf {
 
     ghost AreRefused = { AreNone };
 
-    fn with_files<E: Write>(
+    fn with_files<E: Reporter>(
         &self,
         alloc: Global,
         files: &mut [Part],

@@ -11,10 +11,10 @@ use crate::showing::{stop_status, tell_stop};
 use crate::telling::{report_unread, report_unsaid};
 use init_words::Memory;
 use initview_lines::{Line, PartView, SayFault, Says, take_lines};
-use program_io::{PIECE_LIMIT, PIECES_LIMIT};
+use program_io::{PIECE_LIMIT, PIECES_LIMIT, Reporter};
 use std::alloc::Global;
 use std::io;
-use std::io::{ErrorKind, Read, Write};
+use std::io::{ErrorKind, Read};
 use trace_view::{TextView, ViewEnd};
 
 /// Why a trace is not followed to its end.
@@ -46,7 +46,7 @@ impl From<SayFault> for FollowFault {
 }
 
 /// Tells why, and gives the exit status.
-fn report_fault<E: Write>(path: &str, fault: &FollowFault, err: &mut E) -> u8
+fn report_fault<E: Reporter>(path: &str, fault: &FollowFault, err: &mut E) -> u8
     ensures { result ≡ DEVICE_FAULT }
 {
     match fault {
@@ -265,9 +265,9 @@ fn first_reader<R: Read>(
 }
 
 /// Tells that a text begins within a run.
-fn tell_part<E: Write>(path: &str, reader: &Reader, err: &mut E) {
+fn tell_part<E: Reporter>(path: &str, reader: &Reader, err: &mut E) {
     if let Reader::Part(_) = reader {
-        let _ = writeln!(
+        writeln!(
             err,
             "initview: {path} begins within a run: it is shown, and not judged"
         );
@@ -275,7 +275,7 @@ fn tell_part<E: Write>(path: &str, reader: &Reader, err: &mut E) {
 }
 
 /// Writes the last lines of what is there of a text, and all that come.
-fn follow_last<R: LiveTrace, S: Says, E: Write>(
+fn follow_last<R: LiveTrace, S: Says, E: Reporter>(
     from: &mut R,
     alloc: Global,
     path: &str,
@@ -314,7 +314,7 @@ fn follow_all<R: Read, S: Says>(
 }
 
 /// Writes the lines of a text, or those from the last so many of what is there on.
-fn follow<R: LiveTrace, S: Says, E: Write>(
+fn follow<R: LiveTrace, S: Says, E: Reporter>(
     from: &mut R,
     alloc: Global,
     path: &str,
@@ -334,7 +334,7 @@ fn follow<R: LiveTrace, S: Says, E: Write>(
 }
 
 /// The same, with the exit status.
-fn follow_text<R: LiveTrace, S: Says, E: Write>(
+fn follow_text<R: LiveTrace, S: Says, E: Reporter>(
     from: &mut R,
     alloc: Global,
     path: &str,
@@ -355,7 +355,7 @@ fn follow_text<R: LiveTrace, S: Says, E: Write>(
 
 /// Follows the trace at a path, from the last so many lines of what is there on, where that is asked for, and gives the
 /// exit status.
-pub(crate) fn follow_file<G: LiveTraces, S: Says, E: Write>(
+pub(crate) fn follow_file<G: LiveTraces, S: Says, E: Reporter>(
     growing: &G,
     alloc: Global,
     path: &str,

@@ -11,8 +11,8 @@ use init_words::{Level, Memory, Part};
 use inittab_text::{Table, TableFault};
 use initview_lines::{Line, add_path_times};
 use initview_timeline::{Marks, TimelineMark};
+use program_io::Reporter;
 use std::alloc::{AllocError, Global};
-use std::io::Write;
 use trace_view::ObservedTrace;
 
 /// The plan of an inittab is asked, and the times of its critical path.
@@ -72,7 +72,7 @@ impl NeedsFiles for TimingTo {
 
     ghost AreRefused = { AreNone };
 
-    fn with_files<E: Write>(
+    fn with_files<E: Reporter>(
         &self,
         alloc: Global,
         files: &mut [Part],

@@ -6,8 +6,8 @@ ghost use Rattle.initview_command.specs.Writers.{present};
 
 use crate::growing::Writer;
 use init_words::Memory;
+use program_io::Reporter;
 use std::alloc::Global;
-use std::io::Write;
 use trace_events::{Happening, HappeningIn};
 use trace_view::{ObservedTrace, TraceObserver, ViewEnd};
 
@@ -42,13 +42,13 @@ pub(crate) fn show_present<S: TraceObserver<Global> + Drop>(
 }
 
 /// Tells that a trace that is shown to its end goes no further.
-pub(crate) fn tell_writer<E: Write>(
+pub(crate) fn tell_writer<E: Reporter>(
     path: &str,
     writer: Writer,
     stop: Option<ViewEnd>,
     err: &mut E,
 ) {
     if let (Writer::Nobody, None) = (writer, stop) {
-        let _ = writeln!(err, "initview: no init writes {path}: this is how it ended");
+        writeln!(err, "initview: no init writes {path}: this is how it ended");
     }
 }

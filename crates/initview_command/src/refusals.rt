@@ -12,8 +12,8 @@ use crate::telling::report_memory;
 use clap::ArgMatches;
 use command_words::{WordFault, is_slip, report_refused_words, word_of};
 use init_words::Id;
+use program_io::Reporter;
 use std::alloc::{AllocError, Global};
-use std::io::Write;
 
 /// A command, and how many words stand behind it at least and at most.
 type CommandRow = (&'static str, usize, usize);
@@ -158,13 +158,13 @@ fn refusal_of(alloc: Global, matches: &ArgMatches, words: &[&str]) -> Result<Str
 }
 
 /// Tells why options and words are no command line, and gives the exit status.
-pub(crate) fn report_refusal<E: Write>(
+pub(crate) fn report_refusal<E: Reporter>(
     alloc: Global,
     matches: &ArgMatches,
     words: &[&str],
     err: &mut E,
 ) -> u8
-    ensures { ReportsRefusal result (E.contents err.old) (E.contents err.new) }
+    ensures { ReportsRefusal result (E.reports err.old) (E.reports err.new) }
 {
     let name = match words {
         [name, ..] => *name,
@@ -177,13 +177,13 @@ pub(crate) fn report_refusal<E: Write>(
 }
 
 /// Tells why words weren't read, and gives the exit status.
-pub(crate) fn report_fault<E: Write>(
+pub(crate) fn report_fault<E: Reporter>(
     alloc: Global,
     fault: &WordFault,
     words: &[String],
     err: &mut E,
 ) -> u8
-    ensures report { ReportsRefusal result (E.contents err.old) (E.contents err.new) }
+    ensures report { ReportsRefusal result (E.reports err.old) (E.reports err.new) }
     ensures memory { fault.now ≡ Memory → result ≡ DEVICE_FAULT }
 {
     match fault {
@@ -198,8 +198,8 @@ pub(crate) fn report_fault<E: Write>(
 }
 
 /// Tells a reason, and the usage of the command of this name; or the whole usage where help is asked for.
-fn report_reason<E: Write>(alloc: Global, reason: &str, name: &str, err: &mut E) -> u8
-    ensures { ReportsRefusal result (E.contents err.old) (E.contents err.new) }
+fn report_reason<E: Reporter>(alloc: Global, reason: &str, name: &str, err: &mut E) -> u8
+    ensures { ReportsRefusal result (E.reports err.old) (E.reports err.new) }
 {
     match usage_line(alloc, usage_of(name)) {
         Ok(usage) => report_refused_words("initview", reason, USAGE, usage.as_str(), err),

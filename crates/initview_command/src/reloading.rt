@@ -10,8 +10,8 @@ use init_words::{Level, Memory, Part};
 use initctl_frame::HeardRequest;
 use inittab_text::{Table, TableFault};
 use initview_lines::reload_lines;
+use program_io::Reporter;
 use std::alloc::Global;
-use std::io::Write;
 use trace_events::{Happening, HappeningIn};
 use trace_view::ObservedTrace;
 
@@ -113,7 +113,7 @@ impl NeedsFiles for ReloadTo {
 
     ghost AreRefused = { NoneOf };
 
-    fn with_files<E: Write>(
+    fn with_files<E: Reporter>(
         &self,
         alloc: Global,
         files: &mut [Part],

@@ -13,9 +13,8 @@ use crate::presence::{show_present, tell_writer};
 use crate::telling::{report_memory, report_packed, report_unread, report_unsaid};
 use init_words::{Id, Memory};
 use initview_lines::{Line, Says, is_starting, left_lines, row_line, status_lines};
-use program_io::{DEVICE_FAULT, DONE, PieceTaker, REFUSED, Texts, UNLAWFUL};
+use program_io::{DEVICE_FAULT, DONE, PieceTaker, REFUSED, Reporter, Texts, UNLAWFUL};
 use std::alloc::{AllocError, Global};
-use std::io::Write;
 use trace_view::{ObservedTrace, Row, TraceObserver, TraceView, ViewEnd};
 
 /// The trace of a path that was shown, who writes it, and why it is shown no further.
@@ -44,7 +43,7 @@ pub(crate) trait Query: Drop {
     }
 
     /// Tells what the answer can't say of the trace of a path.
-    fn tell_unsaid<E: Write>(&self, _view: &TraceView, _path: &str, _err: &mut E) {}
+    fn tell_unsaid<E: Reporter>(&self, _view: &TraceView, _path: &str, _err: &mut E) {}
 
     /// What is written, and the exit status.
     fn answer(
@@ -182,11 +181,11 @@ fn lines(alloc: Global, view: &TraceView, question: &TraceQuery) -> Result<Vec<L
 }
 
 /// Tells of each start that is open what to do.
-fn tell_starts<E: Write>(view: &TraceView, path: &str, err: &mut E) {
+fn tell_starts<E: Reporter>(view: &TraceView, path: &str, err: &mut E) {
     for entry in view.table().entries() {
         if is_starting(view, &entry.id) {
             let id = entry.id.as_str();
-            let _ = writeln!(
+            writeln!(
                 err,
                 "initview: {path}: {id}: its last start is open: a child may live that has no number here: it is in the \
                  session of init, where ps -e -o sid,pid,args has it"
@@ -206,7 +205,7 @@ impl Query for TraceQuery {
         true
     }
 
-    fn tell_unsaid<E: Write>(&self, view: &TraceView, path: &str, err: &mut E) {
+    fn tell_unsaid<E: Reporter>(&self, view: &TraceView, path: &str, err: &mut E) {
         if let TraceQuery::Left(_) = self {
             tell_starts(view, path, err);
         }
@@ -226,7 +225,7 @@ impl Query for TraceQuery {
 }
 
 /// Reads the trace of a path, writes what is asked of it, and gives the exit status.
-pub(crate) fn show_file<T: Texts, G: LiveTraces, Q: Query, S: Says, E: Write>(
+pub(crate) fn show_file<T: Texts, G: LiveTraces, Q: Query, S: Says, E: Reporter>(
     texts: &T,
     growing: &G,
     alloc: Global,
@@ -245,7 +244,7 @@ pub(crate) fn show_file<T: Texts, G: LiveTraces, Q: Query, S: Says, E: Write>(
 }
 
 /// Hands the text of a path to what has taken none, and writes what is asked of it.
-fn show_text<T: Texts, G: LiveTraces, Q: Query, S: Says, E: Write>(
+fn show_text<T: Texts, G: LiveTraces, Q: Query, S: Says, E: Reporter>(
     texts: &T,
     growing: &G,
     alloc: Global,
@@ -278,7 +277,12 @@ fn show_text<T: Texts, G: LiveTraces, Q: Query, S: Says, E: Write>(
 }
 
 /// Tells how a trace ends.
-fn tell_end<Q: Query, E: Write>(asked: &Q, shown: &TraceOutcome, left: Option<u64>, err: &mut E) {
+fn tell_end<Q: Query, E: Reporter>(
+    asked: &Q,
+    shown: &TraceOutcome,
+    left: Option<u64>,
+    err: &mut E,
+) {
     tell_stop(shown.path, shown.stop, left, err);
     if asked.asks_writer() {
         tell_writer(shown.path, shown.writer, shown.stop, err);
@@ -296,7 +300,7 @@ fn is_within(stop: Option<ViewEnd>) -> bool
 }
 
 /// Writes what is asked of a text, unless that begins within a run, and gives the exit status.
-fn show_seen<Q: Query, S: Says, E: Write>(
+fn show_seen<Q: Query, S: Says, E: Reporter>(
     alloc: Global,
     asked: Q,
     text: &mut ObservedTrace<Q::Seen>,
@@ -321,7 +325,7 @@ fn show_seen<Q: Query, S: Says, E: Write>(
 }
 
 /// Says lines, and gives the exit status, which is this where all are said.
-pub(crate) fn write_answer<S: Says, E: Write>(
+pub(crate) fn write_answer<S: Says, E: Reporter>(
     alloc: Global,
     lines: Vec<Line>,
     status: u8,
@@ -337,7 +341,7 @@ pub(crate) fn write_answer<S: Says, E: Write>(
 }
 
 /// Tells up to which line a trace is shown, where that isn't all of it.
-pub(crate) fn tell_stop<E: Write>(
+pub(crate) fn tell_stop<E: Reporter>(
     path: &str,
     stop: Option<ViewEnd>,
     left: Option<u64>,
@@ -346,26 +350,26 @@ pub(crate) fn tell_stop<E: Write>(
     match stop {
         Some(ViewEnd::Breach(law, line)) => {
             let why = law.words();
-            let _ = writeln!(
+            writeln!(
                 err,
                 "initview: {path}:{line}: {why}: shown up to the line before it"
             );
         }
         Some(ViewEnd::Torn(line)) => {
-            let _ = writeln!(
+            writeln!(
                 err,
                 "initview: {path}:{line}: not a line of a trace: shown up to the line before it"
             );
         }
         Some(ViewEnd::Within) => {
-            let _ = writeln!(
+            writeln!(
                 err,
                 "initview: {path} begins within a run: show it with the pieces before it"
             );
         }
         None => {
             if let Some(line) = left {
-                let _ = writeln!(
+                writeln!(
                     err,
                     "initview: {path}:{line}: the happening is not finished: shown up to the line before it"
                 );

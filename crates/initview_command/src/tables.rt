@@ -14,10 +14,9 @@ use init_words::{Level, Part};
 use inittab_lint::LineWarning;
 use inittab_text::{PartFault, Table, TableFault, read_parts};
 use initview_lines::{Findings, Line, Says, change_lines, lint_parts, plan_lines};
-use program_io::{DEVICE_FAULT, DONE, REFUSED, Texts};
+use program_io::{DEVICE_FAULT, DONE, REFUSED, Reporter, Texts};
 use std::alloc::{AllocError, Global};
 use std::io;
-use std::io::Write;
 
 /// Reads the file of a path, and adds it to the others.
 fn add_file<T: Texts>(texts: &T, alloc: Global, path: &str, parts: &mut Vec<Part>) -> io::Result<()>
@@ -32,7 +31,7 @@ fn add_file<T: Texts>(texts: &T, alloc: Global, path: &str, parts: &mut Vec<Part
 }
 
 /// Reads the files of the paths, in their order. One that can't be read is told, and none is given.
-fn read_named<T: Texts, E: Write>(
+fn read_named<T: Texts, E: Reporter>(
     texts: &T,
     alloc: Global,
     paths: &[&str],
@@ -53,7 +52,7 @@ fn read_named<T: Texts, E: Write>(
 
 /// Reads the files of the paths, in their order, and behind them those of a folder, where one is named. One that can't be
 /// read is told, and none is given.
-pub(crate) fn read_files<T: Texts, G: LiveTraces, E: Write>(
+pub(crate) fn read_files<T: Texts, G: LiveTraces, E: Reporter>(
     texts: &T,
     growing: &G,
     alloc: Global,
@@ -71,7 +70,7 @@ pub(crate) fn read_files<T: Texts, G: LiveTraces, E: Write>(
         Some(folder) => match growing.add_folder(alloc, folder, &mut parts) {
             Ok(()) => Some(parts),
             Err(fault) => {
-                let _ = writeln!(err, "initview: {fault}");
+                writeln!(err, "initview: {fault}");
                 None
             }
         },
@@ -90,11 +89,11 @@ fn found_status(found: Findings) -> u8
 }
 
 /// Says that an inittab has lines that are left out, and what tells which.
-fn tell_faulty<E: Write>(parts: &[Part], faults: &[PartFault], err: &mut E) {
+fn tell_faulty<E: Reporter>(parts: &[Part], faults: &[PartFault], err: &mut E) {
     let count = faults.len();
     if let (Some(part), true) = (parts.first(), count > 0) {
         let name = part.name.as_str();
-        let _ = writeln!(
+        writeln!(
             err,
             "initview: {name}: lines that are left out: {count}: initview lint says which"
         );
@@ -102,7 +101,7 @@ fn tell_faulty<E: Write>(parts: &[Part], faults: &[PartFault], err: &mut E) {
 }
 
 /// The table of files.
-pub(crate) fn table_in<E: Write>(
+pub(crate) fn table_in<E: Reporter>(
     alloc: Global,
     parts: &[Part],
     err: &mut E,
@@ -201,7 +200,7 @@ pub(crate) fn plan_of(
 }
 
 /// What is answered of inittabs, and the exit status.
-fn answer<G: LiveTraces, E: Write>(
+fn answer<G: LiveTraces, E: Reporter>(
     growing: &G,
     alloc: Global,
     folders: &str,
@@ -222,7 +221,7 @@ fn answer<G: LiveTraces, E: Write>(
 }
 
 /// The old and the new table of a diff.
-pub(crate) fn old_and_new<E: Write>(
+pub(crate) fn old_and_new<E: Reporter>(
     alloc: Global,
     parts: &mut [Part],
     err: &mut E,
@@ -236,7 +235,7 @@ pub(crate) fn old_and_new<E: Write>(
     Ok((old, new))
 }
 
-fn diff_answer<E: Write>(
+fn diff_answer<E: Reporter>(
     alloc: Global,
     level: Option<Level>,
     parts: &mut [Part],
@@ -253,7 +252,7 @@ fn diff_answer<E: Write>(
     }
 }
 
-fn plan_answer<E: Write>(
+fn plan_answer<E: Reporter>(
     alloc: Global,
     level: Option<Level>,
     parts: &[Part],
@@ -281,15 +280,15 @@ fn fault_status(fault: TableFault) -> u8
 }
 
 /// Tells why an inittab is not read, and gives the exit status.
-pub(crate) fn report_fault<E: Write>(fault: TableFault, err: &mut E) -> u8
+pub(crate) fn report_fault<E: Reporter>(fault: TableFault, err: &mut E) -> u8
     ensures { result ≡ fault_status fault }
 {
-    let _ = writeln!(err, "initview: {fault}");
+    writeln!(err, "initview: {fault}");
     fault_status(fault)
 }
 
 /// Writes what is answered of inittabs, and gives the exit status.
-fn show_parts<G: LiveTraces, S: Says, E: Write>(
+fn show_parts<G: LiveTraces, S: Says, E: Reporter>(
     growing: &G,
     alloc: Global,
     folders: &str,
@@ -307,7 +306,7 @@ fn show_parts<G: LiveTraces, S: Says, E: Write>(
 }
 
 /// Reads the files of inittabs, writes what is answered of them, and gives the exit status.
-pub(crate) fn show_files<T: Texts, G: LiveTraces, S: Says, E: Write>(
+pub(crate) fn show_files<T: Texts, G: LiveTraces, S: Says, E: Reporter>(
     texts: &T,
     growing: &G,
     alloc: Global,

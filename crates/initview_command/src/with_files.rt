@@ -13,9 +13,8 @@ use crate::tables::{read_files, report_fault};
 use init_words::Part;
 use inittab_text::TableFault;
 use initview_lines::Says;
-use program_io::{DEVICE_FAULT, Texts};
+use program_io::{DEVICE_FAULT, Reporter, Texts};
 use std::alloc::Global;
-use std::io::Write;
 
 /// What is asked of a trace, once files of inittabs are read.
 pub(crate) trait NeedsFiles {
@@ -30,7 +29,7 @@ pub(crate) trait NeedsFiles {
     /// Files that are refused: they are no inittab.
     ghost AreRefused: { List NamedText → Type 0 };
 
-    fn with_files<E: Write>(
+    fn with_files<E: Reporter>(
         &self,
         alloc: Global,
         files: &mut [Part],
@@ -43,7 +42,7 @@ pub(crate) trait NeedsFiles {
 
 /// Reads the files of the paths, and those of a folder, where one is named, and the trace of a path, writes what is asked
 /// of it, and gives the exit status.
-pub(crate) fn show_with_files<T: Texts, G: LiveTraces, Q: NeedsFiles, S: Says, E: Write>(
+pub(crate) fn show_with_files<T: Texts, G: LiveTraces, Q: NeedsFiles, S: Says, E: Reporter>(
     texts: &T,
     growing: &G,
     alloc: Global,
@@ -65,7 +64,7 @@ pub(crate) fn show_with_files<T: Texts, G: LiveTraces, Q: NeedsFiles, S: Says, E
     }
 }
 
-fn show_with<T: Texts, G: LiveTraces, Q: NeedsFiles, S: Says, E: Write>(
+fn show_with<T: Texts, G: LiveTraces, Q: NeedsFiles, S: Says, E: Reporter>(
     texts: &T,
     growing: &G,
     alloc: Global,

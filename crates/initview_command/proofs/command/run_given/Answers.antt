@@ -24,8 +24,8 @@ returns-in-None-clause-ends g c =
     let rows = rows_of (found_of c.args.matches.now) in
     let words = map (λ word. word.now) c.args.words.now in
     subst (λ a. EndsFor text_at growing_at writers rows words a c.report_refusal.result now now) c.in-None.ensures
-    (refuses c.report_refusal.result (g.E.Write.contents c.args.err.now)
-    (g.E.Write.contents c.report_refusal.new.err) now
+    (refuses c.report_refusal.result (g.E.Reporter.reports c.args.err.now)
+    (g.E.Reporter.reports c.report_refusal.new.err) now
     c.report_refusal.ensures)
 
 pub returns-in-Some-clause-refused : goal.returns-in-Some-clause-refused

@@ -30,8 +30,8 @@ returns-in-Err-clause-ends g c =
     let now = g.S.Says.said c.args.out.now in
     let other = sym c.is_version.ensures ∙ c.if-is_version.false in
     words_done text_at growing_at writers c.report_fault.result now now words _ other
-    (fault_done text_at growing_at writers c.report_fault.result (g.E.Write.contents c.args.err.now)
-    (g.E.Write.contents c.report_fault.new.err) now words c.in-Err.fault c.in-Err.ensures.usage
+    (fault_done text_at growing_at writers c.report_fault.result (g.E.Reporter.reports c.args.err.now)
+    (g.E.Reporter.reports c.report_fault.new.err) now words c.in-Err.fault c.in-Err.ensures.usage
     c.report_fault.ensures.report c.report_fault.ensures.memory)
 
 pub returns-in-Ok-clause-refused : goal.returns-in-Ok-clause-refused

@@ -4,8 +4,8 @@ use Rattle.initview_command.proofs.refusals.report_reason.Goals as goal
 
 pub returns-in-Ok : goal.returns-in-Ok
 returns-in-Ok g c =
-    let old = g.E.Write.contents c.args.err.now in
-    let new = g.E.Write.contents c.report_refused_words.new.err in
+    let old = g.E.Reporter.reports c.args.err.now in
+    let new = g.E.Reporter.reports c.report_refused_words.new.err in
     inl (
       c.report_refused_words.ensures.status,
       c.usage_of.result.now,
