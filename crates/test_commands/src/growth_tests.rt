@@ -7,7 +7,7 @@ use crate::run_tests::PLAIN;
 use crate::texts::{END, NET, NINE, SHOWN_NINE, header_of, joined, scripts_of, shown};
 use init_words::{Level, Memory};
 use linked_list_allocator::LocalHeap;
-use program_io::{KeptTexts, Texts};
+use program_io::{KeptTexts, Reports, Texts};
 use rc_driver::{Arg, LevelChange, RcStep, RunEnd, ScriptOptions, run_links};
 use rc_header::HeaderFault;
 use rc_links::{Folder, FolderEntry, LinkChange, Plan, PlanFault, Script};
@@ -140,7 +140,7 @@ fn is_run(own: Global, heap: &LocalHeap) -> Option<bool> {
     let new = line_words(own, "S10a S20b K05c").ok()?;
     let mut rc = rc_over(own, own, "", &[], &new).ok()?;
     let mut host = given_host(own, "bbb/eee//")?;
-    let (mut out, mut err) = (Vec::<u8>::new(own), Vec::<u8>::new(own));
+    let (mut out, mut err) = (Vec::<u8>::new(own), Reports::to(Vec::<u8>::new(own)));
     let end = run_links(
         heap,
         &mut rc,

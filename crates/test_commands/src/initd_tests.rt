@@ -9,7 +9,7 @@ use host_scripted::MemoryHost;
 use init_words::Memory;
 use initd_command::{Hosts, run_words};
 use initd_options::RunWords;
-use program_io::{ChannelLock, KeptTexts};
+use program_io::{ChannelLock, KeptTexts, Reports};
 use std::alloc::Global;
 use std::fs;
 use std::test::Fail;
@@ -65,7 +65,7 @@ const ROWS: &[&str] = &[
      look exit 5 | - | ?",
     // One whose announcements could not be printed goes on to its end, and ends with 4.
     "run --inittab tab --initctl host-ctl --level 3 --drain | 4 | 2 1 2 unprinted | o:3:once:x\n | start birth 7 / \
-     look exit 0 | - | -",
+     look exit 0 | - | initd: not all that init announces could be written\n",
     // A strict run takes an inittab without faults.
     "run --inittab tab --initctl host-ctl --level 3 --turns 3 --strict | 3 | 3 1 3 | o:3:once:x\n | start later | - | \
      ?",
@@ -134,7 +134,7 @@ fn answers(rt: &HostRuntime, row: &str, out: &mut Slow) -> Result<bool, Fail> {
         return Ok(false);
     };
     let words = line_words(alloc, line)?;
-    let mut err: Vec<u8> = Vec::new(alloc);
+    let mut err = Reports::to(Vec::<u8>::new(alloc));
     let mut traces = OsTraces::new(rt, alloc);
     let ended = run_words(
         rt,
@@ -149,7 +149,7 @@ fn answers(rt: &HostRuntime, row: &str, out: &mut Slow) -> Result<bool, Fail> {
     Ok(
         status.parse::<u8>() == Ok(ended)
             && is_text(out.taken.as_slice(), printed)
-            && is_text(err.as_slice(), reported)
+            && is_text(err.writer().as_slice(), reported)
             && are_made(alloc, &hosts, calls) == Some(true),
     )
 }
@@ -185,7 +185,7 @@ fn traced(rt: &HostRuntime, line: &str) -> Result<Vec<u8>, Fail> {
     let words = line_words(alloc, line)?;
     let mut traces = OsTraces::new(rt, alloc);
     let mut out: Vec<u8> = Vec::new(alloc);
-    let mut err: Vec<u8> = Vec::new(alloc);
+    let mut err = Reports::to(Vec::<u8>::new(alloc));
     let _ = run_words(
         rt,
         &kept,

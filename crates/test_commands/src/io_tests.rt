@@ -1,6 +1,8 @@
 //! Writers and readers that give or take little at a time, or fail in the middle, and the words of a program.
 
-use program_io::{only_byte, read_all, report_unread_words, unread_status, words, write_texts};
+use program_io::{
+    Reports, only_byte, read_all, report_unread_words, unread_status, words, write_texts,
+};
 use std::alloc::Global;
 use std::env::{Env, FillError};
 use std::io;
@@ -208,11 +210,11 @@ const UNREAD: &[(&str, &str, ErrorKind, u8, &str)] = &[
 fn unread_words_are_reported(rt: HostRuntime) {
     for (name, usage, kind, status, report) in UNREAD {
         let error = io::Error::from(*kind);
-        let mut err: Vec<u8> = Vec::new(rt.alloc());
+        let mut err = Reports::to(Vec::<u8>::new(rt.alloc()));
         let said = report_unread_words(name, usage, &error, &mut err);
         let is_reported = said == *status && unread_status(&error) == *status;
         assert!(rt;
-            is_reported && err.as_slice() == report.as_bytes(),
+            is_reported && err.writer().as_slice() == report.as_bytes(),
             "{report}"
         );
     }

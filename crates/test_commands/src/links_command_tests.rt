@@ -5,7 +5,7 @@ use crate::hosts::fields_of;
 use crate::texts::NET;
 use command_words::{KIT, VERSION};
 use init_words::Level;
-use program_io::KeptTexts;
+use program_io::{KeptTexts, Reports};
 use rc_links::{FolderEntry, LinkAction, LinkChange, is_same};
 use rclinks_command::{LinkFolders, run_words};
 use std::alloc::{AllocError, Global};
@@ -225,7 +225,7 @@ fn is_row(own: Global, texts: &KeptTexts, row: &str, version: &str) -> Option<bo
     let is_stuck = room.starts_with("stuck ");
     let room = room.trim_start_matches("stuck ").parse::<usize>().ok()?;
     let mut lines = Slow::new(own, room, true, is_stuck);
-    let mut told: Vec<u8> = Vec::new(own);
+    let mut told = Reports::to(Vec::<u8>::new(own));
     let ended = run_words(
         texts,
         &mut links,
@@ -237,7 +237,7 @@ fn is_row(own: Global, texts: &KeptTexts, row: &str, version: &str) -> Option<bo
     );
     let written = if *out == "VERSION" { version } else { *out };
     let is_ended = ended == status.parse::<u8>().ok()?;
-    let is_said = lines.has_line(written) && told.as_slice() == err.as_bytes();
+    let is_said = lines.has_line(written) && told.writer().as_slice() == err.as_bytes();
     Some(is_ended && is_said && hold(own, &links, after))
 }
 

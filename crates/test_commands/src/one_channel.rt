@@ -53,7 +53,6 @@ impl Channels for OneChannel {
         Ok(FoundChannel {
             was_made: self.bytes.is_empty(),
             length: self.bytes.len() as u64,
-            is_read: Ok(true),
         })
     }
 
@@ -67,5 +66,9 @@ impl Channels for OneChannel {
             return Err(Error::from(ErrorKind::StorageFull));
         }
         Ok(())
+    }
+
+    fn is_read(&self, _path: &str) -> io::Result<bool> {
+        Ok(true)
     }
 }

@@ -4,6 +4,7 @@
 use crate::hosts::{fields_of, given_host, has_calls};
 use command_words::{KIT, VERSION};
 use host_scripted::MemoryHost;
+use program_io::Reports;
 use rc_command::{Folders, LevelFiles, run_words};
 use std::alloc::Global;
 use std::io;
@@ -116,11 +117,11 @@ fn is_run(
     let folders = RowFolders { scripts };
     let words = line_words(own, line).ok()?;
     let mut lines = Slow::new(own, room.parse::<usize>().ok()?, true, false);
-    let mut told: Vec<u8> = Vec::new(own);
+    let mut told = Reports::to(Vec::<u8>::new(own));
     let ended = run_words(host, &folders, level, own, words, &mut lines, &mut told);
     let written = if *out == "VERSION" { version } else { *out };
     let is_ended = ended == status.parse::<u8>().ok()?;
-    Some(is_ended && lines.has_line(written) && is_told(&told, err))
+    Some(is_ended && lines.has_line(written) && is_told(told.writer(), err))
 }
 
 fn is_row(own: Global, row: &str, version: &str) -> Option<bool> {

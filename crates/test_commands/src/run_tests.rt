@@ -4,6 +4,7 @@ use crate::hosts::{begins_with, fields_of, given_host, has_calls};
 use crate::order_tests::rc_over;
 use host_scripted::MemoryHost;
 use init_words::Level;
+use program_io::Reports;
 use rc_driver::{LevelChange, Rc, RcStep, RunEnd, ScriptOptions, print_links, run_links};
 use std::alloc::Global;
 use test_support::{Slow, line_words};
@@ -119,7 +120,7 @@ fn ends(own: Global, rc: &mut Rc, host: &mut MemoryHost, row: &[&str]) -> Option
     };
     let (limit, room, told) = rooms_of(rooms)?;
     let mut lines = Slow::new(own, room, true, *how == "stuck");
-    let mut reports = Slow::new(own, told, true, false);
+    let mut reports = Reports::to(Slow::new(own, told, true, false));
     let ended = if how.starts_with("print") {
         print_links(own, rc, way_of(how), "x", &mut lines)
     } else {
@@ -135,7 +136,7 @@ fn ends(own: Global, rc: &mut Rc, host: &mut MemoryHost, row: &[&str]) -> Option
         )
     };
     let is_written = lines.taken.as_slice() == out.as_bytes();
-    let is_told = reports.taken.as_slice() == err.as_bytes();
+    let is_told = reports.writer().taken.as_slice() == err.as_bytes();
     Some(is_end(ended, rc.next(), end) && is_written && is_told)
 }
 

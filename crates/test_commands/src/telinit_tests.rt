@@ -3,6 +3,7 @@
 
 use crate::one_channel::OneChannel;
 use initctl_frame::BLOCK;
+use program_io::Reports;
 use std::alloc::{AllocError, Global};
 use std::test::Fail;
 use telinit_command::run_words;
@@ -29,7 +30,7 @@ fn is_appended(alloc: Global, row: &Row) -> Result<bool, AllocError> {
     let (before, room, line, status, gained) = row;
     let mut channel = OneChannel::new(alloc, "run/initctl", *before, *room)?;
     let mut out: Vec<u8> = Vec::new(alloc);
-    let mut err: Vec<u8> = Vec::new(alloc);
+    let mut err = Reports::to(Vec::<u8>::new(alloc));
     let words = line_words(alloc, line)?;
     let ended = run_words(&mut channel, alloc, "", words, &mut out, &mut err);
     let mut request = Vec::new(alloc);

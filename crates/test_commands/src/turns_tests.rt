@@ -4,6 +4,7 @@ use init_turns::Opening;
 use init_words::Level;
 use initd_command::make_turns;
 use initd_options::{RunWords, Words, read_words};
+use program_io::Reports;
 use std::alloc::Global;
 use std::test::Fail;
 use test_support::{boxed, host_of, line_words};
@@ -44,7 +45,7 @@ fn left_of<L: EndedLog + Drop>(rt: &HostRuntime, log: L) -> Result<L::Left, Fail
     let opening = opening_of(alloc)?;
     // The child lives where nothing else is answered.
     let host = host_of(alloc, alloc, "start birth 10").ok_or("no host")?;
-    let mut err: Vec<u8> = Vec::new(alloc);
+    let mut err = Reports::to(Vec::<u8>::new(alloc));
     let (_, _, left) = make_turns(
         rt,
         alloc,

@@ -67,7 +67,7 @@ const TOLD_LIVES: &[Life] = &[
         TOLD,
         "",
         "take 0 / zeros 400 / take 384 / zeros 768 / take 384 / take 0 / zeros 778 / take 0 / zeros 788 / take 0 / \
-         take 0 / take 0",
+         take 0 / pause / pause / pause / pause / take 0 / take 0 / zeros 768 / take 0",
     ),
     (TOLD, "", "announce / announce / faults 2"),
 ];
@@ -85,6 +85,7 @@ true
 initd: k.ctl: request 1 has no magic number: passed over
 initd: k.ctl: request 2 has no magic number: passed over
 initd: k.ctl has 20 bytes that are no whole request: every later request is out of step; truncate -s /384 k.ctl, or remove it
+initd: k.ctl ends with a whole request again
 true
 initd: cannot write standard output: No space left on device
 true
