@@ -1,6 +1,7 @@
 -- What was read of a channel's file that only grew.
 use Rattle.std.proofs.Common.{◌≡◌, ◌⊎◌, ◌≤◌, refl, sym, ap, ◌∙◌, subst, inl, inr, ℕ, ◌+◌, ◌-◌, ◌%◌, ◌==◌, nat_lt, Bool}
-use Rattle.std.proofs.Common.{true, false, ◌&&◌, ◌||◌, not, if◌then◌else◌, List, [], ◌∷◌, ◌++◌, length, take, drop, Option, Some, None}
+use Rattle.std.proofs.Common.{true, false, ◌&&◌, ◌||◌, not, if◌then◌else◌, List, [], ◌∷◌, ◌++◌, length, take, drop}
+use Rattle.std.proofs.Common.{Option, Some, None}
 use Rattle.std.proofs.Common.{arith, append_assoc, append-nil, take-append-drop, length-append}
 use Rattle.std.specs.Option.{option_map_or}
 use Rattle.std.proofs.lemmas.Bool.{eq-eqb, le-ltb}
@@ -8,7 +9,8 @@ use Rattle.std.proofs.lemmas.List.{drop_at, length-take-le}
 use Rattle.std.proofs.lemmas.Bool.{true≢false}
 use Rattle.host_files.specs.declared.channel_files.FoundFile.{FoundFile}
 use Rattle.host_files.specs.declared.places.Place.{Place}
-use Rattle.host_files.specs.Channels.{ChannelCall, IsReadOn, begun, bytes_read, first_place, is_another, is_anew, moved, place_of}
+use Rattle.host_files.specs.Channels.{ChannelCall, IsReadOn, begun, bytes_read, first_place, is_another, is_anew, moved}
+use Rattle.host_files.specs.Channels.{place_of}
 use Rattle.host_files.specs.Channels.{place_after, whole_length}
 use Rattle.host_files.specs.Channels.ChannelCall.{found, read}
 use Rattle.host_files.specs.Grown.{AreOfFile}

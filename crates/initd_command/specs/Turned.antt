@@ -1,7 +1,8 @@
 -- How the turns of a run ended: its exit status, and what is reported.
 use Rattle.std.specs.Prelude.{◌≡◌, ◌⊎◌, ◌||◌, ◌==◌, if◌then◌else◌, unwrap_or, ℕ, Bool, true, false, List, [], ◌∷◌, ◌++◌}
 use Rattle.std.specs.Prelude.{codes, decimal, Option, Some, None}
-use Rattle.initd_command.specs.Words.{HasReported, ReportList, DONE, UNLAWFUL, LIMIT_REACHED, DEVICE_FAULT, Judgement, Status}
+use Rattle.initd_command.specs.Words.{HasReported, ReportList, DONE, UNLAWFUL, LIMIT_REACHED, DEVICE_FAULT, Judgement}
+use Rattle.initd_command.specs.Words.{Status}
 use Rattle.initd_command.specs.Words.{law_words}
 use Rattle.init_words.specs.declared.children.Status.TheVariants.{Exit, Killed}
 use Rattle.trace_log_wrappers.specs.declared.judgements.Judgement.TheVariants.{Lawful, Breach, Unjudged}

@@ -129,7 +129,8 @@ dry_text options path previous names rc answers is dry =
 
 -- a run of the scripts of two folders' names
 pub run_reports : (options : RunOptions) (path : List ℕ) (previous names : List (List ℕ))
-    (old now : Option (List HostCall)) (rc : RcState) (before after : Option (List ℕ)) (told tells : ReportList) (status : ℕ)
+    (old now : Option (List HostCall)) (rc : RcState) (before after : Option (List ℕ)) (told tells : ReportList)
+    (status : ℕ)
     → rc ≡ rc_of options.way.levels previous names → options.dry ≡ false
     → Since old now (RunsScripts options path rc before told status after tells)
     → IsWhole status → ReportsNames options path previous names before status after
@@ -147,7 +148,8 @@ run_reports options path previous names old now rc before after told tells statu
     )
 
 pub run_part : (options : RunOptions) (path : List ℕ) (previous names : List (List ℕ))
-    (old now : Option (List HostCall)) (rc : RcState) (before after : Option (List ℕ)) (told tells : ReportList) (status : ℕ)
+    (old now : Option (List HostCall)) (rc : RcState) (before after : Option (List ℕ)) (told tells : ReportList)
+    (status : ℕ)
     → rc ≡ rc_of options.way.levels previous names → options.dry ≡ false
     → Since old now (RunsScripts options path rc before told status after tells)
     → ReportsFirst options path previous names before after
@@ -160,7 +162,8 @@ run_part options path previous names old now rc before after told tells status i
     )
 
 pub run_names : (options : RunOptions) (path : List ℕ) (previous names : List (List ℕ))
-    (old now : Option (List HostCall)) (rc : RcState) (before after : Option (List ℕ)) (told tells : ReportList) (status : ℕ)
+    (old now : Option (List HostCall)) (rc : RcState) (before after : Option (List ℕ)) (told tells : ReportList)
+    (status : ℕ)
     → rc ≡ rc_of options.way.levels previous names
     → Since old now (RunsScripts options path rc before told status after tells)
     → Since old now (RunsNames options path previous names before told status after tells)
@@ -263,7 +266,8 @@ said_reports names_at said dir path listed previous names before after status sa
 )
 
 pub said_runs : (names_at : KnownNames) (said : RcSaid) (dir path listed : List ℕ) (previous names : List (List ℕ))
-    (old new : Option (List HostCall)) (before : Option (List ℕ)) (told : ReportList) (after : Option (List ℕ)) (tells : ReportList) (status : ℕ)
+    (old new : Option (List HostCall)) (before : Option (List ℕ)) (told : ReportList) (after : Option (List ℕ))
+    (tells : ReportList) (status : ℕ)
     → dir ≡ said.dir → path ≡ folder_of dir said.new → listed ≡ folder_of dir said.new
     → ArePrevious names_at dir said.previous previous → AreNamesAt names_at listed names
     → Since old new (RunsNames said.options path previous names before told status after tells)
@@ -328,7 +332,8 @@ reports_asked file_at names_at asked before dir options inner status out told af
 -- what is so of how scripts were run is so of those that are asked for, where nothing was told before
 pub runs_asked : (file_at : KnownFiles) (names_at : KnownNames) (asked : Asked) (before : Option Level) (dir : List ℕ)
     (options : RunOptions) (inner status : ℕ)
-    (old new : Option (List HostCall)) (out : Option (List ℕ)) (first told between : ReportList) (after : Option (List ℕ)) (tells : ReportList)
+    (old new : Option (List HostCall)) (out : Option (List ℕ)) (first told between : ReportList)
+    (after : Option (List ℕ)) (tells : ReportList)
     → IsBefore file_at asked before → dir ≡ asked.dir
     → options ≡ entering asked.sysv (record { before = before; new = asked.new }) asked.options
     → IsStatusOf asked.file inner between status tells → told ≡ first

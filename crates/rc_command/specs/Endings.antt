@@ -147,7 +147,8 @@ Asks file_at words P = Says words (λ asked. AsksFor file_at asked P)
 abbrev pub Keeps : Asked → KnownFiles → KnownFiles → Type 0
 Keeps asked old new = KeepsIn asked.options.dry asked.file asked.new old new
 
--- the status of a run, and nothing more is reported; or that of a fault, where a file is named and the new level was not
+-- the status of a run, and nothing more is reported; or that of a fault, where a file is named and the new level was
+-- not
 -- kept in it although all scripts were carried out
 abbrev pub IsStatusOf : Option (List ℕ) → ℕ → ReportList → ℕ → ReportList → Type 0
 IsStatusOf file inner told status tells =
