@@ -1,7 +1,7 @@
 #!/bin/bash
 # What a line of a script costs `initd simulate` over tables of 16, 512 and 4,096 respawn entries, and where 4,096 all
 # end; what 60 turns cost `initd run` over 500 children that sleep, and what a trace of 10,000,000 lines costs
-# `initd check` and `initview`, in processor time; of the last also the memory.
+# `initd check` and `initview`, also in 10 and 1,000 pieces, in processor time; of the last also the memory.
 # usage: bench/cost.sh INITD INITVIEW     (the programs, as `rt run` leaves them in crates/initd/out/initd and
 # crates/initview/out/initview)
 set -eu
@@ -73,3 +73,20 @@ echo "it is viewed: status, status of an id, follow"
 viewed status long
 viewed status long c4
 measured "$initview" follow - < long
+
+for count in 10 1000; do
+    mkdir "in$count"
+    split --numeric-suffixes=1 -a 4 -n "l/$count" long "in$count/part."
+    echo '1 begun' > "in$count/trace.0.pieces"
+    number=1
+    for part in "in$count"/part.*; do
+        mv "$part" "in$count/trace.$number"
+        echo "$number $(wc -c < "in$count/trace.$number") piece" >> "in$count/trace.0.pieces"
+        number=$((number + 1))
+    done
+    mv "in$count/trace.$count" "in$count/trace"
+    sed -i '$d' "in$count/trace.0.pieces"
+    echo "in $count pieces it is judged, and viewed: status"
+    measured "$initd" check --pieces "in$count/trace"
+    viewed status "in$count/trace"
+done

@@ -152,6 +152,10 @@ impl<'a, R: Eprint, S: TraceFiles> FileLog<'a, R, S> {
     fn catch_up(&mut self)
         ensures { Moves S.contents self.old self.new }
     {
+        if let Err(error) = self.files.begin(self.path) {
+            self.fault = Some(error);
+            return;
+        }
         let (count, fault) = write_front(&mut self.files, &self.kept);
         drop_front(&mut self.kept, count);
         self.fault = fault;

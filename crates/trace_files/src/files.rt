@@ -14,6 +14,11 @@ pub trait TraceFiles: Write {
     /// How many bytes the last one has taken.
     fn length(&self) -> u64;
 
+    /// Has to come before bytes are written, and changes nothing behind these: where the first file holds what a run before
+    /// wrote, that is no more there.
+    fn begin(&mut self, path: &str) -> io::Result<()>
+        ensures { Keeps (Self.contents self.old) (Self.contents self.new) };
+
     /// Puts the last one away as the next piece of the trace at the path, and goes on in a new one; where that can't be done
     /// it goes on in the same.
     fn put_away(&mut self, path: &str) -> io::Result<()>

@@ -5,6 +5,7 @@ mod file_logs;
 mod files;
 mod fronts;
 mod laws;
+mod listing;
 mod os_files;
 
 pub use file_logs::FileLog;

@@ -3,15 +3,18 @@
 ghost use Rattle.std.specs.Prelude.{◌≡◌, ◌++◌, [], take, Some};
 
 use crate::files::{TraceFiles, Traces};
+use crate::listing::append_line;
 use program_io::{Noted, Reads, refuse_too_large};
 use std::alloc::Global;
-use std::fs::{File, OpenOptions, TryLockError, hard_link, metadata, remove_file, rename};
+use std::fs::{
+    File, OpenOptions, TryLockError, hard_link, metadata, remove_file, rename, symlink_metadata,
+};
 use std::io;
 use std::io::{ErrorKind, Write};
 use std::marker::Model;
 use std::os::unix::fs::{MetadataExt, OpenOptionsExt};
 use std::rt::Files;
-use trace_pieces::{are_same, newest_piece, piece_path};
+use trace_pieces::{ListLine, are_same, list_path, newest_piece, number_of_file, piece_path};
 
 /// How often the lock of a trace is asked for, since one that asks whether an init lives holds it too, for a moment.
 const LOCK_TRIES: u32 = 100;
@@ -72,8 +75,8 @@ impl<'a> Reads<(&'a Noted<ByteList>, &'a [u8], usize), ByteList> for Taken {
 }
 
 /// The files of a trace in the operating system: the one that is written to, which is begun anew where the first bytes
-/// come, so that what stood in it is there until then; and behind one that is put away another. Proofs alone can read the
-/// bytes that they have taken.
+/// come, so that what stood in it is there until then; and behind one that is put away another. Beside them stands the list
+/// of those that were put away. Proofs alone can read the bytes that they have taken.
 #[derive(Drop)]
 pub struct OsFiles<'a, R> {
     rt: &'a R,
@@ -82,6 +85,10 @@ pub struct OsFiles<'a, R> {
     is_begun: bool,
     /// How many bytes it took.
     length: u64,
+    /// The least number that a piece of the run can have.
+    first: u64,
+    /// What the list lacks of the file that was put away last.
+    unlisted: Option<ListLine>,
     taken: Noted<ByteList>,
 }
 
@@ -91,31 +98,81 @@ impl<R: Files<File = File>> OsFiles<'_, R> {
         ensures { self.new.taken.value ≡ self.old.taken.value }
     {
         self.file = file;
-        self.is_begun = false;
         self.length = 0;
     }
 
-    /// Begins the file anew where nothing was written to it. Of what is no plain file nothing is left to lose.
-    fn begin(&mut self) -> io::Result<()>
+    /// Begins the file anew. Where a list of pieces is there it says so before and behind that: who reads it between the two
+    /// knows the run before by the bytes that the file has still.
+    fn begin_run(&mut self, path: &str) -> io::Result<()>
         ensures { self.new.taken.value ≡ self.old.taken.value }
     {
-        if !self.is_begun && self.file.metadata()?.is_file() {
-            self.file.set_len(0)?;
+        let newest = newest_piece(self.rt, self.alloc, path).unwrap_or(0);
+        self.first = newest.saturating_add(1);
+        let list = list_path(self.alloc, path)?;
+        if symlink_metadata(self.rt, list.as_str()).is_err() {
+            return self.file.set_len(0);
         }
-        self.is_begun = true;
+        self.list(path, ListLine::Begins(self.first))?;
+        self.file.set_len(0)?;
+        self.list(path, ListLine::Begun(self.first))
+    }
+
+    /// Adds a line to the list of pieces.
+    fn list(&self, path: &str, line: ListLine) -> io::Result<()> {
+        let list = list_path(self.alloc, path)?;
+        let mode = self.file.metadata()?.mode() & MODES;
+        append_line(self.rt, self.alloc, list.as_str(), mode, line)
+    }
+
+    /// Adds to the list of pieces what it lacks, and makes it where none is there.
+    fn list_piece(&mut self, path: &str) -> io::Result<()>
+        ensures { self.new.taken.value ≡ self.old.taken.value }
+    {
+        let Some(line) = self.unlisted else {
+            return Ok(());
+        };
+        let list = list_path(self.alloc, path)?;
+        if symlink_metadata(self.rt, list.as_str()).is_err() {
+            self.list(path, ListLine::Begun(self.first))?;
+        }
+        self.list(path, line)?;
+        self.unlisted = None;
         Ok(())
     }
 
-    /// A new file at the path, whose own file is put away. The new one has its lock before it comes there.
-    fn next_file(&self, path: &str) -> io::Result<File> {
+    /// The number behind that of the newest piece.
+    fn next_number(&self, path: &str) -> io::Result<u64> {
+        match newest_piece(self.rt, self.alloc, path)?.checked_add(1) {
+            Some(number) => Ok(number),
+            None => Err(io::Error::other("a piece has the greatest number")),
+        }
+    }
+
+    /// A new file at the path, whose own file is put away, and what the list is to say of that. The new one has its lock
+    /// before it comes there.
+    fn next_file(&self, path: &str) -> io::Result<(File, ListLine)> {
         let (file, new) = self.made_beside(path)?;
         match self.exchange(path, new.as_str()) {
-            Ok(()) => Ok(file),
+            Ok(number) => Ok((file, self.put_away_by(number))),
             Err(error) => {
                 let _ = remove_file(self.rt, new.as_str());
                 Err(error)
             }
         }
+    }
+
+    /// What the list says of the file where it was put away by this number, or by none.
+    fn put_away_by(&self, number: Option<u64>) -> ListLine {
+        match number {
+            Some(number) => ListLine::Piece(number, self.length),
+            None => ListLine::Gone(self.length),
+        }
+    }
+
+    /// The number by which the file was renamed; None where it is that of no piece.
+    fn own_number(&self, path: &str) -> Option<u64> {
+        let own = self.file.metadata().ok()?;
+        number_of_file(self.rt, self.alloc, path, &own).ok()?
     }
 
     /// A new file beside the path, and its own path, at which nothing stood: `TRACE.new`, else `TRACE.new-1`, and so on.
@@ -144,37 +201,39 @@ impl<R: Files<File = File>> OsFiles<'_, R> {
         Ok(file)
     }
 
-    /// Gives the file at the path the name of a piece, where it is the trace's own, and another file that of the path.
-    fn exchange(&self, path: &str, new: &str) -> io::Result<()> {
+    /// Gives the file at the path the name of a piece, where it is the trace's own, and another file that of the path. Gives
+    /// the piece's number; where no file stood there, the one by which it was renamed.
+    fn exchange(&self, path: &str, new: &str) -> io::Result<Option<u64>> {
         match metadata(self.rt, path) {
             Ok(found) if !found.is_file() => return Err(io::Error::other("it is no plain file")),
             Ok(found) if are_same(&found, &self.file.metadata()?) => {
-                return self.exchange_piece(path, new);
+                return self.exchange_piece(path, new).map(Some);
             }
             Ok(_) => return Err(io::Error::other("another file stands there")),
             Err(error) if error.kind() == ErrorKind::NotFound => {}
             Err(error) => return Err(error),
         }
-        rename(self.rt, new, path)
+        let number = self.own_number(path);
+        rename(self.rt, new, path)?;
+        Ok(number)
     }
 
     /// The same, of the trace's own file. Where the file system lets it, that has both names until the new one comes; where
     /// this fails it keeps its own alone.
-    fn exchange_piece(&self, path: &str, new: &str) -> io::Result<()> {
-        let newest = newest_piece(self.rt, self.alloc, path)?;
-        let Some(number) = newest.checked_add(1) else {
-            return Err(io::Error::other("a piece has the greatest number"));
-        };
+    fn exchange_piece(&self, path: &str, new: &str) -> io::Result<u64> {
+        let number = self.next_number(path)?;
         let piece = piece_path(self.alloc, path, number)?;
         let is_linked = has_linked(self.rt, path, piece.as_str())?;
         if !is_linked {
             rename(self.rt, path, piece.as_str())?;
         }
-        let exchanged = rename(self.rt, new, path);
-        if exchanged.is_err() && is_linked {
-            let _ = remove_file(self.rt, piece.as_str());
+        if let Err(error) = rename(self.rt, new, path) {
+            if is_linked {
+                let _ = remove_file(self.rt, piece.as_str());
+            }
+            return Err(error);
         }
-        exchanged
+        Ok(number)
     }
 }
 
@@ -202,7 +261,6 @@ impl<R: Files<File = File>> Write for OsFiles<'_, R> {
     ghost contents = { λ files. Some files.taken.value };
 
     fn write(&mut self, buf: &[u8]) -> io::Result<usize> {
-        self.begin()?;
         refuse_too_large(&self.file, self.length, buf.len())?;
         let count = self.file.write(buf)?;
         self.length = self.length.saturating_add(count as u64);
@@ -224,15 +282,33 @@ impl<R: Files<File = File>> TraceFiles for OsFiles<'_, R> {
         self.length
     }
 
+    /// Of what is no plain file nothing is left to lose.
+    fn begin(&mut self, path: &str) -> io::Result<()> {
+        if !self.is_begun && self.file.metadata()?.is_file() {
+            self.begin_run(path)?;
+        }
+        self.is_begun = true;
+        Ok(())
+    }
+
+    /// The list has the one that was put away before, so that it lacks one at most.
     fn put_away(&mut self, path: &str) -> io::Result<()> {
-        let file = self.next_file(path)?;
+        self.list_piece(path)?;
+        let (file, line) = self.next_file(path)?;
+        self.unlisted = Some(line);
         self.go_on_in(file);
+        let _ = self.list_piece(path);
         Ok(())
     }
 
     fn begin_anew(&mut self, path: &str) -> io::Result<()> {
+        self.list_piece(path)?;
         let file = self.created(path)?;
+        if self.is_begun {
+            self.unlisted = Some(self.put_away_by(self.own_number(path)));
+        }
         self.go_on_in(file);
+        let _ = self.list_piece(path);
         Ok(())
     }
 }
@@ -279,6 +355,8 @@ impl<'a, R: Files<File = File>> Traces for OsTraces<'a, R> {
             file,
             is_begun: false,
             length: 0,
+            first: 1,
+            unlisted: None,
             taken: Noted::of::<(), Empty>(&()),
         }
     }

@@ -1,8 +1,11 @@
-//! A trace in pieces: `TRACE.1`, `TRACE.2`, .., which were put away, the oldest first, and `TRACE`, which is written still.
+//! A trace in pieces: `TRACE.1`, `TRACE.2`, .., which were put away, the oldest first, and `TRACE`, which is written still;
+//! and `TRACE.0.pieces`, the list of them that init makes.
 #![tactic(auto)]
 
+mod lists;
 mod names;
 mod readers;
 
-pub use names::{newest_piece, piece_path};
-pub use readers::{PiecedFiles, TraceReader, are_same, is_given};
+pub use lists::{ListLine, Piece, PieceList, is_list, line_text};
+pub use names::{are_same, list_path, newest_piece, number_of_file, piece_path};
+pub use readers::{PiecedFiles, TraceReader, is_given};

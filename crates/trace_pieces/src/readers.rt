@@ -1,22 +1,22 @@
 //! A trace that is read with the pieces before it.
 
-use crate::names::{newest_piece, piece_path};
-use program_io::{PIECES_LIMIT, PieceTaker, Texts, hand_over, open_plain};
+use crate::lists::{Piece, PieceList, is_list};
+use crate::names::{are_same, is_piece, list_path, newest_piece, piece_path};
+use program_io::{PIECES_LIMIT, PieceTaker, Texts, hand_over, open_plain, read_file};
 use std::alloc::{Allocator, Global};
 use std::fs::{File, Metadata};
 use std::io::{Error, ErrorKind, Read, Seek, SeekFrom};
-use std::os::unix::fs::MetadataExt;
 use std::rt::Files;
 use std::{fs, io};
 
-/// When a file was written to last, in seconds and nanoseconds.
-fn written(found: &Metadata) -> (i64, i64) {
-    (found.mtime(), found.mtime_nsec())
-}
-
-/// One file is the other.
-pub fn are_same(one: &Metadata, other: &Metadata) -> bool {
-    one.dev() == other.dev() && one.ino() == other.ino()
+/// The pieces that are read before a trace's file.
+#[derive(Clone, Copy)]
+struct ReadPieces {
+    /// The numbers of the first and the last one.
+    first: u64,
+    last: u64,
+    /// A list says that these are all.
+    are_listed: bool,
 }
 
 /// A trace, from where its run begins. A file that is put away or comes to another path while it is read is read to its
@@ -26,111 +26,93 @@ pub fn are_same(one: &Metadata, other: &Metadata) -> bool {
 pub struct TraceReader<'a, R> {
     rt: &'a R,
     alloc: Global,
-    /// The name of the program that tells what is left out.
-    program: &'a str,
     path: String,
     file: File,
     /// How many bytes of it were read.
     position: u64,
     /// The file behind it: nothing is written to this one any more.
     next: Option<File>,
-    /// The numbers of the first piece that is read and of the newest one, where any is.
-    pieces: Option<(u64, u64)>,
+    /// The pieces that are to be read before what stands at the path, the newest first.
+    behind: Vec<Piece>,
+    pieces: Option<ReadPieces>,
 }
 
-impl<'a, R: Files<File = File> + Eprint> TraceReader<'a, R> {
+impl<'a, R: Files<File = File>> TraceReader<'a, R> {
     /// The file at a path, and none before it.
-    fn alone(files: &PiecedFiles<'a, R>, path: &str, file: File) -> io::Result<TraceReader<'a, R>> {
-        let alloc = files.alloc;
-        Ok(TraceReader {
-            rt: files.rt,
+    fn alone(rt: &'a R, alloc: Global, path: String) -> io::Result<TraceReader<'a, R>> {
+        let file = open_plain(rt, path.as_str())?;
+        Ok(TraceReader::of(rt, alloc, path, file))
+    }
+
+    /// The trace at a path, of which this file is read first, and then what stands at the path.
+    fn of(rt: &'a R, alloc: Global, path: String, file: File) -> TraceReader<'a, R> {
+        TraceReader {
+            rt,
             alloc,
-            program: files.program,
-            path: String::from_str(alloc, path)?,
+            path,
             file,
             position: 0,
             next: None,
+            behind: Vec::new(alloc),
             pieces: None,
-        })
+        }
     }
 
-    /// The trace at a path. Where its file begins within a run, the pieces from the one on in which that begins are read
-    /// before it; one that is missing there is an error, `NotFound`, and one that is newer than what is behind it
-    /// `InvalidData`.
-    fn open(files: &PiecedFiles<'a, R>, path: &str) -> io::Result<TraceReader<'a, R>> {
-        let mut reader = TraceReader::alone(files, path, open_plain(files.rt, path)?)?;
-        if !begins_run(&mut reader.file)? {
-            reader.go_back()?;
+    /// The trace at a path. Where a list is there that init made of its pieces, those of the last run are read before its
+    /// file; one that is missing is an error, `NotFound`, and one of another length `InvalidData`. Where none is there and
+    /// the file begins within a run, all are read from the one on in which that begins.
+    fn open(rt: &'a R, alloc: Global, path: &str) -> io::Result<TraceReader<'a, R>> {
+        let path = pieced_path(rt, alloc, path)?;
+        match listed_pieces(rt, alloc, path.as_str())? {
+            Some(pieces) => TraceReader::with_pieces(rt, alloc, path, pieces, true),
+            None => TraceReader::unlisted(rt, alloc, path),
         }
+    }
+
+    /// The trace at a path, of which these pieces are read first.
+    fn with_pieces(
+        rt: &'a R,
+        alloc: Global,
+        path: String,
+        mut pieces: Vec<Piece>,
+        are_listed: bool,
+    ) -> io::Result<TraceReader<'a, R>> {
+        let Some(last) = pieces.last().copied() else {
+            return TraceReader::alone(rt, alloc, path);
+        };
+        for piece in &pieces {
+            let _ = open_piece(rt, alloc, path.as_str(), *piece)?;
+        }
+        pieces.reverse();
+        let first = pieces.pop().unwrap_or(last);
+        let file = open_piece(rt, alloc, path.as_str(), first)?;
+        let mut reader = TraceReader::of(rt, alloc, path, file);
+        reader.behind = pieces;
+        reader.pieces = Some(ReadPieces {
+            first: first.number,
+            last: last.number,
+            are_listed,
+        });
         Ok(reader)
     }
 
-    /// Goes back to the piece in which the run begins; where none is such a piece, the file at the path is read alone.
-    fn go_back(&mut self) -> io::Result<()> {
-        let newest = self.newest()?;
-        let mut behind = written(&self.file.metadata()?);
-        for number in (1..=newest).rev() {
-            let mut file = self.piece(number)?;
-            let time = written(&file.metadata()?);
-            if time > behind {
-                return Err(self.is_disordered(number));
-            }
-            behind = time;
-            if begins_run(&mut file)? {
-                self.file = file;
-                self.pieces = Some((number, newest));
-                return Ok(());
-            }
+    /// The trace at a path of whose pieces no list is there.
+    fn unlisted(rt: &'a R, alloc: Global, path: String) -> io::Result<TraceReader<'a, R>> {
+        let mut file = open_plain(rt, path.as_str())?;
+        if begins_run(&mut file)? {
+            return Ok(TraceReader::of(rt, alloc, path, file));
         }
-        Ok(())
-    }
-
-    /// The number of the newest piece. Where none stands beside the path, which is a link, the trace is the file to which it
-    /// leads, where one stands beside that.
-    fn newest(&mut self) -> io::Result<u64> {
-        let newest = newest_piece(self.rt, self.alloc, self.path.as_str())?;
-        if newest > 0 {
-            return Ok(newest);
-        }
-        let file = self.rt.canonicalize(self.alloc, self.path.as_str())?;
-        let path = String::from_str(self.alloc, file.as_path().as_str())?;
-        let newest = newest_piece(self.rt, self.alloc, path.as_str())?;
-        if newest > 0 {
-            self.path = path;
-        }
-        Ok(newest)
-    }
-
-    /// Opens a piece.
-    fn piece(&self, number: u64) -> io::Result<File> {
-        let path = piece_path(self.alloc, self.path.as_str(), number)?;
-        match open_plain(self.rt, path.as_str()) {
-            Err(error) if error.kind() == ErrorKind::NotFound => {
-                let message = format!(in self.alloc; "{path} is missing")?;
-                Err(Error::new(ErrorKind::NotFound, message.as_str()))
-            }
-            opened => opened,
-        }
-    }
-
-    /// A piece that was written to behind the one that is to come after it.
-    fn is_disordered(&self, number: u64) -> Error {
-        match format!(in self.alloc; "{}.{number} is newer than what is behind it", self.path) {
-            Ok(message) => Error::new(ErrorKind::InvalidData, message.as_str()),
-            Err(error) => Error::from(error),
-        }
-    }
-
-    /// The number of the piece that the file was put away as, and of the newest one; None where it is no piece.
-    fn own_number(&self, own: &Metadata) -> io::Result<Option<(u64, u64)>> {
-        let newest = newest_piece(self.rt, self.alloc, self.path.as_str())?;
-        for number in (1..=newest).rev() {
-            let path = piece_path(self.alloc, self.path.as_str(), number)?;
-            if fs::metadata(self.rt, path.as_str()).is_ok_and(|found| are_same(&found, own)) {
-                return Ok(Some((number, newest)));
+        let mut pieces = Vec::new(alloc);
+        for number in (1..=newest_piece(rt, alloc, path.as_str())?).rev() {
+            let length = None;
+            let piece = Piece { number, length };
+            pieces.push(piece)?;
+            if begins_run(&mut open_piece(rt, alloc, path.as_str(), piece)?)? {
+                pieces.reverse();
+                return TraceReader::with_pieces(rt, alloc, path, pieces, false);
             }
         }
-        Ok(None)
+        Ok(TraceReader::of(rt, alloc, path, file))
     }
 
     /// What stands at the path; None where nothing does, while a file that was renamed away is still written to.
@@ -142,38 +124,47 @@ impl<'a, R: Files<File = File> + Eprint> TraceReader<'a, R> {
         }
     }
 
-    /// The file that came to stand behind this one; None where that stands at the path itself, or none does yet.
-    fn successor(&self) -> io::Result<Option<File>> {
-        let Some(found) = self.found()? else {
-            return Ok(None);
+    /// The pieces of the list behind the one that has the name of a file, the newest first; none where no piece has it.
+    fn behind_file(&self, file: &Metadata) -> io::Result<Vec<Piece>> {
+        let path = self.path.as_str();
+        let mut behind = Vec::new(self.alloc);
+        let Some(pieces) = listed_pieces(self.rt, self.alloc, path)? else {
+            return Ok(behind);
         };
-        let own = self.file.metadata()?;
-        if are_same(&found, &own) {
-            if found.len() < self.position {
-                let message = "another run began it anew: follow it again";
-                return Err(Error::new(ErrorKind::InvalidData, message));
+        for piece in pieces.iter().rev() {
+            if is_piece(self.rt, self.alloc, path, piece.number, file)? {
+                return Ok(behind);
             }
-            return Ok(None);
+            behind.push(*piece)?;
         }
-        match self.own_number(&own)? {
-            Some((number, newest)) if number < newest => self.piece_behind(number, &own),
-            _ => Ok(Some(open_plain(self.rt, self.path.as_str())?)),
+        Ok(Vec::new(self.alloc))
+    }
+
+    /// The file that came to stand behind this one; None where that stands at the path itself, or none does yet.
+    fn successor(&mut self) -> io::Result<Option<File>> {
+        if self.behind.is_empty() {
+            let Some(found) = self.found()? else {
+                return Ok(None);
+            };
+            let own = self.file.metadata()?;
+            if are_same(&found, &own) {
+                return self.refuse_begun_anew(&found);
+            }
+            self.behind = self.behind_file(&own)?;
+        }
+        match self.behind.pop() {
+            Some(piece) => Ok(Some(open_piece(self.rt, self.alloc, self.path.as_str(), piece)?)),
+            None => Ok(Some(open_plain(self.rt, self.path.as_str())?)),
         }
     }
 
-    /// The piece behind the one of this number, which is the file; where that is an older one, another run's, what stands
-    /// at the path, and that is told.
-    fn piece_behind(&self, number: u64, own: &Metadata) -> io::Result<Option<File>> {
-        let behind = number.saturating_add(1);
-        let file = self.piece(behind)?;
-        if written(&file.metadata()?) < written(own) {
-            let TraceReader { program, path, .. } = self;
-            let _ = eprintln!(self.rt;
-                "{program}: {path}.{behind} is older than {path}.{number}: after that {path} is read, and no piece between"
-            );
-            return Ok(Some(open_plain(self.rt, path.as_str())?));
+    /// Refuses a file that is shorter than what was read of it. There is none behind it.
+    fn refuse_begun_anew(&self, found: &Metadata) -> io::Result<Option<File>> {
+        if found.len() < self.position {
+            let message = "another run began it anew: follow it again";
+            return Err(Error::new(ErrorKind::InvalidData, message));
         }
-        Ok(Some(file))
+        Ok(None)
     }
 
     /// At the end of the file: goes on in the one behind it. It is read to its end once more before. False where there is
@@ -189,6 +180,138 @@ impl<'a, R: Files<File = File> + Eprint> TraceReader<'a, R> {
     }
 }
 
+/// The path of a trace, or where that is a link beside which no pieces stand, of the file to which it leads.
+fn pieced_path<R: Files>(rt: &R, alloc: Global, path: &str) -> io::Result<String> {
+    let own = String::from_str(alloc, path)?;
+    let is_link = fs::symlink_metadata(rt, path).is_ok_and(|found| found.is_symlink());
+    if !is_link || has_pieces(rt, alloc, path)? {
+        return Ok(own);
+    }
+    let Ok(file) = rt.canonicalize(alloc, path) else {
+        return Ok(own);
+    };
+    let file = String::from_str(alloc, file.as_path().as_str())?;
+    if has_pieces(rt, alloc, file.as_str())? {
+        return Ok(file);
+    }
+    Ok(own)
+}
+
+/// Pieces of a trace stand beside it, or their list.
+fn has_pieces<R: Files>(rt: &R, alloc: Global, path: &str) -> io::Result<bool> {
+    let list = list_path(alloc, path)?;
+    Ok(fs::metadata(rt, list.as_str()).is_ok() || newest_piece(rt, alloc, path)? > 0)
+}
+
+/// The pieces of the run that wrote a trace last, by their list, the oldest first; None where no list of any line is there.
+/// What stands at the path of the trace still is none of them.
+fn listed_pieces<R: Files<File = File>>(
+    rt: &R,
+    alloc: Global,
+    path: &str,
+) -> io::Result<Option<Vec<Piece>>> {
+    let text = match read_file(rt, alloc, list_path(alloc, path)?.as_str()) {
+        Ok(text) => text,
+        Err(error) if error.kind() == ErrorKind::NotFound => return Ok(None),
+        Err(error) => return Err(error),
+    };
+    if !is_list(&text) {
+        return Ok(None);
+    }
+    let list = PieceList::read(alloc, &text)?;
+    let is_empty = fs::metadata(rt, path).is_ok_and(|found| found.len() == 0);
+    let has_next = match list.next_number() {
+        Some(number) => stands_apart(rt, alloc, path, number)?,
+        None => false,
+    };
+    Ok(Some(list.into_pieces(is_empty, has_next)?))
+}
+
+/// A piece of this number is there, and it is not what stands at the path of the trace as well, nor a copy of that.
+fn stands_apart<R: Files<File = File>>(
+    rt: &R,
+    alloc: Global,
+    path: &str,
+    number: u64,
+) -> io::Result<bool> {
+    let piece = piece_path(alloc, path, number)?;
+    let Ok(piece) = open_plain(rt, piece.as_str()) else {
+        return Ok(false);
+    };
+    match open_plain(rt, path) {
+        Ok(file) => Ok(!have_one_text(piece, file)?),
+        Err(_) => Ok(true),
+    }
+}
+
+/// How many bytes of two files are compared at once.
+const COMPARED: usize = 4096;
+
+/// Two files have the same bytes.
+fn have_one_text(mut one: File, mut other: File) -> io::Result<bool> {
+    let found = one.metadata()?;
+    if are_same(&found, &other.metadata()?) {
+        return Ok(true);
+    }
+    if found.len() != other.metadata()?.len() {
+        return Ok(false);
+    }
+    let mut bytes = [0; COMPARED];
+    let mut others = [0; COMPARED];
+    for _ in 0..PIECES_LIMIT {
+        let count = one.read(&mut bytes)?;
+        if count == 0 {
+            return Ok(true);
+        }
+        if other.read_exact(&mut others[..count]).is_err() || bytes[..count] != others[..count] {
+            return Ok(false);
+        }
+    }
+    Ok(true)
+}
+
+/// Opens a piece, which has the length that its list says.
+fn open_piece<R: Files<File = File>>(
+    rt: &R,
+    alloc: Global,
+    path: &str,
+    piece: Piece,
+) -> io::Result<File> {
+    let Piece { number, length } = piece;
+    if number == 0 {
+        return Err(is_gone(alloc, path, length.unwrap_or(0)));
+    }
+    let path = piece_path(alloc, path, number)?;
+    let file = match open_plain(rt, path.as_str()) {
+        Ok(file) => file,
+        Err(error) if error.kind() == ErrorKind::NotFound => {
+            let message = format!(in alloc; "{path} is missing")?;
+            return Err(Error::new(ErrorKind::NotFound, message.as_str()));
+        }
+        Err(error) => return Err(error),
+    };
+    let found = file.metadata()?.len();
+    if piece.is_whole(found) {
+        return Ok(file);
+    }
+    let listed = length.unwrap_or(0);
+    let message = format!(in alloc;
+        "{path} has {found} bytes, and had {listed} when it was put away"
+    )?;
+    Err(Error::new(ErrorKind::InvalidData, message.as_str()))
+}
+
+/// A file of the run that has the name of no piece.
+fn is_gone(alloc: Global, path: &str, length: u64) -> Error {
+    let message = format!(in alloc;
+        "{length} bytes of {path} are missing: the file was renamed to what is no piece of it"
+    );
+    match message {
+        Ok(message) => Error::new(ErrorKind::NotFound, message.as_str()),
+        Err(error) => Error::from(error),
+    }
+}
+
 /// The file begins a run: its first happening reads an inittab. It is read from its first byte on still.
 fn begins_run(file: &mut File) -> io::Result<bool> {
     let mut first = [0; 1];
@@ -197,7 +320,7 @@ fn begins_run(file: &mut File) -> io::Result<bool> {
     Ok(count > 0 && first == *b"u")
 }
 
-impl<R: Files<File = File> + Eprint> Read for TraceReader<'_, R> {
+impl<R: Files<File = File>> Read for TraceReader<'_, R> {
     /// No byte where nothing more stands in the trace. A trace of more than 4,294,967,296 files is an error,
     /// `FileTooLarge`.
     fn read(&mut self, buf: &mut [u8]) -> io::Result<usize> {
@@ -232,7 +355,7 @@ pub struct PiecedFiles<'a, R> {
 
 impl<'a, R: Files<File = File> + Eprint> PiecedFiles<'a, R> {
     /// The files that this system has, for the program of this name. A trace that is shown is read alone where a piece of
-    /// it is missing or newer than what is behind it, and that is told; else that is an error, `NotFound` or `InvalidData`.
+    /// it is missing or has another length, and that is told; else that is an error, `NotFound` or `InvalidData`.
     pub fn new(rt: &'a R, alloc: Global, program: &'a str, is_shown: bool) -> PiecedFiles<'a, R> {
         PiecedFiles {
             rt,
@@ -244,38 +367,50 @@ impl<'a, R: Files<File = File> + Eprint> PiecedFiles<'a, R> {
 
     /// The trace at a path.
     pub fn open(&self, path: &str) -> io::Result<TraceReader<'a, R>> {
-        match TraceReader::open(self, path) {
+        match TraceReader::open(self.rt, self.alloc, path) {
             Ok(trace) => {
-                tell_pieces(self.rt, self.program, path, trace.pieces);
+                tell_pieces(self.rt, self.program, trace.path.as_str(), trace.pieces);
                 Ok(trace)
             }
             Err(error) if self.is_shown && is_of_pieces(&error) => {
-                let file = open_plain(self.rt, path)?;
+                let own = String::from_str(self.alloc, path)?;
+                let trace = TraceReader::alone(self.rt, self.alloc, own)?;
                 let program = self.program;
                 let _ = eprintln!(self.rt; "{program}: {error}");
-                TraceReader::alone(self, path, file)
+                Ok(trace)
             }
             Err(error) => Err(error),
         }
     }
 }
 
-/// A piece is missing, or they are in no order.
+/// A piece is missing, or is not what was put away.
 fn is_of_pieces(error: &Error) -> bool {
     matches!(error.kind(), ErrorKind::NotFound | ErrorKind::InvalidData)
 }
 
 /// Tells which pieces are read before the trace's own file.
-fn tell_pieces<R: Eprint>(rt: &R, program: &str, path: &str, pieces: Option<(u64, u64)>) {
-    let _ = match pieces {
-        None => Ok(()),
-        Some((first, newest)) if first == newest => {
-            eprintln!(rt; "{program}: {path}.{first} is read before {path}")
-        }
-        Some((first, newest)) => {
-            eprintln!(rt; "{program}: {path}.{first} to {path}.{newest} are read before {path}")
-        }
+fn tell_pieces<R: Eprint>(rt: &R, program: &str, path: &str, pieces: Option<ReadPieces>) {
+    let Some(
+        ReadPieces {
+            first,
+            last,
+            are_listed,
+        },
+    ) = pieces
+    else {
+        return;
     };
+    let _ = if first == last {
+        eprintln!(rt; "{program}: {path}.{first} is read before {path}")
+    } else {
+        eprintln!(rt; "{program}: {path}.{first} to {path}.{last} are read before {path}")
+    };
+    if !are_listed {
+        let _ = eprintln!(rt;
+            "{program}: {path}.0.pieces is not there: a newer piece that is missing is not noticed"
+        );
+    }
 }
 
 impl<R: Files<File = File> + Eprint> Texts for PiecedFiles<'_, R> {

@@ -1,0 +1,70 @@
+//! The list of a trace's pieces, as init adds to it.
+
+use program_io::{refuse_too_large, write_text};
+use std::alloc::Global;
+use std::fs::{File, OpenOptions, symlink_metadata};
+use std::io;
+use std::io::ErrorKind;
+use std::os::unix::fs::{FileExt, OpenOptionsExt};
+use std::rt::Files;
+use trace_pieces::{ListLine, is_list, line_text};
+
+/// How many bytes of a file show that it is a list.
+const FRONT: usize = 256;
+
+/// Adds a line to the list at a path, which is made with a mode where it is missing; nothing is added through a link. Where
+/// a line was cut off, this one is set apart from it.
+pub(crate) fn append_line<R: Files<File = File>>(
+    rt: &R,
+    alloc: Global,
+    path: &str,
+    mode: u32,
+    line: ListLine,
+) -> io::Result<()> {
+    let mut file = opened(rt, path, mode)?;
+    let text = line_text(alloc, line)?;
+    let length = file.metadata()?.len();
+    if !is_list_front(&file)? {
+        let message = format!(in alloc; "{path} is no list of its pieces")?;
+        return Err(io::Error::other(message.as_str()));
+    }
+    let text = if is_cut_off(&file, length)? {
+        format!(in alloc; "\n{text}")?
+    } else {
+        text
+    };
+    refuse_too_large(&file, length, text.len())?;
+    write_text(&mut file, text.as_bytes())
+}
+
+/// The list at a path, to read and to add to.
+fn opened<R: Files<File = File>>(rt: &R, path: &str, mode: u32) -> io::Result<File> {
+    let mut options = OpenOptions::new();
+    options.read(true).append(true).mode(mode);
+    match symlink_metadata(rt, path) {
+        Ok(found) if found.is_file() => options.open(rt, path),
+        Ok(_) => Err(io::Error::other("the list of its pieces is no plain file")),
+        Err(error) if error.kind() == ErrorKind::NotFound => options
+            .create_new(true)
+            .open(rt, path),
+        Err(error) => Err(error),
+    }
+}
+
+/// A file has a line of a list in front, or none but one that was cut off.
+fn is_list_front(file: &File) -> io::Result<bool> {
+    let mut front = [0; FRONT];
+    let count = file.read_at(&mut front, 0)?;
+    let front = &front[..count];
+    Ok(is_list(front) || !front.contains(&b'\n'))
+}
+
+/// The last byte of a file of this length is no newline.
+fn is_cut_off(file: &File, length: u64) -> io::Result<bool> {
+    if length == 0 {
+        return Ok(false);
+    }
+    let mut last = [b'\n'];
+    file.read_at(&mut last, length - 1)?;
+    Ok(last != *b"\n")
+}
