@@ -15,7 +15,7 @@ use Rattle.initd_command.specs.declared.command.TheConstants.{CHECK_USAGE, RUN_U
 use Rattle.initd_command.specs.declared.command.TheConstants.{UNVERSIONED, VERSION_USAGE}
 use Rattle.initd_command.specs.declared.run.Obstacle.{Obstacle}
 use Rattle.initd_command.specs.declared.run.Obstacle.TheVariants as why
-use Rattle.initd_command.specs.declared.run.TheConstants.{UNLED, UNPRINTED, UNTOLD}
+use Rattle.initd_command.specs.declared.run.TheConstants.{CAPPED, UNLED, UNPRINTED, UNTOLD}
 use Rattle.initd_command.specs.Turned.{End, ReportsEnd, ReportsText, end_status}
 use Rattle.command_words.specs.Faults.{usage_report}
 
@@ -26,10 +26,12 @@ pub record Judged : Type 0 where
   pub left : Option ℕ
   pub count : ℕ
 
--- what is said of a run that comes to its turns: that nothing names its level, or something does; and whether the
--- faults of its inittab were written, and all was printed that its host was to print
+-- what is said of a run that comes to its turns: that nothing names its level, or something does; that words name no
+-- end, so that it has the limit of turns of one; and whether the faults of its inittab were written, and all was
+-- printed that its host was to print
 pub record Spoken : Type 0 where
   pub unled : Bool
+  pub capped : Bool
   pub told : Bool
   pub printed : Bool
 
@@ -222,7 +224,8 @@ Reports (unfinished line verdict) old new = ReportsText (unfinished_message line
 Reports unwritten old new = HasReported old new UNWRITTEN.now
 Reports (turned spoken end) old new =
     (first : ReportList) × ReportsWhere (not spoken.told) UNTOLD.now old first
-    × (mid : ReportList) × ReportsWhere spoken.unled UNLED.now first mid
+    × (second : ReportList) × ReportsWhere spoken.unled UNLED.now first second
+    × (mid : ReportList) × ReportsWhere spoken.capped CAPPED.now second mid
     × (last : ReportList) × ReportsEnd end mid last × ReportsWhere (not spoken.printed) UNPRINTED.now last new
 Reports unversioned old new = HasReported old new UNVERSIONED.now
 

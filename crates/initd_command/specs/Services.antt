@@ -184,12 +184,13 @@ abbrev pub EndsTold : RunSaid → List ℕ → Bool → End → Option (List ℕ
 EndsTold service told written end old new = EndsServed service end × Writes written told old new
 
 -- how a run ends: something is in its way, and nothing is written, or its paths are apart, it takes the inittab that
--- stands there, whose faults it tells, and makes turns
+-- stands there, whose faults it tells, and makes turns, of which it says whether anything names their end
 abbrev pub EndsRun : KnownTexts → RunSaid → Ending → Option (List ℕ) → Option (List ℕ) → Type 0
 EndsRun text_at service ending old new =
     ((obstacle : Obstacle) × (ending ≡ refused obstacle) × IsInWay text_at service obstacle × Keeps old new)
     ⊎ AreApart (own_paths service) × HasInittab text_at service (λ parts. TakesParts service parts
     × (spoken : Spoken) × (spoken.unled ≡ has_no_level service.level (table_in parts))
+    × (spoken.capped ≡ not service.names_end)
     × (end : End) × (ending ≡ turned spoken end)
     × EndsTold service (told_of parts) spoken.told end old new)
 

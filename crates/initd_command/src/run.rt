@@ -1,6 +1,6 @@
 //! `initd run`: what it stands on, and its turns.
 
-ghost use Rattle.std.specs.Prelude.{◌≡◌, ◌≢◌, ◌∷◌, ◌++◌, ◌&&◌, if◌then◌else◌, ℕ, true, List, None, Some, [], is_some, option_map, unwrap_or, IfErr, IfOk, IfSome, OnErr, OnOk};
+ghost use Rattle.std.specs.Prelude.{not, ◌≡◌, ◌≢◌, ◌∷◌, ◌++◌, ◌&&◌, if◌then◌else◌, ℕ, true, List, None, Some, [], is_some, option_map, unwrap_or, IfErr, IfOk, IfSome, OnErr, OnOk};
 ghost use Rattle.initd_command.specs.Words.{KnownTexts, NamedText, Entry, Since, IsOpeningOf, RunSaid, run_of};
 ghost use Rattle.initd_command.specs.Endings.{Ending, Reports, ReportsObstacle, Spoken, obstacle_status, status_of, turned};
 ghost use Rattle.initd_command.specs.Ran.{MakesLogged, MakesTraced, RanBy};
@@ -48,6 +48,10 @@ const UNPRINTED: &str = "initd: not all that init announces could be written\n";
 /// What is reported at the opening where nothing names a level.
 const UNLED: &str = "initd: the inittab names no level (initdefault), and --level is not given: \
     init goes to level S\n";
+
+/// What is reported at the opening where no word names the end of the run.
+const CAPPED: &str = "initd: this run ends after 1000000 turns, a day or more at rest: \
+    --forever has no limit\n";
 
 /// The mode of a trace that is made: who can read one can take its lock.
 const MODE: u32 = 0o600;
@@ -469,7 +473,8 @@ fn make_run<R, H: Host + Drop, S: Hosts<H>, F: Traces, W: Write, E: Reporter>(
 where
     R: Files<File = File> + Alloc + Eprint + Clock,
     requires { is_some run.trace ≡ is_some (run_of options.now).trace }
-    ensures ended { (spoken : Spoken) × (spoken.unled ≡ run.has_no_level) × (end : End)
+    ensures ended { (spoken : Spoken) × (spoken.unled ≡ run.has_no_level)
+        × (spoken.capped ≡ not options.now.names_end) × (end : End)
         × (result ≡ status_of (turned spoken end))
         × EndsTold (run_of options.now) run.faults.items spoken.told end
         (W.contents out.old) (W.contents out.new)
@@ -491,6 +496,7 @@ where
     let is_told = tell(&faults, out);
     report_where(!is_told, UNTOLD, err);
     report_where(has_no_level, UNLED, err);
+    report_where(!options.names_end, CAPPED, err);
     tell_endless(rt, options);
     tell_limit(rt, options, &trace);
     tell_ignored(rt, alloc);

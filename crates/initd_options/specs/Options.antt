@@ -1,7 +1,7 @@
 -- What the options of `initd run` say.
 use Rattle.std.specs.Prelude.{ℕ, Bool, true, false, ◌+◌, ◌-◌, ◌*◌, ◌^◌, ◌==◌, ◌&&◌, if◌then◌else◌, nat_lt, nat_le, List}
 use Rattle.std.specs.Prelude.{[], ◌∷◌, ◌++◌, length, codes, Option, Some, None, option_and_then, option_map}
-use Rattle.std.specs.Prelude.{string_bytes}
+use Rattle.std.specs.Prelude.{string_bytes, is_some, ◌||◌}
 use Rattle.std.specs.Char.{is_ascii_digit}
 use Rattle.std.specs.Option.{option_or}
 use Rattle.clap.specs.Words.{Row, Text, first_of}
@@ -48,6 +48,11 @@ turns_in true (Some word) = None
 
 abbrev pub turns_said : List Row → Option ℕ
 turns_said rows = turns_in (is_set (codes "--forever") rows) (first_of (codes "--turns") rows)
+
+-- the end of a run is named: by a number of turns, as none, or as where nothing is left to do
+abbrev pub names_end : List Row → Bool
+names_end rows =
+    is_some (first_of (codes "--turns") rows) || is_set (codes "--forever") rows || is_set (codes "--drain") rows
 
 -- the number of a digit
 abbrev pub digit_read : ℕ → Option ℕ
@@ -128,10 +133,10 @@ size_given rows = size_in (first_of (codes "--trace-size") rows) (first_of (code
 -- The paths of the inittab, of the folder of its further files, if it is given, of the channel of requests and of the
 -- text of init's state; whether the requests that the channel has already are left out; the path of the trace, if it
 -- is given, whether it is brief, and the length at which it is put away, if it is; whether each happening is judged;
--- the level to go to, if it is given; the greatest number of turns; whether the run ends where it is drained; the
--- seconds of a pause; the entry whose last status is the run's, if one is given; whether each start and end is told;
--- the folder of the children's output, if it is given; whether an inittab with a faulty line is not taken; whether
--- lines have the time in front; and whether the channel's bell is made.
+-- the level to go to, if it is given; the greatest number of turns; whether the run ends where it is drained, and
+-- whether words name its end; the seconds of a pause; the entry whose last status is the run's, if one is given;
+-- whether each start and end is told; the folder of the children's output, if it is given; whether an inittab with a
+-- faulty line is not taken; whether lines have the time in front; and whether the channel's bell is made.
 pub record RunSaid : Type 0 where
   pub inittab : Text
   pub inittab_dir : Option Text
@@ -145,6 +150,7 @@ pub record RunSaid : Type 0 where
   pub level : Option Level
   pub turns : ℕ
   pub drain : Bool
+  pub names_end : Bool
   pub pause : ℕ
   pub result : Option (List ℕ)
   pub verbose : Bool
@@ -167,6 +173,7 @@ run_of said = record {
   level = said.level;
   turns = said.turns;
   drain = said.drain;
+  names_end = said.names_end;
   pause = said.pause;
   result = said.result;
   verbose = said.verbose;
@@ -191,6 +198,7 @@ service_with rows level turns pause result brief size = record {
   level = level;
   turns = turns;
   drain = is_set (codes "--drain") rows;
+  names_end = names_end rows;
   pause = pause;
   result = result;
   verbose = is_set (codes "--verbose") rows;

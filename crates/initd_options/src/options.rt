@@ -3,7 +3,7 @@
 ghost use Rattle.std.specs.Prelude.{◌≡◌, ◌<◌, ◌≤◌, IfErr, IfOk, IfSome, IsSome, None, Some};
 ghost use Rattle.clap.specs.Words.{found_of, rows_of};
 ghost use Rattle.command_words.specs.Faults.{reason_of};
-ghost use Rattle.initd_options.specs.Options.{brief_said, digit_read, hundredths_read, level_said, level_word_read, part_read, pause_read, pause_said, result_said, run_of, run_said, size_given, size_read, turns_read, turns_said, units_read, whole_read, without_zeros};
+ghost use Rattle.initd_options.specs.Options.{brief_said, digit_read, hundredths_read, level_said, level_word_read, names_end, part_read, pause_read, pause_said, result_said, run_of, run_said, size_given, size_read, turns_read, turns_said, units_read, whole_read, without_zeros};
 
 use clap::ArgMatches;
 use command_words::{Row, WordFault, checked, is_set, read_path, refused, value_of, word_of};
@@ -39,6 +39,8 @@ pub struct RunWords {
     pub turns: u64,
     /// It ends where nothing is left to do and nothing runs.
     pub drain: bool,
+    /// Its end is named: by a number of turns, as none, or as where nothing is left to do.
+    pub names_end: bool,
     /// The longest pause, in hundredths of a second, 1 to 6,000.
     pub pause: u64,
     /// The entry whose last status is the run's, where one is given.
@@ -128,6 +130,7 @@ pub(crate) fn read_matches(alloc: Global, matches: &ArgMatches) -> Result<RunWor
         level,
         turns,
         drain: is_set(matches, "--drain"),
+        names_end: names_end(matches),
         pause,
         result,
         verbose: is_set(matches, "--verbose"),
@@ -181,6 +184,15 @@ fn read_turns_option(alloc: Global, matches: &ArgMatches) -> Result<u64, WordFau
             "not 1 to 1000000000",
         ),
     }
+}
+
+/// Whether the end of the run is named.
+fn names_end(matches: &ArgMatches) -> bool
+    ensures { result ≡ names_end (rows_of (found_of matches.now)) }
+{
+    word_of(matches, "--turns").is_some()
+        || is_set(matches, "--forever")
+        || is_set(matches, "--drain")
 }
 
 /// A word without the zeros in front of it.

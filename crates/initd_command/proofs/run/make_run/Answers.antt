@@ -1,5 +1,5 @@
-use Rattle.initd_command.proofs.Words.{◌≡◌, refl, sym, ◌∙◌, ap, subst, ◌&&◌, if◌then◌else◌, Bool, true, false, List, ℕ}
-use Rattle.initd_command.proofs.Words.{Option, Appends, AppendsPrefix, Since, run_of, MakesTraced, Writes}
+use Rattle.initd_command.proofs.Words.{◌≡◌, refl, sym, ◌∙◌, ap, subst, ◌&&◌, if◌then◌else◌, not, Bool, true, false}
+use Rattle.initd_command.proofs.Words.{List, ℕ, Option, Appends, AppendsPrefix, Since, run_of, MakesTraced, Writes}
 use Rattle.initd_command.proofs.run.make_run.Goals as goal
 
 -- a text that was told was written, any other in part
@@ -11,7 +11,13 @@ writes false text old new whole part = part
 pub returns-clause-ended : goal.returns-clause-ended
 returns-clause-ended g c =
     let (end, status, served, reported, bytes, grown, made) = c.make_traced-status.ensures in (
-      record { unled = c.args.run.has_no_level; told = c.tell-is_told.result; printed = c.close-is_printed.result },
+      record {
+        unled = c.args.run.has_no_level;
+        capped = not c.args.options.now.names_end;
+        told = c.tell-is_told.result;
+        printed = c.close-is_printed.result;
+      },
+      refl,
       refl,
       end,
       c.status_where.ensures
@@ -28,9 +34,11 @@ returns-clause-ended g c =
         c.report_where.ensures,
         g.E.Reporter.reports c.report_where-2.new.err,
         c.report_where-2.ensures,
+        g.E.Reporter.reports c.report_where-3.new.err,
+        c.report_where-3.ensures,
         g.E.Reporter.reports c.make_traced-status.new.err,
         reported,
-        c.report_where-3.ensures,
+        c.report_where-4.ensures,
       ),
       bytes,
       grown,

@@ -11,12 +11,12 @@ returns-in-Ok g c =
     let run = c.in-Ok.run' in
     let out = g.W.Write.contents c.args.out.now in
     let now_out = g.W.Write.contents c.make_run.new.out in
-    let (spoken, unled, end, status, told, reported, bytes, grown, ran) = c.make_run.ensures.ended in
+    let (spoken, unled, capped, end, status, told, reported, bytes, grown, ran) = c.make_run.ensures.ended in
     let (parts, are, read, (lines, led, taken, opens)) = c.in-Ok.ensures.ok in
     let tells = subst (λ text. EndsTold service text spoken.told end out now_out) lines told in (
       turned spoken end,
       status,
-      inr (c.in-Ok.ensures.apart, (parts, are, read, (taken, spoken, unled ∙ led, end, refl, tells))),
+      inr (c.in-Ok.ensures.apart, (parts, are, read, (taken, spoken, unled ∙ led, capped, end, refl, tells))),
       reported,
       ran_to text_at service (g.S.Hosts.own c.make_run.new.hosts) run.opening spoken end bytes
           (record {
