@@ -68,7 +68,7 @@ fn tell_double(name: &str, reading: &Reading, position: usize, more: &mut Vec<u8
     }
 }
 
-/// Tells the names that a script requires and that no script provides, or only the one.
+/// Tells the names that a script requires and that no script provides, each once, or only the one.
 fn tell_missing(
     script: &Script,
     path: &str,
@@ -76,26 +76,43 @@ fn tell_missing(
     reading: &Reading,
     more: &mut Vec<u8>,
 ) {
-    let header = script.header();
-    for (keyword, names) in [
-        ("Required-Start", header.required_start()),
-        ("Required-Stop", header.required_stop()),
-    ] {
-        for name in names {
-            let name = name.as_str();
-            if name.starts_with('$')
-                || is_provided(reading.scripts.as_slice(), name)
-                || only.is_some_and(|one| one != name)
-            {
-                continue;
-            }
-            let reason = if is_provided(reading.outs.as_slice(), name) {
-                "which is left out"
+    let start = script.header().required_start();
+    let stop = script.header().required_stop();
+    for name in start {
+        let name = name.as_str();
+        if is_missing(name, only, reading) {
+            let (keywords, verb) = if has_name(name, stop) {
+                ("Required-Start and Required-Stop", "name")
             } else {
-                "which no file provides"
+                ("Required-Start", "names")
             };
+            let reason = reason_of(name, reading);
+            let _ = writeln!(more, "{path}: {keywords} {verb} {name}, {reason}");
+        }
+    }
+    for name in stop {
+        let name = name.as_str();
+        if !has_name(name, start) && is_missing(name, only, reading) {
+            let reason = reason_of(name, reading);
+            let keyword = "Required-Stop";
             let _ = writeln!(more, "{path}: {keyword} names {name}, {reason}");
         }
+    }
+}
+
+/// No script provides the name, which is none of the system's, and the only one that is told, where one is.
+fn is_missing(name: &str, only: Option<&str>, reading: &Reading) -> bool {
+    !name.starts_with('$')
+        && !is_provided(reading.scripts.as_slice(), name)
+        && !only.is_some_and(|one| one != name)
+}
+
+/// Why no script provides the name.
+fn reason_of(name: &str, reading: &Reading) -> &'static str {
+    if is_provided(reading.outs.as_slice(), name) {
+        "which is left out"
+    } else {
+        "which no file provides"
     }
 }
 
