@@ -6,6 +6,7 @@ use rc_header::HeaderFault::{self, BadLine, NoBegin, NoEnd, NoProvides, Twice};
 use rc_header::{Keyword, second_keyword_line};
 use std::alloc::Global;
 use std::test::Fail;
+use test_support::difference;
 
 /// Lines, and what is shown of the header that has them, or its fault.
 type Row = (&'static [u8], Result<&'static [u8], HeaderFault>);
@@ -189,12 +190,26 @@ const WHOLE: &[Row] = &[
     ),
 ];
 
-/// The text is read so.
-fn is_read(own: Global, text: &[u8], want: Result<&[u8], HeaderFault>) -> Result<bool, Memory> {
-    match header_of(own, own, text) {
-        Ok(header) => Ok(Ok(shown(own, &header)?.as_slice()) == want),
-        Err(fault) => Ok(Err(fault) == want),
+/// What is shown of a header, or its fault behind a mark.
+fn shown_text(own: Global, read: Result<&[u8], HeaderFault>) -> Result<Vec<u8>, Memory> {
+    match read {
+        Ok(shown) => Ok(Vec::from_slice(own, shown)?),
+        Err(fault) => Ok(format!(in own; "! {fault}")?.into_bytes()),
     }
+}
+
+/// In what the header of a text differs from this; nothing where it is read so.
+fn header_difference(
+    own: Global,
+    text: &[u8],
+    want: Result<&[u8], HeaderFault>,
+) -> Result<String, Memory> {
+    let got = match header_of(own, own, text) {
+        Ok(header) => shown(own, &header)?,
+        Err(fault) => shown_text(own, Err(fault))?,
+    };
+    let want = shown_text(own, want)?;
+    Ok(difference(own, &[("what is read", got.as_slice(), want.as_slice())])?)
 }
 
 #[test]
@@ -202,7 +217,9 @@ fn headers_are_read(rt: HostRuntime) -> Result<(), Fail> {
     for (front, rows, back) in TEXTS {
         for (lines, want) in *rows {
             let text = joined(rt.alloc(), &[*front, *lines, *back])?;
-            assert!(rt; is_read(rt.alloc(), &text, *want)?, "{lines:?}");
+            let told = header_difference(rt.alloc(), &text, *want)?;
+            let lines = str::from_utf8(lines).unwrap_or("?");
+            assert!(rt; told.is_empty(), "{lines:?}: {told}");
         }
     }
     Ok(())
@@ -268,7 +285,9 @@ const SECOND_LINES: &[(&[u8], Option<usize>)] = &[
 #[test]
 fn second_lines(rt: HostRuntime) {
     for (text, want) in SECOND_LINES {
-        assert!(rt; second_keyword_line(text, Keyword::Provides) == *want);
+        let got = second_keyword_line(text, Keyword::Provides);
+        let text = str::from_utf8(text).unwrap_or("?");
+        assert!(rt; got == *want, "{text:?}: {got:?}, not {want:?}");
     }
 }
 
@@ -291,7 +310,7 @@ const FAULT_TEXTS: &[(HeaderFault, &str)] = &[
 fn faults_are_told(rt: HostRuntime) -> Result<(), Fail> {
     for (fault, want) in FAULT_TEXTS {
         let text = format!(in rt.alloc(); "{fault}")?;
-        assert!(rt; text.as_str() == *want);
+        assert!(rt; text.as_str() == *want, "{text}\n    and not: {want}");
     }
     Ok(())
 }

@@ -94,15 +94,13 @@ fn letter_of(call: &Call) -> u8 {
     }
 }
 
-/// The calls that were made of the host are these letters.
-pub(crate) fn has_calls(host: &MemoryHost, letters: &str) -> bool {
-    let mut letters = letters.bytes();
+/// The letters of the calls that were made of the host.
+pub(crate) fn calls_of(own: Global, host: &MemoryHost) -> Result<Vec<u8>, AllocError> {
+    let mut letters = Vec::new(own);
     for call in host.calls().unwrap_or(&[]) {
-        if letters.next() != Some(letter_of(call)) {
-            return false;
-        }
+        letters.push(letter_of(call))?;
     }
-    letters.next().is_none()
+    Ok(letters)
 }
 
 /// The first call that was made of the host starts this command, under the id of rc.

@@ -3,6 +3,7 @@
 
 ghost use Rattle.std.specs.Prelude.{⊤, None, option_and_then};
 
+use crate::texts::or_difference;
 use crate::turns_tests;
 use host_calls::Host;
 use host_scripted::MemoryHost;
@@ -13,7 +14,7 @@ use program_io::{ChannelLock, KeptTexts, Reports};
 use std::alloc::Global;
 use std::fs;
 use std::test::Fail;
-use test_support::{Slow, boxed, fields_of, host_of, letters_of, line_words};
+use test_support::{Slow, boxed, fields_of, host_of, letters_of, line_words, row_difference};
 use trace_files::OsTraces;
 
 /// A source of one host, which is there again behind the turns.
@@ -100,40 +101,32 @@ const ROWS: &[&str] = &[
      to level S\n",
 ];
 
-/// The host was asked for so many clocks, starts and pauses.
-fn are_made(own: Global, one: &OneHost, want: &str) -> Option<bool> {
-    let Some(host) = &one.host else {
+/// How many clocks, starts and pauses the host was asked for.
+fn counts_of(own: Global, one: &OneHost) -> Option<String> {
+    let letters = letters_of(own, one.host.as_ref()?)?;
+    let clocks = letters.matches('C').count();
+    let starts = letters.matches('S').count();
+    let pauses = letters.matches('P').count();
+    format!(in own; "{clocks} {starts} {pauses}").ok()
+}
+
+/// The text that is wanted: what was got, where none is asked.
+fn wanted<'t>(got: &'t [u8], want: &'t str) -> &'t [u8] {
+    if want == "?" { got } else { want.as_bytes() }
+}
+
+/// In what the answer to the line of a row differs from the row; nothing where it is as the row says.
+fn answer_difference(rt: &HostRuntime, row: &str, out: &mut Slow) -> Option<String> {
+    let alloc = rt.alloc();
+    let fields = fields_of(alloc, row).ok()?;
+    let [line, status, calls, inittab, given, printed, reported] = *fields.as_slice() else {
         return None;
     };
-    let letters = letters_of(own, host)?;
-    let mut counts = want.split(' ');
-    for letter in ['C', 'S', 'P'] {
-        if counts.next()?.parse::<usize>() != Ok(letters.matches(letter).count()) {
-            return Some(false);
-        }
-    }
-    Some(true)
-}
-
-/// The text is this one, where one is asked.
-fn is_text(text: &[u8], want: &str) -> bool {
-    want == "?" || text == want.as_bytes()
-}
-
-/// The line of a row is answered as it says.
-fn answers(rt: &HostRuntime, row: &str, out: &mut Slow) -> Result<bool, Fail> {
-    let alloc = rt.alloc();
-    let fields = fields_of(alloc, row)?;
-    let [line, status, calls, inittab, given, printed, reported] = *fields.as_slice() else {
-        return Ok(false);
-    };
     let mut kept = KeptTexts::new(alloc);
-    kept.keep("tab", inittab.as_bytes())?;
-    kept.keep("said", SCRIPT)?;
-    let Some(mut hosts) = source_of(alloc, given, !calls.ends_with("unprinted")) else {
-        return Ok(false);
-    };
-    let words = line_words(alloc, line)?;
+    kept.keep("tab", inittab.as_bytes()).ok()?;
+    kept.keep("said", SCRIPT).ok()?;
+    let mut hosts = source_of(alloc, given, !calls.ends_with("unprinted"))?;
+    let words = line_words(alloc, line).ok()?;
     let mut err = Reports::to(Vec::<u8>::new(alloc));
     let mut traces = OsTraces::new(rt, alloc);
     let ended = run_words(
@@ -146,19 +139,31 @@ fn answers(rt: &HostRuntime, row: &str, out: &mut Slow) -> Result<bool, Fail> {
         out,
         &mut err,
     );
-    Ok(
-        status.parse::<u8>() == Ok(ended)
-            && is_text(out.taken.as_slice(), printed)
-            && is_text(err.writer().as_slice(), reported)
-            && are_made(alloc, &hosts, calls) == Some(true),
-    )
+    let ended = format!(in alloc; "{ended}").ok()?;
+    let counts = counts_of(alloc, &hosts)?;
+    let (out, err) = (out.taken.as_slice(), err.writer().as_slice());
+    let made = calls.strip_suffix(" unprinted").unwrap_or(calls);
+    let told = String::new(alloc);
+    let told = or_difference(alloc, told, "standard output", out, wanted(out, printed))?;
+    let told = or_difference(alloc, told, "standard error", err, wanted(err, reported))?;
+    let told = or_difference(
+        alloc,
+        told,
+        "its status",
+        ended.as_bytes(),
+        status.as_bytes(),
+    )?;
+    let calls = "clocks, starts and pauses";
+    or_difference(alloc, told, calls, counts.as_bytes(), made.as_bytes())
 }
 
 #[test]
 fn lines_are_answered(rt: HostRuntime) -> Result<(), Fail> {
-    for row in ROWS {
+    for (position, row) in ROWS.iter().enumerate() {
         let mut out = Slow::new(rt.alloc(), 100_000, true, false);
-        assert!(rt; answers(&rt, row, &mut out)?, "{row}");
+        let told = answer_difference(&rt, row, &mut out);
+        let told = row_difference(rt.alloc(), position, row, told)?;
+        assert!(rt; told.is_empty(), "{told}");
     }
     let _ = fs::remove_file(&rt, "host-ctl");
     Ok(())
@@ -233,10 +238,12 @@ fn writers_that_fail_are_reported(rt: HostRuntime) -> Result<(), Fail> {
         for (fails, is_stuck) in [(false, false), (true, false), (true, true)] {
             let mut out = Slow::new(rt.alloc(), *room, fails, is_stuck);
             let is_whole = *room >= TRACE.len() && !is_stuck;
-            let is_answered = answers(&rt, if is_whole { WRITTEN } else { UNWRITTEN }, &mut out)?;
+            let row = if is_whole { WRITTEN } else { UNWRITTEN };
+            let told = answer_difference(&rt, row, &mut out);
+            let told = row_difference(rt.alloc(), 0, row, told)?;
             assert!(rt;
-                is_answered && out.taken.as_slice() == &TRACE[..TRACE.len().min(*room)],
-                "room for {room}, {fails}, {is_stuck}"
+                told.is_empty() && out.taken.as_slice() == &TRACE[..TRACE.len().min(*room)],
+                "room for {room}, {fails}, {is_stuck}: {told}"
             );
         }
     }

@@ -2,16 +2,17 @@
 //! those over folders of the system: tools/pages.d/rclinks-lines and rclinks.
 
 use crate::hosts::fields_of;
-use crate::texts::NET;
+use crate::texts::{NET, or_difference};
 use command_words::{KIT, VERSION};
 use init_words::Level;
 use program_io::{KeptTexts, Reports};
 use rc_links::{FolderEntry, LinkAction, LinkChange, is_same};
 use rclinks_command::{LinkFolders, run_words};
 use std::alloc::{AllocError, Global};
+use std::fmt::Write;
 use std::io;
 use std::test::Fail;
-use test_support::{Slow, line_words};
+use test_support::{Slow, first_difference, line_words};
 
 /// Paths, and the texts that are kept there. Of two at one path the first stands there.
 const TEXTS: &[(&str, &[u8])] = &[
@@ -214,10 +215,23 @@ fn hold(own: Global, links: &Links, words: &str) -> bool {
     true
 }
 
-/// The run of a row is as it says, with the line of the version where that is written.
-fn is_row(own: Global, texts: &KeptTexts, row: &str, version: &str) -> Option<bool> {
+/// Each link that the folders hold, a line each.
+fn held_text(own: Global, links: &Links) -> Option<String> {
+    let mut text = String::from_str(own, "the folders hold:").ok()?;
+    for link in &links.links {
+        let (dir, level) = (&link.dir, char::from(link.level.code()));
+        let name = str::from_utf8(link.entry.name()).ok()?;
+        let leads = str::from_utf8(link.entry.leads()).ok()?;
+        write!(text, "\n    {dir}/rc{level}.d/{name} {leads}").ok()?;
+    }
+    Some(text)
+}
+
+/// In what the run of a row differs from it, with the line of the version where that is written; nothing where it is as
+/// it says.
+fn run_difference(own: Global, texts: &KeptTexts, row: &str, version: &str) -> Option<String> {
     let fields = fields_of(own, row).ok()?;
-    let [before, line, room, status, out, err, after] = fields.as_slice() else {
+    let [before, line, room, status, out, err, after] = *fields.as_slice() else {
         return None;
     };
     let mut links = links_of(own, before).ok()?;
@@ -235,21 +249,33 @@ fn is_row(own: Global, texts: &KeptTexts, row: &str, version: &str) -> Option<bo
         &mut lines,
         &mut told,
     );
-    let written = if *out == "VERSION" { version } else { *out };
-    let is_ended = ended == status.parse::<u8>().ok()?;
-    let is_said = lines.has_line(written) && told.writer().as_slice() == err.as_bytes();
-    Some(is_ended && is_said && hold(own, &links, after))
+    let ended = format!(in own; "{ended}").ok()?;
+    let written = if out == "VERSION" { version } else { out };
+    let (out, wanted) = (lines.taken.as_slice(), lines.front_of(written));
+    let reported = told.writer().as_slice();
+    let other = String::new(own);
+    let other = or_difference(own, other, "standard output", out, wanted)?;
+    let other = or_difference(own, other, "standard error", reported, err.as_bytes())?;
+    let other = or_difference(
+        own,
+        other,
+        "its status",
+        ended.as_bytes(),
+        status.as_bytes(),
+    )?;
+    if other.is_empty() && !hold(own, &links, after) {
+        return held_text(own, &links);
+    }
+    Some(other)
 }
 
 #[test]
 fn lines_are_answered(rt: HostRuntime) -> Result<(), Fail> {
     let texts = kept_texts(rt.alloc())?;
     let version = format!(in rt.alloc(); "rclinks {VERSION} ({KIT})\n")?;
-    for row in ROWS {
-        assert!(rt;
-            is_row(rt.alloc(), &texts, row, &version) == Some(true),
-            "{row}"
-        );
-    }
+    let told = first_difference(rt.alloc(), ROWS, |own, row| {
+        run_difference(own, &texts, row, &version)
+    })?;
+    assert!(rt; told.is_empty(), "{told}");
     Ok(())
 }

@@ -4,7 +4,7 @@ use init_words::{Level, Memory, Status};
 use rc_driver::{Arg, LevelChange, NotAsked, Rc, RcAnswer, RcStep};
 use std::alloc::{Allocator, Global};
 use std::test::Fail;
-use test_support::{boxed, line_words};
+use test_support::{boxed, line_words, row_difference};
 
 /// A change of level, as `23` or `N3`, where scripts are run as sysv-rc runs them; the names in the previous folder,
 /// and in the new one; and what is run, `-` for stop and `+` for start.
@@ -105,34 +105,36 @@ fn is_handed_out(rc: &mut Rc, run: &str) -> bool {
         && rc.answer(RcAnswer::NotStarted) == Ok(())
 }
 
-/// These scripts are handed out, and then no more.
-fn are_handed_out(rc: &mut Rc, runs: &str) -> bool {
+/// The first of these scripts that is not handed out in its turn, or that there is another behind them.
+fn stray_script<'r>(rc: &mut Rc, runs: &'r str) -> Option<&'r str> {
     for run in runs.split_ascii_whitespace() {
         if !is_handed_out(rc, run) {
-            return false;
+            return Some(run);
         }
     }
-    rc.next() == RcStep::Done && rc.answer(RcAnswer::NotStarted) == Err(NotAsked)
+    let is_over = rc.next() == RcStep::Done && rc.answer(RcAnswer::NotStarted) == Err(NotAsked);
+    if is_over { None } else { Some("the end") }
 }
 
-fn is_row(own: Global, row: &Row) -> Result<bool, Memory> {
+/// What is handed out otherwise than a row says; nothing where all is as it says.
+fn order_difference(own: Global, row: &Row) -> Result<String, Memory> {
     let previous = line_words(own, row.1)?;
     let new = line_words(own, row.2)?;
     let mut rc = rc_over(own, own, row.0, &previous, &new)?;
-    Ok(are_handed_out(&mut rc, row.3))
+    match stray_script(&mut rc, row.3) {
+        None => Ok(String::new(own)),
+        Some(run) => Ok(format!(in own; "not in its turn: {run} of {}", row.3)?),
+    }
 }
 
 #[test]
-fn scripts_are_handed_out_in_order(rt: HostRuntime) {
-    for row in ROWS {
-        assert!(rt;
-            is_row(rt.alloc(), row) == Ok(true),
-            "{} {}: {}",
-            row.0,
-            row.1,
-            row.2
-        );
+fn scripts_are_handed_out_in_order(rt: HostRuntime) -> Result<(), Fail> {
+    for (position, row) in ROWS.iter().enumerate() {
+        let told = order_difference(rt.alloc(), row)?;
+        let told = row_difference(rt.alloc(), position, row.2, Some(told))?;
+        assert!(rt; told.is_empty(), "change {} from {}: {told}", row.0, row.1);
     }
+    Ok(())
 }
 
 /// Of two scripts each is answered once, and where it was handed out alone.

@@ -1,16 +1,16 @@
 //! Whole command lines of rc over a scripted host and the folders of a row: which calls a run makes of its host, and what
 //! can't be written.
 
-use crate::hosts::{fields_of, given_host, has_calls};
+use crate::hosts::{calls_of, fields_of, given_host};
+use crate::texts::or_difference;
 use command_words::{KIT, VERSION};
-use host_scripted::MemoryHost;
 use program_io::Reports;
 use rc_command::{Folders, LevelFiles, run_words};
 use std::alloc::Global;
 use std::io;
 use std::io::ErrorKind;
 use std::test::Fail;
-use test_support::{Slow, line_words};
+use test_support::{Slow, first_difference, line_words};
 
 /// The scripts in the folders `k/rc3.d` and so on, each behind its level. Nothing is known of them.
 #[derive(Drop)]
@@ -87,59 +87,60 @@ const ROWS: &[&str] = &[
     "--level-file level k 3||///|0|0||||3\n",
 ];
 
-/// What is told is this, or begins with what stands before a star.
-fn is_told(err: &[u8], want: &str) -> bool {
+/// Of what is told the part that is asked: the first bytes where what is wanted ends with a star.
+fn asked_of<'t>(err: &'t [u8], want: &'t str) -> (&'t [u8], &'t [u8]) {
     match want.split_once('*') {
-        Some((front, _)) => err.starts_with(front.as_bytes()),
-        None => err == want.as_bytes(),
+        Some((front, _)) => (err.get(..front.len()).unwrap_or(err), front.as_bytes()),
+        None => (err, want.as_bytes()),
     }
 }
 
-/// The file has this text, or isn't there.
-fn has_level(level: &LevelFile, want: &str) -> bool {
-    match &level.text {
-        Some(text) => text.as_slice() == want.as_bytes(),
-        None => want.is_empty(),
+/// The front that the lines have room for, of the text of a row or of the line of the version where that is written.
+fn wanted_of<'x>(lines: &Slow, out: &'x str, version: &'x str) -> &'x [u8] {
+    if out == "VERSION" {
+        return lines.front_of(version);
     }
+    lines.front_of(out)
 }
 
-/// The run ends with what the row says, and writes and tells that, with the line of the version where that is written.
-fn is_run(
-    own: Global,
-    host: &mut MemoryHost,
-    level: &mut LevelFile,
-    row: &[&str],
-    version: &str,
-) -> Option<bool> {
-    let [line, scripts, _, room, status, out, err, _, _] = row else {
-        return None;
-    };
-    let folders = RowFolders { scripts };
-    let words = line_words(own, line).ok()?;
-    let mut lines = Slow::new(own, room.parse::<usize>().ok()?, true, false);
-    let mut told = Reports::to(Vec::<u8>::new(own));
-    let ended = run_words(host, &folders, level, own, words, &mut lines, &mut told);
-    let written = if *out == "VERSION" { version } else { *out };
-    let is_ended = ended == status.parse::<u8>().ok()?;
-    Some(is_ended && lines.has_line(written) && is_told(told.writer(), err))
-}
-
-fn is_row(own: Global, row: &str, version: &str) -> Option<bool> {
+/// In what a run differs from its row, with the line of the version where that is written; nothing where it is as it says.
+fn run_difference(own: Global, row: &str, version: &str) -> Option<String> {
     let fields = fields_of(own, row).ok()?;
-    let [_, _, given, .., calls, kept] = fields.as_slice() else {
+    let [line, scripts, given, room, status, out, err, calls, kept] = *fields.as_slice() else {
         return None;
     };
     let mut host = given_host(own, given)?;
     let mut level = LevelFile { text: None };
-    let is_run = is_run(own, &mut host, &mut level, fields.as_slice(), version)?;
-    Some(is_run && has_calls(&host, calls) && has_level(&level, kept))
+    let folders = RowFolders { scripts };
+    let words = line_words(own, line).ok()?;
+    let mut lines = Slow::new(own, room.parse::<usize>().ok()?, true, false);
+    let mut told = Reports::to(Vec::<u8>::new(own));
+    let ended = run_words(
+        &mut *host, &folders, &mut level, own, words, &mut lines, &mut told,
+    );
+    let ended = format!(in own; "{ended}").ok()?;
+    let made = calls_of(own, &host).ok()?;
+    let (err, said) = asked_of(told.writer(), err);
+    let held = match &level.text {
+        Some(text) => text.as_slice(),
+        None => &[],
+    };
+    let wanted = wanted_of(&lines, out, version);
+    let out = lines.taken.as_slice();
+    let told = String::new(own);
+    let told = or_difference(own, told, "standard output", out, wanted)?;
+    let told = or_difference(own, told, "standard error", err, said)?;
+    let told = or_difference(own, told, "its status", ended.as_bytes(), status.as_bytes())?;
+    let told = or_difference(own, told, "its calls", made.as_slice(), calls.as_bytes())?;
+    or_difference(own, told, "the file of the level", held, kept.as_bytes())
 }
 
 #[test]
 fn lines_are_answered(rt: HostRuntime) -> Result<(), Fail> {
     let version = format!(in rt.alloc(); "rc {VERSION} ({KIT})\n")?;
-    for row in ROWS {
-        assert!(rt; is_row(rt.alloc(), row, &version) == Some(true), "{row}");
-    }
+    let told = first_difference(rt.alloc(), ROWS, |own, row| {
+        run_difference(own, row, &version)
+    })?;
+    assert!(rt; told.is_empty(), "{told}");
     Ok(())
 }

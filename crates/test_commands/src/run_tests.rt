@@ -1,13 +1,15 @@
 //! Runs of scripts over a scripted host, and what is printed of them.
 
-use crate::hosts::{begins_with, fields_of, given_host, has_calls};
+use crate::hosts::{begins_with, calls_of, fields_of, given_host};
 use crate::order_tests::rc_over;
+use crate::texts::or_difference;
 use host_scripted::MemoryHost;
 use init_words::Level;
 use program_io::Reports;
 use rc_driver::{LevelChange, Rc, RcStep, RunEnd, ScriptOptions, print_links, run_links};
 use std::alloc::Global;
-use test_support::{Slow, line_words};
+use std::test::Fail;
+use test_support::{Slow, first_difference, line_words};
 
 /// By `sh`, and no start is told.
 pub(crate) const PLAIN: ScriptOptions = ScriptOptions {
@@ -100,22 +102,23 @@ fn rooms_of(text: &str) -> Option<(u32, usize, usize)> {
     ))
 }
 
-/// The run ended so, and so much is asked for then.
-fn is_end(end: RunEnd, next: RcStep, want: &str) -> bool {
+/// How the run ended, where so much is asked for then as at such an end; the script at which the limit was.
+fn end_of<'e>(end: RunEnd<'e>, next: RcStep) -> &'e str {
     let is_over = next == RcStep::Done;
     match end {
-        RunEnd::Done => want == "done" && is_over,
-        RunEnd::Failed => want == "failed" && is_over,
-        RunEnd::Limit(link) => want == link && !is_over,
-        RunEnd::Waiting => want == "waiting" && !is_over,
-        RunEnd::Write => want == "write" && !is_over,
-        RunEnd::Memory => false,
+        RunEnd::Done if is_over => "done",
+        RunEnd::Failed if is_over => "failed",
+        RunEnd::Limit(link) if !is_over => link,
+        RunEnd::Waiting if !is_over => "waiting",
+        RunEnd::Write if !is_over => "write",
+        RunEnd::Memory => "memory",
+        _ => "something else is asked for",
     }
 }
 
-/// The scripts are run or printed, and that ends as the row says.
-fn ends(own: Global, rc: &mut Rc, host: &mut MemoryHost, row: &[&str]) -> Option<bool> {
-    let [how, _, rooms, end, out, err, _] = row else {
+/// The scripts are run or printed: in what that differs from the row; nothing where it doesn't.
+fn end_difference(own: Global, rc: &mut Rc, host: &mut MemoryHost, row: &[&str]) -> Option<String> {
+    let [how, _, rooms, end, out, err, calls] = row else {
         return None;
     };
     let (limit, room, told) = rooms_of(rooms)?;
@@ -135,12 +138,18 @@ fn ends(own: Global, rc: &mut Rc, host: &mut MemoryHost, row: &[&str]) -> Option
             &mut reports,
         )
     };
-    let is_written = lines.taken.as_slice() == out.as_bytes();
-    let is_told = reports.writer().taken.as_slice() == err.as_bytes();
-    Some(is_end(ended, rc.next(), end) && is_written && is_told)
+    let reports = reports.writer().taken.as_slice();
+    let got = end_of(ended, rc.next());
+    let made = calls_of(own, host).ok()?;
+    let lines = lines.taken.as_slice();
+    let told = String::new(own);
+    let told = or_difference(own, told, "standard output", lines, out.as_bytes())?;
+    let told = or_difference(own, told, "standard error", reports, err.as_bytes())?;
+    let told = or_difference(own, told, "its end", got.as_bytes(), end.as_bytes())?;
+    or_difference(own, told, "its calls", made.as_slice(), calls.as_bytes())
 }
 
-fn is_row(own: Global, row: &str) -> Option<bool> {
+fn run_difference(own: Global, row: &str) -> Option<String> {
     let fields = fields_of(own, row).ok()?;
     let [how, given, .., calls] = fields.as_slice() else {
         return None;
@@ -156,14 +165,16 @@ fn is_row(own: Global, row: &str) -> Option<bool> {
     if *how == "asked" {
         let _ = rc.next();
     }
-    let is_ended = ends(own, &mut rc, &mut host, fields.as_slice())?;
-    let has_begun = calls.is_empty() || begins_with(&host, command);
-    Some(is_ended && has_begun && has_calls(&host, calls))
+    let told = end_difference(own, &mut rc, &mut host, fields.as_slice())?;
+    if told.is_empty() && !calls.is_empty() && !begins_with(&host, command) {
+        return format!(in own; "its first call doesn't start {command}").ok();
+    }
+    Some(told)
 }
 
 #[test]
-fn scripts_are_run_and_printed(rt: HostRuntime) {
-    for row in ROWS {
-        assert!(rt; is_row(rt.alloc(), row) == Some(true), "{row}");
-    }
+fn scripts_are_run_and_printed(rt: HostRuntime) -> Result<(), Fail> {
+    let told = first_difference(rt.alloc(), ROWS, |own, row| run_difference(own, row))?;
+    assert!(rt; told.is_empty(), "{told}");
+    Ok(())
 }

@@ -4,7 +4,7 @@ use init_words::Memory;
 use rc_header::{Header, HeaderFault};
 use rc_links::Script;
 use std::alloc::{Allocator, Global};
-use test_support::boxed;
+use test_support::{boxed, difference};
 
 /// A header with something of its own for each keyword, but for its last line.
 pub(crate) const NINE: &[u8] = b"### BEGIN INIT INFO
@@ -94,4 +94,18 @@ pub(crate) fn scripts_of<A: Allocator + Copy>(alloc: A) -> Option<Vec<Script<A>,
     scripts.push(script(alloc, "web", WEB)?).ok()?;
     scripts.push(script(alloc, "net", NET)?).ok()?;
     Some(scripts)
+}
+
+/// What was told, or else in what a text differs from the one that is wanted; nothing where it doesn't.
+pub(crate) fn or_difference<'x>(
+    alloc: Global,
+    told: String,
+    what: &'x str,
+    got: &'x [u8],
+    want: &'x [u8],
+) -> Option<String> {
+    if !told.is_empty() {
+        return Some(told);
+    }
+    difference(alloc, &[(what, got, want)]).ok()
 }

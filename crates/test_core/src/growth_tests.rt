@@ -126,7 +126,11 @@ fn a_table_without_room_is_not_adopted(rt: HostRuntime) {
                 None => panic!(rt; "{} at {step}", row.begun),
             }
         }
-        assert!(rt; refused > 3 && made > 8, "{refused} {made}");
+        assert!(rt;
+            refused > 3 && made > 8,
+            "{}: refused {refused} times, made {made} times",
+            row.begun
+        );
     }
 }
 

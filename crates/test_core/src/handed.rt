@@ -6,7 +6,7 @@ use core_model::Parts;
 use core_steps::Core;
 use core_text::{StateFault, read_state};
 use std::alloc::{Allocator, Global};
-use test_support::boxed;
+use test_support::{boxed, difference};
 
 /// The core that a text of this generation gives, over the given memory.
 pub(crate) fn taken<A: Allocator + Copy>(
@@ -45,6 +45,11 @@ pub(crate) fn is_answered(
         && taken(global, global, text, generation).err() == want
 }
 
+/// A record of version 1.
+fn is_old(line: &str) -> bool {
+    line.starts_with("slot ") && line.split(' ').count() == 9
+}
+
 /// Whether a text is of a generation and has these lines, each record of version 1 with the mark of no status behind it.
 pub(crate) fn is_text(global: Global, text: &[u8], generation: u64, lines: &str) -> Option<bool> {
     let front = text_of(global, 2, generation, "").ok()?;
@@ -53,13 +58,30 @@ pub(crate) fn is_text(global: Global, text: &[u8], generation: u64, lines: &str)
         .strip_prefix(front.as_str())?
         .split('\n');
     for line in lines.split('\n') {
-        let is_old = line.starts_with("slot ") && line.split(' ').count() == 9;
-        let end = if is_old { " -" } else { "" };
+        let end = if is_old(line) { " -" } else { "" };
         if news.next()?.strip_prefix(line)? != end {
             return Some(false);
         }
     }
     Some(news.next().is_none())
+}
+
+/// In what a text differs from the one that is so; nothing where it is so itself.
+pub(crate) fn text_difference(
+    global: Global,
+    text: &[u8],
+    generation: u64,
+    lines: &str,
+) -> Option<String> {
+    let mut want = text_of(global, 2, generation, "").ok()?;
+    for line in lines.lines() {
+        want.push_str(line).ok()?;
+        if is_old(line) {
+            want.push_str(" -").ok()?;
+        }
+        want.push('\n').ok()?;
+    }
+    difference(global, &[("its text", text, want.as_bytes())]).ok()
 }
 
 /// The text that the core hands over, where it is of this generation and has these lines.

@@ -1,10 +1,14 @@
 //! Cores that are led to a state, that hand it over, and that go on; and cores that took it over and go on as well.
 
-use crate::cores::{does, opened};
-use crate::handed::{handed, taken};
+use crate::cores::{CoreRun, opened};
+use crate::handed::{taken, text_difference};
+use crate::runs::{stray_line, stray_text};
 use crate::texts::{ENDED, SETTLED, STARTED, STARTED_OLD, text_of};
 use core_handover::{StateFault, generation_of, hand_over};
+use core_steps::Core;
 use std::alloc::Global;
+use std::test::Fail;
+use test_support::row_difference;
 
 /// The core right after it ordered its second start.
 pub(crate) const STARTS: &str =
@@ -85,31 +89,44 @@ const RUNS: &[Run] = &[
     ),
 ];
 
-/// The run is as it says. Its generation is the first behind an inittab, and else the second.
-fn is_made(global: Global, run: &Run) -> Option<bool> {
+/// The core with which a run begins.
+fn begun(global: Global, version: u64, from: &str) -> Option<Box<Core>> {
+    if version == 0 {
+        return opened(global, from);
+    }
+    let text = text_of(global, version, 1, from).ok()?;
+    taken(global, global, text.as_bytes(), 1).ok()
+}
+
+/// What of these lines is otherwise than they say, done by a core; nothing where none is, or there are none.
+fn core_difference(global: Global, core: &mut Core, what: &str, run: &str) -> Option<String> {
+    if run.is_empty() {
+        return Some(String::new(global));
+    }
+    let stray = stray_line(global, global, &mut CoreRun::of(core), run);
+    stray_text(global, what, stray)
+}
+
+/// What of a run is otherwise than it says. Its generation is the first behind an inittab, and else the second.
+fn run_difference(global: Global, run: &Run) -> Option<String> {
     let (version, from, before, lines, after) = *run;
     let generation = if version == 0 { 1 } else { 2 };
-    let mut core = if version == 0 {
-        opened(global, from)?
-    } else {
-        taken(
-            global,
-            global,
-            text_of(global, version, 1, from).ok()?.as_bytes(),
-            1,
-        )
-        .ok()?
-    };
-    if !before.is_empty() && !does(global, global, &mut core, before) {
-        return None;
+    let mut core = begun(global, version, from)?;
+    let told = core_difference(global, &mut core, "what it does before", before)?;
+    if !told.is_empty() {
+        return Some(told);
     }
-    let text = handed(global, &mut core, generation, lines)?;
+    let text = hand_over(global, &mut core).ok()?;
+    let told = text_difference(global, &text, generation, lines)?;
+    if !told.is_empty() || generation_of(&text) != Some(generation) {
+        return format!(in global; "of generation {generation}: {told}").ok();
+    }
     let mut next = taken(global, global, &text, generation).ok()?;
-    Some(
-        generation_of(&text) == Some(generation)
-            && does(global, global, &mut core, after)
-            && does(global, global, &mut next, after),
-    )
+    let told = core_difference(global, &mut core, "what it does behind it", after)?;
+    if !told.is_empty() {
+        return Some(told);
+    }
+    core_difference(global, &mut next, "what who takes it over does", after)
 }
 
 /// Whether the core of the last generation that there is hands nothing over, and stays as it is.
@@ -121,14 +138,12 @@ fn is_worn(global: Global) -> Option<bool> {
 }
 
 #[test]
-fn states_are_handed_on(rt: HostRuntime) {
-    for run in RUNS {
-        assert!(rt;
-            is_made(rt.alloc(), run) == Some(true),
-            "{} / {}",
-            run.2,
-            run.4
-        );
+fn states_are_handed_on(rt: HostRuntime) -> Result<(), Fail> {
+    for (position, run) in RUNS.iter().enumerate() {
+        let told = run_difference(rt.alloc(), run);
+        let told = row_difference(rt.alloc(), position, run.1, told)?;
+        assert!(rt; told.is_empty(), "{told}");
     }
     assert!(rt; is_worn(rt.alloc()) == Some(true));
+    Ok(())
 }

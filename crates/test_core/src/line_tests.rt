@@ -8,6 +8,7 @@ use core_text::generation_of;
 use std::alloc::Global;
 use std::fmt::Write;
 use std::test::Fail;
+use test_support::row_difference;
 
 // Rows of a text: a line, counted from 1, or the first and the last of some; what is answered; and what stands in their
 // place, each of which is tried, parted by `|`. There `/` parts lines, and nothing is no line.
@@ -210,8 +211,11 @@ fn answer_of(word: &str) -> Option<StateFault> {
     }
 }
 
-/// What is answered to a text where the lines of a row stand in it is what the row says.
-fn is_row(global: Global, whole: &str, row: &str) -> Option<bool> {
+/// The first lines of a row with which a text is answered otherwise than the row says; nothing where there are none.
+fn lines_difference(global: Global, whole: &str, row: &str) -> Option<String> {
+    if row.starts_with('#') {
+        return Some(String::new(global));
+    }
     let (head, items) = row.split_once(':')?;
     let (places, word) = head.split_once(' ')?;
     let (first, last) = places.split_once('-').unwrap_or((places, places));
@@ -219,21 +223,20 @@ fn is_row(global: Global, whole: &str, row: &str) -> Option<bool> {
     for lines in items.split('|') {
         let text = replaced(global, whole, places, lines)?;
         if !is_answered(global, text.as_bytes(), 1, answer_of(word)) {
-            return Some(false);
+            return format!(in global; "the answer to this is not {word}: {lines}").ok();
         }
     }
-    Some(true)
+    Some(String::new(global))
 }
 
 #[test]
 fn lines_are_replaced(rt: HostRuntime) -> Result<(), Fail> {
     for (version, lines, rows) in CHANGES {
         let whole = text_of(rt.alloc(), *version, 1, lines)?;
-        for row in rows.lines() {
-            assert!(rt;
-                row.starts_with('#') || is_row(rt.alloc(), &whole, row) == Some(true),
-                "{row}"
-            );
+        for (position, row) in rows.lines().enumerate() {
+            let told = lines_difference(rt.alloc(), &whole, row);
+            let told = row_difference(rt.alloc(), position, row, told)?;
+            assert!(rt; told.is_empty(), "of version {version}, {told}");
         }
     }
     Ok(())

@@ -2,7 +2,7 @@
 //! id, `enter` a stage, and `judge` by the table and a level. Each order is given at the limit of the clock, and each
 //! answer there too, until a `clock` says when.
 
-use crate::runs::{Subject, goes_on, table_of};
+use crate::runs::{Subject, stray_line, stray_text, table_of};
 use core_records::{Record, Records, Stop};
 use init_words::{ChildNumber, Id, Memory, OrderKind, Refusal, Stage, Status};
 use inittab_text::Table;
@@ -212,8 +212,9 @@ impl<A: Allocator + Copy> Subject<A> for RecordsRun<A> {
     }
 }
 
-/// What comes of the lines of a run over the records of an inittab is as they say.
-pub(crate) fn is_records_run(global: Global, inittab: &str, run: &str) -> Option<bool> {
+/// In what a run over the records of an inittab is otherwise than its lines say; nothing where it isn't.
+pub(crate) fn records_difference(global: Global, inittab: &str, run: &str) -> Option<String> {
     let mut subject = records_over(global, global, table_of(global, inittab)?).ok()?;
-    Some(goes_on::<Global, RecordsRun<Global>>(global, global, &mut subject, run))
+    let stray = stray_line::<Global, RecordsRun<Global>>(global, global, &mut subject, run);
+    stray_text(global, "its run", stray)
 }

@@ -1,8 +1,11 @@
 //! Runs of a core, and of records by themselves, worked out by hand from the rules of init.
 
-use crate::cores::{does, opened};
-use crate::records::is_records_run;
+use crate::cores::{CoreRun, opened};
+use crate::records::records_difference;
+use crate::runs::{stray_line, stray_text};
 use std::alloc::Global;
+use std::test::Fail;
+use test_support::row_difference;
 
 /// An inittab, behind `>` an opening level, and the run; where there is a run alone, its inittab is that of the row before.
 const CORES: &[&str] = &[
@@ -227,32 +230,34 @@ const RECORDS: &[&str] = &[
      nudge / ask a look / reaped a 700 killed / termed none / shows b --------, c --------",
 ];
 
-fn is_core_run(global: Global, inittab: &str, run: &str) -> Option<bool> {
-    Some(does(global, global, &mut *opened(global, inittab)?, run))
+fn core_difference(global: Global, inittab: &str, run: &str) -> Option<String> {
+    let mut core = opened(global, inittab)?;
+    let stray = stray_line(global, global, &mut CoreRun::of(&mut core), run);
+    stray_text(global, "its run", stray)
 }
 
 #[test]
-fn runs_of_cores(rt: HostRuntime) {
+fn runs_of_cores(rt: HostRuntime) -> Result<(), Fail> {
     let mut inittab = "";
-    for row in CORES {
+    for (position, row) in CORES.iter().enumerate() {
         let (global, run) = row.split_once(" | ").unwrap_or((inittab, *row));
         inittab = global;
-        assert!(rt;
-            is_core_run(rt.alloc(), inittab, run) == Some(true),
-            "{row}"
-        );
+        let told = core_difference(rt.alloc(), inittab, run);
+        let told = row_difference(rt.alloc(), position, run, told)?;
+        assert!(rt; told.is_empty(), "{told}");
     }
+    Ok(())
 }
 
 #[test]
-fn runs_of_records(rt: HostRuntime) {
+fn runs_of_records(rt: HostRuntime) -> Result<(), Fail> {
     let mut inittab = "";
-    for row in RECORDS {
+    for (position, row) in RECORDS.iter().enumerate() {
         let (global, run) = row.split_once(" | ").unwrap_or((inittab, *row));
         inittab = global;
-        assert!(rt;
-            is_records_run(rt.alloc(), inittab, run) == Some(true),
-            "{row}"
-        );
+        let told = records_difference(rt.alloc(), inittab, run);
+        let told = row_difference(rt.alloc(), position, run, told)?;
+        assert!(rt; told.is_empty(), "{told}");
     }
+    Ok(())
 }

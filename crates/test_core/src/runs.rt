@@ -31,6 +31,28 @@ fn want_of(refusal: &str) -> Result<(), Refusal> {
     }
 }
 
+/// The first line of the run that doesn't go as it says; nothing where all do. Behind the last one nothing else is done.
+pub(crate) fn stray_line<'r, A: Allocator + Copy, S: Subject<A>>(
+    global: Global,
+    alloc: A,
+    subject: &mut S,
+    run: &'r str,
+) -> Option<(usize, &'r str)> {
+    let mut count = 0usize;
+    for said in run.split(" / ") {
+        count = count.saturating_add(1);
+        let (line, refusal) = said.split_once(" ! ").unwrap_or((said, ""));
+        if !subject.goes(global, alloc, line, want_of(refusal)) {
+            return Some((count, said));
+        }
+    }
+    if subject.rests() {
+        None
+    } else {
+        Some((count, "something else is done behind it"))
+    }
+}
+
 /// The run goes as its lines say.
 pub(crate) fn goes_on<A: Allocator + Copy, S: Subject<A>>(
     global: Global,
@@ -38,11 +60,19 @@ pub(crate) fn goes_on<A: Allocator + Copy, S: Subject<A>>(
     subject: &mut S,
     run: &str,
 ) -> bool {
-    for said in run.split(" / ") {
-        let (line, refusal) = said.split_once(" ! ").unwrap_or((said, ""));
-        if !subject.goes(global, alloc, line, want_of(refusal)) {
-            return false;
+    stray_line(global, alloc, subject, run).is_none()
+}
+
+/// What is told of that line of a text of this name; nothing where there is none.
+pub(crate) fn stray_text(
+    global: Global,
+    what: &str,
+    stray: Option<(usize, &str)>,
+) -> Option<String> {
+    match stray {
+        None => Some(String::new(global)),
+        Some((number, said)) => {
+            format!(in global; "{what}, line {number}, goes otherwise: {said}").ok()
         }
     }
-    subject.rests()
 }

@@ -2,7 +2,6 @@
 //! to come. With a hand-over of init's state behind any of its happenings the rest of each trace is the same.
 #![tactic(auto)]
 
-mod differences;
 mod rows;
 mod runs;
 

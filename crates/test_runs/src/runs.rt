@@ -1,11 +1,10 @@
 //! Runs of init over a row.
 
-use crate::differences::difference;
 use crate::rows::Row;
 use init_words::Memory;
 use simulator::{SimFault, Untold, simulate};
 use std::alloc::{AllocError, Global};
-use std::str;
+use test_support::difference;
 use text_lines::newlines;
 use trace_text::first_happening;
 
@@ -19,23 +18,12 @@ pub(crate) enum Outcome {
     Other(String),
 }
 
-/// What is wrong with the end of a run; nothing where it ended as the row says.
-fn other_end(
-    alloc: Global,
-    ended: Result<(), SimFault>,
-    fault: &[u8],
-) -> Result<String, AllocError> {
-    let told = match ended {
-        Ok(()) => String::new(alloc),
-        Err(why) => format!(in alloc; "{why}")?,
-    };
-    if told.as_bytes() == fault {
-        return Ok(String::new(alloc));
+/// Why a run ended before its script; nothing where it didn't.
+fn end_text(alloc: Global, ended: Result<(), SimFault>) -> Result<String, AllocError> {
+    match ended {
+        Ok(()) => Ok(String::new(alloc)),
+        Err(why) => format!(in alloc; "{why}"),
     }
-    format!(in alloc;
-        "its end is: {told}\n    and not: {}",
-        str::from_utf8(fault).unwrap_or("?")
-    )
 }
 
 /// A trace without its hand-overs.
@@ -58,17 +46,19 @@ fn run_over(
 ) -> Result<Outcome, AllocError> {
     let mut out = Vec::new(alloc);
     let ended = simulate::<Global, Vec<u8>, Untold>(alloc, row.inittab, None, script, &mut out);
-    let mut other = other_end(alloc, ended, row.fault)?;
+    let end = end_text(alloc, ended)?;
     if is_handed {
         let text = without_handed(alloc, &out)?;
         if text.len().saturating_add(HANDED.len()) != out.len() {
-            other = String::from_str(alloc, "its trace has no such line")?;
+            return Ok(Outcome::Other(String::from_str(alloc, "its trace has no such line")?));
         }
         out = text;
     }
-    if out.as_slice() != row.trace {
-        other = difference(alloc, &out, row.trace)?;
-    }
+    let texts = [
+        ("its trace", out.as_slice(), row.trace),
+        ("its end", end.as_bytes(), row.fault),
+    ];
+    let other = difference(alloc, &texts)?;
     Ok(if other.is_empty() {
         Outcome::Same
     } else {

@@ -1,9 +1,11 @@
-//! What tests share: words of a command line, texts of rows, what a scripted host is given as text, values on the heap, heaps
-//! that are full but for some bytes, and a writer that takes one byte a write until it is full, then fails or takes none, and may not be flushed.
+//! What tests share: words of a command line, texts of rows and in what others differ from them, what a scripted host is
+//! given as text, values on the heap, heaps that are full but for some bytes, and a writer that takes one byte a write until
+//! it is full, then fails or takes none, and may not be flushed.
 #![tactic(auto)]
 
 mod again;
 mod boxes;
+mod differences;
 mod growths;
 mod heaps;
 mod replies;
@@ -13,6 +15,7 @@ mod writers;
 
 pub use again::{Again, SYSTEM, is_again, is_said};
 pub use boxes::boxed;
+pub use differences::{difference, first_difference, row_difference};
 pub use growths::{Outcome, first_unrefused, refusals};
 pub use heaps::fill;
 pub use replies::{

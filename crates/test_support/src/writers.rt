@@ -25,10 +25,9 @@ impl Slow {
         }
     }
 
-    /// It took of the line what it has room for, and nothing else.
-    pub fn has_line(&self, line: &str) -> bool {
-        let taken = self.taken.as_slice();
-        line.as_bytes().starts_with(taken) && taken.len() == line.len().min(self.room)
+    /// The front of a line for which it has room.
+    pub fn front_of<'l>(&self, line: &'l str) -> &'l [u8] {
+        line.as_bytes().get(..self.room).unwrap_or(line.as_bytes())
     }
 }
 

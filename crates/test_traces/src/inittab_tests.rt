@@ -1,5 +1,6 @@
 //! Texts and files that are read as one table, and tables that are written. The cases are rows.
 
+use crate::verdicts::or_difference;
 use init_words::{Act, Id, Level, Memory, Part};
 use inittab_text::{Table, TableFault, read_parts, read_written};
 use std::alloc::Global;
@@ -211,25 +212,37 @@ fn report_of<T: Display>(alloc: Global, faults: &[T]) -> Result<String, Fail> {
     Ok(report)
 }
 
-/// The table and the faults are those of the row.
-fn is_table<T: Display>(
+fn head_text(alloc: Global, entries: usize, level: Option<Level>) -> Result<String, Fail> {
+    let code = match level {
+        Some(level) => char::from(level.code()),
+        None => '-',
+    };
+    Ok(format!(in alloc; "{entries} entries, default level {code}")?)
+}
+
+/// In what the table and the faults differ from those of the row; nothing where they are the same.
+fn table_difference<T: Display>(
     alloc: Global,
     table: &Table,
     faults: &[T],
     want: &Want,
-) -> Result<bool, Fail> {
+) -> Result<String, Fail> {
+    let written = inittab_text::write(alloc, table)?;
+    let report = report_of(alloc, faults)?;
     let lines = want.written.split(|byte| *byte == b'\n').count();
-    Ok(
-        table.len() == lines.saturating_sub(1)
-            && table.default_level() == want.level
-            && inittab_text::write(alloc, table)?.as_slice() == want.written.as_slice()
-            && report_of(alloc, faults)?.as_str() == want.faults.as_str(),
-    )
+    let got = head_text(alloc, table.len(), table.default_level())?;
+    let said = head_text(alloc, lines.saturating_sub(1), want.level)?;
+    let (table, wanted) = (written.as_slice(), want.written.as_slice());
+    let (report, faults) = (report.as_bytes(), want.faults.as_bytes());
+    let told = String::new(alloc);
+    let told = or_difference(alloc, told, "its table", table, wanted)?;
+    let told = or_difference(alloc, told, "its faults", report, faults)?;
+    Ok(or_difference(alloc, told, "the table", got.as_bytes(), said.as_bytes())?)
 }
 
-fn are_read(alloc: Global, want: &Want) -> Result<bool, Fail> {
+fn parts_difference(alloc: Global, want: &Want) -> Result<String, Fail> {
     let (table, faults) = read_parts(alloc, &want.parts)?;
-    is_table(alloc, &table, faults.as_slice(), want)
+    table_difference(alloc, &table, faults.as_slice(), want)
 }
 
 /// The text is one that is written, and is written again of the copy of its table.
@@ -243,28 +256,35 @@ fn is_written(alloc: Global, text: &[u8]) -> Result<bool, Memory> {
     }
 }
 
-/// The one text of a row, if it has one, is read as its part is, and as one that is written just where it is written so.
-fn is_text(alloc: Global, want: &mut Want) -> Result<bool, Fail> {
+/// The same of the one text of a row, if it has one, which is also read as one that is written just where it is.
+fn text_difference(alloc: Global, want: &mut Want) -> Result<String, Fail> {
     let [part] = want.parts.as_slice() else {
-        return Ok(true);
+        return Ok(String::new(alloc));
     };
     let text = part.bytes.as_slice();
     if is_written(alloc, text)? != (text == want.written.as_slice()) {
-        return Ok(false);
+        return Ok(String::from_str(alloc, "as one that is written")?);
     }
     let (table, faults) = inittab_text::read(alloc, text)?;
     want.faults = want.faults.replace(alloc, " part 0", "")?;
-    is_table(alloc, &table, faults.as_slice(), want)
+    table_difference(alloc, &table, faults.as_slice(), want)
 }
 
 #[test]
 fn texts_are_read_and_written(rt: HostRuntime) -> Result<(), Fail> {
-    for row in ROWS {
+    for (position, row) in ROWS.iter().enumerate() {
         let mut want = want_of(rt.alloc(), row)?;
-        let is_so = are_read(rt.alloc(), &want)?
-            && is_written(rt.alloc(), &want.written)?
-            && is_text(rt.alloc(), &mut want)?;
-        assert!(rt; is_so, "{}", want.faults);
+        let told = parts_difference(rt.alloc(), &want)?;
+        assert!(rt; told.is_empty(), "row {position} of ROWS, from 0: {told}");
+        assert!(rt;
+            is_written(rt.alloc(), &want.written)?,
+            "row {position} of ROWS, from 0"
+        );
+        let told = text_difference(rt.alloc(), &mut want)?;
+        assert!(rt;
+            told.is_empty(),
+            "row {position} of ROWS, from 0, by itself: {told}"
+        );
     }
     Ok(())
 }

@@ -103,10 +103,13 @@ fn goes(limiter: &mut Limiter, call: &Call) -> bool {
 
 #[test]
 fn the_window_slides(rt: HostRuntime) {
-    for run in RUNS {
+    for (number, run) in RUNS.iter().enumerate() {
         let mut limiter = Limiter::new();
         for (position, call) in run.iter().enumerate() {
-            assert!(rt; goes(&mut limiter, call), "at {position}");
+            assert!(rt;
+                goes(&mut limiter, call),
+                "run {number} of RUNS, call {position}, from 0"
+            );
         }
     }
 }

@@ -2,7 +2,8 @@
 
 use simulator::SimulatedSystem;
 use std::alloc::Global;
-use test_support::{answer_of, boxed, happening_of};
+use std::test::Fail;
+use test_support::{answer_of, boxed, first_difference, happening_of};
 use trace_events::{Happening, HappeningIn};
 
 /// Lines that it takes, orders of init among them; behind ` ! ` what is objected to one. `owes` has the answer about an id
@@ -66,19 +67,21 @@ fn goes(global: Global, side: &mut SimulatedSystem, line: &str) -> Option<bool> 
     Some(may_come && side.take(&happening).is_ok())
 }
 
-fn all_go(global: Global, run: &str) -> Option<bool> {
+/// The first line of a run that doesn't go as it says; nothing where all do.
+fn run_difference(global: Global, run: &str) -> Option<String> {
     let mut side = boxed(global, SimulatedSystem::new(global)).ok()?;
-    for line in run.split(" / ") {
+    for (position, line) in run.split(" / ").enumerate() {
         if !goes(global, &mut side, line)? {
-            return Some(false);
+            let number = position.saturating_add(1);
+            return format!(in global; "line {number} goes otherwise: {line}").ok();
         }
     }
-    Some(true)
+    Some(String::new(global))
 }
 
 #[test]
-fn the_system_is_simulated(rt: HostRuntime) {
-    for run in RUNS {
-        assert!(rt; all_go(rt.alloc(), run) == Some(true), "{run}");
-    }
+fn the_system_is_simulated(rt: HostRuntime) -> Result<(), Fail> {
+    let told = first_difference(rt.alloc(), RUNS, |global, run| run_difference(global, run))?;
+    assert!(rt; told.is_empty(), "{told}");
+    Ok(())
 }

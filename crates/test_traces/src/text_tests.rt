@@ -110,6 +110,7 @@ fn fault_in(global: Global, text: &str) -> Option<u64> {
 #[test]
 fn traces_are_read_and_printed(rt: HostRuntime) {
     for (text, fault) in TEXTS {
-        assert!(rt; fault_in(rt.alloc(), text) == Some(*fault), "{text:?}");
+        let got = fault_in(rt.alloc(), text);
+        assert!(rt; got == Some(*fault), "{text:?}: line {got:?}, not {fault}");
     }
 }

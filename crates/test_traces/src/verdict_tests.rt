@@ -1,7 +1,9 @@
 //! Verdicts on traces, worked out from the definitions of the laws: on each as it is, with its lines changed in turn, cut
 //! in pieces, and in its brief form.
 
-use crate::verdicts::{are_judged, found_of, is_shortened};
+use crate::verdicts::{brief_difference, found_of, verdict_difference};
+use std::test::Fail;
+use test_support::first_difference;
 
 /// Traces and their verdicts, and those on them with each of their lines dropped, doubled, and exchanged with the next one
 /// in turn, where they are there. A verdict is `.` where the trace is lawful, else the place of the first breach from 0 and
@@ -194,10 +196,12 @@ const VERDICTS: &[&str] = &[
 ];
 
 #[test]
-fn traces_are_judged(rt: HostRuntime) {
-    for row in VERDICTS {
-        assert!(rt; are_judged(rt.alloc(), row) == Some(true), "{row}");
-    }
+fn traces_are_judged(rt: HostRuntime) -> Result<(), Fail> {
+    let told = first_difference(rt.alloc(), VERDICTS, |global, row| {
+        verdict_difference(global, row)
+    })?;
+    assert!(rt; told.is_empty(), "{told}");
+    Ok(())
 }
 
 /// The verdicts on a trace and on its brief form, how many happenings are held back at the end, and the trace, of which its
@@ -242,10 +246,12 @@ const BRIEF: &[&str] = &[
 ];
 
 #[test]
-fn traces_are_shortened(rt: HostRuntime) {
-    for row in BRIEF {
-        assert!(rt; is_shortened(rt.alloc(), row) == Some(true), "{row}");
-    }
+fn traces_are_shortened(rt: HostRuntime) -> Result<(), Fail> {
+    let told = first_difference(rt.alloc(), BRIEF, |global, row| {
+        brief_difference(global, row)
+    })?;
+    assert!(rt; told.is_empty(), "{told}");
+    Ok(())
 }
 
 /// As many bytes as the longest line of a trace has, and one more.
@@ -309,11 +315,15 @@ const SIZES: [usize; 7] = [1, 2, 3, 4, 7, 20, 1000];
 fn a_text_is_judged_however_it_is_cut(rt: HostRuntime) {
     for (text, said, left) in TEXTS {
         for size in SIZES {
-            let is_so = match found_of(rt.alloc(), text, size) {
-                Some((found, at)) => found.as_str() == *said && at == *left,
+            let got = found_of(rt.alloc(), text, size);
+            let is_so = match &got {
+                Some((found, at)) => found.as_str() == *said && *at == *left,
                 None => false,
             };
-            assert!(rt; is_so, "pieces of {size} of {text:?}");
+            assert!(rt;
+                is_so,
+                "pieces of {size} of {text:?}: {got:?}, not {said:?}, {left}"
+            );
         }
     }
 }

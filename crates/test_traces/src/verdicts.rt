@@ -2,7 +2,7 @@
 
 use init_words::Memory;
 use std::alloc::{AllocError, Allocator, Global};
-use test_support::{boxed, lines_of};
+use test_support::{boxed, difference, lines_of};
 use trace_events::HappeningIn;
 use trace_log::{EndedLog, ListLog, Log};
 use trace_log_wrappers::BriefLog;
@@ -26,6 +26,17 @@ const CHANGES: [Change; 4] = [
     Change::Doubled,
     Change::Exchanged,
 ];
+
+impl Change {
+    fn words(self) -> &'static str {
+        match self {
+            Change::None => "as it is",
+            Change::Dropped => "dropped",
+            Change::Doubled => "doubled",
+            Change::Exchanged => "exchanged with the next",
+        }
+    }
+}
 
 fn add_changed(text: &mut String, line: &str, change: Change) -> Result<(), AllocError> {
     if change != Change::Dropped {
@@ -112,18 +123,31 @@ pub(crate) fn is_printed(
     Ok(trace_text::print(global, trace)?.as_slice() == text.as_bytes())
 }
 
-/// The verdict on a text is this, its trace prints as the text, and has a brief form like it; `?` and the number of a line
-/// that is none.
-fn is_judged(global: Global, text: &str, want: &str) -> Result<bool, Memory> {
+/// What of a text isn't so: that its verdict is this, its trace prints as the text, and has a brief form like it; `?` and
+/// the number of a line that is none. Nothing where all is so.
+fn judged_difference(global: Global, text: &str, want: &str) -> Option<String> {
     match trace_text::read(global, text.as_bytes()) {
-        Ok(trace) => Ok(
-            is_printed(global, &trace, text)?
-                && verdict_on(global, &trace)?.as_str() == want
-                && is_alike(global, &trace, want)?,
-        ),
-        Err(ReadFault::Line(number)) => Ok(format!(in global; "?{number}")?.as_str() == want),
-        Err(ReadFault::Memory) => Err(Memory),
+        Ok(trace) => {
+            let verdict = verdict_on(global, &trace).ok()?;
+            if verdict.as_str() != want {
+                return Some(verdict);
+            }
+            if !is_printed(global, &trace, text).ok()? {
+                return String::from_str(global, "printed otherwise").ok();
+            }
+            if !is_alike(global, &trace, want).ok()? {
+                return String::from_str(global, "otherwise in its brief form").ok();
+            }
+        }
+        Err(ReadFault::Line(number)) => {
+            let told = format!(in global; "?{number}").ok()?;
+            if told.as_str() != want {
+                return Some(told);
+            }
+        }
+        Err(ReadFault::Memory) => return None,
     }
+    Some(String::new(global))
 }
 
 /// A judge over the given memory, in plain memory itself.
@@ -166,22 +190,36 @@ pub(crate) fn found_of(global: Global, text: &str, size: usize) -> Option<(Strin
     Some((found(global, &judge)?, judge.answer().1.unwrap_or(0)))
 }
 
-/// The trace of a row has its verdict, and its others with each of its lines changed so in turn, read whole and in pieces.
-pub(crate) fn are_judged(global: Global, row: &str) -> Option<bool> {
+/// In what a text is judged otherwise than wanted, read whole and in pieces.
+fn text_difference(global: Global, text: &str, want: &str) -> Option<String> {
+    let told = judged_difference(global, text, want)?;
+    if !told.is_empty() {
+        return Some(told);
+    }
+    let (found, _) = found_of(global, text, 5)?;
+    if found.split(' ').next() == Some(want) {
+        return Some(told);
+    }
+    format!(in global; "in pieces {found}").ok()
+}
+
+/// The first line of the trace of a row with whose change it is judged otherwise than the row says; nothing where there is
+/// none.
+pub(crate) fn verdict_difference(global: Global, row: &str) -> Option<String> {
     let (trace, verdicts) = row.split_once("| ")?;
-    let text = lines_of(global, trace.trim_ascii_end(), " / ").ok()?;
+    let lines = lines_of(global, trace.trim_ascii_end(), " / ").ok()?;
     for (change, said) in CHANGES.iter().zip(verdicts.split(" | ")) {
         for (position, want) in said.split(' ').enumerate() {
-            let text = changed(global, text.as_str(), position, *change).ok()?;
-            let (found, _) = found_of(global, text.as_str(), 5)?;
-            if is_judged(global, text.as_str(), want) != Ok(true)
-                || found.split(' ').next() != Some(want)
-            {
-                return Some(false);
+            let text = changed(global, lines.as_str(), position, *change).ok()?;
+            let told = text_difference(global, text.as_str(), want)?;
+            if !told.is_empty() {
+                let line = lines.lines().nth(position).unwrap_or("");
+                let words = change.words();
+                return format!(in global; "{position}, {line}, {words}: {told}, not {want}").ok();
             }
         }
     }
-    Some(true)
+    Some(String::new(global))
 }
 
 /// The lines of a trace, and those of its brief form, which are all but what stands in brackets.
@@ -201,17 +239,49 @@ fn both_of(global: Global, row: &str) -> Option<(Vec<HappeningIn<Global>>, Strin
     Some((trace_text::read(global, whole.as_bytes()).ok()?, brief))
 }
 
-/// A trace and its brief form have the verdicts of a row, and so many happenings are held back at the end.
-pub(crate) fn is_shortened(global: Global, row: &str) -> Option<bool> {
+/// What is otherwise than a row says: the brief form of its trace, or the verdict on either and how many happenings are
+/// held back at the end; nothing where nothing is.
+pub(crate) fn brief_difference(global: Global, row: &str) -> Option<String> {
     let (said, trace) = row.split_once(" | ")?;
-    let mut said = said.split(' ');
     let (trace, brief) = both_of(global, trace)?;
     let (list, all) = finished(ListLog::new(global), &trace);
+    let text = trace_text::print(global, list.as_slice()).ok()?;
+    let whole = verdict_on(global, &trace).ok()?;
+    let short = verdict_on(global, list.as_slice()).ok()?;
     let before = list.len().checked_sub(written_before(global, &trace))?;
-    Some(
-        all && is_printed(global, list.as_slice(), brief.as_str()) == Ok(true)
-            && said.next() == Some(verdict_on(global, &trace).ok()?.as_str())
-            && said.next() == Some(verdict_on(global, list.as_slice()).ok()?.as_str())
-            && said.next()?.parse::<usize>() == Ok(before),
+    let got = format!(in global; "{whole} {short} {before}").ok()?;
+    if !all {
+        return String::from_str(global, "the log took less than all").ok();
+    }
+    let told = String::new(global);
+    let told = or_difference(
+        global,
+        told,
+        "its brief form",
+        text.as_slice(),
+        brief.as_bytes(),
     )
+    .ok()?;
+    or_difference(
+        global,
+        told,
+        "its verdicts",
+        got.as_bytes(),
+        said.as_bytes(),
+    )
+    .ok()
+}
+
+/// What was told, or else in what a text differs from the one that is wanted; nothing where it doesn't.
+pub(crate) fn or_difference<'x>(
+    alloc: Global,
+    told: String,
+    what: &'x str,
+    got: &'x [u8],
+    want: &'x [u8],
+) -> Result<String, AllocError> {
+    if !told.is_empty() {
+        return Ok(told);
+    }
+    difference(alloc, &[(what, got, want)])
 }

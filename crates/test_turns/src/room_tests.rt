@@ -2,7 +2,7 @@
 
 use crate::log_tests::is_whole;
 use crate::run_tests::STOPPED;
-use crate::runs::{Bench, bench_of, is_run, row_of, serve_on};
+use crate::runs::{Bench, bench_of, row_of, run_difference, serve_on};
 use crate::scripted_tests::has_room;
 use host_trace::Edge;
 use init_turns::Opening;
@@ -20,7 +20,8 @@ fn is_untold(global: Global) -> Option<bool> {
     let host = host_of(global, &heap, row.replies)?;
     let mut bench = bench_of(global, host, global, row.inittab, ListLog::new(global))?;
     let _fillers = fill(global, &heap, 0)?;
-    Some(is_run(global, &mut bench, &row, row.trace) && bench.edge.host().calls().is_none())
+    let told = run_difference(global, &mut bench, &row, row.trace)?;
+    Some(told.is_empty() && bench.edge.host().calls().is_none())
 }
 
 const INITTAB: &str = "id:3:initdefault:|r:3:respawn:serv";

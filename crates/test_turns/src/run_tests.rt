@@ -1,7 +1,9 @@
 //! Worked runs, and those that differ from them in one call; init re-executed: what comes of its state text where that
 //! comes back whole, cut, older, changed, or not at all.
 
-use crate::runs::{passes, passes_changed};
+use crate::runs::{difference_of, difference_of_changed};
+use std::test::Fail;
+use test_support::first_difference;
 
 /// A child is born, and its level ends.
 const SERVED: &str =
@@ -208,20 +210,19 @@ const CHANGES: &[(&str, &[&str])] = &[
 ];
 
 #[test]
-fn runs(rt: HostRuntime) {
-    for row in ROWS {
-        assert!(rt; passes(rt.alloc(), row) == Some(true), "{row}");
-    }
+fn runs(rt: HostRuntime) -> Result<(), Fail> {
+    let told = first_difference(rt.alloc(), ROWS, |global, row| difference_of(global, row))?;
+    assert!(rt; told.is_empty(), "{told}");
+    Ok(())
 }
 
 #[test]
-fn a_call_that_fails_leaves_the_rest(rt: HostRuntime) {
+fn a_call_that_fails_leaves_the_rest(rt: HostRuntime) -> Result<(), Fail> {
     for (row, changes) in CHANGES {
-        for change in *changes {
-            assert!(rt;
-                passes_changed(rt.alloc(), row, change) == Some(true),
-                "{change}"
-            );
-        }
+        let told = first_difference(rt.alloc(), changes, |global, change| {
+            difference_of_changed(global, row, change)
+        })?;
+        assert!(rt; told.is_empty(), "{told}");
     }
+    Ok(())
 }

@@ -7,8 +7,8 @@ use host_trace::Edge;
 use init_turns::{Served, Unwatched};
 use init_words::Memory;
 use inittab_text::Table;
-use std::alloc::{Allocator, Global};
-use test_support::{boxed, host_of, letters_of, lines_of};
+use std::alloc::{AllocError, Allocator, Global};
+use test_support::{boxed, difference, host_of, letters_of, lines_of};
 use trace_events::{Happening, HappeningIn};
 use trace_log::{ListLog, Log};
 use trace_pass::Verdict;
@@ -137,49 +137,77 @@ fn log_table<A: Allocator + Copy>(global: Global, bench: &mut Bench<A, Global, L
     !bench.edge.failed()
 }
 
-/// The log's happenings after the opening table are these lines, and all of it is lawful.
-fn is_logged(global: Global, list: &[HappeningIn<Global>], trace: &str) -> Option<bool> {
+/// In what the log's happenings after the opening table differ from these lines, or that all of it is unlawful.
+fn log_difference(global: Global, list: &[HappeningIn<Global>], trace: &str) -> Option<String> {
     let [_, made @ ..] = list else {
         return None;
     };
     let text = trace_text::print(global, made).ok()?;
     let want = lines_of(global, trace, " / ").ok()?;
-    let verdict = trace_pass::check(global, list).ok()?;
-    Some(text.as_slice() == want.as_bytes() && matches!(verdict, Verdict::Lawful))
+    let told = difference(global, &[("its trace", text.as_slice(), want.as_bytes())]).ok()?;
+    if !told.is_empty() {
+        return Some(told);
+    }
+    match trace_pass::check(global, list).ok()? {
+        Verdict::Lawful => Some(told),
+        Verdict::Breach(at, law) => {
+            format!(in global; "its trace is unlawful: happening {at}: {law}").ok()
+        }
+    }
 }
 
-/// The run of a row is as it says, with this trace.
-pub(crate) fn is_run<A: Allocator + Copy>(
+fn end_text(global: Global, ended: Served, faults: u64) -> Result<String, AllocError> {
+    let Served {
+        turns,
+        drained,
+        logged,
+    } = ended;
+    format!(in global; "{turns} turns, drained: {drained}, logged: {logged}, {faults} faults")
+}
+
+/// In what the run differs from its row and this trace; nothing where it is as they say.
+pub(crate) fn run_difference<A: Allocator + Copy>(
     global: Global,
     bench: &mut Bench<A, Global, ListLog>,
     row: &Row,
     trace: &str,
-) -> bool {
-    log_table(global, bench)
-        && serve_on(global, bench, row.limit.0, row.limit.1) == row.ended
-        && bench.edge.host().faults() == row.faults
-        && is_logged(global, bench.edge.log().list(), trace) == Some(true)
+) -> Option<String> {
+    if !log_table(global, bench) {
+        return None;
+    }
+    let ended = serve_on(global, bench, row.limit.0, row.limit.1);
+    let got = end_text(global, ended, bench.edge.host().faults()).ok()?;
+    let want = end_text(global, row.ended, row.faults).ok()?;
+    let told = log_difference(global, bench.edge.log().list(), trace)?;
+    if !told.is_empty() {
+        return Some(told);
+    }
+    difference(global, &[("its end", got.as_bytes(), want.as_bytes())]).ok()
 }
 
-/// Makes the run of a row whose host is given this, and gives whether its calls have the letters that are asked; None where
-/// it is not as it says, with this trace.
-fn is_made(global: Global, row: &Row, replies: &str, trace: &str) -> Option<bool> {
+/// The same of a run over a host that is given this, and of the letters of its calls, where they are asked.
+fn made_difference(global: Global, row: &Row, replies: &str, trace: &str) -> Option<String> {
     let host = host_of(global, global, replies)?;
     let mut bench = bench_of(global, host, global, row.inittab, ListLog::new(global))?;
     bench.strict = row.is_strict;
-    if !is_run(global, &mut bench, row, trace) {
-        return None;
-    }
+    let told = run_difference(global, &mut bench, row, trace)?;
     let letters = letters_of(global, bench.edge.host())?;
-    Some(match row.letters {
-        Some(want) => letters.as_bytes() == want.as_bytes(),
-        None => true,
-    })
+    match row.letters {
+        Some(want) if told.is_empty() => {
+            difference(
+                global,
+                &[("its calls", letters.as_bytes(), want.as_bytes())],
+            )
+            .ok()
+        }
+        _ => Some(told),
+    }
 }
 
-pub(crate) fn passes(global: Global, row: &str) -> Option<bool> {
+/// In what the run of a row differs from it.
+pub(crate) fn difference_of(global: Global, row: &str) -> Option<String> {
     let row = row_of(row)?;
-    is_made(global, &row, row.replies, row.trace)
+    made_difference(global, &row, row.replies, row.trace)
 }
 
 /// The text, with what stands behind `=>` in the place of the part before it, which is there.
@@ -192,7 +220,7 @@ fn changed(global: Global, text: &str, change: &str) -> Option<String> {
 }
 
 /// The same of a row of which this is otherwise.
-pub(crate) fn passes_changed(global: Global, row: &str, change: &str) -> Option<bool> {
+pub(crate) fn difference_of_changed(global: Global, row: &str, change: &str) -> Option<String> {
     let mut changes = change.split(" | ");
     let faults = changes.next()?.parse::<u64>().ok()?;
     let row = Row {
@@ -205,5 +233,5 @@ pub(crate) fn passes_changed(global: Global, row: &str, change: &str) -> Option<
     for change in changes {
         trace = changed(global, &trace, change)?;
     }
-    is_made(global, &row, &replies, &trace)
+    made_difference(global, &row, &replies, &trace)
 }
