@@ -114,13 +114,13 @@ done
 for facility in contrib/facilities/*; do
     put 644 "$facility" "share/initd/facilities/${facility##*/}"
 done
-for page in SECURITY.md docs/SYSVINIT.md docs/DECISIONS.md examples/timeline/timeline.svg; do
-    put 644 "$page" "share/doc/initd/${page##*/}"
-done
-# These show the picture that lies beside them.
-for page in README.md docs/OPERATING.md; do
+put 644 examples/timeline/timeline.svg share/doc/initd/timeline.svg
+# Of their links those stay that lead to one another, to the picture, or within a page.
+for page in README.md SECURITY.md docs/OPERATING.md docs/SYSVINIT.md docs/DECISIONS.md; do
     shown=$root/share/initd/${page##*/}
-    sed 's|([./]*examples/timeline/timeline.svg)|(timeline.svg)|' "$page" >"$shown"
+    sed -E 's,\]\([./a-z]*(README|SECURITY|OPERATING|SYSVINIT|DECISIONS|timeline)\.(md|svg),](@\1.\2,g
+        s,\[([^][]*)\]\([^@#)][^)]*\),\1,g
+        s,\]\(@,](,g' "$page" >"$shown"
     put 644 "$shown" "share/doc/initd/${page##*/}"
     rm "$shown"
 done
