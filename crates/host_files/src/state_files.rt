@@ -6,8 +6,12 @@ use program_io::{are_one_file, read_file, refuse_too_large, write_text};
 use std::alloc::{AllocError, Allocator};
 use std::fs::{File, OpenOptions};
 use std::io::{Error, ErrorKind};
+use std::os::unix::fs::OpenOptionsExt;
 use std::rt::Files;
 use std::{fs, io};
+
+/// The mode of a file that is made: others than its group don't read the commands of entries.
+const MODE: u32 = 0o640;
 
 /// The file of the text of init's state.
 #[derive(Drop)]
@@ -115,6 +119,7 @@ fn write_whole<R: Files<File = File>>(rt: &R, path: &str, text: &[u8]) -> io::Re
     let mut file = OpenOptions::new()
         .write(true)
         .create_new(true)
+        .mode(MODE)
         .open(rt, path)?;
     refuse_too_large(&file, 0, text.len())?;
     write_text(&mut file, text)?;
