@@ -1,27 +1,28 @@
 -- What a host asked of the system.
-use Rattle.std.proofs.Common.{◌≡◌, refl, ◌∙◌, ap, ℕ, List, [], ◌∷◌, ◌++◌, map, Option, Some, None, Result, Ok, Err, inl}
-use Rattle.std.proofs.Common.{inr}
+use Rattle.std.proofs.Common.{◌≡◌, refl, ◌∙◌, ap, ℕ, Bool, List, [], ◌∷◌, ◌++◌, map, Option, Some, None, Result}
+use Rattle.std.proofs.Common.{Ok, Err, inl, inr}
 use Rattle.std.specs.Result.{IsErr}
 use Rattle.init_words.specs.declared.orders.Answer.TheVariants.{NotBorn}
 use Rattle.host_system.specs.Asking.{AreStarted, AsksHelpers, AsksStart}
-use Rattle.host_system.specs.Commands.{words_run}
+use Rattle.host_system.specs.Commands.{in_session, words_run}
 use Rattle.host_system.specs.Systems.{SystemCall, start_answer}
 use Rattle.host_system.specs.Systems.SystemCall.{run}
 
-started_as : (logs : Option (List ℕ)) (id text : List ℕ) → AreStarted logs id text (words_run text)
-started_as None id text = refl
-started_as (Some folder) id text = inr refl
+started_as : (logs : Option (List ℕ)) (groups : Bool) (id text : List ℕ)
+    → AreStarted logs groups id text (in_session groups (words_run text))
+started_as None groups id text = refl
+started_as (Some folder) groups id text = inr refl
 
 -- where nothing was asked, no child is born
-pub not_started : (logs : Option (List ℕ)) (id text : List ℕ) (asked : List SystemCall)
-    → AsksStart logs id text NotBorn asked asked
-not_started logs id text asked = (words_run text, started_as logs id text, inl refl)
+pub not_started : (logs : Option (List ℕ)) (groups : Bool) (id text : List ℕ) (asked : List SystemCall)
+    → AsksStart logs groups id text NotBorn asked asked
+not_started logs groups id text asked = (in_session groups (words_run text), started_as logs groups id text, inl refl)
 
-pub unstarted : {E : Type 0} (logs : Option (List ℕ)) (id text : List ℕ) (outcome : Result ℕ E)
+pub unstarted : {E : Type 0} (logs : Option (List ℕ)) (groups : Bool) (id text : List ℕ) (outcome : Result ℕ E)
     (asked : List SystemCall)
-    → IsErr outcome → AsksStart logs id text (start_answer outcome) asked asked
-unstarted logs id text (Err why) asked failed = not_started logs id text asked
-unstarted logs id text (Ok number) asked failed = absurd (cc)
+    → IsErr outcome → AsksStart logs groups id text (start_answer outcome) asked asked
+unstarted logs groups id text (Err why) asked failed = not_started logs groups id text asked
+unstarted logs groups id text (Ok number) asked failed = absurd (cc)
 
 -- a helper was run
 pub one_helper : (words : List (List ℕ)) (old new : List SystemCall) → new ≡ run words ∷ old → AsksHelpers old new

@@ -10,16 +10,18 @@ use Rattle.host_calls.specs.declared.calls.Reply.{Reply}
 use Rattle.host_calls.specs.declared.calls.Reply.TheVariants.{Now, Later}
 use Rattle.host_calls.specs.Calls.{HostCall}
 use Rattle.host_calls.specs.Held.{HeldChildren, KeepsHeld}
-use Rattle.host_system.specs.Commands.{words_logged, words_run}
+use Rattle.host_system.specs.Commands.{in_session, words_logged, words_run}
 use Rattle.host_system.specs.Logs.{log_path}
-use Rattle.host_system.specs.Systems.{SystemCall, Waited, look_answer, signal_answer}
-use Rattle.host_system.specs.Systems.SystemCall.{run, send, spawn, try_wait}
+use Rattle.host_system.specs.Systems.{SystemCall, Waited, look_answer, sent, signal_answer}
+use Rattle.host_system.specs.Systems.SystemCall.{run, spawn, try_wait}
 
 -- the words start the process text of the id: where there is a folder of logs, with its output in the id's log there,
--- or, where that can't be opened, as without
-abbrev pub AreStarted : Option (List ℕ) → List ℕ → List ℕ → List (List ℕ) → Type 0
-AreStarted None id text words = words ≡ words_run text
-AreStarted (Some folder) id text words = (words ≡ words_logged (log_path folder id) text) ⊎ (words ≡ words_run text)
+-- or, where that can't be opened, as without; and in a session of its own, where children have groups
+abbrev pub AreStarted : Option (List ℕ) → Bool → List ℕ → List ℕ → List (List ℕ) → Type 0
+AreStarted None groups id text words = words ≡ in_session groups (words_run text)
+AreStarted (Some folder) groups id text words =
+    (words ≡ in_session groups (words_logged (log_path folder id) text))
+    ⊎ (words ≡ in_session groups (words_run text))
 
 -- a child is born just where its process was started, and has that number; else none was, or could be
 abbrev pub AsksSpawn : List (List ℕ) → Answer → List SystemCall → List SystemCall → Type 0
@@ -27,9 +29,9 @@ AsksSpawn words (Born number) old new = new ≡ spawn words (Some number) ∷ ol
 AsksSpawn words _ old new = (new ≡ old) ⊎ (new ≡ spawn words None ∷ old)
 
 -- A start of this process text of the id.
-abbrev pub AsksStart : Option (List ℕ) → List ℕ → List ℕ → Answer → List SystemCall → List SystemCall → Type 0
-AsksStart logs id text answer old new =
-    (words : List (List ℕ)) × AreStarted logs id text words × AsksSpawn words answer old new
+abbrev pub AsksStart : Option (List ℕ) → Bool → List ℕ → List ℕ → Answer → List SystemCall → List SystemCall → Type 0
+AsksStart logs groups id text answer old new =
+    (words : List (List ℕ)) × AreStarted logs groups id text words × AsksSpawn words answer old new
 
 -- the number of the id's child, where it has one
 abbrev pub number_of : List ℕ → HeldChildren → Option ℕ
@@ -44,15 +46,15 @@ AsksWait None said old new = (new ≡ old) × (said ≡ None)
 abbrev pub AsksLook : Option ℕ → Answer → List SystemCall → List SystemCall → Type 0
 AsksLook child answer old new = (said : Waited) × AsksWait child said old new × (answer ≡ look_answer said)
 
--- the process of the number was sent the signal, once, and was reached or not
-abbrev pub AsksSend : Option ℕ → SignalKind → Bool → List SystemCall → List SystemCall → Type 0
-AsksSend (Some number) signal reached old new = new ≡ send signal number reached ∷ old
-AsksSend None signal reached old new = (new ≡ old) × (reached ≡ false)
+-- the process of the number, or its group, was sent the signal, once, and was reached or not
+abbrev pub AsksSend : Bool → Option ℕ → SignalKind → Bool → List SystemCall → List SystemCall → Type 0
+AsksSend groups (Some number) signal reached old new = new ≡ sent groups signal number reached ∷ old
+AsksSend groups None signal reached old new = (new ≡ old) × (reached ≡ false)
 
 -- A signal to it: whether it was reached is answered.
-abbrev pub AsksSignal : Option ℕ → SignalKind → Answer → List SystemCall → List SystemCall → Type 0
-AsksSignal child signal answer old new =
-    (reached : Bool) × AsksSend child signal reached old new × (answer ≡ signal_answer reached)
+abbrev pub AsksSignal : Bool → Option ℕ → SignalKind → Answer → List SystemCall → List SystemCall → Type 0
+AsksSignal groups child signal answer old new =
+    (reached : Bool) × AsksSend groups child signal reached old new × (answer ≡ signal_answer reached)
 
 -- the answer came at once, and is so
 abbrev pub OnNow : Reply → (Answer → Type 0) → Type 0
@@ -63,18 +65,21 @@ OnNow Later P = ⊥
 abbrev pub AsksHelpers : List SystemCall → List SystemCall → Type 0
 AsksHelpers old new = (helpers : List (List (List ℕ))) × (new ≡ map run helpers ++ old)
 
--- a call of a host that holds these children, and has its logs there, asked this of the system, and no more
-abbrev pub KeepsAsked : Option (List ℕ) → HostCall → HeldChildren → List SystemCall → List SystemCall → Type 0
-KeepsAsked logs (Start id command reply) held old new = OnNow reply (λ answer. AsksStart logs id command answer old new)
-KeepsAsked logs (Look id reply) held old new = OnNow reply (λ answer. AsksLook (number_of id held) answer old new)
-KeepsAsked logs (Signal id signal reply) held old new =
-    OnNow reply (λ answer. AsksSignal (number_of id held) signal answer old new)
-KeepsAsked logs _ held old new = new ≡ old
+-- a call of a host that holds these children, has its logs there, and groups or none, asked this of the system, and no
+-- more
+abbrev pub KeepsAsked : Option (List ℕ) → Bool → HostCall → HeldChildren → List SystemCall → List SystemCall → Type 0
+KeepsAsked logs groups (Start id command reply) held old new =
+    OnNow reply (λ answer. AsksStart logs groups id command answer old new)
+KeepsAsked logs groups (Look id reply) held old new =
+    OnNow reply (λ answer. AsksLook (number_of id held) answer old new)
+KeepsAsked logs groups (Signal id signal reply) held old new =
+    OnNow reply (λ answer. AsksSignal groups (number_of id held) signal answer old new)
+KeepsAsked logs groups _ held old new = new ≡ old
 
 -- The calls, THE NEWEST FIRST, are those of a host that held no child before them, and holds these behind them; and for
 -- them, in their order, behind helpers alone, the system was asked just this.
-abbrev pub AreAsked : Option (List ℕ) → List HostCall → HeldChildren → List SystemCall → Type 0
-AreAsked logs [] held asked = (held ≡ []) × AsksHelpers [] asked
-AreAsked logs (call ∷ calls) held asked =
-    (before : HeldChildren) × (between : List SystemCall) × AreAsked logs calls before between
-    × KeepsHeld call before held × KeepsAsked logs call before between asked
+abbrev pub AreAsked : Option (List ℕ) → Bool → List HostCall → HeldChildren → List SystemCall → Type 0
+AreAsked logs groups [] held asked = (held ≡ []) × AsksHelpers [] asked
+AreAsked logs groups (call ∷ calls) held asked =
+    (before : HeldChildren) × (between : List SystemCall) × AreAsked logs groups calls before between
+    × KeepsHeld call before held × KeepsAsked logs groups call before between asked

@@ -1,5 +1,5 @@
 -- How the process of an inittab entry is started (inittab(5)).
-use Rattle.std.specs.Prelude.{ℕ, Bool, if◌then◌else◌, ◌==◌, List, [], ◌∷◌, ◌++◌, codes, Option, Some, None, Box}
+use Rattle.std.specs.Prelude.{ℕ, Bool, true, if◌then◌else◌, ◌==◌, List, [], ◌∷◌, ◌++◌, codes, Option, Some, None, Box}
 use Rattle.std.specs.List.{list_any}
 use Rattle.std.specs.Process.{command_program, command_args}
 use Rattle.std.specs.declared.process.command.Command.{Command}
@@ -25,6 +25,11 @@ words_in command = command_program command ∷ command_args command
 abbrev pub words_at : {A : Type 0} → Option (Box (Command A) A) → List (List ℕ)
 words_at (Some command) = words_in command.value
 words_at None = []
+
+-- words that are started in a session of their own, where children have groups: by setsid(1), which becomes the program
+abbrev pub in_session : Bool → List (List ℕ) → List (List ℕ)
+in_session true (program ∷ args) = codes "setsid" ∷ codes "--" ∷ program ∷ args
+in_session _ words = words
 
 -- words that are started by a shell, which appends their output to the log and becomes the process
 abbrev pub logged : List ℕ → List (List ℕ) → List (List ℕ)

@@ -10,13 +10,15 @@ use Rattle.host_files.specs.Channels.{ChannelState}
 use Rattle.host_system.specs.Systems.{SystemCall}
 
 -- how many of its calls failed; whether its init takes no inittab with a faulty line; whether it tells what children
--- do; the folder of the children's output, where that goes to logs; its channel; the children that it holds; its calls,
--- and those that the system was asked, the newest first
+-- do; the folder of the children's output, where that goes to logs; whether each child is in a session of its own, and
+-- signals go to its group; its channel; the children that it holds; its calls, and those that the system was asked, the
+-- newest first
 pub record HostState : Type 0 where
   pub faults : ℕ
   pub strict : Bool
   pub verbose : Bool
   pub logs : Option (List ℕ)
+  pub groups : Bool
   pub channel : ChannelState
   pub held : HeldChildren
   pub calls : List HostCall

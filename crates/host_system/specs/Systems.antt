@@ -17,11 +17,13 @@ waited (Ok ended) = Some ended
 waited (Err why) = None
 
 -- a program was started by these words, its name first, and is the process of this number, or could not be started; a
--- process was waited for, without hanging; it was sent a signal, and was reached or not; a program was run to its end
+-- process was waited for, without hanging; it was sent a signal, or its process group was (kill(2)), and was reached
+-- or not; a program was run to its end
 pub data SystemCall : Type 0 where
   spawn : List (List ℕ) → Option ℕ → SystemCall
   try_wait : ℕ → Waited → SystemCall
   send : SignalKind → ℕ → Bool → SystemCall
+  send_group : SignalKind → ℕ → Bool → SystemCall
   run : List (List ℕ) → SystemCall
 
 -- the newest call started a process, which has this number
@@ -32,6 +34,11 @@ born number calls = calls
 -- How a process ended, by what waitpid(2) gave: with an exit status where it has WIFEXITED, and else by a signal.
 abbrev pub status_of : ExitStatus → Status
 status_of ended = if status_bits ended % 128 == 0 then Exit (status_bits ended / 256 % 256) else Killed
+
+-- a signal to a child, or, where children have groups, to its group
+abbrev pub sent : Bool → SignalKind → ℕ → Bool → SystemCall
+sent groups signal number reached =
+    if groups then send_group signal number reached else send signal number reached
 
 -- what a start answers by the number of its child, if it was born
 abbrev pub start_answer : {E : Type 0} → Result ℕ E → Answer

@@ -11,6 +11,7 @@ ghost use Rattle.host_system.specs.Systems.{start_answer, status_of, waited};
 use crate::commands::needs_shell;
 use crate::held::HeldChild;
 use crate::host_options::HostOptions;
+use crate::left::LeftProcesses;
 use crate::logs::Logs;
 use crate::systems::System;
 use crate::terms::check_sending;
@@ -43,6 +44,7 @@ pub(crate) struct Children<S: System, A: Allocator> {
     is_settled: bool,
     /// What is told of them.
     messages: ChildMessages<A>,
+    left: LeftProcesses<A>,
 }
 
 impl<S: System, A: Allocator> Model for Children<S, A> {
@@ -66,6 +68,7 @@ impl<S: System, A: Allocator + Copy> Children<S, A> {
             read_in: None,
             is_settled: true,
             messages: ChildMessages::new(alloc, options.program, options.verbose),
+            left: LeftProcesses::new(alloc, options.program),
         };
         Ok(boxed(alloc, children)?)
     }
@@ -77,10 +80,11 @@ impl<S: System, A: Allocator + Copy> Children<S, A> {
         if !options.sends_term {
             return;
         }
-        if let Err(error) = check_sending(system, self.alloc) {
+        if let Err(error) = check_sending(system, self.alloc, options.groups) {
             let program = self.program;
+            let setsid = if options.groups { ", setsid" } else { "" };
             let _ = eprintln!(rt;
-                "{program}: no child can be sent TERM: {}: start it with a PATH that has sh and kill",
+                "{program}: no child can be sent TERM: {}: start it with a PATH that has sh{setsid} and kill",
                 Reason(&error)
             );
         }
@@ -100,8 +104,9 @@ impl<S: System, A: Allocator + Copy> Children<S, A> {
         ensures born { IfOk result (λ number. self.new ≡ self.old ++ (id, number) ∷ []) }
         ensures not_born { OnErr result (self.new ≡ self.old) }
         ensures logs { logs.new.folder ≡ logs.old.folder }
-        ensures asked { AsksStart (option_map string_bytes logs.old.folder) id text.now
-            (start_answer result) (S.told system.old) (S.told system.new) }
+        ensures groups { logs.new.groups ≡ logs.old.groups }
+        ensures asked { AsksStart (option_map string_bytes logs.old.folder) logs.old.groups id
+            text.now (start_answer result) (S.told system.old) (S.told system.new) }
     {
         if self.holds(&id) {
             return Err(io::Error::from(ErrorKind::AlreadyExists));
@@ -148,12 +153,25 @@ impl<S: System, A: Allocator + Copy> Children<S, A> {
     }
 
     /// Says on standard error why a child was not born.
-    pub(crate) fn tell_not_born(&self, rt: &impl Eprint, id: &Id, text: &[u8], error: &io::Error) {
-        self.messages.tell_not_born(rt, id, program_of(text), error);
+    pub(crate) fn tell_not_born(
+        &self,
+        rt: &impl Eprint,
+        groups: bool,
+        id: &Id,
+        text: &[u8],
+        error: &io::Error,
+    ) {
+        self.messages
+            .tell_not_born(rt, id, program_of(groups, text), error);
     }
 
     /// Reaps the id's child if it has ended.
-    pub(crate) fn look<R: Eprint + Clock>(&mut self, rt: &R, system: &mut S, id: &Id) -> Answer
+    pub(crate) fn look<R: Files + Eprint + Clock>(
+        &mut self,
+        rt: &R,
+        system: &mut S,
+        id: &Id,
+    ) -> Answer
         ensures kind { IsTrue (is_look_answer result) }
         ensures held { Looks self.old self.new id.now (Now result) }
         ensures asked { AsksLook (number_of id.now self.old) result
@@ -163,6 +181,9 @@ impl<S: System, A: Allocator + Copy> Children<S, A> {
             Ok(Some(status)) => {
                 self.release(id);
                 self.messages.note_end(rt, id, &status);
+                if self.is_settled {
+                    self.left.tell(rt, id);
+                }
                 Answer::Ended(status_of(&status))
             }
             Ok(None) => Answer::Alive,
@@ -209,10 +230,11 @@ impl<S: System, A: Allocator + Copy> Children<S, A> {
     }
 
     /// The level is settled.
-    pub(crate) fn settle(&mut self)
+    pub(crate) fn settle<R: Files + Eprint>(&mut self, rt: &R)
         ensures { self.new ≡ self.old }
     {
         self.is_settled = true;
+        self.left.tell_all(rt);
     }
 
     /// Notes what an inittab that was read again has for each child.
@@ -234,24 +256,26 @@ impl<S: System, A: Allocator + Copy> Children<S, A> {
         );
     }
 
-    /// Sends the id's child the signal.
-    pub(crate) fn signal<R: Eprint>(
+    /// Sends the id's child the signal, or its group where children have groups.
+    pub(crate) fn signal<R: Files + Eprint>(
         &mut self,
         rt: &R,
         system: &mut S,
+        groups: bool,
         id: &Id,
         signal: SignalKind,
     ) -> Answer
         ensures kind { IsTrue (is_signal_answer result) }
         ensures held { Signals self.old self.new id.now (Now result) }
-        ensures asked { AsksSignal (number_of id.now self.old) signal result
+        ensures asked { AsksSignal groups (number_of id.now self.old) signal result
             (S.told system.old) (S.told system.new) }
     {
         let is_same_stage = self.stage == self.read_in;
         let Some(held) = self.handles.get_mut(id) else {
             return Answer::Miss;
         };
-        if !held.send(system, rt, self.alloc, id, signal) {
+        self.left.note(rt, groups, id, held.number());
+        if !held.send(system, rt, self.alloc, groups, id, signal) {
             return Answer::Miss;
         }
         held.tell_cost(rt, &self.messages, id, is_same_stage);
@@ -270,13 +294,12 @@ fn status_of(status: &ExitStatus) -> Status
     }
 }
 
-/// The program that a process text starts.
-fn program_of(text: &[u8]) -> Escaped<'_> {
-    if needs_shell(text) {
-        return escape(b"sh");
-    }
+/// The program that starts a process text.
+fn program_of(groups: bool, text: &[u8]) -> Escaped<'_> {
     match next_word(text) {
-        Some((program, _)) => escape(program),
         None => escape(b""),
+        Some(_) if groups => escape(b"setsid"),
+        Some(_) if needs_shell(text) => escape(b"sh"),
+        Some((program, _)) => escape(program),
     }
 }

@@ -3,7 +3,7 @@
 ghost use Rattle.std.specs.Prelude.{◌≡◌, ◌++◌, ◌∷◌, [], codes, IfOk, OnOk};
 ghost use Rattle.std.specs.Str.{IsUtf8};
 ghost use Rattle.text_lines.specs.Lines.{words_of};
-ghost use Rattle.host_system.specs.Commands.{is_shell_byte, logged, needs_shell, words_at, words_in, words_logged, words_run};
+ghost use Rattle.host_system.specs.Commands.{in_session, is_shell_byte, logged, needs_shell, words_at, words_in, words_logged, words_run};
 
 use host_files::boxed;
 use std::alloc::{AllocError, Allocator};
@@ -34,31 +34,34 @@ pub(crate) fn needs_shell(text: &[u8]) -> bool
 /// shell reads, and else its words, split at blanks and tabs. None where it has no word.
 pub(crate) fn command_of<A: Allocator + Copy>(
     alloc: A,
+    groups: bool,
     text: &str,
 ) -> Result<Option<BoxedCommand<A>>, AllocError>
-    ensures { IfOk result (λ command. words_at command ≡ words_run text.now) }
+    ensures { IfOk result (λ command. words_at command ≡ in_session groups (words_run text.now)) }
 {
     if needs_shell(text.as_bytes()) {
         let line = format!(in alloc; "exec {text}")?;
-        return Ok(Some(shell_command(alloc, line.as_str())?));
+        return Ok(Some(shell_command(alloc, groups, line.as_str())?));
     }
-    plain_command(alloc, text)
+    plain_command(alloc, groups, text)
 }
 
 /// The command that starts a process text as `command_of` does, but by a shell in each case, which appends its output
 /// to the file of this path and then becomes the process.
 pub(crate) fn logged_command<A: Allocator + Copy>(
     alloc: A,
+    groups: bool,
     log: &str,
     text: &str,
 ) -> Result<Option<BoxedCommand<A>>, AllocError>
-    ensures { IfOk result (λ command. words_at command ≡ words_logged log.now text.now) }
+    ensures { IfOk result (λ command.
+        words_at command ≡ in_session groups (words_logged log.now text.now)) }
 {
     if !needs_shell(text.as_bytes()) {
-        return logged_words(alloc, log, text);
+        return logged_words(alloc, groups, log, text);
     }
     let line = format!(in alloc; "exec >>\"$0\" 2>&1\nexec {text}")?;
-    let mut command = shell_command(alloc, line.as_str())?;
+    let mut command = shell_command(alloc, groups, line.as_str())?;
     add_word(&mut command, log)?;
     Ok(Some(command))
 }
@@ -66,15 +69,17 @@ pub(crate) fn logged_command<A: Allocator + Copy>(
 /// The command of a text's words, started by a shell that appends their output to the file of this path.
 fn logged_words<A: Allocator + Copy>(
     alloc: A,
+    groups: bool,
     log: &str,
     text: &str,
 ) -> Result<Option<BoxedCommand<A>>, AllocError>
-    ensures { IfOk result (λ command. words_at command ≡ logged log.now (words_of text.now)) }
+    ensures { IfOk result (λ command.
+        words_at command ≡ in_session groups (logged log.now (words_of text.now))) }
 {
     let Some((program, rest)) = next_word(text.as_bytes()) else {
         return Ok(None);
     };
-    let mut command = shell_command(alloc, "exec \"$@\" >>\"$0\" 2>&1")?;
+    let mut command = shell_command(alloc, groups, "exec \"$@\" >>\"$0\" 2>&1")?;
     add_word(&mut command, log)?;
     add_word(&mut command, text_of(program))?;
     add_words(&mut command, rest)?;
@@ -84,12 +89,13 @@ fn logged_words<A: Allocator + Copy>(
 /// The command that runs a line in a shell.
 pub(crate) fn shell_command<A: Allocator + Copy>(
     alloc: A,
+    groups: bool,
     line: &str,
 ) -> Result<BoxedCommand<A>, AllocError>
-    ensures { IfOk result (λ command.
-        words_in command.value ≡ codes "sh" ∷ codes "-c" ∷ line.now ∷ []) }
+    ensures { IfOk result (λ command. words_in command.value
+        ≡ in_session groups (codes "sh" ∷ codes "-c" ∷ line.now ∷ [])) }
 {
-    let mut command = bare_command(alloc, "sh")?;
+    let mut command = first_command(alloc, groups, "sh")?;
     add_word(&mut command, "-c")?;
     add_word(&mut command, line)?;
     Ok(command)
@@ -98,16 +104,35 @@ pub(crate) fn shell_command<A: Allocator + Copy>(
 /// The command of a text's words.
 fn plain_command<A: Allocator + Copy>(
     alloc: A,
+    groups: bool,
     text: &str,
 ) -> Result<Option<BoxedCommand<A>>, AllocError>
-    ensures { IfOk result (λ command. words_at command ≡ words_of text.now) }
+    ensures { IfOk result (λ command. words_at command ≡ in_session groups (words_of text.now)) }
 {
     let Some((program, rest)) = next_word(text.as_bytes()) else {
         return Ok(None);
     };
-    let mut command = bare_command(alloc, text_of(program))?;
+    let mut command = first_command(alloc, groups, text_of(program))?;
     add_words(&mut command, rest)?;
     Ok(Some(command))
+}
+
+/// The command of a program without arguments, in a session of its own where children have groups.
+fn first_command<A: Allocator + Copy>(
+    alloc: A,
+    groups: bool,
+    program: &str,
+) -> Result<BoxedCommand<A>, AllocError>
+    ensures { IfOk result (λ command.
+        words_in command.value ≡ in_session groups (program.now ∷ [])) }
+{
+    if !groups {
+        return bare_command(alloc, program);
+    }
+    let mut command = bare_command(alloc, "setsid")?;
+    add_word(&mut command, "--")?;
+    add_word(&mut command, program)?;
+    Ok(command)
 }
 
 /// The command of a program without arguments.

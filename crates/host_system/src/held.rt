@@ -1,8 +1,8 @@
 //! A child that a host holds: it was started, and not reaped.
 
 ghost use Rattle.std.specs.Prelude.{◌≡◌, ◌∷◌};
-ghost use Rattle.host_system.specs.Systems.{waited};
-ghost use Rattle.host_system.specs.Systems.SystemCall.{send, try_wait};
+ghost use Rattle.host_system.specs.Systems.{sent, waited};
+ghost use Rattle.host_system.specs.Systems.SystemCall.{try_wait};
 
 use crate::systems::System;
 use host_messages::{ChildLine, ChildMessages, Trouble, shown};
@@ -116,27 +116,30 @@ impl<S: System> HeldChild<S> {
         messages.tell_unwaited(rt, id, self.number, error);
     }
 
-    /// Sends it the signal, and gives whether that was done: TERM by the shell, of which it is told what fails, and KILL
-    /// by kill(2).
+    /// Sends it the signal, or its group where children have groups, and gives whether that was done. Of TERM it is told
+    /// what fails.
     pub(crate) fn send<R: Eprint, A: Allocator + Copy>(
         &mut self,
         system: &mut S,
         rt: &R,
         alloc: A,
+        groups: bool,
         id: &Id,
         signal: SignalKind,
     ) -> bool
         ensures same { self.new ≡ self.old }
-        ensures asked { S.told system.new ≡ send signal self.old result ∷ S.told system.old }
+        ensures asked { S.told system.new
+            ≡ sent groups signal self.old result ∷ S.told system.old }
     {
-        match signal {
-            SignalKind::Term => {
-                let sent = system.terminate(alloc, self.number.0);
-                self.stopping.tell(rt, shown(id.as_bytes()), &sent);
-                sent.is_ok()
-            }
-            SignalKind::Kill => system.kill(&mut self.process).is_ok(),
+        let sent = match signal {
+            _ if groups => system.send_group(alloc, &mut self.process, signal),
+            SignalKind::Term => system.terminate(alloc, self.number.0),
+            SignalKind::Kill => system.kill(&mut self.process),
+        };
+        if signal == SignalKind::Term {
+            self.stopping.tell(rt, shown(id.as_bytes()), &sent);
         }
+        sent.is_ok()
     }
 
     /// An inittab that was read has this for it.

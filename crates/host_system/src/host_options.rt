@@ -39,6 +39,9 @@ pub struct HostOptions<'a> {
     /// in the log that there is none and ends with a status. Where a log can't be opened that is told, and the child is
     /// started as without logs.
     pub logs: Option<&'a str>,
+    /// Each child is started in a session of its own, by setsid(1), which becomes the program; and a signal goes to the
+    /// child's process group, or where it has none yet to the child.
+    pub groups: bool,
     pub pace: Pace,
     /// It makes its bell first, by mkfifo(1), where nothing stands at the bell's path. One that can't be made is told,
     /// and gone on without.
@@ -70,6 +73,7 @@ impl HostOptions<'_> {
             state: "",
             spared: None,
             logs: None,
+            groups: false,
             pace: Pace::Second,
             bell: false,
             fresh: false,

@@ -8,6 +8,7 @@ mod commands;
 mod held;
 mod host_options;
 mod laws;
+mod left;
 mod logs;
 mod noting;
 mod os_hosts;

@@ -16,23 +16,30 @@ use std::alloc::{AllocError, Allocator};
 use std::fs::OpenOptions;
 use std::hash::{BuildHasherDefault, FoldHasher};
 use std::io::ErrorKind;
+use std::os::unix::fs::OpenOptionsExt;
 use std::process::{Command, Stdio};
 use std::rt::Files;
 use std::{io, str};
 
-/// The folder of the files that have the output of the children, where it goes to logs.
+/// The mode of a log that is made: others than its group don't read it.
+const MODE: u32 = 0o640;
+
+/// The folder of the files that have the output of the children, where it goes to logs; and whether each child is in a
+/// session of its own.
 #[derive(Drop)]
 pub(crate) struct Logs<A: Allocator> {
     pub(crate) folder: Option<String<A>>,
+    pub(crate) groups: bool,
     /// The ids of which it was told that they are no names of files.
     told: IndexSet<Id, BuildHasherDefault<FoldHasher>, A>,
 }
 
 impl<A: Allocator + Copy> Logs<A> {
-    /// The logs in this folder, or none.
-    pub(crate) fn new(alloc: A, folder: Option<&str>) -> Result<Logs<A>, Memory>
-        ensures { IfOk result (λ logs.
+    /// The logs in this folder, or none, of children that are in sessions of their own, or not.
+    pub(crate) fn new(alloc: A, folder: Option<&str>, groups: bool) -> Result<Logs<A>, Memory>
+        ensures folder { IfOk result (λ logs.
             option_map string_bytes logs.folder ≡ option_map (λ path. path.now) folder.entry) }
+        ensures groups { IfOk result (λ logs. logs.groups ≡ groups) }
     {
         let folder = match folder {
             Some(folder) => Some(String::from_str(alloc, folder)?),
@@ -40,6 +47,7 @@ impl<A: Allocator + Copy> Logs<A> {
         };
         Ok(Logs {
             folder,
+            groups,
             told: IndexSet::new(alloc),
         })
     }
@@ -52,9 +60,10 @@ impl<A: Allocator + Copy> Logs<A> {
         id: &Id,
         text: &[u8],
     ) -> io::Result<BoxedCommand<B>>
-        ensures words { IfOk result (λ command. AreStarted
-            (option_map string_bytes self.old.folder) id.now text.now (words_in command.value)) }
+        ensures words { IfOk result (λ command. AreStarted (option_map string_bytes self.old.folder)
+            self.old.groups id.now text.now (words_in command.value)) }
         ensures same { self.new.folder ≡ self.old.folder }
+        ensures groups { self.new.groups ≡ self.old.groups }
     {
         let Ok(text) = str::from_utf8(text) else {
             return Err(io::Error::from(ErrorKind::InvalidInput));
@@ -74,20 +83,22 @@ impl<A: Allocator + Copy> Logs<A> {
         id: &Id,
         text: &str,
     ) -> io::Result<Option<BoxedCommand<B>>>
-        ensures words { IfOk result (λ command. AreStarted
-            (option_map string_bytes self.old.folder) id.now text.now (words_at command)) }
+        ensures words { IfOk result (λ command. AreStarted (option_map string_bytes self.old.folder)
+            self.old.groups id.now text.now (words_at command)) }
         ensures same { self.new.folder ≡ self.old.folder }
+        ensures groups { self.new.groups ≡ self.old.groups }
     {
+        let groups = self.groups;
         let Some(folder) = &self.folder else {
-            return Ok(command_of(alloc, text)?);
+            return Ok(command_of(alloc, groups, text)?);
         };
         let log = log_path(alloc, folder.as_str(), id)?;
         self.tell(rt, id, log.as_str());
         if let Err(error) = made_ready(rt, log.as_str()) {
             tell_no_log(rt, id, log.as_str(), &error);
-            return Ok(command_of(alloc, text)?);
+            return Ok(command_of(alloc, groups, text)?);
         }
-        let Some(mut command) = logged_command(alloc, log.as_str(), text)? else {
+        let Some(mut command) = logged_command(alloc, groups, log.as_str(), text)? else {
             return Ok(None);
         };
         close_input(&mut command);
@@ -96,7 +107,8 @@ impl<A: Allocator + Copy> Logs<A> {
 
     /// Tells once that the id's log is this one, since the id is no name of a file.
     fn tell(&mut self, rt: &impl Eprint, id: &Id, log: &str)
-        ensures { self.new.folder ≡ self.old.folder }
+        ensures folder { self.new.folder ≡ self.old.folder }
+        ensures groups { self.new.groups ≡ self.old.groups }
     {
         if !is_log_name(id.as_bytes()) && !matches!(self.told.insert(*id), Ok(false)) {
             tell_log(rt, id, log);
@@ -133,7 +145,11 @@ fn close_input<A: Allocator + Copy>(command: &mut Command<A>)
 /// Makes the file, where it isn't there, and finds whether it can be appended to.
 fn made_ready<R: Files>(rt: &R, path: &str) -> io::Result<()> {
     refuse_special(rt, path)?;
-    OpenOptions::new().append(true).create(true).open(rt, path)?;
+    OpenOptions::new()
+        .append(true)
+        .create(true)
+        .mode(MODE)
+        .open(rt, path)?;
     Ok(())
 }
 

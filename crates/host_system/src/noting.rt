@@ -2,6 +2,7 @@
 
 ghost use Rattle.std.specs.Prelude.{◌≡◌, []};
 
+use init_words::SignalKind;
 use program_io::{Noted, Reads};
 use std::alloc::Allocator;
 use std::io;
@@ -107,6 +108,23 @@ impl<'a> Reads<(&'a Noted<SystemCallList>, (u32, &'a io::Result<()>)), SystemCal
     ghost use Rattle.host_system.specs.Systems.SystemCall.{send};
 
     ghost value = { λ asked. send Term asked.1.0 (is_ok asked.1.1.now) ∷ asked.0.now.value };
+}
+
+/// Its process group was sent a signal.
+pub(crate) struct GroupSent;
+
+impl<'a> Reads<
+    (
+        &'a Noted<SystemCallList>,
+        (SignalKind, u32, &'a io::Result<()>),
+    ),
+    SystemCallList,
+> for GroupSent {
+    ghost use Rattle.std.specs.Prelude.{◌∷◌, is_ok};
+    ghost use Rattle.host_system.specs.Systems.SystemCall.{send_group};
+
+    ghost value = { λ asked.
+        send_group asked.1.0 asked.1.1 (is_ok asked.1.2.now) ∷ asked.0.now.value };
 }
 
 /// A program is run to its end by a command.

@@ -24,7 +24,7 @@ use std::io;
 use std::io::ErrorKind;
 use std::marker::Model;
 use std::rt::{Clock, Files};
-use trace_events::{Happening, HappeningIn};
+use trace_events::{Handed, Happening, HappeningIn};
 
 /// A host that asks the operating system. It tells its calls, and those that it asked the system for them, which proofs
 /// alone can read, and answers each order at once.
@@ -87,7 +87,7 @@ impl<R: Files<File = File> + Clock + Print + Eprint + Drop, S: System + Drop, A:
     ghost view = { λ os. os.host.value };
 
     ghost invariant = { λ os. let host = os.host.value in
-        AreAsked host.logs host.calls host.held host.asked
+        AreAsked host.logs host.groups host.calls host.held host.asked
         × HasHanded host.channel (bytes_taken host.calls) };
 }
 
@@ -103,6 +103,7 @@ impl<R: Files<File = File> + Clock + Print + Eprint + Drop, S: System + Drop, A:
       strict = host.strict;
       verbose = host.verbose;
       logs = option_map string_bytes host.logs.folder;
+      groups = host.logs.groups;
       channel = host.channel.value;
       held = host.children.value;
       calls = host.told.value;
@@ -131,6 +132,7 @@ impl<
           strict = options.now.strict;
           verbose = options.now.verbose;
           logs = option_map (λ path. path.now) options.now.logs;
+          groups = options.now.groups;
           channel = record { fresh = options.now.fresh; told = []; rest = [] };
           held = [];
           calls = [];
@@ -138,7 +140,7 @@ impl<
         }) }
     {
         let children = Children::new(alloc, options)?;
-        let logs = Logs::new(alloc, options.logs)?;
+        let logs = Logs::new(alloc, options.logs, options.groups)?;
         let (channel, inittab, state) = files_of(alloc, options)?;
         let parts = OsHostParts {
             rt,
@@ -175,7 +177,8 @@ impl<
     /// The calls that were made of it.
     pub fn calls(&self) -> Noted<CallList>
         ensures value { result.value ≡ self.now.calls }
-        ensures own { AreAsked self.now.logs self.now.calls self.now.held self.now.asked }
+        ensures own { AreAsked self.now.logs self.now.groups self.now.calls self.now.held
+            self.now.asked }
     {
         let host = &*self.host;
         host.told.again()
@@ -285,6 +288,23 @@ fn tell_blocked<R: Files<File = File> + Eprint, A: Allocator + Copy>(
     }
 }
 
+/// Tells what came back of the text of init's state, where that was read and is another one.
+fn tell_handed(rt: &impl Eprint, handed: &Handed) {
+    match handed {
+        Handed::Cut(length) => {
+            let _ = eprintln!(rt;
+                "initd: the text of init's state came back cut, {length} bytes long: init goes on as it was"
+            );
+        }
+        Handed::Older(generation) => {
+            let _ = eprintln!(rt;
+                "initd: the text of init's state came back of generation {generation}: give each init a --state of its own"
+            );
+        }
+        _ => {}
+    }
+}
+
 /// What the system gave, or the fault that its error is.
 fn host_result<T>(outcome: io::Result<T>) -> Result<T, HostFault>
     ensures ok { IfOk result (λ value. outcome ≡ Ok value) }
@@ -321,7 +341,8 @@ impl<
         ensures kind { IsTrue (answers_by is_start_answer result) }
         ensures held { Starts self.old.held self.new.held id result }
         ensures asked { OnNow result (λ answer.
-            AsksStart self.old.logs id command.now answer self.old.asked self.new.asked) }
+            AsksStart self.old.logs self.old.groups id command.now answer self.old.asked
+            self.new.asked) }
         ensures kept { self.new ≡ record self.old {
           faults = self.new.faults;
           held = self.new.held;
@@ -341,7 +362,9 @@ impl<
         let reply = match started {
             Ok(number) => Reply::Now(Answer::Born(number)),
             Err(error) => {
-                host.children.tell_not_born(&host.rt, &id, command, &error);
+                let groups = host.logs.groups;
+                host.children
+                    .tell_not_born(&host.rt, groups, &id, command, &error);
                 Reply::Now(Answer::NotBorn)
             }
         };
@@ -376,7 +399,7 @@ impl<
         ensures cause { HasCause self.old.faults self.new.faults (is_failed_reply result) }
         ensures kind { IsTrue (answers_by is_signal_answer result) }
         ensures held { Signals self.old.held self.new.held id result }
-        ensures asked { OnNow result (λ answer. AsksSignal
+        ensures asked { OnNow result (λ answer. AsksSignal self.old.groups
             (number_of id self.old.held) signal answer self.old.asked self.new.asked) }
         ensures kept { self.new ≡ record self.old {
           faults = self.new.faults;
@@ -386,9 +409,10 @@ impl<
         } }
     {
         let host = &mut *self.host;
+        let groups = host.logs.groups;
         let answer = host
             .children
-            .signal(&host.rt, &mut host.system, &id, signal);
+            .signal(&host.rt, &mut host.system, groups, &id, signal);
         let reply = Reply::Now(answer);
         host.pauses.note(has_stirred(&reply));
         host.faults = counted(host.faults, is_failed_reply(&reply));
@@ -490,8 +514,9 @@ impl<
         host.told = adding::and_call::<_, adding::Announce>(&host.told, happening);
         match happening {
             Happening::Enter(stage, _) => host.children.enter(*stage),
-            Happening::Settle(_) => host.children.settle(),
+            Happening::Settle(_) => host.children.settle(&host.rt),
             Happening::Hold(id) => host.children.tell_last_end(&host.rt, id),
+            Happening::Handed(handed) => tell_handed(&host.rt, handed),
             _ => {}
         }
     }

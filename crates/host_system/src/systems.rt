@@ -4,12 +4,14 @@ ghost use Rattle.std.specs.Prelude.{◌≡◌, List, [], ◌∷◌, Some, None, 
 ghost use Rattle.init_words.specs.declared.orders.SignalKind.TheVariants.{Kill, Term};
 ghost use Rattle.host_system.specs.Commands.{words_in};
 ghost use Rattle.host_system.specs.Systems.{SystemCall, waited};
-ghost use Rattle.host_system.specs.Systems.SystemCall.{run, send, spawn, try_wait};
+ghost use Rattle.host_system.specs.Systems.SystemCall.{run, send, send_group, spawn, try_wait};
 
 use crate::noting::{
-    Killed, Ran, Spawned, Started, SystemCallList, Terminated, Waited, noted, nothing_asked,
+    GroupSent, Killed, Ran, Spawned, Started, SystemCallList, Terminated, Waited, noted,
+    nothing_asked,
 };
 use crate::terms::TermSender;
+use init_words::SignalKind;
 use program_io::Noted;
 use std::alloc::Allocator;
 use std::io;
@@ -66,6 +68,18 @@ pub trait System {
     /// Sends TERM to the process of a number (kill(1)).
     fn terminate<A: Allocator + Copy>(&mut self, alloc: A, to: u32) -> io::Result<()>
         ensures { told self.new ≡ send Term to (is_ok result) ∷ told self.old };
+
+    /// Sends a signal to the process group of a process, or where it has none to the process (kill(1), and kill(2) where
+    /// that can't send KILL).
+    fn send_group<A: Allocator + Copy>(
+        &mut self,
+        alloc: A,
+        process: &mut Self::Started,
+        signal: SignalKind,
+    ) -> io::Result<()>
+        ensures told { told self.new
+            ≡ send_group signal (number process.old) (is_ok result) ∷ told self.old }
+        ensures same { number process.new ≡ number process.old };
 
     /// The turn is over.
     fn end_turn(&mut self)
@@ -142,6 +156,22 @@ impl<R: Processes + Drop> System for OsSystem<R> {
     fn terminate<A: Allocator + Copy>(&mut self, alloc: A, to: u32) -> io::Result<()> {
         let sent = self.sender.send(&self.rt, alloc, to);
         self.told = noted::<_, Terminated>(&self.told, (to, &sent));
+        sent
+    }
+
+    fn send_group<A: Allocator + Copy>(
+        &mut self,
+        alloc: A,
+        process: &mut Process<R::Started>,
+        signal: SignalKind,
+    ) -> io::Result<()> {
+        let mut sent = self
+            .sender
+            .send_group(&self.rt, alloc, process.number, signal);
+        if sent.is_err() && signal == SignalKind::Kill {
+            sent = process.child.kill();
+        }
+        self.told = noted::<_, GroupSent>(&self.told, (signal, process.number, &sent));
         sent
     }
 

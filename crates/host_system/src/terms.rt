@@ -1,24 +1,29 @@
-//! The helper that sends TERM to children: one shell for all of a turn.
+//! The helper that sends signals: TERM to children, and to their groups each. It is one shell for all of a turn.
 
 ghost use Rattle.host_system.specs.Asking.{AsksHelpers};
 
 use crate::commands::{BoxedCommand, shell_command};
 use crate::systems::System;
+use init_words::SignalKind;
 use program_io::write_text;
 use std::alloc::Allocator;
 use std::io;
 use std::io::{Error, ErrorKind, Read};
 use std::process::{Child, ExitStatus, OpenProcess, Processes, Stdio};
 
-/// What the shell does: for each number that it reads, it sends TERM to the process, and answers 0 where it was sent, `-`
-/// where there is no kill(1), and else 1.
-const HELPER: &str = "while read -r number; do kill -TERM \"$number\"; \
+/// What the shell does: for each line it sends the signal to the process of the number, or where a third word stands there
+/// to its process group, and where there is none, as before setsid(1) made it, to the process. It answers 0 where it was
+/// sent, `-` where there is no kill(1), and else 1.
+const HELPER: &str = "while read -r signal number group; do \
+    [ \"$group\" ] && kill \"-$signal\" \"-$number\" 2>/dev/null || kill \"-$signal\" \"$number\"; \
     case $? in 0) echo 0 ;; 127) echo - ;; *) echo 1 ;; esac; done";
 
-/// What a shell does that ends with 0 where it finds kill(1).
+/// What a shell does that ends with 0 where it finds kill(1), and one that ends so where it finds setsid(1) too.
 const FINDS_KILL: &str = "command -v kill >/dev/null";
 
-/// The shell that sends TERM, where it was started since the last pause.
+const FINDS_BOTH: &str = "command -v kill >/dev/null && command -v setsid >/dev/null";
+
+/// The shell that sends signals, where it was started since the last pause.
 #[derive(Drop)]
 pub struct TermSender<P: OpenProcess + Drop> {
     shell: Option<Child<P>>,
@@ -30,15 +35,39 @@ impl<P: OpenProcess + Drop> TermSender<P> {
         TermSender { shell: None }
     }
 
-    /// Sends TERM to the process of the number. A shell that fails is ended, and another one started the next time.
+    /// Sends TERM to the process of the number.
     pub(crate) fn send<R: Processes<Started = P>, A: Allocator + Copy>(
         &mut self,
         rt: &R,
         alloc: A,
         number: u32,
     ) -> io::Result<()> {
+        let line = format!(in alloc; "TERM {number}\n")?;
+        self.hand_over(rt, alloc, line.as_bytes())
+    }
+
+    /// Sends a signal to the process group of the number, or where there is none to the process.
+    pub(crate) fn send_group<R: Processes<Started = P>, A: Allocator + Copy>(
+        &mut self,
+        rt: &R,
+        alloc: A,
+        number: u32,
+        signal: SignalKind,
+    ) -> io::Result<()> {
+        let name = name_of(signal);
+        let line = format!(in alloc; "{name} {number} group\n")?;
+        self.hand_over(rt, alloc, line.as_bytes())
+    }
+
+    /// Hands a line to the shell. One that fails is ended, and another one started the next time.
+    fn hand_over<R: Processes<Started = P>, A: Allocator + Copy>(
+        &mut self,
+        rt: &R,
+        alloc: A,
+        line: &[u8],
+    ) -> io::Result<()> {
         if self.shell.is_none() {
-            let mut command = shell_command(alloc, HELPER)?;
+            let mut command = shell_command(alloc, false, HELPER)?;
             command.stdin(Stdio::piped());
             command.stdout(Stdio::piped());
             self.shell = Some(started(rt, command)?);
@@ -46,7 +75,7 @@ impl<P: OpenProcess + Drop> TermSender<P> {
         let Some(shell) = &mut self.shell else {
             return Err(Error::from(ErrorKind::BrokenPipe));
         };
-        match answer_of(alloc, shell, number) {
+        match answer_of(shell, line) {
             Ok(b'0') => Ok(()),
             Ok(b'-') => Err(no_kill()),
             Ok(_) => Err(Error::other("kill failed")),
@@ -73,16 +102,24 @@ impl<P: OpenProcess + Drop> TermSender<P> {
     }
 }
 
-/// Why no process can be sent TERM: there is no `sh`, or it finds no `kill`.
+/// Why no process can be sent TERM, or started in a session of its own, where it is to be: there is no `sh`, or it finds
+/// no `kill`, or no `setsid`.
 pub(crate) fn check_sending<S: System, A: Allocator + Copy>(
     system: &mut S,
     alloc: A,
+    groups: bool,
 ) -> io::Result<()>
     ensures { AsksHelpers (S.told system.old) (S.told system.new) }
 {
-    let mut shell = shell_command(alloc, FINDS_KILL)?;
+    let finds = if groups { FINDS_BOTH } else { FINDS_KILL };
+    let mut shell = shell_command(alloc, false, finds)?;
     match system.run(&mut shell) {
         Ok(status) if status.success() => Ok(()),
+        Ok(status) if status.code() == Some(2) => Err(Error::other("sh failed: see ulimit -n")),
+        Ok(_) if groups => Err(Error::new(
+            ErrorKind::NotFound,
+            "kill or setsid: not found in PATH",
+        )),
         Ok(_) => Err(no_kill()),
         Err(error) => Err(of_shell(error)),
     }
@@ -109,17 +146,20 @@ fn no_kill() -> Error {
     Error::new(ErrorKind::NotFound, "kill: not found in PATH")
 }
 
-/// Hands the number to the shell, and gives its answer.
-fn answer_of<P: OpenProcess, A: Allocator + Copy>(
-    alloc: A,
-    shell: &mut Child<P>,
-    number: u32,
-) -> io::Result<u8> {
-    let line = format!(in alloc; "{number}\n")?;
+/// The name of a signal (kill(1)).
+fn name_of(signal: SignalKind) -> &'static str {
+    match signal {
+        SignalKind::Term => "TERM",
+        SignalKind::Kill => "KILL",
+    }
+}
+
+/// Hands the line to the shell, and gives its answer.
+fn answer_of<P: OpenProcess>(shell: &mut Child<P>, line: &[u8]) -> io::Result<u8> {
     let Some(input) = &mut shell.stdin else {
         return Err(Error::from(ErrorKind::BrokenPipe));
     };
-    write_text(input, line.as_bytes())?;
+    write_text(input, line)?;
     let Some(output) = &mut shell.stdout else {
         return Err(Error::from(ErrorKind::BrokenPipe));
     };

@@ -60,6 +60,8 @@ const RUN_USAGE: &str = "usage: initd run [OPTION]..
                    what an unsettled stage waits
   --logs DIR       the folder that the output of each entry is written to, a
                    file an entry
+  --groups         start each child in a session of its own, by setsid(1), and
+                   send TERM and KILL to its process group
   --strict         take no inittab that has a faulty line: the run is refused at
                    its opening, and later the inittab before stays in force
   --stamp          put the time in front of each line that the run prints while

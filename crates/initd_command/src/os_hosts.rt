@@ -121,6 +121,7 @@ where
         state: run_options.state.as_str(),
         spared: Some(trace_of(run_options)),
         logs: run_options.logs.as_ref().map(String::as_str),
+        groups: run_options.groups,
         pace,
         bell: run_options.bell,
         fresh: run_options.fresh,

@@ -135,8 +135,9 @@ size_given rows = size_in (first_of (codes "--trace-size") rows) (first_of (code
 -- is given, whether it is brief, and the length at which it is put away, if it is; whether each happening is judged;
 -- the level to go to, if it is given; the greatest number of turns; whether the run ends where it is drained, and
 -- whether words name its end; the seconds of a pause; the entry whose last status is the run's, if one is given;
--- whether each start and end is told; the folder of the children's output, if it is given; whether an inittab with a
--- faulty line is not taken; whether lines have the time in front; and whether the channel's bell is made.
+-- whether each start and end is told; the folder of the children's output, if it is given; whether signals go to the
+-- groups of children; whether an inittab with a faulty line is not taken; whether lines have the time in front; and
+-- whether the channel's bell is made.
 pub record RunSaid : Type 0 where
   pub inittab : Text
   pub inittab_dir : Option Text
@@ -155,6 +156,7 @@ pub record RunSaid : Type 0 where
   pub result : Option (List ℕ)
   pub verbose : Bool
   pub logs : Option Text
+  pub groups : Bool
   pub strict : Bool
   pub stamp : Bool
   pub bell : Bool
@@ -178,6 +180,7 @@ run_of said = record {
   result = said.result;
   verbose = said.verbose;
   logs = option_map (λ (path : _). string_bytes path) said.logs;
+  groups = said.groups;
   strict = said.strict;
   stamp = said.stamp;
   bell = said.bell;
@@ -203,6 +206,7 @@ service_with rows level turns pause result brief size = record {
   result = result;
   verbose = is_set (codes "--verbose") rows;
   logs = first_of (codes "--logs") rows;
+  groups = is_set (codes "--groups") rows;
   strict = is_set (codes "--strict") rows;
   stamp = is_set (codes "--stamp") rows;
   bell = is_set (codes "--bell") rows;

@@ -49,6 +49,8 @@ pub struct RunWords {
     pub verbose: bool,
     /// The folder that the children's output is written to, where one is given.
     pub logs: Option<String>,
+    /// Each child is in a session of its own, and a signal goes to its process group.
+    pub groups: bool,
     /// An inittab with a faulty line is not taken.
     pub strict: bool,
     /// Each line that the run prints has the time in front.
@@ -99,6 +101,7 @@ pub(crate) const OPTIONS: &[Row] = &[
     ("--result", "ID", ""),
     ("--verbose", "", ""),
     ("--logs", "DIR", ""),
+    ("--groups", "", ""),
     ("--strict", "", ""),
     ("--stamp", "", ""),
     ("--bell", "", ""),
@@ -135,6 +138,7 @@ pub(crate) fn read_matches(alloc: Global, matches: &ArgMatches) -> Result<RunWor
         result,
         verbose: is_set(matches, "--verbose"),
         logs: read_path(alloc, matches, "--logs")?,
+        groups: is_set(matches, "--groups"),
         strict: is_set(matches, "--strict"),
         stamp: is_set(matches, "--stamp"),
         bell: is_set(matches, "--bell"),

@@ -7,5 +7,11 @@ returns-in-Ok g c = one_helper _ _ _ c.run.ensures
 pub returns-in-Ok-2 : goal.returns-in-Ok-2
 returns-in-Ok-2 g c = one_helper _ _ _ c.run.ensures
 
+pub returns-in-Ok-3 : goal.returns-in-Ok-3
+returns-in-Ok-3 g c = one_helper _ _ _ c.run.ensures
+
+pub returns-in-Ok-4 : goal.returns-in-Ok-4
+returns-in-Ok-4 g c = one_helper _ _ _ c.run.ensures
+
 pub returns : goal.returns
 returns g c = one_helper _ _ _ c.run.ensures
