@@ -30,19 +30,42 @@ struct JudgedTrace<'a> {
     count: u64,
 }
 
-/// The judge of a trace whose text is read in pieces, and the text's first byte.
+/// The judge of a trace whose text is read in pieces, and the text's first byte; and the path of the text, with what tells
+/// that it is compressed.
 #[derive(Drop)]
-struct FileJudge {
+struct FileJudge<'a, R> {
     judge: TextJudge,
     first: Option<u8>,
+    path: &'a str,
+    rt: &'a R,
 }
 
-impl PieceTaker for FileJudge {
+/// The program that unpacks a text that begins so, where that is compressed.
+fn unpacker(piece: &[u8]) -> Option<&'static str> {
+    match piece {
+        [0x1f, 0x8b, ..] => Some("zcat"),
+        [0x28, 0xb5, 0x2f, 0xfd, ..] => Some("zstdcat"),
+        [0xfd, b'7', b'z', b'X', b'Z', 0, ..] => Some("xzcat"),
+        _ => None,
+    }
+}
+
+/// Tells that the text of a path is compressed, where it begins so.
+fn tell_packed<R: Eprint>(rt: &R, path: &str, piece: &[u8]) {
+    if let Some(unpacker) = unpacker(piece) {
+        let _ = eprintln!(rt; "initd: {path} is compressed: {unpacker} {path} | initd check -");
+    }
+}
+
+impl<R: Eprint> PieceTaker for FileJudge<'_, R> {
     ghost use Rattle.initd_command.specs.Verdicts.{IsJudge};
 
     ghost has_taken = { λ file text. IsJudge file.judge file.first text };
 
     fn take_piece(&mut self, piece: &[u8]) -> Result<(), AllocError> {
+        if self.first.is_none() {
+            tell_packed(self.rt, self.path, piece);
+        }
         self.first = self.first.or(piece.first().copied());
         match self.judge.take(piece) {
             Ok(()) => Ok(()),
@@ -52,12 +75,18 @@ impl PieceTaker for FileJudge {
 }
 
 /// A judge that has taken none, on the heap: a function that has one in its frame is dear to prove.
-fn file_judge(alloc: Global) -> Result<Box<FileJudge>, AllocError>
+fn file_judge<'a, R>(
+    rt: &'a R,
+    alloc: Global,
+    path: &'a str,
+) -> Result<Box<FileJudge<'a, R>>, AllocError>
     ensures { IfOk result (λ file. IsJudge file.value.judge file.value.first []) }
 {
     let judge = FileJudge {
         judge: TextJudge::new(alloc),
         first: None,
+        path,
+        rt,
     };
     Ok(Box::new(alloc, judge)?)
 }
@@ -79,13 +108,14 @@ pub(crate) fn check_files<R: Files<File = File> + Eprint, T: Texts, W: Write, E:
 {
     if options.pieces {
         let pieces = PiecedFiles::new(rt, alloc, "initd", false);
-        return check_file(&pieces, alloc, options, out, err);
+        return check_file(rt, &pieces, alloc, options, out, err);
     }
-    check_file(texts, alloc, options, out, err)
+    check_file(rt, texts, alloc, options, out, err)
 }
 
 /// Reads a trace and judges it.
-fn check_file<T: Texts, W: Write, E: Reporter>(
+fn check_file<R: Eprint, T: Texts, W: Write, E: Reporter>(
+    rt: &R,
     texts: &T,
     alloc: Global,
     options: &CheckWords,
@@ -97,21 +127,19 @@ fn check_file<T: Texts, W: Write, E: Reporter>(
         (W.contents out.old) (W.contents out.new)
         × Reports ending (E.reports err.old) (E.reports err.new) }
 {
-    match file_judge(alloc) {
+    let path = options.trace.as_str();
+    match file_judge(rt, alloc, path) {
         Ok(mut file) => judge_text(texts, alloc, options, &mut file, out, err),
-        Err(error) => {
-            let path = options.trace.as_str();
-            report_cannot(alloc, "read", path, &io::Error::from(error), err)
-        }
+        Err(error) => report_cannot(alloc, "read", path, &io::Error::from(error), err),
     }
 }
 
 /// Hands a trace to a judge that has taken none, and tells what it found.
-fn judge_text<T: Texts, W: Write, E: Reporter>(
+fn judge_text<R: Eprint, T: Texts, W: Write, E: Reporter>(
     texts: &T,
     alloc: Global,
     options: &CheckWords,
-    file: &mut FileJudge,
+    file: &mut FileJudge<'_, R>,
     out: &mut W,
     err: &mut E,
 ) -> u8
