@@ -17,7 +17,7 @@ fn main(rt: HostRuntime) -> ExitCode {
                 &GrowingFiles::new(&rt),
                 alloc,
                 words.as_slice(),
-                &mut Printed::on(rt.stdout()),
+                &mut Printed::on(&rt, rt.stdout()),
                 &mut err,
             )
         }

@@ -4,7 +4,7 @@ use Rattle.initview_command.proofs.Words.{Option, Some, None, subst, unwrap_or, 
 use Rattle.initview_command.proofs.Words.{is_simple_and_free, DONE, DEVICE_FAULT, KnownTexts, reason_of, Heard}
 use Rattle.initview_command.proofs.Words.{says_nothing, asked_of, command_line, files_of, folder_of, path_of, what_of}
 use Rattle.initview_command.proofs.Words.{words_said, Writes, KnownWriters, Does, EndsAs, EndsFor, EndsGiven, EndsOf}
-use Rattle.initview_command.proofs.Words.{EndsOn, EndsWhere, Refuses}
+use Rattle.initview_command.proofs.Words.{DoesTimed, EndsOn, EndsWhere, Refuses, local_said}
 use Rattle.clap.proofs.OnLiterals.{clap_on_literals}
 use Rattle.command_words.specs.CommandLines.{bare_line, given_by, line_of}
 use Rattle.command_words.specs.declared.faults.WordFault.{WordFault}
@@ -22,16 +22,31 @@ is_free_line = refl
 
 module _ (text_at growing_at : KnownTexts) (writers : KnownWriters) (status : ℕ) (old new : Heard) where
   pub so_done : (rows : List Row) (words : List (List ℕ)) (path : List ℕ) (files : List (List ℕ))
-      (folder : Option (List ℕ)) (what : Command) (asked : Option Command)
-      → path ≡ path_of what rows words → files ≡ files_of what words → folder ≡ folder_of rows → Some what ≡ asked
-      → Does text_at growing_at writers path files folder what status old new
+      (folder : Option (List ℕ)) (local : Bool) (what : Command) (asked : Option Command)
+      → path ≡ path_of what rows words → files ≡ files_of what words → folder ≡ folder_of rows
+      → local ≡ local_said rows → Some what ≡ asked
+      → DoesTimed local text_at growing_at writers path files folder what status old new
       → EndsFor text_at growing_at writers rows words asked status old new
-  so_done rows words path files folder what asked e1 e2 e3 e4 done =
-      let Done : List ℕ → List (List ℕ) → Option (List ℕ) → Type 0 = λ p fs f.
-      Does text_at growing_at writers p fs f what status old new in
-      subst (λ a. EndsFor text_at growing_at writers rows words a status old new) e4
-      (subst (λ p. Done p (files_of what words) (folder_of rows)) e1
-      (subst (λ fs. Done path fs (folder_of rows)) e2 (subst (λ f. Done path files f) e3 done)))
+  so_done rows words path files folder local what asked e1 e2 e3 e4 e5 done =
+      let Done : List ℕ → List (List ℕ) → Option (List ℕ) → Bool → Type 0 = λ p fs f l.
+      DoesTimed l text_at growing_at writers p fs f what status old new in
+      subst (λ a. EndsFor text_at growing_at writers rows words a status old new) e5
+      (subst (λ p. Done p (files_of what words) (folder_of rows) (local_said rows)) e1
+      (subst (λ fs. Done path fs (folder_of rows) (local_said rows)) e2
+      (subst (λ f. Done path files f (local_said rows)) e3 (subst (λ l. Done path files folder l) e4 done))))
+
+  -- by whether times are to be local
+  module _ (path : List ℕ) (files : List (List ℕ)) (folder : Option (List ℕ)) (what : Command) where
+    pub timed : (local : Bool) → local ≡ true
+        → DoesTimed true text_at growing_at writers path files folder what status old new
+        → DoesTimed local text_at growing_at writers path files folder what status old new
+    timed true is done = done
+    timed false is done = absurd (cc)
+
+    pub untimed : (local : Bool) → local ≡ false → Does text_at growing_at writers path files folder what status old new
+        → DoesTimed local text_at growing_at writers path files folder what status old new
+    untimed true is done = absurd (cc)
+    untimed false is done = done
 
   pub words_given : (rows : List Row) (words : List (List ℕ)) (given : Option (List (List ℕ)))
       → given ≡ all_of (codes "WORD") rows → unwrap_or given [] ≡ words

@@ -3,7 +3,8 @@ use Rattle.initview_command.proofs.Words.{◌≡◌, refl, sym, ap, ◌∙◌, s
 use Rattle.initview_command.proofs.Words.{is_some, List, [], ◌∷◌, ◌++◌, length, length-append, append_assoc, arith}
 use Rattle.initview_command.proofs.Words.{Option, Some, None, option_map, Result, Ok, Err, IfOk, OnErr, Consumes}
 use Rattle.initview_command.proofs.Words.{IsAtEnd, Consumes-trans, PIECE_LIMIT, ViewEnd, Line, Heard, Says, SaysFront}
-use Rattle.initview_command.proofs.Words.{front_none, front_then, front_whole, says_nothing, says_then, AreLinesOf}
+use Rattle.initview_command.proofs.Words.{front_none, front_still, front_then, front_whole, says_nothing, says_then}
+use Rattle.initview_command.proofs.Words.{AreLinesOf, SaysNothing}
 use Rattle.initview_command.proofs.Words.{BeginsAllOf, FollowsAll, FollowsPart, HasLines, HasWritten, IsAllOf, IsFor}
 use Rattle.initview_command.proofs.Words.{IsHidden, Start, WritesAll, WritesPart, begins_run, is_judged, judges}
 use Rattle.initview_command.proofs.Words.{HasFollowed, HasKept, MayKeep, there_limit}
@@ -214,6 +215,12 @@ none_part last left now =
 pub none_all : (last : Option ℕ) (left : Option (List ℕ)) (now : Heard) → IsAllOf left []
     → FollowsAll last left None None now now
 none_all last left now all = ([], none_hidden last left, ([], [], all, none_judged last, says_nothing now))
+
+-- nothing is said behind a part
+pub part_still : (last : Option ℕ) (left : Option (List ℕ)) (old mid new : Heard) → FollowsPart last left old mid
+    → SaysNothing mid new → FollowsPart last left old new
+part_still last left old mid new (hidden, is, (text, shown, stop, line, begins, are, front)) nothing =
+    (hidden, is, (text, shown, stop, line, begins, are, front_still old mid new shown front nothing))
 
 -- all lines are written from the first on
 pub from_first : (left : Option (List ℕ)) (reader : Reader) (now : Heard) → judges reader ≡ true → HasLines reader [] []

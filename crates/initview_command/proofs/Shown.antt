@@ -1,6 +1,7 @@
 -- What is written of a trace, and where nothing is.
 use Rattle.initview_command.proofs.Words.{◌≡◌, ◌⊎◌, Bool, true, false, inl, inr, subst, ℕ, List, reverse, Option, Heard}
-use Rattle.initview_command.proofs.Words.{SaysNothing, front_none, says_nothing, REFUSED, DEVICE_FAULT, IsTextAt}
+use Rattle.initview_command.proofs.Words.{SaysNothing, front_none, says_nothing, DONE, REFUSED, DEVICE_FAULT, IsTextAt}
+use Rattle.initview_command.proofs.Words.{arith}
 use Rattle.initview_command.proofs.Words.{KnownTexts, Event, ViewState, Viewed, ViewEnd, Line, Shows, ShowsBy, ShowsOf}
 use Rattle.initview_command.proofs.Words.{Writes, is_within, FailsBy, fault_status, IsWriterAt, KnownWriters, Writer}
 use Rattle.inittab_text.specs.declared.faults.TableFault.{TableFault}
@@ -16,7 +17,11 @@ writes_as text said given ends status old new same is written =
 -- memory that ran out: nothing was said
 pub none_written : (lines : List Line) (ends status : ℕ) (now : Heard) → status ≡ DEVICE_FAULT
     → Writes lines ends status now now
-none_written lines ends status now is = inr (is, front_none now lines)
+none_written lines ends status now is = inr (inl is, front_none now lines)
+
+-- what ended with 4 didn't end with 0
+pub not_done : (X : Type 0) (status : ℕ) → status ≡ DEVICE_FAULT → status ≡ DONE → X
+not_done X status failed done = absurd (omega (arith, failed, done))
 
 -- a text that begins within a run is refused, and any other answered
 refused_by : (within : Bool) (answer : List Line × ℕ) (status : ℕ) (now : Heard) → within ≡ true → status ≡ REFUSED

@@ -8,12 +8,15 @@ pub use Rattle.clap.specs.Words.{Row, all_of, is_simple_and_free, found_of, rows
 pub use Rattle.program_io.specs.declared.statuses.TheConstants.{DONE, DEVICE_FAULT, REFUSED}
 pub use Rattle.program_io.specs.Known.{KnownTexts, IsTextAt}
 pub use Rattle.command_words.specs.Faults.{reason_of, ReportsUsage}
-pub use Rattle.initview_lines.specs.Saying.{Heard, Says, SaysFront, SaysNothing}
-pub use Rattle.initview_lines.proofs.SayingLemmas.{says_nothing, front_none, front_then, front_whole, says_then}
-pub use Rattle.initview_command.specs.Asking.{asked_of, command_line, files_of, folder_of, path_of, what_of, words_said}
+pub use Rattle.initview_lines.specs.Saying.{Heard, Says, SaysFront, SaysNothing, with_local_times}
+pub use Rattle.initview_lines.proofs.SayingLemmas.{says_nothing, front_none, front_still, front_then, front_whole}
+pub use Rattle.initview_lines.proofs.SayingLemmas.{says_then}
+pub use Rattle.initview_command.specs.Asking.{asked_of, command_line, files_of, folder_of, local_said, path_of, what_of}
+pub use Rattle.initview_command.specs.Asking.{words_said}
 pub use Rattle.initview_command.specs.Showing.{Writes, Shows, ShowsBy, ShowsOf, is_within}
 pub use Rattle.initview_command.specs.Writers.{KnownWriters, IsWriterAt, present}
-pub use Rattle.initview_command.specs.Endings.{Does, EndsAs, EndsFor, EndsGiven, EndsOf, EndsOn, EndsWhere, Refuses}
+pub use Rattle.initview_command.specs.Endings.{Does, DoesTimed, EndsAs, EndsFor, EndsGiven, EndsOf, EndsOn, EndsWhere}
+pub use Rattle.initview_command.specs.Endings.{Refuses}
 pub use Rattle.std.proofs.lemmas.List.{drop_more, length-take, drop_all}
 pub use Rattle.init_words.specs.Parts.{NamedText}
 pub use Rattle.initview_command.specs.Tables.{AreFilesAt, old_of, FailsBy, fault_status, level_asked, plan_by, table_in}

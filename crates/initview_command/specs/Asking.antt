@@ -12,6 +12,9 @@ use Rattle.init_words.specs.Ids.{id_read}
 use Rattle.init_words.specs.Levels.{level_read}
 use Rattle.initview_lines.specs.declared.lines.RowFormat.{RowFormat}
 use Rattle.initview_lines.specs.declared.lines.RowFormat.TheVariants as shape
+use Rattle.initview_lines.specs.declared.lines.WhichRows.{WhichRows}
+use Rattle.initview_lines.specs.declared.lines.WhichRows.TheVariants as which
+use Rattle.initview_command.specs.declared.asking.TraceQuery.{TraceQuery}
 use Rattle.initview_command.specs.declared.asking.TraceQuery.TheVariants as question
 use Rattle.initview_command.specs.declared.asking.TableQuestion.{TableQuestion}
 use Rattle.initview_command.specs.declared.asking.TableQuestion.TheVariants as table
@@ -22,7 +25,7 @@ use Rattle.initview_command.specs.declared.asking.Command.TheVariants.{Tables}
 use Rattle.initview_command.specs.declared.charting.Form.{Form}
 use Rattle.initview_command.specs.declared.charting.Form.TheVariants.{Lines, Svg}
 use Rattle.initview_command.specs.declared.charting.TheConstants.{WIDTH}
-use Rattle.initview_command.specs.Charting.{lines_of}
+use Rattle.initview_command.specs.Charting.{width_of}
 
 abbrev pub command_line : App
 command_line = line_of (codes "initview") (written OPTIONS.now)
@@ -55,15 +58,22 @@ level_said rows = level_given (first_of (codes "--level") rows)
 abbrev pub shape_said : List Row → RowFormat
 shape_said rows = if is_set (codes "--json") rows then shape.Json else shape.Lines
 
--- [--svg | --width N]
-abbrev pub form_given : Bool → Option Text → Option Form
-form_given false None = Some (Lines WIDTH)
-form_given false (Some width) = lines_of width
-form_given true None = Some Svg
-form_given true (Some width) = None
+-- [--faults] [--svg | --width N]
+abbrev pub which_said : List Row → WhichRows
+which_said rows = if is_set (codes "--faults") rows then which.Faulty else which.All
+
+abbrev pub form_given : WhichRows → Bool → Option Text → Option Form
+form_given rows false None = Some (Lines WIDTH rows)
+form_given rows false (Some width) = option_map (λ columns. Lines columns rows) (width_of width)
+form_given rows true None = Some (Svg rows)
+form_given rows true (Some width) = None
 
 abbrev pub form_said : List Row → Option Form
-form_said rows = form_given (is_set (codes "--svg") rows) (first_of (codes "--width") rows)
+form_said rows = form_given (which_said rows) (is_set (codes "--svg") rows) (first_of (codes "--width") rows)
+
+-- [--local]
+abbrev pub local_said : List Row → Bool
+local_said rows = is_set (codes "--local") rows
 
 -- [-n N]: 1 to 10,000 lines
 abbrev pub some_lines : Option ℕ → Option ℕ
@@ -80,13 +90,13 @@ last_given (Some word) = option_map Some (last_of word)
 abbrev pub last_said : List Row → Option (Option ℕ)
 last_said rows = last_given (first_of (codes "-n") rows)
 
--- status TRACE [ID]
+-- status [--json] [--local] TRACE [ID]
 abbrev pub show_of : List Row → List Text → Option Command
 show_of rows (trace ∷ []) = Some (Show (question.Status (shape_said rows)))
 show_of rows (trace ∷ id ∷ []) = option_map (λ i. Show (question.Row i (shape_said rows))) (id_read id)
 show_of rows _ = None
 
--- timeline TRACE
+-- timeline [--local] TRACE
 abbrev pub draw_of : List Row → List Text → Option Command
 draw_of rows (trace ∷ []) = option_map Draw (form_said rows)
 draw_of rows _ = None
@@ -128,7 +138,7 @@ tables_of rows verb words =
     else if bytes_eq verb (codes "lint") then lint_of rows words
     else None
 
--- left TRACE, follow [-n N] TRACE
+-- left [--json] TRACE, follow [-n N] [--local] TRACE
 abbrev pub plain_of : List Row → Text → List Text → Option Command
 plain_of rows verb (trace ∷ []) =
     if bytes_eq verb (codes "left") then Some (Show (question.Left (shape_said rows)))
@@ -159,14 +169,23 @@ table_takes table.Programs option = bytes_eq option (codes "--programs")
 table_takes (table.Diff level) option = bytes_eq option (codes "--trace") || bytes_eq option (codes "--level")
 table_takes (table.Plan level) option = bytes_eq option (codes "--trace") || bytes_eq option (codes "--level")
 
+abbrev pub trace_takes : TraceQuery → Text → Bool
+trace_takes (question.Left shape) option = bytes_eq option (codes "--json")
+trace_takes _ option = bytes_eq option (codes "--json") || bytes_eq option (codes "--local")
+
+abbrev pub draw_takes : Text → Bool
+draw_takes option =
+    bytes_eq option (codes "--svg") || (bytes_eq option (codes "--width")
+    || (bytes_eq option (codes "--faults") || bytes_eq option (codes "--local")))
+
 abbrev pub goes_by_level : Text → Bool
 goes_by_level option =
     bytes_eq option (codes "--inittab-dir") || (bytes_eq option (codes "--trace") || bytes_eq option (codes "--level"))
 
 abbrev pub takes : Command → Text → Bool
-takes (Show question) option = bytes_eq option (codes "--json")
-takes (Draw form) option = bytes_eq option (codes "--svg") || bytes_eq option (codes "--width")
-takes (Follow last) option = bytes_eq option (codes "-n")
+takes (Show question) option = trace_takes question option
+takes (Draw form) option = draw_takes option
+takes (Follow last) option = bytes_eq option (codes "-n") || bytes_eq option (codes "--local")
 takes (Explain id) option = bytes_eq option (codes "--inittab-dir")
 takes (Reload level) option = goes_by_level option
 takes (Timing level) option = goes_by_level option

@@ -1,13 +1,13 @@
 -- How initview ends on its words, and what it wrote.
 use Rattle.std.specs.Prelude.{◌≡◌, ◌⊎◌, ℕ, Bool, true, false, List, [], ◌∷◌, codes, Option, Some, None}
 use Rattle.initview_command.specs.Words.{DONE, REFUSED, DEVICE_FAULT, KnownTexts, asks_version, given_by, version_line}
-use Rattle.initview_command.specs.Words.{Heard, SaysNothing}
+use Rattle.initview_command.specs.Words.{Heard, SaysNothing, with_local_times}
 use Rattle.clap.specs.Words.{Row}
 use Rattle.initview_lines.specs.declared.lines.Line.TheVariants as line
 use Rattle.initview_command.specs.declared.asking.Command.{Command}
 use Rattle.initview_command.specs.declared.asking.Command.TheVariants.{Show, Draw, Follow, Explain, Reload, Timing}
 use Rattle.initview_command.specs.declared.asking.Command.TheVariants.{Tables}
-use Rattle.initview_command.specs.Asking.{command_line, files_of, folder_of, path_of, what_of, words_said}
+use Rattle.initview_command.specs.Asking.{command_line, files_of, folder_of, local_said, path_of, what_of, words_said}
 use Rattle.initview_command.specs.Charting.{drawing}
 use Rattle.initview_command.specs.Explaining.{explained_with}
 use Rattle.initview_command.specs.Following.{Follows}
@@ -40,11 +40,21 @@ Does text_at growing_at writers path files folder (Tables question) status old n
 abbrev pub Refuses : ℕ → Heard → Heard → Type 0
 Refuses status old new = ((status ≡ REFUSED) ⊎ (status ≡ DEVICE_FAULT)) × SaysNothing old new
 
+-- so with local times, where these are asked for; or then the zone was not read, and nothing was written
+abbrev pub DoesTimed : Bool → KnownTexts → KnownTexts → KnownWriters → List ℕ → List (List ℕ) → Option (List ℕ)
+    → Command → ℕ → Heard → Heard → Type 0
+DoesTimed false text_at growing_at writers path files folder what status old new =
+    Does text_at growing_at writers path files folder what status old new
+DoesTimed true text_at growing_at writers path files folder what status old new =
+    Does text_at growing_at writers path files folder what status (with_local_times old) new
+    ⊎ ((status ≡ DEVICE_FAULT) × SaysNothing old new)
+
 -- so of what a command line gives, by its options and words; where they ask nothing it is refused
 abbrev pub EndsFor : KnownTexts → KnownTexts → KnownWriters → List Row → List (List ℕ) → Option Command → ℕ
     → Heard → Heard → Type 0
 EndsFor text_at growing_at writers rows words (Some what) status old new =
-    Does text_at growing_at writers (path_of what rows words) (files_of what words) (folder_of rows) what status old new
+    DoesTimed (local_said rows) text_at growing_at writers (path_of what rows words) (files_of what words)
+    (folder_of rows) what status old new
 EndsFor text_at growing_at writers rows words None status old new = Refuses status old new
 
 abbrev pub EndsGiven : KnownTexts → KnownTexts → KnownWriters → List Row → List (List ℕ) → ℕ → Heard

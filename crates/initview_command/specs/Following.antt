@@ -1,13 +1,13 @@
 -- What is written of a trace that is followed, and the exit status.
 use Rattle.std.specs.Prelude.{◌≡◌, ◌⊎◌, ℕ, ◌-◌, ◌==◌, Bool, true, false, List, [], ◌∷◌, ◌++◌, length, Option, Some}
 use Rattle.std.specs.Prelude.{None, IfSome}
-use Rattle.initview_command.specs.Words.{DEVICE_FAULT, ViewEnd, Heard, Says, SaysFront}
+use Rattle.initview_command.specs.Words.{ViewEnd, Heard, Says, SaysFront}
 use Rattle.initview_lines.specs.declared.lines.Line.{Line}
 use Rattle.initview_lines.specs.Following.{HasSaid, IsSaidOf}
 use Rattle.initview_lines.specs.Parts.{HasTold, IsToldOf}
 use Rattle.initview_command.specs.declared.following.Reader.{Reader}
 use Rattle.initview_command.specs.declared.following.Reader.TheVariants.{Run, Part}
-use Rattle.initview_command.specs.Showing.{stop_status}
+use Rattle.initview_command.specs.Showing.{EndsUnsaid, stop_status}
 
 -- the text is all that was left, where that is known, or the beginning of it
 abbrev pub IsAllOf : Option (List ℕ) → List ℕ → Type 0
@@ -70,11 +70,11 @@ abbrev pub FollowsPart : Option ℕ → Option (List ℕ) → Heard → Heard �
 FollowsPart last left old new =
     (hidden : List Line) × IsHidden last left hidden × WritesPart (start_of last hidden old) left new
 
--- all was written, with its exit status; or the trace could not be read further, the output failed or memory ran out
+-- all was written, with its exit status; or the trace could not be read further, or its lines not be said
 abbrev pub Follows : Option ℕ → Option (List ℕ) → ℕ → Heard → Heard → Type 0
 Follows last left status old new =
     ((stop : Option ViewEnd) × (line : Option ℕ) × (status ≡ stop_status stop) × FollowsAll last left stop line old new)
-    ⊎ ((status ≡ DEVICE_FAULT) × FollowsPart last left old new)
+    ⊎ (EndsUnsaid status new × FollowsPart last left old new)
 
 -- a reader has taken the text, and these are its lines
 abbrev pub judges : Reader → Bool

@@ -52,11 +52,14 @@ abbrev pub answer_by : TraceQuery → Writer → Option ViewEnd → List Event �
 answer_by question writer stop past =
     (said question (present writer stop past), status_by question writer stop (present writer stop past))
 
--- the lines were said, and the exit status is this; or the output failed or memory ran out, and a front of them was
--- said
+-- lines were not all said: the output failed or memory ran out; or nobody reads them any more, and all is well
+abbrev pub EndsUnsaid : ℕ → Heard → Type 0
+EndsUnsaid status now = (status ≡ DEVICE_FAULT) ⊎ ((status ≡ DONE) × (now.unread ≡ true))
+
+-- the lines were said, and the exit status is this; or a front of them was said
 abbrev pub Writes : List Line → ℕ → ℕ → Heard → Heard → Type 0
 Writes lines ends status old new =
-    ((status ≡ ends) × Says old new lines) ⊎ ((status ≡ DEVICE_FAULT) × SaysFront old new lines)
+    ((status ≡ ends) × Says old new lines) ⊎ (EndsUnsaid status new × SaysFront old new lines)
 
 -- so of an answer and its exit status; a text that begins within a run is refused, and nothing was written
 abbrev pub is_within : Option ViewEnd → Bool

@@ -8,7 +8,7 @@ pub use Rattle.initview_timeline.specs.Rows.{drawn_of, timeline_of, scene_of}
 pub use Rattle.program_io.specs.declared.statuses.TheConstants.{DONE, REFUSED, DEVICE_FAULT, UNLAWFUL}
 pub use Rattle.program_io.specs.Known.{KnownTexts, IsTextAt}
 pub use Rattle.command_words.specs.VersionLine.{version_line}
-pub use Rattle.initview_lines.specs.Saying.{Heard, SaysNothing, Says, SaysFront}
+pub use Rattle.initview_lines.specs.Saying.{Heard, SaysNothing, Says, SaysFront, with_local_times}
 pub use Rattle.init_words.specs.Parts.{NamedText, texts_of}
 pub use Rattle.trace_view.specs.declared.text_views.ViewEnd.{ViewEnd}
 pub use Rattle.init_words.specs.declared.entries.Entry.{Entry}

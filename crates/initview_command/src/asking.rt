@@ -4,13 +4,13 @@
 ghost use Rattle.std.specs.Prelude.{◌≡◌, map, string_bytes, IfErr, IfOk, IsSome, None, Some};
 ghost use Rattle.std.specs.List.{list_all};
 ghost use Rattle.initview_command.specs.Words.{found_of, rows_of, given_by, text_of, reason_of};
-ghost use Rattle.initview_command.specs.Asking.{asked, asked_by, behind_one, behind_three, belongs, command_line, diff_of, draw_of, explain_of, explained, files_of, form_said, is_given, last_of, last_said, level_in, level_said, lint_of, path_of, plain_of, plan_of, second_of, shape_said, show_of, table_takes, tables_of, takes, third_of, what_of};
+ghost use Rattle.initview_command.specs.Asking.{asked, asked_by, behind_one, behind_three, belongs, command_line, diff_of, draw_of, draw_takes, explain_of, explained, files_of, form_said, is_given, last_of, last_said, level_in, level_said, lint_of, path_of, plain_of, plan_of, second_of, shape_said, show_of, table_takes, tables_of, takes, third_of, trace_takes, what_of, which_said};
 
-use crate::charting::{Form, WIDTH, lines_of};
+use crate::charting::{Form, WIDTH, width_of};
 use clap::ArgMatches;
 use command_words::{Row, WordFault, is_set, read_line, value_of, word_of};
 use init_words::{Id, Level};
-use initview_lines::RowFormat;
+use initview_lines::{RowFormat, WhichRows};
 use std::alloc::Global;
 use text_lines::read_below;
 
@@ -62,6 +62,8 @@ pub(crate) const OPTIONS: &[Row] = &[
     ("--json", "", ""),
     ("--svg", "", ""),
     ("--width", "N", ""),
+    ("--faults", "", ""),
+    ("--local", "", ""),
     ("-n", "N", ""),
     ("--programs", "FOLDERS", ""),
     ("--trace", "T", ""),
@@ -71,7 +73,6 @@ pub(crate) const OPTIONS: &[Row] = &[
 ];
 
 /// What words give the rows of the table.
-#[tactic(auto, using(crate::proofs::Asked::is_free_line))]
 pub(crate) fn matched(alloc: Global, words: &[String]) -> Result<ArgMatches<'_>, WordFault>
     ensures ok { IfOk result (λ found. given_by command_line (map string_bytes words.now)
         ≡ Some (rows_of (found_of found))) }
@@ -93,6 +94,22 @@ fn is_given(matches: &ArgMatches, row: Row) -> bool
     }
 }
 
+/// The option belongs to what is asked of a trace's rows.
+fn trace_takes(question: &TraceQuery, option: &str) -> bool
+    ensures { result ≡ trace_takes question.now option.now }
+{
+    match question {
+        TraceQuery::Left(_) => option == "--json",
+        TraceQuery::Status(_) | TraceQuery::Row(_, _) => option == "--json" || option == "--local",
+    }
+}
+
+fn draw_takes(option: &str) -> bool
+    ensures { result ≡ draw_takes option.now }
+{
+    option == "--svg" || option == "--width" || option == "--faults" || option == "--local"
+}
+
 fn table_takes(question: &TableQuestion, option: &str) -> bool
     ensures { result ≡ table_takes question.now option.now }
 {
@@ -109,9 +126,9 @@ fn takes(what: &Command, option: &str) -> bool
     ensures { result ≡ takes what.now option.now }
 {
     match what {
-        Command::Show(_) => option == "--json",
-        Command::Draw(_) => option == "--svg" || option == "--width",
-        Command::Follow(_) => option == "-n",
+        Command::Show(question) => trace_takes(question, option),
+        Command::Draw(_) => draw_takes(option),
+        Command::Follow(_) => option == "-n" || option == "--local",
         Command::Explain(_) => option == "--inittab-dir",
         Command::Reload(_) | Command::Timing(_) => {
             option == "--inittab-dir" || option == "--trace" || option == "--level"
@@ -164,13 +181,24 @@ fn shape_said(matches: &ArgMatches) -> RowFormat
     }
 }
 
+fn which_said(matches: &ArgMatches) -> WhichRows
+    ensures { result ≡ which_said (rows_of (found_of matches.now)) }
+{
+    if is_set(matches, "--faults") {
+        WhichRows::Faulty
+    } else {
+        WhichRows::All
+    }
+}
+
 fn form_said(matches: &ArgMatches) -> Option<Form>
     ensures { result ≡ form_said (rows_of (found_of matches.now)) }
 {
+    let which = which_said(matches);
     match (is_set(matches, "--svg"), word_of(matches, "--width")) {
-        (false, None) => Some(Form::Lines(WIDTH)),
-        (false, Some(width)) => lines_of(width),
-        (true, None) => Some(Form::Svg),
+        (false, None) => Some(Form::Lines(WIDTH, which)),
+        (false, Some(width)) => Some(Form::Lines(width_of(width)?, which)),
+        (true, None) => Some(Form::Svg(which)),
         (true, Some(_)) => None,
     }
 }

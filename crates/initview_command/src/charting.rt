@@ -2,11 +2,11 @@
 
 ghost use Rattle.std.specs.Prelude.{◌≡◌, List, IfOk};
 ghost use Rattle.initview_command.specs.Words.{Event, Viewed, seen_of, drawn_of, scene_of};
-ghost use Rattle.initview_command.specs.Charting.{drawing, lines_of};
+ghost use Rattle.initview_command.specs.Charting.{drawing, width_of};
 
 use crate::showing::{Answer, Query, TraceOutcome, stop_status};
 use init_words::Memory;
-use initview_lines::Line;
+use initview_lines::{Line, WhichRows};
 use initview_timeline::{Marks, Seen, timeline_of};
 use std::alloc::{AllocError, Global};
 use text_lines::read_below;
@@ -23,18 +23,18 @@ pub const WIDTH_LIMIT: u64 = 1_000;
 #[derive(Clone, Copy)]
 pub enum Form {
     /// Lines of so many columns.
-    Lines(u64),
+    Lines(u64, WhichRows),
     /// A picture, as one SVG document.
-    Svg,
+    Svg(WhichRows),
 }
 
-/// Lines of the width of a word.
-pub(crate) fn lines_of(width: &str) -> Option<Form>
-    ensures { result ≡ lines_of width.now }
+/// The width that a word names.
+pub(crate) fn width_of(word: &str) -> Option<u64>
+    ensures { result ≡ width_of word.now }
 {
-    let width = read_below(width.as_bytes(), WIDTH_LIMIT + 1)?;
+    let width = read_below(word.as_bytes(), WIDTH_LIMIT + 1)?;
     if WIDTH_LEAST <= width {
-        Some(Form::Lines(width))
+        Some(width)
     } else {
         None
     }
@@ -63,8 +63,8 @@ fn draw(alloc: Global, form: Form, marks: &Marks, view: &TraceView) -> Result<Li
 {
     let timeline = timeline_of(alloc, &seen_by(marks, view))?;
     Ok(match form {
-        Form::Lines(width) => Line::Chart(width, timeline),
-        Form::Svg => Line::Svg(timeline),
+        Form::Lines(width, which) => Line::Chart(width, which, timeline),
+        Form::Svg(which) => Line::Svg(which, timeline),
     })
 }
 

@@ -1,11 +1,11 @@
 //! The words of `initview`, and what it does for them.
 
-ghost use Rattle.std.specs.Prelude.{◌≡◌, ◌∷◌, [], codes, false, map, option_map, string_bytes, None};
+ghost use Rattle.std.specs.Prelude.{◌≡◌, ◌∷◌, [], codes, false, true, map, option_map, string_bytes, None};
 ghost use Rattle.initview_command.specs.Words.{asks_version, found_of, rows_of, version_line, DONE};
 ghost use Rattle.initview_lines.specs.declared.lines.Line.TheVariants as line;
 ghost use Rattle.initview_command.specs.Asking.{asked_of, what_of, words_said};
 ghost use Rattle.initview_command.specs.Refusals.{ReportsRefusal};
-ghost use Rattle.initview_command.specs.Endings.{Does, EndsBy, EndsGiven, EndsOf};
+ghost use Rattle.initview_command.specs.Endings.{Does, DoesTimed, EndsBy, EndsGiven, EndsOf};
 ghost use Rattle.initview_command.specs.Showing.{Writes};
 
 use crate::asking::{Command, files_of, matched, path_of, what_of};
@@ -17,10 +17,10 @@ use crate::refusals::{report_fault, report_refusal};
 use crate::reloading::ReloadTo;
 use crate::showing::{show_file, write_answer};
 use crate::tables::show_files;
-use crate::telling::report_memory;
+use crate::telling::{report_memory, report_zone};
 use crate::with_files::show_with_files;
 use clap::ArgMatches;
-use command_words::{is_version, word_of, words_of, write_version};
+use command_words::{is_set, is_version, word_of, words_of, write_version};
 use initview_lines::{Says, text_line};
 use program_io::{DONE, Reporter, Texts};
 use std::alloc::Global;
@@ -28,10 +28,10 @@ use std::alloc::Global;
 /// What is told where help is asked for, and of words that are not read. Its lines up to the last that begins with
 /// blanks and `initview` are one for each command.
 pub const USAGE: &str = "usage: initview why [--inittab-dir DIR] ID TRACE [TABLE..]
-       initview status [--json] TRACE [ID]
+       initview status [--json] [--local] TRACE [ID]
        initview left [--json] TRACE
-       initview timeline [--svg | --width N] TRACE
-       initview follow [-n N] TRACE
+       initview timeline [--svg | --width N] [--faults] [--local] TRACE
+       initview follow [-n N] [--local] TRACE
        initview lint [--programs FOLDERS] [--inittab-dir DIR] TABLE [FILE..]
        initview diff [--trace T] [--level L] [--inittab-dir DIR] OLD NEW
        initview plan [--trace T] [--level L] [--inittab-dir DIR] TABLE [FILE..]
@@ -48,7 +48,8 @@ pub const USAGE: &str = "usage: initview why [--inittab-dir DIR] ID TRACE [TABLE
   timeline
           draw the lives of each entry's children, signals, holds and stages
           over the time, in lines of N columns, 80 without it; or with --svg as
-          a picture that a browser shows
+          a picture that a browser shows; with --faults the rows of entries with
+          faults alone
   follow  print a line for each happening that an operator is told of, also
           while the trace is written, until it is interrupted; with -n from the
           last N lines of what is there on, also where TRACE begins within a run
@@ -64,7 +65,7 @@ pub const USAGE: &str = "usage: initview why [--inittab-dir DIR] ID TRACE [TABLE
           waits for, and the critical path: the entries whose ends the way goes
           through; with --trace also how long each of these took there, and the
           exit status is as for status TRACE
-  Options stand anywhere.
+  Options stand anywhere; with --local times are in the system's zone.
   ID      an id of the inittab, 1 to 8 characters
   TRACE   a trace of init, also one that is still being written; - is standard
           input; so is T
@@ -165,9 +166,59 @@ fn run_given<'a, T: Texts, G: LiveTraces, S: Says, E: Reporter>(
             let path = path_of(&what, matches, words);
             let files = files_of(&what, words);
             let folder = word_of(matches, "--inittab-dir");
-            run_asked(texts, growing, alloc, what, path, files, folder, out, err)
+            let is_local = is_set(matches, "--local");
+            run_timed(
+                texts, growing, alloc, is_local, what, path, files, folder, out, err,
+            )
         }
         None => report_refusal(alloc, matches, words, err),
+    }
+}
+
+/// Does what is asked, with times that are local where that is asked for too.
+fn run_timed<T: Texts, G: LiveTraces, S: Says, E: Reporter>(
+    texts: &T,
+    growing: &G,
+    alloc: Global,
+    is_local: bool,
+    what: Command,
+    path: &str,
+    files: &[&str],
+    folder: Option<&str>,
+    out: &mut S,
+    err: &mut E,
+) -> u8
+    ensures { DoesTimed is_local (T.text_at texts.now) (G.text_at growing.now)
+        (G.writer_at growing.now) path.now
+        (map (λ file. file.now) files.now) (option_map (λ path. path.now) folder.entry) what
+        result (S.said out.old) (S.said out.new) }
+{
+    if is_local {
+        return run_local(texts, growing, alloc, what, path, files, folder, out, err);
+    }
+    run_asked(texts, growing, alloc, what, path, files, folder, out, err)
+}
+
+/// The same with local times.
+fn run_local<T: Texts, G: LiveTraces, S: Says, E: Reporter>(
+    texts: &T,
+    growing: &G,
+    alloc: Global,
+    what: Command,
+    path: &str,
+    files: &[&str],
+    folder: Option<&str>,
+    out: &mut S,
+    err: &mut E,
+) -> u8
+    ensures { DoesTimed true (T.text_at texts.now) (G.text_at growing.now)
+        (G.writer_at growing.now) path.now
+        (map (λ file. file.now) files.now) (option_map (λ path. path.now) folder.entry) what
+        result (S.said out.old) (S.said out.new) }
+{
+    match out.use_local_times() {
+        Ok(()) => run_asked(texts, growing, alloc, what, path, files, folder, out, err),
+        Err(error) => report_zone(error, err),
     }
 }
 

@@ -1,7 +1,8 @@
 //! A trace in words, while it is written.
 
 ghost use Rattle.std.specs.Prelude.{◌≡◌, ◌^◌, ◌<◌, ◌≤◌, ◌-◌, ◌++◌, [], List, ℕ, length, Option, Some, None, option_map, IfOk, OnOk, OnErr, true, false};
-ghost use Rattle.initview_command.specs.Words.{DEVICE_FAULT, PIECE_LIMIT};
+ghost use Rattle.initview_command.specs.Words.{PIECE_LIMIT, SaysNothing};
+ghost use Rattle.initview_command.specs.Showing.{EndsUnsaid};
 ghost use Rattle.initview_lines.specs.declared.lines.Line.{Line};
 ghost use Rattle.initview_command.specs.Following.{AreLinesOf, Follows, FollowsAll, FollowsPart, HasLines, HasWritten, IsAllOf, IsFor, Start, WritesAll, WritesPart, begins_run, judges};
 ghost use Rattle.initview_command.specs.Taking.{FirstReader, HasFollowed, HasKept, MayKeep, there_limit};
@@ -46,12 +47,18 @@ impl From<SayFault> for FollowFault {
 }
 
 /// Tells why, and gives the exit status.
-fn report_fault<E: Reporter>(path: &str, fault: &FollowFault, err: &mut E) -> u8
-    ensures { result ≡ DEVICE_FAULT }
+fn report_fault<S: Says, E: Reporter>(
+    path: &str,
+    fault: &FollowFault,
+    out: &mut S,
+    err: &mut E,
+) -> u8
+    ensures ends { EndsUnsaid result (S.said out.new) }
+    ensures said { SaysNothing (S.said out.old) (S.said out.new) }
 {
     match fault {
         FollowFault::Unread(error) => report_unread(path, error, err),
-        FollowFault::Unsaid(fault) => report_unsaid(*fault, err),
+        FollowFault::Unsaid(fault) => report_unsaid(*fault, out, err),
     }
 }
 
@@ -349,7 +356,7 @@ fn follow_text<R: LiveTrace, S: Says, E: Reporter>(
             tell_stop(path, stop, line, err);
             stop_status(stop)
         }
-        Err(fault) => report_fault(path, &fault, err),
+        Err(fault) => report_fault(path, &fault, out, err),
     }
 }
 

@@ -1,36 +1,125 @@
 //! Lines said on an output, in words.
 
-use initview_lines::{Line, SayFault, Says, words_of};
+use initview_lines::{Line, SayFault, Says, Zone, words_of};
+use jiff::Error;
+use jiff::tz::{SystemTimeZone, TimeZoneDatabase};
+use libc::net::{POLLERR, poll};
+use libc::types::pollfd;
 use program_io::write_text;
 use std::alloc::Global;
-use std::io::Write;
+use std::io;
+use std::io::{ErrorKind, Write};
+use std::rt::{Env, Files};
 
-/// An output on which lines are worded. Nothing is known of what was said.
+/// The zone of the system, and the zones that it may name.
 #[derive(Drop)]
-pub struct Printed<W: Write + Drop> {
-    out: W,
+struct SystemZone {
+    zone: SystemTimeZone,
+    known: TimeZoneDatabase,
 }
 
-impl<W: Write + Drop> Printed<W> {
-    /// The output.
-    pub fn on(out: W) -> Printed<W> {
-        Printed { out }
+impl SystemZone {
+    /// Reads the zone that TZ names, else /etc/localtime; None where there is none of these, which is UTC.
+    fn read<R: Env + Files + AllocGlobal + Clone + Drop>(
+        rt: &R,
+    ) -> Result<Option<SystemZone>, Error> {
+        let zone = match SystemTimeZone::read(rt) {
+            Ok(zone) => zone,
+            Err(Error::Io(ErrorKind::NotFound)) => return Ok(None),
+            Err(error) => return Err(error),
+        };
+        let known = TimeZoneDatabase::new(rt.alloc());
+        if zone.time_zone(&known).is_ok() {
+            return Ok(Some(SystemZone { zone, known }));
+        }
+        let known = TimeZoneDatabase::from_env(rt)?;
+        let _ = zone.time_zone(&known)?;
+        Ok(Some(SystemZone { zone, known }))
+    }
+
+    /// The zone, which was found before.
+    fn zone(&self) -> Zone<'_> {
+        match self.zone.time_zone(&self.known) {
+            Ok(zone) => Zone::Local(zone),
+            Err(_) => Zone::Utc,
+        }
     }
 }
 
-impl<W: Write + Drop> Says for Printed<W> {
+/// An output on which lines are worded, and the system that has its zone. Nothing is known of what was said.
+#[derive(Drop)]
+pub struct Printed<'a, R, W: Write + Drop> {
+    rt: &'a R,
+    out: W,
+    is_unread: bool,
+    is_local: bool,
+    zone: Option<SystemZone>,
+}
+
+impl<'a, R, W: Write + Drop> Printed<'a, R, W> {
+    /// The output. Times are in UTC.
+    pub fn on(rt: &'a R, out: W) -> Printed<'a, R, W> {
+        Printed {
+            rt,
+            out,
+            is_unread: false,
+            is_local: false,
+            zone: None,
+        }
+    }
+}
+
+/// Writes a text, and sees that it is out.
+fn write_whole<W: Write>(out: &mut W, text: &[u8]) -> io::Result<()> {
+    write_text(out, text)?;
+    out.flush()
+}
+
+/// Standard output is a pipe that nobody reads any more. What hung up, as a terminal, has POLLHUP beside POLLERR.
+fn is_pipe_without_reader() -> bool {
+    let mut asked = [pollfd {
+        fd: 1,
+        events: 0,
+        revents: 0,
+    }];
+    poll(&mut asked, 0) > 0 && asked[0].revents == POLLERR
+}
+
+impl<R: Env + Files + AllocGlobal + Clone + Drop, W: Write + Drop> Says for Printed<'_, R, W> {
     ghost use Rattle.std.specs.Prelude.{None};
 
-    ghost said = { λ _. None };
+    ghost said = { λ printed. record {
+      lines = None;
+      unread = printed.is_unread;
+      local = printed.is_local;
+    } };
 
     fn say(&mut self, alloc: Global, lines: Vec<Line>) -> Result<(), SayFault> {
-        let Ok(text) = words_of(alloc, &lines) else {
+        let zone = match &self.zone {
+            Some(zone) => zone.zone(),
+            None => Zone::Utc,
+        };
+        let Ok(text) = words_of(alloc, zone, &lines) else {
             return Err(SayFault::Memory);
         };
-        if write_text(&mut self.out, &text).is_ok() && self.out.flush().is_ok() {
-            Ok(())
-        } else {
-            Err(SayFault::Unwritten)
+        match write_whole(&mut self.out, &text) {
+            Ok(()) => Ok(()),
+            Err(error) => {
+                self.is_unread = error.kind() == ErrorKind::BrokenPipe;
+                Err(SayFault::Unwritten)
+            }
         }
+    }
+
+    /// A write has told it, or standard output does.
+    fn is_unread(&mut self) -> bool {
+        self.is_unread = self.is_unread || is_pipe_without_reader();
+        self.is_unread
+    }
+
+    fn use_local_times(&mut self) -> Result<(), Error> {
+        self.zone = SystemZone::read(self.rt)?;
+        self.is_local = true;
+        Ok(())
     }
 }

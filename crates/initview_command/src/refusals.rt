@@ -6,7 +6,7 @@ ghost use Rattle.initview_command.specs.Words.{DEVICE_FAULT};
 ghost use Rattle.initview_command.specs.Refusals.{ReportsRefusal, usage_line};
 
 use crate::asking::{Command, OPTIONS, asked, belongs, last_of, level_in};
-use crate::charting::lines_of;
+use crate::charting::width_of;
 use crate::command::USAGE;
 use crate::telling::report_memory;
 use clap::ArgMatches;
@@ -77,7 +77,7 @@ fn value_reason<'a>(matches: &ArgMatches<'a>) -> Option<(&'static str, &'a str, 
         (Some(level), _, _) if level_in(level).is_none() => {
             Some(("--level", level, "a LEVEL is one of 0 to 9 and S"))
         }
-        (_, Some(width), _) if lines_of(width).is_none() => {
+        (_, Some(width), _) if width_of(width).is_none() => {
             Some(("--width", width, "a width N is 40 to 1000 columns"))
         }
         (_, _, Some(count)) if last_of(count).is_none() => {

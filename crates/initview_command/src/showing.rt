@@ -336,7 +336,7 @@ pub(crate) fn write_answer<S: Says, E: Reporter>(
 {
     match out.say(alloc, lines) {
         Ok(()) => status,
-        Err(fault) => report_unsaid(fault, err),
+        Err(fault) => report_unsaid(fault, out, err),
     }
 }
 

@@ -1,17 +1,24 @@
 -- What is said, one after the other.
 use Rattle.initview_lines.proofs.CommonWords.{◌≡◌, refl, sym, ap, ◌∙◌, List, [], ◌++◌, Option, Some, None, Line}
-use Rattle.std.proofs.Common.{append-nil, append_assoc}
-use Rattle.initview_lines.specs.Saying.{Heard, Says, SaysFront, SaysNothing}
+use Rattle.std.proofs.Common.{append-nil, append_assoc, subst}
+use Rattle.initview_lines.specs.Saying.{Heard, Says, SaysFront, SaysLines, SaysNothing}
+
+no_lines : (a : Option (List Line)) → SaysLines a a []
+no_lines None = tt
+no_lines (Some said) = sym (append-nil said)
+
+lines_then : (a b c : Option (List Line)) (first then : List Line) → SaysLines a b first → SaysLines b c then
+    → SaysLines a c (first ++ then)
+lines_then None b c first then p q = tt
+lines_then (Some x) None c first then p q = absurd p
+lines_then (Some x) (Some y) None first then p q = absurd q
+lines_then (Some x) (Some y) (Some z) first then p q = q ∙ ap (λ l. l ++ then) p ∙ append_assoc x first then
 
 pub says_nothing : (a : Heard) → SaysNothing a a
-says_nothing None = tt
-says_nothing (Some said) = sym (append-nil said)
+says_nothing a = (refl, no_lines a.lines)
 
 pub says_then : (a b c : Heard) (first then : List Line) → Says a b first → Says b c then → Says a c (first ++ then)
-says_then None b c first then p q = tt
-says_then (Some x) None c first then p q = absurd p
-says_then (Some x) (Some y) None first then p q = absurd q
-says_then (Some x) (Some y) (Some z) first then p q = q ∙ ap (λ l. l ++ then) p ∙ append_assoc x first then
+says_then a b c first then p q = (q.0 ∙ p.0, lines_then a.lines b.lines c.lines first then p.1 q.1)
 
 pub front_whole : (old new : Heard) (lines : List Line) → Says old new lines → SaysFront old new lines
 front_whole old new lines said = (lines, [], append-nil lines, said)
@@ -27,4 +34,14 @@ front_then old mid new first rest whole (front, more, joined, said) = (
   more,
   append_assoc first front more ∙ ap (λ lines. first ++ lines) joined,
   says_then old mid new first front whole said,
+)
+
+-- a front, and nothing behind it
+pub front_still : (old mid new : Heard) (lines : List Line) → SaysFront old mid lines → SaysNothing mid new
+    → SaysFront old new lines
+front_still old mid new lines (front, rest, joined, said) nothing = (
+  front,
+  rest,
+  joined,
+  subst (λ l. Says old new l) (append-nil front) (says_then old mid new front [] said nothing),
 )

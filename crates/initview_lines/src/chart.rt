@@ -1,7 +1,8 @@
 //! A timeline as lines of text.
 
-use crate::days::{add_hours, add_moment};
-use crate::dimensions::{LEGEND_LINES, YEAR};
+use crate::clocks::{Zone, add_hours, add_moment, add_zone, is_one_offset};
+use crate::dimensions::LEGEND_LINES;
+use crate::lines::WhichRows;
 use crate::words::{add_number, add_padded, add_stage, add_status, put};
 use init_words::Stage;
 use initview_timeline::{Drawn, Frame, Piece, Pieces, Row, State, Timeline, is_ill};
@@ -80,12 +81,21 @@ fn add_row(text: &mut Vec<u8>, alloc: Global, frame: Frame, row: &Row) -> Result
     put(text, b"\n")
 }
 
-/// Adds the times of a drawing.
-pub(crate) fn add_times(text: &mut Vec<u8>, timeline: &Timeline) -> Result<(), AllocError> {
-    add_moment(text, timeline.start)?;
-    put(text, b" to ")?;
-    add_moment(text, timeline.end)?;
-    put(text, if timeline.end < YEAR { b"" } else { b" UTC" })
+/// Adds the times of a drawing, with a blank or a line's end between them.
+pub(crate) fn add_times(
+    text: &mut Vec<u8>,
+    zone: Zone,
+    timeline: &Timeline,
+    between: &[u8],
+) -> Result<(), AllocError> {
+    add_moment(text, zone, timeline.start)?;
+    if !is_one_offset(zone, timeline.start, timeline.end) {
+        add_zone(text, zone, timeline.start)?;
+    }
+    put(text, between)?;
+    put(text, b"to ")?;
+    add_moment(text, zone, timeline.end)?;
+    add_zone(text, zone, timeline.end)
 }
 
 /// Adds how it all is at the end, up to of how many ids something is ill.
@@ -94,11 +104,19 @@ pub(crate) fn add_facts(text: &mut Vec<u8>, timeline: &Timeline) -> Result<(), A
     put(
         text,
         if timeline.settled {
-            b", settled, "
+            b", settled,"
         } else {
-            b", not settled, "
+            b", not settled,"
         },
     )
+}
+
+/// A row is one of those that are drawn.
+pub(crate) fn is_drawn(which: WhichRows, row: &Row) -> bool {
+    match which {
+        WhichRows::All => true,
+        WhichRows::Faulty => is_ill(row),
+    }
 }
 
 /// Of how many ids something is ill.
@@ -113,37 +131,78 @@ fn time_of_place(frame: Frame, position: u64) -> u64 {
 }
 
 /// Adds the time of day of every fourteenth column that has room for it.
-fn add_axis(text: &mut Vec<u8>, frame: Frame) -> Result<(), AllocError> {
+fn add_axis(text: &mut Vec<u8>, zone: Zone, frame: Frame) -> Result<(), AllocError> {
     put(text, b"    ")?;
     for number in 0..frame.last.saturating_add(4) / 14 {
         put(text, b"     |")?;
-        add_hours(text, time_of_place(frame, number.saturating_mul(14)))?;
+        add_hours(text, zone, time_of_place(frame, number.saturating_mul(14)))?;
     }
     put(text, b"\n")
 }
 
-/// A timeline as lines of so many columns: its times; how it is at the end; the time of every fourteenth column; a row for
-/// the stages, and one for each id; and what the signs mean. Nine columns are those of the ids, thirteen those of how they
-/// are at the end and how much went wrong, and the others those of the times, of which there is one at least.
-pub(crate) fn add_chart(
+/// Adds parts that stand one a line, each on the line of the part before it where that has room within the columns.
+fn add_wrapped(text: &mut Vec<u8>, width: u64, parts: &[u8]) -> Result<(), AllocError> {
+    let mut column: u64 = 0;
+    for part in parts.split(|byte| *byte == b'\n') {
+        let length = part.len() as u64;
+        let end = column.saturating_add(1).saturating_add(length);
+        if column == 0 {
+            column = length;
+        } else if end <= width {
+            put(text, b" ")?;
+            column = end;
+        } else {
+            put(text, b"\n")?;
+            column = length;
+        }
+        put(text, part)?;
+    }
+    put(text, b"\n")
+}
+
+/// Adds the times, and how it all is at the end.
+fn add_front(
     text: &mut Vec<u8>,
     alloc: Global,
+    zone: Zone,
     width: u64,
     timeline: &Timeline,
 ) -> Result<(), AllocError> {
-    let frame = timeline.frame(width.saturating_sub(23));
     let rows = timeline.rows.as_slice();
-    add_times(text, timeline)?;
-    put(text, b"\n")?;
-    add_facts(text, timeline)?;
-    add_number(text, b"", ill(rows), b" of ")?;
-    add_number(text, b"", rows.len() as u64, b" with faults\n")?;
-    add_axis(text, frame)?;
+    let mut times = Vec::new(alloc);
+    add_times(&mut times, zone, timeline, b"\n")?;
+    add_wrapped(text, width, &times)?;
+    let mut facts = Vec::new(alloc);
+    add_facts(&mut facts, timeline)?;
+    add_number(&mut facts, b"\n", ill(rows), b" of ")?;
+    add_number(&mut facts, b"", rows.len() as u64, b" with faults")?;
+    add_wrapped(text, width, &facts)
+}
+
+/// Rows of a timeline as lines of so many columns: its times; how it is at the end; the time of every fourteenth column; a
+/// row for the stages, and one for each id; and what the signs mean. Nine columns are those of the ids, thirteen those of
+/// how they are at the end and how much went wrong, and the others those of the times, of which there is one at least.
+pub(crate) fn add_chart(
+    text: &mut Vec<u8>,
+    alloc: Global,
+    zone: Zone,
+    width: u64,
+    which: WhichRows,
+    timeline: &Timeline,
+) -> Result<(), AllocError> {
+    let frame = timeline.frame(width.saturating_sub(23));
+    add_front(text, alloc, zone, width, timeline)?;
+    add_axis(text, zone, frame)?;
     put(text, b"level    ")?;
     add_cells(text, frame, &timeline.stages)?;
     put(text, b"\n")?;
-    for row in rows {
-        add_row(text, alloc, frame, row)?;
+    for row in timeline.rows.as_slice() {
+        if is_drawn(which, row) {
+            add_row(text, alloc, frame, row)?;
+        }
     }
-    put(text, LEGEND_LINES)
+    for parts in LEGEND_LINES {
+        add_wrapped(text, width, parts)?;
+    }
+    Ok(())
 }

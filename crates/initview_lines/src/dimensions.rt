@@ -27,9 +27,6 @@ pub const DAY: u64 = 86_400;
 
 pub const YEAR: u64 = 31_536_000;
 
-/// The beginning of the year 10000, in seconds.
-pub const DATES_END: u64 = 253_402_300_800;
-
 /// The steps of an axis, in seconds, and how many ticks there are at most.
 pub const STEPS: [u64; 18] = [
     1, 2, 5, 10, 20, 30, 60, 120, 300, 600, 1_200, 1_800, 3_600, 7_200, 14_400, 21_600, 43_200,
@@ -169,8 +166,22 @@ pub const AT_END: &[u8] =
     b"<text class=\"i z\" x=\"-8\" y=\"15\">level</text><text class=\"q\" x=\"912\" y=\"15\">at the end</text><text class=\"i q\" x=\"1042\" y=\"15\">faults</text>
 ";
 
-/// What the signs of lines mean.
-pub const LEGEND_LINES: &[u8] = b"level: i sysinit, b boot, 0 to 9 and S; - on the way, = settled
-| started, = runs, w init waits for it, - TERM sent, ~ held, ? not started yet
-x failed, ! start failed, K KILL sent; behind: how it is at the end, and faults
-";
+/// What the signs of lines mean: three lines where they have room, each of parts that stand one a line here.
+pub const LEGEND_LINES: [&[u8]; 3] = [
+    b"level: i sysinit,
+b boot,
+0 to 9 and S;
+- on the way,
+= settled",
+    b"| started,
+= runs,
+w init waits for it,
+- TERM sent,
+~ held,
+? not started yet",
+    b"x failed,
+! start failed,
+K KILL sent;
+behind: how it is at the end,
+and faults",
+];

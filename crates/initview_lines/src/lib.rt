@@ -6,7 +6,7 @@
 
 mod changes;
 mod chart;
-mod days;
+mod clocks;
 mod dimensions;
 mod happenings;
 mod json;
@@ -29,9 +29,10 @@ mod wording;
 mod words;
 
 pub use changes::{Change, change_lines};
+pub use clocks::Zone;
 pub use happenings::{News, add_happening};
 pub use left::{is_starting, left_lines};
-pub use lines::{FileLine, Head, IdRow, Line, Reason, RowFormat, Stopping, text_line};
+pub use lines::{FileLine, Head, IdRow, Line, Reason, RowFormat, Stopping, WhichRows, text_line};
 pub use lint::{Findings, lint_parts};
 pub use own_lines::id_lines;
 pub use part_views::PartView;

@@ -23,6 +23,14 @@ pub enum RowFormat {
     Json,
 }
 
+/// Which rows of a timeline are drawn.
+#[derive(Clone, Copy)]
+pub enum WhichRows {
+    All,
+    /// Those with faults.
+    Faulty,
+}
+
 /// How init stands.
 #[derive(Clone, Copy)]
 pub struct Head {
@@ -129,10 +137,10 @@ pub enum Line {
     File(Bytes, FileLine),
     /// What happened at a time.
     Happened(u64, News),
-    /// A timeline, in lines of so many columns.
-    Chart(u64, Timeline),
-    /// A timeline, as a picture.
-    Svg(Timeline),
+    /// Rows of a timeline, in lines of so many columns.
+    Chart(u64, WhichRows, Timeline),
+    /// The same, as a picture.
+    Svg(WhichRows, Timeline),
     /// A text as it is.
     Text(Bytes),
 }

@@ -1,6 +1,6 @@
 //! Phrases: words with places for values.
 
-use crate::days::{add_clock, add_time_of_day};
+use crate::clocks::{Zone, add_clock, add_time_of_day};
 use crate::json::add_quoted;
 use crate::words::{add_level, add_number, add_padded, add_shown, add_stage, add_status, put};
 use init_words::{Id, Level, Stage, Status};
@@ -29,8 +29,8 @@ pub(crate) enum Value<'a> {
     Status(Option<Status>),
     Wish(Wish),
     /// A reading of the clock, for people.
-    Clock(u64),
-    /// The same as RFC 3339 writes it.
+    Clock(Zone<'a>, u64),
+    /// The same as RFC 3339 writes it, in UTC.
     Time(u64),
 }
 
@@ -64,8 +64,8 @@ fn add_value(text: &mut Vec<u8>, value: &Value) -> Result<(), AllocError> {
         Value::Stage(stage) => add_stage(text, *stage),
         Value::Status(status) => add_status(text, *status),
         Value::Wish(wish) => add_wish(text, *wish),
-        Value::Clock(time) => add_clock(text, *time),
-        Value::Time(time) => add_time_of_day(text, *time),
+        Value::Clock(zone, time) => add_clock(text, *zone, *time),
+        Value::Time(time) => add_time_of_day(text, Zone::Utc, *time),
     }
 }
 

@@ -1,13 +1,14 @@
 //! A timeline as a picture: one SVG document.
 
-use crate::chart::{add_facts, add_state, add_times, ill, stage_letter};
-use crate::days::{add_day, add_hours, add_moment};
+use crate::chart::{add_facts, add_state, add_times, ill, is_drawn, stage_letter};
+use crate::clocks::{Zone, add_day, add_hours, add_moment, local_seconds};
 use crate::dimensions::{
-    AT_END, BAND, DATES_END, DAY, DRAWING, DUE, FAILED, FAULTS, HEAD, HELD, HOUR, KILLED, LEGEND,
-    LETTER_ROOM, LEVEL, LIVES, LOW, LOW_HOURS, LOW_ROWS, LOW_SECONDS, MANY, MARGINS, NAME, NAME_AT,
-    SETTLED, STAGE, STATE, STEPS, STOPS, STYLE, TALL, TALL_ROWS, TICK, TICKS, TOP_HOURS,
-    TOP_SECONDS, UNBORN, WAITED, WORDS_ROOM, YEAR,
+    AT_END, BAND, DAY, DRAWING, DUE, FAILED, FAULTS, HEAD, HELD, HOUR, KILLED, LEGEND, LETTER_ROOM,
+    LEVEL, LIVES, LOW, LOW_HOURS, LOW_ROWS, LOW_SECONDS, MANY, MARGINS, NAME, NAME_AT, SETTLED,
+    STAGE, STATE, STEPS, STOPS, STYLE, TALL, TALL_ROWS, TICK, TICKS, TOP_HOURS, TOP_SECONDS,
+    UNBORN, WAITED, WORDS_ROOM,
 };
+use crate::lines::WhichRows;
 use crate::words::{add_number, add_stage, add_status, put};
 use init_words::Stage;
 use initview_timeline::{Drawn, Frame, Piece, Pieces, Row, Timeline, is_ill, is_loud};
@@ -76,14 +77,14 @@ fn add_whose(text: &mut Vec<u8>, id: &[u8], what: Drawn) -> Result<(), AllocErro
 }
 
 /// Begins a piece: what is said of it where the pointer rests on it, and how it is drawn.
-fn add_tip(text: &mut Vec<u8>, id: &[u8], piece: &Piece) -> Result<(), AllocError> {
+fn add_tip(text: &mut Vec<u8>, zone: Zone, id: &[u8], piece: &Piece) -> Result<(), AllocError> {
     put(text, b"<g><title>")?;
     add_whose(text, id, piece.what)?;
     put(text, b": ")?;
-    add_moment(text, piece.from)?;
+    add_moment(text, zone, piece.from)?;
     if piece.to != piece.from {
         put(text, b" to ")?;
-        add_moment(text, piece.to)?;
+        add_moment(text, zone, piece.to)?;
     }
     put(text, b": ")?;
     add_said(text, piece.what)?;
@@ -105,18 +106,19 @@ fn add_name(text: &mut Vec<u8>, room: u64, stage: Stage) -> Result<(), AllocErro
 /// Adds bars, each from its place on, as wide as it lasts, and signs, each at its place, with the name of a stage.
 fn add_pieces(
     text: &mut Vec<u8>,
+    zone: Zone,
     frame: Frame,
     id: &[u8],
     pieces: &Pieces,
 ) -> Result<(), AllocError> {
     for bar in pieces.bars.as_slice() {
-        add_tip(text, id, bar)?;
+        add_tip(text, zone, id, bar)?;
         add_number(text, b"", frame.left(bar.from, bar.to), b"\" width=\"")?;
         add_number(text, b"", frame.width(bar.from, bar.to), b"\"/></g>\n")?;
     }
     for sign in pieces.signs.as_slice() {
         let position = frame.position(sign.from);
-        add_tip(text, id, sign)?;
+        add_tip(text, zone, id, sign)?;
         add_number(text, b"", position, b"\"/>")?;
         if let Drawn::Name(stage, to) = sign.what {
             add_number(text, NAME_AT, position, b"\">")?;
@@ -131,18 +133,19 @@ fn add_pieces(
 /// Adds a time of the axis, above or below the rows, and below it the seconds from the first time, or the day.
 fn add_axis_time(
     text: &mut Vec<u8>,
+    zone: Zone,
     frame: Frame,
     time: u64,
     above: &[u8],
     below: &[u8],
 ) -> Result<(), AllocError> {
     put(text, above)?;
-    add_hours(text, time)?;
+    add_hours(text, zone, time)?;
     put(text, below)?;
     if frame.span() < HOUR {
         add_number(text, b"+", time.saturating_sub(frame.start), b" s")?;
-    } else if frame.span() >= DAY && (YEAR..DATES_END).contains(&time) {
-        add_day(text, time)?;
+    } else if frame.span() >= DAY {
+        add_day(text, zone, time)?;
     }
     put(text, b"</text>")
 }
@@ -158,20 +161,25 @@ fn step_of(span: u64) -> u64 {
 }
 
 /// The time of a tick: below an hour they are counted from the first time, else they stand at whole steps of the day.
-fn tick_time(frame: Frame, number: u64) -> u64 {
+fn tick_time(zone: Zone, frame: Frame, number: u64) -> u64 {
     let step = step_of(frame.span());
+    let shown = local_seconds(zone, frame.start);
     let first = if frame.span() < HOUR {
-        frame.start
+        shown
     } else {
-        frame.start.div_ceil(step.max(1)).saturating_mul(step)
+        shown.div_ceil(step.max(1)).saturating_mul(step)
     };
-    first.saturating_add(number.saturating_mul(step))
+    let behind = first.saturating_sub(shown);
+    frame
+        .start
+        .saturating_add(behind)
+        .saturating_add(number.saturating_mul(step))
 }
 
 /// Adds the ticks that aren't behind the last time: a line down, and its time above the rows and below them.
-fn add_ticks(text: &mut Vec<u8>, frame: Frame) -> Result<(), AllocError> {
+fn add_ticks(text: &mut Vec<u8>, zone: Zone, frame: Frame) -> Result<(), AllocError> {
     for number in 0..TICKS {
-        let time = tick_time(frame, number);
+        let time = tick_time(zone, frame, number);
         if time <= frame.end {
             add_number(
                 text,
@@ -179,8 +187,8 @@ fn add_ticks(text: &mut Vec<u8>, frame: Frame) -> Result<(), AllocError> {
                 frame.position(time),
                 TICK,
             )?;
-            add_axis_time(text, frame, time, TOP_HOURS, TOP_SECONDS)?;
-            add_axis_time(text, frame, time, LOW_HOURS, LOW_SECONDS)?;
+            add_axis_time(text, zone, frame, time, TOP_HOURS, TOP_SECONDS)?;
+            add_axis_time(text, zone, frame, time, LOW_HOURS, LOW_SECONDS)?;
             put(text, b"</g>\n")?;
         }
     }
@@ -195,6 +203,7 @@ fn loud_if(loud: bool) -> &'static [u8] {
 /// Adds the row of an id at a place from above.
 fn add_row(
     text: &mut Vec<u8>,
+    zone: Zone,
     frame: Frame,
     top: u64,
     height: u64,
@@ -211,54 +220,66 @@ fn add_row(
         add_number(text, FAULTS, row.pieces.signs.len() as u64, b"")?;
     }
     put(text, b"</text>\n")?;
-    add_pieces(text, frame, row.id.as_bytes(), &row.pieces)?;
+    add_pieces(text, zone, frame, row.id.as_bytes(), &row.pieces)?;
     put(text, b"</svg>\n")
 }
 
 /// Adds what stands above the rows: the size, the colors, the times, how it all is at the end, and what the shapes mean.
-fn add_front(text: &mut Vec<u8>, timeline: &Timeline, bottom: u64) -> Result<(), AllocError> {
+fn add_front(
+    text: &mut Vec<u8>,
+    zone: Zone,
+    timeline: &Timeline,
+    drawn: usize,
+    bottom: u64,
+) -> Result<(), AllocError> {
     let rows = timeline.rows.as_slice();
     let height = bottom.saturating_add(MARGINS);
     let faulty = ill(rows);
     add_number(text, HEAD, height, b"\" viewBox=\"0 0 1130 ")?;
     add_number(text, b"", height, b"\">\n<title>init: ")?;
-    add_times(text, timeline)?;
+    add_times(text, zone, timeline, b" ")?;
     put(text, STYLE)?;
-    add_times(text, timeline)?;
+    add_times(text, zone, timeline, b" ")?;
     put(text, b"</text>\n<text x=\"80\" y=\"40\">")?;
     add_facts(text, timeline)?;
-    put(text, b"<tspan class=\"z")?;
+    put(text, b" <tspan class=\"z")?;
     put(text, loud_if(faulty > 0))?;
     add_number(text, b"", faulty, b" of ")?;
     add_number(text, b"", rows.len() as u64, LEGEND)?;
-    put(
-        text,
-        if rows.len() > MANY {
-            LOW_ROWS
-        } else {
-            TALL_ROWS
-        },
-    )?;
+    put(text, if drawn > MANY { LOW_ROWS } else { TALL_ROWS })?;
     add_number(text, b"", bottom, b"\">\n")
 }
 
-/// A timeline as an SVG document: its times, how it all is at the end and what the shapes mean; an axis of the times of day
+/// How many rows are drawn.
+fn drawn(which: WhichRows, rows: &[Row]) -> usize {
+    rows.iter().filter(|row| is_drawn(which, row)).count()
+}
+
+/// Rows of a timeline as an SVG document: its times, how it all is at the end and what the shapes mean; an axis of the times of day
 /// above the rows and below them; a row for the stages, and one for each id, with how it is at the end and how much went
 /// wrong. Lives are quiet; what went wrong is loud; each shape says by a tooltip what it is. The document is 1,130 wide, and
 /// its rows are 22 high each, or 12 where there are more than 60. A browser shows it by itself, on a light or a dark ground.
-pub(crate) fn add_svg(text: &mut Vec<u8>, timeline: &Timeline) -> Result<(), AllocError> {
+pub(crate) fn add_svg(
+    text: &mut Vec<u8>,
+    zone: Zone,
+    which: WhichRows,
+    timeline: &Timeline,
+) -> Result<(), AllocError> {
     let frame = timeline.frame(DRAWING);
     let rows = timeline.rows.as_slice();
-    let height = if rows.len() > MANY { LOW } else { TALL };
-    let bottom = LEVEL.saturating_add(height.saturating_mul(rows.len() as u64));
-    add_front(text, timeline, bottom)?;
-    add_ticks(text, frame)?;
+    let drawn = drawn(which, rows);
+    let height = if drawn > MANY { LOW } else { TALL };
+    let bottom = LEVEL.saturating_add(height.saturating_mul(drawn as u64));
+    add_front(text, zone, timeline, drawn, bottom)?;
+    add_ticks(text, zone, frame)?;
     put(text, AT_END)?;
-    add_pieces(text, frame, b"", &timeline.stages)?;
+    add_pieces(text, zone, frame, b"", &timeline.stages)?;
     let mut top = LEVEL;
     for row in rows {
-        add_row(text, frame, top, height, row)?;
-        top = top.saturating_add(height);
+        if is_drawn(which, row) {
+            add_row(text, zone, frame, top, height, row)?;
+            top = top.saturating_add(height);
+        }
     }
     put(text, b"</svg>\n</svg>\n")
 }

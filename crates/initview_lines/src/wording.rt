@@ -2,6 +2,7 @@
 
 use crate::changes::Change;
 use crate::chart::add_chart;
+use crate::clocks::Zone;
 use crate::happenings::News;
 use crate::json;
 use crate::lines::{FileLine, Head, IdRow, Line, Reason, RowFormat};
@@ -17,18 +18,18 @@ use std::alloc::{AllocError, Global};
 use trace_events::Handed;
 use trace_view::Why;
 
-/// Lines in words, one after another.
-pub fn words_of(alloc: Global, lines: &[Line]) -> Result<Vec<u8>, AllocError> {
+/// Lines in words, one after another. Times are in the zone, but for those of JSON, which are in UTC.
+pub fn words_of(alloc: Global, zone: Zone, lines: &[Line]) -> Result<Vec<u8>, AllocError> {
     let mut text = Vec::new(alloc);
     for line in lines {
-        add_line(&mut text, alloc, line)?;
+        add_line(&mut text, alloc, zone, line)?;
     }
     Ok(text)
 }
 
-fn add_line(text: &mut Vec<u8>, alloc: Global, line: &Line) -> Result<(), AllocError> {
+fn add_line(text: &mut Vec<u8>, alloc: Global, zone: Zone, line: &Line) -> Result<(), AllocError> {
     match line {
-        Line::Head(RowFormat::Lines, head) => add_head(text, head),
+        Line::Head(RowFormat::Lines, head) => add_head(text, zone, head),
         Line::Head(RowFormat::Json, head) => json::add_head(text, head),
         Line::Row(RowFormat::Lines, at) => add_row(text, at),
         Line::Row(RowFormat::Json, at) => json::add_row(text, at),
@@ -57,9 +58,11 @@ fn add_line(text: &mut Vec<u8>, alloc: Global, line: &Line) -> Result<(), AllocE
             add_file_line(text, alloc, told)?;
             put(text, b"\n")
         }
-        Line::Happened(time, news) => add_happened(text, *time, news),
-        Line::Chart(width, timeline) => add_chart(text, alloc, *width, timeline),
-        Line::Svg(timeline) => add_svg(text, timeline),
+        Line::Happened(time, news) => add_happened(text, zone, *time, news),
+        Line::Chart(width, which, timeline) => {
+            add_chart(text, alloc, zone, *width, *which, timeline)
+        }
+        Line::Svg(which, timeline) => add_svg(text, zone, *which, timeline),
         Line::Text(bytes) => put(text, bytes.as_slice()),
     }
 }
@@ -154,7 +157,7 @@ fn add_columns(text: &mut Vec<u8>, id: &Id, act: Option<Act>) -> Result<(), Allo
     )
 }
 
-fn add_head(text: &mut Vec<u8>, head: &Head) -> Result<(), AllocError> {
+fn add_head(text: &mut Vec<u8>, zone: Zone, head: &Head) -> Result<(), AllocError> {
     let settled: &[u8] = match (head.settled, head.complete) {
         (true, true) => b", settled",
         (true, false) => b", settled, not complete",
@@ -166,7 +169,7 @@ fn add_head(text: &mut Vec<u8>, head: &Head) -> Result<(), AllocError> {
         &[
             Value::Stage(head.stage),
             Value::Text(settled),
-            Value::Clock(head.time),
+            Value::Clock(zone, head.time),
             Value::Number(head.grace),
         ],
     )?;
@@ -505,8 +508,8 @@ fn add_reached(text: &mut Vec<u8>, level: Level, before: &Option<Id>) -> Result<
     )
 }
 
-fn add_happened(text: &mut Vec<u8>, time: u64, news: &News) -> Result<(), AllocError> {
-    fill(text, b"@ ", &[Value::Clock(time)])?;
+fn add_happened(text: &mut Vec<u8>, zone: Zone, time: u64, news: &News) -> Result<(), AllocError> {
+    fill(text, b"@ ", &[Value::Clock(zone, time)])?;
     add_news(text, news)?;
     put(text, b"\n")
 }

@@ -1,6 +1,7 @@
 //! Lines that are said to what tells them: each stands behind those before it.
 
-use initview_lines::{Line, SayFault, Says, text_line, words_of};
+use initview_lines::{Line, SayFault, Says, Zone, text_line, words_of};
+use jiff::Error;
 use std::alloc::{AllocError, Global};
 use std::test::Fail;
 
@@ -8,12 +9,13 @@ use std::test::Fail;
 #[derive(Drop)]
 struct Kept {
     lines: Vec<Line>,
+    is_local: bool,
 }
 
 impl Says for Kept {
-    ghost use Rattle.std.specs.Prelude.{Some};
+    ghost use Rattle.std.specs.Prelude.{Some, false};
 
-    ghost said = { λ kept. Some kept.lines.items };
+    ghost said = { λ kept. record { lines = Some kept.lines.items; unread = false; local = kept.is_local } };
 
     #[tactic(auto, using(initview_lines::proofs::SayingLemmas::front_none))]
     fn say(&mut self, _alloc: Global, mut lines: Vec<Line>) -> Result<(), SayFault> {
@@ -21,6 +23,16 @@ impl Says for Kept {
             Ok(()) => Ok(()),
             Err(_) => Err(SayFault::Memory),
         }
+    }
+
+    #[tactic(auto, using(initview_lines::proofs::SayingLemmas::says_nothing))]
+    fn is_unread(&mut self) -> bool {
+        false
+    }
+
+    fn use_local_times(&mut self) -> Result<(), Error> {
+        self.is_local = true;
+        Ok(())
     }
 }
 
@@ -34,9 +46,10 @@ fn lines_are_kept_in_their_order(rt: HostRuntime) -> Result<(), Fail> {
     let alloc = rt.alloc();
     let mut kept = Kept {
         lines: Vec::new(alloc),
+        is_local: false,
     };
     assert!(rt; say(alloc, &mut kept, "first\n")? && say(alloc, &mut kept, "second\n")?);
-    let words = words_of(alloc, &kept.lines)?;
+    let words = words_of(alloc, Zone::Utc, &kept.lines)?;
     assert_eq!(rt; words.as_slice(), b"first\nsecond\n".as_slice());
     Ok(())
 }

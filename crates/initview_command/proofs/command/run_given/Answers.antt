@@ -9,11 +9,12 @@ returns-in-Some-clause-ends g c =
     let growing_at = g.G.LiveTraces.text_at c.args.growing.now in
     let writers = g.G.LiveTraces.writer_at c.args.growing.now in
     let old = g.S.Says.said c.args.out.now in
-    let new = g.S.Says.said c.run_asked.new.out in
+    let new = g.S.Says.said c.run_timed.new.out in
     let rows = rows_of (found_of c.args.matches.now) in
     let words = map (λ word. word.now) c.args.words.now in
-    so_done text_at growing_at writers c.run_asked.result old new rows words _ _ _ c.in-Some.what (what_of rows words)
-    c.path_of-path.ensures c.files_of-files.ensures c.word_of-folder.ensures c.in-Some.ensures c.run_asked.ensures
+    so_done text_at growing_at writers c.run_timed.result old new rows words _ _ _ _ c.in-Some.what (what_of rows words)
+    c.path_of-path.ensures c.files_of-files.ensures c.word_of-folder.ensures c.is_set-is_local.ensures c.in-Some.ensures
+    c.run_timed.ensures
 
 pub returns-in-None-clause-ends : goal.returns-in-None-clause-ends
 returns-in-None-clause-ends g c =

@@ -4,8 +4,10 @@ use Rattle.initview_command.proofs.command.run_words.Goals as goal
 
 pub returns-then-is_version-clause-ends : goal.returns-then-is_version-clause-ends
 returns-then-is_version-clause-ends g c =
-    version_done _ _ _ _ _ _ (map string_bytes c.args.words.now) _ (sym c.is_version.ensures ∙ c.if-is_version.true)
-    c.say_version.ensures
+    version_done (g.T.Texts.text_at c.args.texts.now) (g.G.LiveTraces.text_at c.args.growing.now)
+    (g.G.LiveTraces.writer_at c.args.growing.now) c.say_version.result (g.S.Says.said c.args.out.now)
+    (g.S.Says.said c.say_version.new.out) (map string_bytes c.args.words.now) _
+    (sym c.is_version.ensures ∙ c.if-is_version.true) c.say_version.ensures
 
 pub returns-in-Ok-clause-ends : goal.returns-in-Ok-clause-ends
 returns-in-Ok-clause-ends g c =

@@ -1,4 +1,4 @@
-use Rattle.initview_command.proofs.Words.{inr, subst, Follows}
+use Rattle.initview_command.proofs.Words.{inl, inr, subst, Follows}
 use Rattle.initview_command.proofs.Followed.{none_part}
 use Rattle.initview_command.proofs.following.follow_file.Goals as goal
 
@@ -8,4 +8,4 @@ returns-in-Ok g c =
     (g.S.Says.said c.follow_text.new.out)) c.in-Ok.ensures c.follow_text.ensures
 
 pub returns-in-Err : goal.returns-in-Err
-returns-in-Err g c = inr (c.report_unread.ensures, none_part c.args.last _ (g.S.Says.said c.args.out.now))
+returns-in-Err g c = inr (inl c.report_unread.ensures, none_part c.args.last _ (g.S.Says.said c.args.out.now))

@@ -9,7 +9,8 @@ returns-in_err-taken-clause-err g c =
     on_err c.from_residual.result _ (λ start left has.
     let (text, consumed, small, written) = c.loop.invariant start left has in
     let few : c.loop.counter < PIECES_LIMIT = c.loop-test.true in
-    written_part start left c.loop.reader text _ (omega (arith, small, few)) (begins _ _ text consumed) written)
+    written_part start left c.loop.reader text (g.S.Says.said c.loop.out) (omega (arith, small, few))
+    (begins _ _ text consumed) written)
 
 pub returns-in_err-write_piece-clause-err : goal.returns-in_err-write_piece-clause-err
 returns-in_err-write_piece-clause-err g c =
@@ -21,7 +22,7 @@ returns-in_err-write_piece-clause-err g c =
     let bound : length (text ++ piece) ≤ there_limit + PIECE_LIMIT * (c.loop.counter + 1) =
     omega (arith, length-append text piece, small, short) in
     let joined = Consumes-trans _ _ _ _ _ consumed c.in_ok-taken.ensures.bytes.0 in
-    part_of start _ _ (text ++ piece) _ joined
+    part_of start _ _ (text ++ piece) (g.S.Says.said c.write_piece.new.out) joined
     (c.in_err-write_piece.ensures.err start text (omega (arith, bound, few)) written))
 
 pub returns-then-is_some-clause-ok : goal.returns-then-is_some-clause-ok
@@ -29,7 +30,8 @@ returns-then-is_some-clause-ok g c = λ start left has.
     let (text, consumed, small, written) = c.loop.invariant start left has in
     let few : c.loop.counter < PIECES_LIMIT = c.loop-test.true in
     let stopped : is_some c.end_of-end.result.0 ≡ true = sym c.is_some.ensures ∙ c.if-is_some.true in
-    all_stopped start left _ c.end_of-end.result.0 c.end_of-end.result.1 c.loop.reader text _ stopped consumed
+    all_stopped start left _ c.end_of-end.result.0 c.end_of-end.result.1 c.loop.reader text
+    (g.S.Says.said c.loop.out) stopped consumed
     (λ said so. c.end_of-end.ensures said text (omega (arith, small, few)) so) written
 
 pub loop-preserved : goal.loop-preserved
@@ -50,7 +52,8 @@ pub returns-clause-err : goal.returns-clause-err
 returns-clause-err g c = λ start left has.
     let (text, consumed, small, written) = c.loop.invariant start left has in
     let few : c.loop.counter ≤ PIECES_LIMIT = c.loop.auto.counter-end in
-    written_part start left c.loop.reader text _ (omega (arith, small, few)) (begins _ _ text consumed) written
+    written_part start left c.loop.reader text (g.S.Says.said c.loop.out) (omega (arith, small, few))
+    (begins _ _ text consumed) written
 
 pub returns-then-taken-eq0-clause-ok : goal.returns-then-taken-eq0-clause-ok
 returns-then-taken-eq0-clause-ok g c = λ start left has.
@@ -58,7 +61,8 @@ returns-then-taken-eq0-clause-ok g c = λ start left has.
     let few : c.loop.counter < PIECES_LIMIT = c.loop-test.true in
     let zero : c.in_ok-taken.taken ≡ 0 = first_of (search rules, grind (arith, common_steps)) in
     let room : 0 < length c.read.new.buf = first_of (search rules, grind (arith, common_steps)) in
-    all_read start left _ _ c.end_of-end.result.0 c.end_of-end.result.1 c.loop.reader text _ consumed
+    all_read start left _ _ c.end_of-end.result.0 c.end_of-end.result.1 c.loop.reader text
+    (g.S.Says.said c.loop.out) consumed
     (subst (λ n. Consumes (g.R.Read.remaining c.loop.from) (g.R.Read.remaining c.read.new.self) (take n c.read.new.buf))
     zero c.in_ok-taken.ensures.bytes.0)
     (c.in_ok-taken.ensures.bytes.1 zero room)

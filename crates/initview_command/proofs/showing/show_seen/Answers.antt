@@ -1,4 +1,4 @@
-use Rattle.initview_command.proofs.Words.{◌∙◌, inr, refl, sym, [], says_nothing}
+use Rattle.initview_command.proofs.Words.{◌∙◌, inl, inr, refl, sym, [], says_nothing}
 use Rattle.initview_command.proofs.Shown.{answered, refused, writes_as}
 use Rattle.initview_command.proofs.showing.show_seen.Goals as goal
 
@@ -19,7 +19,7 @@ returns-in-Err g c = λ past seen has.
     answered c.args.shown.now.stop _ c.report_memory.result (g.S.Says.said c.args.out.now)
     (g.S.Says.said c.args.out.now) (sym c.is_within.ensures ∙ c.if-is_within.false)
     (inr (
-      c.report_memory.ensures.status,
+      inl c.report_memory.ensures.status,
       (
         [],
         (g.Q.Query.gives c.args.asked c.args.shown.now.path.now c.args.shown.now.writer c.args.shown.now.stop past).0,

@@ -28,7 +28,7 @@ returns-in-Err g c =
       [],
       none_missing c.args.question,
       inr (
-        is.0,
+        inl is.0,
         ([], (answer_of c.args.question [] c.args.parts.now).0, refl, says_nothing (g.S.Says.said c.args.out.now)),
       ),
     ))
