@@ -240,6 +240,8 @@ impl<A: Allocator + Copy> Host for MemoryHost<A> {
 
     ghost failures = { λ (s : Script). s.faults };
 
+    ghost settings = { λ _. None };
+
     fn start<B: Allocator + Copy>(&mut self, _alloc: B, id: Id, command: &[u8]) -> Reply
         ensures first { result ≡ unwrap_or (first self.old.starts) (Reply.Now Answer.NotBorn) }
         ensures state { Becomes self.new (record self.old {

@@ -6,6 +6,7 @@ use Rattle.host_calls.specs.declared.calls.Reply.{Reply}
 use Rattle.host_calls.specs.declared.calls.Reply.TheVariants.{Now, Later}
 use Rattle.host_calls.specs.Calls.{HostCall}
 use Rattle.host_calls.specs.Held.{HeldChildren}
+use Rattle.host_calls.specs.Settings.{HostSettings}
 use Rattle.host_files.specs.Channels.{ChannelState}
 use Rattle.host_system.specs.Systems.{SystemCall}
 
@@ -23,6 +24,10 @@ pub record HostState : Type 0 where
   pub held : HeldChildren
   pub calls : List HostCall
   pub asked : List SystemCall
+
+-- what of it no call changes
+abbrev pub settings_of : HostState → HostSettings
+settings_of host = record { logs = host.logs; groups = host.groups; fresh = host.channel.fresh }
 
 -- the answers that there are to a start, to a look and to a signal
 abbrev pub is_start_answer : Answer → Bool

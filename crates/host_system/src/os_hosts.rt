@@ -328,13 +328,15 @@ impl<
     ghost use Rattle.host_calls.specs.Calls.{HasCause, front_read, is_failed_reply, parts_read, text_read};
     ghost use Rattle.host_calls.specs.Held.{Starts, Looks, Signals};
     ghost use Rattle.host_system.specs.Asking.{AsksLook, AsksSignal, AsksStart, OnNow, number_of};
-    ghost use Rattle.host_system.specs.Hosts.{HostState, is_start_answer, is_look_answer, is_signal_answer, answers_by};
+    ghost use Rattle.host_system.specs.Hosts.{HostState, settings_of, is_start_answer, is_look_answer, is_signal_answer, answers_by};
 
     ghost told = { λ (host : HostState). Some host.calls };
 
     ghost held = { λ (host : HostState). Some host.held };
 
     ghost failures = { λ (host : HostState). host.faults };
+
+    ghost settings = { λ (host : HostState). Some (settings_of host) };
 
     fn start<B: Allocator + Copy>(&mut self, alloc: B, id: Id, command: &[u8]) -> Reply
         ensures cause { HasCause self.old.faults self.new.faults (is_failed_reply result) }

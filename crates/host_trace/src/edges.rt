@@ -88,6 +88,7 @@ impl<H: Host, L: Log> Edge<H, L> {
         ensures adds { AddsStamped self.old.told self.new.told (Call.Start id command.now result)
             self.old.log }
         ensures log { self.new.log ≡ self.old.log }
+        ensures settings { H.settings self.new.host ≡ H.settings self.old.host }
     {
         let reply = self.host.start(alloc, id, command);
         self.told = and_call(&self.told, &self.host, &self.log);
@@ -98,6 +99,7 @@ impl<H: Host, L: Log> Edge<H, L> {
     pub fn look(&mut self, id: Id) -> Reply
         ensures adds { AddsStamped self.old.told self.new.told (Call.Look id result) self.old.log }
         ensures log { self.new.log ≡ self.old.log }
+        ensures settings { H.settings self.new.host ≡ H.settings self.old.host }
     {
         let reply = self.host.look(id);
         self.told = and_call(&self.told, &self.host, &self.log);
@@ -109,6 +111,7 @@ impl<H: Host, L: Log> Edge<H, L> {
         ensures adds { AddsStamped self.old.told self.new.told (Call.Signal id signal result)
             self.old.log }
         ensures log { self.new.log ≡ self.old.log }
+        ensures settings { H.settings self.new.host ≡ H.settings self.old.host }
     {
         let reply = self.host.signal(id, signal);
         self.told = and_call(&self.told, &self.host, &self.log);
@@ -119,6 +122,7 @@ impl<H: Host, L: Log> Edge<H, L> {
     pub fn late(&mut self) -> Option<(Id, Answer)>
         ensures adds { AddsStamped self.old.told self.new.told (Call.Late result) self.old.log }
         ensures log { self.new.log ≡ self.old.log }
+        ensures settings { H.settings self.new.host ≡ H.settings self.old.host }
     {
         let late = self.host.late();
         self.told = and_call(&self.told, &self.host, &self.log);
@@ -129,6 +133,7 @@ impl<H: Host, L: Log> Edge<H, L> {
     pub fn clock(&mut self) -> Result<u64, HostFault>
         ensures adds { AddsStamped self.old.told self.new.told (Call.Clock result) self.old.log }
         ensures log { self.new.log ≡ self.old.log }
+        ensures settings { H.settings self.new.host ≡ H.settings self.old.host }
     {
         let reading = self.host.clock();
         self.told = and_call(&self.told, &self.host, &self.log);
@@ -141,6 +146,7 @@ impl<H: Host, L: Log> Edge<H, L> {
         ensures adds { AddsStamped self.old.told self.new.told
             (Call.TakeBytes (length buffer.old) (front_read result buffer.new)) self.old.log }
         ensures log { self.new.log ≡ self.old.log }
+        ensures settings { H.settings self.new.host ≡ H.settings self.old.host }
     {
         let taken = self.host.take_bytes(buffer);
         self.told = and_call(&self.told, &self.host, &self.log);
@@ -155,6 +161,7 @@ impl<H: Host, L: Log> Edge<H, L> {
         ensures adds { AddsStamped self.old.told self.new.told
             (Call.ReadTables (parts_read (λ parts. parts.items) result)) self.old.log }
         ensures log { self.new.log ≡ self.old.log }
+        ensures settings { H.settings self.new.host ≡ H.settings self.old.host }
     {
         let parts = self.host.read_tables(alloc);
         self.told = and_call(&self.told, &self.host, &self.log);
@@ -170,6 +177,7 @@ impl<H: Host, L: Log> Edge<H, L> {
         ensures adds { AddsStamped self.old.told self.new.told
             (Call.Carry text.now (text_read (λ back. back.items) result)) self.old.log }
         ensures log { self.new.log ≡ self.old.log }
+        ensures settings { H.settings self.new.host ≡ H.settings self.old.host }
     {
         let back = self.host.carry(alloc, text);
         self.told = and_call(&self.told, &self.host, &self.log);
@@ -181,6 +189,7 @@ impl<H: Host, L: Log> Edge<H, L> {
         ensures adds { AddsStamped self.old.told self.new.told (Call.Announce happening.now)
             self.old.log }
         ensures log { self.new.log ≡ self.old.log }
+        ensures settings { H.settings self.new.host ≡ H.settings self.old.host }
     {
         self.host.announce(happening);
         self.told = and_call(&self.told, &self.host, &self.log);
@@ -190,6 +199,7 @@ impl<H: Host, L: Log> Edge<H, L> {
     pub fn pause(&mut self)
         ensures adds { AddsStamped self.old.told self.new.told Call.Pause self.old.log }
         ensures log { self.new.log ≡ self.old.log }
+        ensures settings { H.settings self.new.host ≡ H.settings self.old.host }
     {
         self.host.pause();
         self.told = and_call(&self.told, &self.host, &self.log);
@@ -200,6 +210,7 @@ impl<H: Host, L: Log> Edge<H, L> {
         ensures logs { (past : List Event)
             → Logs (L.state self.old.log) (L.state self.new.log) past (happening.now ∷ past) }
         ensures told { self.new.told ≡ self.old.told }
+        ensures host { self.new.host ≡ self.old.host }
         ensures grows { is_short happening.now ≡ true
             → Grows (L.state self.old.log) (L.state self.new.log) }
     {
@@ -214,6 +225,7 @@ impl<H: Host, L: Log> Edge<H, L> {
         ensures logs { (past : List Event)
             → Logs (L.state self.old.log) (L.state self.new.log) past (happening ∷ past) }
         ensures told { self.new.told ≡ self.old.told }
+        ensures host { self.new.host ≡ self.old.host }
         ensures grows { is_short happening ≡ true
             → Grows (L.state self.old.log) (L.state self.new.log) }
     {

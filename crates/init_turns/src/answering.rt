@@ -25,6 +25,7 @@ fn write_end<H: Host, L: Log>(
         → Logs (L.state edge.old.log) (L.state edge.new.log) past (acted id (Ended status) past) }
     ensures told { edge.new.told ≡ edge.old.told }
     ensures grows { Grows (L.state edge.old.log) (L.state edge.new.log) }
+    ensures settings { H.settings edge.new.host ≡ H.settings edge.old.host }
 {
     let Some(number) = number else {
         return;
@@ -45,6 +46,7 @@ fn write_act<H: Host, L: Log>(
         → Logs (L.state edge.old.log) (L.state edge.new.log) past (acted id answer past) }
     ensures told { edge.new.told ≡ edge.old.told }
     ensures grows { Grows (L.state edge.old.log) (L.state edge.new.log) }
+    ensures settings { H.settings edge.new.host ≡ H.settings edge.old.host }
 {
     match answer {
         Answer::Born(born) => edge.note(Happening::Birth(id, born)),
@@ -69,6 +71,7 @@ fn write_answer<H: Host, L: Log>(
         → Logs (L.state edge.old.log) (L.state edge.new.log) past (Told id ∷ acted id answer past) }
     ensures told { edge.new.told ≡ edge.old.told }
     ensures grows { Grows (L.state edge.old.log) (L.state edge.new.log) }
+    ensures settings { H.settings edge.new.host ≡ H.settings edge.old.host }
 {
     write_act(edge, id, answer, number);
     edge.note(Happening::Told(id));
@@ -104,6 +107,7 @@ pub(crate) fn hear_answer<A: Allocator, H: Host, L: Log>(
         (L.state edge.old.log) (L.state edge.new.log) (answered id answer) }
     ensures told { edge.new.told ≡ edge.old.told }
     ensures grows { GrowsBy core.old core.new (L.state edge.old.log) (L.state edge.new.log) }
+    ensures settings { H.settings edge.new.host ≡ H.settings edge.old.host }
 {
     let number = number_for(core, id, &answer);
     let heard = answer;
@@ -123,6 +127,7 @@ pub(crate) fn hear_reply<A: Allocator, H: Host, L: Log>(
         (L.state edge.old.log) (L.state edge.new.log) (replied id reply.now) }
     ensures told { edge.new.told ≡ edge.old.told }
     ensures grows { GrowsBy core.old core.new (L.state edge.old.log) (L.state edge.new.log) }
+    ensures settings { H.settings edge.new.host ≡ H.settings edge.old.host }
 {
     match *reply {
         Reply::Now(answer) => hear_answer(core, edge, id, answer),

@@ -20,6 +20,7 @@ pub(crate) fn hear_clock<A: Allocator, H: Host, L: Log>(core: &mut Core<A>, edge
     ensures makes { Makes L.state edge.old edge.new IsReading
         (Tracks core.old) (λ goal p. Tracks core.new goal p × Counted 0 goal p) }
     ensures grows { GrowsBy core.old core.new (L.state edge.old.log) (L.state edge.new.log) }
+    ensures settings { H.settings edge.new.host ≡ H.settings edge.old.host }
 {
     if let Ok(reading) = edge.clock() {
         core.clock(reading);
@@ -38,6 +39,7 @@ fn hear_request<A: Allocator, H: Host, L: Log>(
         (L.state edge.old.log) (L.state edge.new.log) (λ past. happening.Got request ∷ past) }
     ensures grows { IsTrue (is_request request)
         → GrowsBy core.old core.new (L.state edge.old.log) (L.state edge.new.log) }
+    ensures settings { H.settings edge.new.host ≡ H.settings edge.old.host }
 {
     core.receive(request);
     edge.note(Happening::Got(request));
@@ -59,6 +61,7 @@ fn hear_front<A: Allocator, H: Host, L: Log>(
         (TakeBytes room (Ok (take result bytes.now)) ∷ []) }
     ensures grows { GrowsReading core.old core.new blocks.old blocks.new
         (L.state edge.old.log) (L.state edge.new.log) }
+    ensures settings { H.settings edge.new.host ≡ H.settings edge.old.host }
 {
     let (count, request) = blocks.feed(bytes);
     if let Some(request) = request {
@@ -78,6 +81,7 @@ fn hear_bytes<A: Allocator, H: Host, L: Log>(
         (L.state edge.old.log) (L.state edge.new.log) (TakeBytes room (Ok bytes.now) ∷ []) }
     ensures grows { GrowsReading core.old core.new blocks.old blocks.new
         (L.state edge.old.log) (L.state edge.new.log) }
+    ensures settings { H.settings edge.new.host ≡ H.settings edge.old.host }
 {
     let mut rest = bytes;
     while !rest.is_empty() {
@@ -100,6 +104,7 @@ fn take_into<A: Allocator, H: Host, L: Log>(
         (IsTake taken result) (At core.old blocks.old) (At core.new blocks.new) }
     ensures grows { GrowsReading core.old core.new blocks.old blocks.new
         (L.state edge.old.log) (L.state edge.new.log) }
+    ensures settings { H.settings edge.new.host ≡ H.settings edge.old.host }
 {
     let Ok(count) = edge.take_bytes(buffer) else {
         return 0;
@@ -131,6 +136,7 @@ fn take_piece<A: Allocator, H: Host, L: Log>(
         (IsTake taken result) (At core.old blocks.old) (At core.new blocks.new) }
     ensures grows { GrowsReading core.old core.new blocks.old blocks.new
         (L.state edge.old.log) (L.state edge.new.log) }
+    ensures settings { H.settings edge.new.host ≡ H.settings edge.old.host }
 {
     let mut buffer = [0; PIECE];
     let room = room_for(taken);
@@ -147,6 +153,7 @@ pub(crate) fn hear_requests<A: Allocator, H: Host, L: Log>(
         (λ calls. are_takes calls ≡ true) (At core.old blocks.old) (At core.new blocks.new) }
     ensures grows { GrowsReading core.old core.new blocks.old blocks.new
         (L.state edge.old.log) (L.state edge.new.log) }
+    ensures settings { H.settings edge.new.host ≡ H.settings edge.old.host }
 {
     let mut taken = 0;
     while taken < BYTE_LIMIT {
@@ -163,6 +170,7 @@ fn begin_round<A: Allocator, H: Host, L: Log>(core: &mut Core<A>, edge: &mut Edg
         (L.state edge.old.log) (L.state edge.new.log) (λ past. happening.Nudge ∷ past) }
     ensures told { edge.new.told ≡ edge.old.told }
     ensures grows { GrowsBy core.old core.new (L.state edge.old.log) (L.state edge.new.log) }
+    ensures settings { H.settings edge.new.host ≡ H.settings edge.old.host }
 {
     core.begin_round();
     edge.note(Happening::Nudge);
@@ -177,6 +185,7 @@ fn hear_come<A: Allocator, H: Host, L: Log>(
         (L.state edge.old.log) (L.state edge.new.log) (come late.now) }
     ensures told { edge.new.told ≡ edge.old.told }
     ensures grows { GrowsBy core.old core.new (L.state edge.old.log) (L.state edge.new.log) }
+    ensures settings { H.settings edge.new.host ≡ H.settings edge.old.host }
 {
     if let Some(late) = late {
         hear_answer(core, edge, late.0, late.1);
@@ -203,6 +212,7 @@ fn hear_late<A: Allocator, H: Host, L: Log>(
         (IsLate asked result) (λ goal p. Tracks core.old goal p × Counted asked goal p)
         (λ goal p. Tracks core.new goal p × Counted (asked + 1) goal p) }
     ensures grows { GrowsBy core.old core.new (L.state edge.old.log) (L.state edge.new.log) }
+    ensures settings { H.settings edge.new.host ≡ H.settings edge.old.host }
 {
     let late = edge.late();
     let last = is_last(&late, asked);
@@ -219,6 +229,7 @@ pub(crate) fn hear_lates<A: Allocator, H: Host, L: Log>(core: &mut Core<A>, edge
         (λ calls. are_lates calls ≡ true)
         (λ goal p. Tracks core.old goal p × Counted 0 goal p) (Tracks core.new) }
     ensures grows { GrowsBy core.old core.new (L.state edge.old.log) (L.state edge.new.log) }
+    ensures settings { H.settings edge.new.host ≡ H.settings edge.old.host }
 {
     let mut asked = 0;
     while !hear_late(core, edge, asked) {

@@ -68,6 +68,7 @@ impl<A: Allocator + Copy> Opening<A> {
         ensures fewer { result.0.turns < turns → (drain ≡ true) × (result.0.drained ≡ true) }
         ensures drained { result.0.drained ≡ is_drained result.1.value }
         ensures logged { result.0.logged ≡ not (L.state edge.new.log).failed }
+        ensures settings { H.settings edge.new.host ≡ H.settings edge.old.host }
     {
         let Opening { mut core, told } = self;
         edge.write(&told);

@@ -34,6 +34,7 @@ fn start<A: Allocator + Copy, H: Host, L: Log>(
     ensures makes { Makes L.state edge.old edge.new
         IsStep (Gave (Tracks core.old) (step.Order id OrderKind.Start)) (Tracks core.new) }
     ensures grows { GrowsBy core.old core.new (L.state edge.old.log) (L.state edge.new.log) }
+    ensures settings { H.settings edge.new.host ≡ H.settings edge.old.host }
 {
     let Some(entry) = core.table().get(&id) else {
         unreachable!()
@@ -47,6 +48,7 @@ fn look<A: Allocator, H: Host, L: Log>(core: &mut Core<A>, edge: &mut Edge<H, L>
     ensures makes { Makes L.state edge.old edge.new
         IsStep (Gave (Tracks core.old) (step.Order id OrderKind.Look)) (Tracks core.new) }
     ensures grows { GrowsBy core.old core.new (L.state edge.old.log) (L.state edge.new.log) }
+    ensures settings { H.settings edge.new.host ≡ H.settings edge.old.host }
 {
     edge.note(Happening::Asked(id, OrderKind::Look));
     let reply = edge.look(id);
@@ -63,6 +65,7 @@ fn signal<A: Allocator, H: Host, L: Log>(
         IsStep (Gave (Tracks core.old) (step.Order id (order_for sent)))
         (Tracks core.new) }
     ensures grows { GrowsBy core.old core.new (L.state edge.old.log) (L.state edge.new.log) }
+    ensures settings { H.settings edge.new.host ≡ H.settings edge.old.host }
 {
     edge.note(Happening::Asked(id, order_for(&sent)));
     let reply = edge.signal(id, sent);
@@ -81,6 +84,7 @@ pub(crate) fn order<A: Allocator + Copy, H: Host, L: Log>(
     ensures makes { Makes L.state edge.old edge.new
         IsStep (Gave (Tracks core.old) (step.Order id ask.now)) (Tracks core.new) }
     ensures grows { GrowsBy core.old core.new (L.state edge.old.log) (L.state edge.new.log) }
+    ensures settings { H.settings edge.new.host ≡ H.settings edge.old.host }
 {
     match *ask {
         OrderKind::Start => start(alloc, core, edge, id),

@@ -80,6 +80,7 @@ fn carry<A: Allocator + Copy, H: Host, L: Log>(
         × ComesTo result text.now back core.old core.new }
     ensures short { has_short_seconds core.old ≡ true → has_short_seconds core.new ≡ true }
     ensures log { edge.new.log ≡ edge.old.log }
+    ensures settings { H.settings edge.new.host ≡ H.settings edge.old.host }
 {
     match edge.carry(alloc, text) {
         Ok(back) => take_back(alloc, core, text, &back),
@@ -94,6 +95,7 @@ fn tell<H: Host, L: Log>(edge: &mut Edge<H, L>, how: Handed)
         (happening.Handed how ∷ past) }
     ensures said { Saying how edge.old.told edge.new.told edge.new.log }
     ensures grows { Grows (L.state edge.old.log) (L.state edge.new.log) }
+    ensures settings { H.settings edge.new.host ≡ H.settings edge.old.host }
 {
     let handed: Happening = Happening::Handed(how);
     edge.write(&handed);
@@ -107,6 +109,7 @@ fn not_handed<A: Allocator, H: Host, L: Log>(core: &mut Core<A>, edge: &mut Edge
     ensures makes { Makes L.state edge.old edge.new
         IsStep (Gave (Tracks core.old) step.Reexec) (Tracks core.new) }
     ensures grows { GrowsBy core.old core.new (L.state edge.old.log) (L.state edge.new.log) }
+    ensures settings { H.settings edge.new.host ≡ H.settings edge.old.host }
 {
     core.not_handed();
     tell(edge, Handed::Failed);
@@ -121,6 +124,7 @@ pub(crate) fn reexec<A: Allocator + Copy, H: Host, L: Log>(
     ensures makes { Makes L.state edge.old edge.new
         IsStep (Gave (Tracks core.old) step.Reexec) (Tracks core.new) }
     ensures grows { GrowsBy core.old core.new (L.state edge.old.log) (L.state edge.new.log) }
+    ensures settings { H.settings edge.new.host ≡ H.settings edge.old.host }
 {
     let Ok(text) = hand_over(alloc, core) else {
         return not_handed(core, edge);

@@ -37,6 +37,7 @@ fn use_parts<A: Allocator + Copy, H: Host, L: Log>(
     ensures log { result ≡ false → edge.new.log ≡ edge.old.log }
     ensures told { edge.new.told ≡ edge.old.told }
     ensures grows { GrowsBy core.old core.new (L.state edge.old.log) (L.state edge.new.log) }
+    ensures settings { H.settings edge.new.host ≡ H.settings edge.old.host }
 {
     let Ok((table, faults)) = read_parts(alloc, parts) else {
         return false;
@@ -69,6 +70,7 @@ fn use_table<A: Allocator + Copy, H: Host, L: Log>(
     ensures core { result ≡ false → core.new ≡ core.old }
     ensures log { result ≡ false → edge.new.log ≡ edge.old.log }
     ensures grows { GrowsBy core.old core.new (L.state edge.old.log) (L.state edge.new.log) }
+    ensures settings { H.settings edge.new.host ≡ H.settings edge.old.host }
 {
     let Ok(parts) = edge.read_tables(alloc) else {
         return false;
@@ -87,6 +89,7 @@ pub(crate) fn reread<A: Allocator + Copy, H: Host, L: Log>(
     ensures makes { Makes L.state edge.old edge.new
         (IsReread strict) (Gave (Tracks core.old) step.Reread) (Tracks core.new) }
     ensures grows { GrowsBy core.old core.new (L.state edge.old.log) (L.state edge.new.log) }
+    ensures settings { H.settings edge.new.host ≡ H.settings edge.old.host }
 {
     if use_table(alloc, core, edge, strict) {
         return;

@@ -68,6 +68,7 @@ pub fn turn<A: Allocator + Copy, H: Host, L: Log>(
     // whatever is answered, the log only grows, and seconds of at most an hour stay so
     ensures grows { GrowsReading core.old core.new blocks.old blocks.new
         (L.state edge.old.log) (L.state edge.new.log) }
+    ensures settings { H.settings edge.new.host ≡ H.settings edge.old.host }
 {
     hear_clock(core, edge);
     hear_requests(core, edge, blocks);
@@ -125,6 +126,7 @@ pub fn serve<A: Allocator + Copy, H: Host, L: Log, W: TurnObserver<A>>(
     ensures logged { result.logged ≡ not (L.state edge.new.log).failed }
     // whatever is answered, the log only grows, and seconds of at most an hour stay so
     ensures grows { GrowsBy core.old core.new (L.state edge.old.log) (L.state edge.new.log) }
+    ensures settings { H.settings edge.new.host ≡ H.settings edge.old.host }
 {
     let mut blocks = Blocks::new();
     for made in 0..turns {

@@ -27,6 +27,7 @@ fn tell<H: Host, L: Log>(edge: &mut Edge<H, L>, happening: Happening)
         IsStep (Gave (Tracks core) made) (Tracks core) }
     ensures grows { is_short happening ≡ true
         → Grows (L.state edge.old.log) (L.state edge.new.log) }
+    ensures settings { H.settings edge.new.host ≡ H.settings edge.old.host }
 {
     edge.write(&happening);
     edge.announce(&happening);
@@ -46,6 +47,7 @@ fn carry_out<A: Allocator + Copy, H: Host, L: Log>(
         (Tracks core.new) }
     ensures grows { is_short_step step.now ≡ true
         → GrowsBy core.old core.new (L.state edge.old.log) (L.state edge.new.log) }
+    ensures settings { H.settings edge.new.host ≡ H.settings edge.old.host }
 {
     match *step {
         Step::Enter(stage, grace) => tell(edge, Happening::Enter(stage, grace)),
@@ -70,6 +72,7 @@ fn take_step<A: Allocator + Copy, H: Host, L: Log>(
     ensures makes { Makes L.state edge.old edge.new
         (IsStepUnless strict result) (Tracks core.old) (AndRests result (Tracks core.new)) }
     ensures grows { GrowsBy core.old core.new (L.state edge.old.log) (L.state edge.new.log) }
+    ensures settings { H.settings edge.new.host ≡ H.settings edge.old.host }
 {
     let step = core.next();
     carry_out(alloc, core, edge, &step, strict);
@@ -86,6 +89,7 @@ pub(crate) fn take_steps<A: Allocator + Copy, H: Host, L: Log>(
     ensures makes { Makes L.state edge.old edge.new
         (AreAllSteps strict result) (Tracks core.old) (AndRests result (Tracks core.new)) }
     ensures grows { GrowsBy core.old core.new (L.state edge.old.log) (L.state edge.new.log) }
+    ensures settings { H.settings edge.new.host ≡ H.settings edge.old.host }
 {
     for made in 0..STEP_LIMIT {
         if take_step(alloc, core, edge, strict) {

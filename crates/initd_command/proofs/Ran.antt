@@ -4,6 +4,7 @@ use Rattle.initd_command.proofs.Words.{Option, Some, None, ⊤, Entry, KnownText
 use Rattle.initd_command.proofs.Words.{Since, InitdSaid, judges, runs, simulates, version, RunSaid, IsOpeningOf}
 use Rattle.initd_command.proofs.Words.{OpeningState, Spoken, refused, turned, End, HasInittab, TakesParts, has_no_level}
 use Rattle.initd_command.proofs.Words.{table_in, told_of, AsksSaid, MakesLogged, MakesTraced, LogEnds, RanBy, RunTold}
+use Rattle.initd_command.proofs.Words.{HasSettings, HostSettings}
 use Rattle.std.proofs.Common.{true≢false, ◌∙◌}
 use Rattle.std.proofs.lemmas.Option.{none-some}
 use Rattle.std.specs.Prelude.{IfSome}
@@ -91,8 +92,8 @@ module _ {L fresh : Type 0} (state : L → LogState) (has_ended : Bool → List 
       (made_now calls made, λ _. refl, λ some. absurd (true≢false (sym some ∙ none)))
 
 -- what a run makes over each table that its opening is of, it makes over the inittab at its paths
-pub ran_to : (text_at : KnownTexts) (service : RunSaid) (own : Type 0) (opening : OpeningState) (spoken : Spoken)
-    (end : End) (bytes : List ℕ) (old new : RunTold)
+pub ran_to : (text_at : KnownTexts) (service : RunSaid) (own : Option HostSettings → Type 0)
+    (opening : OpeningState) (spoken : Spoken) (end : End) (bytes : List ℕ) (old new : RunTold)
     → HasInittab text_at service (λ parts. TakesParts service parts
     × (spoken.unled ≡ has_no_level service.level (table_in parts)) × IsOpeningOf service.level (table_in parts) opening
     × EndsTold service (told_of parts) spoken.told end old.out new.out)
@@ -100,13 +101,15 @@ pub ran_to : (text_at : KnownTexts) (service : RunSaid) (own : Type 0) (opening 
     → new.trace ≡ old.trace ++ bytes
     → ((table : List Entry) → IsOpeningOf service.level table opening
     → Since old.calls new.calls (MakesTraced service table end bytes))
-    → own → RanBy text_at service own (turned spoken end) old new
+    → (known : Option HostSettings) × HasSettings service known × own known
+    → RanBy text_at service own (turned spoken end) old new
 ran_to text_at service own opening spoken end bytes old new (parts, are, read, (taken, led, opens, (served, told)))
-    by grown made is =
-    ((parts, are, read, (taken, led, bytes, grown, made (table_in parts) opens, told)), by, is)
+    by grown made (known, has, is) =
+    ((parts, are, read, (taken, led, bytes, grown, made (table_in parts) opens, told)), by, known, has, is)
 
 -- where memory ran out nothing is asked, whatever the arguments say
-pub none_asked : (text_at : KnownTexts) (options : Option InitdSaid) (own : Type 0) (now : RunTold)
+pub none_asked : (text_at : KnownTexts) (options : Option InitdSaid) (own : Option HostSettings → Type 0)
+    (now : RunTold)
     → AsksSaid text_at options own (refused Memory) now now
 none_asked text_at None own now = (refl, refl)
 none_asked text_at (Some version) own now = (refl, refl)

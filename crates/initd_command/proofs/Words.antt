@@ -32,7 +32,8 @@ pub use Rattle.host_calls.specs.Record.{Since}
 pub use Rattle.initd_options.specs.CommandLine.{InitdSaid, judges, runs, simulates, version, CheckSaid, check_of}
 pub use Rattle.initd_options.specs.CommandLine.{initd_read_of, simulation_of}
 pub use Rattle.initd_command.specs.Turned.{End, ReportsText, listed_after}
-pub use Rattle.initd_command.specs.Ran.{AsksSaid, MakesLogged, MakesTraced, RanBy, RunTold, AsksBy}
+pub use Rattle.host_calls.specs.Settings.{HostSettings}
+pub use Rattle.initd_command.specs.Ran.{AsksSaid, MakesLogged, MakesTraced, RanBy, RunTold, AsksBy, HasSettings}
 pub use Rattle.program_io.specs.Reports.{HasReported, ReportList}
 pub use Rattle.program_io.specs.Writing.{AppendsPrefix}
 pub use Rattle.initd_command.specs.Verdicts.{cut_at, within_of, breach_message, unlawful_text, EndsFound, judged_of}

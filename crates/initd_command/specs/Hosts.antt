@@ -1,6 +1,7 @@
 -- Which host the words of a run name, and what is known of the hosts over the operating system.
-use Rattle.std.specs.Prelude.{List, [], Option, ℕ, Bool}
+use Rattle.std.specs.Prelude.{List, [], Option, Some, None, ℕ}
 use Rattle.host_calls.specs.Held.{HeldChildren}
+use Rattle.host_calls.specs.Settings.{HostSettings}
 use Rattle.host_files.specs.Channels.{ChannelCall}
 use Rattle.host_system.specs.Asking.{AreAsked}
 use Rattle.host_system.specs.Hearing.{IsHeard}
@@ -31,13 +32,14 @@ pub record HostsState : Type 0 where
   pub asked : List SystemCall
   pub heard : List ChannelCall
 
--- The calls are those of a host that held no child before them, has its logs, if any, in one folder, and all its
--- children in groups, or none; and for them, in their order, behind helpers alone, the system was asked just this. The
--- bytes that they took are those that were read of the channel's file, each once and in order, but for those of the
--- last request that are still to come; and each request was read whole, where the one before it ended.
-abbrev pub IsOfSystem : HostsState → Type 0
-IsOfSystem hosts =
-    ((logs : Option (List ℕ)) × (groups : Bool) × (held : HeldChildren)
-    × AreAsked logs groups hosts.calls held hosts.asked)
-    × ((fresh : Bool) × (rest : List ℕ)
-    × IsHeard hosts.calls (record { fresh = fresh; told = hosts.heard; rest = rest }))
+-- The calls are those of a host that held no child before them, of these settings, which are known: its logs are in
+-- that folder, if any, and its children in groups or not. For them, in their order, behind helpers alone, the system
+-- was asked just this. The bytes that they took are those that were read of the channel's file, each once and in order,
+-- but for those of the last request that are still to come; and each request was read whole, where the one before it
+-- ended.
+abbrev pub IsOfSystem : HostsState → Option HostSettings → Type 0
+IsOfSystem hosts None = ⊥
+IsOfSystem hosts (Some settings) =
+    ((held : HeldChildren) × AreAsked settings.logs settings.groups hosts.calls held hosts.asked)
+    × ((rest : List ℕ)
+    × IsHeard hosts.calls (record { fresh = settings.fresh; told = hosts.heard; rest = rest }))

@@ -1,8 +1,10 @@
 -- Which calls a run of init makes of its host.
 use Rattle.std.specs.Prelude.{◌≡◌, ℕ, Bool, true, false, List, [], ◌∷◌, ◌++◌, reverse, Option, Some, None, is_some, ⊤}
+use Rattle.std.specs.Prelude.{IfSome}
 use Rattle.initd_command.specs.Words.{Entry, KnownTexts, InitdSaid, initd_read_of, runs, RunSaid, Event, LogState}
 use Rattle.initd_command.specs.Words.{HostCall, Since, UpTo, WentWell, Level, CoreState, opening_goal, is_drained}
 use Rattle.initd_command.specs.Words.{FitsAll, ServesTurns, IsOpening, Served}
+use Rattle.host_calls.specs.Settings.{HostSettings}
 use Rattle.host_trace.specs.Edges.{HadAll}
 use Rattle.host_trace.specs.Fronts.{EachFront}
 use Rattle.trace_files.specs.Filed.{KnowsEnd}
@@ -63,28 +65,39 @@ pub record RunTold : Type 0 where
   pub trace : List ℕ
   pub out : Option (List ℕ)
 
+-- the settings of a host that arguments of a run name
+abbrev pub settings_said : RunSaid → HostSettings
+settings_said service = record { logs = service.logs; groups = service.groups; fresh = service.fresh }
+
+-- where they are known, they are these
+abbrev pub HasSettings : RunSaid → Option HostSettings → Type 0
+HasSettings service known = IfSome known (λ settings. settings ≡ settings_said service)
+
 -- no host was asked anything, and no file of a trace took a byte
 abbrev pub AsksNothing : RunTold → RunTold → Type 0
 AsksNothing old new = (new.calls ≡ old.calls) × (new.trace ≡ old.trace)
 
 -- A run that comes to its turns makes them over the inittab at its paths, which it takes, whose faults it tells, and of
--- which it says whether it names the level, by a host that is opened by its arguments, of which `own` is so then. The
--- files of its trace take the text of that, behind what was told before. Any other asks nothing of a host, and writes
--- no trace.
-abbrev pub RanBy : KnownTexts → RunSaid → Type 0 → Ending → RunTold → RunTold → Type 0
+-- which it says whether it names the level, by a host that is opened by its arguments, of which `own` is so then, with
+-- the settings that they say. The files of its trace take the text of that, behind what was told before. Any other asks
+-- nothing of a host, and writes no trace.
+abbrev pub RanBy : KnownTexts → RunSaid → (Option HostSettings → Type 0) → Ending → RunTold → RunTold → Type 0
 RanBy text_at service own (turned spoken end) old new =
     HasInittab text_at service (λ parts. TakesParts service parts
     × (spoken.unled ≡ has_no_level service.level (table_in parts))
     × (bytes : List ℕ) × (new.trace ≡ old.trace ++ bytes)
     × Since old.calls new.calls (MakesTraced service (table_in parts) end bytes)
     × Writes spoken.told (told_of parts) old.out new.out)
-    × Since old.opened new.opened (λ saids. saids ≡ service ∷ []) × own
+    × Since old.opened new.opened (λ saids. saids ≡ service ∷ [])
+    × (known : Option HostSettings) × HasSettings service known × own known
 RanBy text_at service own _ old new = AsksNothing old new
 
 -- what arguments ask of hosts, and write of a trace: those of a run what the run does, any others nothing
-abbrev pub AsksSaid : KnownTexts → Option InitdSaid → Type 0 → Ending → RunTold → RunTold → Type 0
+abbrev pub AsksSaid : KnownTexts → Option InitdSaid → (Option HostSettings → Type 0) → Ending → RunTold → RunTold
+    → Type 0
 AsksSaid text_at (Some (runs service)) own ending old new = RanBy text_at service own ending old new
 AsksSaid text_at _ own ending old new = AsksNothing old new
 
-abbrev pub AsksBy : KnownTexts → List (List ℕ) → Type 0 → Ending → RunTold → RunTold → Type 0
+abbrev pub AsksBy : KnownTexts → List (List ℕ) → (Option HostSettings → Type 0) → Ending → RunTold → RunTold
+    → Type 0
 AsksBy text_at words own ending old new = AsksSaid text_at (initd_read_of words) own ending old new

@@ -1,6 +1,8 @@
 //! Where the host of a run comes from.
 
 ghost use Rattle.std.specs.Prelude.{◌≡◌, ◌∷◌, [], List, Option, IfOk, OnErr, OnOk};
+ghost use Rattle.host_calls.specs.Settings.{HostSettings};
+ghost use Rattle.initd_command.specs.Ran.{HasSettings};
 ghost use Rattle.initd_command.specs.Words.{HostCall, Since, RunSaid, run_of};
 
 use host_calls::Host;
@@ -20,12 +22,15 @@ pub trait Hosts<H: Host> {
     /// The arguments by which its hosts were opened, the newest first. None from the first opening that isn't told.
     ghost opened: { Self → Option (List RunSaid) };
 
-    /// What is so of the calls that its hosts were asked, and of what these asked the system for them.
-    ghost own: { Self → Type 0 };
+    /// What is so of the calls that its hosts were asked, of these settings where they are known, and of what these asked
+    /// the system for them.
+    ghost own: { Self → Option HostSettings → Type 0 };
 
     /// The host that the arguments of a run name, under the lock of its channel. It tells what was told before.
     fn open(&mut self, alloc: Global, options: &RunWords, lock: ChannelLock) -> Result<H, Memory>
         ensures told { IfOk result (λ host. H.told host ≡ told self.old) }
+        ensures settings { IfOk result (λ host.
+            HasSettings (run_of options.now) (H.settings host)) }
         // it tells that it was opened by these arguments, or tells none from here on
         ensures opened { OnOk result (Since (opened self.old) (opened self.new)
             (λ saids. saids ≡ run_of options.now ∷ [])) }
@@ -33,8 +38,8 @@ pub trait Hosts<H: Host> {
 
     /// Takes a host back. Gives whether all could be printed that it was to print.
     fn close(&mut self, host: H) -> bool
-        // it tells what the host told, and what is so of its hosts is so
+        // it tells what the host told, and what is so of hosts with the settings of this one is so
         ensures told { told self.new ≡ H.told host }
         ensures opened { opened self.new ≡ opened self.old }
-        ensures own { own self.new };
+        ensures own { own self.new (H.settings host) };
 }

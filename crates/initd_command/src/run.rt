@@ -3,7 +3,7 @@
 ghost use Rattle.std.specs.Prelude.{not, ◌≡◌, ◌≢◌, ◌∷◌, ◌++◌, ◌&&◌, if◌then◌else◌, ℕ, true, List, None, Some, [], is_some, option_map, unwrap_or, IfErr, IfOk, IfSome, OnErr, OnOk};
 ghost use Rattle.initd_command.specs.Words.{KnownTexts, NamedText, Entry, Since, IsOpeningOf, RunSaid, run_of};
 ghost use Rattle.initd_command.specs.Endings.{Ending, Reports, ReportsObstacle, Spoken, obstacle_status, status_of, turned};
-ghost use Rattle.initd_command.specs.Ran.{MakesLogged, MakesTraced, RanBy};
+ghost use Rattle.initd_command.specs.Ran.{HasSettings, MakesLogged, MakesTraced, RanBy};
 ghost use Rattle.initd_command.specs.Turned.{End, ReportsEnd, end_status};
 ghost use Rattle.initd_command.specs.Services.{AreApart, AreFiles, EndsRun, EndsServed, EndsTold, HasInittab, IsInWay, IsInittab, IsReadOf, StandBy, TakesParts, is_taken, has_no_level, own_paths, table_in, told_of};
 
@@ -170,6 +170,8 @@ where
         × IsOpeningOf options.now.level (table_in parts) run.opening)) }
     ensures apart { OnOk result (AreApart (own_paths (run_of options.now))) }
     ensures host { IfOk result (λ run. H.told run.host ≡ S.told hosts.old) }
+    ensures settings { IfOk result (λ run.
+        HasSettings (run_of options.now) (H.settings run.host)) }
     ensures opened { OnOk result (Since (S.opened hosts.old) (S.opened hosts.new)
         (λ saids. saids ≡ run_of options.now ∷ [])) }
     ensures trace { IfOk result (λ run.
@@ -209,6 +211,7 @@ fn open_host<R: Files<File = File> + Alloc, H: Host + Drop, S: Hosts<H>>(
     options: &RunWords,
 ) -> Result<H, Obstacle>
     ensures host { IfOk result (λ host. H.told host ≡ S.told hosts.old) }
+    ensures settings { IfOk result (λ host. HasSettings (run_of options.now) (H.settings host)) }
     ensures opened { OnOk result (Since (S.opened hosts.old) (S.opened hosts.new)
         (λ saids. saids ≡ run_of options.now ∷ [])) }
     ensures unasked { OnErr result (S.told hosts.new ≡ S.told hosts.old) }
@@ -483,7 +486,7 @@ where
         × ((table : List Entry) → IsOpeningOf (run_of options.now).level table run.opening
         → Since (H.told run.host) (S.told hosts.new)
         (MakesTraced (run_of options.now) table end bytes)) }
-    ensures own { S.own hosts.new }
+    ensures own { S.own hosts.new (H.settings run.host) }
     ensures opened { S.opened hosts.new ≡ S.opened hosts.old }
 {
     let Run {
@@ -557,12 +560,13 @@ fn make_traced<R: Files + Eprint, H: Host, F: Traces, E: Reporter>(
     err: &mut E,
 ) -> (u8, H)
     requires { is_some trace ≡ is_some (run_of options.now).trace }
-    ensures { (end : End) × (result.0 ≡ end_status end) × EndsServed (run_of options.now) end
+    ensures ended { (end : End) × (result.0 ≡ end_status end) × EndsServed (run_of options.now) end
         × ReportsEnd end (E.reports err.old) (E.reports err.new)
         × (bytes : List ℕ) × (F.told traces.new ≡ F.told traces.old ++ bytes)
         × ((table : List Entry) → IsOpeningOf (run_of options.now).level table opening
         → Since (H.told host) (H.told result.1)
         (MakesTraced (run_of options.now) table end bytes)) }
+    ensures settings { H.settings result.1 ≡ H.settings host }
 {
     let Some(file) = trace else {
         let (status, host, ()) = make_turns(rt, alloc, options, opening, host, NoLog {}, err);
@@ -586,12 +590,13 @@ fn make_over<R: Files + Eprint, H: Host, S: TraceFiles, E: Reporter>(
 ) -> (u8, H, S)
     requires trace { is_some (run_of options.now).trace ≡ true }
     requires nothing { S.contents files ≡ Some [] }
-    ensures { (end : End) × (result.0 ≡ end_status end) × EndsServed (run_of options.now) end
+    ensures ended { (end : End) × (result.0 ≡ end_status end) × EndsServed (run_of options.now) end
         × ReportsEnd end (E.reports err.old) (E.reports err.new)
         × ((bytes : List ℕ) → IfSome (S.contents result.2) (λ taken. taken ≡ bytes)
         → (table : List Entry) → IsOpeningOf (run_of options.now).level table opening
         → Since (H.told host) (H.told result.1)
         (MakesTraced (run_of options.now) table end bytes)) }
+    ensures settings { H.settings result.1 ≡ H.settings host }
 {
     let log = FileLog::new(rt, alloc, trace_of(options), files, options.trace_size);
     if options.brief {
@@ -616,11 +621,12 @@ pub fn make_turns<R: Files + Eprint, H: Host, L: EndedLog, E: Reporter>(
     // the exit status and what is reported are those of an end of turns; over the table of the opening the calls made are
     // those of init's turns, which ended so; and if the log was fresh, so has it, and when each call was made, it had
     // taken the whole trace until then, or had failed
-    ensures { (end : End) × (result.0 ≡ end_status end) × EndsServed (run_of options.now) end
+    ensures ended { (end : End) × (result.0 ≡ end_status end) × EndsServed (run_of options.now) end
         × ReportsEnd end (E.reports err.old) (E.reports err.new)
         × ((table : List Entry) → IsOpeningOf (run_of options.now).level table opening
         → Since (H.told host) (H.told result.1) (MakesLogged L.state ((L.state log).taken [])
         (L.has_ended result.2) (run_of options.now) table end)) }
+    ensures settings { H.settings result.1 ≡ H.settings host }
 {
     let watched = NotingLog::new(rt, alloc, log, options.result, options.judge);
     let mut edge = Edge::new(host, watched);

@@ -30,7 +30,7 @@ impl Hosts<MemoryHost> for OneHost {
 
     ghost opened = { λ _. None };
 
-    ghost own = { λ _. ⊤ };
+    ghost own = { λ _ _. ⊤ };
 
     fn open(
         &mut self,

@@ -12,11 +12,12 @@ loop-rest-init g c = (
   refl,
   (λ room. Leads-no_bytes (At c.args.core.now c.args.blocks.now) (g.L.Log.state c.args.edge.now.log) room),
   GrowsReading-none c.args.core.now c.args.blocks.now (g.L.Log.state c.args.edge.now.log),
+  refl,
 )
 
 pub loop-rest-preserved : goal.loop-rest-preserved
 loop-rest-preserved g c =
-    let (part, whole, told, leads, grows) = c.loop-rest.invariant in
+    let (part, whole, told, leads, grows, same) = c.loop-rest.invariant in
     let front = take c.hear_front-count.result c.loop-rest.rest.now in
     let rest = drop c.hear_front-count.result c.loop-rest.rest.now in
     let joined : (part ++ front) ++ rest ≡ c.args.bytes.now = append_assoc part front rest
@@ -33,6 +34,7 @@ loop-rest-preserved g c =
           c.loop-rest.blocks c.hear_front-count.new.blocks
           (g.L.Log.state c.args.edge.now.log) (g.L.Log.state c.loop-rest.edge.log)
           (g.L.Log.state c.hear_front-count.new.edge.log) grows c.hear_front-count.ensures.grows,
+      c.hear_front-count.ensures.settings ∙ same,
     )
 
 pub returns-clause-told : goal.returns-clause-told
@@ -40,7 +42,7 @@ returns-clause-told g c = c.loop-rest.invariant.2
 
 pub returns-clause-leads : goal.returns-clause-leads
 returns-clause-leads g c =
-    let (part, whole, told, leads, grows) = c.loop-rest.invariant in
+    let (part, whole, told, leads, grows, same) = c.loop-rest.invariant in
     let none : c.loop-rest.rest.now ≡ [] = search (rules, nil_from_length) in
     let all : part ≡ c.args.bytes.now = sym (append-nil part) ∙ ap (λ l. part ++ l) (sym none) ∙ whole in
     λ room. subst (λ l. Leads (At c.args.core.now c.args.blocks.now) (At c.loop-rest.core c.loop-rest.blocks)
@@ -49,3 +51,6 @@ returns-clause-leads g c =
 
 pub returns-clause-grows : goal.returns-clause-grows
 returns-clause-grows g c = c.loop-rest.invariant.4
+
+pub returns-clause-settings : goal.returns-clause-settings
+returns-clause-settings g c = c.loop-rest.invariant.5

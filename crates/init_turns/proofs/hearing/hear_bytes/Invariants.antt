@@ -9,6 +9,7 @@ invariant-loop-rest g l = (part : List ℕ) × (part ++ l.rest ≡ l.bytes)
     × ((room : ℕ) → Leads (At l.fn.core l.fn.blocks) (At l.core l.blocks) (g.L.Log.state l.fn.edge.log)
     (g.L.Log.state l.edge.log) (TakeBytes room (Ok part) ∷ []))
     × GrowsReading l.fn.core l.core l.fn.blocks l.blocks (g.L.Log.state l.fn.edge.log) (g.L.Log.state l.edge.log)
+    × (g.H.Host.settings l.edge.host ≡ g.H.Host.settings l.fn.edge.host)
 
 abbrev pub decreases-loop-rest : goal.decreases-loop-rest
 decreases-loop-rest g l = length l.rest

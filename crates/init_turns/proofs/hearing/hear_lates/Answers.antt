@@ -1,5 +1,5 @@
-use Rattle.init_turns.proofs.Words.{rules, ◌≡◌, ◌+◌, refl, subst, List, true, false, arith, Goal, HostCall, Counted}
-use Rattle.init_turns.proofs.Words.{Tracks, Point, are_lates, Leads-weaken, IsLate, MakesOver, GrowsBy-none}
+use Rattle.init_turns.proofs.Words.{rules, ◌≡◌, ◌∙◌, ◌+◌, refl, subst, List, true, false, arith, Goal, HostCall}
+use Rattle.init_turns.proofs.Words.{Counted, Tracks, Point, are_lates, Leads-weaken, IsLate, MakesOver, GrowsBy-none}
 use Rattle.init_turns.proofs.Words.{GrowsBy-then}
 use Rattle.init_turns.proofs.Parts.{Makes-map, Makes-none, Makes-then}
 use Rattle.init_turns.proofs.Taken.{HaveCome, come_end, come_more}
@@ -11,11 +11,12 @@ loop-asked-init g c = (
   Makes-none g.L.Log.state _ (g.L.Log.state c.args.edge.now.log) (HaveCome 0)
       (λ goal p. Tracks c.args.core.now goal p × Counted 0 goal p) (record { all = refl; counted = refl }),
   GrowsBy-none c.args.core.now (g.L.Log.state c.args.edge.now.log),
+  refl,
 )
 
 pub loop-asked-preserved : goal.loop-asked-preserved
 loop-asked-preserved g c =
-    let (within, makes, grows) = c.loop-asked.invariant in
+    let (within, makes, grows, same) = c.loop-asked.invariant in
     let asked = c.loop-asked.asked in
     let more : c.hear_late.result ≡ false = search rules in
     let f₀ : Goal → Point → Type 0 = λ goal p. Tracks c.args.core.now goal p × Counted 0 goal p in
@@ -33,11 +34,12 @@ loop-asked-preserved g c =
       GrowsBy-then c.args.core.now c.loop-asked.core c.hear_late.new.core (g.L.Log.state c.args.edge.now.log)
           (g.L.Log.state c.loop-asked.edge.log)
           (g.L.Log.state c.hear_late.new.edge.log) grows c.hear_late.ensures.grows,
+      c.hear_late.ensures.settings ∙ same,
     )
 
 pub returns-clause-makes : goal.returns-clause-makes
 returns-clause-makes g c =
-    let (within, makes, grows) = c.loop-asked.invariant in
+    let (within, makes, grows, same) = c.loop-asked.invariant in
     let asked = c.loop-asked.asked in
     let last : c.hear_late.result ≡ true = search rules in
     let f₀ : Goal → Point → Type 0 = λ goal p. Tracks c.args.core.now goal p × Counted 0 goal p in

@@ -1,4 +1,4 @@
-use Rattle.init_turns.proofs.Words.{◌<◌, ◌-◌, LATE_LIMIT, Counted, Tracks, MakesOver, GrowsBy}
+use Rattle.init_turns.proofs.Words.{◌≡◌, ◌<◌, ◌-◌, LATE_LIMIT, Counted, Tracks, MakesOver, GrowsBy}
 use Rattle.init_turns.proofs.Taken.{HaveCome}
 use Rattle.init_turns.proofs.hearing.hear_lates.Given as goal
 
@@ -9,6 +9,7 @@ invariant-loop-asked g l = (l.asked < LATE_LIMIT)
     (HaveCome l.asked) (λ goal p. Tracks l.fn.core goal p × Counted 0 goal p)
     (λ goal p. Tracks l.core goal p × Counted l.asked goal p)
     × GrowsBy l.fn.core l.core (g.L.Log.state l.fn.edge.log) (g.L.Log.state l.edge.log)
+    × (g.H.Host.settings l.edge.host ≡ g.H.Host.settings l.fn.edge.host)
 
 abbrev pub decreases-loop-asked : goal.decreases-loop-asked
 decreases-loop-asked g l = LATE_LIMIT - l.asked

@@ -1,4 +1,4 @@
-use Rattle.init_turns.proofs.Words.{rules, ◌≡◌, ◌+◌, ◌<◌, refl, subst, true, arith, are_takes, BYTE_LIMIT, IsTake}
+use Rattle.init_turns.proofs.Words.{rules, ◌≡◌, ◌∙◌, ◌+◌, ◌<◌, refl, subst, true, arith, are_takes, BYTE_LIMIT, IsTake}
 use Rattle.init_turns.proofs.Words.{MakesOver, GrowsReading-none, GrowsReading-then}
 use Rattle.host_trace.specs.Leads.{At}
 use Rattle.init_turns.proofs.Parts.{Makes-map, Makes-none, Makes-then}
@@ -11,6 +11,7 @@ loop-taken-init g c = (
   Makes-none g.L.Log.state _ (g.L.Log.state c.args.edge.now.log) (HaveTaken 0) (At c.args.core.now c.args.blocks.now)
       (record { full = refl; taken = refl }),
   GrowsReading-none c.args.core.now c.args.blocks.now (g.L.Log.state c.args.edge.now.log),
+  refl,
 )
 
 pub returns-then-count-eq0-clause-makes : goal.returns-then-count-eq0-clause-makes
@@ -50,11 +51,12 @@ loop-taken-preserved g c =
           c.loop-taken.blocks c.take_piece-count.new.blocks
           (g.L.Log.state c.args.edge.now.log) (g.L.Log.state c.loop-taken.edge.log)
           (g.L.Log.state c.take_piece-count.new.edge.log) c.loop-taken.invariant.2 c.take_piece-count.ensures.grows,
+      c.take_piece-count.ensures.settings ∙ c.loop-taken.invariant.3,
     )
 
 pub returns-clause-makes : goal.returns-clause-makes
 returns-clause-makes g c =
-    let (within, makes, grows) = c.loop-taken.invariant in
+    let (within, makes, grows, same) = c.loop-taken.invariant in
     let all : c.loop-taken.taken ≡ BYTE_LIMIT = search rules in
     let f₀ = At c.args.core.now c.args.blocks.now in
     let f₁ = At c.loop-taken.core c.loop-taken.blocks in

@@ -1,4 +1,5 @@
-use Rattle.init_turns.proofs.Words.{rules, ◌≡◌, sym, subst, ◌&&◌, ◌+◌, suc, Bool, true, false, ℕ, arith, [], false≢true}
+use Rattle.init_turns.proofs.Words.{rules, ◌≡◌, ◌∙◌, refl, sym, subst, ◌&&◌, ◌+◌, suc, Bool, true, false, ℕ, arith, []}
+use Rattle.init_turns.proofs.Words.{false≢true}
 use Rattle.init_turns.proofs.Words.{is_drained, MadeTurns, Fresh, MakesOver, GrowsBy, GrowsBy-none, GrowsBy-then}
 use Rattle.host_trace.specs.Leads.{At}
 use Rattle.init_turns.proofs.Turning.{Going, Gone, turns_bring, turns_end, turns_left, turns_limit, turns_more}
@@ -18,11 +19,12 @@ loop-made-init g c = (
       (g.W.TurnObserver.seen c.args.watch.now) c.args.core.now c.new-blocks.result c.new-blocks.ensures,
   ([], record { count = c.new-blocks.ensures.count; front = c.new-blocks.ensures.front }),
   GrowsBy-none c.args.core.now (g.L.Log.state c.args.edge.now.log),
+  refl,
 )
 
 pub returns-then-is_over-clause-trace : goal.returns-then-is_over-clause-trace
 returns-then-is_over-clause-trace g c =
-    let (turns, read, grows) = c.loop-made.invariant in
+    let (turns, read, grows, same) = c.loop-made.invariant in
     let told = c.args.edge.now.told in
     let now_told = c.pause.new.self.told in
     let log = g.L.Log.state c.args.edge.now.log in
@@ -45,7 +47,7 @@ returns-then-is_over-clause-trace g c =
 
 pub returns-then-is_over-clause-requests : goal.returns-then-is_over-clause-requests
 returns-then-is_over-clause-requests g c =
-    let (turns, read, grows) = c.loop-made.invariant in
+    let (turns, read, grows, same) = c.loop-made.invariant in
     let told = c.args.edge.now.told in
     let log = g.L.Log.state c.args.edge.now.log in
     let saw = g.W.TurnObserver.seen c.args.watch.now in
@@ -62,7 +64,7 @@ returns-then-is_over-clause-requests g c =
 
 pub loop-made-preserved : goal.loop-made-preserved
 loop-made-preserved g c =
-    let (turns, read, grows) = c.loop-made.invariant in
+    let (turns, read, grows, same) = c.loop-made.invariant in
     let told = c.args.edge.now.told in
     let now_told = c.pause.new.self.told in
     let log = g.L.Log.state c.args.edge.now.log in
@@ -86,11 +88,12 @@ loop-made-preserved g c =
           (sym c.pause.ensures.log)
           (GrowsBy-then c.args.core.now c.loop-made.core c.turn.new.core (g.L.Log.state c.args.edge.now.log)
           (g.L.Log.state c.loop-made.edge.log) (g.L.Log.state c.turn.new.edge.log) grows (c.turn.ensures.grows read).1),
+      c.pause.ensures.settings ∙ (c.turn.ensures.settings ∙ same),
     )
 
 pub returns-clause-trace : goal.returns-clause-trace
 returns-clause-trace g c =
-    let (turns, read, grows) = c.loop-made.invariant in
+    let (turns, read, grows, same) = c.loop-made.invariant in
     let told = c.args.edge.now.told in
     let now_told = c.loop-made.edge.told in
     let log = g.L.Log.state c.args.edge.now.log in
@@ -106,7 +109,7 @@ returns-clause-trace g c =
 
 pub returns-clause-requests : goal.returns-clause-requests
 returns-clause-requests g c =
-    let (turns, read, grows) = c.loop-made.invariant in
+    let (turns, read, grows, same) = c.loop-made.invariant in
     turns_bring g.L.Log.state c.args.edge.now.told c.loop-made.edge.told (g.L.Log.state c.args.edge.now.log)
     (g.L.Log.state c.loop-made.edge.log) (Going c.args.strict c.args.drain (Fresh c.args.core.now) c.loop-made.made
     (g.W.TurnObserver.seen c.args.watch.now) (g.W.TurnObserver.seen c.loop-made.watch)) (Fresh c.args.core.now)
@@ -114,7 +117,7 @@ returns-clause-requests g c =
 
 pub returns-then-is_over-clause-grows : goal.returns-then-is_over-clause-grows
 returns-then-is_over-clause-grows g c =
-    let (turns, read, grows) = c.loop-made.invariant in
+    let (turns, read, grows, same) = c.loop-made.invariant in
     subst (λ l. GrowsBy c.args.core.now c.turn.new.core (g.L.Log.state c.args.edge.now.log) (g.L.Log.state l))
     (sym c.pause.ensures.log)
     (GrowsBy-then c.args.core.now c.loop-made.core c.turn.new.core (g.L.Log.state c.args.edge.now.log)

@@ -1,4 +1,4 @@
-use Rattle.init_turns.proofs.Words.{rules, ◌≡◌, ◌≤◌, ◌+◌, refl, subst, true, false, false≢true, STEP_LIMIT, Tracks}
+use Rattle.init_turns.proofs.Words.{rules, ◌≡◌, ◌∙◌, ◌≤◌, ◌+◌, refl, subst, true, false, false≢true, STEP_LIMIT, Tracks}
 use Rattle.init_turns.proofs.Words.{Leads-weaken, AreSteps, AndRests, AreAllSteps, IsStepUnless, MakesOver}
 use Rattle.init_turns.proofs.Words.{GrowsBy-none, GrowsBy-then}
 use Rattle.init_turns.proofs.Parts.{Makes-map, Makes-none, Makes-then, steps_all, steps_end, steps_more}
@@ -9,6 +9,7 @@ loop-made-init g c = (
   Makes-none g.L.Log.state c.args.edge.now.told (g.L.Log.state c.args.edge.now.log) (AreSteps c.args.strict 0)
       (Tracks c.args.core.now) refl,
   GrowsBy-none c.args.core.now (g.L.Log.state c.args.edge.now.log),
+  refl,
 )
 
 pub returns-then-take_step-clause-makes : goal.returns-then-take_step-clause-makes
@@ -60,6 +61,7 @@ loop-made-preserved g c =
       GrowsBy-then c.args.core.now c.loop-made.core c.take_step.new.core (g.L.Log.state c.args.edge.now.log)
           (g.L.Log.state c.loop-made.edge.log)
           (g.L.Log.state c.take_step.new.edge.log) c.loop-made.invariant.1 c.take_step.ensures.grows,
+      c.take_step.ensures.settings ∙ c.loop-made.invariant.2,
     )
 
 pub returns-clause-makes : goal.returns-clause-makes

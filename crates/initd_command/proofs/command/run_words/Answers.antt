@@ -1,15 +1,15 @@
 use Rattle.initd_command.proofs.Words.{◌≡◌, refl, sym, subst, rules, inl, inr, List, ℕ, Option, Some, None, map}
 use Rattle.initd_command.proofs.Words.{string_bytes, Keeps-refl, KnownTexts, InitdSaid, check_of, judges, initd_read_of}
 use Rattle.initd_command.proofs.Words.{simulation_of, simulates, runs, version, RunSaid, run_of, HostCall, Ending}
-use Rattle.initd_command.proofs.Words.{refused, usage, usage_named, AsksBy, AsksSaid, RunTold}
+use Rattle.initd_command.proofs.Words.{refused, usage, usage_named, AsksBy, AsksSaid, RunTold, HostSettings}
 use Rattle.initd_command.specs.Runs.{EndsBy, EndsRead}
 use Rattle.initd_command.specs.declared.run.Obstacle.TheVariants.{Memory}
 use Rattle.initd_command.proofs.Ran.{none_asked}
 use Rattle.initd_command.proofs.command.run_words.Goals as goal
 
 -- words that were read end, and ask, by what they say
-by_words : (text_at : KnownTexts) (words : List (List ℕ)) (options : Option InitdSaid) (own : Type 0) (ending : Ending)
-    (old new : RunTold)
+by_words : (text_at : KnownTexts) (words : List (List ℕ)) (options : Option InitdSaid)
+    (own : Option HostSettings → Type 0) (ending : Ending) (old new : RunTold)
     → initd_read_of words ≡ options → EndsRead text_at words options ending old.out new.out
     → AsksSaid text_at options own ending old new
     → EndsBy text_at words ending old.out new.out × AsksBy text_at words own ending old new

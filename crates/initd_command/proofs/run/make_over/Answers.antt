@@ -3,9 +3,9 @@ use Rattle.host_calls.proofs.Record.{Since-map}
 use Rattle.initd_command.proofs.Ran.{brief_written, made_traced, plain_written, some_known}
 use Rattle.initd_command.proofs.run.make_over.Goals as goal
 
-pub returns-then-options : goal.returns-then-options
-returns-then-options g c =
-    let (end, status, served, reported, made) = c.make_turns.ensures in
+pub returns-then-options-clause-ended : goal.returns-then-options-clause-ended
+returns-then-options-clause-ended g c =
+    let (end, status, served, reported, made) = c.make_turns.ensures.ended in
     let taken = some_known (g.S.Write.contents c.args.files) [] _ c.requires.nothing c.new-log.ensures.nothing in (
       end,
       status,
@@ -17,9 +17,9 @@ returns-then-options g c =
           (brief_written _ bytes is c.args.options.now.brief c.if-options.true)),
     )
 
-pub returns : goal.returns
-returns g c =
-    let (end, status, served, reported, made) = c.make_turns-2.ensures in
+pub returns-clause-ended : goal.returns-clause-ended
+returns-clause-ended g c =
+    let (end, status, served, reported, made) = c.make_turns-2.ensures.ended in
     let taken = some_known (g.S.Write.contents c.args.files) [] _ c.requires.nothing c.new-log.ensures.nothing in (
       end,
       status,

@@ -10,7 +10,7 @@ writes false text old new whole part = part
 
 pub returns-clause-ended : goal.returns-clause-ended
 returns-clause-ended g c =
-    let (end, status, served, reported, bytes, grown, made) = c.make_traced-status.ensures in (
+    let (end, status, served, reported, bytes, grown, made) = c.make_traced-status.ensures.ended in (
       record {
         unled = c.args.run.has_no_level;
         capped = not c.args.options.now.names_end;
@@ -46,3 +46,8 @@ returns-clause-ended g c =
           (MakesTraced (run_of c.args.options.now) table end bytes)) (sym c.close-is_printed.ensures.told)
           (made table opens),
     )
+
+pub returns-clause-own : goal.returns-clause-own
+returns-clause-own g c =
+    subst (g.S.Hosts.own c.close-is_printed.new.self) c.make_traced-status.ensures.settings
+    c.close-is_printed.ensures.own

@@ -7,8 +7,8 @@ use Rattle.init_turns.specs.Arriving.{ServesTurns}
 use Rattle.initd_command.proofs.Noted.{is_served, judged_still, led_fits, noted_over, served_still}
 use Rattle.initd_command.proofs.run.make_turns.Goals as goal
 
-pub returns : goal.returns
-returns g c =
+pub returns-clause-ended : goal.returns-clause-ended
+returns-clause-ended g c =
     let service = run_of c.args.options.now in
     let state = g.L.Log.state in
     let has_ended = g.L.EndedLog.has_ended c.end-left.result.0 in
@@ -84,3 +84,9 @@ returns g c =
             },
           )),
     )
+
+pub returns-clause-settings : goal.returns-clause-settings
+returns-clause-settings g c =
+    ap (λ (parts : _ × Watched _). g.H.Host.settings parts.0) c.into_parts-host.ensures
+    ∙ (c.serve-core.ensures.settings
+    ∙ ap (λ (e : EdgeState _ (Watched _)). g.H.Host.settings e.host) c.new-edge.ensures)

@@ -37,7 +37,7 @@ returns-in-Ok g c =
           grown
           (λ table opening. subst (λ now. Since now (g.S.Hosts.told c.make_run.new.hosts)
           (MakesTraced service table end bytes)) c.in-Ok.ensures.host (ran table opening))
-          c.make_run.ensures.own,
+          (g.H.Host.settings run.host, c.in-Ok.ensures.settings, c.make_run.ensures.own),
     )
 
 pub returns-in-Err : goal.returns-in-Err
