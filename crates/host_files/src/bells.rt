@@ -22,6 +22,7 @@ const RINGS: usize = 512;
 /// The bell of a channel.
 #[derive(Drop)]
 pub(crate) struct Bell<A: Allocator> {
+    /// Empty where there is no channel: then nothing is looked for.
     path: String<A>,
     open: Option<File>,
     /// The device and the number of the FIFO that is open.
@@ -30,14 +31,15 @@ pub(crate) struct Bell<A: Allocator> {
 }
 
 impl<A: Allocator + Copy> Bell<A> {
-    /// The bell of the channel at this path: the file whose path has `.bell` after it.
+    /// The bell of the channel at this path: the file whose path has `.bell` after it. An empty path has none.
     pub(crate) fn new(
         alloc: A,
         program: &'static str,
         channel: &str,
     ) -> Result<Box<Bell<A>, A>, AllocError> {
+        let end = if channel.is_empty() { "" } else { ".bell" };
         let bell = Bell {
-            path: format!(in alloc; "{channel}.bell")?,
+            path: format!(in alloc; "{channel}{end}")?,
             open: None,
             file: None,
             hearing: Trouble::new(program, "hear", "heard"),
@@ -47,6 +49,9 @@ impl<A: Allocator + Copy> Bell<A> {
 
     /// Its path, where nothing stands there.
     pub(crate) fn missing_path<R: Files>(&self, rt: &R) -> Option<&str> {
+        if self.path.is_empty() {
+            return None;
+        }
         match found_at(rt, self.path.as_str()) {
             Ok(None) => Some(self.path.as_str()),
             _ => None,
@@ -59,7 +64,7 @@ impl<A: Allocator + Copy> Bell<A> {
         let Ok(limit) = i32::try_from(length / MILLISECOND) else {
             return false;
         };
-        if limit == 0 {
+        if limit == 0 || self.path.is_empty() {
             return false;
         }
         let listening = self.listen(rt);

@@ -5,9 +5,9 @@ ghost use Rattle.program_io.specs.declared.channel_files.TheConstants.{REQUEST};
 ghost use Rattle.host_files.specs.Channels.{ChannelCall};
 ghost use Rattle.host_files.specs.Channels.ChannelCall.{found, read};
 
-use program_io::{ChannelLock, Noted, REQUEST, Reads, lock_channel};
+use program_io::{ChannelLock, Noted, REQUEST, Reads, lock_channel, read_request};
 use std::fs::{File, Metadata};
-use std::io::{Error, ErrorKind, Read, Seek, SeekFrom};
+use std::io::{Error, ErrorKind};
 use std::marker::{Model, PhantomData};
 use std::os::unix::fs::MetadataExt;
 use std::rt::Files;
@@ -65,7 +65,10 @@ pub trait ChannelFile {
         ensures ok { IfOk result (λ file. told self.new ≡ found file ∷ told self.old) }
         ensures err { OnErr result (told self.new ≡ told self.old) };
 
-    /// Reads a request of the file at the path, from this byte on.
+    /// How many bytes the file has whose lock is held.
+    fn locked_length(&self) -> Option<u64>;
+
+    /// Reads a request of the file that was found last at the path, from this byte on.
     fn read_at<R: Files<File = File>>(
         &mut self,
         rt: &R,
@@ -188,6 +191,10 @@ impl ChannelFile for OsChannelFile {
         Ok(file)
     }
 
+    fn locked_length(&self) -> Option<u64> {
+        self.lock.as_ref()?.length().ok()
+    }
+
     fn read_at<R: Files<File = File>>(
         &mut self,
         rt: &R,
@@ -195,9 +202,10 @@ impl ChannelFile for OsChannelFile {
         position: u64,
         request: &mut [u8; REQUEST],
     ) -> io::Result<()> {
-        let mut file = File::open(rt, path)?;
-        file.seek(SeekFrom::Start(position))?;
-        file.read_exact(request)?;
+        match &self.lock {
+            Some(lock) => lock.read_at(position, request)?,
+            None => read_request(&File::open(rt, path)?, position, request)?,
+        }
         self.told = Noted::of::<(&Noted<ChannelCallList>, u64, &[u8; REQUEST]), ReadAt>(&(
             &self.told, position, &*request,
         ));

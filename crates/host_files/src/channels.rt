@@ -8,13 +8,13 @@ ghost use Rattle.host_files.specs.Channels.{HandsNothing, HandsOn, IsReadOn, byt
 
 use crate::bells::Bell;
 use crate::boxes::boxed;
-use crate::channel_files::{ChannelCallList, ChannelFile, FoundFile, found_at};
+use crate::channel_files::{ChannelCallList, ChannelFile, found_at};
 use crate::channel_notes::{ChannelNotes, LOOK};
 use crate::places::Place;
 use program_io::{ChannelLock, Noted, REQUEST};
 use std::alloc::{AllocError, Allocator};
 use std::fs::File;
-use std::io::{Read, Seek, SeekFrom};
+use std::io::Read;
 use std::marker::Model;
 use std::rt::{Clock, Files};
 use std::time::Duration;
@@ -28,8 +28,6 @@ pub struct Channel<F: ChannelFile + Drop, A: Allocator> {
     fresh: bool,
     file: F,
     place: Place,
-    /// That file, open.
-    open: Option<File>,
     /// The request that was read last, and how many of its bytes were handed on.
     request: [u8; REQUEST],
     handed: usize,
@@ -71,7 +69,6 @@ impl<F: ChannelFile + Drop, A: Allocator + Copy> Channel<F, A> {
             fresh,
             file: F::unread(),
             place: Place::unread(),
-            open: None,
             request: [0; REQUEST],
             handed: REQUEST,
             notes: ChannelNotes::new(program),
@@ -122,11 +119,12 @@ impl<F: ChannelFile + Drop, A: Allocator + Copy> Channel<F, A> {
         self.file.calls()
     }
 
-    /// It has a request that was not read, or is shorter than what was read. Of a file that stood at its path when it was
-    /// read last the length alone is asked for: that another file stands there now is seen when it is read again.
+    /// It has a request that was not read, or is shorter than what was read. Of a file whose lock is held, and that stood
+    /// at its path when it was read last, the length alone is asked for: that another file stands there now is seen when
+    /// it is read again.
     pub fn has_news<R: Files>(&self, rt: &R) -> bool {
-        if let Some(mut file) = self.open.as_ref() {
-            if let Ok(length) = file.seek(SeekFrom::End(0)) {
+        if !self.place.missing {
+            if let Some(length) = self.file.locked_length() {
                 return length < self.place.heard || self.place.is_request_behind(length);
             }
         }
@@ -224,25 +222,14 @@ impl<F: ChannelFile + Drop, A: Allocator + Copy> Channel<F, A> {
         }
         self.notes.note_place(&before, &self.place);
         let Some(found) = found else {
-            self.open = None;
             return Ok(false);
         };
         self.notes
             .note_file(rt, self.path.as_str(), &before, &found);
-        self.keep_open(rt, &before, &found);
         let is_whole = self.place.is_request_behind(found.length);
         if !is_whole {
             self.notes.note_end(rt, self.path.as_str(), &found);
         }
         Ok(is_whole)
-    }
-
-    /// Opens the file that was found, where it is another than the one that is open.
-    fn keep_open<R: Files<File = File>>(&mut self, rt: &R, before: &Place, found: &FoundFile)
-        ensures { self.new ≡ self.old }
-    {
-        if self.open.is_none() || before.file != Some((found.device, found.number)) {
-            self.open = File::open(rt, self.path.as_str()).ok();
-        }
     }
 }

@@ -1,12 +1,13 @@
 //! The channel of requests as a file (initreq.h): made where it is missing, opened without waiting, and locked by the
 //! init that reads it.
 
-ghost use Rattle.std.specs.Prelude.{◌≡◌, true, false, IfOk};
+ghost use Rattle.std.specs.Prelude.{◌≡◌, length, true, false, IfOk};
+ghost use Rattle.program_io.specs.declared.channel_files.TheConstants.{REQUEST};
 
 use crate::limits::refuse_too_large;
 use crate::writing::write_text;
 use std::fs::{File, Metadata, OpenOptions, TryLockError};
-use std::io::{Error, ErrorKind};
+use std::io::{Error, ErrorKind, Read, Seek, SeekFrom};
 use std::os::unix::fs::{MetadataExt, OpenOptionsExt};
 use std::rt::Files;
 use std::{fs, io};
@@ -20,7 +21,7 @@ const MODE: u32 = 0o600;
 /// How often the lock is asked for, since a look of `is_read` holds it too, for a moment.
 const LOCK_TRIES: u32 = 100;
 
-/// A channel that is open to append to it.
+/// A channel that is open to append to it, and to read it where it is locked.
 #[derive(Drop)]
 pub struct OpenChannel {
     file: File,
@@ -36,23 +37,7 @@ impl OpenChannel {
     pub fn open<R: Files<File = File>>(rt: &R, path: &str) -> io::Result<OpenChannel>
         ensures made { IfOk result (λ channel. channel.was_made ≡ true → channel.length ≡ 0) }
     {
-        if is_there(rt, path)? {
-            return open_old(rt, path);
-        }
-        match OpenOptions::new()
-            .append(true)
-            .create_new(true)
-            .mode(MODE)
-            .open(rt, path)
-        {
-            Ok(file) => Ok(OpenChannel {
-                file,
-                was_made: true,
-                length: 0,
-            }),
-            Err(error) if error.kind() == ErrorKind::AlreadyExists => open_linked(rt, path),
-            Err(error) => Err(error),
-        }
+        open_or_make(rt, path, false)
     }
 
     /// Appends a block, and nothing of it where the limit of file sizes has no room for the whole.
@@ -93,12 +78,32 @@ impl ChannelLock {
     pub fn is_of(&self, found: &Metadata) -> bool {
         self.file == (found.dev(), found.ino())
     }
+
+    /// The bytes that the file has.
+    pub fn length(&self) -> io::Result<u64> {
+        Ok(self.channel.file.metadata()?.len())
+    }
+
+    /// Reads a request of the file, from this byte on.
+    pub fn read_at(&self, position: u64, request: &mut [u8; REQUEST]) -> io::Result<()>
+        ensures { length request.new ≡ REQUEST }
+    {
+        read_request(&self.channel.file, position, request)
+    }
+}
+
+/// Reads a request of the file, from this byte on.
+pub fn read_request(mut file: &File, position: u64, request: &mut [u8; REQUEST]) -> io::Result<()>
+    ensures { length request.new ≡ REQUEST }
+{
+    file.seek(SeekFrom::Start(position))?;
+    file.read_exact(request)
 }
 
 /// Takes the lock of a channel, which is made where it is missing, as `OpenChannel::open` does. There is none where another
 /// holds it.
 pub fn lock_channel<R: Files<File = File>>(rt: &R, path: &str) -> io::Result<Option<ChannelLock>> {
-    let channel = OpenChannel::open(rt, path)?;
+    let channel = open_or_make(rt, path, true)?;
     for _ in 0..LOCK_TRIES {
         match channel.file.try_lock() {
             Ok(()) => return Ok(Some(locked(channel)?)),
@@ -123,7 +128,31 @@ pub fn is_read<R: Files<File = File>>(rt: &R, path: &str) -> io::Result<bool> {
     if !is_there(rt, path)? {
         return Ok(false);
     }
-    open_old(rt, path)?.is_read()
+    open_old(rt, path, false)?.is_read()
+}
+
+/// Opens a channel, to read it too where that is said, and makes an empty one where it is missing.
+fn open_or_make<R: Files<File = File>>(rt: &R, path: &str, reads: bool) -> io::Result<OpenChannel>
+    ensures made { IfOk result (λ channel. channel.was_made ≡ true → channel.length ≡ 0) }
+{
+    if is_there(rt, path)? {
+        return open_old(rt, path, reads);
+    }
+    match OpenOptions::new()
+        .read(reads)
+        .append(true)
+        .create_new(true)
+        .mode(MODE)
+        .open(rt, path)
+    {
+        Ok(file) => Ok(OpenChannel {
+            file,
+            was_made: true,
+            length: 0,
+        }),
+        Err(error) if error.kind() == ErrorKind::AlreadyExists => open_linked(rt, path, reads),
+        Err(error) => Err(error),
+    }
 }
 
 /// A plain file is there.
@@ -138,10 +167,11 @@ fn is_there<R: Files>(rt: &R, path: &str) -> io::Result<bool> {
 
 /// Opens a channel at whose path something stands: it was made meanwhile, or is a link. Where a link leads to a missing
 /// file that is made.
-fn open_linked<R: Files<File = File>>(rt: &R, path: &str) -> io::Result<OpenChannel>
+fn open_linked<R: Files<File = File>>(rt: &R, path: &str, reads: bool) -> io::Result<OpenChannel>
     ensures made { IfOk result (λ channel. channel.was_made ≡ true → channel.length ≡ 0) }
 {
     let file = OpenOptions::new()
+        .read(reads)
         .append(true)
         .create(true)
         .mode(MODE)
@@ -155,10 +185,10 @@ fn open_linked<R: Files<File = File>>(rt: &R, path: &str) -> io::Result<OpenChan
 }
 
 /// Opens a channel that is there.
-fn open_old<R: Files<File = File>>(rt: &R, path: &str) -> io::Result<OpenChannel>
+fn open_old<R: Files<File = File>>(rt: &R, path: &str, reads: bool) -> io::Result<OpenChannel>
     ensures old { IfOk result (λ channel. channel.was_made ≡ false) }
 {
-    let file = OpenOptions::new().append(true).open(rt, path)?;
+    let file = OpenOptions::new().read(reads).append(true).open(rt, path)?;
     let length = file.metadata()?.len();
     Ok(OpenChannel {
         file,

@@ -18,7 +18,7 @@ mod texts;
 mod writing;
 
 pub use arguments::{only_byte, report_unread_words, report_usage, unread_status, words};
-pub use channel_files::{ChannelLock, OpenChannel, REQUEST, is_read, lock_channel};
+pub use channel_files::{ChannelLock, OpenChannel, REQUEST, is_read, lock_channel, read_request};
 pub use faults::{report_failure, report_fault, report_no_memory};
 pub use files::{READS_LIMIT, are_one_file, open_plain, read_all, read_file, refuse_special};
 pub use holders::lock_holder;
