@@ -153,7 +153,7 @@ function take(line,    name, result, parts, comment) {
     if (line ~ /\) += /) take(line)
 }
 # The shells that look for kill(1) and send the signals of a turn are no children of entries, but init's own.
-function is_helper(child) { return argv[child] ~ /^\[sh\] \[-c\] \[(command -v kill >|while read -r signal number group; do )/ }
+function is_helper(child) { return argv[child] ~ /^\[sh\] \[-c\] \[((true >\/dev\/null \|\| exit 2; )?command -v kill >|while read -r signal number group; do )/ }
 function is_born(child) { return child in is_child && !is_helper(child) }
 # A signal that a service sends is none of init's.
 function is_of_init(event) { return kind[event] !~ /^(sent|missed)$/ || by[event] == init || is_helper(by[event]) }

@@ -168,15 +168,14 @@ impl<A: Allocator + Copy> ChildMessages<A> {
     pub fn tell_unwaited(&self, rt: &impl Eprint, id: &Id, number: ChildNumber, error: &Error) {
         let id = shown(id.as_bytes());
         let number = number.0;
+        let program = self.program;
         let _ = eprintln!(rt;
-            "{}: {id} (pid {number}) cannot be waited for: {}: init no longer knows when it ends",
-            self.program,
+            "{program}: {id} (pid {number}) cannot be waited for: {}: {program} no longer knows when it ends",
             Reason(error)
         );
         if error.raw_os_error() == Some(NO_CHILD) {
             let _ = eprintln!(rt;
-                "{}: {id} (pid {number}): no look and no KILL is tried any more: if each child is so, start init by env --default-signal=CHLD",
-                self.program
+                "{program}: {id} (pid {number}): no look and no KILL is tried any more: if each child is so, start {program} by env --default-signal=CHLD"
             );
         }
     }
@@ -186,6 +185,17 @@ impl<A: Allocator + Copy> ChildMessages<A> {
         let id = shown(id.as_bytes());
         let number = number.0;
         let _ = eprintln!(rt; "{}: {id} (pid {number}): waited for again", self.program);
+    }
+
+    /// Says that the id's child can't be sent KILL, and what that means.
+    pub fn tell_unkilled(&self, rt: &impl Eprint, id: &Id, number: ChildNumber, error: &Error) {
+        let id = shown(id.as_bytes());
+        let number = number.0;
+        let _ = eprintln!(rt;
+            "{}: {id} (pid {number}) cannot be sent KILL: {}: it is waited for until it ends by itself",
+            self.program,
+            Reason(error)
+        );
     }
 
     /// Says how the id's last child ended, and what that mostly means.

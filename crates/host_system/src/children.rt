@@ -275,7 +275,7 @@ impl<S: System, A: Allocator + Copy> Children<S, A> {
             return Answer::Miss;
         };
         self.left.note(rt, groups, id, held.number());
-        if !held.send(system, rt, self.alloc, groups, id, signal) {
+        if !held.send(system, rt, self.alloc, groups, &self.messages, id, signal) {
             return Answer::Miss;
         }
         held.tell_cost(rt, &self.messages, id, is_same_stage);

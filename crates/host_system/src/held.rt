@@ -17,12 +17,14 @@ use std::time::{Duration, Instant};
 /// After how many seconds it is told again that a child can't be waited for.
 const AGAIN: u64 = 60;
 
-/// A child with the number that it was born with, and whether TERM could be sent to it.
+/// A child with the number that it was born with, and whether signals could be sent to it.
 #[derive(Drop)]
 pub(crate) struct HeldChild<S: System> {
     number: ChildNumber,
     process: S::Started,
     stopping: Trouble,
+    /// It was told that it can't be sent KILL.
+    is_unkilled: bool,
     /// It is told that it can't be waited for, and when that was.
     is_unwaited: bool,
     told: Option<Instant>,
@@ -49,6 +51,7 @@ impl<S: System> HeldChild<S> {
             number: ChildNumber(system.number_of(&process)),
             process,
             stopping: Trouble::new(program, "send TERM to", "TERM was sent"),
+            is_unkilled: false,
             is_unwaited: false,
             told: None,
             line: None,
@@ -116,14 +119,15 @@ impl<S: System> HeldChild<S> {
         messages.tell_unwaited(rt, id, self.number, error);
     }
 
-    /// Sends it the signal, or its group where children have groups, and gives whether that was done. Of TERM it is told
-    /// what fails.
+    /// Sends it the signal, or its group where children have groups, and gives whether that was done. It is told what
+    /// fails.
     pub(crate) fn send<R: Eprint, A: Allocator + Copy>(
         &mut self,
         system: &mut S,
         rt: &R,
         alloc: A,
         groups: bool,
+        messages: &ChildMessages<A>,
         id: &Id,
         signal: SignalKind,
     ) -> bool
@@ -136,10 +140,27 @@ impl<S: System> HeldChild<S> {
             SignalKind::Term => system.terminate(alloc, self.number.0),
             SignalKind::Kill => system.kill(&mut self.process),
         };
-        if signal == SignalKind::Term {
-            self.stopping.tell(rt, shown(id.as_bytes()), &sent);
+        match (signal, &sent) {
+            (SignalKind::Term, _) => self.stopping.tell(rt, shown(id.as_bytes()), &sent),
+            (SignalKind::Kill, Err(error)) => self.tell_unkilled(rt, messages, id, error),
+            (SignalKind::Kill, Ok(())) => {}
         }
         sent.is_ok()
+    }
+
+    fn tell_unkilled<A: Allocator + Copy>(
+        &mut self,
+        rt: &impl Eprint,
+        messages: &ChildMessages<A>,
+        id: &Id,
+        error: &io::Error,
+    )
+        ensures { self.new ≡ self.old }
+    {
+        if !self.is_unkilled {
+            self.is_unkilled = true;
+            messages.tell_unkilled(rt, id, self.number, error);
+        }
     }
 
     /// An inittab that was read has this for it.

@@ -18,10 +18,12 @@ const HELPER: &str = "while read -r signal number group; do \
     [ \"$group\" ] && kill \"-$signal\" \"-$number\" 2>/dev/null || kill \"-$signal\" \"$number\"; \
     case $? in 0) echo 0 ;; 127) echo - ;; *) echo 1 ;; esac; done";
 
-/// What a shell does that ends with 0 where it finds kill(1), and one that ends so where it finds setsid(1) too.
-const FINDS_KILL: &str = "command -v kill >/dev/null";
+/// What a shell does that ends with 0 where it finds kill(1), and one that ends so where it finds setsid(1) too. Either
+/// ends with 2 where it can't open a file: of that shells give statuses of their own, one that of not found.
+const FINDS_KILL: &str = "true >/dev/null || exit 2; command -v kill >/dev/null";
 
-const FINDS_BOTH: &str = "command -v kill >/dev/null && command -v setsid >/dev/null";
+const FINDS_BOTH: &str =
+    "true >/dev/null || exit 2; command -v kill >/dev/null && command -v setsid >/dev/null";
 
 /// The shell that sends signals, where it was started since the last pause.
 #[derive(Drop)]
