@@ -63,22 +63,25 @@ impl<'a, R: Files<File = File>> TraceReader<'a, R> {
     /// the file begins within a run, all are read from the one on in which that begins.
     fn open(rt: &'a R, alloc: Global, path: &str) -> io::Result<TraceReader<'a, R>> {
         let path = pieced_path(rt, alloc, path)?;
+        // The list is read behind that, and so has each piece before this file.
+        let file = open_plain(rt, path.as_str());
         match listed_pieces(rt, alloc, path.as_str())? {
-            Some(pieces) => TraceReader::with_pieces(rt, alloc, path, pieces, true),
-            None => TraceReader::unlisted(rt, alloc, path),
+            Some(pieces) => TraceReader::with_pieces(rt, alloc, path, file, pieces, true),
+            None => TraceReader::unlisted(rt, alloc, path, file?),
         }
     }
 
-    /// The trace at a path, of which these pieces are read first.
+    /// The trace at a path, at which this file stood, of which these pieces are read first.
     fn with_pieces(
         rt: &'a R,
         alloc: Global,
         path: String,
+        file: io::Result<File>,
         mut pieces: Vec<Piece>,
         are_listed: bool,
     ) -> io::Result<TraceReader<'a, R>> {
         let Some(last) = pieces.last().copied() else {
-            return TraceReader::alone(rt, alloc, path);
+            return Ok(TraceReader::of(rt, alloc, path, file?));
         };
         for piece in &pieces {
             let _ = open_piece(rt, alloc, path.as_str(), *piece)?;
@@ -96,9 +99,13 @@ impl<'a, R: Files<File = File>> TraceReader<'a, R> {
         Ok(reader)
     }
 
-    /// The trace at a path of whose pieces no list is there.
-    fn unlisted(rt: &'a R, alloc: Global, path: String) -> io::Result<TraceReader<'a, R>> {
-        let mut file = open_plain(rt, path.as_str())?;
+    /// The trace at a path, at which this file stood, of whose pieces no list is there.
+    fn unlisted(
+        rt: &'a R,
+        alloc: Global,
+        path: String,
+        mut file: File,
+    ) -> io::Result<TraceReader<'a, R>> {
         if begins_run(&mut file)? {
             return Ok(TraceReader::of(rt, alloc, path, file));
         }
@@ -109,15 +116,15 @@ impl<'a, R: Files<File = File>> TraceReader<'a, R> {
             pieces.push(piece)?;
             if begins_run(&mut open_piece(rt, alloc, path.as_str(), piece)?)? {
                 pieces.reverse();
-                return TraceReader::with_pieces(rt, alloc, path, pieces, false);
+                return TraceReader::with_pieces(rt, alloc, path, Ok(file), pieces, false);
             }
         }
         Ok(TraceReader::of(rt, alloc, path, file))
     }
 
     /// What stands at the path; None where nothing does, while a file that was renamed away is still written to.
-    fn found(&self) -> io::Result<Option<Metadata>> {
-        match fs::metadata(self.rt, self.path.as_str()) {
+    fn found(&self) -> io::Result<Option<File>> {
+        match open_plain(self.rt, self.path.as_str()) {
             Ok(found) => Ok(Some(found)),
             Err(error) if error.kind() == ErrorKind::NotFound => Ok(None),
             Err(error) => Err(error),
@@ -142,19 +149,21 @@ impl<'a, R: Files<File = File>> TraceReader<'a, R> {
 
     /// The file that came to stand behind this one; None where that stands at the path itself, or none does yet.
     fn successor(&mut self) -> io::Result<Option<File>> {
-        if self.behind.is_empty() {
-            let Some(found) = self.found()? else {
-                return Ok(None);
-            };
-            let own = self.file.metadata()?;
-            if are_same(&found, &own) {
-                return self.refuse_begun_anew(&found);
-            }
-            self.behind = self.behind_file(&own)?;
+        if let Some(piece) = self.behind.pop() {
+            return open_piece(self.rt, self.alloc, self.path.as_str(), piece).map(Some);
         }
+        // The list is read behind that, and so has each piece between the two.
+        let Some(found) = self.found()? else {
+            return Ok(None);
+        };
+        let own = self.file.metadata()?;
+        if are_same(&found.metadata()?, &own) {
+            return self.refuse_begun_anew(&own);
+        }
+        self.behind = self.behind_file(&own)?;
         match self.behind.pop() {
-            Some(piece) => Ok(Some(open_piece(self.rt, self.alloc, self.path.as_str(), piece)?)),
-            None => Ok(Some(open_plain(self.rt, self.path.as_str())?)),
+            Some(piece) => open_piece(self.rt, self.alloc, self.path.as_str(), piece).map(Some),
+            None => Ok(Some(found)),
         }
     }
 
