@@ -2,6 +2,7 @@ pub mod CommonWords
 pub mod Entering
 pub mod Follows
 pub mod Parts
+pub mod Places
 pub mod ReloadLemmas
 pub mod SaidOf
 pub mod SayingLemmas

@@ -1,5 +1,5 @@
 -- All that is told of the files of an inittab.
-use Rattle.std.specs.Prelude.{ℕ, Bool, true, false, ◌-◌, not, if◌then◌else◌, List, [], ◌∷◌, ◌++◌, filter, map}
+use Rattle.std.specs.Prelude.{◌≡◌, ℕ, Bool, false, ◌-◌, not, if◌then◌else◌, List, [], ◌∷◌, ◌++◌, filter, map}
 use Rattle.std.specs.Prelude.{slice_get, Option, Some, None}
 use Rattle.std.specs.List.{list_any}
 use Rattle.std.specs.Option.{option_map_or}
@@ -24,6 +24,7 @@ use Rattle.initview_lines.specs.declared.lines.Line.{Line}
 use Rattle.initview_lines.specs.declared.lines.Line.TheVariants.{File}
 use Rattle.initview_lines.specs.declared.lint.Findings.{Findings}
 use Rattle.initview_lines.specs.declared.lint.Findings.TheVariants as found
+use Rattle.initview_lines.specs.declared.lint.Place.{Place}
 
 -- the name and the text of the file of a number
 abbrev pub name_of : Option NamedText → List ℕ
@@ -45,6 +46,10 @@ line_begun (Some text) = up_to (cut 10 text) text
 abbrev pub line_at : ℕ → List ℕ → List ℕ
 line_at number text = line_begun (after_lines (number - 1) text)
 
+-- a place in the files: what stands there is what stands behind so many lines
+abbrev pub IsPlace : List NamedText → Place → Type 0
+IsPlace parts place = after_lines place.before (text_of (slice_get parts place.part)) ≡ Some place.rest.now
+
 -- the id or the action of a line, where a check of it fails, and the action that was probably meant
 abbrev pub field_of : LineKind → FieldBytes → List ℕ
 field_of kind.Id f = f.id
@@ -63,10 +68,11 @@ meant_for _ word = None
 abbrev pub left_out : PartFault → List ℕ → FileLine
 left_out fault field = told.LeftOut fault.line fault.kind field (meant_for fault.kind field)
 
+abbrev pub told_of : Option NamedText → PartFault → List ℕ → Line
+told_of part fault line = File (name_of part) (left_out fault (field_in fault.kind (fields_of (skip_blanks line))))
+
 abbrev pub fault_line : Option NamedText → PartFault → Line
-fault_line part fault =
-    File (name_of part)
-    (left_out fault (field_in fault.kind (fields_of (skip_blanks (line_at fault.line (text_of part))))))
+fault_line part fault = told_of part fault (line_at fault.line (text_of part))
 
 abbrev pub fault_line_of : List NamedText → PartFault → Line
 fault_line_of parts fault = fault_line (slice_get parts fault.part) fault
@@ -75,9 +81,11 @@ fault_line_of parts fault = fault_line (slice_get parts fault.part) fault
 abbrev pub has_no_id : FieldBytes → Bool
 has_no_id f = is_empty f.id
 
+abbrev pub lacks_id : List ℕ → Bool
+lacks_id line = option_map_or has_no_id (fields_of (skip_blanks line)) false
+
 abbrev pub is_nameless : List NamedText → PartFault → Bool
-is_nameless parts fault =
-    option_map_or has_no_id (fields_of (skip_blanks (line_at fault.line (text_of (slice_get parts fault.part))))) false
+is_nameless parts fault = lacks_id (line_at fault.line (text_of (slice_get parts fault.part)))
 
 abbrev pub has_nameless : List NamedText → List PartFault → Bool
 has_nameless parts faults = list_any (is_nameless parts) faults

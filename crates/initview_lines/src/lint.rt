@@ -1,8 +1,8 @@
 //! What is told of the files of an inittab that is not in force yet.
 
-ghost use Rattle.std.specs.Prelude.{◌≡◌, ◌++◌, ◌↔◌, filter, map, not, option_copied, slice_get, IfOk, OnOk, IsErrOf};
+ghost use Rattle.std.specs.Prelude.{◌≡◌, ◌≤◌, ◌++◌, ◌↔◌, filter, map, not, option_copied, option_map, slice_get, IfOk, IfSome, OnOk, IsErrOf};
 ghost use Rattle.std.specs.List.{list_any};
-ghost use Rattle.text_lines.specs.Lines.{skip_blanks};
+ghost use Rattle.text_lines.specs.Lines.{after_lines, cut};
 ghost use Rattle.init_words.specs.declared.stages.Stage.TheVariants.{Run};
 ghost use Rattle.init_words.specs.Entries.{starts_of};
 ghost use Rattle.init_words.specs.Parts.{texts_of};
@@ -10,7 +10,7 @@ ghost use Rattle.inittab_text.specs.Lines.{fields_of};
 ghost use Rattle.inittab_text.specs.Parts.{AreTooLong, AreTooMany};
 ghost use Rattle.inittab_lint.specs.Warnings.{warnings_of};
 ghost use Rattle.initview_lines.specs.declared.lines.Line.TheVariants.{File};
-ghost use Rattle.initview_lines.specs.Lint.{fault_line, fault_line_of, field_in, found_by, has_nameless, is_nameless, line_at, lint_in, lint_lines, meant_for, name_of, note_if, serves, text_of, warning_line};
+ghost use Rattle.initview_lines.specs.Lint.{IsPlace, fault_line, fault_line_of, field_in, found_by, has_nameless, is_nameless, lacks_id, line_at, lint_in, lint_lines, meant_for, name_of, note_if, serves, text_of, told_of, up_to, warning_line};
 
 use crate::lines::{FileLine, Line};
 use crate::texts::Bytes;
@@ -86,17 +86,23 @@ pub(crate) fn add_note(
     Ok(())
 }
 
+/// The first line of a text.
+fn first_of(text: &[u8]) -> &[u8]
+    ensures { result.now ≡ up_to (cut 10 text.now) text.now }
+{
+    match cut(b'\n', text) {
+        Some((line, _)) => line,
+        None => text,
+    }
+}
+
 /// The line of a number, counted from 1.
 fn line_at(number: u32, text: &[u8]) -> &[u8]
     ensures { result.now ≡ line_at number text.now }
 {
-    let before = number.saturating_sub(1) as usize;
-    let Some(rest) = after_lines(before, text) else {
-        return b"";
-    };
-    match cut(b'\n', rest) {
-        Some((line, _)) => line,
-        None => rest,
+    match after_lines(number.saturating_sub(1) as usize, text) {
+        Some(rest) => first_of(rest),
+        None => b"",
     }
 }
 
@@ -124,15 +130,15 @@ fn meant_for(kind: LineKind, field: &[u8]) -> Option<Act>
     }
 }
 
-/// What is told of a line that is left out.
-pub(crate) fn fault_line(
+/// What is told of a line that is left out, by its text.
+fn told_of(
     alloc: Global,
     part: Option<&Part>,
     fault: &PartFault,
+    line: &[u8],
 ) -> Result<Line, AllocError>
-    ensures { IfOk result (λ line. line ≡ fault_line (option_copied part.entry) fault.now) }
+    ensures { IfOk result (λ told. told ≡ told_of (option_copied part.entry) fault.now line.now) }
 {
-    let line = line_at(fault.line, text_of(part));
     let field = field_in(fault.kind, without_blanks(line));
     let meant = meant_for(fault.kind, field);
     let field = Bytes::copy_of(alloc, field)?;
@@ -143,50 +149,113 @@ pub(crate) fn fault_line(
     )
 }
 
-/// The line of a fault begins with no id.
-fn is_nameless(parts: &[Part], fault: &PartFault) -> bool
-    ensures { result ≡ is_nameless parts.now fault.now }
+/// What is told of a line that is left out.
+pub(crate) fn fault_line(
+    alloc: Global,
+    part: Option<&Part>,
+    fault: &PartFault,
+) -> Result<Line, AllocError>
+    ensures { IfOk result (λ line. line ≡ fault_line (option_copied part.entry) fault.now) }
 {
-    let part = part_at(parts, fault.part as usize);
-    match Fields::of(without_blanks(line_at(fault.line, text_of(part)))) {
+    told_of(alloc, part, fault, line_at(fault.line, text_of(part)))
+}
+
+/// The line begins with no id.
+fn lacks_id(line: &[u8]) -> bool
+    ensures { result ≡ lacks_id line.now }
+{
+    match Fields::of(without_blanks(line)) {
         Some(fields) => fields.id.is_empty(),
         None => false,
     }
 }
 
-fn has_nameless(parts: &[Part], faults: &[PartFault]) -> bool
-    ensures { result ≡ has_nameless parts.now faults.now }
-{
-    faults.iter().any(|fault| is_nameless(parts, fault))
+/// A place in the files: behind how many lines of which, and what stands there.
+#[derive(Clone, Copy)]
+struct Place<'a> {
+    part: usize,
+    before: usize,
+    rest: &'a [u8],
 }
 
-fn named(alloc: Global, parts: &[Part], faults: &[PartFault]) -> Result<Vec<PartFault>, AllocError>
-    ensures { IfOk result (λ named. named.items
-        ≡ filter (λ fault. not (is_nameless parts.now fault)) faults.now) }
+/// Where to walk from to the place behind so many lines of a file: from a place in it that is no later, or else from its
+/// top.
+fn nearest<'a>(parts: &'a [Part], from: Place<'a>, part: usize, before: usize) -> Place<'a>
+    ensures part { result.part ≡ part }
+    ensures before { result.before ≤ before }
+    ensures place { IsPlace parts.now from.entry → IsPlace parts.now result }
 {
-    faults
-        .iter()
-        .copied()
-        .filter(|fault| !is_nameless(parts, fault))
-        .collect(alloc)
+    if from.part == part && from.before <= before {
+        from
+    } else {
+        Place {
+            part,
+            before: 0,
+            rest: text_of(part_at(parts, part)),
+        }
+    }
 }
 
-fn fault_line_of(alloc: Global, parts: &[Part], fault: &PartFault) -> Result<Line, AllocError>
-    ensures { IfOk result (λ line. line ≡ fault_line_of parts.now fault.now) }
+/// The place behind so many lines of a file.
+fn place_behind<'a>(
+    parts: &'a [Part],
+    from: Place<'a>,
+    part: usize,
+    before: usize,
+) -> Option<Place<'a>>
+    ensures rest { IsPlace parts.now from.entry → option_map (λ place. place.rest.now) result
+        ≡ after_lines before (text_of (slice_get parts.now part)) }
+    ensures place { IsPlace parts.now from.entry
+        → IfSome result (λ place. IsPlace parts.now place) }
 {
-    fault_line(alloc, part_at(parts, fault.part as usize), fault)
+    let near = nearest(parts, from, part, before);
+    let rest = after_lines(before - near.before, near.rest)?;
+    Some(Place { part, before, rest })
 }
 
-fn fault_lines(alloc: Global, parts: &[Part], faults: &[PartFault]) -> Result<Vec<Line>, AllocError>
-    ensures { IfOk result (λ lines. lines.items ≡ map (fault_line_of parts.now) faults.now) }
+/// The line of a fault, and the place from which the next one is looked for.
+fn line_of<'a>(parts: &'a [Part], from: Place<'a>, fault: &PartFault) -> (&'a [u8], Place<'a>)
+    ensures line { IsPlace parts.now from.entry → result.0.now
+        ≡ line_at fault.now.line (text_of (slice_get parts.now fault.now.part)) }
+    ensures place { IsPlace parts.now from.entry → IsPlace parts.now result.1 }
+{
+    let before = fault.line.saturating_sub(1) as usize;
+    match place_behind(parts, from, fault.part as usize, before) {
+        Some(place) => (first_of(place.rest), place),
+        None => (b"", from),
+    }
+}
+
+/// What is told of the lines that are left out, but for those that begin with no id; and whether there are such.
+fn fault_lines(
+    alloc: Global,
+    parts: &[Part],
+    faults: &[PartFault],
+) -> Result<(Vec<Line>, bool), AllocError>
+    ensures { IfOk result (λ told. (told.0.items ≡ map (fault_line_of parts.now)
+        (filter (λ fault. not (is_nameless parts.now fault)) faults.now))
+        × (told.1 ≡ has_nameless parts.now faults.now)) }
 {
     let mut lines = Vec::new(alloc);
+    let mut nameless = false;
+    let mut place = Place {
+        part: 0,
+        before: 0,
+        rest: text_of(part_at(parts, 0)),
+    };
     let mut rest = faults;
     while let Some((fault, others)) = rest.split_first() {
-        lines.push(fault_line_of(alloc, parts, fault)?)?;
+        let (line, behind) = line_of(parts, place, fault);
+        if lacks_id(line) {
+            nameless = true;
+        } else {
+            let part = part_at(parts, fault.part as usize);
+            lines.push(told_of(alloc, part, fault, line)?)?;
+        }
+        place = behind;
         rest = others;
     }
-    Ok(lines)
+    Ok((lines, nameless))
 }
 
 fn warning_line(alloc: Global, parts: &[Part], found: &LineWarning) -> Result<Line, AllocError>
@@ -251,8 +320,7 @@ fn lint_lines(
     ensures { IfOk result (λ lines. lines.items
         ≡ lint_lines parts.now faults.now warnings.now table.now) }
 {
-    let mut lines = fault_lines(alloc, parts, &named(alloc, parts, faults)?)?;
-    let nameless = has_nameless(parts, faults);
+    let (mut lines, nameless) = fault_lines(alloc, parts, faults)?;
     add_note(&mut lines, alloc, parts, nameless, FileLine::Nameless)?;
     lines.append(&mut warning_lines(alloc, parts, warnings)?)?;
     let default = FileLine::Default(table.default_level());
