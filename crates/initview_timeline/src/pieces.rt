@@ -1,6 +1,6 @@
 //! What is drawn in a row of a timeline: bars, from one time to another, and signs upon them, at a time.
 
-ghost use Rattle.std.specs.Prelude.{◌≡◌, ◌++◌, if◌then◌else◌, [], OnOk};
+ghost use Rattle.std.specs.Prelude.{◌≡◌, ◌++◌, if◌then◌else◌, [], ◌∷◌, OnOk};
 ghost use Rattle.initview_timeline.specs.Pieces.{bars_of, begins, has_failed, is_start, life_bars, life_signs, mark_bars, mark_signs, marks_bars, marks_signs, next_begin, piece, signs_of};
 
 use crate::lives::{Life, is_for};
@@ -83,6 +83,24 @@ pub(crate) fn next_begin(last: u64, id: &Option<Id>, later: &[TimelineMark]) -> 
         rest = others;
     }
     last
+}
+
+/// The time of the next that begins behind a mark, by that of the next from the mark on.
+fn next_behind(
+    next: u64,
+    last: u64,
+    id: &Option<Id>,
+    mark: &TimelineMark,
+    later: &[TimelineMark],
+) -> u64
+    ensures { next ≡ next_begin last id.now (mark.now ∷ later.now)
+        → result ≡ next_begin last id.now later.now }
+{
+    if begins(id, mark.what) {
+        next_begin(last, id, later)
+    } else {
+        next
+    }
 }
 
 /// It ended unasked, and not with exit status 0.
@@ -202,10 +220,12 @@ impl Pieces {
         ensures signs { OnOk result (self.new.signs
             ≡ self.old.signs ++ marks_signs last id.now marks.now) }
     {
+        let mut next = next_begin(last, id, marks);
         let mut rest = marks;
         while let Some((mark, later)) = rest.split_first() {
+            next = next_behind(next, last, id, mark, later);
             if is_for(id, mark.what) {
-                self.add_mark(next_begin(last, id, later), mark)?;
+                self.add_mark(next, mark)?;
             }
             rest = later;
         }
