@@ -29,7 +29,8 @@ pub fn is_starting(view: &TraceView, id: &Id) -> bool
     ensures { (past : List Event) → Viewed view.now past
         → result ≡ is_starting (row_of id.now past) }
 {
-    is_unanswered(view.child(id), view.order(id))
+    let order = view.order(id);
+    order.is_some() && is_unanswered(view.child(id), order)
 }
 
 fn is_unanswered(child: Option<ChildNumber>, order: Option<OrderKind>) -> bool

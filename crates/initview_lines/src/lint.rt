@@ -178,8 +178,7 @@ struct Place<'a> {
     rest: &'a [u8],
 }
 
-/// Where to walk from to the place behind so many lines of a file: from a place in it that is no later, or else from its
-/// top.
+/// Where to walk from to the place behind so many lines of a file: a place in it that is no later, or else its top.
 fn nearest<'a>(parts: &'a [Part], from: Place<'a>, part: usize, before: usize) -> Place<'a>
     ensures part { result.part ≡ part }
     ensures before { result.before ≤ before }
