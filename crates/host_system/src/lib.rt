@@ -7,6 +7,7 @@ mod children;
 mod commands;
 mod held;
 mod host_options;
+mod inherited;
 mod laws;
 mod left;
 mod logs;
@@ -18,6 +19,7 @@ mod systems;
 mod terms;
 
 pub use host_options::{HostOptions, Pace};
+pub use inherited::{ignored_signals, ignores_children};
 pub use laws::law_of_asked_calls;
 pub use noting::{SystemCallList, nothing_asked};
 pub use os_hosts::OsHost;

@@ -17,6 +17,7 @@ use program_io::{DEVICE_FAULT, DONE, REFUSED, Reporter, Texts, report_usage};
 use std::alloc::Global;
 use std::fs::File;
 use std::io::Write;
+use std::process::Processes;
 use std::rt::{Clock, Files};
 use trace_files::Traces;
 
@@ -114,7 +115,7 @@ pub fn run_words<R, T, H, S, F, W, E>(
     err: &mut E,
 ) -> u8
 where
-    R: Files<File = File> + Alloc + Eprint + Clock,
+    R: Processes + Files<File = File> + Alloc + Eprint + Clock,
     T: Texts,
     H: Host + Drop,
     S: Hosts<H>,

@@ -5,13 +5,10 @@ ghost use Rattle.initd_command.specs.Words.{KnownTexts, RunSaid};
 ghost use Rattle.initd_command.specs.Services.{IsInWay};
 
 use crate::run::Obstacle;
-use program_io::read_file;
+use host_system::{ignored_signals, ignores_children};
 use std::alloc::Global;
+use std::process::Processes;
 use std::rt::Files;
-use std::str;
-
-/// The file in which Linux tells how a process stands (proc_pid_status(5)).
-const STATUS: &str = "/proc/self/status";
 
 /// The bits of signals in its masks (signal(7)).
 const HUP: u64 = 0x1;
@@ -22,30 +19,11 @@ const QUIT: u64 = 0x4;
 
 const TERM: u64 = 0x4000;
 
-const CHLD: u64 = 0x1_0000;
-
-/// The signals that this process ignores, a bit each; none where the system doesn't tell.
-fn ignored<R: Files>(rt: &R, alloc: Global) -> u64 {
-    match read_file(rt, alloc, STATUS) {
-        Ok(status) => ignored_in(str::from_utf8(&status).unwrap_or("")),
-        Err(_) => 0,
-    }
-}
-
-fn ignored_in(status: &str) -> u64 {
-    for line in status.lines() {
-        if let Some(mask) = line.strip_prefix("SigIgn:") {
-            return u64::from_str_radix(mask.trim(), 16).unwrap_or(0);
-        }
-    }
-    0
-}
-
 /// Refuses a run that can wait for no child, since CHLD is ignored and the system reaps each by itself (wait(2)).
-pub(crate) fn refuse_unwaited<R: Files>(rt: &R, alloc: Global) -> Result<(), Obstacle>
+pub(crate) fn refuse_unwaited<R: Files + Processes>(rt: &R, alloc: Global) -> Result<(), Obstacle>
     ensures { (text_at : KnownTexts) (service : RunSaid) → IfErr result (IsInWay text_at service) }
 {
-    if ignored(rt, alloc) & CHLD != 0 {
+    if ignores_children(rt, alloc) {
         return Err(Obstacle::Unwaited);
     }
     Ok(())
@@ -53,7 +31,7 @@ pub(crate) fn refuse_unwaited<R: Files>(rt: &R, alloc: Global) -> Result<(), Obs
 
 /// Says which of the signals that are to stop a process each child ignores, since init does.
 pub(crate) fn tell_ignored<R: Files + Eprint>(rt: &R, alloc: Global) {
-    let ignored = told_of(ignored(rt, alloc));
+    let ignored = told_of(ignored_signals(rt, alloc).unwrap_or(0));
     let hup = named(ignored, HUP, " HUP");
     let int = named(ignored, INT, " INT");
     let term = named(ignored, TERM, " TERM");

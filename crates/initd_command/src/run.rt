@@ -34,6 +34,7 @@ use std::fs::{File, OpenOptions, canonicalize, metadata, remove_file};
 use std::io;
 use std::io::{ErrorKind, Write};
 use std::os::unix::fs::OpenOptionsExt;
+use std::process::Processes;
 use std::rt::{Clock, Files};
 use trace_files::{FileLog, TraceFiles, Traces, takes_lock};
 use trace_log::EndedLog;
@@ -127,7 +128,7 @@ pub(crate) fn run_files<R, T: Texts, H: Host + Drop, S: Hosts<H>, F: Traces, W: 
     err: &mut E,
 ) -> u8
 where
-    R: Files<File = File> + Alloc + Eprint + Clock,
+    R: Processes + Files<File = File> + Alloc + Eprint + Clock,
     ensures { (ending : Ending) × (result ≡ status_of ending)
         × EndsRun (T.text_at texts.now) (run_of options.now) ending
         (W.contents out.old) (W.contents out.new)
@@ -162,7 +163,7 @@ fn open_run<R, T: Texts, H: Host + Drop, S: Hosts<H>>(
     options: &RunWords,
 ) -> Result<Run<H>, Obstacle>
 where
-    R: Files<File = File> + Alloc + Eprint,
+    R: Processes + Files<File = File> + Alloc + Eprint,
     ensures ok { IfOk result (λ run. HasInittab (T.text_at texts.now) (run_of options.now)
         (λ parts. (run.faults.items ≡ told_of parts)
         × (run.has_no_level ≡ has_no_level options.now.level (table_in parts))

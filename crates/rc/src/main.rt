@@ -3,7 +3,7 @@
 #![tactic(auto)]
 
 use program_io::{Reports, StandardFiles, report_no_memory, report_unread_words, words};
-use rc_command::{SHORT_USAGE, os_host, run_words};
+use rc_command::{SHORT_USAGE, os_host, refuse_unwaited, run_words};
 use std::process::ExitCode;
 
 fn main(rt: HostRuntime) -> ExitCode {
@@ -14,15 +14,18 @@ fn main(rt: HostRuntime) -> ExitCode {
     };
     let mut files = rt;
     let status = match words(&rt, rt.alloc()) {
-        Ok(words) => run_words(
-            &mut host,
-            &rt,
-            &mut files,
-            rt.alloc(),
-            words,
-            &mut rt.stdout(),
-            &mut err,
-        ),
+        Ok(words) => match refuse_unwaited(&rt, rt.alloc(), words.as_slice(), &mut err) {
+            Some(status) => status,
+            None => run_words(
+                &mut host,
+                &rt,
+                &mut files,
+                rt.alloc(),
+                words,
+                &mut rt.stdout(),
+                &mut err,
+            ),
+        },
         Err(error) => report_unread_words("rc", SHORT_USAGE, &error, &mut err),
     };
     drop(host);

@@ -5,6 +5,7 @@
 mod command;
 mod folders;
 mod hosts;
+mod inherited;
 mod level_files;
 mod running;
 
@@ -12,5 +13,6 @@ pub use command::{RunOptions, Words, read_words};
 pub use command_words::WordFault;
 pub use folders::Folders;
 pub use hosts::os_host;
+pub use inherited::refuse_unwaited;
 pub use level_files::LevelFiles;
 pub use running::{PAUSES_LIMIT, SCRIPT_FAILED, SHORT_USAGE, USAGE, run_names, run_words};
