@@ -1,6 +1,6 @@
 //! The list of a trace's pieces, as init adds to it.
 
-use program_io::{refuse_too_large, write_text};
+use program_io::{Reason, refuse_too_large, write_text};
 use std::alloc::Global;
 use std::fs::{File, OpenOptions, symlink_metadata};
 use std::io;
@@ -13,8 +13,21 @@ use trace_pieces::{ListLine, is_list, line_text};
 const FRONT: usize = 256;
 
 /// Adds a line to the list at a path, which is made with a mode where it is missing; nothing is added through a link. Where
-/// a line was cut off, this one is set apart from it.
+/// a line was cut off, this one is set apart from it. An error names the list.
 pub(crate) fn append_line<R: Files<File = File>>(
+    rt: &R,
+    alloc: Global,
+    path: &str,
+    mode: u32,
+    line: ListLine,
+) -> io::Result<()> {
+    match append(rt, alloc, path, mode, line) {
+        Err(error) => Err(of_path(alloc, path, &error)),
+        Ok(()) => Ok(()),
+    }
+}
+
+fn append<R: Files<File = File>>(
     rt: &R,
     alloc: Global,
     path: &str,
@@ -25,8 +38,7 @@ pub(crate) fn append_line<R: Files<File = File>>(
     let text = line_text(alloc, line)?;
     let length = file.metadata()?.len();
     if !is_list_front(&file)? {
-        let message = format!(in alloc; "{path} is no list of its pieces")?;
-        return Err(io::Error::other(message.as_str()));
+        return Err(io::Error::other("it is no list of pieces"));
     }
     let text = if is_cut_off(&file, length)? {
         format!(in alloc; "\n{text}")?
@@ -37,13 +49,21 @@ pub(crate) fn append_line<R: Files<File = File>>(
     write_text(&mut file, text.as_bytes())
 }
 
+/// An error with the path that it is of in front.
+fn of_path(alloc: Global, path: &str, error: &io::Error) -> io::Error {
+    match format!(in alloc; "{path}: {}", Reason(error)) {
+        Ok(message) => io::Error::other(message.as_str()),
+        Err(error) => io::Error::from(error),
+    }
+}
+
 /// The list at a path, to read and to add to.
 fn opened<R: Files<File = File>>(rt: &R, path: &str, mode: u32) -> io::Result<File> {
     let mut options = OpenOptions::new();
     options.read(true).append(true).mode(mode);
     match symlink_metadata(rt, path) {
         Ok(found) if found.is_file() => options.open(rt, path),
-        Ok(_) => Err(io::Error::other("the list of its pieces is no plain file")),
+        Ok(_) => Err(io::Error::other("it is no plain file")),
         Err(error) if error.kind() == ErrorKind::NotFound => options
             .create_new(true)
             .open(rt, path),
