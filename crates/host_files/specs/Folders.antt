@@ -1,7 +1,6 @@
 -- The files of a folder that are parts of an inittab.
 use Rattle.std.specs.Prelude.{◌≡◌, ◌⊎◌, ℕ, Bool, ◌&&◌, ◌||◌, ◌==◌, not, List, [], ◌∷◌, ◌++◌, false, codes, string_bytes}
-use Rattle.std.specs.Prelude.{Option, Some, ⊤}
-use Rattle.program_io.specs.Known.{IsTextAt, KnownTexts}
+use Rattle.std.specs.Prelude.{Option, Some, None, Result, Ok, Err, Vec, ⊤}
 use Rattle.init_words.specs.Parts.{NamedText}
 use Rattle.std.specs.Char.{is_ascii_alphanumeric}
 use Rattle.std.specs.List.{ends_with, list_all}
@@ -39,7 +38,13 @@ IsFolderFault folder (fault.Unread path error) =
     (at : List ℕ) × (folder ≡ Some at) × IsWithin at (string_bytes path)
 IsFolderFault folder fault.Memory = ⊤
 
--- the first part is the file at the path, with the text that stands there
-abbrev pub BeginsWith : KnownTexts → List ℕ → List NamedText → Type 0
-BeginsWith text_at path parts = (text : List ℕ) × (more : List NamedText) × IsTextAt text_at path text
-    × (parts ≡ record { name = path; bytes = text } ∷ more)
+-- what was read of a file, if it could be
+abbrev pub text_of : {A E : Type 0} → Result (Vec ℕ A) E → Option (List ℕ)
+text_of (Ok text) = Some text.items
+text_of (Err why) = None
+
+-- the first part is the file at the path, with the text that was read of it
+abbrev pub IsOwnFirst : List ℕ → Option (List ℕ) → List NamedText → Type 0
+IsOwnFirst path None parts = ⊥
+IsOwnFirst path (Some text) parts =
+    (more : List NamedText) × (parts ≡ record { name = path; bytes = text } ∷ more)

@@ -11,13 +11,14 @@ use Rattle.host_files.specs.Channels.{ChannelState}
 use Rattle.host_system.specs.Systems.{SystemCall}
 
 -- how many of its calls failed; whether its init takes no inittab with a faulty line; whether it tells what children
--- do; the folder of the children's output, where that goes to logs; whether each child is in a session of its own, and
--- signals go to its group; its channel; the children that it holds; its calls, and those that the system was asked, the
--- newest first
+-- do; the path of its inittab; the folder of the children's output, where that goes to logs; whether each child is in
+-- a session of its own, and signals go to its group; its channel; the children that it holds; its calls, and those
+-- that the system was asked, the newest first
 pub record HostState : Type 0 where
   pub faults : ℕ
   pub strict : Bool
   pub verbose : Bool
+  pub inittab : List ℕ
   pub logs : Option (List ℕ)
   pub groups : Bool
   pub channel : ChannelState
@@ -27,7 +28,12 @@ pub record HostState : Type 0 where
 
 -- what of it no call changes
 abbrev pub settings_of : HostState → HostSettings
-settings_of host = record { logs = host.logs; groups = host.groups; fresh = host.channel.fresh }
+settings_of host = record {
+  inittab = host.inittab;
+  logs = host.logs;
+  groups = host.groups;
+  fresh = host.channel.fresh;
+}
 
 -- the answers that there are to a start, to a look and to a signal
 abbrev pub is_start_answer : Answer → Bool

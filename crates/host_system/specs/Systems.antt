@@ -1,4 +1,5 @@
--- What a host asks of the system about processes (fork(2) and execve(2), waitpid(2), kill(2)), and what it is answered.
+-- What a host asks of the system: processes (fork(2) and execve(2), waitpid(2), kill(2)), the clock and the inittab's
+-- file; and what it is answered.
 use Rattle.std.specs.Prelude.{ℕ, Bool, if◌then◌else◌, ◌==◌, ◌%◌, ◌/◌, List, ◌∷◌, Option, Some, None, Result, Ok, Err}
 use Rattle.std.specs.Process.{status_bits}
 use Rattle.std.specs.declared.process.status.ExitStatus.{ExitStatus}
@@ -18,13 +19,16 @@ waited (Err why) = None
 
 -- a program was started by these words, its name first, and is the process of this number, or could not be started; a
 -- process was waited for, without hanging; it was sent a signal, or its process group was (kill(2)), and was reached
--- or not; a program was run to its end
+-- or not; a program was run to its end; the clock was read, and gave the time since the beginning of 1970, in
+-- nanoseconds, or failed; the file at a path was read, and had this text, or could not be
 pub data SystemCall : Type 0 where
   spawn : List (List ℕ) → Option ℕ → SystemCall
   try_wait : ℕ → Waited → SystemCall
   send : SignalKind → ℕ → Bool → SystemCall
   send_group : SignalKind → ℕ → Bool → SystemCall
   run : List (List ℕ) → SystemCall
+  read_clock : Option ℕ → SystemCall
+  read_file : List ℕ → Option (List ℕ) → SystemCall
 
 -- the newest call started a process, which has this number
 abbrev pub born : ℕ → List SystemCall → List SystemCall

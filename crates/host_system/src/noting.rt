@@ -8,6 +8,7 @@ use std::alloc::Allocator;
 use std::io;
 use std::marker::{Model, PhantomData};
 use std::process::{Command, ExitStatus};
+use std::time::Duration;
 
 /// A list of calls, the newest first. None is ever made: it is the type of what is noted.
 pub struct SystemCallList {
@@ -136,4 +137,36 @@ impl<'a, A: Allocator> Reads<(&'a Noted<SystemCallList>, &'a Command<A>), System
     ghost use Rattle.host_system.specs.Systems.SystemCall.{run};
 
     ghost value = { λ asked. run (words_in asked.1.now) ∷ asked.0.now.value };
+}
+
+/// The clock was read.
+pub(crate) struct ClockRead;
+
+impl<'a> Reads<(&'a Noted<SystemCallList>, &'a io::Result<Duration>), SystemCallList>
+    for ClockRead {
+    ghost use Rattle.std.specs.Prelude.{◌∷◌, option_map};
+    ghost use Rattle.std.specs.Result.{result_ok};
+    ghost use Rattle.std.specs.Duration.{as_nanos};
+    ghost use Rattle.host_system.specs.Systems.SystemCall.{read_clock};
+
+    ghost value = { λ asked.
+        read_clock (option_map as_nanos (result_ok asked.1.now)) ∷ asked.0.now.value };
+}
+
+/// The file at a path was read.
+pub(crate) struct FileRead;
+
+impl<'a, A: Allocator> Reads<
+    (
+        &'a Noted<SystemCallList>,
+        (&'a str, &'a io::Result<Vec<u8, A>>),
+    ),
+    SystemCallList,
+> for FileRead {
+    ghost use Rattle.std.specs.Prelude.{◌∷◌};
+    ghost use Rattle.host_files.specs.Folders.{text_of};
+    ghost use Rattle.host_system.specs.Systems.SystemCall.{read_file};
+
+    ghost value = { λ asked.
+        read_file asked.1.0.now (text_of asked.1.1.now) ∷ asked.0.now.value };
 }

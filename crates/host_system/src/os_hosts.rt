@@ -1,7 +1,9 @@
 //! The host over the operating system.
 
 ghost use Rattle.std.specs.Prelude.{◌≡◌, List, [], Ok, IfOk, OnErr, IsErr, true, false, option_map, string_bytes};
-ghost use Rattle.host_system.specs.Asking.{AsksHelpers};
+ghost use Rattle.std.specs.Result.{result_ok};
+ghost use Rattle.std.specs.Duration.{as_nanos};
+ghost use Rattle.host_system.specs.Asking.{AreSecondsOf, AsksHelpers};
 
 use crate::bell_making::make_bell;
 use crate::children::Children;
@@ -9,11 +11,10 @@ use crate::host_options::HostOptions;
 use crate::logs::Logs;
 use crate::noting::SystemCallList;
 use crate::pauses::{Pauses, has_stirred};
-use crate::steady_clocks::SteadyClock;
 use crate::systems::System;
 use host_calls::{Host, HostFault, Reply, counted, is_failed_reply};
 use host_files::{Channel, ChannelCallList, InittabFiles, OsChannelFile, StateFile, boxed};
-use host_messages::{Output, tell_refused};
+use host_messages::{Output, Trouble, tell_refused};
 use host_telling::{CallList, adding, no_calls};
 use init_words::{Answer, Id, Memory, Part, SignalKind};
 use inittab_text::read_parts;
@@ -24,6 +25,7 @@ use std::io;
 use std::io::ErrorKind;
 use std::marker::Model;
 use std::rt::{Clock, Files};
+use std::time::Duration;
 use trace_events::{Handed, Happening, HappeningIn};
 
 /// A host that asks the operating system. It tells its calls, and those that it asked the system for them, which proofs
@@ -68,7 +70,7 @@ struct OsHostParts<
     state: Box<StateFile<A>, A>,
     output: Output<A>,
     pauses: Pauses,
-    clock: SteadyClock,
+    timing: Trouble,
     strict: bool,
     verbose: bool,
     faults: u64,
@@ -79,7 +81,7 @@ impl<R: Files<File = File> + Clock + Print + Eprint + Drop, S: System + Drop, A:
     for OsHost<R, S, A> {
     ghost use Rattle.host_system.specs.Asking.{AreAsked};
     ghost use Rattle.host_system.specs.Hearing.{bytes_taken};
-    ghost use Rattle.host_system.specs.Hosts.{HostState};
+    ghost use Rattle.host_system.specs.Hosts.{HostState, settings_of};
     ghost use Rattle.host_files.specs.Channels.{HasHanded};
 
     ghost Value = { HostState };
@@ -87,7 +89,7 @@ impl<R: Files<File = File> + Clock + Print + Eprint + Drop, S: System + Drop, A:
     ghost view = { λ os. os.host.value };
 
     ghost invariant = { λ os. let host = os.host.value in
-        AreAsked host.logs host.groups host.calls host.held host.asked
+        AreAsked (settings_of host) host.calls host.held host.asked
         × HasHanded host.channel (bytes_taken host.calls) };
 }
 
@@ -102,6 +104,7 @@ impl<R: Files<File = File> + Clock + Print + Eprint + Drop, S: System + Drop, A:
       faults = host.faults;
       strict = host.strict;
       verbose = host.verbose;
+      inittab = host.inittab.value;
       logs = option_map string_bytes host.logs.folder;
       groups = host.logs.groups;
       channel = host.channel.value;
@@ -118,6 +121,7 @@ impl<
 > OsHost<R, S, A> {
     ghost use Rattle.host_system.specs.Asking.{AreAsked};
     ghost use Rattle.host_system.specs.Hearing.{IsHeard};
+    ghost use Rattle.host_system.specs.Hosts.{settings_of};
 
     /// A host without children, which has a system over the source to itself.
     pub fn new(
@@ -131,6 +135,7 @@ impl<
           faults = 0;
           strict = options.now.strict;
           verbose = options.now.verbose;
+          inittab = options.now.inittab.now;
           logs = option_map (λ path. path.now) options.now.logs;
           groups = options.now.groups;
           channel = record { fresh = options.now.fresh; told = []; rest = [] };
@@ -153,7 +158,7 @@ impl<
             state,
             output: Output::new(alloc, options.program),
             pauses: Pauses::of(options.pace),
-            clock: SteadyClock::new(options.program),
+            timing: Trouble::new(options.program, "read", "read"),
             strict: options.strict,
             verbose: options.verbose,
             faults: 0,
@@ -177,7 +182,7 @@ impl<
     /// The calls that were made of it.
     pub fn calls(&self) -> Noted<CallList>
         ensures value { result.value ≡ self.now.calls }
-        ensures own { AreAsked self.now.logs self.now.groups self.now.calls self.now.held
+        ensures own { AreAsked (settings_of self.now) self.now.calls self.now.held
             self.now.asked }
     {
         let host = &*self.host;
@@ -217,7 +222,8 @@ type HostFiles<A> = (
 
 fn files_of<A: Allocator + Copy>(alloc: A, options: &HostOptions) -> Result<HostFiles<A>, Memory>
     ensures { IfOk result (λ files.
-        files.0.value ≡ record { fresh = options.now.fresh; told = []; rest = [] }) }
+        (files.0.value ≡ record { fresh = options.now.fresh; told = []; rest = [] })
+        × (files.1.value ≡ options.now.inittab.now)) }
 {
     let program = options.program;
     let channel = Channel::new(alloc, program, options.channel, options.fresh)?;
@@ -317,6 +323,13 @@ fn host_result<T>(outcome: io::Result<T>) -> Result<T, HostFault>
     }
 }
 
+/// Whole seconds of a time, or the fault that its error is.
+fn seconds_of(time: io::Result<Duration>) -> Result<u64, HostFault>
+    ensures { AreSecondsOf (option_map as_nanos (result_ok time)) result }
+{
+    Ok(host_result(time)?.as_secs())
+}
+
 impl<
     R: Files<File = File> + Clock + Print + Eprint + Drop,
     S: System + Drop,
@@ -327,7 +340,7 @@ impl<
     ghost use Rattle.host_calls.specs.declared.calls.Call.TheVariants as call;
     ghost use Rattle.host_calls.specs.Calls.{HasCause, front_read, is_failed_reply, parts_read, text_read};
     ghost use Rattle.host_calls.specs.Held.{Starts, Looks, Signals};
-    ghost use Rattle.host_system.specs.Asking.{AsksLook, AsksSignal, AsksStart, OnNow, number_of};
+    ghost use Rattle.host_system.specs.Asking.{AsksClock, AsksLook, AsksSignal, AsksStart, AsksTables, OnNow, number_of};
     ghost use Rattle.host_system.specs.Hosts.{HostState, settings_of, is_start_answer, is_look_answer, is_signal_answer, answers_by};
 
     ghost told = { λ (host : HostState). Some host.calls };
@@ -435,13 +448,17 @@ impl<
 
     fn clock(&mut self) -> Result<u64, HostFault>
         ensures cause { HasCause self.old.faults self.new.faults (is_err result) }
+        ensures asked { AsksClock result self.old.asked self.new.asked }
         ensures kept { self.new ≡ record self.old {
           faults = self.new.faults;
+          asked = self.new.asked;
           calls = call.Clock result ∷ self.old.calls;
         } }
     {
         let host = &mut *self.host;
-        let reading = host_result(host.clock.seconds(&host.rt));
+        let time = host.system.clock();
+        host.timing.tell(&host.rt, "the clock", &time);
+        let reading = seconds_of(time);
         host.faults = counted(host.faults, reading.is_err());
         host.told = adding::and_call::<_, adding::Clock>(&host.told, reading);
         reading
@@ -470,13 +487,17 @@ impl<
 
     fn read_tables<B: Allocator + Copy>(&mut self, alloc: B) -> Result<Vec<Part<B>, B>, HostFault>
         ensures cause { HasCause self.old.faults self.new.faults (is_err result) }
+        ensures asked { AsksTables self.old.inittab (parts_read (λ parts. parts.items) result)
+            self.old.asked self.new.asked }
         ensures kept { self.new ≡ record self.old {
           faults = self.new.faults;
+          asked = self.new.asked;
           calls = call.ReadTables (parts_read (λ parts. parts.items) result) ∷ self.old.calls;
         } }
     {
         let host = &mut *self.host;
-        let parts = host_result(host.inittab.read(&host.rt, &host.rt, alloc));
+        let text = host.system.read_file(alloc, host.inittab.path());
+        let parts = host_result(host.inittab.read(&host.rt, alloc, text));
         let is_told = match &parts {
             Ok(parts) => host.tell_reading(alloc, parts),
             Err(_) => false,

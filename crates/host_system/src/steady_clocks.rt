@@ -1,6 +1,5 @@
 //! A clock that no one can set.
 
-use host_messages::Trouble;
 use std::io;
 use std::io::ErrorKind;
 use std::rt::Clock;
@@ -13,38 +12,28 @@ struct Beginning {
     at: Instant,
 }
 
-/// A clock that gives the seconds since the beginning of 1970 as they were at its first reading, and goes on from there
-/// by the monotonic clock.
+/// A clock that gives the time since the beginning of 1970 as it was at its first reading, and goes on from there by the
+/// monotonic clock.
 #[derive(Drop)]
 pub(crate) struct SteadyClock {
     beginning: Option<Beginning>,
-    trouble: Trouble,
 }
 
 impl SteadyClock {
     /// A clock that was not read yet.
-    pub(crate) fn new(program: &'static str) -> SteadyClock {
-        SteadyClock {
-            beginning: None,
-            trouble: Trouble::new(program, "read", "read"),
-        }
+    pub(crate) fn new() -> SteadyClock {
+        SteadyClock { beginning: None }
     }
 
-    /// The seconds now. What fails is told on standard error.
-    pub(crate) fn seconds(&mut self, rt: &(impl Clock + Eprint)) -> io::Result<u64> {
-        let seconds = self.reading(rt);
-        self.trouble.tell(rt, "the clock", &seconds);
-        seconds
-    }
-
-    fn reading(&mut self, rt: &impl Clock) -> io::Result<u64> {
+    /// The time now.
+    pub(crate) fn reading(&mut self, rt: &impl Clock) -> io::Result<Duration> {
         let beginning = match self.beginning {
             Some(beginning) => beginning,
             None => begun(rt)?,
         };
         self.beginning = Some(beginning);
         let passed = beginning.at.elapsed(rt)?;
-        Ok(beginning.since_1970.saturating_add(passed).as_secs())
+        Ok(beginning.since_1970.saturating_add(passed))
     }
 }
 

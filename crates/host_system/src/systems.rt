@@ -1,26 +1,32 @@
-//! What starts processes, waits for them and signals them.
+//! What a host asks the operating system: processes, the clock, the inittab's file.
 
-ghost use Rattle.std.specs.Prelude.{◌≡◌, List, [], ◌∷◌, Some, None, is_ok, IfOk, OnErr, ℕ};
+ghost use Rattle.std.specs.Prelude.{◌≡◌, List, [], ◌∷◌, Some, None, is_ok, IfOk, OnErr, ℕ, option_map};
+ghost use Rattle.std.specs.Result.{result_ok};
+ghost use Rattle.std.specs.Duration.{as_nanos};
+ghost use Rattle.host_files.specs.Folders.{text_of};
 ghost use Rattle.init_words.specs.declared.orders.SignalKind.TheVariants.{Kill, Term};
 ghost use Rattle.host_system.specs.Commands.{words_in};
 ghost use Rattle.host_system.specs.Systems.{SystemCall, waited};
-ghost use Rattle.host_system.specs.Systems.SystemCall.{run, send, send_group, spawn, try_wait};
+ghost use Rattle.host_system.specs.Systems.SystemCall.{read_clock, read_file, run, send, send_group, spawn, try_wait};
 
 use crate::noting::{
-    GroupSent, Killed, Ran, Spawned, Started, SystemCallList, Terminated, Waited, noted,
-    nothing_asked,
+    ClockRead, FileRead, GroupSent, Killed, Ran, Spawned, Started, SystemCallList, Terminated,
+    Waited, noted, nothing_asked,
 };
+use crate::steady_clocks::SteadyClock;
 use crate::terms::TermSender;
 use init_words::SignalKind;
-use program_io::Noted;
+use program_io::{Noted, read_file};
 use std::alloc::Allocator;
 use std::io;
 use std::process::{Child, Command, ExitStatus, OpenProcess, Processes};
+use std::rt::{Clock, Files};
+use std::time::Duration;
 
-/// What starts processes, waits for them and signals them.
+/// What starts processes, waits for them and signals them, has a clock, and reads files.
 ///
 /// A contract sees of it the calls that it was asked, with what it answered. Whoever knows no more of it than this has no
-/// other way to a process.
+/// other way to a process, the time or a file.
 pub trait System {
     /// The calls with their answers, the newest first.
     ghost told: { Self → List SystemCall };
@@ -88,6 +94,16 @@ pub trait System {
     /// Runs a program to its end.
     fn run<A: Allocator + Copy>(&mut self, command: &mut Command<A>) -> io::Result<ExitStatus>
         ensures { told self.new ≡ run (words_in command.old) ∷ told self.old };
+
+    /// The time since the beginning of 1970, as it was at the first reading, and goes on from there by a clock that nobody
+    /// sets (clock_gettime(2), CLOCK_MONOTONIC).
+    fn clock(&mut self) -> io::Result<Duration>
+        ensures { told self.new
+            ≡ read_clock (option_map as_nanos (result_ok result)) ∷ told self.old };
+
+    /// The text of the plain file at a path, in memory of `alloc`. What is no plain file is refused.
+    fn read_file<A: Allocator>(&mut self, alloc: A, path: &str) -> io::Result<Vec<u8, A>>
+        ensures { told self.new ≡ read_file path.now (text_of result) ∷ told self.old };
 }
 
 /// A process of the operating system, with the number that it was born with.
@@ -99,13 +115,14 @@ pub struct Process<P: OpenProcess + Drop> {
 
 /// The operating system. Each call asks it for one thing, and notes what it asked and what was answered.
 #[derive(Drop)]
-pub struct OsSystem<R: Processes + Drop> {
+pub struct OsSystem<R: Processes + Clock + Files + Drop> {
     rt: R,
     sender: TermSender<R::Started>,
+    clock: SteadyClock,
     told: Noted<SystemCallList>,
 }
 
-impl<R: Processes + Drop> System for OsSystem<R> {
+impl<R: Processes + Clock + Files + Drop> System for OsSystem<R> {
     ghost told = { λ system. system.told.value };
 
     type Source = R;
@@ -118,6 +135,7 @@ impl<R: Processes + Drop> System for OsSystem<R> {
         OsSystem {
             rt: source,
             sender: TermSender::new(),
+            clock: SteadyClock::new(),
             told: nothing_asked(),
         }
     }
@@ -182,5 +200,17 @@ impl<R: Processes + Drop> System for OsSystem<R> {
     fn run<A: Allocator + Copy>(&mut self, command: &mut Command<A>) -> io::Result<ExitStatus> {
         self.told = noted::<_, Ran>(&self.told, &*command);
         command.status(&self.rt)
+    }
+
+    fn clock(&mut self) -> io::Result<Duration> {
+        let read = self.clock.reading(&self.rt);
+        self.told = noted::<_, ClockRead>(&self.told, &read);
+        read
+    }
+
+    fn read_file<A: Allocator>(&mut self, alloc: A, path: &str) -> io::Result<Vec<u8, A>> {
+        let read = read_file(&self.rt, alloc, path);
+        self.told = noted::<_, FileRead>(&self.told, (path, &read));
+        read
     }
 }

@@ -67,7 +67,12 @@ pub record RunTold : Type 0 where
 
 -- the settings of a host that arguments of a run name
 abbrev pub settings_said : RunSaid → HostSettings
-settings_said service = record { logs = service.logs; groups = service.groups; fresh = service.fresh }
+settings_said service = record {
+  inittab = service.inittab;
+  logs = service.logs;
+  groups = service.groups;
+  fresh = service.fresh;
+}
 
 -- where they are known, they are these
 abbrev pub HasSettings : RunSaid → Option HostSettings → Type 0
