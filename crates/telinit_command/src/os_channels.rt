@@ -141,18 +141,22 @@ fn ring<R: Files<File = File>>(rt: &R, alloc: Global, channel: &str) -> io::Resu
         .read(true)
         .write(true)
         .open(rt, path.as_str())?;
-    if has_room(&file) {
+    if has_room(&file)? {
         file.write_all(b"\n")?;
     }
     Ok(())
 }
 
 /// A byte can be written to the FIFO without waiting.
-fn has_room(file: &File) -> bool {
+fn has_room(file: &File) -> io::Result<bool> {
     let mut asked = [pollfd {
         fd: file.as_raw_fd(),
         events: POLLOUT,
         revents: 0,
     }];
-    poll(&mut asked, 0) > 0
+    match poll(&mut asked, 0) {
+        0 => Ok(false),
+        found if found > 0 => Ok(true),
+        _ => Err(Error::other("poll failed")),
+    }
 }
