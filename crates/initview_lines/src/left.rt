@@ -19,7 +19,10 @@ pub fn left_lines(
     ensures { IfOk result (λ lines. (past : List Event) → Viewed view.now past
         → lines.items ≡ left_in shape past) }
 {
-    let mut lines = child_lines(alloc, view.children(), shape)?;
+    let Ok(children) = view.children(alloc) else {
+        return Err(AllocError);
+    };
+    let mut lines = child_lines(alloc, children.as_slice(), shape)?;
     add_starts(&mut lines, view, view.table().entries(), shape)?;
     Ok(lines)
 }

@@ -1,5 +1,7 @@
 pub mod Awaited
+mod ChildLists
 pub mod Lining
+mod Lones
 pub mod Reasons
 pub mod SeenTexts
 pub mod Sights

@@ -1,5 +1,6 @@
 pub mod Births
 pub mod Calls
+pub mod ChildLists
 pub mod LastLines
 pub mod Rows
 pub mod SeenTexts

@@ -7,7 +7,7 @@ pub use Rattle.trace_events.specs.declared.happenings.Happening.TheVariants.{Hol
 pub use Rattle.trace_events.specs.declared.happenings.Happening.TheVariants.{Handed}
 pub use Rattle.trace_events.specs.Event.{Event}
 pub use Rattle.trace_events.specs.Past.{time_of, Child, is_of, newborn, table_of, stage_of, open_of, unreaped_children}
-pub use Rattle.trace_events.specs.Past.{is_child, kept_children, grace_of}
+pub use Rattle.trace_events.specs.Past.{has_number, is_child, kept_children, grace_of}
 pub use Rattle.trace_events.specs.Wanted.{same_acts, is_excluded, may_live, starts_now, is_wanted, is_owed}
 pub use Rattle.trace_events.specs.Wanted.{entries_before, is_order, starts_in}
 pub use Rattle.init_words.specs.declared.levels.Letter.{Letter}
@@ -24,7 +24,7 @@ pub use Rattle.init_words.specs.declared.stages.Stage.TheVariants.{Run, Sysinit,
 pub use Rattle.inittab_text.specs.Tables.{entry_of, act_of, is_distinct}
 pub use Rattle.trace_events.specs.Due.{is_settled, is_announced, enter_level, due_starts, same_step}
 pub use Rattle.trace_check.specs.Reading.{child_of, term_of, newest}
-pub use Rattle.trace_events.specs.Lawful.{broken}
+pub use Rattle.trace_events.specs.Lawful.{broken, first_breach}
 pub use Rattle.trace_events.specs.Range.{are_in_range}
 pub use Rattle.trace_check.specs.declared.laws.Law.{Law}
 pub use Rattle.trace_check.specs.Laws.{law_number}

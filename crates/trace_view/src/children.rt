@@ -1,14 +1,16 @@
 //! The unreaped and the kept children, the youngest first.
 
-ghost use Rattle.std.specs.Prelude.{◌≡◌, ◌∷◌, List, not, find, filter, false, option_map, option_copied, OnOk, IfOk};
+ghost use Rattle.std.specs.Prelude.{◌≡◌, ◌∷◌, List, None, false, option_map, OnOk, IfOk};
 ghost use Rattle.std.specs.List.{list_any};
 ghost use Rattle.std.specs.Option.{option_map_or};
-ghost use Rattle.trace_view.specs.Words.{Child, Event, is_of, is_child, kept_children, table_of, unreaped_children};
+ghost use Rattle.trace_view.specs.Words.{Child, Event, first_breach, has_number, kept_children, table_of, unreaped_children};
+ghost use Rattle.trace_view.specs.ChildLists.{with_child, without};
 ghost use Rattle.trace_view.specs.Births.{early_children, is_born_as, is_early};
 ghost use Rattle.trace_view.specs.Viewing.{newborn_in, is_excluded_by};
 ghost use Rattle.trace_view.specs.Why.{number_of, excluded_as};
 ghost use Rattle.trace_view.specs.Rows.{gone_ids};
 
+use crate::child_lists::ChildList;
 use crate::standings::Excluded;
 use init_words::{Act, ChildNumber, Entry, Id, Memory, Stage, lives};
 use inittab_text::Table;
@@ -42,87 +44,90 @@ pub(crate) fn newborn<A: Allocator>(table: &Table<A>, id: Id, number: ChildNumbe
     BornChild { id, number, act }
 }
 
-fn drop_child<A: Allocator>(children: &mut Vec<BornChild, A>, id: Id, number: ChildNumber)
-    ensures { children.new.items
-        ≡ filter (λ (child : Child). not (is_child id number child)) children.old.items }
-{
-    children.retain(|child: &BornChild| !(id == child.id && number == child.number));
-}
-
-fn drop_id<A: Allocator>(children: &mut Vec<BornChild, A>, id: Id)
-    ensures { children.new.items
-        ≡ filter (λ (child : Child). not (is_of id child)) children.old.items }
-{
-    children.retain(|child: &BornChild| id != child.id);
-}
-
-/// The children of an id.
-fn children_of_id<A: Allocator>(
-    alloc: A,
-    children: &[BornChild],
-    id: Id,
-) -> Result<Vec<BornChild, A>, Memory>
-    ensures { IfOk result (λ own. own.items
-        ≡ filter (λ (child : Child). is_of id child) children.now) }
-{
-    Ok(
-        children
-            .iter()
-            .copied()
-            .filter(|child| id == child.id)
-            .collect(alloc)?,
-    )
-}
-
 /// The unreaped children, the youngest first.
 pub(crate) fn take_unreaped<A: Allocator, B: Allocator>(
-    unreaped: &mut Vec<BornChild, A>,
+    unreaped: &mut ChildList<A>,
     table: &Table<A>,
     happening: &HappeningIn<B>,
 ) -> Result<(), Memory>
-    ensures { OnOk result ((past : List Event) → table.now ≡ table_of (happening.now ∷ past)
-        → unreaped.old.items ≡ unreaped_children past
-        → unreaped.new.items ≡ unreaped_children (happening.now ∷ past)) }
+    ensures { OnOk result ((past : List Event) → first_breach past ≡ None
+        → table.now ≡ table_of (happening.now ∷ past) → unreaped.old ≡ unreaped_children past
+        → unreaped.new ≡ unreaped_children (happening.now ∷ past)) }
 {
     match happening {
         Happening::Birth(id, number) => {
-            unreaped.insert(0, newborn(table, *id, *number))?;
+            unreaped.push(newborn(table, *id, *number))?;
             Ok(())
         }
         Happening::Reaped(id, number, _) => {
-            drop_child(unreaped, *id, *number);
+            drop_child(unreaped, *id, *number)?;
             Ok(())
         }
         _ => Ok(()),
+    }
+}
+
+/// Lets go of those of the id, where the youngest of them has the number.
+fn drop_child<A: Allocator>(
+    children: &mut ChildList<A>,
+    id: Id,
+    number: ChildNumber,
+) -> Result<(), Memory>
+    ensures { OnOk result (children.new ≡ without id number children.old) }
+{
+    if has_number(children.youngest_of(id), number) {
+        children.drop_id(id)?;
+    }
+    Ok(())
+}
+
+/// There is a child, and it has this number.
+fn has_number(child: Option<BornChild>, number: ChildNumber) -> bool
+    ensures { result ≡ option_map_or (has_number number) child false }
+{
+    match child {
+        Some(child) => number == child.number,
+        None => false,
     }
 }
 
 /// The kept children, the youngest first.
-pub(crate) fn take_kept<A: Allocator + Copy, B: Allocator>(
-    kept: &mut Vec<BornChild, A>,
-    alloc: A,
-    unreaped: &[BornChild],
+pub(crate) fn take_kept<A: Allocator, B: Allocator>(
+    kept: &mut ChildList<A>,
+    unreaped: &ChildList<A>,
     table: &Table<A>,
     happening: &HappeningIn<B>,
 ) -> Result<(), Memory>
-    ensures { OnOk result ((past : List Event) → table.now ≡ table_of (happening.now ∷ past)
-        → unreaped.now ≡ unreaped_children past → kept.old.items ≡ kept_children past
-        → kept.new.items ≡ kept_children (happening.now ∷ past)) }
+    ensures { OnOk result ((past : List Event) → first_breach past ≡ None
+        → table.now ≡ table_of (happening.now ∷ past) → unreaped.now ≡ unreaped_children past
+        → kept.old ≡ kept_children past
+        → kept.new ≡ kept_children (happening.now ∷ past)) }
 {
     match happening {
         Happening::Birth(id, number) => {
-            kept.insert(0, newborn(table, *id, *number))?;
+            kept.push(newborn(table, *id, *number))?;
             Ok(())
         }
         Happening::Told(id) => {
-            let mut told = children_of_id(alloc, unreaped, *id)?;
-            drop_id(kept, *id);
-            told.extend_from_slice(kept.as_slice())?;
-            *kept = told;
+            kept.drop_id(*id)?;
+            push_some(kept, unreaped.youngest_of(*id))?;
             Ok(())
         }
         _ => Ok(()),
     }
+}
+
+/// One more, where there is one.
+fn push_some<A: Allocator>(
+    children: &mut ChildList<A>,
+    child: Option<BornChild>,
+) -> Result<(), Memory>
+    ensures { OnOk result (children.new ≡ with_child child children.old) }
+{
+    if let Some(child) = child {
+        children.push(child)?;
+    }
+    Ok(())
 }
 
 /// The child was born for an entry whose action starts it before the first level.
@@ -172,23 +177,19 @@ pub(crate) fn has_born_as(entry: &Entry, children: &[BornChild]) -> bool
     children.iter().any(|child| is_born_as(entry, child))
 }
 
-/// The youngest child of the id.
-pub(crate) fn child_of_id(children: &[BornChild], id: Id) -> Option<&BornChild>
-    ensures { option_copied result ≡ find (is_of id) children.now }
+/// Its number.
+pub(crate) fn number_of(child: Option<BornChild>) -> Option<ChildNumber>
+    ensures { result ≡ option_map number_of child }
 {
-    children.iter().find(|child| id == child.id)
-}
-
-/// The number of the youngest child of the id.
-pub(crate) fn number_of_id(children: &[BornChild], id: Id) -> Option<ChildNumber>
-    ensures { result ≡ option_map number_of (find (is_of id) children.now) }
-{
-    let child = child_of_id(children, id)?;
-    Some(child.number)
+    Some(child?.number)
 }
 
 /// The child may not live in the stage, by the table: it is stopped (init(8)).
-fn is_excluded<A: Allocator>(table: &Table<A>, stage: Option<Stage>, child: &BornChild) -> bool
+pub(crate) fn is_excluded<A: Allocator>(
+    table: &Table<A>,
+    stage: Option<Stage>,
+    child: &BornChild,
+) -> bool
     ensures { result ≡ is_excluded_by table.now stage child.now }
 {
     match (table.get(&child.id), child.act, stage) {
@@ -197,45 +198,26 @@ fn is_excluded<A: Allocator>(table: &Table<A>, stage: Option<Stage>, child: &Bor
     }
 }
 
-/// The youngest of the children that may not live.
-fn first_excluded<'a, A: Allocator>(
-    children: &'a [BornChild],
-    table: &Table<A>,
-    stage: Option<Stage>,
-) -> Option<&'a BornChild>
-    ensures { option_copied result ≡ find (is_excluded_by table.now stage) children.now }
+/// A child by its id and number.
+pub(crate) fn excluded_as(child: &BornChild) -> Excluded
+    ensures { result ≡ excluded_as child.now }
 {
-    children
-        .iter()
-        .find(|child| is_excluded(table, stage, *child))
-}
-
-/// The youngest of the children that may not live, by its id and number.
-pub(crate) fn excluded_of<A: Allocator>(
-    children: &[BornChild],
-    table: &Table<A>,
-    stage: Option<Stage>,
-) -> Option<Excluded>
-    ensures { result ≡ option_map excluded_as (find (is_excluded_by table.now stage) children.now) }
-{
-    let child = first_excluded(children, table, stage)?;
-    Some(Excluded {
+    Excluded {
         id: child.id,
         number: child.number,
-    })
+    }
 }
 
 /// There is a child, which may not live.
 pub(crate) fn excludes<A: Allocator>(
-    child: Option<&BornChild>,
+    child: Option<BornChild>,
     table: &Table<A>,
     stage: Option<Stage>,
 ) -> bool
-    ensures { result
-        ≡ option_map_or (is_excluded_by table.now stage) (option_copied child.entry) false }
+    ensures { result ≡ option_map_or (is_excluded_by table.now stage) child false }
 {
     match child {
-        Some(child) => is_excluded(table, stage, child),
+        Some(child) => is_excluded(table, stage, &child),
         None => false,
     }
 }

@@ -5,6 +5,7 @@
 #![tactic(auto)]
 
 mod calls;
+mod child_lists;
 mod children;
 mod last_lines;
 mod laws;

@@ -9,9 +9,9 @@ ghost use Rattle.trace_view.specs.Rows.{row_of, gone_ids, is_complete_now, compl
 ghost use Rattle.trace_view.specs.Wishes.{asked_level, first_wish, next_stage};
 
 use crate::calls::{is_named, take_call};
+use crate::child_lists::ChildList;
 use crate::children::{
-    BornChild, child_of_id, excluded_of, excludes, gone_of, has_born_as, number_of_id, take_early,
-    take_kept, take_unreaped,
+    BornChild, excludes, gone_of, has_born_as, number_of, take_early, take_kept, take_unreaped,
 };
 use crate::rows::{Births, ById, Ending, Row, empty_map, of_id, take_birth, take_end};
 use crate::standings::Standing;
@@ -31,8 +31,8 @@ use trace_events::{CallSet, HappeningIn};
 pub struct TraceView<A: Allocator = Global> {
     alloc: A,
     judge: TraceJudge<A>,
-    unreaped: Vec<BornChild, A>,
-    kept: Vec<BornChild, A>,
+    unreaped: ChildList<A>,
+    kept: ChildList<A>,
     wishes: Wishes,
     calls: CallSet,
     births: ById<Births, A>,
@@ -47,8 +47,8 @@ impl<A: Allocator> Model for TraceView<A> {
 
     ghost view = { λ v. record {
       judging = v.judge;
-      unreaped = v.unreaped.items;
-      kept = v.kept.items;
+      unreaped = v.unreaped;
+      kept = v.kept;
       wishes = v.wishes;
       calls = v.calls;
       births = v.births.entries;
@@ -135,8 +135,8 @@ impl<A: Allocator + Copy> TraceView<A> {
         TraceView {
             alloc,
             judge: TraceJudge::new(alloc),
-            unreaped: Vec::new(alloc),
-            kept: Vec::new(alloc),
+            unreaped: ChildList::new(alloc),
+            kept: ChildList::new(alloc),
             wishes: Wishes::default(),
             calls: CallSet::default(),
             births: empty_map(alloc),
@@ -158,13 +158,7 @@ impl<A: Allocator + Copy> TraceView<A> {
         let table = self.judge.table();
         let stage = self.judge.stage();
         let time = self.judge.time();
-        take_kept(
-            &mut self.kept,
-            self.alloc,
-            self.unreaped.as_slice(),
-            table,
-            happening,
-        )?;
+        take_kept(&mut self.kept, &self.unreaped, table, happening)?;
         take_unreaped(&mut self.unreaped, table, happening)?;
         take_birth(&mut self.births, time, happening)?;
         take_early(&mut self.early, table, happening)?;
@@ -191,11 +185,11 @@ impl<A: Allocator> TraceView<A> {
         let full = self.judge.is_full(&id);
         let holds = both(limited, held);
         let fills = both(limited, full);
-        let kept = self.kept.as_slice();
+        let kept = &self.kept;
         Standing {
             starts: starts_in(entry, stage),
-            child: number_of_id(kept, id),
-            stops: excludes(child_of_id(kept, id), table, stage),
+            child: number_of(kept.youngest_of(id)),
+            stops: excludes(kept.youngest_of(id), table, stage),
             booted: self.wishes.booted,
             ran: has_born_as(entry, self.early.as_slice()),
             awaited: self.awaited(),
@@ -203,7 +197,7 @@ impl<A: Allocator> TraceView<A> {
             wanted: self.judge.is_wanted(entry),
             named: is_named(entry, self.calls),
             owed: id_of(self.judge.first_owed(&id)),
-            excluded: excluded_of(kept, table, stage),
+            excluded: kept.excluded(table, stage),
             wish: self.wishes.first(stage),
             hold: only_if(holds, since),
             full: fills,
@@ -217,7 +211,7 @@ impl<A: Allocator> TraceView<A> {
             → result ≡ is_owed entry.now past }
     {
         let waited = entry.act.is_waited();
-        let kept = number_of_id(self.kept.as_slice(), entry.id).is_some();
+        let kept = number_of(self.kept.youngest_of(entry.id)).is_some();
         let starting = is_start(self.judge.order(&entry.id));
         let wanted = self.judge.is_wanted(entry);
         owed_by(waited, kept, starting, wanted)
@@ -254,7 +248,7 @@ impl<A: Allocator> TraceView<A> {
             → result ≡ why_entry entry.now past }
     {
         let stage = self.judge.stage();
-        let kept = number_of_id(self.kept.as_slice(), entry.id);
+        let kept = number_of(self.kept.youngest_of(entry.id));
         match only_if(starts_in(entry, stage), kept) {
             Some(child) => Why::ChildKept(child),
             None => why_by(entry.act, stage, &self.standing(entry)),
@@ -267,14 +261,13 @@ impl<A: Allocator> TraceView<A> {
     {
         let table = self.judge.table();
         let stage = self.judge.stage();
-        let unreaped = self.unreaped.as_slice();
         let entry = table.get(id);
-        let child = child_of_id(unreaped, *id);
+        let unreaped = &self.unreaped;
         Row {
             act: act_in(entry),
             why: self.why(id),
-            child: number_of_id(unreaped, *id),
-            excluded: excludes(child, table, stage),
+            child: number_of(unreaped.youngest_of(*id)),
+            excluded: excludes(unreaped.youngest_of(*id), table, stage),
             births: of_id(&self.births, id),
             order: self.judge.order(id),
             term: self.judge.termed(id),
@@ -294,7 +287,7 @@ impl<A: Allocator> TraceView<A> {
         ensures { (past : List Event) → Viewed self.now past
             → result ≡ option_map number_of (child_of id.now past) }
     {
-        number_of_id(self.unreaped.as_slice(), *id)
+        number_of(self.unreaped.youngest_of(*id))
     }
 
     /// The table in force; no id stands in it twice.
@@ -377,11 +370,12 @@ impl<A: Allocator> TraceView<A> {
     }
 
     /// The unreaped children, the youngest first.
-    pub fn children(&self) -> &[BornChild]
-        ensures { (past : List Event) → Viewed self.now past
-            → result.now ≡ unreaped_children past }
+    pub fn children<B: Allocator>(&self, alloc: B) -> Result<Vec<BornChild, B>, Memory>
+        ensures { IfOk result (λ children. (past : List Event) → Viewed self.now past
+            → children.items ≡ unreaped_children past) }
     {
-        self.unreaped.as_slice()
+        let children = self.unreaped.to_vec(alloc)?;
+        Ok(children)
     }
 
     /// The ids of the unreaped children that the table in force has no entry for, the youngest child first.
@@ -389,6 +383,8 @@ impl<A: Allocator> TraceView<A> {
         ensures { IfOk result (λ ids. (past : List Event) → Viewed self.now past
             → ids.items ≡ gone_ids (table_of past) (unreaped_children past)) }
     {
-        gone_of(alloc, self.judge.table(), self.unreaped.as_slice())
+        let children = self.unreaped.to_vec(alloc)?;
+        let gone = gone_of(alloc, self.judge.table(), children.as_slice())?;
+        Ok(gone)
     }
 }

@@ -9,4 +9,4 @@ returns c = λ past seen.
     ∙ ap (λ es. c.in_ok-lines.lines.items ++ map (start_line shape) (filter (is_open past) es))
     (c.entries.ensures.value ∙ c.table.ensures.value past seen)
     ∙ ap (λ lines. lines ++ map (start_line shape) (filter (is_open past) (table_of past)))
-    (c.in_ok-lines.ensures ∙ ap (map (child_line shape)) (c.children.ensures past seen))
+    (c.in_ok-lines.ensures ∙ ap (map (child_line shape)) (c.as_slice.ensures.value ∙ c.in-Ok.ensures past seen))

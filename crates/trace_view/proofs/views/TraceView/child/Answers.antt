@@ -4,5 +4,5 @@ use Rattle.trace_view.proofs.views.TraceView.child.Goals as goal
 
 pub returns : goal.returns
 returns g c = λ past seen.
-    c.number_of_id.ensures ∙ ap (λ xs. option_map number_of (find (is_of c.args.id.now) xs))
-    (c.as_slice.ensures.value ∙ (subst (λ v. Viewed v past) (sym c.self.view_is) seen).unreaped)
+    c.number_of.ensures ∙ ap (option_map number_of) (c.youngest_of.ensures
+    ∙ ap (find (is_of c.args.id.now)) (subst (λ v. Viewed v past) (sym c.self.view_is) seen).unreaped)

@@ -7,8 +7,8 @@ pub returns : goal.returns
 returns g c = rw (← c.self.view_is) (λ past seen found.
     let judged = seen.judged in
     c.owed_by.ensures ∙ owed_is c.args.entry.now past _ _ _ _ c.is_waited-waited.ensures
-    (c.is_some-kept.ensures ∙ ap is_some (c.number_of_id.ensures
-    ∙ ap (λ xs. option_map number_of (find (is_of c.args.entry.now.id) xs)) (c.as_slice.ensures.value ∙ seen.kept))
+    (c.is_some-kept.ensures ∙ ap is_some (c.number_of.ensures
+    ∙ ap (option_map number_of) (c.youngest_of.ensures ∙ ap (find (is_of c.args.entry.now.id)) seen.kept))
     ∙ found_any number_of (is_of c.args.entry.now.id) _)
     (c.is_start-starting.ensures ∙ ap (is_order Start) (c.order.ensures past judged))
     (c.is_wanted-wanted.ensures past judged found))

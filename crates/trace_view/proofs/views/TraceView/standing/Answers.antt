@@ -10,11 +10,11 @@ returns g c = rw (← c.self.view_is) (λ past seen found.
     let on = c.stage-stage.ensures past judged in
     stands c.args.entry.now past _ _ _ _ _ _ _ _ _ _ _ _ _ _
     (c.starts_in.ensures ∙ ap (starts_in c.args.entry.now) on)
-    (c.number_of_id.ensures
-    ∙ ap (λ xs. option_map number_of (find (is_of c.args.entry.now.id) xs)) (c.as_slice-kept.ensures.value ∙ seen.kept))
+    (c.number_of.ensures
+    ∙ ap (option_map number_of) (c.youngest_of.ensures ∙ ap (find (is_of c.args.entry.now.id)) seen.kept))
     (c.excludes.ensures ∙ ap (λ o. option_map_or (is_excluded_by c.table-table.result.now c.stage-stage.result) o false)
-    c.child_of_id.ensures ∙ lives_not c.args.entry.now.id _ _ _ _ past (c.table-table.ensures.value past judged) on
-    (c.as_slice-kept.ensures.value ∙ seen.kept))
+    c.youngest_of-2.ensures ∙ lives_not c.args.entry.now.id _ _ _ _ past (c.table-table.ensures.value past judged) on
+    seen.kept)
     (ap (λ (w : Wishes). w.booted) seen.wishes)
     (c.has_born_as.ensures ∙ ap (list_any (is_born_as c.args.entry.now)) (c.as_slice.ensures.value ∙ seen.early))
     (c.awaited.ensures past (subst (λ v. Viewed v past) c.self.view_is seen))
@@ -22,8 +22,7 @@ returns g c = rw (← c.self.view_is) (λ past seen found.
     (c.is_wanted.ensures past judged found)
     (c.is_named.ensures ∙ ap (is_named_by c.args.entry.now) seen.calls)
     (c.id_of.ensures ∙ ap (option_map entry_id) (c.first_owed.ensures past judged))
-    (c.excluded_of.ensures
-    ∙ excluded_is _ _ _ past (c.table-table.ensures.value past judged) on (c.as_slice-kept.ensures.value ∙ seen.kept))
+    (c.excluded.ensures ∙ excluded_is _ _ _ past (c.table-table.ensures.value past judged) on seen.kept)
     (c.first.ensures ∙ wish_is _ _ past on seen.wishes)
     (c.only_if.ensures ∙ ap (λ b. cond b c.held_since-since.result None) c.both-holds.ensures
     ∙ held_is _ _ _ c.args.entry.now past c.is_limited-limited.ensures (c.is_held-held.ensures past judged)

@@ -23,8 +23,8 @@ returns-clause-next g c = λ past seen.
     let at_time = c.time-time.ensures (c.args.happening.now ∷ past) judged in
     record {
       judged = judged;
-      unreaped = c.in_ok-take_unreaped.ensures past in_force was.unreaped;
-      kept = c.in_ok-take_kept.ensures past in_force (c.as_slice.ensures.value ∙ was.unreaped) was.kept;
+      unreaped = c.in_ok-take_unreaped.ensures past was.judged.lawful in_force was.unreaped;
+      kept = c.in_ok-take_kept.ensures past was.judged.lawful in_force was.unreaped was.kept;
       wishes = c.take-2.ensures past (c.stage-stage.ensures (c.args.happening.now ∷ past) judged) was.wishes;
       calls = c.take_call.ensures past was.calls;
       births = c.in_ok-take_birth.ensures past at_time was.births;

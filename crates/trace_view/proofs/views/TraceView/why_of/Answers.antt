@@ -8,8 +8,8 @@ returns-in-Some g c = λ past seen found.
     let inside = subst (λ v. Viewed v past) (sym c.self.view_is) seen in
     kept_here c.args.entry.now past _ _ c.in-Some.child
     (c.starts_in.ensures ∙ ap (starts_in c.args.entry.now) (c.stage-stage.ensures past inside.judged))
-    (c.number_of_id-kept.ensures
-    ∙ ap (λ xs. option_map number_of (find (is_of c.args.entry.now.id) xs)) (c.as_slice.ensures.value ∙ inside.kept))
+    (c.number_of-kept.ensures
+    ∙ ap (option_map number_of) (c.youngest_of.ensures ∙ ap (find (is_of c.args.entry.now.id)) inside.kept))
     (sym c.in-Some.is ∙ c.only_if.ensures)
 
 pub returns-in-None : goal.returns-in-None

@@ -1,6 +1,0 @@
-use Rattle.trace_view.proofs.Words.{not, rules, filter_same, Child, is_of}
-use Rattle.trace_view.proofs.children.drop_id.Goals as goal
-
-pub returns : goal.returns
-returns g c = filter_same _ (λ (child : Child). not (is_of c.args.id child)) _
-    (λ x b f h. search rules) _ _ c.retain.ensures.filtered
