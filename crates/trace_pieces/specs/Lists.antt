@@ -1,12 +1,13 @@
 -- The list of a trace's pieces: its lines, and the pieces of the last run.
 use Rattle.std.specs.Prelude.{◌≡◌, ℕ, Bool, true, false, ◌&&◌, if◌then◌else◌, nat_lt, nat_le, min, ◌^◌, ◌+◌, ◌-◌}
-use Rattle.std.specs.Prelude.{List, [], ◌∷◌, ◌++◌, map, codes, decimal, Option, Some, None, option_and_then, ◌==◌}
+use Rattle.std.specs.Prelude.{List, [], ◌∷◌, ◌++◌, length, map, not, codes, decimal, Option, Some, None}
+use Rattle.std.specs.Prelude.{option_and_then, ◌==◌}
 use Rattle.std.specs.List.{list_any}
 use Rattle.std.specs.Str.{bytes_eq}
 use Rattle.text_lines.specs.Lines.{cut, lines_of}
 use Rattle.text_lines.specs.Numbers.{number_read}
 use Rattle.trace_pieces.specs.declared.lists.ListLine.{ListLine}
-use Rattle.trace_pieces.specs.declared.lists.ListLine.TheVariants.{Begins, Begun, Gone}
+use Rattle.trace_pieces.specs.declared.lists.ListLine.TheVariants.{Begins, Begun, Gone, Taken}
 use Rattle.trace_pieces.specs.declared.lists.ListLine.TheVariants.{Piece as Away}
 use Rattle.trace_pieces.specs.declared.lists.Piece.{Piece}
 
@@ -16,6 +17,7 @@ line_text (Begins first) = decimal first ++ codes " begins\n"
 line_text (Begun first) = decimal first ++ codes " begun\n"
 line_text (Away number length) = decimal number ++ (codes " " ++ (decimal length ++ codes " piece\n"))
 line_text (Gone length) = decimal length ++ codes " gone\n"
+line_text (Taken number) = decimal number ++ codes " taken\n"
 
 -- a number
 abbrev pub read : List ℕ → Option ℕ
@@ -34,6 +36,7 @@ line_after number words =
     if bytes_eq words (codes "begins") then Some (Begins number)
     else if bytes_eq words (codes "begun") then Some (Begun number)
     else if bytes_eq words (codes "gone") then Some (Gone number)
+    else if bytes_eq words (codes "taken") then Some (Taken number)
     else option_and_then (piece_line number) (cut 32 words)
 
 -- what a line says, without its newline; nothing where it is none of the list
@@ -41,15 +44,16 @@ abbrev pub line_at : List ℕ → Option ListLine
 line_at line =
     option_and_then (λ parts. option_and_then (λ number. line_after number parts.1) (read parts.0)) (cut 32 line)
 
--- The pieces of a run, the oldest first; the least number of a piece that is to come, while none was given by hand; and
--- whether a later run was about to begin the trace's file anew.
+-- The pieces of a run that are there, the oldest first, and whether older ones were taken away; the least number of a
+-- piece that is to come, while none was given by hand; and whether a later run was about to begin the file anew.
 pub record PieceList : Type 0 where
   pub next : Option ℕ
   pub pieces : List Piece
+  pub lacks_front : Bool
   pub is_ending : Bool
 
 abbrev pub no_line : PieceList
-no_line = record { next = None; pieces = []; is_ending = false }
+no_line = record { next = None; pieces = []; lacks_front = false; is_ending = false }
 
 -- numbers rise to this one
 abbrev pub rises_to : Option ℕ → ℕ → Bool
@@ -85,12 +89,21 @@ abbrev pub with_piece : PieceList → ℕ → ℕ → PieceList
 with_piece list number length =
     record list { pieces = list.pieces ++ (record { number = number; length = Some length } ∷ []) }
 
+-- the oldest piece is one of them no more, and what was in it is known to be lacking
+abbrev pub behind_oldest : List Piece → List Piece
+behind_oldest [] = []
+behind_oldest (piece ∷ pieces) = pieces
+
+abbrev pub without_oldest : PieceList → PieceList
+without_oldest list = record list { pieces = behind_oldest list.pieces; lacks_front = true }
+
 -- a line more; a file that has no number is a piece of number 0
 abbrev pub with_line : PieceList → ListLine → PieceList
 with_line list (Begins first) = record list { is_ending = true }
-with_line list (Begun first) = record { next = Some first; pieces = []; is_ending = false }
+with_line list (Begun first) = record { next = Some first; pieces = []; lacks_front = false; is_ending = false }
 with_line list (Away number length) = with_piece (room_for list number) number length
 with_line list (Gone length) = with_piece (record list { next = None }) 0 length
+with_line list (Taken number) = without_oldest list
 
 -- the same, of a line that may be none
 abbrev pub with_found : PieceList → Option ListLine → PieceList
@@ -116,11 +129,22 @@ unlisted (Some number) true = record { number = number; length = None } ∷ []
 unlisted _ _ = []
 
 -- the pieces that come before what stands at the trace's path: of an empty file none where a later run was about to
--- begin
--- it anew
+-- begin it anew
 abbrev pub pieces_before : PieceList → Bool → Bool → List Piece
 pieces_before list is_empty has_next =
     if list.is_ending && is_empty then [] else list.pieces ++ unlisted list.next has_next
+
+-- what was before them was taken away
+abbrev pub lacks_front : PieceList → Bool → Bool
+lacks_front list is_empty = list.lacks_front && not (list.is_ending && is_empty)
+
+-- the oldest piece, where there are more than so many
+abbrev pub first_piece : List Piece → Option Piece
+first_piece [] = None
+first_piece (piece ∷ pieces) = Some piece
+
+abbrev pub oldest_beyond : PieceList → ℕ → Option Piece
+oldest_beyond list most = if nat_le (length list.pieces) most then None else first_piece list.pieces
 
 -- a file of this length is all of a piece, as far as the list says
 abbrev pub is_length : Option ℕ → ℕ → Bool
@@ -145,6 +169,27 @@ numbered number [] = []
 numbered number (length ∷ lengths) =
     record { number = number; length = Some length } ∷ numbered (number_behind number) lengths
 
--- the list is that of a run whose pieces are these
+-- the list is that of a run whose pieces are these, of which none was taken away
 abbrev pub IsOfRun : List Piece → PieceList → Type 0
-IsOfRun pieces list = (list.pieces ≡ pieces) × (list.is_ending ≡ false)
+IsOfRun pieces list = (list.pieces ≡ pieces) × (list.lacks_front ≡ false) × (list.is_ending ≡ false)
+
+-- the list without its oldest piece, where there are more than so many: init writes a line, and removes it
+abbrev pub without_found : PieceList → Option Piece → PieceList
+without_found list None = list
+without_found list (Some piece) = with_line list (Taken piece.number)
+
+abbrev pub with_most : ℕ → PieceList → PieceList
+with_most most list = without_found list (oldest_beyond list most)
+
+-- files of these lengths are put away, from this number on, and each time the oldest beyond so many is taken away
+abbrev pub keeping : ℕ → PieceList → ℕ → List ℕ → PieceList
+keeping most list number [] = list
+keeping most list number (length ∷ lengths) =
+    keeping most (with_most most (with_line list (Away number length))) (number_behind number) lengths
+
+-- The list has the newest of all these pieces that a run put away, so many at most, and no fewer where there are as
+-- many; and it says that the front is lacking exactly where pieces were taken away.
+abbrev pub IsKept : ℕ → List Piece → PieceList → Type 0
+IsKept most all list =
+    (taken : List Piece) × (taken ++ list.pieces ≡ all) × (length list.pieces ≡ min most (length all))
+    × (list.lacks_front ≡ nat_lt 0 (length taken)) × (list.is_ending ≡ false)

@@ -7,5 +7,5 @@ mod names;
 mod readers;
 
 pub use lists::{ListLine, Piece, PieceList, is_list, line_text};
-pub use names::{are_same, list_path, newest_piece, number_of_file, piece_path};
+pub use names::{FolderNames, are_same, list_path, newest_piece, number_of_file, piece_path};
 pub use readers::{PiecedFiles, TraceReader, is_given};

@@ -4,9 +4,9 @@ ghost use Rattle.std.specs.Prelude.{◌≡◌, ◌∷◌, ℕ, List, [], map, st
 ghost use Rattle.std.specs.List.{list_any};
 ghost use Rattle.text_lines.specs.Lines.{lines_of};
 ghost use Rattle.trace_pieces.specs.declared.lists.ListLine.TheVariants.{Begun};
-ghost use Rattle.trace_pieces.specs.Lists.{IsOfRun, away_from, numbered, with_all};
+ghost use Rattle.trace_pieces.specs.Lists.{IsKept, IsOfRun, away_from, keeping, numbered, with_all};
 ghost use Rattle.trace_pieces.specs.Lists.{PieceList as PieceListValue};
-ghost use Rattle.trace_pieces.specs.Lists.{has_number, is_whole, line_after, line_at, line_text, list_of, moved_up, no_line, pieces_before, rises_to, room_for, with_line, with_lines, with_piece, with_text};
+ghost use Rattle.trace_pieces.specs.Lists.{has_number, is_whole, lacks_front, line_after, line_at, line_text, list_of, moved_up, no_line, oldest_beyond, pieces_before, rises_to, room_for, with_line, with_lines, with_piece, with_text, without_oldest};
 
 use std::alloc::{AllocError, Allocator, Global};
 use std::marker::Model;
@@ -23,6 +23,8 @@ pub enum ListLine {
     Piece(u64, u64),
     /// A file of so many bytes was renamed to what is no piece's name.
     Gone(u64),
+    /// The oldest piece, of this number, is about to be removed.
+    Taken(u64),
 }
 
 /// A piece of a run: the number in its name, 0 where it has none any more, and its length in bytes, where the list says it.
@@ -39,6 +41,8 @@ pub struct PieceList {
     next: Option<u64>,
     /// The pieces, the oldest first.
     pieces: Vec<Piece>,
+    /// The oldest were taken away.
+    lacks_front: bool,
     /// A later run was about to begin the trace's file anew.
     is_ending: bool,
 }
@@ -52,6 +56,7 @@ impl Model for PieceList {
     ghost view = { λ list. record {
       next = list.next;
       pieces = list.pieces.items;
+      lacks_front = list.lacks_front;
       is_ending = list.is_ending;
     } };
 }
@@ -77,6 +82,7 @@ pub fn line_text(alloc: Global, line: ListLine) -> Result<String, AllocError>
         ListLine::Begun(first) => format!(in alloc; "{first} begun\n"),
         ListLine::Piece(number, length) => format!(in alloc; "{number} {length} piece\n"),
         ListLine::Gone(length) => format!(in alloc; "{length} gone\n"),
+        ListLine::Taken(number) => format!(in alloc; "{number} taken\n"),
     }
 }
 
@@ -92,6 +98,9 @@ fn numbered(number: u64, words: &[u8]) -> Option<ListLine>
     }
     if words == b"gone".as_slice() {
         return Some(ListLine::Gone(number));
+    }
+    if words == b"taken".as_slice() {
+        return Some(ListLine::Taken(number));
     }
     let (length, word) = cut(b' ', words)?;
     if word == b"piece".as_slice() {
@@ -147,12 +156,13 @@ pub fn is_list(text: &[u8]) -> bool
 
 impl PieceList {
     /// The list of no line.
-    fn new(alloc: Global) -> PieceList
+    pub fn new(alloc: Global) -> PieceList
         ensures { result ≡ no_line }
     {
         PieceList {
             next: None,
             pieces: Vec::new(alloc),
+            lacks_front: false,
             is_ending: false,
         }
     }
@@ -164,6 +174,20 @@ impl PieceList {
         self.pieces.iter().any(|piece| piece.number == number)
     }
 
+    /// The list with a line more.
+    pub fn with(&self, alloc: Global, line: ListLine) -> Result<PieceList, AllocError>
+        ensures { IfOk result (λ list. list ≡ with_line self.now line) }
+    {
+        let mut list = PieceList {
+            next: self.next,
+            pieces: Vec::from_slice(alloc, &self.pieces)?,
+            lacks_front: self.lacks_front,
+            is_ending: self.is_ending,
+        };
+        list.take(alloc, line)?;
+        Ok(list)
+    }
+
     /// Takes what a line says.
     fn take(&mut self, alloc: Global, line: ListLine) -> Result<(), AllocError>
         ensures { OnOk result (self.new ≡ with_line self.old line) }
@@ -173,6 +197,7 @@ impl PieceList {
             ListLine::Begun(first) => {
                 self.next = Some(first);
                 self.pieces.clear();
+                self.lacks_front = false;
                 self.is_ending = false;
             }
             ListLine::Piece(number, length) => {
@@ -183,8 +208,19 @@ impl PieceList {
                 self.next = None;
                 self.add(0, length)?;
             }
+            ListLine::Taken(_) => self.take_oldest(),
         }
         Ok(())
+    }
+
+    /// The oldest piece is one of them no more.
+    fn take_oldest(&mut self)
+        ensures { self.new ≡ without_oldest self.old }
+    {
+        if !self.pieces.is_empty() {
+            self.pieces.remove(0);
+        }
+        self.lacks_front = true;
     }
 
     /// Takes a line as it stands there, where it is one of a list.
@@ -251,6 +287,23 @@ impl PieceList {
         self.next
     }
 
+    /// The oldest piece, where there are more than so many.
+    pub fn oldest_beyond(&self, most: u64) -> Option<Piece>
+        ensures { result ≡ oldest_beyond self.now most }
+    {
+        if self.pieces.len() as u64 <= most {
+            return None;
+        }
+        self.pieces.first().copied()
+    }
+
+    /// What was before the pieces was taken away, where those of an empty file are asked for or of another.
+    pub fn lacks_front(&self, is_empty: bool) -> bool
+        ensures { result ≡ lacks_front self.now is_empty }
+    {
+        self.lacks_front && !(self.is_ending && is_empty)
+    }
+
     /// The pieces that come before what stands at the trace's path, the oldest first: of an empty file none where a later
     /// run was about to begin it anew; and where a file has the next number that one behind those of the list.
     pub fn into_pieces(self, is_empty: bool, has_next: bool) -> Result<Vec<Piece>, AllocError>
@@ -260,6 +313,7 @@ impl PieceList {
         let PieceList {
             next,
             mut pieces,
+            lacks_front: _,
             is_ending,
         } = self;
         if is_ending && is_empty {
@@ -283,4 +337,13 @@ pub fn law_of_a_list()
     ensures { (list : PieceListValue) (first : ℕ) (lengths : List ℕ)
         → IsOfRun (numbered first lengths)
         (with_all list (Begun first ∷ away_from first lengths)) }
+{}
+
+/// Whatever lines stand before, the pieces of a list of which the oldest beyond so many is taken away behind each that is
+/// put away are the newest of the run, and those that were taken away stand before them. It does nothing: its contract is
+/// the law.
+pub fn law_of_a_list_that_keeps()
+    ensures { (list : PieceListValue) (first most : ℕ) (lengths : List ℕ)
+        → IsKept most (numbered first lengths)
+        (keeping most (with_line list (Begun first)) first lengths) }
 {}

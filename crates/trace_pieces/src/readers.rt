@@ -6,6 +6,7 @@ use program_io::{PIECES_LIMIT, PieceTaker, Texts, hand_over, open_plain, read_fi
 use std::alloc::{Allocator, Global};
 use std::fs::{File, Metadata};
 use std::io::{Error, ErrorKind, Read, Seek, SeekFrom};
+use std::os::unix::fs::MetadataExt;
 use std::rt::Files;
 use std::{fs, io};
 
@@ -35,6 +36,17 @@ pub struct TraceReader<'a, R> {
     /// The pieces that are to be read before what stands at the path, the newest first.
     behind: Vec<Piece>,
     pieces: Option<ReadPieces>,
+    /// What was before the first of its files was taken away.
+    lacks_front: bool,
+}
+
+/// The pieces of a run by its list.
+#[derive(Drop)]
+struct ListedPieces {
+    /// Those that are there, the oldest first.
+    pieces: Vec<Piece>,
+    /// Older ones were taken away.
+    lacks_front: bool,
 }
 
 impl<'a, R: Files<File = File>> TraceReader<'a, R> {
@@ -55,6 +67,7 @@ impl<'a, R: Files<File = File>> TraceReader<'a, R> {
             next: None,
             behind: Vec::new(alloc),
             pieces: None,
+            lacks_front: false,
         }
     }
 
@@ -62,11 +75,31 @@ impl<'a, R: Files<File = File>> TraceReader<'a, R> {
     /// file; one that is missing is an error, `NotFound`, and one of another length `InvalidData`. Where none is there and
     /// the file begins within a run, all are read from the one on in which that begins.
     fn open(rt: &'a R, alloc: Global, path: &str) -> io::Result<TraceReader<'a, R>> {
+        match TraceReader::open_once(rt, alloc, path) {
+            // One may have been taken away since the list was read, which says so before.
+            Err(error) if error.kind() == ErrorKind::NotFound => {
+                TraceReader::open_once(rt, alloc, path)
+            }
+            opened => opened,
+        }
+    }
+
+    /// The same, by one look at the list.
+    fn open_once(rt: &'a R, alloc: Global, path: &str) -> io::Result<TraceReader<'a, R>> {
         let path = pieced_path(rt, alloc, path)?;
         // The list is read behind that, and so has each piece before this file.
         let file = open_plain(rt, path.as_str());
         match listed_pieces(rt, alloc, path.as_str())? {
-            Some(pieces) => TraceReader::with_pieces(rt, alloc, path, file, pieces, true),
+            Some(
+                ListedPieces {
+                    pieces,
+                    lacks_front,
+                },
+            ) => {
+                let mut reader = TraceReader::with_pieces(rt, alloc, path, file, pieces, true)?;
+                reader.lacks_front = lacks_front;
+                Ok(reader)
+            }
             None => TraceReader::unlisted(rt, alloc, path, file?),
         }
     }
@@ -131,26 +164,55 @@ impl<'a, R: Files<File = File>> TraceReader<'a, R> {
         }
     }
 
-    /// The pieces of the list behind the one that has the name of a file, the newest first; none where no piece has it.
+    /// The pieces of the list behind the one that has the name of a file, the newest first; none where no piece has it. A
+    /// file that was taken away is an error, since the pieces behind it may have been, too.
     fn behind_file(&self, file: &Metadata) -> io::Result<Vec<Piece>> {
         let path = self.path.as_str();
         let mut behind = Vec::new(self.alloc);
-        let Some(pieces) = listed_pieces(self.rt, self.alloc, path)? else {
+        let Some(listed) = listed_pieces(self.rt, self.alloc, path)? else {
             return Ok(behind);
         };
-        for piece in pieces.iter().rev() {
+        for piece in listed.pieces.iter().rev() {
             if is_piece(self.rt, self.alloc, path, piece.number, file)? {
                 return Ok(behind);
             }
             behind.push(*piece)?;
         }
+        if listed.lacks_front && file.nlink() == 0 {
+            return Err(is_taken_since());
+        }
         Ok(Vec::new(self.alloc))
+    }
+
+    /// Opens a piece that stood behind the file in the list.
+    fn open_behind(&self, piece: Piece) -> io::Result<File> {
+        let path = self.path.as_str();
+        match open_piece(self.rt, self.alloc, path, piece) {
+            Err(error) if error.kind() == ErrorKind::NotFound && self.is_taken(piece)? => {
+                Err(is_taken_since())
+            }
+            opened => opened,
+        }
+    }
+
+    /// A piece that stood in the list was taken away.
+    fn is_taken(&self, piece: Piece) -> io::Result<bool> {
+        match listed_pieces(self.rt, self.alloc, self.path.as_str())? {
+            Some(listed) => Ok(
+                listed.lacks_front
+                    && !listed
+                        .pieces
+                        .iter()
+                        .any(|other| other.number == piece.number),
+            ),
+            None => Ok(false),
+        }
     }
 
     /// The file that came to stand behind this one; None where that stands at the path itself, or none does yet.
     fn successor(&mut self) -> io::Result<Option<File>> {
         if let Some(piece) = self.behind.pop() {
-            return open_piece(self.rt, self.alloc, self.path.as_str(), piece).map(Some);
+            return self.open_behind(piece).map(Some);
         }
         // The list is read behind that, and so has each piece between the two.
         let Some(found) = self.found()? else {
@@ -162,7 +224,7 @@ impl<'a, R: Files<File = File>> TraceReader<'a, R> {
         }
         self.behind = self.behind_file(&own)?;
         match self.behind.pop() {
-            Some(piece) => open_piece(self.rt, self.alloc, self.path.as_str(), piece).map(Some),
+            Some(piece) => self.open_behind(piece).map(Some),
             None => Ok(Some(found)),
         }
     }
@@ -176,6 +238,38 @@ impl<'a, R: Files<File = File>> TraceReader<'a, R> {
         Ok(None)
     }
 
+    /// The number of the first piece.
+    fn first_number(&self) -> u64 {
+        match self.pieces {
+            Some(pieces) => pieces.first,
+            None => 0,
+        }
+    }
+
+    /// Why what is there can't be read as a whole run.
+    fn without_front(&self) -> Error {
+        let first = self.first_number();
+        let message = format!(in self.alloc;
+            "pieces before {first} were taken away by --trace-keep: see initview follow -n"
+        );
+        match message {
+            Ok(message) => Error::new(ErrorKind::NotFound, message.as_str()),
+            Err(error) => Error::from(error),
+        }
+    }
+
+    /// Refuses what is there of a run, where it could be taken for one that begins there.
+    fn refuse_new_run(&mut self) -> io::Result<()> {
+        if !begins_run(&mut self.file)? {
+            return Ok(());
+        }
+        let first = self.first_number();
+        let message = format!(in self.alloc;
+            "piece {first}, the oldest by --trace-keep, begins with use: follow it later"
+        )?;
+        Err(Error::new(ErrorKind::InvalidData, message.as_str()))
+    }
+
     /// At the end of the file: goes on in the one behind it. It is read to its end once more before. False where there is
     /// none.
     fn go_on(&mut self) -> io::Result<bool> {
@@ -187,6 +281,12 @@ impl<'a, R: Files<File = File>> TraceReader<'a, R> {
         self.next = self.successor()?;
         Ok(self.next.is_some())
     }
+}
+
+/// A piece that was to be read is there no more.
+fn is_taken_since() -> Error {
+    let message = "a piece was taken away before it was read: read it again";
+    Error::new(ErrorKind::InvalidData, message)
 }
 
 /// The path of a trace, or where that is a link beside which no pieces stand, of the file to which it leads.
@@ -218,7 +318,7 @@ fn listed_pieces<R: Files<File = File>>(
     rt: &R,
     alloc: Global,
     path: &str,
-) -> io::Result<Option<Vec<Piece>>> {
+) -> io::Result<Option<ListedPieces>> {
     let text = match read_file(rt, alloc, list_path(alloc, path)?.as_str()) {
         Ok(text) => text,
         Err(error) if error.kind() == ErrorKind::NotFound => return Ok(None),
@@ -233,7 +333,10 @@ fn listed_pieces<R: Files<File = File>>(
         Some(number) => stands_apart(rt, alloc, path, number)?,
         None => false,
     };
-    Ok(Some(list.into_pieces(is_empty, has_next)?))
+    Ok(Some(ListedPieces {
+        lacks_front: list.lacks_front(is_empty),
+        pieces: list.into_pieces(is_empty, has_next)?,
+    }))
 }
 
 /// A piece of this number is there, and it is not what stands at the path of the trace as well, nor a copy of that.
@@ -374,13 +477,32 @@ impl<'a, R: Files<File = File> + Eprint> PiecedFiles<'a, R> {
         }
     }
 
-    /// The trace at a path.
+    /// The trace at a path, to be shown from where it is there on: that what was before was taken away is told.
     pub fn open(&self, path: &str) -> io::Result<TraceReader<'a, R>> {
+        let mut trace = self.opened(path)?;
+        if trace.lacks_front {
+            trace.refuse_new_run()?;
+            let (program, lacking) = (self.program, trace.without_front());
+            let _ = eprintln!(self.rt; "{program}: {lacking}");
+        }
+        tell_pieces(self.rt, self.program, trace.path.as_str(), trace.pieces);
+        Ok(trace)
+    }
+
+    /// The trace at a path, from the beginning of its run on. That this was taken away is an error, `NotFound`.
+    fn open_whole(&self, path: &str) -> io::Result<TraceReader<'a, R>> {
+        let trace = self.opened(path)?;
+        if trace.lacks_front {
+            return Err(trace.without_front());
+        }
+        tell_pieces(self.rt, self.program, trace.path.as_str(), trace.pieces);
+        Ok(trace)
+    }
+
+    /// The trace at a path, as far as it is there.
+    fn opened(&self, path: &str) -> io::Result<TraceReader<'a, R>> {
         match TraceReader::open(self.rt, self.alloc, path) {
-            Ok(trace) => {
-                tell_pieces(self.rt, self.program, trace.path.as_str(), trace.pieces);
-                Ok(trace)
-            }
+            Ok(trace) => Ok(trace),
             Err(error) if self.is_shown && is_of_pieces(&error) => {
                 let own = String::from_str(self.alloc, path)?;
                 let trace = TraceReader::alone(self.rt, self.alloc, own)?;
@@ -435,11 +557,11 @@ impl<R: Files<File = File> + Eprint> Texts for PiecedFiles<'_, R> {
         self.rt.read_file(alloc, path)
     }
 
-    /// The text of a trace.
+    /// The text of a trace, from the beginning of its run on.
     fn read_pieces<P: PieceTaker>(&self, path: &str, taker: &mut P) -> io::Result<()> {
         if is_given(path) {
             return self.rt.read_pieces(path, taker);
         }
-        hand_over(&mut self.open(path)?, taker)
+        hand_over(&mut self.open_whole(path)?, taker)
     }
 }
