@@ -38,6 +38,7 @@ const RUN_USAGE: &str = "usage: initd run [OPTION]..
                    put the trace's file away as P.1, P.2, .. where it has grown
                    so long, 4K to 1024G, and go on in a new one; K, M and G are
                    1024 bytes, 1024 K and 1024 M
+  --trace-keep N   remove the oldest of these where there are more than N
   --brief          leave looks that found nothing and idle rounds out of the
                    trace, of which there has to be one
   --judge          judge each happening while the run goes on, as check judges a

@@ -573,7 +573,7 @@ fn make_traced<R: Files + Eprint, H: Host, F: Traces, E: Reporter>(
         let (status, host, ()) = make_turns(rt, alloc, options, opening, host, NoLog {}, err);
         return (status, host);
     };
-    let files = traces.open(file);
+    let files = traces.open(file, options.trace_keep);
     let (status, host, files) = make_over(rt, alloc, options, opening, host, files, err);
     traces.close(files);
     (status, host)

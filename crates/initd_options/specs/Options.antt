@@ -11,8 +11,9 @@ use Rattle.init_words.specs.Ids.{id_read}
 use Rattle.text_lines.specs.Lines.{cut}
 use Rattle.text_lines.specs.Numbers.{number_read}
 use Rattle.initd_options.specs.declared.options.RunWords.{RunWords}
-use Rattle.initd_options.specs.declared.options.TheConstants.{FOREVER, PAUSE_LIMIT, PAUSE_SECONDS, SIZE_LEAST}
-use Rattle.initd_options.specs.declared.options.TheConstants.{SIZE_MOST, TURNS_DEFAULT, TURNS_LIMIT, UNITS_LIMIT}
+use Rattle.initd_options.specs.declared.options.TheConstants.{FOREVER, KEEP_LIMIT, PAUSE_LIMIT, PAUSE_SECONDS}
+use Rattle.initd_options.specs.declared.options.TheConstants.{SIZE_LEAST, SIZE_MOST, TURNS_DEFAULT}
+use Rattle.initd_options.specs.declared.options.TheConstants.{TURNS_LIMIT, UNITS_LIMIT}
 use Rattle.init_words.specs.Levels.{level_read}
 use Rattle.program_io.specs.Arguments.{only_byte}
 
@@ -130,9 +131,24 @@ size_in (Some word) (Some trace) = option_map Some (size_read word)
 abbrev pub size_given : List Row → Option (Option ℕ)
 size_given rows = size_in (first_of (codes "--trace-size") rows) (first_of (codes "--trace") rows)
 
+-- a number of files, from one on
+abbrev pub keep_read : Text → Option ℕ
+keep_read word =
+    option_and_then (λ keep. if nat_lt 0 keep then Some keep else None) (number_read (KEEP_LIMIT + 1) word)
+
+-- how many files that were put away are kept, if it is given, of a trace that is put away
+abbrev pub keep_in : Option Text → Option Text → Option (Option ℕ)
+keep_in None size = Some None
+keep_in (Some word) None = None
+keep_in (Some word) (Some size) = option_map Some (keep_read word)
+
+abbrev pub keep_given : List Row → Option (Option ℕ)
+keep_given rows = keep_in (first_of (codes "--trace-keep") rows) (first_of (codes "--trace-size") rows)
+
 -- The paths of the inittab, of the folder of its further files, if it is given, of the channel of requests and of the
 -- text of init's state; whether the requests that the channel has already are left out; the path of the trace, if it
--- is given, whether it is brief, and the length at which it is put away, if it is; whether each happening is judged;
+-- is given, whether it is brief, the length at which it is put away, if it is, and how many files are kept then, if not
+-- all are; whether each happening is judged;
 -- the level to go to, if it is given; the greatest number of turns; whether the run ends where it is drained, and
 -- whether words name its end; the seconds of a pause; the entry whose last status is the run's, if one is given;
 -- whether each start and end is told; the folder of the children's output, if it is given; whether signals go to the
@@ -147,6 +163,7 @@ pub record RunSaid : Type 0 where
   pub trace : Option Text
   pub brief : Bool
   pub trace_size : Option ℕ
+  pub trace_keep : Option ℕ
   pub judge : Bool
   pub level : Option Level
   pub turns : ℕ
@@ -171,6 +188,7 @@ run_of said = record {
   trace = option_map (λ (path : _). string_bytes path) said.trace;
   brief = said.brief;
   trace_size = said.trace_size;
+  trace_keep = said.trace_keep;
   judge = said.judge;
   level = said.level;
   turns = said.turns;
@@ -187,8 +205,9 @@ run_of said = record {
 }
 
 -- what the words say, with these values of the options that may be refused
-abbrev pub service_with : List Row → Option Level → ℕ → ℕ → Option (List ℕ) → Bool → Option ℕ → RunSaid
-service_with rows level turns pause result brief size = record {
+abbrev pub service_with
+    : List Row → Option Level → ℕ → ℕ → Option (List ℕ) → Bool → Option ℕ → Option ℕ → RunSaid
+service_with rows level turns pause result brief size keep = record {
   inittab = value_said (codes "--inittab") rows;
   inittab_dir = first_of (codes "--inittab-dir") rows;
   initctl = value_said (codes "--initctl") rows;
@@ -197,6 +216,7 @@ service_with rows level turns pause result brief size = record {
   trace = first_of (codes "--trace") rows;
   brief = brief;
   trace_size = size;
+  trace_keep = keep;
   judge = is_set (codes "--judge") rows;
   level = level;
   turns = turns;
@@ -212,8 +232,8 @@ service_with rows level turns pause result brief size = record {
   bell = is_set (codes "--bell") rows;
 }
 
--- what the words after `run` say; nothing where the level, the turns, the pause, the entry or the length are none, or a
--- trace that is brief or put away is
+-- what the words after `run` say; nothing where the level, the turns, the pause, the entry, the length or the number of
+-- files are none, or a trace that is brief or put away is
 abbrev pub run_said : List Row → Option RunSaid
 run_said rows =
     option_and_then
@@ -221,7 +241,9 @@ run_said rows =
     (λ turns. option_and_then
     (λ pause. option_and_then
     (λ result. option_and_then
-    (λ brief. option_map (λ size. service_with rows level turns pause result brief size) (size_given rows))
+    (λ brief. option_and_then
+    (λ size. option_map (λ keep. service_with rows level turns pause result brief size keep) (keep_given rows))
+    (size_given rows))
     (brief_said rows))
     (result_said rows))
     (pause_said rows))

@@ -3,7 +3,7 @@
 ghost use Rattle.std.specs.Prelude.{◌≡◌, ◌<◌, ◌≤◌, IfErr, IfOk, IfSome, IsSome, None, Some};
 ghost use Rattle.clap.specs.Words.{found_of, rows_of};
 ghost use Rattle.command_words.specs.Faults.{reason_of};
-ghost use Rattle.initd_options.specs.Options.{brief_said, digit_read, hundredths_read, level_said, level_word_read, names_end, part_read, pause_read, pause_said, result_said, run_of, run_said, size_given, size_read, turns_read, turns_said, units_read, whole_read, without_zeros};
+ghost use Rattle.initd_options.specs.Options.{brief_said, digit_read, hundredths_read, level_said, level_word_read, names_end, part_read, pause_read, pause_said, result_said, run_of, run_said, keep_given, keep_read, size_given, size_read, turns_read, turns_said, units_read, whole_read, without_zeros};
 
 use clap::ArgMatches;
 use command_words::{Row, WordFault, checked, is_set, read_path, refused, value_of, word_of};
@@ -31,6 +31,8 @@ pub struct RunWords {
     pub brief: bool,
     /// The length in bytes at which the file of the trace is put away, where it is.
     pub trace_size: Option<u64>,
+    /// How many files that were put away are kept, where not all are.
+    pub trace_keep: Option<u64>,
     /// Each happening is judged by the laws of traces while the run goes on.
     pub judge: bool,
     /// The runlevel to go to, where one is given.
@@ -76,6 +78,9 @@ const SIZE_MOST: u64 = 1_099_511_627_776;
 /// One more than the greatest number of units of such a length.
 const UNITS_LIMIT: u64 = 1_073_741_825;
 
+/// The greatest number of files that may be kept.
+const KEEP_LIMIT: u64 = 1_000_000_000;
+
 /// The longest pause, in seconds.
 const PAUSE_SECONDS: u64 = 60;
 
@@ -91,6 +96,7 @@ pub(crate) const OPTIONS: &[Row] = &[
     ("--state", "P", "initd.state"),
     ("--trace", "P", ""),
     ("--trace-size", "SIZE", ""),
+    ("--trace-keep", "N", ""),
     ("--brief", "", ""),
     ("--judge", "", ""),
     ("--level", "L", ""),
@@ -120,6 +126,7 @@ pub(crate) fn read_matches(alloc: Global, matches: &ArgMatches) -> Result<RunWor
     let result = read_result(alloc, matches)?;
     let brief = read_brief(alloc, matches)?;
     let trace_size = read_trace_size(alloc, matches)?;
+    let trace_keep = read_trace_keep(alloc, matches)?;
     Ok(RunWords {
         inittab: String::from_str(alloc, value_of(matches, "--inittab"))?,
         inittab_dir: read_path(alloc, matches, "--inittab-dir")?,
@@ -129,6 +136,7 @@ pub(crate) fn read_matches(alloc: Global, matches: &ArgMatches) -> Result<RunWor
         trace: read_path(alloc, matches, "--trace")?,
         brief,
         trace_size,
+        trace_keep,
         judge: is_set(matches, "--judge"),
         level,
         turns,
@@ -329,6 +337,37 @@ fn read_trace_size(alloc: Global, matches: &ArgMatches) -> Result<Option<u64>, W
         "not 4K to 1024G",
     )?;
     Ok(Some(size))
+}
+
+/// How many files that were put away are kept, where a number is given, of a trace that is put away.
+fn read_trace_keep(alloc: Global, matches: &ArgMatches) -> Result<Option<u64>, WordFault>
+    ensures ok { IfOk result (λ keep.
+        keep_given (rows_of (found_of matches.now)) ≡ Some keep) }
+    ensures usage { IfErr result (λ fault. IsSome (reason_of fault)
+        → keep_given (rows_of (found_of matches.now)) ≡ None) }
+{
+    let Some(word) = word_of(matches, "--trace-keep") else {
+        return Ok(None);
+    };
+    if word_of(matches, "--trace-size").is_none() {
+        return Err(refused(alloc, "--trace-keep", word, "not without --trace-size"));
+    }
+    let keep = checked(
+        alloc,
+        "--trace-keep",
+        word,
+        read_keep(word.as_bytes()),
+        "not 1 to 1000000000",
+    )?;
+    Ok(Some(keep))
+}
+
+/// A number of files, at least one.
+fn read_keep(word: &[u8]) -> Option<u64>
+    ensures { result ≡ keep_read word.now }
+{
+    let keep = read_below(word, KEEP_LIMIT + 1)?;
+    if 0 < keep { Some(keep) } else { None }
 }
 
 /// A number of bytes, or of kibibytes, mebibytes or gibibytes where K, M or G stands behind it.

@@ -198,6 +198,15 @@ impl<'a, R: Eprint, S: TraceFiles> FileLog<'a, R, S> {
         };
     }
 
+    /// Tells why a piece that is to be taken away isn't.
+    fn tell_untaken(&self, fault: &io::Error) {
+        let path = self.path;
+        let _ = eprintln!(self.rt;
+            "initd: cannot take old pieces of the trace {path} away: {}: remove what {path}.0.pieces calls taken",
+            Reason(fault)
+        );
+    }
+
     /// Goes on in a new file, where there is none at the path.
     fn begin_anew(&mut self)
         ensures { IsStill S.contents self.old self.new }
@@ -233,7 +242,12 @@ impl<'a, R: Eprint, S: TraceFiles> FileLog<'a, R, S> {
         }
         let path = self.path;
         match self.files.put_away(path) {
-            Ok(()) => self.put_away_at = self.step,
+            Ok(untaken) => {
+                self.put_away_at = self.step;
+                if let Some(fault) = &untaken {
+                    self.tell_untaken(fault);
+                }
+            }
             Err(error) => {
                 self.put_away_at = self.files.length().saturating_add(self.step);
                 let _ = eprintln!(self.rt;

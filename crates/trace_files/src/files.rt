@@ -20,8 +20,8 @@ pub trait TraceFiles: Write {
         ensures { Keeps (Self.contents self.old) (Self.contents self.new) };
 
     /// Puts the last one away as the next piece of the trace at the path, and goes on in a new one; where that can't be done
-    /// it goes on in the same.
-    fn put_away(&mut self, path: &str) -> io::Result<()>
+    /// it goes on in the same. Gives what to tell where older pieces are to be taken away and can't be.
+    fn put_away(&mut self, path: &str) -> io::Result<Option<io::Error>>
         ensures { Keeps (Self.contents self.old) (Self.contents self.new) };
 
     /// Goes on in a new one where none stands at the path of the trace any more, else in the same.
@@ -39,8 +39,9 @@ pub trait Traces {
     /// The bytes that the files took which were given back, those of the first in front.
     ghost told: { Self → List ℕ };
 
-    /// The files of a trace of which this is the first. They have taken nothing.
-    fn open(&mut self, file: File) -> Self::Files
+    /// The files of a trace of which this is the first, and how many pieces are kept at most behind one that is put away.
+    /// They have taken nothing.
+    fn open(&mut self, file: File, most: Option<u64>) -> Self::Files
         ensures nothing { Self.Files.contents result ≡ Some [] }
         ensures told { told self.new ≡ told self.old };
 

@@ -50,7 +50,7 @@ fn append<R: Files<File = File>>(
 }
 
 /// An error with the path that it is of in front.
-fn of_path(alloc: Global, path: &str, error: &io::Error) -> io::Error {
+pub(crate) fn of_path(alloc: Global, path: &str, error: &io::Error) -> io::Error {
     match format!(in alloc; "{path}: {}", Reason(error)) {
         Ok(message) => io::Error::other(message.as_str()),
         Err(error) => io::Error::from(error),

@@ -3,9 +3,9 @@
 ghost use Rattle.std.specs.Prelude.{◌≡◌, ◌++◌, [], take, Some};
 
 use crate::files::{TraceFiles, Traces};
-use crate::listing::append_line;
-use program_io::{Noted, Reads, refuse_too_large};
-use std::alloc::Global;
+use crate::listing::{append_line, of_path};
+use program_io::{Noted, PIECES_LIMIT, Reads, refuse_too_large};
+use std::alloc::{AllocError, Global};
 use std::fs::{
     File, OpenOptions, TryLockError, hard_link, metadata, remove_file, rename, symlink_metadata,
 };
@@ -14,7 +14,9 @@ use std::io::{ErrorKind, Write};
 use std::marker::Model;
 use std::os::unix::fs::{MetadataExt, OpenOptionsExt};
 use std::rt::Files;
-use trace_pieces::{ListLine, are_same, list_path, newest_piece, number_of_file, piece_path};
+use trace_pieces::{
+    ListLine, Piece, PieceList, are_same, list_path, newest_piece, number_of_file, piece_path,
+};
 
 /// How often the lock of a trace is asked for, since one that asks whether an init lives holds it too, for a moment.
 const LOCK_TRIES: u32 = 100;
@@ -89,6 +91,9 @@ pub struct OsFiles<'a, R> {
     first: u64,
     /// What the list lacks of the file that was put away last.
     unlisted: Option<ListLine>,
+    /// How many pieces of the run are kept, where not all are; and those that the list has.
+    most: Option<u64>,
+    pieces: PieceList,
     taken: Noted<ByteList>,
 }
 
@@ -118,10 +123,53 @@ impl<R: Files<File = File>> OsFiles<'_, R> {
     }
 
     /// Adds a line to the list of pieces.
-    fn list(&self, path: &str, line: ListLine) -> io::Result<()> {
+    fn list(&mut self, path: &str, line: ListLine) -> io::Result<()>
+        ensures { self.new.taken.value ≡ self.old.taken.value }
+    {
         let list = list_path(self.alloc, path)?;
         let mode = self.file.metadata()?.mode() & MODES;
-        append_line(self.rt, self.alloc, list.as_str(), mode, line)
+        let pieces = self.pieces_with(line)?;
+        append_line(self.rt, self.alloc, list.as_str(), mode, line)?;
+        self.pieces = pieces;
+        Ok(())
+    }
+
+    /// The pieces that the list has behind a line more; none are kept in mind where all files are kept.
+    fn pieces_with(&self, line: ListLine) -> Result<PieceList, AllocError> {
+        match self.most {
+            Some(_) => self.pieces.with(self.alloc, line),
+            None => Ok(PieceList::new(self.alloc)),
+        }
+    }
+
+    /// Takes the oldest pieces away, where there are more than are kept. The list says so before each is removed: behind a
+    /// kill between the two a file is there that is read no more, and never one that is missing to a reader. Where the list
+    /// can't say so none is removed, and it is tried again behind the next.
+    fn take_away(&mut self, path: &str) -> io::Result<()>
+        ensures { self.new.taken.value ≡ self.old.taken.value }
+    {
+        for _ in 0..PIECES_LIMIT {
+            let Some(piece) = self.most.and_then(|most| self.pieces.oldest_beyond(most)) else {
+                return Ok(());
+            };
+            self.list(path, ListLine::Taken(piece.number))?;
+            self.remove(path, piece)?;
+        }
+        Ok(())
+    }
+
+    /// Removes a piece that the list has no more, where its file is what was put away.
+    fn remove(&self, path: &str, piece: Piece) -> io::Result<()> {
+        if piece.number == 0 {
+            return Ok(());
+        }
+        let path = piece_path(self.alloc, path, piece.number)?;
+        match removed(self.rt, path.as_str(), piece) {
+            Err(error) if error.kind() != ErrorKind::NotFound => {
+                Err(of_path(self.alloc, path.as_str(), &error))
+            }
+            _ => Ok(()),
+        }
     }
 
     /// Adds to the list of pieces what it lacks, and makes it where none is there.
@@ -237,6 +285,15 @@ impl<R: Files<File = File>> OsFiles<'_, R> {
     }
 }
 
+/// Removes the file of a piece that has the length which the list said.
+fn removed<R: Files>(rt: &R, path: &str, piece: Piece) -> io::Result<()> {
+    let found = symlink_metadata(rt, path)?;
+    if !found.is_file() || !piece.is_whole(found.len()) {
+        return Err(io::Error::other("it is not what was put away"));
+    }
+    remove_file(rt, path)
+}
+
 /// Gives a file a name more, which no file has. False where it can't have two.
 fn has_linked<R: Files>(rt: &R, path: &str, other: &str) -> io::Result<bool> {
     match hard_link(rt, path, other) {
@@ -292,13 +349,15 @@ impl<R: Files<File = File>> TraceFiles for OsFiles<'_, R> {
     }
 
     /// The list has the one that was put away before, so that it lacks one at most.
-    fn put_away(&mut self, path: &str) -> io::Result<()> {
+    fn put_away(&mut self, path: &str) -> io::Result<Option<io::Error>> {
         self.list_piece(path)?;
         let (file, line) = self.next_file(path)?;
         self.unlisted = Some(line);
         self.go_on_in(file);
-        let _ = self.list_piece(path);
-        Ok(())
+        if self.list_piece(path).is_err() {
+            return Ok(None);
+        }
+        Ok(self.take_away(path).err())
     }
 
     fn begin_anew(&mut self, path: &str) -> io::Result<()> {
@@ -348,7 +407,7 @@ impl<'a, R: Files<File = File>> Traces for OsTraces<'a, R> {
 
     ghost told = { λ traces. traces.told.value };
 
-    fn open(&mut self, file: File) -> OsFiles<'a, R> {
+    fn open(&mut self, file: File, most: Option<u64>) -> OsFiles<'a, R> {
         OsFiles {
             rt: self.rt,
             alloc: self.alloc,
@@ -357,6 +416,8 @@ impl<'a, R: Files<File = File>> Traces for OsTraces<'a, R> {
             length: 0,
             first: 1,
             unlisted: None,
+            most,
+            pieces: PieceList::new(self.alloc),
             taken: Noted::of::<(), Empty>(&()),
         }
     }
