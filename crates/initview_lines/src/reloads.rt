@@ -1,6 +1,6 @@
 //! What becomes of each id where init, as a trace left it, reads another inittab now.
 
-ghost use Rattle.std.specs.Prelude.{◌≡◌, ◌++◌, ℕ, IsTrue, List, Option, Some, false, filter, map, option_copied, IfOk, OnOk};
+ghost use Rattle.std.specs.Prelude.{◌≡◌, ◌++◌, ℕ, IsTrue, List, Option, Some, false, filter, map, option_copied, option_map, IfOk, OnOk};
 ghost use Rattle.initview_lines.specs.CommonWords.{Entry, Event, is_quiet, stage_of, table_of, Level, Stage, entry_of, Viewed, next_stage};
 ghost use Rattle.trace_events.specs.declared.steps.Goal.{Goal};
 ghost use Rattle.trace_events.specs.declared.steps.Step.TheVariants as step;
@@ -45,8 +45,7 @@ fn idle_entry(view: &TraceView, entry: &Entry) -> Change
         → entry_of entry.now.id (table_of past) ≡ Some entry.now
         → result ≡ idle_entry past entry.now }
 {
-    let standing = view.standing(entry);
-    idle_by(entry.act, standing.starts, standing.wanted)
+    idle_by(entry.act, view.starts(entry), view.is_wanted(entry))
 }
 
 /// What becomes of an id that has no child.
@@ -91,15 +90,24 @@ fn change_by(child: Option<ChildNumber>, excluded: bool, idle: Change, same: boo
     }
 }
 
+fn act_in(entry: Option<&Entry>) -> Option<Act>
+    ensures { result ≡ option_map (λ (e : Entry). e.act) (option_copied entry.entry) }
+{
+    match entry {
+        Some(entry) => Some(entry.act),
+        None => None,
+    }
+}
+
 /// What becomes of an id, with the number of its child.
 fn line_now(old: &Table, view: &TraceView, id: &Id) -> Line
     ensures { (past : List Event) → Viewed view.now past → result ≡ line_now old.now past id.now }
 {
-    let row = view.row(id);
+    let act = act_in(view.table().get(id));
     let idle = idle_change(view, id);
     let same = same_process(old.get(id), view.table().get(id));
-    let change = change_by(row.child, row.excluded, idle, same);
-    Line::Change(*id, row.act, change, row.child)
+    let change = change_by(view.child(id), view.has_excluded(id), idle, same);
+    Line::Change(*id, act, change, view.child(id))
 }
 
 fn add_new(

@@ -1,8 +1,8 @@
 //! A view of a trace.
 
-ghost use Rattle.std.specs.Prelude.{◌≡◌, ◌&&◌, ◌||◌, if◌then◌else◌, true, List, Some, None, option_map, option_copied, IfOk};
-ghost use Rattle.std.specs.Option.{option_or};
-ghost use Rattle.trace_view.specs.Words.{Start, Entry, Event, table_of, stage_of, grace_of, time_of, unreaped_children, broken, is_order, is_owed, starts_in, entry_of, is_distinct, law_number, open_of, child_of, is_announced};
+ghost use Rattle.std.specs.Prelude.{◌≡◌, ◌&&◌, ◌||◌, if◌then◌else◌, true, false, List, Some, None, option_map, option_copied, IfOk};
+ghost use Rattle.std.specs.Option.{option_map_or, option_or};
+ghost use Rattle.trace_view.specs.Words.{Start, Entry, Event, table_of, stage_of, grace_of, time_of, unreaped_children, broken, is_order, is_excluded, is_owed, is_wanted, starts_in, starts_now, entry_of, is_distinct, law_number, open_of, child_of, is_announced};
 ghost use Rattle.trace_view.specs.Viewing.{unviewed, Viewed, SeesNext};
 ghost use Rattle.trace_view.specs.Why.{entry_id, first_awaited, standing_of, stops_now, number_of, why, why_entry};
 ghost use Rattle.trace_view.specs.Rows.{row_of, gone_ids, is_complete_now, complete_in};
@@ -288,6 +288,33 @@ impl<A: Allocator> TraceView<A> {
             → result ≡ option_map number_of (child_of id.now past) }
     {
         number_of(self.unreaped.youngest_of(*id))
+    }
+
+    /// The id has an unreaped child that may not live on.
+    pub fn has_excluded(&self, id: &Id) -> bool
+        ensures { (past : List Event) → Viewed self.now past
+            → result ≡ option_map_or (is_excluded past) (child_of id.now past) false }
+    {
+        let table = self.judge.table();
+        let stage = self.judge.stage();
+        excludes(self.unreaped.youngest_of(*id), table, stage)
+    }
+
+    /// An entry starts in the stage in force.
+    pub fn starts(&self, entry: &Entry) -> bool
+        ensures { (past : List Event) → Viewed self.now past
+            → result ≡ starts_now entry.now past }
+    {
+        starts_in(entry, self.judge.stage())
+    }
+
+    /// An entry of the table in force is wanted.
+    pub fn is_wanted(&self, entry: &Entry) -> bool
+        ensures { (past : List Event) → Viewed self.now past
+            → entry_of entry.now.id (table_of past) ≡ Some entry.now
+            → result ≡ is_wanted entry.now past }
+    {
+        self.judge.is_wanted(entry)
     }
 
     /// The table in force; no id stands in it twice.
