@@ -1,5 +1,6 @@
 -- The entries of a table in which no id stands twice, each found by its id.
-use Rattle.trace_check.proofs.Words.{arith, ◌≡◌, refl, sym, ◌∙◌, ap, ℕ, Bool, true, false, not, ◌&&◌, ◌||◌, cond, List}
+use Rattle.trace_check.proofs.Words.{arith, ◌≡◌, refl, sym, ◌∙◌, ap, ℕ, zero, suc, take, Bool, true, false, not, ◌&&◌}
+use Rattle.trace_check.proofs.Words.{◌||◌, cond, List}
 use Rattle.trace_check.proofs.Words.{[], ◌∷◌, find, Some, list_any, list_all, option_map_or, and_parts, or_parts}
 use Rattle.trace_check.proofs.Words.{not-true, Entry, same_id, has_id, entry_of, is_distinct, entries_before}
 use Rattle.trace_check.proofs.Words.{same_id-is, same_id-self, same_id-sym, falsely, any_less, or_none}
@@ -32,6 +33,14 @@ each_all : (p q : Entry → Bool) (es : List Entry) → Each (λ e. p e ≡ q e)
 each_all p q [] same = refl
 each_all p q (e ∷ es) same = rw (same.0, each_all p q es same.1) refl
 
+each_none : (p q : Entry → Bool) (count : ℕ) (es : List Entry) → Each (λ e. p e ≡ false → q e ≡ false) es
+    → list_any p (take count es) ≡ false → list_any q (take count es) ≡ false
+each_none p q zero es each none = refl
+each_none p q (suc count) [] each none = refl
+each_none p q (suc count) (e ∷ es) each none =
+    let parts = or_parts (p e) (list_any p (take count es)) none in
+    rw (each.0 parts.0, each_none p q count es each.1 parts.1) refl
+
 each_map : (P Q : Entry → Type 0) → ((e : Entry) → P e → Q e) → (es : List Entry) → Each P es → Each Q es
 each_map P Q f [] each = tt
 each_map P Q f (e ∷ es) each = (f e each.0, each_map P Q f es each.1)
@@ -48,6 +57,13 @@ pub found_all : (p q : Entry → Bool) (es : List Entry) → is_distinct es ≡ 
     → ((e : Entry) → entry_of e.id es ≡ Some e → p e ≡ q e) → list_all p es ≡ list_all q es
 found_all p q es distinct same =
     each_all p q es (each_map (λ e. entry_of e.id es ≡ Some e) (λ e. p e ≡ q e) same es (each_found es distinct))
+
+-- where none of the first passes, none of them passes a test that those that are found fail as well
+pub found_taken : (p q : Entry → Bool) (count : ℕ) (es : List Entry) → is_distinct es ≡ true
+    → ((e : Entry) → entry_of e.id es ≡ Some e → p e ≡ false → q e ≡ false)
+    → list_any p (take count es) ≡ false → list_any q (take count es) ≡ false
+found_taken p q count es distinct fails = each_none p q count es (each_map (λ e. entry_of e.id es ≡ Some e)
+    (λ e. p e ≡ false → q e ≡ false) fails es (each_found es distinct))
 
 pub found_before : (p q : Entry → Bool) (id : List ℕ) (es : List Entry) → is_distinct es ≡ true → ((e : Entry)
     → entry_of e.id es ≡ Some e → p e ≡ q e) → list_any p (entries_before id es) ≡ list_any q (entries_before id es)

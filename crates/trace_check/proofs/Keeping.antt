@@ -1,5 +1,5 @@
 -- What a happening makes of each part of the state is what the longer past says.
-use Rattle.trace_check.proofs.Words.{arith, ◌≡◌, refl, sym, ◌∙◌, ap, ℕ, ◌-◌, Bool, true, false, not, ◌&&◌, ◌||◌, cond}
+use Rattle.trace_check.proofs.Words.{arith, ◌≡◌, refl, sym, ◌∙◌, ap, ℕ, Bool, true, false, not, ◌&&◌, ◌||◌, cond}
 use Rattle.trace_check.proofs.Words.{List, [], ◌∷◌, ◌++◌, filter, take, Option, Some, None, list_any, option_map}
 use Rattle.trace_check.proofs.Words.{option_map_or, not_from_true, list_any-append, STARTS, Entry, OrderKind, Start}
 use Rattle.trace_check.proofs.Words.{Term, same_id, has_id, entry_of, is_distinct, NewTable, Enter, Call, Power, Asked}

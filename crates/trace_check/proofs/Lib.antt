@@ -8,6 +8,7 @@ pub mod Lookups
 pub mod Passing
 pub mod Rows
 pub mod Terms
+pub mod Unowed
 pub mod Walks
 pub mod Windows
 pub mod Words

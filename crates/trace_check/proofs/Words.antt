@@ -22,7 +22,7 @@ pub use Rattle.trace_events.specs.Lawful.{may_kill, Fault, breach_at, earlier, f
 pub use Rattle.init_words.proofs.Same.{same_id-is, same_id-self, same_id-sym, same_id-apart}
 pub use Rattle.init_words.proofs.Tests.{not_from, and_true, and_false, any_less, falsely, or_none, same_tests, any_same}
 pub use Rattle.init_words.proofs.Tests.{Passing, passing, found_any, and_three, or_false, any_within, any_without}
-pub use Rattle.init_words.proofs.Tests.{find_none, or_either}
+pub use Rattle.init_words.proofs.Tests.{find_none, or_either, or_true}
 pub use Rattle.trace_laws.proofs.Lone.{is_lone, lone_filter, lone_any, none_filtered}
 pub use Rattle.trace_check.specs.declared.children.UnreapedChild.{UnreapedChild}
 pub use Rattle.trace_check.specs.After.{is_numbered, child_after, spares, excludes, earliest, term_after, TakesIn}
@@ -39,7 +39,8 @@ pub use Rattle.init_words.specs.declared.levels.Level.{Level}
 pub use Rattle.trace_events.specs.Wishes.{is_level}
 pub use Rattle.trace_check.specs.State.{JudgeState, at, among, times_at}
 pub use Rattle.trace_check.specs.Flaws.{is_alive, is_excluded_in, none_excluded_in, IsCalm, calm_after, is_placed_in}
-pub use Rattle.trace_check.specs.Flaws.{is_in_turn_in, is_served_in, is_settled_in, flaw_in, is_wanted_in, is_owed_in}
+pub use Rattle.trace_check.specs.Flaws.{IsUnowed, is_over_with, unowed_after, is_in_turn_in, is_served_in}
+pub use Rattle.trace_check.specs.Flaws.{is_settled_in, flaw_in, is_wanted_in, is_owed_in}
 pub use Rattle.trace_check.specs.Flaws.{is_held_in, is_full_in, is_free_in, is_due_hold_in, is_over_in, may_kill_in}
 pub use Rattle.respawn_limit.specs.declared.TheConstants.{HOLD, STARTS, WINDOW, CLOCK_LIMIT}
 pub use Rattle.trace_events.specs.Timing.{start_times, hold_times, is_held, is_full}

@@ -1,12 +1,12 @@
 -- The law that a happening breaks, by the state and the table.
 use Rattle.std.specs.Prelude.{◌≡◌, IsTrue, ℕ, Bool, true, false, not, ◌&&◌, ◌||◌, ◌-◌, if◌then◌else◌, nat_lt, nat_le}
-use Rattle.std.specs.Prelude.{List, slice_get, find, Option, Some, None, is_none, is_some}
+use Rattle.std.specs.Prelude.{List, slice_get, take, find, Option, Some, None, is_none, is_some}
 use Rattle.std.specs.Map.{keys_of}
 use Rattle.std.specs.Option.{option_map_or}
 use Rattle.std.specs.List.{list_any, list_all}
 use Rattle.trace_check.specs.Words.{HOLD, STARTS, WINDOW, Entry, At, Start, Term, Kill, names, wanted_by, is_limited}
-use Rattle.trace_check.specs.Words.{served_by, entry_of, act_of, NewTable, Enter, Asked, Hold, Settle, Birth, Event}
-use Rattle.trace_check.specs.Words.{starts_in, is_order, entries_before}
+use Rattle.trace_check.specs.Words.{served_by, entry_of, act_of, NewTable, Enter, Call, Power, Asked, Hold, Settle}
+use Rattle.trace_check.specs.Words.{Birth, Told, Event, starts_in, is_order, entries_before}
 use Rattle.init_words.specs.declared.levels.Level.{Level}
 use Rattle.init_words.specs.Entries.{waited_of}
 use Rattle.trace_events.specs.Wishes.{is_level}
@@ -57,6 +57,25 @@ first_owed_in table s id = find (is_owed_in s) (entries_before id table)
 
 abbrev pub is_in_turn_in : List Entry → JudgeState → List ℕ → Bool
 is_in_turn_in table s id = is_none (first_owed_in table s id)
+
+-- so many entries at the front of the table aren't owed
+abbrev pub IsUnowed : ℕ → List Entry → JudgeState → Type 0
+IsUnowed count table s = list_any (is_owed_in s) (take count table) ≡ false
+
+-- init waits for the entry of an id in its stage, and is over with it
+abbrev pub is_over_with : List Entry → JudgeState → List ℕ → Bool
+is_over_with table s id = option_map_or (λ e. waited_of e && not (is_owed_in s e)) (entry_of id table) false
+
+-- a stage, a table and a call may make any entry owed, and what happens to an id its own
+abbrev pub unowed_after : List Entry → JudgeState → Event → ℕ → ℕ
+unowed_after table s (Enter stage grace) count = 0
+unowed_after table s (NewTable next) count = 0
+unowed_after table s (Power kind) count = 0
+unowed_after table s (Call letter) count = 0
+unowed_after table s (Asked id ask) count = if not (is_over_with table s id) then count else 0
+unowed_after table s (Birth id number) count = if not (is_over_with table s id) then count else 0
+unowed_after table s (Told id) count = if not (is_over_with table s id) then count else 0
+unowed_after table s _ count = count
 
 -- the respawn limit
 abbrev pub is_held_in : JudgeState → List ℕ → Bool

@@ -28,20 +28,22 @@ fn is_limited<B: Allocator>(table: &Table<B>, id: &Id) -> bool
 impl<A: Allocator> Judge<A> {
     ghost use Rattle.std.specs.Map.{keys_of};
     ghost use Rattle.std.specs.List.{list_any, list_all};
-    ghost use Rattle.trace_check.specs.Flaws.{is_alive, is_excluded_in, none_excluded_in, IsCalm, is_placed_in, is_starting, is_wanted_in, is_owed_in, is_in_turn_in, first_owed_in, is_held_in, is_full_in, is_free_in, is_due_hold_in, is_served_in, is_settled_in, is_over_in, may_kill_in, flaw_of_birth, flaw_in};
+    ghost use Rattle.trace_check.specs.Flaws.{is_alive, is_excluded_in, none_excluded_in, IsCalm, is_placed_in, is_starting, is_wanted_in, is_owed_in, is_in_turn_in, IsUnowed, is_over_with, unowed_after, first_owed_in, is_held_in, is_full_in, is_free_in, is_due_hold_in, is_served_in, is_settled_in, is_over_in, may_kill_in, flaw_of_birth, flaw_in};
 
     /// The least law that the happening breaks, where `table` is in force before it.
     pub(crate) fn flaw<B: Allocator>(
         &self,
         table: &Table<A>,
         calm: bool,
+        unowed: usize,
         happening: &HappeningIn<B>,
     ) -> Option<Law>
-        requires { IsCalm calm table.now self.now }
+        requires calm { IsCalm calm table.now self.now }
+        requires unowed { IsUnowed unowed table.now self.now }
         ensures { option_map law_number result ≡ flaw_in table.now self.now happening.now }
     {
         match happening {
-            Happening::Birth(id, _) => self.flaw_of_birth(table, calm, id),
+            Happening::Birth(id, _) => self.flaw_of_birth(table, calm, unowed, id),
             Happening::Settle(level) => unless(
                 self.is_settled(*level, table, calm),
                 Law::NotSettled,
@@ -63,15 +65,16 @@ impl<A: Allocator> Judge<A> {
         }
     }
 
-    fn flaw_of_birth(&self, table: &Table<A>, calm: bool, id: &Id) -> Option<Law>
-        requires { IsCalm calm table.now self.now }
+    fn flaw_of_birth(&self, table: &Table<A>, calm: bool, unowed: usize, id: &Id) -> Option<Law>
+        requires calm { IsCalm calm table.now self.now }
+        requires unowed { IsUnowed unowed table.now self.now }
         ensures { option_map law_number result ≡ flaw_of_birth table.now self.now id.now }
     {
         if self.is_alive(id) {
             Some(Law::SecondChild)
         } else if !self.is_placed(table, id) {
             Some(Law::OutOfStage)
-        } else if !self.is_in_turn(table, id) {
+        } else if !self.is_in_turn(table, unowed, id) {
             Some(Law::OutOfTurn)
         } else {
             unless(self.none_excluded(table, calm), Law::BesideExcluded)
@@ -141,14 +144,34 @@ impl<A: Allocator> Judge<A> {
     }
 
     /// No entry before the id's is owed.
-    fn is_in_turn(&self, table: &Table<A>, id: &Id) -> bool
+    fn is_in_turn(&self, table: &Table<A>, unowed: usize, id: &Id) -> bool
+        requires { IsUnowed unowed table.now self.now }
         ensures { result ≡ is_in_turn_in table.now self.now id.now }
     {
-        self.first_owed(table, id).is_none()
+        self.first_owed(table, unowed, id).is_none()
     }
 
-    /// The first entry before the id's that is owed.
-    pub(crate) fn first_owed<'a>(&self, table: &'a Table<A>, id: &Id) -> Option<&'a Entry>
+    /// The first entry before the id's that is owed, where so many at the front aren't.
+    pub(crate) fn first_owed<'a>(
+        &self,
+        table: &'a Table<A>,
+        unowed: usize,
+        id: &Id,
+    ) -> Option<&'a Entry>
+        requires { IsUnowed unowed table.now self.now }
+        ensures { option_copied result ≡ first_owed_in table.now self.now id.now }
+    {
+        let Some(next) = table.at(unowed) else {
+            return None;
+        };
+        if *id == next.id {
+            return None;
+        }
+        self.find_owed(table, id)
+    }
+
+    /// The same, by a walk from the first entry on.
+    fn find_owed<'a>(&self, table: &'a Table<A>, id: &Id) -> Option<&'a Entry>
         ensures { option_copied result ≡ first_owed_in table.now self.now id.now }
     {
         for position in 0..table.len() {
@@ -161,6 +184,65 @@ impl<A: Allocator> Judge<A> {
             }
         }
         None
+    }
+
+    /// So many entries at the front aren't owed, where so many are known not to be. Before a birth, of which the law
+    /// asks for them, they are counted on.
+    pub(crate) fn unowed_before<B: Allocator>(
+        &self,
+        table: &Table<A>,
+        happening: &HappeningIn<B>,
+        unowed: usize,
+    ) -> usize
+        requires { IsUnowed unowed table.now self.now }
+        ensures { IsUnowed result table.now self.now }
+    {
+        match happening {
+            Happening::Birth(..) => self.unowed_from(table, unowed),
+            _ => unowed,
+        }
+    }
+
+    /// The place of the first entry that is owed, where so many aren't.
+    fn unowed_from(&self, table: &Table<A>, unowed: usize) -> usize
+        requires { IsUnowed unowed table.now self.now }
+        ensures { IsUnowed result table.now self.now }
+    {
+        for position in unowed..table.len() {
+            if self.is_owed(entry_at(table, position)) {
+                return position;
+            }
+        }
+        table.len().max(unowed)
+    }
+
+    /// Init waits for the id's entry in its stage, and is over with it.
+    fn is_over_with(&self, table: &Table<A>, id: &Id) -> bool
+        ensures { result ≡ is_over_with table.now self.now id.now }
+    {
+        match table.get(id) {
+            Some(entry) => waited(entry) && !self.is_owed(entry),
+            None => false,
+        }
+    }
+
+    /// So many entries at the front aren't owed after the happening for sure, where so many aren't before it.
+    pub(crate) fn unowed_after<B: Allocator>(
+        &self,
+        table: &Table<A>,
+        happening: &HappeningIn<B>,
+        unowed: usize,
+    ) -> usize
+        ensures { result ≡ unowed_after table.now self.now happening.now unowed }
+    {
+        match happening {
+            Happening::Enter(..) | Happening::NewTable(_) => 0,
+            Happening::Power(_) | Happening::Call(_) => 0,
+            Happening::Asked(id, _) => only_if(!self.is_over_with(table, id), unowed),
+            Happening::Birth(id, _) => only_if(!self.is_over_with(table, id), unowed),
+            Happening::Told(id) => only_if(!self.is_over_with(table, id), unowed),
+            _ => unowed,
+        }
     }
 
     /// A hold of the id is in force: it began less than five minutes ago (init(8)).
@@ -251,6 +333,13 @@ pub(crate) fn calm_after<B: Allocator>(happening: &HappeningIn<B>, calm: bool) -
         Happening::Enter(..) | Happening::NewTable(_) => false,
         _ => calm,
     }
+}
+
+/// So many, or none.
+fn only_if(test: bool, count: usize) -> usize
+    ensures { result ≡ (if test then count else 0) }
+{
+    if test { count } else { 0 }
 }
 
 /// The law is broken where its test fails.

@@ -67,7 +67,7 @@ impl<A: Allocator> TraceJudge<A> {
     {
         // It says that no id stands twice.
         let _len = self.table.len();
-        self.judge.first_owed(&self.table, id)
+        self.judge.first_owed(&self.table, self.unowed, id)
     }
 
     /// A hold of the id is in force.

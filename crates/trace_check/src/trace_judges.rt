@@ -26,17 +26,19 @@ pub struct TraceJudge<A: Allocator = Global> {
     pub(crate) judge: Judge<A>,
     // No child is excluded; where it is false, one may be.
     pub(crate) calm: bool,
+    // So many entries at the front of the table aren't owed; the next one may be.
+    pub(crate) unowed: usize,
 }
 
 impl<A: Allocator> Model for TraceJudge<A> {
     ghost use Rattle.trace_check.specs.Judging.{Judging};
-    ghost use Rattle.trace_check.specs.Flaws.{IsCalm};
+    ghost use Rattle.trace_check.specs.Flaws.{IsCalm, IsUnowed};
 
     ghost Value = { Judging };
 
     ghost view = { λ j. record { table = j.table; state = j.judge } };
 
-    ghost invariant = { λ j. IsCalm j.calm j.table j.judge };
+    ghost invariant = { λ j. IsCalm j.calm j.table j.judge × IsUnowed j.unowed j.table j.judge };
 }
 
 impl<A: Allocator + Copy> TraceJudge<A> {
@@ -52,6 +54,7 @@ impl<A: Allocator + Copy> TraceJudge<A> {
             table: Table::new(alloc),
             judge: Judge::new(alloc),
             calm: false,
+            unowed: 0,
         }
     }
 
@@ -65,13 +68,18 @@ impl<A: Allocator + Copy> TraceJudge<A> {
     {
         // It says that no id stands twice.
         let _len = self.table.len();
-        if let Some(law) = self.judge.flaw(&self.table, self.calm, happening) {
+        let known = self
+            .judge
+            .unowed_before(&self.table, happening, self.unowed);
+        if let Some(law) = self.judge.flaw(&self.table, self.calm, known, happening) {
             return Ok(Some(law));
         }
+        let unowed = self.judge.unowed_after(&self.table, happening, known);
         let brought = table_brought(self.alloc, happening)?;
         self.judge.take(&self.table, happening)?;
         put_brought(&mut self.table, brought);
         self.calm = calm_after(happening, self.calm);
+        self.unowed = unowed;
         Ok(None)
     }
 }

@@ -1,5 +1,6 @@
 use Rattle.trace_check.proofs.Words.{sym, ◌∙◌, subst, flaw_in, Judging, Judged}
 use Rattle.trace_check.proofs.Calm.{calm_next}
+use Rattle.trace_check.proofs.Unowed.{unowed_next}
 use Rattle.trace_check.proofs.Passing.{flaw_is, judged_more}
 use Rattle.trace_check.proofs.trace_judges.TraceJudge.take.Goals as goal
 
@@ -24,6 +25,12 @@ returns-clause-next g c = λ past judged.
     (subst (λ j. Judged j past) (sym c.self.view_is) judged)
 
 pub invariant_of-self-2 : goal.invariant_of-self-2
-invariant_of-self-2 g c = rw c.calm_after-self-inside.ensures (calm_next c.args.happening.now c.self.inside.judge
-    c.take.new.self c.self.inside.table c.put_brought.new.table c.self.inside.calm (sym c.in_default.ensures)
-    c.in_ok-take.ensures.ok (c.put_brought.ensures ∙ c.in_ok-brought.ensures c.self.inside.table) c.self.invariant)
+invariant_of-self-2 g c = (
+  rw c.calm_after-self-inside.ensures (calm_next c.args.happening.now c.self.inside.judge c.take.new.self
+      c.self.inside.table c.put_brought.new.table c.self.inside.calm (sym c.in_default.ensures)
+      c.in_ok-take.ensures.ok (c.put_brought.ensures ∙ c.in_ok-brought.ensures c.self.inside.table) c.self.invariant.0),
+  rw c.unowed_after-unowed.ensures (unowed_next c.args.happening.now c.self.inside.judge c.take.new.self
+      c.self.inside.table c.put_brought.new.table c.unowed_before-known.result c.len-len.ensures.distinct
+      c.in_ok-take.ensures.ok (c.put_brought.ensures ∙ c.in_ok-brought.ensures c.self.inside.table)
+      c.unowed_before-known.ensures),
+)

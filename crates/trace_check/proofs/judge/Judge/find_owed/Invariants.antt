@@ -1,5 +1,5 @@
 use Rattle.trace_check.proofs.Words.{◌≡◌, drop, find, entries_before, is_owed_in}
-use Rattle.trace_check.proofs.judge.Judge.first_owed.Given as goal
+use Rattle.trace_check.proofs.judge.Judge.find_owed.Given as goal
 
 -- the answer is that of what is left
 abbrev pub invariant-loop-position : goal.invariant-loop-position
