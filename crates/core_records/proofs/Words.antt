@@ -2,7 +2,7 @@
 pub use Rattle.std.proofs.Common.{◌≡◌, refl, sym, ◌∙◌, subst, Bool, true, false, ℕ, zero, suc, ◌+◌, List, [], ◌∷◌, ◌++◌}
 pub use Rattle.std.proofs.Common.{drop, slice_get, Option, None, is_none, append_assoc, arith, ap, cond, not, ◌||◌, ◌-◌}
 pub use Rattle.std.proofs.Common.{◌≤◌, ◌<◌, map, length, Some, ◌==◌, ◌^◌, Ok, ◌&&◌, filter, take, get_or, nat_lt, find}
-pub use Rattle.std.proofs.Common.{add-one, length-drop, nat_le, rules, append-nil}
+pub use Rattle.std.proofs.Common.{add-one, length-drop, nat_le, rules}
 pub use Rattle.std.specs.List.{list_any, list_all, count_by, remove, AllByRecursion, cons_option, insert}
 pub use Rattle.std.specs.List.{slice_index_or, AllWithin}
 pub use Rattle.std.specs.Option.{option_to_list, IfSome, option_copied, option_map, option_copied_mut}

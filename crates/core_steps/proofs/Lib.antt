@@ -7,4 +7,5 @@ pub mod Places
 pub mod Remade
 pub mod Ruled
 pub mod Starts
+pub mod Stops
 pub mod Words

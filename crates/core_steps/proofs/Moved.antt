@@ -94,7 +94,7 @@ listed_at id [] i at = absurd (false≢true at)
 listed_at id (slot ∷ slots) zero at = or_left (is_record_of id slot) (is_listed id slots) at
 listed_at id (slot ∷ slots) (suc i) at = or_right (is_record_of id slot) (is_listed id slots) (listed_at id slots i at)
 
-other_before : (id : List ℕ) (slot : RecordState) (slots : List RecordState) (i : ℕ)
+pub other_before : (id : List ℕ) (slot : RecordState) (slots : List RecordState) (i : ℕ)
     → are_distinct (slot ∷ slots) ≡ true → is_place id i slots ≡ true → is_record_of id slot ≡ false
 other_before id slot slots i distinct at = grind (arith, is_record_of, Bool, others, listed_at)
 

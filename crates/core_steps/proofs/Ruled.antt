@@ -3,6 +3,12 @@ use Rattle.core_steps.proofs.Words.{◌≡◌, ◌≤◌, ◌<◌, ◌+◌, refl
 use Rattle.core_steps.proofs.Words.{length, drop, get_or, zip, Some, None, slice_get, list_any, IsNonDecreasing, le-leb}
 use Rattle.core_steps.proofs.Words.{Entry, Stage, STARTS, RecordState, is_owed_record, is_started, is_start_allowed}
 use Rattle.core_steps.proofs.Words.{are_starts_along, is_hold_of, is_limit_kept, never_from_ordered, arith}
+use Rattle.core_steps.proofs.Words.{◌&&◌, Option, nat_le, list_all, and_parts, and_from, leb-true, CLOCK_LIMIT}
+use Rattle.core_steps.specs.Words.{is_timely, are_timely, is_record_kept, has_cause, is_birth_known, is_order_allowed}
+use Rattle.core_steps.specs.Words.{is_stop_judged, are_marks_due, is_limiter_kept, are_fields_kept, is_other_level}
+use Rattle.core_steps.specs.Words.{is_goal_reached}
+use Rattle.core_model.specs.declared.parts.CoreFields.{CoreFields}
+use Rattle.trace_events.specs.Wishes.{in_run}
 use Rattle.respawn_limit.specs.State.{LimiterState}
 use Rattle.core_steps.proofs.Pairs.{pair_at, no_pair_at, no_pair_past}
 
@@ -51,3 +57,24 @@ module _ (stage : Stage) (table : List Entry) (slots : List RecordState) (i : �
       ≡ starts_from (owed || is_owed_record stage e slot) stage (drop (i + 1) (zip table slots))
   starts_pass e slot at h is pass = rw (so_far, pair_at table slots i e slot at h is)
       (in_turn owed stage e slot (drop (i + 1) (zip table slots)) pass)
+
+-- of what keeps the rules no time is later than now, nor than the clock's limit
+pub each_timely : (stage : Option Stage) (table : List Entry) (now : ℕ) (slots : List RecordState)
+    → list_all (is_record_kept stage table now) slots ≡ true → are_timely now slots ≡ true
+each_timely stage table now [] kept = refl
+each_timely stage table now (slot ∷ slots) kept =
+    let parts =
+    and_parts (is_record_kept stage table now slot) (list_all (is_record_kept stage table now) slots) kept in
+    let own = and_parts (has_cause slot && is_birth_known slot.child && is_order_allowed slot
+    && is_stop_judged stage table slot && are_marks_due slot
+    && is_limiter_kept now slot) (is_timely now slot) parts.0 in
+    and_from (is_timely now slot) (are_timely now slots) own.1 (each_timely stage table now slots parts.1)
+
+pub clock_kept : (fields : CoreFields) → are_fields_kept fields ≡ true → fields.time ≤ CLOCK_LIMIT
+clock_kept fields kept =
+    let third = and_parts (nat_le fields.time CLOCK_LIMIT && is_other_level fields.stage fields.level_wish
+    && (not fields.announced || in_run fields.stage)) (is_goal_reached fields.stage fields.goal fields.booted) kept in
+    let second = and_parts (nat_le fields.time CLOCK_LIMIT && is_other_level fields.stage fields.level_wish)
+    (not fields.announced || in_run fields.stage) third.0 in
+    leb-true fields.time CLOCK_LIMIT
+    (and_parts (nat_le fields.time CLOCK_LIMIT) (is_other_level fields.stage fields.level_wish) second.0).0

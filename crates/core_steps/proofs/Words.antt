@@ -23,6 +23,7 @@ pub use Rattle.trace_events.specs.declared.steps.Step.TheVariants.{Order, Hold}
 pub use Rattle.init_words.specs.declared.orders.OrderKind.TheVariants.{Kill, Start, Look, Term}
 pub use Rattle.core_model.specs.Decide.{signal_step, stop_among, has_excluded, stands, calm_step, work_step, decide}
 pub use Rattle.core_model.specs.Decide.{is_wanted_record, is_owed_record, start_along, look_among, start_step}
+pub use Rattle.core_model.specs.Decide.{stop_step}
 pub use Rattle.core_model.specs.State.{CoreState, opening_level, opening_goal}
 pub use Rattle.core_steps.specs.Signals.{is_past}
 pub use Rattle.core_records.proofs.Changed.{timely_judge, timely_enter, id-after_judge, id-after_order}
@@ -40,7 +41,8 @@ pub use Rattle.core_model.specs.Rules.{is_kept, never_fall}
 pub use Rattle.core_model.proofs.RulesKept.{adopt_keeps, told_keeps, opening_keeps, step_keeps}
 pub use Rattle.core_model.proofs.Each.{Each, each_always, each_less, each_own}
 pub use Rattle.core_steps.specs.Places.{is_seen_record, are_seen, is_held_back, is_passed_record, is_passed_in}
-pub use Rattle.core_steps.specs.Places.{is_passed_at, ArePassedFrom, ArePassed, changes_starts}
+pub use Rattle.core_steps.specs.Places.{is_passed_at, ArePassedFrom, ArePassed, changes_starts, is_unsignalled_at}
+pub use Rattle.core_steps.specs.Places.{AreUnsignalled}
 pub use Rattle.init_words.specs.Actions.{is_limited}
 pub use Rattle.respawn_limit.specs.Window.{is_held}
 pub use Rattle.core_steps.specs.Between.{AllBut}

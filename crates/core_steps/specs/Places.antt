@@ -1,4 +1,4 @@
--- The places from which on a record may be looked at, and an entry started or waited for.
+-- The places from which on a record may be looked at or signalled, and an entry started or waited for.
 use Rattle.std.specs.Prelude.{◌≡◌, ◌≤◌, ◌<◌, ℕ, Bool, true, false, not, ◌&&◌, List, zip, take, slice_get, Option, Some}
 use Rattle.std.specs.Prelude.{None, is_some, is_none}
 use Rattle.std.specs.List.{list_all}
@@ -8,7 +8,7 @@ use Rattle.init_words.specs.declared.entries.Entry.{Entry}
 use Rattle.init_words.specs.declared.orders.Answer.{Answer}
 use Rattle.init_words.specs.declared.orders.Answer.TheVariants.{Born, NotBorn, Ended}
 use Rattle.respawn_limit.specs.Window.{is_held}
-use Rattle.core_steps.specs.Words.{Stage, RecordState, is_wanted_record, is_owed_record}
+use Rattle.core_steps.specs.Words.{Stage, RecordState, is_wanted_record, is_owed_record, stop_step}
 use Rattle.core_steps.specs.declared.walk_places.Places.{Places}
 use Rattle.core_steps.specs.Between.{AllBut}
 
@@ -47,6 +47,16 @@ ArePassedFrom stage now pairs from to =
 -- it is so of each entry before the next place, but for that at the first
 abbrev pub ArePassed : Option Stage → ℕ → Places → List Entry → List RecordState → Type 0
 ArePassed stage now places table slots = AllBut (is_passed_at stage now (zip table slots)) places
+
+-- no signal is due to the record at the place, if there is one
+abbrev pub is_unsignalled_at : ℕ → ℕ → List RecordState → ℕ → Bool
+is_unsignalled_at grace now slots position =
+    option_map_or (λ (slot : RecordState). is_none (stop_step grace now slot)) (slice_get slots position) true
+
+-- so it is with each record before the place
+abbrev pub AreUnsignalled : ℕ → ℕ → ℕ → List RecordState → Type 0
+AreUnsignalled grace now to slots =
+    (position : ℕ) → position < to → is_unsignalled_at grace now slots position ≡ true
 
 -- the answer is to a start, or says that a child ended: what is to be started may be another then
 abbrev pub changes_starts : Answer → Bool

@@ -7,7 +7,7 @@ pub use Rattle.core_model.specs.Decide.{next_stage, is_served_record, can_look_r
 pub use Rattle.core_model.specs.Decide.{or_idle, wish_step, stands, stop_among, calm_step, work_step, start_along}
 pub use Rattle.core_model.specs.Decide.{start_among, all_done, all_served, look_among, is_busy_record}
 pub use Rattle.core_records.specs.Lists.{has_record_of, with_changed, is_quiet, order_in, refusal_of, record_by_id}
-pub use Rattle.core_records.specs.Lists.{are_distinct, is_record_of, can_ask}
+pub use Rattle.core_records.specs.Lists.{are_distinct, can_ask}
 pub use Rattle.core_records.specs.Order.{IsInOrder}
 pub use Rattle.core_model.specs.Steps.{is_named, with_called, judged_in, after_adopt, after_step, after_told}
 pub use Rattle.core_model.specs.Steps.{after_round, after_clock, after_got, after_not_read, after_handed}

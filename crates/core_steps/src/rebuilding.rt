@@ -166,7 +166,9 @@ impl<A: Allocator + Copy> CoreValues<A> {
         if !is_kept(&fields, &table, &slots) {
             return Err(Rebuild::Unfit);
         }
-        let slots = Records::rebuilt(alloc, slots)?;
+        let Some(slots) = Records::rebuilt(alloc, slots)? else {
+            return Err(Rebuild::Unfit);
+        };
         Ok(CoreValues::of(fields, table, slots))
     }
 }

@@ -1,15 +1,15 @@
 //! The rules that whatever init keeps is held to, tested one by one.
 
-ghost use Rattle.std.specs.Prelude.{◌≡◌, ◌≤◌, if◌then◌else◌, not, true, nat_le, Some};
+ghost use Rattle.std.specs.Prelude.{◌≡◌, ◌≤◌, ◌&&◌, if◌then◌else◌, not, true, nat_le, Some};
 ghost use Rattle.std.specs.List.{list_all, list_any};
 ghost use Rattle.std.specs.List.Sorted.{IsNonDecreasing};
-ghost use Rattle.core_steps.specs.Words.{CLOCK_LIMIT, are_distinct, is_record_of, is_stop_timely, is_timely, has_excluded, has_cause, may_follow, is_order_allowed, is_started, is_start_allowed, are_starts_in, is_child_excluded, is_stop_judged, is_callable, may_be_signalled, are_marks_due, is_hold_of, is_limiter_kept, is_other_level, is_goal_reached, is_birth_known, are_fields_kept, is_record_kept, are_records_kept, is_kept};
+ghost use Rattle.core_steps.specs.Words.{CLOCK_LIMIT, are_distinct, is_stop_timely, is_timely, are_timely, has_excluded, has_cause, may_follow, is_order_allowed, is_started, is_start_allowed, are_starts_in, is_child_excluded, is_stop_judged, is_callable, may_be_signalled, are_marks_due, is_hold_of, is_limiter_kept, is_other_level, is_goal_reached, is_birth_known, are_fields_kept, is_record_kept, are_records_kept, is_kept};
 ghost use Rattle.core_model.specs.Rules as rules;
 
 use crate::deciding::{is_owed, is_starting};
 use core_model::CoreFields;
 use core_records::{Record, Stop, is_excluded};
-use init_words::{Act, Entry, Id, OrderKind, PowerKind, Stage, starts};
+use init_words::{Act, Entry, OrderKind, PowerKind, Stage, starts};
 use inittab_text::Table;
 use respawn_limit::{CLOCK_LIMIT, HOLD, STARTS};
 use std::alloc::Allocator;
@@ -256,26 +256,7 @@ fn is_each_kept<A: Allocator>(
         .all(|slot| is_record_kept(stage, table, now, slot))
 }
 
-/// A record has the id.
-fn has_id(slots: &[Record], id: Id) -> bool
-    ensures { result ≡ list_any (is_record_of id) slots.now }
-{
-    slots.iter().any(|slot| id == slot.id())
-}
-
-/// No id has two records.
-fn are_distinct(slots: &[Record]) -> bool
-    ensures { result ≡ are_distinct slots.now }
-{
-    for (position, slot) in slots.iter().enumerate() {
-        if has_id(&slots[position + 1..], slot.id()) {
-            return false;
-        }
-    }
-    true
-}
-
-/// The records keep the rules, where the stage, the table and the time are these.
+/// The records keep the rules, where the stage, the table and the time are these, and no id has two.
 fn are_records_kept<A: Allocator>(
     stage: Option<Stage>,
     table: &Table<A>,
@@ -283,10 +264,11 @@ fn are_records_kept<A: Allocator>(
     slots: &[Record],
 ) -> bool
     requires { now ≤ CLOCK_LIMIT }
-    ensures { result ≡ are_records_kept stage table.now now slots.now }
+    ensures kept { are_records_kept stage table.now now slots.now
+        ≡ (are_distinct slots.now && result) }
+    ensures timely { result ≡ true → are_timely now slots.now ≡ true }
 {
-    are_distinct(slots)
-        && are_starts_in(stage, table, slots)
+    are_starts_in(stage, table, slots)
         && (!has_start(slots) || !has_excluded(slots))
         && is_each_kept(stage, table, now, slots)
 }
@@ -324,9 +306,10 @@ fn are_fields_kept(fields: &CoreFields) -> bool
         && is_goal_reached(fields.stage, fields.goal, fields.booted)
 }
 
-/// What is kept keeps the rules, but for the order of the records.
+/// What is kept keeps the rules, but for the order of the records, where no id has two.
 pub(crate) fn is_kept<A: Allocator>(fields: &CoreFields, table: &Table<A>, slots: &[Record]) -> bool
-    ensures { result ≡ is_kept fields.now table.now slots.now }
+    ensures kept { is_kept fields.now table.now slots.now ≡ (are_distinct slots.now && result) }
+    ensures timely { result ≡ true → are_timely CLOCK_LIMIT slots.now ≡ true }
 {
     are_fields_kept(fields) && are_records_kept(fields.stage, table, fields.time, slots)
 }

@@ -7,7 +7,7 @@ use crate::deciding::{changes_starts, is_past, is_start, level_step, next_stage}
 use crate::walk_places::Places;
 use crate::walking::{
     advanced_places, all_done, all_served, any_busy, look_among, seen_until, start_among,
-    stop_among,
+    stop_among, unsignalled_to, unsignalled_with,
 };
 use core_model::CoreFields;
 use core_records::Records;
@@ -26,15 +26,17 @@ pub(crate) struct CoreValues<A: Allocator> {
     table: Table<A>,
     slots: Records<A>,
     fields: CoreFields,
-    // `next` walks from here on. No record before this one has a child that is to be looked at.
+    // `next` walks from these on. No record before this one has a child that is to be looked at.
     looks_from: usize,
+    // To no record before this one a signal is due.
+    stops_from: usize,
     starts: Places,
 }
 
 impl<A: Allocator> Model for CoreValues<A> {
     ghost use Rattle.std.specs.Prelude.{◌≡◌, ◌≤◌, true};
     ghost use Rattle.core_steps.specs.Words.{CLOCK_LIMIT, are_timely, IsInOrder, CoreState};
-    ghost use Rattle.core_steps.specs.Places.{are_seen, ArePassed};
+    ghost use Rattle.core_steps.specs.Places.{are_seen, ArePassed, AreUnsignalled};
 
     ghost Value = { CoreState };
 
@@ -43,7 +45,8 @@ impl<A: Allocator> Model for CoreValues<A> {
     ghost invariant = { λ c. (c.fields.time ≤ CLOCK_LIMIT)
         × (are_timely c.fields.time c.slots ≡ true)
         × IsInOrder c.table c.slots × (are_seen c.looks_from c.slots ≡ true)
-        × ArePassed c.fields.stage c.fields.time c.starts c.table c.slots };
+        × ArePassed c.fields.stage c.fields.time c.starts c.table c.slots
+        × AreUnsignalled c.fields.grace c.fields.time c.stops_from c.slots };
 }
 
 impl<A: Allocator + Copy> CoreValues<A> {
@@ -71,6 +74,7 @@ impl<A: Allocator + Copy> CoreValues<A> {
                 grace: GRACE,
             }),
             looks_from: 0,
+            stops_from: 0,
             starts: Places::all(),
         })
     }
@@ -92,6 +96,7 @@ impl<A: Allocator + Copy> CoreValues<A> {
         self.fields.announced = false;
         self.fields.reread = false;
         self.looks_from = 0;
+        self.stops_from = 0;
         self.starts = Places::all();
         Ok(())
     }
@@ -118,6 +123,7 @@ impl<A: Allocator> CoreValues<A> {
             slots,
             fields,
             looks_from: 0,
+            stops_from: 0,
             starts: Places::all(),
         }
     }
@@ -297,16 +303,24 @@ impl<A: Allocator> CoreValues<A> {
         self.stop_step()
     }
 
-    /// The first signal that is due. The records are walked only where a stop is due, or the grace of the first
-    /// SIGTERM is over.
+    /// A signal may be due: a stop is, or the grace of the first SIGTERM is over.
+    fn may_signal(&self) -> bool
+        ensures { result ≡ false
+            → stop_among self.now.fields.grace self.now.fields.time self.now.slots ≡ None }
+    {
+        let slots = &self.slots;
+        slots.has_due() || is_past(slots.first_termed(), self.fields.grace, self.fields.time)
+    }
+
+    /// The first signal that is due. The records are walked only where one may be.
     fn stop_step(&self) -> Option<Step>
         ensures { result ≡ stop_among self.now.fields.grace self.now.fields.time self.now.slots }
     {
-        let slots = &self.slots;
-        if slots.has_due() || is_past(slots.first_termed(), self.fields.grace, self.fields.time) {
-            return stop_among(self.fields.grace, self.fields.time, slots.as_slice());
+        if !self.may_signal() {
+            return None;
         }
-        None
+        let slots = self.slots.as_slice();
+        stop_among(self.fields.grace, self.fields.time, slots, self.stops_from)
     }
 
     /// Before the first stage: Sysinit, where no start and no signal is open.
@@ -337,12 +351,17 @@ impl<A: Allocator> CoreValues<A> {
         look_among(slots, self.looks_from).unwrap_or(Step::Idle)
     }
 
-    /// The places go on after all records that are seen, and all entries that are passed.
+    /// The places go on after all records that are seen, to which no signal is due, and all entries that are passed.
     fn pass(&mut self)
         ensures { self.new ≡ self.old }
     {
+        let may_signal = self.may_signal();
         let slots = self.slots.as_slice();
         self.looks_from = seen_until(slots, self.looks_from);
+        if may_signal {
+            let (grace, now) = (self.fields.grace, self.fields.time);
+            self.stops_from = unsignalled_to(grace, now, slots, self.stops_from);
+        }
         if let Some(stage) = self.fields.stage {
             self.starts = advanced_places(self.starts, stage, self.fields.time, &self.table, slots);
         }
@@ -360,6 +379,7 @@ impl<A: Allocator> CoreValues<A> {
         self.fields.booted = stage == Stage::Boot || self.fields.booted;
         self.fields.announced = false;
         self.looks_from = 0;
+        self.stops_from = 0;
         self.starts = Places::all();
     }
 
@@ -426,6 +446,9 @@ impl<A: Allocator> CoreValues<A> {
         self.slots.told(id, answer, self.fields.time)?;
         // An end may take a record out.
         self.looks_from = self.looks_from.saturating_sub(1);
+        let to = self.stops_from.saturating_sub(1);
+        let (grace, now) = (self.fields.grace, self.fields.time);
+        self.stops_from = unsignalled_with(grace, now, self.slots.as_slice(), to, position);
         self.starts = self.starts.with_if(position, changes_starts(&answer));
         Ok(())
     }
@@ -488,6 +511,7 @@ impl<A: Allocator> CoreValues<A> {
     {
         self.slots.begin_round();
         self.looks_from = 0;
+        self.stops_from = 0;
     }
 
     pub(crate) fn clock_by_state(&mut self, reading: u64)
@@ -495,7 +519,10 @@ impl<A: Allocator> CoreValues<A> {
     {
         let before = self.fields.time;
         self.fields.time = reading.min(CLOCK_LIMIT).max(self.fields.time);
-        // A hold may be over.
+        // A hold may be over, or the grace of a SIGTERM.
         self.starts = self.starts.all_if(before < self.fields.time);
+        if before < self.fields.time {
+            self.stops_from = 0;
+        }
     }
 }

@@ -1,9 +1,9 @@
 //! What is due first among all records, in record order.
 
-ghost use Rattle.std.specs.Prelude.{◌≡◌, ◌≤◌, ◌+◌, true, false, None, Some, IfSome, drop, zip};
+ghost use Rattle.std.specs.Prelude.{◌≡◌, ◌≢◌, ◌≤◌, ◌<◌, ◌+◌, ℕ, true, false, None, Some, IfSome, drop, zip};
 ghost use Rattle.std.specs.List.{list_any};
 ghost use Rattle.core_steps.specs.Words.{stop_among, start_along, start_among, all_done, all_served, look_among, is_busy_record, CLOCK_LIMIT};
-ghost use Rattle.core_steps.specs.Places.{are_seen, is_passed_at, ArePassed, ArePassedFrom};
+ghost use Rattle.core_steps.specs.Places.{are_seen, is_passed_at, is_unsignalled_at, ArePassed, ArePassedFrom, AreUnsignalled};
 
 use crate::deciding::{
     can_look, is_done, is_owed, is_passed, is_seen, is_served, start_step, stop_step,
@@ -15,12 +15,50 @@ use inittab_text::Table;
 use std::alloc::Allocator;
 use trace_events::Step;
 
-/// The first signal that is due, in record order.
-pub(crate) fn stop_among(grace: u16, now: u64, slots: &[Record]) -> Option<Step>
+/// From a place on before which no signal is due, how far none is due now.
+pub(crate) fn unsignalled_to(grace: u16, now: u64, slots: &[Record], from: usize) -> usize
+    requires { AreUnsignalled grace now from slots.now }
+    ensures { AreUnsignalled grace now result slots.now }
+{
+    let mut to = from;
+    for position in from..slots.len() {
+        if stop_step(grace, now, &slots[position]).is_some() {
+            return to;
+        }
+        to = position + 1;
+    }
+    to
+}
+
+/// How far no signal is due, where none is before a place, but for that to the record at another.
+pub(crate) fn unsignalled_with(
+    grace: u16,
+    now: u64,
+    slots: &[Record],
+    to: usize,
+    position: usize,
+) -> usize
+    requires { (i : ℕ) → i < to → i ≢ position
+        → is_unsignalled_at grace now slots.now i ≡ true }
+    ensures { AreUnsignalled grace now result slots.now }
+{
+    let Some(slot) = slots.get(position) else {
+        return to;
+    };
+    if stop_step(grace, now, slot).is_some() {
+        to.min(position)
+    } else {
+        to
+    }
+}
+
+/// The first signal that is due, in record order. None is due before the place.
+pub(crate) fn stop_among(grace: u16, now: u64, slots: &[Record], from: usize) -> Option<Step>
+    requires { AreUnsignalled grace now from slots.now }
     ensures { result ≡ stop_among grace now slots.now }
 {
-    for slot in slots {
-        if let Some(step) = stop_step(grace, now, slot) {
+    for position in from..slots.len() {
+        if let Some(step) = stop_step(grace, now, &slots[position]) {
             return Some(step);
         }
     }

@@ -1,7 +1,7 @@
-use Rattle.core_records.proofs.Words.{◌≡◌, ◌∷◌, [], length, sym, ◌∙◌, ap, append_assoc, append-nil, arith}
-use Rattle.core_records.proofs.Words.{into_iter_items, CLOCK_LIMIT}
-use Rattle.core_records.proofs.Adopted.{new_of}
-use Rattle.core_records.proofs.Rebuilt.{nothing_left, timely_next}
+use Rattle.core_records.proofs.Words.{◌≡◌, ◌∷◌, [], length, refl, sym, ◌∙◌, ap, append_assoc, arith, true}
+use Rattle.core_records.proofs.Words.{into_iter_items}
+use Rattle.core_records.proofs.Words.{CLOCK_LIMIT, has_record_of}
+use Rattle.core_records.proofs.Rebuilt.{timely_next, doubled}
 use Rattle.core_records.proofs.records.Records.rebuilt.Goals as goal
 
 pub loop-slot-init : goal.loop-slot-init
@@ -11,19 +11,12 @@ loop-slot-init g c = (
       ∙ ap length (sym c.into_iter-slot-iterator.ensures.into_iter_gives.0),
 )
 
-pub push-requires-clause-new : goal.push-requires-clause-new
-push-requires-clause-new g c =
-    let steps : into_iter_items c.loop-slot.slot-iterator ≡ c.in-Some.slot ∷ into_iter_items c.next.new.self =
-    c.in-Some.ensures.steps.0 in
-    new_of c.loop-slot.slots c.in-Some.slot (into_iter_items c.next.new.self) c.args.given.items
-    (append_assoc c.loop-slot.slots (c.in-Some.slot ∷ []) _ ∙ rw (← steps) c.loop-slot.invariant.0) c.requires.distinct
-
 pub push-requires-clause-timely : goal.push-requires-clause-timely
 push-requires-clause-timely g c =
     let steps : into_iter_items c.loop-slot.slot-iterator ≡ c.in-Some.slot ∷ into_iter_items c.next.new.self =
     c.in-Some.ensures.steps.0 in
     timely_next CLOCK_LIMIT c.loop-slot.slots c.in-Some.slot (into_iter_items c.next.new.self) c.args.given.items
-    (rw steps at c.loop-slot.invariant.0) c.requires.timely
+    (rw steps at c.loop-slot.invariant.0) c.requires
 
 pub loop-slot-preserved : goal.loop-slot-preserved
 loop-slot-preserved g c =
@@ -37,9 +30,11 @@ loop-slot-preserved g c =
           omega arith,
     )
 
-pub returns : goal.returns
-returns g c =
-    let none = c.in-None.ensures.steps in
-    let empty : into_iter_items c.loop-slot.slot-iterator ≡ [] =
-    nothing_left _ (sym c.loop-slot.invariant.1 ∙ none.0) in
-    sym (append-nil c.loop-slot.slots) ∙ rw empty at c.loop-slot.invariant.0
+pub returns-then-is_some : goal.returns-then-is_some
+returns-then-is_some g c =
+    let steps : into_iter_items c.loop-slot.slot-iterator ≡ c.in-Some.slot ∷ into_iter_items c.next.new.self =
+    c.in-Some.ensures.steps.0 in
+    let has : has_record_of c.in-Some.slot.id c.loop-slot.slots ≡ true =
+    rw (← c.id.ensures, ← c.place_of.ensures.found) (sym c.if-is_some.ensures) in
+    rw (doubled c.loop-slot.slots c.in-Some.slot (into_iter_items c.next.new.self) c.args.given.items
+    (rw steps at c.loop-slot.invariant.0) has) refl

@@ -2,6 +2,7 @@ use Rattle.core_steps.proofs.Words.{◌∙◌, refl, after_hold, timely_changed,
 use Rattle.core_steps.proofs.Kept.{kept_called, held_in}
 use Rattle.core_steps.proofs.Places.{none_behind}
 use Rattle.core_steps.proofs.Moved.{seen_called, seen_held, passed_held}
+use Rattle.core_steps.proofs.Stops.{unsignalled_called, unsignalled_held}
 use Rattle.core_steps.proofs.state.CoreValues.apply.Goals as goal
 
 pub invariant_of-self : goal.invariant_of-self
@@ -14,6 +15,9 @@ invariant_of-self g c =
       rw c.call_named.ensures (seen_called (is_named c.args.step.now c.self.inside.fields.stage) c.self.inside.table
           c.self.inside.slots c.self.inside.looks_from c.self.invariant.3),
       rw c.all-self-inside.ensures none_behind,
+      rw c.call_named.ensures (unsignalled_called c.self.inside.fields.grace c.self.inside.fields.time (is_named
+          c.args.step.now c.self.inside.fields.stage) c.self.inside.table c.self.inside.slots c.self.inside.stops_from
+          c.self.invariant.5),
     )
 
 pub invariant_of-self-in-Call : goal.invariant_of-self-in-Call
@@ -28,6 +32,10 @@ invariant_of-self-in-Call g c =
           (seen_called (is_named c.args.step.now c.self-in-Call.inside.fields.stage) c.self-in-Call.inside.table
           c.self-in-Call.inside.slots c.self-in-Call.inside.looks_from c.self-in-Call.invariant.3),
       rw c.all-self-inside-in-Call.ensures none_behind,
+      rw c.call_named-in-Call.ensures (unsignalled_called c.self-in-Call.inside.fields.grace
+          c.self-in-Call.inside.fields.time (is_named c.args.step.now c.self-in-Call.inside.fields.stage)
+          c.self-in-Call.inside.table c.self-in-Call.inside.slots c.self-in-Call.inside.stops_from
+          c.self-in-Call.invariant.5),
     )
 
 pub order-requires-clause-allowed : goal.order-requires-clause-allowed
@@ -50,4 +58,6 @@ invariant_of-self-in-Hold g c = (
       c.self-in-Hold.inside.looks_from c.self-in-Hold.invariant.3),
   rw c.hold.ensures (passed_held c.self-in-Hold.inside.fields.stage c.in-Hold.id c.self-in-Hold.inside.fields.time
       c.self-in-Hold.inside.table c.self-in-Hold.inside.slots c.self-in-Hold.inside.starts c.self-in-Hold.invariant.4),
+  rw c.hold.ensures (unsignalled_held c.self-in-Hold.inside.fields.grace c.self-in-Hold.inside.fields.time
+      c.in-Hold.id c.self-in-Hold.inside.slots c.self-in-Hold.inside.stops_from c.self-in-Hold.invariant.5),
 )

@@ -1,4 +1,4 @@
-use Rattle.core_steps.proofs.Words.{refl, after_begin_round, timely_map, order_map}
+use Rattle.core_steps.proofs.Words.{refl, arith, after_begin_round, timely_map, order_map}
 use Rattle.core_steps.proofs.Moved.{passed_nudged}
 use Rattle.core_steps.proofs.state.CoreValues.begin_round_by_state.Goals as goal
 
@@ -12,4 +12,5 @@ invariant_of-self g c = (
   refl,
   rw c.begin_round.ensures (passed_nudged c.self.inside.fields.stage c.self.inside.fields.time c.self.inside.table
       c.self.inside.slots c.self.inside.starts c.self.invariant.4),
+  λ i lt. absurd (omega arith),
 )

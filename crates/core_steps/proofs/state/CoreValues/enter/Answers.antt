@@ -1,4 +1,4 @@
-use Rattle.core_steps.proofs.Words.{refl}
+use Rattle.core_steps.proofs.Words.{refl, arith}
 use Rattle.core_steps.proofs.Places.{none_behind}
 use Rattle.core_steps.proofs.Kept.{kept_entered}
 use Rattle.core_steps.proofs.state.CoreValues.enter.Goals as goal
@@ -12,4 +12,5 @@ invariant_of-self g c =
       rw (c.judge.ensures, c.entered.ensures) kept.1,
       refl,
       rw c.all-self-inside.ensures none_behind,
+      λ i lt. absurd (omega arith),
     )

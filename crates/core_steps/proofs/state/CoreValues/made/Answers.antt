@@ -1,6 +1,6 @@
-use Rattle.core_steps.proofs.Words.{◌≡◌, true, List, Err, sym, ◌∙◌, ap, subst, rules, RecordState, timely_later}
-use Rattle.core_steps.proofs.Words.{CLOCK_LIMIT, Entry, PlainRecord, records_along, are_whole, IsFit, is_kept}
-use Rattle.core_steps.proofs.Words.{CoreState}
+use Rattle.core_steps.proofs.Words.{◌≡◌, refl, Bool, true, false, ◌&&◌, cond, Some, None, List, Err, sym, ◌∙◌, ap}
+use Rattle.core_steps.proofs.Words.{subst, rules, RecordState, are_distinct, Entry, PlainRecord, records_along}
+use Rattle.core_steps.proofs.Words.{are_whole, IsFit, is_kept, CoreState}
 use Rattle.core_model.specs.declared.parts.CoreFields.{CoreFields}
 use Rattle.core_model.specs.Parts.{state_of}
 use Rattle.core_model.proofs.Kept.{Rules, rules_of}
@@ -32,45 +32,75 @@ returns-in_err-slots-clause-unfit g c unfit =
     unfit_whole (record { fields = c.args.fields; table = c.args.table; records = c.args.records.now })
     (c.in_err-slots.ensures.unfit (ap Err why))
 
+-- where no core is made of the records, and where they are made anew
+no_part : (distinct kept : Bool) → kept ≡ false → (distinct && kept) ≡ false
+no_part true kept h = h
+no_part false kept h = refl
+
+doubled : (distinct : Bool) (slots : List RecordState) → None ≡ cond distinct (Some slots) None → distinct ≡ false
+doubled true slots is = absurd (cc)
+doubled false slots is = refl
+
+single : (distinct : Bool) (slots made : List RecordState) → Some made ≡ cond distinct (Some slots) None
+    → (distinct ≡ true) × (made ≡ slots)
+single true slots made is = (refl, cc)
+single false slots made is = absurd (cc)
+
+kept_of : (fields : CoreFields) (table : List Entry) (slots : List RecordState) → is_kept fields table slots
+    ≡ (are_distinct slots && true) → are_distinct slots ≡ true → true ≡ is_kept fields table slots
+kept_of fields table slots is distinct = sym (is ∙ rw distinct refl)
+
 pub returns-then-not-is_kept-clause-unfit : goal.returns-then-not-is_kept-clause-unfit
 returns-then-not-is_kept-clause-unfit g c unfit =
     unfit_kept (record { fields = c.args.fields; table = c.args.table; records = c.args.records.now })
     (ap (is_kept c.args.fields c.args.table) (sym (c.deref.ensures.value ∙ c.in_ok-slots.ensures.made))
-    ∙ sym c.is_kept.ensures ∙ c.if-not-is_kept.true)
+    ∙ c.is_kept.ensures.kept ∙ no_part (are_distinct c.deref.result.now) c.is_kept.result c.if-not-is_kept.true)
 
-pub rebuilt-requires-clause-distinct : goal.rebuilt-requires-clause-distinct
-rebuilt-requires-clause-distinct g c =
-    (rules_passed c.args.fields c.args.table c.args.records.now c.in_ok-slots.slots.items c.in_ok-slots.ensures.whole
-    c.in_ok-slots.ensures.made (rw c.deref.ensures.value at c.if-not-is_kept.ensures)).distinct
+pub rebuilt-requires : goal.rebuilt-requires
+rebuilt-requires g c = rw c.deref.ensures.value at (c.if-not-is_kept.ensures.timely refl)
 
-pub rebuilt-requires-clause-timely : goal.rebuilt-requires-clause-timely
-rebuilt-requires-clause-timely g c =
-    let rules = rules_passed c.args.fields c.args.table c.args.records.now c.in_ok-slots.slots.items
-    c.in_ok-slots.ensures.whole c.in_ok-slots.ensures.made (rw c.deref.ensures.value at c.if-not-is_kept.ensures) in
-    timely_later c.args.fields.time CLOCK_LIMIT rules.clock c.in_ok-slots.slots.items rules.timely
+pub returns-in_default-clause-unfit : goal.returns-in_default-clause-unfit
+returns-in_default-clause-unfit g c unfit =
+    let none = doubled (are_distinct c.in_ok-slots.slots.items) c.in_ok-slots.slots.items
+    (sym c.in_default.is ∙ c.in_ok-slots-2.ensures) in
+    unfit_kept (record { fields = c.args.fields; table = c.args.table; records = c.args.records.now })
+    (ap (is_kept c.args.fields c.args.table) (sym c.in_ok-slots.ensures.made)
+    ∙ (rw c.deref.ensures.value at c.if-not-is_kept.ensures.kept) ∙ rw none refl)
 
 pub of-requires-clause-clock : goal.of-requires-clause-clock
-of-requires-clause-clock g c = (rules_passed c.args.fields c.args.table c.args.records.now c.in_ok-slots.slots.items
-    c.in_ok-slots.ensures.whole c.in_ok-slots.ensures.made (rw c.deref.ensures.value at c.if-not-is_kept.ensures)).clock
+of-requires-clause-clock g c =
+    let one = single (are_distinct c.in_ok-slots.slots.items) c.in_ok-slots.slots.items c.in-Some.slots
+    (sym c.in-Some.is ∙ c.in_ok-slots-2.ensures) in
+    (rules_passed c.args.fields c.args.table c.args.records.now c.in_ok-slots.slots.items c.in_ok-slots.ensures.whole
+    c.in_ok-slots.ensures.made (kept_of c.args.fields c.args.table c.in_ok-slots.slots.items
+    (rw c.deref.ensures.value at c.if-not-is_kept.ensures.kept) one.0)).clock
 
 pub of-requires-clause-timely : goal.of-requires-clause-timely
-of-requires-clause-timely g c = rw c.in_ok-slots-2.ensures
-    (rules_passed c.args.fields c.args.table c.args.records.now c.in_ok-slots.slots.items c.in_ok-slots.ensures.whole
-    c.in_ok-slots.ensures.made (rw c.deref.ensures.value at c.if-not-is_kept.ensures)).timely
+of-requires-clause-timely g c =
+    let one = single (are_distinct c.in_ok-slots.slots.items) c.in_ok-slots.slots.items c.in-Some.slots
+    (sym c.in-Some.is ∙ c.in_ok-slots-2.ensures) in
+    rw one.1 (rules_passed c.args.fields c.args.table c.args.records.now c.in_ok-slots.slots.items
+    c.in_ok-slots.ensures.whole c.in_ok-slots.ensures.made (kept_of c.args.fields c.args.table
+    c.in_ok-slots.slots.items (rw c.deref.ensures.value at c.if-not-is_kept.ensures.kept) one.0)).timely
 
 pub of-requires-clause-order : goal.of-requires-clause-order
-of-requires-clause-order g c = rw c.in_ok-slots-2.ensures
-    (passed c.args.fields c.args.table c.args.records.now c.in_ok-slots.slots.items c.in_ok-slots.ensures.whole
-    c.in_ok-slots.ensures.made (rw c.deref.ensures.value at c.if-not-is_kept.ensures)).in_order
+of-requires-clause-order g c =
+    let one = single (are_distinct c.in_ok-slots.slots.items) c.in_ok-slots.slots.items c.in-Some.slots
+    (sym c.in-Some.is ∙ c.in_ok-slots-2.ensures) in
+    rw one.1 (passed c.args.fields c.args.table c.args.records.now c.in_ok-slots.slots.items
+    c.in_ok-slots.ensures.whole c.in_ok-slots.ensures.made (kept_of c.args.fields c.args.table
+    c.in_ok-slots.slots.items (rw c.deref.ensures.value at c.if-not-is_kept.ensures.kept) one.0)).in_order
 
 pub returns-clause-made : goal.returns-clause-made
 returns-clause-made g c =
+    let one = single (are_distinct c.in_ok-slots.slots.items) c.in_ok-slots.slots.items c.in-Some.slots
+    (sym c.in-Some.is ∙ c.in_ok-slots-2.ensures) in
     let is : c.of.result ≡ core_with c.args.fields c.args.table c.in_ok-slots.slots.items =
-    c.of.ensures ∙ ap (core_with c.args.fields c.args.table) c.in_ok-slots-2.ensures in (
+    c.of.ensures ∙ ap (core_with c.args.fields c.args.table) one.1 in (
       ap state_of (is ∙ ap (core_with c.args.fields c.args.table) c.in_ok-slots.ensures.made)
           ∙ made_state (record { fields = c.args.fields; table = c.args.table; records = c.args.records.now })
           c.in_ok-slots.ensures.whole,
       subst IsFit (sym is) (passed c.args.fields c.args.table c.args.records.now c.in_ok-slots.slots.items
-          c.in_ok-slots.ensures.whole c.in_ok-slots.ensures.made
-          (rw c.deref.ensures.value at c.if-not-is_kept.ensures)),
+          c.in_ok-slots.ensures.whole c.in_ok-slots.ensures.made (kept_of c.args.fields c.args.table
+          c.in_ok-slots.slots.items (rw c.deref.ensures.value at c.if-not-is_kept.ensures.kept) one.0)),
     )

@@ -7,8 +7,14 @@ use Rattle.core_steps.proofs.Kept.{timely_opening}
 use Rattle.core_steps.proofs.state.CoreValues.new_by_state.Goals as goal
 
 pub invariant_of-result : goal.invariant_of-result
-invariant_of-result g c = rw (c.opening.ensures, c.in_ok-slots.ensures.records)
-    (omega arith, timely_opening 0 c.args.table, order_new c.args.table, refl, rw c.all.ensures none_behind)
+invariant_of-result g c = rw (c.opening.ensures, c.in_ok-slots.ensures.records) (
+  omega arith,
+  timely_opening 0 c.args.table,
+  order_new c.args.table,
+  refl,
+  rw c.all.ensures none_behind,
+  λ i lt. absurd (omega arith),
+)
 
 level_is : (given default : Option Level) → unwrap_or (option_or given default) S ≡ opening_level given default
 level_is (Some level) default = refl

@@ -2,6 +2,7 @@ use Rattle.core_steps.proofs.Words.{sym, arith, ap, ◌∙◌, CoreState, zip, i
 use Rattle.core_steps.proofs.Words.{after_order, timely_changed, timely_order, order_changed, act-after_order}
 use Rattle.core_steps.proofs.Words.{id-after_order}
 use Rattle.core_steps.proofs.Moved.{seen_ordered, passed_ordered, still_ordered, at_position, can_found}
+use Rattle.core_steps.proofs.Stops.{unsignalled_ordered}
 use Rattle.core_steps.proofs.state.CoreValues.order.Goals as goal
 
 pub invariant_of-self : goal.invariant_of-self
@@ -27,6 +28,8 @@ invariant_of-self g c = (
       c.args.ask c.self.inside.table c.self.inside.slots c.self.inside.starts (ap (λ (x : CoreState).
       are_distinct x.slots) c.self.view_is ∙ c.requires.distinct) (ap (λ (x : CoreState). can_ask c.args.id c.args.ask
       x.fields.time x.slots) c.self.view_is ∙ c.requires.allowed) (sym c.is_start.ensures ∙ other) c.self.invariant.4)),
+  rw c.ask.ensures (unsignalled_ordered c.self.inside.fields.grace c.self.inside.fields.time c.args.id c.args.ask
+      c.self.inside.slots c.self.inside.stops_from c.self.invariant.5),
 )
 
 pub unreachable-requires : goal.unreachable-requires
