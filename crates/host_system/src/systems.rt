@@ -25,8 +25,9 @@ use std::time::Duration;
 
 /// What starts processes, waits for them and signals them, has a clock, and reads files.
 ///
-/// A contract sees of it the calls that it was asked, with what it answered. Whoever knows no more of it than this has no
-/// other way to a process, the time or a file.
+/// A contract sees of it the calls that it was asked, with what it answered. Whoever knows no more of it than this starts,
+/// awaits and signals processes by it alone. A clock and files may be had beside it: the runtime of `OsHost` has them, for
+/// pauses, the channel, the inittab's folder, logs and the text of the state.
 pub trait System {
     /// The calls with their answers, the newest first.
     ghost told: { Self → List SystemCall };
