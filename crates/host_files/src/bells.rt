@@ -1,7 +1,7 @@
 //! The bell of a channel: a FIFO beside it, which whoever appends a request may ring, so that a pause ends at once.
 
 use crate::boxes::boxed;
-use host_messages::{Trouble, tell_other_owner};
+use host_lines::{Doing, HostLine, Power, Tells, Trouble};
 use libc::geteuid;
 use libc::net::{POLLIN, poll};
 use libc::types::pollfd;
@@ -32,17 +32,13 @@ pub(crate) struct Bell<A: Allocator> {
 
 impl<A: Allocator + Copy> Bell<A> {
     /// The bell of the channel at this path: the file whose path has `.bell` after it. An empty path has none.
-    pub(crate) fn new(
-        alloc: A,
-        program: &'static str,
-        channel: &str,
-    ) -> Result<Box<Bell<A>, A>, AllocError> {
+    pub(crate) fn new(alloc: A, channel: &str) -> Result<Box<Bell<A>, A>, AllocError> {
         let end = if channel.is_empty() { "" } else { ".bell" };
         let bell = Bell {
             path: format!(in alloc; "{channel}{end}")?,
             open: None,
             file: None,
-            hearing: Trouble::new(program, "hear", "heard"),
+            hearing: Trouble::new(Doing::Hear),
         };
         boxed(alloc, bell)
     }
@@ -60,7 +56,7 @@ impl<A: Allocator + Copy> Bell<A> {
 
     /// Waits for so many microseconds, or until the bell is rung. Gives whether it did: it doesn't where there is no bell,
     /// or the time is shorter than a millisecond. What can't be heard is told once.
-    pub(crate) fn wait<R: Files<File = File> + Eprint>(&mut self, rt: &R, length: u64) -> bool {
+    pub(crate) fn wait<R: Files<File = File> + Tells>(&mut self, rt: &R, length: u64) -> bool {
         let Ok(limit) = i32::try_from(length / MILLISECOND) else {
             return false;
         };
@@ -83,7 +79,7 @@ impl<A: Allocator + Copy> Bell<A> {
     }
 
     /// Opens the FIFO that stands at the path, where it isn't open. Of another user's that is told.
-    fn listen<R: Files<File = File> + Eprint>(&mut self, rt: &R) -> io::Result<()> {
+    fn listen<R: Files<File = File> + Tells>(&mut self, rt: &R) -> io::Result<()> {
         let found = found_at(rt, self.path.as_str());
         let Ok(Some(found)) = found else {
             self.open = None;
@@ -97,7 +93,12 @@ impl<A: Allocator + Copy> Bell<A> {
             self.open = None;
             let path = self.path.as_str();
             if found.uid() != geteuid() {
-                tell_other_owner(rt, path, geteuid(), found.uid(), "wakes init");
+                rt.tell(&HostLine::OtherOwner {
+                    path,
+                    before: geteuid(),
+                    owner: found.uid(),
+                    power: Power::Wake,
+                });
             }
             self.open = Some(OpenOptions::new().read(true).write(true).open(rt, path)?);
         }

@@ -2,11 +2,8 @@
 
 use crate::channel_files::FoundFile;
 use crate::places::Place;
-use host_messages::{
-    PassedOver, Trouble, tell_made_anew, tell_old, tell_other_owner, tell_torn, tell_whole,
-    tell_written_over,
-};
-use initctl_frame::{HeardRequest, decode};
+use host_lines::{Doing, HostLine, Power, Tells, Trouble};
+use initctl_frame::{Cause, HeardRequest, decode};
 use libc::geteuid;
 use program_io::REQUEST;
 use std::io;
@@ -18,6 +15,9 @@ pub(crate) const LOOK: u64 = 40_000;
 
 /// After how many microseconds without a byte more a request that was begun is taken for torn.
 const TORN: u64 = 3_000_000;
+
+/// How many requests that are passed over are told of one by one.
+const TOLD_LIMIT: u32 = 10;
 
 /// What is noted of a channel.
 #[derive(Drop)]
@@ -31,7 +31,8 @@ pub(crate) struct ChannelNotes {
     /// Since when each look has found it written to behind its end, and as long as it was.
     changed: Option<Instant>,
     hearing: Trouble,
-    passed_over: PassedOver,
+    /// How many requests that init passes over were told.
+    passed_over: u32,
     /// How many bytes it had when it was last read to an end that is not a request's, and since when.
     torn: u64,
     torn_since: Option<Instant>,
@@ -40,14 +41,14 @@ pub(crate) struct ChannelNotes {
 
 impl ChannelNotes {
     /// Nothing was noted yet.
-    pub fn new(program: &'static str) -> ChannelNotes {
+    pub fn new() -> ChannelNotes {
         ChannelNotes {
             owner: None,
             end: None,
             resized: None,
             changed: None,
-            hearing: Trouble::new(program, "read", "read"),
-            passed_over: PassedOver::new(),
+            hearing: Trouble::new(Doing::Read),
+            passed_over: 0,
             torn: 0,
             torn_since: None,
             told_torn: false,
@@ -55,14 +56,18 @@ impl ChannelNotes {
     }
 
     /// Tells that it can't be read, or can again.
-    pub fn tell_taken(&mut self, rt: &impl Eprint, path: &str, taken: &io::Result<usize>) {
+    pub fn tell_taken(&mut self, rt: &impl Tells, path: &str, taken: &io::Result<usize>) {
         self.hearing.tell(rt, path, taken);
     }
 
     /// Tells of the bytes that stand in the channel at its first reading.
-    pub fn tell_first(rt: &impl Eprint, path: &str, found: Option<FoundFile>, fresh: bool) {
+    pub fn tell_first(rt: &impl Tells, path: &str, found: Option<FoundFile>, fresh: bool) {
         match found {
-            Some(found) if found.length > 0 => tell_old(rt, path, found.length, fresh),
+            Some(found) if found.length > 0 => rt.tell(&HostLine::Old {
+                path,
+                length: found.length,
+                fresh,
+            }),
             _ => {}
         }
     }
@@ -76,7 +81,7 @@ impl ChannelNotes {
     }
 
     /// Tells that this file is another than before, or of another user than that or init's, or shorter than what was read.
-    pub fn note_file<R: Clock + Eprint>(
+    pub fn note_file<R: Clock + Tells>(
         &mut self,
         rt: &R,
         path: &str,
@@ -86,16 +91,21 @@ impl ChannelNotes {
         if before.is_anew(found) {
             self.end = None;
             self.resized = Instant::now(rt).ok();
-            tell_made_anew(rt, path);
+            rt.tell(&HostLine::MadeAnew { path });
         }
         let owner = self.owner.replace(found.owner).unwrap_or(geteuid());
         if owner != found.owner {
-            tell_other_owner(rt, path, owner, found.owner, "asks init for levels");
+            rt.tell(&HostLine::OtherOwner {
+                path,
+                before: owner,
+                owner: found.owner,
+                power: Power::Ask,
+            });
         }
     }
 
     /// Notes a channel that was read to its end, and tells what is wrong with that.
-    pub fn note_end<R: Clock + Eprint>(&mut self, rt: &R, path: &str, found: &FoundFile) {
+    pub fn note_end<R: Clock + Tells>(&mut self, rt: &R, path: &str, found: &FoundFile) {
         self.note_written(rt, path, found);
         self.note_torn(rt, path, found.length);
     }
@@ -103,7 +113,7 @@ impl ChannelNotes {
     /// Tells that it was written to since it was read to this end, where it is as long as it was: for
     /// some time before its time changed, and behind. For a file that is appended to has its new time for a moment before
     /// its new length, and one that is cut behind it.
-    fn note_written(&mut self, rt: &(impl Clock + Eprint), path: &str, found: &FoundFile) {
+    fn note_written(&mut self, rt: &(impl Clock + Tells), path: &str, found: &FoundFile) {
         let end = (found.length, found.written.0, found.written.1);
         let before = self.end.unwrap_or(end);
         if before.0 != end.0 {
@@ -116,7 +126,7 @@ impl ChannelNotes {
             if !is_past(rt, self.changed, LOOK) {
                 return;
             }
-            tell_written_over(rt, path);
+            rt.tell(&HostLine::WrittenOver { path });
         }
         self.changed = None;
         self.end = Some(end);
@@ -124,11 +134,11 @@ impl ChannelNotes {
 
     /// Tells, once until it is over, that its end is none of a request, where nothing was added for some time, since a
     /// writer may be in the middle; and that it is over.
-    fn note_torn(&mut self, rt: &(impl Clock + Eprint), path: &str, length: u64) {
+    fn note_torn(&mut self, rt: &(impl Clock + Tells), path: &str, length: u64) {
         let over = length % REQUEST as u64;
         if over == 0 {
             if self.told_torn {
-                tell_whole(rt, path);
+                rt.tell(&HostLine::Whole { path });
             }
             self.told_torn = false;
             self.torn = 0;
@@ -138,7 +148,7 @@ impl ChannelNotes {
             self.torn = length;
             self.torn_since = Instant::now(rt).ok();
         } else if !self.told_torn && is_past(rt, self.torn_since, TORN) {
-            tell_torn(rt, path, over);
+            rt.tell(&HostLine::Torn { path, over });
             self.told_torn = true;
         }
     }
@@ -146,14 +156,27 @@ impl ChannelNotes {
     /// Tells why init passes over a request that ends at this byte, where it does.
     pub fn tell_passed_over(
         &mut self,
-        rt: &impl Eprint,
+        rt: &impl Tells,
         path: &str,
         request: &[u8; REQUEST],
         end: u64,
     ) {
         if let HeardRequest::Nothing(cause) = decode(request) {
-            self.passed_over.tell(rt, path, end / REQUEST as u64, cause);
+            self.count_passed_over(rt, path, end / REQUEST as u64, cause);
         }
+    }
+
+    fn count_passed_over(&mut self, rt: &impl Tells, path: &str, number: u64, cause: Cause) {
+        if self.passed_over < TOLD_LIMIT {
+            rt.tell(&HostLine::PassedOver {
+                path,
+                number,
+                cause,
+            });
+        } else if self.passed_over == TOLD_LIMIT {
+            rt.tell(&HostLine::MorePassedOver { path });
+        }
+        self.passed_over = self.passed_over.saturating_add(1);
     }
 }
 

@@ -1,7 +1,7 @@
 //! The channel of requests: what of its file was read, and is handed on.
 //!
 //! The clauses say which bytes of the file are handed on. How the file is told of is tested by `tools/pages.d/channel` and
-//! `edges`, over real files, and by `test_turns`. Its messages are those of `host_messages`.
+//! `edges`, over real files, and by `test_turns`. Its words are in `host_messages`.
 
 ghost use Rattle.std.specs.Prelude.{◌≡◌, ◌≤◌, [], length, take, IfOk, OnErr};
 ghost use Rattle.host_files.specs.Channels.{HandsNothing, HandsOn, IsReadOn, bytes_read};
@@ -11,6 +11,7 @@ use crate::boxes::boxed;
 use crate::channel_files::{ChannelCallList, ChannelFile, found_at};
 use crate::channel_notes::{ChannelNotes, LOOK};
 use crate::places::Place;
+use host_lines::Tells;
 use program_io::{ChannelLock, Noted, REQUEST};
 use std::alloc::{AllocError, Allocator};
 use std::fs::File;
@@ -54,16 +55,11 @@ impl<F: ChannelFile + Drop, A: Allocator> Model for Channel<F, A> {
 impl<F: ChannelFile + Drop, A: Allocator + Copy> Channel<F, A> {
     /// The channel at this path, with nothing taken, and whether its first reading begins behind the whole requests that
     /// stand there then.
-    pub fn new(
-        alloc: A,
-        program: &'static str,
-        path: &str,
-        fresh: bool,
-    ) -> Result<Box<Channel<F, A>, A>, AllocError>
+    pub fn new(alloc: A, path: &str, fresh: bool) -> Result<Box<Channel<F, A>, A>, AllocError>
         ensures { IfOk result (λ made.
             made.value ≡ record { fresh = fresh; told = []; rest = [] }) }
     {
-        let bell = Bell::new(alloc, program, path)?;
+        let bell = Bell::new(alloc, path)?;
         let channel = Channel {
             path: String::from_str(alloc, path)?,
             fresh,
@@ -71,7 +67,7 @@ impl<F: ChannelFile + Drop, A: Allocator + Copy> Channel<F, A> {
             place: Place::unread(),
             request: [0; REQUEST],
             handed: REQUEST,
-            notes: ChannelNotes::new(program),
+            notes: ChannelNotes::new(),
             bell,
         };
         boxed(alloc, channel)
@@ -84,7 +80,7 @@ impl<F: ChannelFile + Drop, A: Allocator + Copy> Channel<F, A> {
 
     /// Sleeps for so many microseconds, or until the bell is rung; where there is none, until the channel has news,
     /// which is looked at meanwhile.
-    pub fn rest<R: Files<File = File> + Clock + Eprint>(&mut self, rt: &R, length: u64)
+    pub fn rest<R: Files<File = File> + Clock + Tells>(&mut self, rt: &R, length: u64)
         ensures { self.new ≡ self.old }
     {
         if self.bell.wait(rt, length) {
@@ -141,7 +137,7 @@ impl<F: ChannelFile + Drop, A: Allocator + Copy> Channel<F, A> {
     /// shorter than what was read, it was made anew, and is read from its first byte on; where a lock is held, that file's
     /// is taken first, and where another init has it, that is an error. What is no plain file is not opened, since a
     /// FIFO would wait for its writer.
-    pub fn take_bytes<R: Files<File = File> + Clock + Eprint>(
+    pub fn take_bytes<R: Files<File = File> + Clock + Tells>(
         &mut self,
         rt: &R,
         buffer: &mut [u8],
@@ -157,7 +153,7 @@ impl<F: ChannelFile + Drop, A: Allocator + Copy> Channel<F, A> {
         taken
     }
 
-    fn next_bytes<R: Files<File = File> + Clock + Eprint>(
+    fn next_bytes<R: Files<File = File> + Clock + Tells>(
         &mut self,
         rt: &R,
         buffer: &mut [u8],
@@ -189,7 +185,7 @@ impl<F: ChannelFile + Drop, A: Allocator + Copy> Channel<F, A> {
     }
 
     /// Reads the next request, where there is a whole one.
-    fn read_request<R: Files<File = File> + Clock + Eprint>(&mut self, rt: &R) -> io::Result<bool>
+    fn read_request<R: Files<File = File> + Clock + Tells>(&mut self, rt: &R) -> io::Result<bool>
         ensures fresh { self.new.fresh ≡ self.old.fresh }
         ensures kept { self.old.rest ≡ [] → HandsNothing self.old self.new }
     {
@@ -209,7 +205,7 @@ impl<F: ChannelFile + Drop, A: Allocator + Copy> Channel<F, A> {
     }
 
     /// The channel has a whole request that was not read.
-    fn has_request<R: Files<File = File> + Clock + Eprint>(&mut self, rt: &R) -> io::Result<bool>
+    fn has_request<R: Files<File = File> + Clock + Tells>(&mut self, rt: &R) -> io::Result<bool>
         ensures fresh { self.new.fresh ≡ self.old.fresh }
         ensures rest { self.new.rest ≡ self.old.rest }
         ensures unread { bytes_read self.new.told ≡ bytes_read self.old.told }

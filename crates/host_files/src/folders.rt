@@ -5,7 +5,7 @@ ghost use Rattle.std.specs.List.{list_all};
 ghost use Rattle.init_words.specs.Parts.{NamedText};
 ghost use Rattle.host_files.specs.Folders.{IsFaultIn, IsFolderFault, is_hidden, is_name_byte, is_part_name};
 
-use host_messages::tell_passed;
+use host_lines::{HostLine, Tells};
 use indexmap::IndexSet;
 use init_words::Part;
 use program_io::{Reason, read_all, read_file};
@@ -96,10 +96,23 @@ fn listed<R: Files, A: Allocator + Copy>(rt: &R, alloc: A, folder: &str) -> io::
     read_all(alloc, &mut dir)
 }
 
+/// What hears of the names in an inittab's folder that are passed over, where the folder is read by this runtime.
+pub trait HearsPassed<R> {
+    fn hear(&mut self, rt: &R, folder: &str, name: &[u8]);
+}
+
+/// What tells none of them.
+#[derive(Clone, Copy)]
+pub struct Unheard;
+
+impl<R> HearsPassed<R> for Unheard {
+    fn hear(&mut self, _rt: &R, _folder: &str, _name: &[u8]) {}
+}
+
 /// The names of the files of an inittab's folder that don't count. They are told on standard error, each once, where that
 /// is asked for.
 #[derive(Drop)]
-pub struct PassedNames<A: Allocator = Global> {
+pub(crate) struct PassedNames<A: Allocator> {
     alloc: A,
     is_asked: bool,
     told: IndexSet<Vec<u8, A>, BuildHasherDefault<FoldHasher>, A>,
@@ -107,7 +120,7 @@ pub struct PassedNames<A: Allocator = Global> {
 
 impl<A: Allocator + Copy> PassedNames<A> {
     /// None was told; whether they are to be told. It takes no memory.
-    pub fn new(alloc: A, is_asked: bool) -> PassedNames<A> {
+    pub(crate) fn new(alloc: A, is_asked: bool) -> PassedNames<A> {
         PassedNames {
             alloc,
             is_asked,
@@ -133,11 +146,13 @@ impl<A: Allocator + Copy> PassedNames<A> {
         };
         !matches!(self.told.insert(name), Ok(false))
     }
+}
 
-    /// Tells of a name that is passed over, where it is one, it is asked for and was not told.
-    fn tell(&mut self, rt: &impl Eprint, folder: &str, name: &[u8]) {
+impl<R: Tells, A: Allocator + Copy> HearsPassed<R> for PassedNames<A> {
+    /// Tells of a name, where it is one, it is asked for and was not told.
+    fn hear(&mut self, rt: &R, folder: &str, name: &[u8]) {
         if self.is_asked && !name.is_empty() && self.note(name) {
-            tell_passed(rt, folder, name);
+            rt.tell(&HostLine::PassedFile { folder, name });
         }
     }
 }
@@ -159,11 +174,11 @@ fn part_in<R: Files, A: Allocator + Copy>(
 }
 
 /// The names of the parts in a folder, in byte order. The others are passed over.
-fn names_in<R: Files + Eprint, A: Allocator + Copy, B: Allocator + Copy>(
+fn names_in<R: Files, A: Allocator + Copy, P: HearsPassed<R>>(
     rt: &R,
     alloc: A,
     folder: &str,
-    passed: &mut PassedNames<B>,
+    passed: &mut P,
 ) -> Result<Vec<String<A>, A>, FolderFault<A>>
     ensures { IfErr result (IsFaultIn folder.now) }
 {
@@ -175,7 +190,7 @@ fn names_in<R: Files + Eprint, A: Allocator + Copy, B: Allocator + Copy>(
     for name in list.split(|byte| *byte == 0) {
         match str::from_utf8(name) {
             Ok(text) if is_part_name(name) => names.push(String::from_str(alloc, text)?)?,
-            _ => passed.tell(rt, folder, name),
+            _ => passed.hear(rt, folder, name),
         }
     }
     names.sort_unstable();
@@ -184,13 +199,13 @@ fn names_in<R: Files + Eprint, A: Allocator + Copy, B: Allocator + Copy>(
 
 /// The parts of an inittab: its own file, and after it the files of a folder, where there is one, by the order of
 /// their names. Those files count whose names end in `.tab`, don't begin with a point, and have only bytes of A-Z a-z
-/// 0-9 . _ -. The others are passed over.
-pub fn with_folder<R: Files + Eprint, A: Allocator + Copy, B: Allocator + Copy>(
+/// 0-9 . _ -. The others are passed over, which `passed` hears.
+pub fn with_folder<R: Files, A: Allocator + Copy, P: HearsPassed<R>>(
     rt: &R,
     alloc: A,
     own: Part<A>,
     folder: Option<&str>,
-    passed: &mut PassedNames<B>,
+    passed: &mut P,
 ) -> Result<Vec<Part<A>, A>, FolderFault<A>>
     ensures own { IfOk result (λ parts. (more : List NamedText) × (parts.items ≡ own ∷ more)) }
     ensures alone { folder.entry ≡ None → IfOk result (λ parts. parts.items ≡ own ∷ []) }

@@ -5,7 +5,7 @@ ghost use Rattle.host_files.specs.Folders.{IsOwnFirst, text_of};
 
 use crate::boxes::boxed;
 use crate::folders::{FolderFault, PassedNames, with_folder};
-use host_messages::{Trouble, tell_too_long, tell_too_many};
+use host_lines::{Doing, HostLine, Tells, Trouble};
 use init_words::Part;
 use inittab_text::TableFault;
 use std::alloc::{AllocError, Allocator};
@@ -37,7 +37,6 @@ impl<A: Allocator + Copy> InittabFiles<A> {
     /// The file at this path, and those of this folder.
     pub fn new(
         alloc: A,
-        program: &'static str,
         path: &str,
         folder: Option<&str>,
     ) -> Result<Box<InittabFiles<A>, A>, AllocError>
@@ -49,9 +48,9 @@ impl<A: Allocator + Copy> InittabFiles<A> {
         };
         let files = InittabFiles {
             path: String::from_str(alloc, path)?,
-            reading: Trouble::new(program, "read", "read"),
+            reading: Trouble::new(Doing::Read),
             folder,
-            listing: Trouble::new(program, "read", "read"),
+            listing: Trouble::new(Doing::Read),
             passed: PassedNames::new(alloc, false),
         };
         boxed(alloc, files)
@@ -75,7 +74,7 @@ impl<A: Allocator + Copy> InittabFiles<A> {
 
     /// The parts of the inittab: its file, of which this was read, and those of its folder, where it has one, which are
     /// read anew.
-    pub fn read<R: Files + Eprint, B: Allocator + Copy>(
+    pub fn read<R: Files + Tells, B: Allocator + Copy>(
         &mut self,
         rt: &R,
         alloc: B,
@@ -102,13 +101,13 @@ impl<A: Allocator + Copy> InittabFiles<A> {
     }
 
     /// Says why the parts have no table.
-    pub fn tell_no_table(&mut self, rt: &impl Eprint, fault: TableFault)
+    pub fn tell_no_table(&mut self, rt: &impl Tells, fault: TableFault)
         ensures { self.new ≡ self.old }
     {
         let path = self.path.as_str();
         match fault {
-            TableFault::TooLong => tell_too_long(rt, path),
-            TableFault::Parts => tell_too_many(rt, path),
+            TableFault::TooLong => rt.tell(&HostLine::TooLong { path }),
+            TableFault::Parts => rt.tell(&HostLine::TooMany { path }),
             TableFault::Memory => {
                 self.reading
                     .tell_begun(rt, path, &Error::from(ErrorKind::OutOfMemory));

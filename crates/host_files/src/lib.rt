@@ -15,6 +15,6 @@ mod state_files;
 pub use boxes::boxed;
 pub use channel_files::{ChannelCallList, ChannelFile, FoundFile, OsChannelFile, nothing_read};
 pub use channels::Channel;
-pub use folders::{FolderFault, PassedNames, is_hidden, with_folder};
+pub use folders::{FolderFault, HearsPassed, Unheard, is_hidden, with_folder};
 pub use inittab_files::InittabFiles;
 pub use state_files::StateFile;

@@ -1,7 +1,7 @@
 //! The file of the text of init's state, as a host writes it and reads it back.
 
 use crate::boxes::boxed;
-use host_messages::Trouble;
+use host_lines::{Doing, Tells, Trouble};
 use program_io::{are_one_file, read_file, refuse_too_large, write_text};
 use std::alloc::{AllocError, Allocator};
 use std::fs::{File, OpenOptions};
@@ -26,24 +26,19 @@ pub struct StateFile<A: Allocator> {
 
 impl<A: Allocator + Copy> StateFile<A> {
     /// The file at this path, and one that no text replaces.
-    pub fn new(
-        alloc: A,
-        program: &'static str,
-        path: &str,
-        spared: &str,
-    ) -> Result<Box<StateFile<A>, A>, AllocError> {
+    pub fn new(alloc: A, path: &str, spared: &str) -> Result<Box<StateFile<A>, A>, AllocError> {
         let state = StateFile {
             path: String::from_str(alloc, path)?,
             beside: format!(in alloc; "{path}.new")?,
             spared: String::from_str(alloc, spared)?,
-            carrying: Trouble::new(program, "write and read back", "written and read back"),
+            carrying: Trouble::new(Doing::Carry),
         };
         boxed(alloc, state)
     }
 
     /// Why no text can be put in its place as things stand, which is told: something else than a plain file stands
     /// there or beside it, or the file there is another of the run's, as the inittab and the channel.
-    pub fn tell_blocked<R: Files + Eprint>(
+    pub fn tell_blocked<R: Files + Tells>(
         &mut self,
         rt: &R,
         inittab: &str,
@@ -79,7 +74,7 @@ impl<A: Allocator + Copy> StateFile<A> {
     }
 
     /// Writes the text beside the path and puts it there whole; then reads what is there.
-    pub fn carry<R: Files<File = File> + Eprint, B: Allocator>(
+    pub fn carry<R: Files<File = File> + Tells, B: Allocator>(
         &mut self,
         rt: &R,
         alloc: B,

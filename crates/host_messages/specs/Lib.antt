@@ -1,3 +1,2 @@
 pub mod Announced
-pub mod Costs
 pub mod LineFaults

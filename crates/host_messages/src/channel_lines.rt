@@ -1,10 +1,11 @@
 //! What is said of the channel of requests.
 
+use host_lines::Power;
 use initctl_frame::Cause;
 use program_io::REQUEST;
 
 /// Says what becomes of the bytes that stand in a channel before its first reading.
-pub fn tell_old(rt: &impl Eprint, path: &str, length: u64, fresh: bool) {
+pub(crate) fn tell_old(rt: &impl Eprint, path: &str, length: u64, fresh: bool) {
     let requests = length / REQUEST as u64;
     let over = length % REQUEST as u64;
     let (s, they) = match requests {
@@ -30,61 +31,55 @@ pub fn tell_old(rt: &impl Eprint, path: &str, length: u64, fresh: bool) {
 }
 
 /// Says that the channel is another file than before, or shorter than what was read.
-pub fn tell_made_anew(rt: &impl Eprint, path: &str) {
+pub(crate) fn tell_made_anew(rt: &impl Eprint, path: &str) {
     let _ = eprintln!(rt; "initd: {path} was made anew: read from its beginning");
 }
 
 /// Says of the channel, or its bell, that it is another user's than before, or than init's, and what that lets him do.
-pub fn tell_other_owner(rt: &impl Eprint, path: &str, before: u32, owner: u32, power: &str) {
+pub(crate) fn tell_other_owner(
+    rt: &impl Eprint,
+    path: &str,
+    before: u32,
+    owner: u32,
+    power: Power,
+) {
+    let power = match power {
+        Power::Ask => "asks init for levels",
+        Power::Wake => "wakes init",
+    };
     let _ = eprintln!(rt;
         "initd: {path} is of user {owner}, not {before}: whoever writes it {power}; where that is wrong, remove it"
     );
 }
 
 /// Says that the channel was written to, and has no byte more.
-pub fn tell_written_over(rt: &impl Eprint, path: &str) {
+pub(crate) fn tell_written_over(rt: &impl Eprint, path: &str) {
     let _ = eprintln!(rt;
         "initd: {path} was written to in place: what was written is not heard; a request is appended, as telinit does it"
     );
 }
 
 /// Says that the channel ends with so many bytes that are no whole request.
-pub fn tell_torn(rt: &impl Eprint, path: &str, over: u64) {
+pub(crate) fn tell_torn(rt: &impl Eprint, path: &str, over: u64) {
     let _ = eprintln!(rt;
         "initd: {path} has {over} bytes that are no whole request: every later request is out of step; truncate -s /384 {path}, or remove it"
     );
 }
 
 /// Says that the channel, of which that was told, ends with a whole request again.
-pub fn tell_whole(rt: &impl Eprint, path: &str) {
+pub(crate) fn tell_whole(rt: &impl Eprint, path: &str) {
     let _ = eprintln!(rt; "initd: {path} ends with a whole request again");
 }
 
-/// How many requests are told of one by one.
-const TOLD_LIMIT: u32 = 10;
-
-/// How many requests that init passes over were told.
-#[derive(Drop)]
-pub struct PassedOver {
-    told: u32,
+/// Says why init passes over the channel's request of this number, the first being 1.
+pub(crate) fn tell_passed_over(rt: &impl Eprint, path: &str, number: u64, cause: Cause) {
+    let why = cause_text(cause);
+    let _ = eprintln!(rt; "initd: {path}: request {number} {why}: passed over");
 }
 
-impl PassedOver {
-    /// None was told.
-    pub fn new() -> PassedOver {
-        PassedOver { told: 0 }
-    }
-
-    /// Tells on standard error why init passes over the channel's request of this number, the first being 1.
-    pub fn tell(&mut self, rt: &impl Eprint, path: &str, number: u64, cause: Cause) {
-        if self.told < TOLD_LIMIT {
-            let why = cause_text(cause);
-            let _ = eprintln!(rt; "initd: {path}: request {number} {why}: passed over");
-        } else if self.told == TOLD_LIMIT {
-            let _ = eprintln!(rt; "initd: {path}: and more: not told any more");
-        }
-        self.told = self.told.saturating_add(1);
-    }
+/// Says that further ones are not told.
+pub(crate) fn tell_more_passed_over(rt: &impl Eprint, path: &str) {
+    let _ = eprintln!(rt; "initd: {path}: and more: not told any more");
 }
 
 /// What a request has for which it is passed over (initreq.h).

@@ -68,7 +68,7 @@ fn add_place<A: Allocator, B: Allocator>(
 }
 
 /// Says of each part that begins with a byte order mark what to do: the line of its fault doesn't show it.
-pub fn tell_marked<B: Allocator>(rt: &impl Eprint, parts: &[Part<B>]) {
+pub(crate) fn tell_marked<B: Allocator>(rt: &impl Eprint, parts: &[Part<B>]) {
     for part in parts {
         if part.bytes.starts_with(b"\xef\xbb\xbf") {
             let name = part.name.as_str();
@@ -79,19 +79,19 @@ pub fn tell_marked<B: Allocator>(rt: &impl Eprint, parts: &[Part<B>]) {
     }
 }
 
-pub fn tell_too_long(rt: &impl Eprint, path: &str) {
+pub(crate) fn tell_too_long(rt: &impl Eprint, path: &str) {
     let _ = eprintln!(rt;
         "initd: {path} is longer than 1048576 bytes: shorten it, and give telinit q"
     );
 }
 
-pub fn tell_too_many(rt: &impl Eprint, path: &str) {
+pub(crate) fn tell_too_many(rt: &impl Eprint, path: &str) {
     let _ = eprintln!(rt;
         "initd: {path} and its folder are more than 256 files: put some together, and give telinit q"
     );
 }
 
-pub fn tell_refused(rt: &impl Eprint, path: &str) {
+pub(crate) fn tell_refused(rt: &impl Eprint, path: &str) {
     let _ = eprintln!(rt;
         "initd: {path} has faulty lines: the one before stays, as --strict says: mend them, and give telinit q"
     );

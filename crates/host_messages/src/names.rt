@@ -1,19 +1,14 @@
-//! Names of children and files, as they are shown.
+//! Names of files and programs, as they are shown.
 
 use std::{fmt, str};
 
-/// The text, where it is UTF-8.
-pub fn shown(text: &[u8]) -> &str {
-    str::from_utf8(text).unwrap_or("?")
-}
-
 /// A name of a file or a program as it is shown: a control character, which a terminal is not to obey, as `\xNN`.
 #[derive(Clone, Copy)]
-pub struct Escaped<'a>(&'a str);
+pub(crate) struct Escaped<'a>(&'a str);
 
 /// The name, where it is UTF-8.
-pub fn escape(name: &[u8]) -> Escaped<'_> {
-    Escaped(shown(name))
+pub(crate) fn escape(name: &[u8]) -> Escaped<'_> {
+    Escaped(str::from_utf8(name).unwrap_or("?"))
 }
 
 impl fmt::Display for Escaped<'_> {

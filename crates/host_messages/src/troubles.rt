@@ -1,79 +1,71 @@
-//! Faults that are said once until they are over, or others.
+//! What is said of what fails until it is over.
 
+use host_lines::Doing;
 use program_io::Reason;
-use std::hash::{FoldHasher, Hasher};
-use std::io;
 use std::io::{Error, ErrorKind};
 
-/// The fault that was told, and isn't over.
-#[derive(Drop)]
-pub struct Trouble {
-    /// The name of the program that says it.
+/// Says that what has this name can't be done to, and why.
+pub(crate) fn tell_failure(
+    rt: &impl Eprint,
     program: &'static str,
-    /// What can't be done, as `read`.
-    doing: &'static str,
-    /// That it was done, as `read`.
-    done: &'static str,
-    told: Option<Fault>,
+    doing: Doing,
+    what: &str,
+    error: &Error,
+) {
+    let to_do = match doing {
+        Doing::Hear => "hear",
+        Doing::Read => "read",
+        Doing::Write => "write",
+        Doing::Carry => "write and read back",
+        Doing::SendTerm => "send TERM to",
+    };
+    let _ = eprintln!(rt; "{program}: cannot {to_do} {what}: {}", Reason(error));
 }
 
-/// A fault by what tells it from another: whose it is, and why.
-#[derive(Clone, Copy, PartialEq)]
-struct Fault {
-    /// The hash of what it is of, which may be a long path.
-    what: u64,
-    kind: ErrorKind,
-    code: Option<i32>,
+/// Says that it is done again.
+pub(crate) fn tell_over(rt: &impl Eprint, program: &'static str, doing: Doing, what: &str) {
+    let done = match doing {
+        Doing::Hear => "heard",
+        Doing::Read => "read",
+        Doing::Write => "written",
+        Doing::Carry => "written and read back",
+        Doing::SendTerm => "TERM was sent",
+    };
+    let _ = eprintln!(rt; "{program}: {what}: {done} again");
 }
 
-impl Fault {
-    fn of(what: &str, error: &Error) -> Fault {
-        let mut hasher = FoldHasher::default();
-        hasher.write(what.as_bytes());
-        Fault {
-            what: hasher.finish(),
-            kind: error.kind(),
-            code: error.raw_os_error(),
-        }
-    }
+/// Says why no child can be sent TERM, and what to do where a program is missing.
+pub(crate) fn tell_unsendable(
+    rt: &impl Eprint,
+    program: &'static str,
+    groups: bool,
+    error: &Error,
+) {
+    let setsid = if groups { ", setsid" } else { "" };
+    let reason = Reason(error);
+    let _ = match error.kind() {
+        ErrorKind::NotFound => eprintln!(rt;
+            "{program}: no child can be sent TERM: {reason}: start it with a PATH that has sh{setsid} and kill"
+        ),
+        _ => eprintln!(rt; "{program}: no child can be sent TERM: {reason}"),
+    };
 }
 
-impl Trouble {
-    /// Nothing failed yet.
-    pub fn new(program: &'static str, doing: &'static str, done: &'static str) -> Trouble {
-        Trouble {
-            program,
-            doing,
-            done,
-            told: None,
-        }
-    }
+/// Says that further ids' starts are not counted.
+pub(crate) fn tell_uncounted(rt: &impl Eprint, program: &'static str) {
+    let _ = eprintln!(rt; "{program}: out of memory: further ids' starts are not counted");
+}
 
-    /// Says on standard error that it failed, where it didn't fail so the last time, and that it is over, where it did.
-    pub fn tell<T>(&mut self, rt: &impl Eprint, what: &str, outcome: &io::Result<T>) {
-        match outcome {
-            Ok(_) => self.tell_over(rt, what),
-            Err(error) => self.tell_begun(rt, what, error),
-        }
-    }
+/// Says that the text of init's state came back cut.
+pub(crate) fn tell_cut(rt: &impl Eprint, length: u64) {
+    let _ = eprintln!(rt;
+        "initd: the text of init's state came back cut, {length} bytes long: init goes on as it was"
+    );
+}
 
-    pub fn tell_begun(&mut self, rt: &impl Eprint, what: &str, error: &Error) {
-        let fault = Fault::of(what, error);
-        if self.told != Some(fault) {
-            let _ = eprintln!(rt;
-                "{}: cannot {} {what}: {}",
-                self.program,
-                self.doing,
-                Reason(error)
-            );
-        }
-        self.told = Some(fault);
-    }
-
-    pub fn tell_over(&mut self, rt: &impl Eprint, what: &str) {
-        if self.told.is_some() {
-            let _ = eprintln!(rt; "{}: {what}: {} again", self.program, self.done);
-        }
-        self.told = None;
-    }
+/// Says that it came back of another generation.
+pub(crate) fn tell_older(rt: &impl Eprint, generation: u64) {
+    let _ = eprintln!(rt;
+        "initd: the text of init's state came back of generation {generation}: give each init a --state of its own"
+    );
 }

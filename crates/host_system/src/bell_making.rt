@@ -6,14 +6,14 @@ use crate::commands::{BoxedCommand, add_word, bare_command};
 use crate::host_options::HostOptions;
 use crate::systems::System;
 use host_files::{Channel, OsChannelFile};
-use host_messages::tell_no_bell;
+use host_lines::{HostLine, Tells};
 use std::alloc::{AllocError, Allocator};
 use std::io;
 use std::io::Error;
 use std::rt::Files;
 
 /// Makes the channel's bell, where the options want it and nothing stands at the bell's path. That it can't is told.
-pub(crate) fn make_bell<R: Files + Eprint, S: System, A: Allocator + Copy>(
+pub(crate) fn make_bell<R: Files + Tells, S: System, A: Allocator + Copy>(
     rt: &R,
     system: &mut S,
     alloc: A,
@@ -29,7 +29,10 @@ pub(crate) fn make_bell<R: Files + Eprint, S: System, A: Allocator + Copy>(
         return;
     };
     if let Err(error) = made_at(system, alloc, path) {
-        tell_no_bell(rt, path, &error);
+        rt.tell(&HostLine::NoBell {
+            path,
+            error: &error,
+        });
     }
 }
 

@@ -8,6 +8,7 @@ ghost use Rattle.host_system.specs.Commands.{words_in};
 ghost use Rattle.host_system.specs.Hosts.{is_look_answer, is_signal_answer};
 ghost use Rattle.host_system.specs.Systems.{start_answer, status_of, waited};
 
+use crate::child_messages::ChildMessages;
 use crate::commands::needs_shell;
 use crate::held::HeldChild;
 use crate::host_options::HostOptions;
@@ -16,11 +17,10 @@ use crate::logs::Logs;
 use crate::systems::System;
 use crate::terms::check_sending;
 use host_files::boxed;
-use host_messages::{ChildLine, ChildMessages, Escaped, escape};
+use host_lines::{ChildLine, ChildMessage, HostLine, Tells};
 use indexmap::IndexMap;
 use init_words::{Answer, ChildNumber, Id, Memory, SignalKind, Stage, Status};
 use inittab_text::Table;
-use program_io::Reason;
 use std::alloc::{AllocError, Allocator};
 use std::hash::{BuildHasherDefault, FoldHasher};
 use std::io;
@@ -34,8 +34,6 @@ use text_lines::next_word;
 #[derive(Drop)]
 pub(crate) struct Children<S: System, A: Allocator> {
     alloc: A,
-    /// The name of the program that says what is said of them.
-    program: &'static str,
     handles: IndexMap<Id, HeldChild<S>, BuildHasherDefault<FoldHasher>, A>,
     /// The stage, and that in which an inittab was read again last.
     stage: Option<Stage>,
@@ -62,36 +60,33 @@ impl<S: System, A: Allocator + Copy> Children<S, A> {
     {
         let children = Children {
             alloc,
-            program: options.program,
             handles: IndexMap::new(alloc),
             stage: None,
             read_in: None,
             is_settled: true,
-            messages: ChildMessages::new(alloc, options.program, options.verbose),
-            left: LeftProcesses::new(alloc, options.program),
+            messages: ChildMessages::new(alloc, options.verbose),
+            left: LeftProcesses::new(alloc),
         };
         Ok(boxed(alloc, children)?)
     }
 
     /// Says on standard error where none can be sent TERM, where the options want it.
-    pub(crate) fn tell_unsendable<R: Eprint>(&self, rt: &R, system: &mut S, options: &HostOptions)
+    pub(crate) fn tell_unsendable<R: Tells>(&self, rt: &R, system: &mut S, options: &HostOptions)
         ensures { AsksHelpers (S.told system.old) (S.told system.new) }
     {
         if !options.sends_term {
             return;
         }
         if let Err(error) = check_sending(system, self.alloc, options.groups) {
-            let program = self.program;
-            let setsid = if options.groups { ", setsid" } else { "" };
-            let _ = eprintln!(rt;
-                "{program}: no child can be sent TERM: {}: start it with a PATH that has sh{setsid} and kill",
-                Reason(&error)
-            );
+            rt.tell(&HostLine::Unsendable {
+                groups: options.groups,
+                error: &error,
+            });
         }
     }
 
     /// Starts a child for an id that has none, with its output in the logs where there are any, and gives its number.
-    pub(crate) fn start<R: Files + Eprint, B: Allocator + Copy>(
+    pub(crate) fn start<R: Files + Tells, B: Allocator + Copy>(
         &mut self,
         rt: &R,
         system: &mut S,
@@ -144,7 +139,7 @@ impl<S: System, A: Allocator + Copy> Children<S, A> {
     {
         self.handles.reserve(1)?;
         let process = system.spawn(command)?;
-        let held = HeldChild::new(&*system, process, self.program);
+        let held = HeldChild::new(&*system, process);
         let number = held.number();
         let Ok(_) = self.handles.insert(id, held) else {
             unreachable!()
@@ -152,21 +147,8 @@ impl<S: System, A: Allocator + Copy> Children<S, A> {
         Ok(number)
     }
 
-    /// Says on standard error why a child was not born.
-    pub(crate) fn tell_not_born(
-        &self,
-        rt: &impl Eprint,
-        groups: bool,
-        id: &Id,
-        text: &[u8],
-        error: &io::Error,
-    ) {
-        self.messages
-            .tell_not_born(rt, id, program_of(groups, text), error);
-    }
-
     /// Reaps the id's child if it has ended.
-    pub(crate) fn look<R: Files + Eprint + Clock>(
+    pub(crate) fn look<R: Files + Tells + Clock>(
         &mut self,
         rt: &R,
         system: &mut S,
@@ -192,7 +174,7 @@ impl<S: System, A: Allocator + Copy> Children<S, A> {
     }
 
     /// How the id's child ended, where it has. An id without child has none to wait for.
-    fn try_wait<R: Eprint + Clock>(
+    fn try_wait<R: Tells + Clock>(
         &mut self,
         rt: &R,
         system: &mut S,
@@ -206,7 +188,7 @@ impl<S: System, A: Allocator + Copy> Children<S, A> {
         let Some(held) = self.handles.get_mut(id) else {
             return Err(io::Error::from(ErrorKind::NotFound));
         };
-        held.try_wait(system, rt, &self.messages, id, self.is_settled)
+        held.try_wait(system, rt, id, self.is_settled)
     }
 
     /// Holds the id's child no longer.
@@ -217,7 +199,7 @@ impl<S: System, A: Allocator + Copy> Children<S, A> {
     }
 
     /// Says on standard error how the id's last child ended, and what that mostly means.
-    pub(crate) fn tell_last_end(&self, rt: &impl Eprint, id: &Id) {
+    pub(crate) fn tell_last_end(&self, rt: &impl Tells, id: &Id) {
         self.messages.tell_last_end(rt, id);
     }
 
@@ -230,7 +212,7 @@ impl<S: System, A: Allocator + Copy> Children<S, A> {
     }
 
     /// The level is settled.
-    pub(crate) fn settle<R: Files + Eprint>(&mut self, rt: &R)
+    pub(crate) fn settle<R: Files + Tells>(&mut self, rt: &R)
         ensures { self.new ≡ self.old }
     {
         self.is_settled = true;
@@ -257,7 +239,7 @@ impl<S: System, A: Allocator + Copy> Children<S, A> {
     }
 
     /// Sends the id's child the signal, or its group where children have groups.
-    pub(crate) fn signal<R: Files + Eprint>(
+    pub(crate) fn signal<R: Files + Tells>(
         &mut self,
         rt: &R,
         system: &mut S,
@@ -275,10 +257,10 @@ impl<S: System, A: Allocator + Copy> Children<S, A> {
             return Answer::Miss;
         };
         self.left.note(rt, groups, id, held.number());
-        if !held.send(system, rt, self.alloc, groups, &self.messages, id, signal) {
+        if !held.send(system, rt, self.alloc, groups, id, signal) {
             return Answer::Miss;
         }
-        held.tell_cost(rt, &self.messages, id, is_same_stage);
+        held.tell_cost(rt, id, is_same_stage);
         self.messages.tell_sent(rt, id, signal);
         Answer::Hit
     }
@@ -294,12 +276,27 @@ fn status_of(status: &ExitStatus) -> Status
     }
 }
 
+/// Says why the id's child, which this process text was to start, was not born.
+pub(crate) fn tell_not_born<'a>(
+    rt: &impl Tells,
+    groups: bool,
+    id: Id,
+    text: &'a [u8],
+    error: &'a io::Error,
+) {
+    let program = program_of(groups, text);
+    rt.tell(&HostLine::OfChild {
+        id,
+        message: ChildMessage::NotBorn { program, error },
+    });
+}
+
 /// The program that starts a process text.
-fn program_of(groups: bool, text: &[u8]) -> Escaped<'_> {
+fn program_of(groups: bool, text: &[u8]) -> &[u8] {
     match next_word(text) {
-        None => escape(b""),
-        Some(_) if groups => escape(b"setsid"),
-        Some(_) if needs_shell(text) => escape(b"sh"),
-        Some((program, _)) => escape(program),
+        None => b"",
+        Some(_) if groups => b"setsid",
+        Some(_) if needs_shell(text) => b"sh",
+        Some((program, _)) => program,
     }
 }

@@ -5,7 +5,7 @@ ghost use Rattle.host_system.specs.Systems.{sent, waited};
 ghost use Rattle.host_system.specs.Systems.SystemCall.{try_wait};
 
 use crate::systems::System;
-use host_messages::{ChildLine, ChildMessages, Trouble, shown};
+use host_lines::{ChildLine, ChildMessage, Doing, HostLine, Tells, Trouble};
 use init_words::{ChildNumber, Id, SignalKind};
 use std::alloc::Allocator;
 use std::io;
@@ -44,13 +44,13 @@ impl<S: System> Model for HeldChild<S> {
 
 impl<S: System> HeldChild<S> {
     /// A child that was just started.
-    pub(crate) fn new(system: &S, process: S::Started, program: &'static str) -> HeldChild<S>
+    pub(crate) fn new(system: &S, process: S::Started) -> HeldChild<S>
         ensures { result ≡ S.number process }
     {
         HeldChild {
             number: ChildNumber(system.number_of(&process)),
             process,
-            stopping: Trouble::new(program, "send TERM to", "TERM was sent"),
+            stopping: Trouble::new(Doing::SendTerm),
             is_unkilled: false,
             is_unwaited: false,
             told: None,
@@ -67,11 +67,10 @@ impl<S: System> HeldChild<S> {
 
     /// How it ended, where it has (waitpid(2) with WNOHANG). That it can't be waited for is told, and again from time to
     /// time while the stage waits; and that it can be again.
-    pub(crate) fn try_wait<R: Eprint + Clock, A: Allocator + Copy>(
+    pub(crate) fn try_wait<R: Tells + Clock>(
         &mut self,
         system: &mut S,
         rt: &R,
-        messages: &ChildMessages<A>,
         id: &Id,
         is_settled: bool,
     ) -> io::Result<Option<ExitStatus>>
@@ -81,30 +80,27 @@ impl<S: System> HeldChild<S> {
     {
         let said = system.try_wait(&mut self.process);
         match &said {
-            Ok(_) => self.tell_waited(rt, messages, id),
-            Err(error) => self.tell_unwaited(rt, messages, id, error, is_settled),
+            Ok(_) => self.tell_waited(rt, id),
+            Err(error) => self.tell_unwaited(rt, id, error, is_settled),
         }
         said
     }
 
-    fn tell_waited<A: Allocator + Copy>(
-        &mut self,
-        rt: &impl Eprint,
-        messages: &ChildMessages<A>,
-        id: &Id,
-    )
+    fn tell_waited(&mut self, rt: &impl Tells, id: &Id)
         ensures { self.new ≡ self.old }
     {
         if self.is_unwaited {
             self.is_unwaited = false;
-            messages.tell_waited(rt, id, self.number);
+            rt.tell(&HostLine::OfChild {
+                id: *id,
+                message: ChildMessage::Waited(self.number),
+            });
         }
     }
 
-    fn tell_unwaited<R: Eprint + Clock, A: Allocator + Copy>(
+    fn tell_unwaited<R: Tells + Clock>(
         &mut self,
         rt: &R,
-        messages: &ChildMessages<A>,
         id: &Id,
         error: &io::Error,
         is_settled: bool,
@@ -116,18 +112,23 @@ impl<S: System> HeldChild<S> {
         }
         self.is_unwaited = true;
         self.told = Instant::now(rt).ok();
-        messages.tell_unwaited(rt, id, self.number, error);
+        rt.tell(&HostLine::OfChild {
+            id: *id,
+            message: ChildMessage::Unwaited {
+                number: self.number,
+                error,
+            },
+        });
     }
 
     /// Sends it the signal, or its group where children have groups, and gives whether that was done. It is told what
     /// fails.
-    pub(crate) fn send<R: Eprint, A: Allocator + Copy>(
+    pub(crate) fn send<R: Tells, A: Allocator + Copy>(
         &mut self,
         system: &mut S,
         rt: &R,
         alloc: A,
         groups: bool,
-        messages: &ChildMessages<A>,
         id: &Id,
         signal: SignalKind,
     ) -> bool
@@ -141,25 +142,25 @@ impl<S: System> HeldChild<S> {
             SignalKind::Kill => system.kill(&mut self.process),
         };
         match (signal, &sent) {
-            (SignalKind::Term, _) => self.stopping.tell(rt, shown(id.as_bytes()), &sent),
-            (SignalKind::Kill, Err(error)) => self.tell_unkilled(rt, messages, id, error),
+            (SignalKind::Term, _) => self.stopping.tell(rt, id.as_str(), &sent),
+            (SignalKind::Kill, Err(error)) => self.tell_unkilled(rt, id, error),
             (SignalKind::Kill, Ok(())) => {}
         }
         sent.is_ok()
     }
 
-    fn tell_unkilled<A: Allocator + Copy>(
-        &mut self,
-        rt: &impl Eprint,
-        messages: &ChildMessages<A>,
-        id: &Id,
-        error: &io::Error,
-    )
+    fn tell_unkilled(&mut self, rt: &impl Tells, id: &Id, error: &io::Error)
         ensures { self.new ≡ self.old }
     {
         if !self.is_unkilled {
             self.is_unkilled = true;
-            messages.tell_unkilled(rt, id, self.number, error);
+            rt.tell(&HostLine::OfChild {
+                id: *id,
+                message: ChildMessage::Unkilled {
+                    number: self.number,
+                    error,
+                },
+            });
         }
     }
 
@@ -172,22 +173,17 @@ impl<S: System> HeldChild<S> {
 
     /// Says on standard error, once, that the child, which is sent a signal, is the cost of an inittab that was read
     /// again, where it is.
-    pub(crate) fn tell_cost<A: Allocator + Copy>(
-        &mut self,
-        rt: &impl Eprint,
-        messages: &ChildMessages<A>,
-        id: &Id,
-        is_same_stage: bool,
-    )
+    pub(crate) fn tell_cost(&mut self, rt: &impl Tells, id: &Id, is_same_stage: bool)
         ensures { self.new ≡ self.old }
     {
         match self.line.take() {
-            Some(line) if line.stops_child(is_same_stage) => messages.tell_cost(
-                rt,
-                id,
-                self.number,
-                line,
-            ),
+            Some(line) if line.stops_child(is_same_stage) => rt.tell(&HostLine::OfChild {
+                id: *id,
+                message: ChildMessage::Stopped {
+                    number: self.number,
+                    line,
+                },
+            }),
             _ => {}
         }
     }

@@ -21,8 +21,6 @@ pub enum Pace {
 /// The paths of a host, and what it does besides.
 #[derive(Clone, Copy)]
 pub struct HostOptions<'a> {
-    /// The program by whose name it says what fails.
-    pub program: &'static str,
     /// The path of the inittab, and of the folder of its further files, which `with_folder` reads.
     pub inittab: &'a str,
     pub folder: Option<&'a str>,
@@ -60,13 +58,12 @@ pub struct HostOptions<'a> {
 
 impl HostOptions<'_> {
     /// No paths, and nothing besides.
-    pub fn of(program: &'static str) -> HostOptions<'static>
+    pub fn none() -> HostOptions<'static>
         ensures strict { result.strict ≡ false }
         ensures verbose { result.verbose ≡ false }
         ensures fresh { result.fresh ≡ false }
     {
         HostOptions {
-            program,
             inittab: "",
             folder: None,
             channel: "",

@@ -1,7 +1,7 @@
 //! What a stopped entry left: processes that its child had started, that its signals don't reach, and that run on when it
 //! has ended.
 
-use host_messages::shown;
+use host_lines::{ChildMessage, HostLine, Tells};
 use init_words::{ChildNumber, Id};
 use program_io::read_file;
 use std::alloc::{AllocError, Allocator};
@@ -25,16 +25,14 @@ struct Process {
 #[derive(Drop)]
 pub(crate) struct LeftProcesses<A: Allocator> {
     alloc: A,
-    program: &'static str,
     found: Vec<Process, A>,
 }
 
 impl<A: Allocator + Copy> LeftProcesses<A> {
-    /// None, told of by the program of this name.
-    pub(crate) fn new(alloc: A, program: &'static str) -> LeftProcesses<A> {
+    /// None.
+    pub(crate) fn new(alloc: A) -> LeftProcesses<A> {
         LeftProcesses {
             alloc,
-            program,
             found: Vec::new(alloc),
         }
     }
@@ -82,14 +80,14 @@ impl<A: Allocator + Copy> LeftProcesses<A> {
     }
 
     /// The id's child has ended: what it left is told, and no more after that.
-    pub(crate) fn tell<R: Files + Eprint>(&mut self, rt: &R, id: &Id) {
+    pub(crate) fn tell<R: Files + Tells>(&mut self, rt: &R, id: &Id) {
         self.pass_ended(rt);
         let _ = self.print(rt, id);
         self.found.retain(|process| process.id != *id);
     }
 
     /// The level is settled: what each child left is told, and no more after that.
-    pub(crate) fn tell_all<R: Files + Eprint>(&mut self, rt: &R) {
+    pub(crate) fn tell_all<R: Files + Tells>(&mut self, rt: &R) {
         self.pass_ended(rt);
         let mut told = None;
         for process in &self.found {
@@ -110,7 +108,7 @@ impl<A: Allocator + Copy> LeftProcesses<A> {
     }
 
     /// Says on standard error which processes the id's child left, where it did.
-    fn print<R: Eprint>(&self, rt: &R, id: &Id) -> Result<(), AllocError> {
+    fn print<R: Tells>(&self, rt: &R, id: &Id) -> Result<(), AllocError> {
         let mut numbers = String::new(self.alloc);
         let mut count = 0u32;
         for process in &self.found {
@@ -120,16 +118,14 @@ impl<A: Allocator + Copy> LeftProcesses<A> {
                 count = count.saturating_add(1);
             }
         }
-        let program = self.program;
-        let id = shown(id.as_bytes());
-        match count {
-            0 => {}
-            1 => {
-                let _ = eprintln!(rt; "{program}: {id} left a process:{numbers}");
-            }
-            _ => {
-                let _ = eprintln!(rt; "{program}: {id} left {count} processes:{numbers}");
-            }
+        if count > 0 {
+            rt.tell(&HostLine::OfChild {
+                id: *id,
+                message: ChildMessage::Left {
+                    count,
+                    numbers: numbers.as_str(),
+                },
+            });
         }
         Ok(())
     }

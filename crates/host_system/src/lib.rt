@@ -1,8 +1,10 @@
 //! A host that asks the operating system: real children, the channel of requests, the files of the inittab, the text
-//! of init's state. By which words it says what it did is in `host_messages`.
+//! of init's state. What it says it gives as values (`host_lines`) to what
+//! words them (`host_messages`).
 #![tactic(auto)]
 
 mod bell_making;
+mod child_messages;
 mod children;
 mod commands;
 mod held;
@@ -13,6 +15,7 @@ mod left;
 mod logs;
 mod noting;
 mod os_hosts;
+mod outputs;
 mod pauses;
 mod steady_clocks;
 mod systems;

@@ -8,7 +8,7 @@ ghost use Rattle.host_system.specs.Logs.{is_log_byte, is_log_name, log_name, log
 
 use crate::commands::{BoxedCommand, command_of, logged_command};
 use host_files::is_hidden;
-use host_messages::{tell_log, tell_no_log};
+use host_lines::{HostLine, Tells};
 use indexmap::IndexSet;
 use init_words::{Id, Memory};
 use program_io::refuse_special;
@@ -53,7 +53,7 @@ impl<A: Allocator + Copy> Logs<A> {
     }
 
     /// The command that starts a process text. There is none where it has no word, and where it isn't UTF-8.
-    pub(crate) fn command<R: Files + Eprint, B: Allocator + Copy>(
+    pub(crate) fn command<R: Files + Tells, B: Allocator + Copy>(
         &mut self,
         rt: &R,
         alloc: B,
@@ -76,7 +76,7 @@ impl<A: Allocator + Copy> Logs<A> {
 
     /// The command that starts a process text, with its output in the id's log and no input where there are logs; as it
     /// is started without them, where the log can't be opened, which is told on standard error.
-    fn logged<R: Files + Eprint, B: Allocator + Copy>(
+    fn logged<R: Files + Tells, B: Allocator + Copy>(
         &mut self,
         rt: &R,
         alloc: B,
@@ -95,7 +95,11 @@ impl<A: Allocator + Copy> Logs<A> {
         let log = log_path(alloc, folder.as_str(), id)?;
         self.tell(rt, id, log.as_str());
         if let Err(error) = made_ready(rt, log.as_str()) {
-            tell_no_log(rt, id, log.as_str(), &error);
+            rt.tell(&HostLine::NoLog {
+                id: *id,
+                log: log.as_str(),
+                error: &error,
+            });
             return Ok(command_of(alloc, groups, text)?);
         }
         let Some(mut command) = logged_command(alloc, groups, log.as_str(), text)? else {
@@ -106,12 +110,12 @@ impl<A: Allocator + Copy> Logs<A> {
     }
 
     /// Tells once that the id's log is this one, since the id is no name of a file.
-    fn tell(&mut self, rt: &impl Eprint, id: &Id, log: &str)
+    fn tell(&mut self, rt: &impl Tells, id: &Id, log: &str)
         ensures folder { self.new.folder ≡ self.old.folder }
         ensures groups { self.new.groups ≡ self.old.groups }
     {
         if !is_log_name(id.as_bytes()) && !matches!(self.told.insert(*id), Ok(false)) {
-            tell_log(rt, id, log);
+            rt.tell(&HostLine::Log { id: *id, log });
         }
     }
 }

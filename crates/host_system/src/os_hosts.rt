@@ -6,15 +6,16 @@ ghost use Rattle.std.specs.Duration.{as_nanos};
 ghost use Rattle.host_system.specs.Asking.{AreSecondsOf, AsksHelpers};
 
 use crate::bell_making::make_bell;
-use crate::children::Children;
+use crate::children::{Children, tell_not_born};
 use crate::host_options::HostOptions;
 use crate::logs::Logs;
 use crate::noting::SystemCallList;
+use crate::outputs::Output;
 use crate::pauses::{Pauses, has_stirred};
 use crate::systems::System;
 use host_calls::{Host, HostFault, Reply, counted, is_failed_reply};
 use host_files::{Channel, ChannelCallList, InittabFiles, OsChannelFile, StateFile, boxed};
-use host_messages::{Output, Trouble, tell_refused};
+use host_lines::{Doing, HostLine, Tells, Trouble};
 use host_telling::{CallList, adding, no_calls};
 use init_words::{Answer, Id, Memory, Part, SignalKind};
 use inittab_text::read_parts;
@@ -46,7 +47,7 @@ use trace_events::{Handed, Happening, HappeningIn};
 /// on standard error.
 #[derive(Drop)]
 pub struct OsHost<
-    R: Files<File = File> + Clock + Print + Eprint + Drop,
+    R: Files<File = File> + Clock + Tells + Drop,
     S: System + Drop,
     A: Allocator = Global,
 > {
@@ -55,11 +56,7 @@ pub struct OsHost<
 
 /// What a host has, which is on the heap: so a host is one word to whoever owns it.
 #[derive(Drop)]
-struct OsHostParts<
-    R: Files<File = File> + Clock + Print + Eprint + Drop,
-    S: System + Drop,
-    A: Allocator,
-> {
+struct OsHostParts<R: Files<File = File> + Clock + Tells + Drop, S: System + Drop, A: Allocator> {
     rt: R,
     system: S,
     alloc: A,
@@ -77,7 +74,7 @@ struct OsHostParts<
     told: Noted<CallList>,
 }
 
-impl<R: Files<File = File> + Clock + Print + Eprint + Drop, S: System + Drop, A: Allocator> Model
+impl<R: Files<File = File> + Clock + Tells + Drop, S: System + Drop, A: Allocator> Model
     for OsHost<R, S, A> {
     ghost use Rattle.host_system.specs.Asking.{AreAsked};
     ghost use Rattle.host_system.specs.Hearing.{bytes_taken};
@@ -93,7 +90,7 @@ impl<R: Files<File = File> + Clock + Print + Eprint + Drop, S: System + Drop, A:
         × HasHanded host.channel (bytes_taken host.calls) };
 }
 
-impl<R: Files<File = File> + Clock + Print + Eprint + Drop, S: System + Drop, A: Allocator> Model
+impl<R: Files<File = File> + Clock + Tells + Drop, S: System + Drop, A: Allocator> Model
     for OsHostParts<R, S, A> {
     ghost use Rattle.std.specs.Prelude.{option_map, string_bytes};
     ghost use Rattle.host_system.specs.Hosts.{HostState};
@@ -114,11 +111,11 @@ impl<R: Files<File = File> + Clock + Print + Eprint + Drop, S: System + Drop, A:
     } };
 }
 
-impl<
-    R: Files<File = File> + Clock + Print + Eprint + Drop,
-    S: System + Drop,
-    A: Allocator + Copy,
-> OsHost<R, S, A> {
+impl<R: Files<File = File> + Clock + Tells + Drop, S: System + Drop, A: Allocator + Copy> OsHost<
+    R,
+    S,
+    A,
+> {
     ghost use Rattle.host_system.specs.Asking.{AreAsked};
     ghost use Rattle.host_system.specs.Hearing.{IsHeard};
     ghost use Rattle.host_system.specs.Hosts.{settings_of};
@@ -156,9 +153,9 @@ impl<
             channel,
             inittab,
             state,
-            output: Output::new(alloc, options.program),
+            output: Output::new(alloc),
             pauses: Pauses::of(options.pace),
-            timing: Trouble::new(options.program, "read", "read"),
+            timing: Trouble::new(Doing::Read),
             strict: options.strict,
             verbose: options.verbose,
             faults: 0,
@@ -225,16 +222,15 @@ fn files_of<A: Allocator + Copy>(alloc: A, options: &HostOptions) -> Result<Host
         (files.0.value ≡ record { fresh = options.now.fresh; told = []; rest = [] })
         × (files.1.value ≡ options.now.inittab.now)) }
 {
-    let program = options.program;
-    let channel = Channel::new(alloc, program, options.channel, options.fresh)?;
-    let inittab = InittabFiles::new(alloc, program, options.inittab, options.folder)?;
+    let channel = Channel::new(alloc, options.channel, options.fresh)?;
+    let inittab = InittabFiles::new(alloc, options.inittab, options.folder)?;
     let spared = options.spared.unwrap_or("");
-    let state = StateFile::new(alloc, program, options.state, spared)?;
+    let state = StateFile::new(alloc, options.state, spared)?;
     Ok((channel, inittab, state))
 }
 
 impl<
-    R: Files<File = File> + Clock + Print + Eprint + Drop,
+    R: Files<File = File> + Clock + Tells + Drop,
     S: System + Drop,
     A: Allocator + Copy,
 > OsHostParts<R, S, A> {
@@ -273,7 +269,9 @@ impl<
         };
         let is_printed = self.output.print_faults(&self.rt, parts, &faults);
         if self.strict && !faults.is_empty() {
-            tell_refused(&self.rt, self.inittab.path());
+            self.rt.tell(&HostLine::Refused {
+                path: self.inittab.path(),
+            });
         } else {
             self.children.note_lines(&table);
         }
@@ -283,7 +281,7 @@ impl<
 }
 
 /// Tells, where the options spare a path, that no text of the state could be put in its place as things stand.
-fn tell_blocked<R: Files<File = File> + Eprint, A: Allocator + Copy>(
+fn tell_blocked<R: Files<File = File> + Tells, A: Allocator + Copy>(
     rt: &R,
     state: &mut StateFile<A>,
     paths: (&str, &str),
@@ -295,18 +293,10 @@ fn tell_blocked<R: Files<File = File> + Eprint, A: Allocator + Copy>(
 }
 
 /// Tells what came back of the text of init's state, where that was read and is another one.
-fn tell_handed(rt: &impl Eprint, handed: &Handed) {
+fn tell_handed(rt: &impl Tells, handed: &Handed) {
     match handed {
-        Handed::Cut(length) => {
-            let _ = eprintln!(rt;
-                "initd: the text of init's state came back cut, {length} bytes long: init goes on as it was"
-            );
-        }
-        Handed::Older(generation) => {
-            let _ = eprintln!(rt;
-                "initd: the text of init's state came back of generation {generation}: give each init a --state of its own"
-            );
-        }
+        Handed::Cut(length) => rt.tell(&HostLine::HandedCut(*length)),
+        Handed::Older(generation) => rt.tell(&HostLine::HandedOlder(*generation)),
         _ => {}
     }
 }
@@ -330,11 +320,8 @@ fn seconds_of(time: io::Result<Duration>) -> Result<u64, HostFault>
     Ok(host_result(time)?.as_secs())
 }
 
-impl<
-    R: Files<File = File> + Clock + Print + Eprint + Drop,
-    S: System + Drop,
-    A: Allocator + Copy,
-> Host for OsHost<R, S, A> {
+impl<R: Files<File = File> + Clock + Tells + Drop, S: System + Drop, A: Allocator + Copy> Host
+    for OsHost<R, S, A> {
     ghost use Rattle.std.specs.Prelude.{◌≡◌, ◌≤◌, ◌∷◌, length, take, Some, None, IfOk, is_err, false, IsTrue};
     ghost use Rattle.host_files.specs.Channels.{HandsOn};
     ghost use Rattle.host_calls.specs.declared.calls.Call.TheVariants as call;
@@ -377,9 +364,7 @@ impl<
         let reply = match started {
             Ok(number) => Reply::Now(Answer::Born(number)),
             Err(error) => {
-                let groups = host.logs.groups;
-                host.children
-                    .tell_not_born(&host.rt, groups, &id, command, &error);
+                tell_not_born(&host.rt, host.logs.groups, id, command, &error);
                 Reply::Now(Answer::NotBorn)
             }
         };

@@ -7,7 +7,8 @@ ghost use Rattle.initd_command.specs.Hosts.{host_said};
 use crate::hosts::Hosts;
 use crate::run::{folder_of, trace_of};
 use host_files::{ChannelCallList, nothing_read};
-use host_messages::StampedRuntime;
+use host_lines::TellingRuntime;
+use host_messages::{StampedPrinter, Worded};
 use host_system::{HostOptions, OsHost, OsSystem, Pace, SystemCallList, nothing_asked};
 use host_telling::{CallList, no_calls};
 use init_words::Memory;
@@ -34,7 +35,7 @@ pub struct OsHosts<R: Processes + Files<File = File> + Clock + Print + Eprint + 
 }
 
 /// The host.
-type RunHost<R> = OsHost<StampedRuntime<R>, OsSystem<R>>;
+type RunHost<R> = OsHost<TellingRuntime<R, Worded<StampedPrinter<R>>>, OsSystem<R>>;
 
 impl<R: Processes + Files<File = File> + Clock + Print + Eprint + Clone + Drop> Model
     for OsHosts<R> {
@@ -114,7 +115,6 @@ where
         by_cost: !writes_looks(run_options),
     };
     let options = HostOptions {
-        program: "initd",
         inittab: run_options.inittab.as_str(),
         folder: folder_of(run_options),
         channel: run_options.initctl.as_str(),
@@ -129,8 +129,9 @@ where
         strict: run_options.strict,
         sends_term: true,
     };
-    let stamped = StampedRuntime::new(rt.clone()?, alloc, run_options.stamp);
-    OsHost::new(stamped, rt, alloc, &options)
+    let printer = StampedPrinter::new(rt.clone()?, alloc, run_options.stamp);
+    let telling = TellingRuntime::new(rt.clone()?, Worded::new("initd", printer));
+    OsHost::new(telling, rt, alloc, &options)
 }
 
 /// The trace of the run has its looks: there is one, and it isn't brief.

@@ -17,8 +17,9 @@ use crate::reports::{
 };
 use crate::watchers::Progress;
 use host_calls::Host;
-use host_files::{FolderFault, PassedNames, with_folder};
-use host_messages::{StampedRuntime, faults_text};
+use host_files::{FolderFault, HearsPassed, with_folder};
+use host_lines::TellingRuntime;
+use host_messages::{StampedPrinter, faults_text, tell_passed};
 use host_trace::Edge;
 use init_turns::{Opening, Served};
 use init_words::{Id, Level, Memory, Part};
@@ -299,6 +300,20 @@ pub(crate) fn folder_of(options: &RunWords) -> Option<&str>
     }
 }
 
+/// What tells which files of the inittab's folder are passed over, where that is asked for.
+#[derive(Clone, Copy)]
+struct PassedFiles {
+    is_told: bool,
+}
+
+impl<R: Eprint> HearsPassed<R> for PassedFiles {
+    fn hear(&mut self, rt: &R, folder: &str, name: &[u8]) {
+        if self.is_told {
+            tell_passed(rt, folder, name);
+        }
+    }
+}
+
 /// The files of the inittab.
 fn files_of<R: Files + Eprint, T: Texts>(
     rt: &R,
@@ -319,7 +334,9 @@ fn files_of<R: Files + Eprint, T: Texts>(
     };
     let name = String::from_str(alloc, options.inittab.as_str())?;
     let own = Part { name, bytes };
-    let mut passed = PassedNames::new(alloc, options.verbose);
+    let mut passed = PassedFiles {
+        is_told: options.verbose,
+    };
     match with_folder(rt, alloc, own, folder_of(options), &mut passed) {
         Ok(parts) => Ok(parts),
         Err(FolderFault::Unread(path, error)) => Err(Obstacle::Unread(path, error)),
@@ -504,8 +521,8 @@ where
     tell_endless(rt, options);
     tell_limit(rt, options, &trace);
     tell_ignored(rt, alloc);
-    let stamped = StampedRuntime::new(rt, alloc, options.stamp);
-    let (status, host) = make_traced(&stamped, traces, alloc, options, opening, host, trace, err);
+    let telling = TellingRuntime::new(rt, StampedPrinter::new(rt, alloc, options.stamp));
+    let (status, host) = make_traced(&telling, traces, alloc, options, opening, host, trace, err);
     let is_printed = hosts.close(host);
     report_where(!is_printed, UNPRINTED, err);
     status_where(is_told, is_printed, status)

@@ -6,7 +6,7 @@ ghost use Rattle.std.specs.Io.KnownBytes.{Consumes};
 ghost use Rattle.initview_command.specs.Words.{NamedText, KnownTexts};
 ghost use Rattle.initview_command.specs.Writers.{IsWriterAt, KnownWriters};
 
-use host_files::{FolderFault, PassedNames, with_folder};
+use host_files::{FolderFault, Unheard, with_folder};
 use init_words::Part;
 use libc::net::poll;
 use libc::types::pollfd;
@@ -129,8 +129,7 @@ impl<'a, R: Files<File = File> + Clock + Eprint> LiveTraces for GrowingFiles<'a,
         let Some(last) = parts.pop() else {
             return Ok(());
         };
-        let mut passed = PassedNames::new(alloc, false);
-        let mut more = with_folder(self.rt, alloc, last, Some(folder), &mut passed)?;
+        let mut more = with_folder(self.rt, alloc, last, Some(folder), &mut Unheard)?;
         parts.append(&mut more)?;
         Ok(())
     }

@@ -2,6 +2,8 @@
 
 ghost use Rattle.std.specs.Prelude.{◌≡◌, [], IfOk};
 
+use host_lines::TellingRuntime;
+use host_messages::Worded;
 use host_system::{HostOptions, OsHost, OsSystem, Pace};
 use init_words::Memory;
 use std::alloc::Global;
@@ -9,15 +11,19 @@ use std::fs::File;
 use std::process::Processes;
 use std::rt::{Clock, Files};
 
+/// The host.
+type RcHost<R> = OsHost<TellingRuntime<R, Worded<R>>, OsSystem<R>>;
+
 /// A host that asks the operating system, by tenths of a second.
-pub fn os_host<R>(rt: R, alloc: Global) -> Result<OsHost<R, OsSystem<R>>, Memory>
+pub fn os_host<R>(rt: R, alloc: Global) -> Result<RcHost<R>, Memory>
 where
     R: Processes + Files<File = File> + Clock + Print + Eprint + Clone + Drop,
     ensures { IfOk result (λ host. host.calls ≡ []) }
 {
     let options = HostOptions {
         pace: Pace::Tenth,
-        ..HostOptions::of("rc")
+        ..HostOptions::none()
     };
-    OsHost::new(rt.clone()?, rt, alloc, &options)
+    let telling = TellingRuntime::new(rt.clone()?, Worded::new("rc", rt.clone()?));
+    OsHost::new(telling, rt, alloc, &options)
 }

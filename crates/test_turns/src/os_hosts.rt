@@ -5,12 +5,14 @@
 //! `lacks` memory, and counts a fault just then. All orders are about one id.
 
 use host_calls::{Host, HostFault, Reply};
+use host_lines::{ChildMessage, HostLine, TellingRuntime, Tells};
 use host_system::{HostOptions, OsHost, OsSystem, Pace};
 use init_words::{Answer, Id, Memory, Part, SignalKind, Stage};
+use inittab_text::PartFault;
 use std::alloc::Allocator;
-use std::fs;
+use std::{fs, io};
 use test_support::boxed;
-use trace_events::Happening;
+use trace_events::{Happening, HappeningIn};
 
 /// The paths of an inittab, a channel of requests and a text of init's state, and the folder of the inittab.
 pub(crate) type Paths = (
@@ -21,7 +23,64 @@ pub(crate) type Paths = (
 );
 
 /// A host over the system that the tests run on.
-pub(crate) type SystemHost<A> = OsHost<HostRuntime, OsSystem<HostRuntime>, A>;
+pub(crate) type SystemHost<A> = OsHost<
+    TellingRuntime<HostRuntime, Brief>,
+    OsSystem<HostRuntime>,
+    A,
+>;
+
+/// What stands for each announcement: as many bytes as most have.
+const SAID: &[u8] = b"what init says of a happening\n";
+
+/// What says which line comes, of some, in a word and what it is of: the words of programs are for their scenes. Stages
+/// are announced, all alike.
+#[derive(Clone, Copy)]
+pub(crate) struct Brief(HostRuntime);
+
+impl Tells for Brief {
+    fn tell(&self, line: &HostLine<'_>) {
+        let rt = &self.0;
+        let _ = match *line {
+            HostLine::Fails { what, .. } => eprintln!(rt; "fails {what}"),
+            HostLine::WorksAgain { what, .. } => eprintln!(rt; "again {what}"),
+            HostLine::Old { length, fresh, .. } => {
+                eprintln!(rt; "old {length}{}", if fresh { " fresh" } else { "" })
+            }
+            HostLine::PassedOver { number, .. } => eprintln!(rt; "passed {number}"),
+            HostLine::Torn { over, .. } => eprintln!(rt; "torn {over}"),
+            HostLine::Whole { .. } => eprintln!(rt; "whole"),
+            HostLine::Uncounted => eprintln!(rt; "uncounted"),
+            HostLine::OfChild {
+                id,
+                message: ChildMessage::Started { .. },
+                ..
+            } => eprintln!(rt; "started {}", id.as_str()),
+            _ => Ok(()),
+        };
+    }
+
+    fn announce<A: Allocator, B: Allocator>(
+        &self,
+        alloc: A,
+        happening: &HappeningIn<B>,
+    ) -> io::Result<usize> {
+        if !matches!(happening, Happening::Enter(_, _)) {
+            return Ok(0);
+        }
+        let text = Vec::from_slice(alloc, SAID)?;
+        self.0.write_all(&text)?;
+        Ok(text.len())
+    }
+
+    fn print_faults<A: Allocator + Copy, B: Allocator>(
+        &self,
+        _alloc: A,
+        _parts: &[Part<B>],
+        _faults: &[PartFault],
+    ) -> io::Result<usize> {
+        Ok(0)
+    }
+}
 
 /// A host of these paths: that passes over what stands in its channel, tells of its children, has logs, or pauses by what
 /// a turn costs; none of these where nothing is said.
@@ -53,9 +112,10 @@ pub(crate) fn host_of<A: Allocator + Copy>(
         pace,
         fresh: kind == "fresh",
         verbose: kind == "verbose",
-        ..HostOptions::of("initd")
+        ..HostOptions::none()
     };
-    Ok(boxed(rt.alloc(), OsHost::new(*rt, *rt, alloc, &options)?)?)
+    let telling = TellingRuntime::new(*rt, Brief(*rt));
+    Ok(boxed(rt.alloc(), OsHost::new(telling, *rt, alloc, &options)?)?)
 }
 
 fn word_of(reply: Reply) -> &'static str {

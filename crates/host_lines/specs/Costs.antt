@@ -5,8 +5,8 @@ use Rattle.init_words.specs.declared.stages.Stage.{Stage}
 use Rattle.init_words.specs.declared.actions.Act.{Act}
 use Rattle.init_words.specs.declared.actions.Act.TheVariants as act
 use Rattle.init_words.specs.Entries.{lives_of}
-use Rattle.host_messages.specs.declared.costs.ChildLine.{ChildLine}
-use Rattle.host_messages.specs.declared.costs.ChildLine.TheVariants as line
+use Rattle.host_lines.specs.declared.costs.ChildLine.{ChildLine}
+use Rattle.host_lines.specs.declared.costs.ChildLine.TheVariants as line
 
 abbrev pub is_off : Act → Bool
 is_off act.Off = true

@@ -1,27 +1,24 @@
-//! The runtime, and what it prints.
+//! What prints the lines of init, with the time in front.
 
 use jiff::Timestamp;
 use program_io::StandardOutput;
 use std::alloc::{AllocError, Allocator, Global};
 use std::cell::Cell;
 use std::fmt::{Display, Write};
-use std::fs::{Metadata, OpenOptions, Permissions};
 use std::io::ErrorKind;
-use std::path::PathBuf;
 use std::rt::{Clock, Files};
-use std::time::Duration;
 use std::{fmt, io};
 
 /// How many bytes the time has in front of a line, with the blank behind it, and the line's end.
 const STAMP: usize = 22;
 
-/// A runtime that does what another one does, but never waits for whoever reads what it prints: a line for which standard
-/// output or error has no room is left out, which is an error, and the next one that is printed there tells on standard
-/// error how many were. It puts the time of the system in front of each line that it prints, where that is asked for:
-/// `2026-01-31T07:15:00Z `, the Coordinated Universal Time to the second. Where the system tells no time, or there is no
-/// memory for the line, the line is printed without it.
+/// What prints as a runtime does, but never waits for whoever reads it: a line for which standard output or error has
+/// no room is left out, which is an error, and the next one that is printed there tells on standard error how many
+/// were. It puts the time of the system in front of each line that it prints, where that is asked for:
+/// `2026-01-31T07:15:00Z `, the Coordinated Universal Time to the second. Where the system tells no time, or there is
+/// no memory for the line, the line is printed without it.
 #[derive(Clone, Drop)]
-pub struct StampedRuntime<R: Clone + Drop> {
+pub struct StampedPrinter<R: Clone + Drop> {
     runtime: R,
     alloc: Global,
     is_stamped: bool,
@@ -29,10 +26,10 @@ pub struct StampedRuntime<R: Clone + Drop> {
     errors: LeftOut,
 }
 
-impl<R: Clone + Drop> StampedRuntime<R> {
-    /// A runtime over another one, and whether lines have the time in front.
-    pub fn new(runtime: R, alloc: Global, is_stamped: bool) -> StampedRuntime<R> {
-        StampedRuntime {
+impl<R: Clone + Drop> StampedPrinter<R> {
+    /// What prints by this runtime, and whether lines have the time in front.
+    pub fn new(runtime: R, alloc: Global, is_stamped: bool) -> StampedPrinter<R> {
+        StampedPrinter {
             runtime,
             alloc,
             is_stamped,
@@ -141,7 +138,7 @@ fn timed(alloc: Global, time: Timestamp, text: &[u8]) -> Result<Vec<u8>, AllocEr
     Ok(timed)
 }
 
-impl<R: Clock + Clone + Drop> StampedRuntime<R> {
+impl<R: Clock + Clone + Drop> StampedPrinter<R> {
     /// The time that is put in front of a line now, where there is one.
     fn stamp(&self) -> Option<Timestamp> {
         if !self.is_stamped {
@@ -153,7 +150,7 @@ impl<R: Clock + Clone + Drop> StampedRuntime<R> {
     }
 }
 
-impl<R: Eprint + Files + Clock + Clone + Drop> StampedRuntime<R> {
+impl<R: Eprint + Files + Clock + Clone + Drop> StampedPrinter<R> {
     /// Prints a line on standard error, with the time in front.
     fn tell<D: Display + Drop>(&self, line: D) -> io::Result<()> {
         match self.stamp() {
@@ -162,8 +159,8 @@ impl<R: Eprint + Files + Clock + Clone + Drop> StampedRuntime<R> {
         }
     }
 
-    /// Refuses a line of so many bytes where standard error has no room for it, which is noted. Where it has, the lines that were left out of
-    /// it are told.
+    /// Refuses a line of so many bytes where standard error has no room for it, which is noted. Where it has, the lines
+    /// that were left out of it are told.
     fn make_error_room(&self, length: usize) -> io::Result<()> {
         if let Err(error) = StandardOutput::Error.refuse_waiting(&self.runtime, length) {
             self.errors.note(&error);
@@ -188,7 +185,7 @@ impl<R: Eprint + Files + Clock + Clone + Drop> StampedRuntime<R> {
     }
 }
 
-impl<R: Print + Eprint + Files + Clock + Clone + Drop> StampedRuntime<R> {
+impl<R: Print + Eprint + Files + Clock + Clone + Drop> StampedPrinter<R> {
     /// Prints lines on standard output, as far as it has room for them.
     fn write_lines(&self, text: &[u8]) -> io::Result<()> {
         let mut written = Ok(());
@@ -202,7 +199,7 @@ impl<R: Print + Eprint + Files + Clock + Clone + Drop> StampedRuntime<R> {
     }
 }
 
-impl<R: Print + Eprint + Files + Clock + Clone + Drop> Print for StampedRuntime<R> {
+impl<R: Print + Eprint + Files + Clock + Clone + Drop> Print for StampedPrinter<R> {
     fn print<D: Display + Drop>(&self, value: D) -> io::Result<()> {
         self.make_output_room(line_length(&value))?;
         self.runtime.print(value)
@@ -227,7 +224,7 @@ impl<R: Print + Eprint + Files + Clock + Clone + Drop> Print for StampedRuntime<
     }
 }
 
-impl<R: Eprint + Files + Clock + Clone + Drop> Eprint for StampedRuntime<R> {
+impl<R: Eprint + Files + Clock + Clone + Drop> Eprint for StampedPrinter<R> {
     fn eprint<D: Display + Drop>(&self, value: D) -> io::Result<()> {
         self.make_error_room(line_length(&value))?;
         self.runtime.eprint(value)
@@ -236,85 +233,5 @@ impl<R: Eprint + Files + Clock + Clone + Drop> Eprint for StampedRuntime<R> {
     fn eprintln<D: Display + Drop>(&self, value: D) -> io::Result<()> {
         self.make_error_room(line_length(&value))?;
         self.tell(value)
-    }
-}
-
-impl<R: Clock + Clone + Drop> Clock for StampedRuntime<R> {
-    fn monotonic(&self) -> io::Result<Duration> {
-        self.runtime.monotonic()
-    }
-
-    fn since_1970(&self) -> io::Result<Duration> {
-        self.runtime.since_1970()
-    }
-
-    fn sleep(&self, duration: Duration) {
-        self.runtime.sleep(duration)
-    }
-}
-
-impl<R: Files + Clone + Drop> Files for StampedRuntime<R> {
-    type File = R::File;
-
-    type Dir = R::Dir;
-
-    fn open_file(&self, how: &OpenOptions, path: &str) -> io::Result<R::File> {
-        self.runtime.open_file(how, path)
-    }
-
-    fn open_dir(&self, path: &str) -> io::Result<R::Dir> {
-        self.runtime.open_dir(path)
-    }
-
-    fn metadata(&self, path: &str) -> io::Result<Metadata> {
-        self.runtime.metadata(path)
-    }
-
-    fn symlink_metadata(&self, path: &str) -> io::Result<Metadata> {
-        self.runtime.symlink_metadata(path)
-    }
-
-    fn copy(&self, from: &str, to: &str) -> io::Result<u64> {
-        self.runtime.copy(from, to)
-    }
-
-    fn rename(&self, from: &str, to: &str) -> io::Result<()> {
-        self.runtime.rename(from, to)
-    }
-
-    fn remove_file(&self, path: &str) -> io::Result<()> {
-        self.runtime.remove_file(path)
-    }
-
-    fn create_dir(&self, path: &str) -> io::Result<()> {
-        self.runtime.create_dir(path)
-    }
-
-    fn remove_dir(&self, path: &str) -> io::Result<()> {
-        self.runtime.remove_dir(path)
-    }
-
-    fn remove_dir_all<B: Allocator>(&self, alloc: B, path: &str) -> io::Result<()> {
-        self.runtime.remove_dir_all(alloc, path)
-    }
-
-    fn canonicalize<B: Allocator>(&self, alloc: B, path: &str) -> io::Result<PathBuf<B>> {
-        self.runtime.canonicalize(alloc, path)
-    }
-
-    fn read_link<B: Allocator>(&self, alloc: B, path: &str) -> io::Result<PathBuf<B>> {
-        self.runtime.read_link(alloc, path)
-    }
-
-    fn hard_link(&self, original: &str, link: &str) -> io::Result<()> {
-        self.runtime.hard_link(original, link)
-    }
-
-    fn set_permissions(&self, path: &str, permissions: Permissions) -> io::Result<()> {
-        self.runtime.set_permissions(path, permissions)
-    }
-
-    fn symlink(&self, original: &str, link: &str) -> io::Result<()> {
-        self.runtime.symlink(original, link)
     }
 }

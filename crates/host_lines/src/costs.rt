@@ -1,10 +1,9 @@
-//! What is said of a child that a reading of the inittab costs.
+//! What a reading of the inittab costs a child.
 
 ghost use Rattle.std.specs.Prelude.{◌≡◌, option_copied};
-ghost use Rattle.host_messages.specs.Costs.{stops_child, line_of};
+ghost use Rattle.host_lines.specs.Costs.{stops_child, line_of};
 
 use init_words::{Act, Entry, Stage, lives};
-use std::fmt;
 
 /// What an inittab that was read again has for a child, at the stage of its reading.
 #[derive(Clone, Copy, PartialEq)]
@@ -37,16 +36,5 @@ impl ChildLine {
         ensures { result ≡ stops_child self is_same_stage }
     {
         is_same_stage || matches!(self, ChildLine::Gone | ChildLine::Off)
-    }
-}
-
-impl fmt::Display for ChildLine {
-    fn fmt<W: fmt::Write>(&self, f: &mut fmt::Formatter<W>) -> fmt::Result {
-        f.write_str(match self {
-            ChildLine::Gone => "no line any more",
-            ChildLine::Off => "its line is off",
-            ChildLine::StopsChild => "its line has another action",
-            ChildLine::OtherAction => "its line does not run in this level",
-        })
     }
 }
