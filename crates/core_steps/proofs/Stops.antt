@@ -5,7 +5,6 @@ use Rattle.core_steps.proofs.Words.{list_any, has_id, Entry, Start, Look, Term, 
 use Rattle.core_steps.proofs.Words.{after_hold, after_answer, is_record_of, are_distinct, changed, with_changed}
 use Rattle.core_steps.proofs.Words.{after_told}
 use Rattle.core_steps.proofs.Words.{called_if, with_called, stop_step, stop_among, is_unsignalled_at, AreUnsignalled}
-use Rattle.trace_events.specs.declared.steps.Step.{Step}
 use Rattle.init_words.specs.declared.orders.OrderKind.{OrderKind}
 use Rattle.core_records.specs.Lists.{is_over_in, without}
 use Rattle.core_records.proofs.Found.{others, rest_distinct, unchanged, without_none}
