@@ -49,20 +49,22 @@ any_insert p [] (suc i) c none h = or_from (p c) false h refl
 any_insert p (e ∷ cs) zero c none h = or_from (p c) (list_any p (e ∷ cs)) h none
 any_insert p (e ∷ cs) (suc i) c none h = grind (arith, any_insert p cs i c)
 
--- an item that is put in where those of smaller keys end
-pub sorted_insert : (cs : List Keyed) (i : ℕ) (c : Keyed) → i ≤ length cs → are_sorted cs ≡ true
-    → IsPartitionPoint (λ (d : Keyed). is_below c.key d ≡ true) (λ (d : Keyed). is_below c.key d ≡ false) cs i
+-- an item that is put in where those of smaller keys end, or behind those of its own
+pub sorted_insert : (n : ℕ) (cs : List Keyed) (i : ℕ) (c : Keyed) → c.key ≤ n → n ≤ c.key + 1 → i ≤ length cs
+    → are_sorted cs ≡ true
+    → IsPartitionPoint (λ (d : Keyed). is_below n d ≡ true) (λ (d : Keyed). is_below n d ≡ false) cs i
     → are_sorted (insert cs i c) ≡ true
-sorted_insert [] zero c within sorted parted = refl
-sorted_insert [] (suc i) c within sorted parted = absurd (omega arith)
-sorted_insert (e ∷ cs) zero c within sorted parted =
+sorted_insert n [] zero c least most within sorted parted = refl
+sorted_insert n [] (suc i) c least most within sorted parted = absurd (omega arith)
+sorted_insert n (e ∷ cs) zero c least most within sorted parted =
     and_from (not (list_any (is_below c.key) (e ∷ cs))) (are_sorted (e ∷ cs))
-    (not_from_false (list_any (is_below c.key) (e ∷ cs))
-    (none_from (is_below c.key) (e ∷ cs) (λ j d h. parted.1 j d (omega arith) h))) sorted
-sorted_insert (e ∷ cs) (suc i) c within sorted parted =
+    (not_from_false (list_any (is_below c.key) (e ∷ cs)) (none_from (is_below c.key) (e ∷ cs) (λ j d h.
+    let high = ltb-false (slice_index_or (e ∷ cs) j d).key n (parted.1 j d (omega arith) h) in
+    le-ltb (slice_index_or (e ∷ cs) j d).key c.key (omega arith)))) sorted
+sorted_insert n (e ∷ cs) (suc i) c least most within sorted parted =
     let parts = and_parts (not (list_any (is_below e.key) cs)) (are_sorted cs) sorted in
-    let less = ltb-true e.key c.key (parted.0 0 e (omega arith) (omega arith)) in
-    let later = sorted_insert cs i c (omega arith) parts.1 (
+    let less = ltb-true e.key n (parted.0 0 e (omega arith) (omega arith)) in
+    let later = sorted_insert n cs i c least most (omega arith) parts.1 (
       λ j d low high. parted.0 (suc j) d (omega arith) (omega arith),
       λ j d low high. parted.1 (suc j) d (omega arith) (omega arith),
     ) in

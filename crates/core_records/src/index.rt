@@ -160,7 +160,8 @@ pub(crate) fn put<A: Allocator>(items: &mut Vec<Keyed, A>, item: Option<Keyed>)
     ensures room { vec_capacity items.old ≤ vec_capacity items.new }
 {
     if let Some(item) = item {
-        let position = first_from(items.as_slice(), item.key);
+        // Those of one key leave in the order in which they came, as a rule: `forget` looks at the first.
+        let position = first_from(items.as_slice(), item.key.saturating_add(1));
         if items.insert(position, item).is_err() {
             unreachable!()
         }
