@@ -15,3 +15,15 @@ pub use Rattle.initview_timeline.specs.Rows.{Scene, due_bars, due_from, is_waite
 pub use Rattle.initview_timeline.specs.Rows.{scene_of, is_held, row_of, rows_of, state_from}
 pub use Rattle.trace_events.specs.Past.{time_of}
 pub use Rattle.initview_timeline.specs.Marks.{SeenMarks, mark_at, shown_of, start_after, sent_for}
+pub use Rattle.initview_timeline.specs.declared.marks.Shown.TheVariants.{Read, Entered, Settled, Born, NotBorn, Ended}
+pub use Rattle.initview_timeline.specs.declared.marks.Shown.TheVariants.{Sent, Held}
+pub use Rattle.initview_timeline.specs.Lives.{id_of}
+pub use Rattle.initview_timeline.specs.Pieces.{begins, is_start}
+pub use Rattle.initview_timeline.specs.Rows.{AreShown, IsCommon, among, had_marks, is_begun, is_hold, is_near, shown_to}
+pub use Rattle.initview_timeline.specs.Rows.{starts_there, waits}
+pub use Rattle.std.proofs.Common.{◌||◌, ◌&&◌, cond, min, nat_lt, rules}
+pub use Rattle.std.proofs.lemmas.Bool.{false≢true, or_left, or_right}
+pub use Rattle.std.proofs.lemmas.List.Folds.{list_any-append}
+pub use Rattle.std.specs.List.{list_any}
+pub use Rattle.init_words.specs.Ids.{same_id}
+pub use Rattle.init_words.proofs.Same.{same_id-is, same_id-self}

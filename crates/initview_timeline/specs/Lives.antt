@@ -4,7 +4,6 @@ use Rattle.std.specs.List.{list_any}
 use Rattle.std.specs.Option.{option_or}
 use Rattle.init_words.specs.Ids.{same_id}
 use Rattle.init_words.specs.declared.orders.SignalKind.TheVariants as sig
-use Rattle.trace_view.specs.declared.rows.Ending.{Ending}
 use Rattle.initview_timeline.specs.declared.marks.Shown.{Shown}
 use Rattle.initview_timeline.specs.declared.marks.Shown.TheVariants.{Read, Entered, Settled, Born, NotBorn, Ended, Sent}
 use Rattle.initview_timeline.specs.declared.marks.Shown.TheVariants.{Held}

@@ -1,7 +1,8 @@
 -- The rows of a timeline: which ids have one, how each is at the end, and what is drawn in it.
 use Rattle.std.specs.Prelude.{ℕ, ◌-◌, ◌^◌, Bool, true, false, ◌&&◌, ◌||◌, nat_lt, min, not, if◌then◌else◌, unwrap_or}
-use Rattle.std.specs.Prelude.{List, [], ◌∷◌, ◌++◌, map, length, Option, Some, None}
+use Rattle.std.specs.Prelude.{◌≡◌, List, [], ◌∷◌, ◌++◌, filter, map, length, Option, Some, None}
 use Rattle.std.specs.List.{fold, list_any}
+use Rattle.std.specs.Option.{option_map_or}
 use Rattle.init_words.specs.Actions.{wanted_by}
 use Rattle.init_words.specs.Entries.{starts_of, waited_of}
 use Rattle.init_words.specs.Ids.{same_id}
@@ -16,18 +17,21 @@ use Rattle.trace_events.specs.Due.{is_announced}
 use Rattle.trace_view.specs.Rows.{is_complete_now}
 use Rattle.initview_timeline.specs.declared.lives.Life.{Life}
 use Rattle.initview_timeline.specs.declared.marks.Shown.{Shown}
-use Rattle.initview_timeline.specs.declared.marks.Shown.TheVariants.{Entered, Born, NotBorn, Ended, Sent, Held}
+use Rattle.initview_timeline.specs.declared.marks.Shown.TheVariants.{Read, Entered, Born, NotBorn, Ended, Sent}
+use Rattle.initview_timeline.specs.declared.marks.Shown.TheVariants.{Held}
 use Rattle.initview_timeline.specs.declared.marks.TimelineMark.{TimelineMark}
 use Rattle.initview_timeline.specs.declared.pieces.Drawn.TheVariants as drawn
 use Rattle.initview_timeline.specs.declared.pieces.Piece.{Piece}
+use Rattle.initview_timeline.specs.declared.rows.Common.{Common}
 use Rattle.initview_timeline.specs.declared.rows.Row.{Row}
 use Rattle.initview_timeline.specs.declared.rows.Seen.{Seen}
 use Rattle.initview_timeline.specs.declared.rows.State.{State}
 use Rattle.initview_timeline.specs.declared.rows.State.TheVariants as state
 use Rattle.initview_timeline.specs.Frames.{plus}
-use Rattle.initview_timeline.specs.Lives.{ids_from, is_for, lives_of, marks_for, with_id}
+use Rattle.initview_timeline.specs.Lives.{id_of, ids_from, is_for, lives_of, marks_for, with_id}
 use Rattle.initview_timeline.specs.Marks.{marks_of, start_of}
-use Rattle.initview_timeline.specs.Pieces.{Drawing, bars_of, is_done, is_start, marks_bars, marks_signs, next_begin}
+use Rattle.initview_timeline.specs.Pieces.{Drawing, bars_of, begins, is_done, is_start, marks_bars, marks_signs}
+use Rattle.initview_timeline.specs.Pieces.{next_begin}
 use Rattle.initview_timeline.specs.Pieces.{piece, signs_of}
 
 -- what a timeline is drawn of, as lists, and by a past
@@ -171,6 +175,33 @@ row_by s id end lives = record {
 
 abbrev pub row_of : Scene → List ℕ → Row
 row_of s id = row_by s id (state_of s id (marks_for (Some id) s.marks)) (lives_of (marks_for (Some id) s.marks))
+
+-- the marks that are shown to an id: its own, and what else ends a hold of it
+abbrev pub shown_to : List ℕ → List TimelineMark → List TimelineMark
+shown_to id marks =
+    filter (λ (mark : TimelineMark). is_for (Some id) mark.what || begins (Some id) mark.what) marks
+
+abbrev pub among : List ℕ → List (List ℕ) → Bool
+among id ids = list_any (same_id id) ids
+
+abbrev pub is_near : List (List ℕ) → Shown → Bool
+is_near ids (Entered stage) = true
+is_near ids Read = true
+is_near ids what = option_map_or (λ id. among id ids) (id_of what) false
+
+abbrev pub near_marks : List (List ℕ) → List TimelineMark → List TimelineMark
+near_marks ids marks = filter (λ (mark : TimelineMark). is_near ids mark.what) marks
+
+-- of each of these ids all marks are there that are shown to it
+abbrev pub AreShown : List (List ℕ) → List TimelineMark → Scene → Type 0
+AreShown ids marks s = (id : List ℕ) → among id ids ≡ true → shown_to id marks ≡ shown_to id s.marks
+
+-- what the rows have in common
+pub record IsCommon (common : Common) (s : Scene) : Type 0 where
+  pub waited : (id : List ℕ) → among id common.waited.keys ≡ is_waited id s.entries
+  pub starting : (id : List ℕ) → among id common.starting.keys ≡ starts_there id s.stage s.entries
+  pub begun : (id : List ℕ) → among id common.begun.keys ≡ is_begun id (of_stage s.marks s.marks)
+  pub stage_marks : common.stage_marks.now ≡ of_stage s.marks s.marks
 
 abbrev pub rows_of : Scene → List Row
 rows_of s = map (row_of s) (ids_of s)

@@ -8,6 +8,7 @@ mod lives;
 mod marks;
 mod pieces;
 mod rows;
+mod sets;
 
 pub use frames::{BAR_LEAST, Frame};
 pub use laws::law_of_rows;

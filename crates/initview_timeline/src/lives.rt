@@ -1,11 +1,10 @@
 //! What a timeline knows of an id: the lives of its children, and what happened to it besides.
 
 ghost use Rattle.std.specs.Prelude.{◌≡◌, Some, IfOk, OnOk};
-ghost use Rattle.std.specs.List.{list_any};
-ghost use Rattle.init_words.specs.Ids.{same_id};
 ghost use Rattle.initview_timeline.specs.Lives.{id_of, ids_from, is_for, last_after, life_after, lives_after, lives_of, marks_for, with_id};
 
 use crate::marks::{Shown, TimelineMark};
+use crate::sets::Ids;
 use init_words::{ChildNumber, Id, SignalKind};
 use std::alloc::{AllocError, Global};
 use trace_view::Ending;
@@ -21,7 +20,7 @@ pub struct Life {
 }
 
 /// The id that it happened to.
-fn id_of(what: Shown) -> Option<Id>
+pub(crate) fn id_of(what: Shown) -> Option<Id>
     ensures { result ≡ id_of what }
 {
     match what {
@@ -32,26 +31,17 @@ fn id_of(what: Shown) -> Option<Id>
     }
 }
 
-fn is_found(ids: &[Id], id: Id) -> bool
-    ensures { result ≡ list_any (same_id id) ids.now }
-{
-    ids.iter().any(|found| id == *found)
-}
-
 /// Adds an id where it isn't there yet.
-pub(crate) fn add_new(ids: &mut Vec<Id>, id: Id) -> Result<(), AllocError>
-    ensures { OnOk result (ids.new.items ≡ with_id ids.old.items (Some id)) }
+pub(crate) fn add_new(ids: &mut Ids, id: Id) -> Result<(), AllocError>
+    ensures { OnOk result (ids.new.keys ≡ with_id ids.old.keys (Some id)) }
 {
-    if is_found(ids.as_slice(), id) {
-        return Ok(());
-    }
-    ids.push(id)?;
+    ids.insert(id)?;
     Ok(())
 }
 
 /// Adds each id to which something happened, where it isn't there yet.
-pub(crate) fn add_ids(ids: &mut Vec<Id>, marks: &[TimelineMark]) -> Result<(), AllocError>
-    ensures { OnOk result (ids.new.items ≡ ids_from ids.old.items marks.now) }
+pub(crate) fn add_ids(ids: &mut Ids, marks: &[TimelineMark]) -> Result<(), AllocError>
+    ensures { OnOk result (ids.new.keys ≡ ids_from ids.old.keys marks.now) }
 {
     let mut rest = marks;
     while let Some((mark, others)) = rest.split_first() {

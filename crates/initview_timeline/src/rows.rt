@@ -1,16 +1,20 @@
 //! The rows of a timeline.
 
-ghost use Rattle.std.specs.Prelude.{◌≡◌, ◌++◌, IfOk, OnOk};
-ghost use Rattle.initview_timeline.specs.Rows.{due_bars, had_marks, ids_of, is_begun, is_held, is_ill, is_loud, is_up, is_waited, of_stage, row_of, rows_of, scene_of, stage_pieces, starts_now, starts_there, state_after, state_from, state_of, table_ids, timeline_of, waits};
+ghost use Rattle.std.specs.Prelude.{◌≡◌, ◌++◌, map, true, List, ℕ, IfOk, OnOk};
+ghost use Rattle.initview_timeline.specs.Rows.{AreShown, IsCommon, among, due_bars, had_marks, ids_of, is_held, is_ill, is_loud, is_near, is_up, near_marks, of_stage, row_of, rows_of, scene_of, shown_to, stage_pieces, starts_now, state_after, state_from, state_of, table_ids, timeline_of, waits};
 
 use crate::frames::Frame;
 use crate::lives::{add_ids, add_new, is_for, lives_of, marks_for};
 use crate::marks::{Shown, TimelineMark};
-use crate::pieces::{Drawn, Pieces, is_start, next_begin};
-use init_words::{Entry, Id, SignalKind, Stage, Status, starts, waited};
+use crate::pieces::{Drawn, Pieces, next_begin};
+use crate::sets::{Ids, begun_ids, marked_ids, no_ids, set_of, starting_ids, waited_ids};
+use init_words::{Entry, Id, SignalKind, Stage, Status, starts};
 use respawn_limit::HOLD;
 use std::alloc::{AllocError, Global};
 use std::marker::Model;
+
+/// So few rows walk the marks of each other.
+const FEW: usize = 8;
 
 /// What a timeline is drawn of: the table in force, the marks, the oldest first, the stage in force, whether that is
 /// settled, and whether nothing is owed in it, the first reading of the clock and the last one, in seconds.
@@ -83,7 +87,7 @@ impl Timeline {
 }
 
 /// What an entry starts of itself in a stage.
-fn starts_now(entry: &Entry, stage: Option<Stage>) -> bool
+pub(crate) fn starts_now(entry: &Entry, stage: Option<Stage>) -> bool
     ensures { result ≡ starts_now entry.now stage }
 {
     match stage {
@@ -92,19 +96,20 @@ fn starts_now(entry: &Entry, stage: Option<Stage>) -> bool
     }
 }
 
-fn has_marks(id: Id, marks: &[TimelineMark]) -> bool
-    ensures { result ≡ had_marks id marks.now }
-{
-    marks.iter().any(|mark| is_for(&Some(id), mark.what))
-}
-
-fn add_table_ids(ids: &mut Vec<Id>, seen: &Seen, entries: &[Entry]) -> Result<(), AllocError>
-    ensures { OnOk result (ids.new.items
-        ≡ table_ids ids.old.items (scene_of seen.now) entries.now) }
+fn add_table_ids(
+    ids: &mut Ids,
+    marked: &Ids,
+    seen: &Seen,
+    entries: &[Entry],
+) -> Result<(), AllocError>
+    requires { (id : List ℕ)
+        → among id marked.now.keys ≡ had_marks id (scene_of seen.now).marks }
+    ensures { OnOk result (ids.new.keys
+        ≡ table_ids ids.old.keys (scene_of seen.now) entries.now) }
 {
     let mut rest = entries;
     while let Some((entry, others)) = rest.split_first() {
-        if starts_now(entry, seen.stage) || has_marks(entry.id, seen.marks) {
+        if starts_now(entry, seen.stage) || marked.contains(&entry.id) {
             add_new(ids, entry.id)?;
         }
         rest = others;
@@ -114,20 +119,14 @@ fn add_table_ids(ids: &mut Vec<Id>, seen: &Seen, entries: &[Entry]) -> Result<()
 
 /// The ids: those of the table that start in the stage in force, or to which something happened, in its order, and then
 /// the others to which something happened.
-fn ids_of(alloc: Global, seen: &Seen) -> Result<Vec<Id>, AllocError>
-    ensures { IfOk result (λ ids. ids.items ≡ ids_of (scene_of seen.now)) }
+fn ids_of(alloc: Global, seen: &Seen) -> Result<Ids, AllocError>
+    ensures { IfOk result (λ ids. ids.keys ≡ ids_of (scene_of seen.now)) }
 {
-    let mut ids = Vec::new(alloc);
-    add_table_ids(&mut ids, seen, seen.entries)?;
+    let marked = marked_ids(alloc, seen.marks)?;
+    let mut ids = no_ids(alloc);
+    add_table_ids(&mut ids, &marked, seen, seen.entries)?;
     add_ids(&mut ids, seen.marks)?;
     Ok(ids)
-}
-
-/// Init waits for the end of the id's children.
-fn is_waited(id: Id, entries: &[Entry]) -> bool
-    ensures { result ≡ is_waited id entries.now }
-{
-    entries.iter().any(|entry| id == entry.id && waited(entry))
 }
 
 /// How an id is after a mark of its own.
@@ -191,39 +190,53 @@ fn of_stage(marks: &[TimelineMark]) -> &[TimelineMark]
     found
 }
 
-/// It starts in the stage.
-fn starts_there(id: Id, stage: Option<Stage>, entries: &[Entry]) -> bool
-    ensures { result ≡ starts_there id stage entries.now }
-{
-    entries
-        .iter()
-        .any(|entry| id == entry.id && starts_now(entry, stage))
+/// What the rows have in common: the ids for the end of whose children init waits, those that start in the stage in
+/// force, those that were started in it, and the marks from it on.
+#[derive(Drop)]
+struct Common<'a> {
+    waited: Ids,
+    starting: Ids,
+    begun: Ids,
+    stage_marks: &'a [TimelineMark],
 }
 
-/// It was started, by these marks, or a start failed.
-fn is_begun(id: Id, marks: &[TimelineMark]) -> bool
-    ensures { result ≡ is_begun id marks.now }
+fn common_of<'a>(alloc: Global, seen: &Seen<'a>) -> Result<Common<'a>, AllocError>
+    ensures { IfOk result (λ common. IsCommon common (scene_of seen.now)) }
 {
-    marks.iter().any(|mark| is_start(&Some(id), mark.what))
+    let stage_marks = of_stage(seen.marks);
+    Ok(Common {
+        waited: waited_ids(alloc, seen.entries)?,
+        starting: starting_ids(alloc, seen.stage, seen.entries)?,
+        begun: begun_ids(alloc, stage_marks)?,
+        stage_marks,
+    })
 }
 
 /// It starts in the stage in force, in which something is owed, and was not started in it.
-fn waits(seen: &Seen, id: Id) -> bool
+fn waits(seen: &Seen, common: &Common, id: Id) -> bool
+    requires { IsCommon common.now (scene_of seen.now) }
     ensures { result ≡ waits (scene_of seen.now) id }
 {
-    !seen.complete
-        && starts_there(id, seen.stage, seen.entries)
-        && !is_begun(id, of_stage(seen.marks))
+    !seen.complete && common.starting.contains(&id) && !common.begun.contains(&id)
 }
 
-/// How an id is at the end, by its own marks.
-fn state_of(seen: &Seen, id: Id, own: &[TimelineMark]) -> State
+/// How an id is at the end, by the marks that are shown to it, and its own.
+#[tactic(auto, using(crate::proofs::Parted::held_same))]
+fn state_of(
+    seen: &Seen,
+    common: &Common,
+    id: Id,
+    marks: &[TimelineMark],
+    own: &[TimelineMark],
+) -> State
+    requires common { IsCommon common.now (scene_of seen.now) }
+    requires shown { shown_to id marks.now ≡ shown_to id (scene_of seen.now).marks }
     ensures { result ≡ state_of (scene_of seen.now) id own.now }
 {
     let state = state_from(own);
-    if is_held(seen.end, &Some(id), seen.marks) {
+    if is_held(seen.end, &Some(id), marks) {
         State::Held
-    } else if waits(seen, id) && !is_up(state) {
+    } else if waits(seen, common, id) && !is_up(state) {
         State::Due
     } else {
         state
@@ -231,42 +244,140 @@ fn state_of(seen: &Seen, id: Id, own: &[TimelineMark]) -> State
 }
 
 /// Adds that an id is due, since the stage in force was entered.
-fn add_due(pieces: &mut Pieces, seen: &Seen, state: State) -> Result<(), AllocError>
+fn add_due(
+    pieces: &mut Pieces,
+    seen: &Seen,
+    common: &Common,
+    state: State,
+) -> Result<(), AllocError>
+    requires { IsCommon common.now (scene_of seen.now) }
     ensures bars { OnOk result (pieces.new.bars
         ≡ pieces.old.bars ++ due_bars state (scene_of seen.now)) }
     ensures signs { OnOk result (pieces.new.signs ≡ pieces.old.signs) }
 {
     if let State::Due = state {
-        if let [mark, ..] = of_stage(seen.marks) {
+        if let [mark, ..] = common.stage_marks {
             return pieces.bar(Drawn::Due, mark.time, seen.end);
         }
     }
     Ok(())
 }
 
-fn row_of(alloc: Global, seen: &Seen, id: Id) -> Result<Row, AllocError>
+/// The row of an id, by the marks that are shown to it.
+fn row_of(
+    alloc: Global,
+    seen: &Seen,
+    common: &Common,
+    id: Id,
+    marks: &[TimelineMark],
+) -> Result<Row, AllocError>
+    requires common { IsCommon common.now (scene_of seen.now) }
+    requires shown { shown_to id marks.now ≡ shown_to id (scene_of seen.now).marks }
     ensures { IfOk result (λ row. row ≡ row_of (scene_of seen.now) id) }
 {
-    let own = marks_for(alloc, &Some(id), seen.marks)?;
+    let own = marks_for(alloc, &Some(id), marks)?;
     let lives = lives_of(alloc, own.as_slice())?;
-    let state = state_of(seen, id, own.as_slice());
+    let state = state_of(seen, common, id, marks, own.as_slice());
     let mut pieces = Pieces::new(alloc);
-    add_due(&mut pieces, seen, state)?;
-    pieces.add_lives(seen.end, is_waited(id, seen.entries), lives.as_slice())?;
-    pieces.add_marks(seen.end, &Some(id), seen.marks)?;
+    add_due(&mut pieces, seen, common, state)?;
+    pieces.add_lives(seen.end, common.waited.contains(&id), lives.as_slice())?;
+    pieces.add_marks(seen.end, &Some(id), marks)?;
     Ok(Row { id, state, pieces })
+}
+
+/// It is shown to one of these ids, or to each.
+fn is_near(ids: &Ids, what: Shown) -> bool
+    ensures { result ≡ is_near ids.now.keys what }
+{
+    match what {
+        Shown::Entered(_) | Shown::Read => true,
+        Shown::Settled(_) => false,
+        Shown::NotBorn(id) | Shown::Held(id) => ids.contains(&id),
+        Shown::Born(id, _) | Shown::Sent(id, _) => ids.contains(&id),
+        Shown::Ended(id, _, _) => ids.contains(&id),
+    }
+}
+
+fn near_marks(
+    alloc: Global,
+    ids: &Ids,
+    marks: &[TimelineMark],
+) -> Result<Vec<TimelineMark>, AllocError>
+    ensures { IfOk result (λ near. near.items ≡ near_marks ids.now.keys marks.now) }
+{
+    marks
+        .iter()
+        .copied()
+        .filter(|mark| is_near(ids, mark.what))
+        .collect(alloc)
+}
+
+/// The marks that are shown to one of these ids.
+fn marks_near(
+    alloc: Global,
+    ids: &[Id],
+    marks: &[TimelineMark],
+) -> Result<Vec<TimelineMark>, AllocError>
+    ensures { IfOk result (λ near. (id : List ℕ) → among id ids.now ≡ true
+        → shown_to id near.items ≡ shown_to id marks.now) }
+{
+    let set = set_of(alloc, ids)?;
+    let near = near_marks(alloc, &set, marks)?;
+    Ok(near)
+}
+
+/// Adds the rows of ids, by the marks that are shown to them.
+fn add_each(
+    rows: &mut Vec<Row>,
+    alloc: Global,
+    seen: &Seen,
+    common: &Common,
+    ids: &[Id],
+    marks: &[TimelineMark],
+) -> Result<(), AllocError>
+    requires common { IsCommon common.now (scene_of seen.now) }
+    requires shown { AreShown ids.now marks.now (scene_of seen.now) }
+    ensures { OnOk result (rows.new.items
+        ≡ rows.old.items ++ map (row_of (scene_of seen.now)) ids.now) }
+{
+    let mut rest = ids;
+    while let Some((id, others)) = rest.split_first() {
+        rows.push(row_of(alloc, seen, common, *id, marks)?)?;
+        rest = others;
+    }
+    Ok(())
+}
+
+/// The same. The marks are parted by halves of the ids, so that no row walks those of all others.
+fn add_rows(
+    rows: &mut Vec<Row>,
+    alloc: Global,
+    seen: &Seen,
+    common: &Common,
+    ids: &[Id],
+    marks: &[TimelineMark],
+) -> Result<(), AllocError>
+    requires common { IsCommon common.now (scene_of seen.now) }
+    requires shown { AreShown ids.now marks.now (scene_of seen.now) }
+    ensures { OnOk result (rows.new.items
+        ≡ rows.old.items ++ map (row_of (scene_of seen.now)) ids.now) }
+{
+    let near = marks_near(alloc, ids, marks)?;
+    if ids.len() < FEW {
+        return add_each(rows, alloc, seen, common, ids, near.as_slice());
+    }
+    let (front, back) = ids.split_at(ids.len() / 2);
+    add_rows(rows, alloc, seen, common, front, near.as_slice())?;
+    add_rows(rows, alloc, seen, common, back, near.as_slice())
 }
 
 fn rows_of(alloc: Global, seen: &Seen) -> Result<Vec<Row>, AllocError>
     ensures { IfOk result (λ rows. rows.items ≡ rows_of (scene_of seen.now)) }
 {
+    let common = common_of(alloc, seen)?;
     let ids = ids_of(alloc, seen)?;
     let mut rows = Vec::new(alloc);
-    let mut rest = ids.as_slice();
-    while let Some((id, others)) = rest.split_first() {
-        rows.push(row_of(alloc, seen, *id)?)?;
-        rest = others;
-    }
+    add_rows(&mut rows, alloc, seen, &common, ids.as_slice(), seen.marks)?;
     Ok(rows)
 }
 

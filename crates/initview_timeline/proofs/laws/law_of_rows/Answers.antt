@@ -2,8 +2,8 @@ use Rattle.initview_timeline.proofs.Words.{◌≡◌, ◌∙◌, refl, sym, ap, 
 use Rattle.initview_timeline.proofs.Words.{◌∷◌, ◌++◌, Option, Some, None, append_assoc, arith, filter, length, map}
 use Rattle.initview_timeline.proofs.Words.{length-append, Life, Shown, TimelineMark, Piece, State, is_for, last_after}
 use Rattle.initview_timeline.proofs.Words.{life_after, lives_after, lives_from, lives_of, marks_for, bars_of}
-use Rattle.initview_timeline.proofs.Words.{has_failed, life_bars, life_signs, mark_bars, mark_signs, marks_bars}
-use Rattle.initview_timeline.proofs.Words.{marks_signs, next_begin, or_last, signs_of, stop_bar, Scene, due_bars}
+use Rattle.initview_timeline.proofs.Words.{has_failed, life_bars, mark_bars, mark_signs, marks_bars}
+use Rattle.initview_timeline.proofs.Words.{marks_signs, next_begin, signs_of, stop_bar, Scene, due_bars}
 use Rattle.initview_timeline.proofs.Words.{due_from, is_waited, of_stage, state_of}
 use Rattle.std.proofs.lemmas.List.{append-nil, map-append}
 use Rattle.init_words.specs.declared.orders.SignalKind.TheVariants as sig

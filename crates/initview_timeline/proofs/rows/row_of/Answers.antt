@@ -1,7 +1,8 @@
-use Rattle.initview_timeline.proofs.Words.{◌≡◌, ◌∙◌, ap, ℕ, Bool, List, [], ◌∷◌, ◌++◌, Some, append_assoc, Life}
+use Rattle.initview_timeline.proofs.Words.{◌≡◌, ◌∙◌, ap, ℕ, Bool, List, [], ◌++◌, Some, append_assoc, Life}
 use Rattle.initview_timeline.proofs.Words.{TimelineMark, Piece, State, lives_of, marks_for, Drawing, bars_of}
 use Rattle.initview_timeline.proofs.Words.{marks_bars, marks_signs, signs_of, Scene, due_bars, is_waited, row_of}
-use Rattle.initview_timeline.proofs.Words.{scene_of, state_of}
+use Rattle.initview_timeline.proofs.Words.{scene_of, shown_to, state_of}
+use Rattle.initview_timeline.proofs.Parted.{own_same, bars_same, signs_same}
 use Rattle.initview_timeline.specs.declared.rows.Row.{Row}
 use Rattle.initview_timeline.proofs.rows.row_of.Goals as goal
 
@@ -11,13 +12,13 @@ behind xs ys zs one two three is so then =
     then ∙ ap (λ t. t ++ zs) (so ∙ ap (λ t. t ++ ys) is) ∙ append_assoc xs ys zs
 
 -- the row by its parts
-abbrev row_with : Scene → List ℕ → State → Bool → List Life → Row
-row_with s id end waited lives = record {
+abbrev row_with : Scene → List ℕ → State → Bool → List Life → List Piece → List Piece → Row
+row_with s id end waited lives bars signs = record {
   id = id;
   state = end;
   pieces = record {
-    bars = due_bars end s ++ (bars_of s.end waited lives ++ marks_bars s.end (Some id) s.marks);
-    signs = signs_of s.end lives ++ marks_signs s.end (Some id) s.marks;
+    bars = due_bars end s ++ (bars_of s.end waited lives ++ bars);
+    signs = signs_of s.end lives ++ signs;
   };
 }
 
@@ -28,30 +29,45 @@ drawn id end pieces bars signs b s =
     ap (λ bs. record { id = id; state = end; pieces = record { bars = bs; signs = pieces.signs } }) b
     ∙ ap (λ ss. record { id = id; state = end; pieces = record { bars = bars; signs = ss } }) s
 
-parts : (s : Scene) (id : List ℕ) (own : List TimelineMark) (end : State) (waited : Bool) (lives : List Life)
-    → own ≡ marks_for (Some id) s.marks → end ≡ state_of s id own → waited ≡ is_waited id s.entries
-    → lives ≡ lives_of own → row_with s id end waited lives ≡ row_of s id
-parts s id own end waited lives marked ended waits lived =
-    ap (λ w. row_with s id end w lives) waits
-    ∙ ap (λ ls. row_with s id end (is_waited id s.entries) ls) (lived ∙ ap lives_of marked)
-    ∙ ap (λ e. row_with s id e (is_waited id s.entries) (lives_of (marks_for (Some id) s.marks)))
-    (ended ∙ ap (λ o. state_of s id o) marked)
+parts : (s : Scene) (id : List ℕ) (marks own : List TimelineMark) (end : State) (waited : Bool) (lives : List Life)
+    → shown_to id marks ≡ shown_to id s.marks → own ≡ marks_for (Some id) marks → end ≡ state_of s id own
+    → waited ≡ is_waited id s.entries → lives ≡ lives_of own → row_with s id end waited lives
+    (marks_bars s.end (Some id) marks) (marks_signs s.end (Some id) marks) ≡ row_of s id
+parts s id marks own end waited lives shown marked ended waits lived =
+    ap (λ bs. row_with s id end waited lives bs (marks_signs s.end (Some id) marks))
+    (bars_same id marks s.marks shown s.end)
+    ∙ ap (λ ss. row_with s id end waited lives bars ss) (signs_same id marks s.marks shown s.end)
+    ∙ ap (λ w. row_with s id end w lives bars signs) waits
+    ∙ ap (λ ls. row_with s id end (is_waited id s.entries) ls bars signs) (lived ∙ ap lives_of marks_are)
+    ∙ ap (λ e. row_with s id e (is_waited id s.entries) (lives_of (marks_for (Some id) s.marks)) bars signs)
+    (ended ∙ ap (λ o. state_of s id o) marks_are)
+  where
+    bars : List Piece
+    bars = marks_bars s.end (Some id) s.marks
+
+    signs : List Piece
+    signs = marks_signs s.end (Some id) s.marks
+
+    marks_are : own ≡ marks_for (Some id) s.marks
+    marks_are = marked ∙ own_same id marks s.marks shown
 
 pub returns : goal.returns
 returns c =
     let s = scene_of c.args.seen.now in
     let id = c.args.id in
+    let marks = c.args.marks.now in
     let end = c.state_of-state.result in
     let lives = c.as_slice-3.result.now in
     drawn id end c.add_marks.new.self
-    (due_bars end s ++ (bars_of s.end c.is_waited.result lives ++ marks_bars s.end (Some id) s.marks))
-    (signs_of s.end lives ++ marks_signs s.end (Some id) s.marks)
-    (behind (due_bars end s) (bars_of s.end c.is_waited.result lives) (marks_bars s.end (Some id) s.marks) _ _ _
+    (due_bars end s ++ (bars_of s.end c.contains.result lives ++ marks_bars s.end (Some id) marks))
+    (signs_of s.end lives ++ marks_signs s.end (Some id) marks)
+    (behind (due_bars end s) (bars_of s.end c.contains.result lives) (marks_bars s.end (Some id) marks) _ _ _
     (c.in_ok-add_due.ensures.bars ∙ ap (λ (p : Drawing). p.bars ++ due_bars end s) c.new-pieces.ensures)
     c.in_ok-add_lives.ensures.bars c.in_ok-add_marks.ensures.bars)
-    (behind [] (signs_of s.end lives) (marks_signs s.end (Some id) s.marks) _ _ _
+    (behind [] (signs_of s.end lives) (marks_signs s.end (Some id) marks) _ _ _
     (c.in_ok-add_due.ensures.signs ∙ ap (λ (p : Drawing). p.signs) c.new-pieces.ensures)
     c.in_ok-add_lives.ensures.signs c.in_ok-add_marks.ensures.signs)
-    ∙ parts s id c.in_ok-own.own.items end c.is_waited.result lives c.in_ok-own.ensures
-    (c.state_of-state.ensures ∙ ap (λ o. state_of s id o) c.as_slice-2.ensures.value) c.is_waited.ensures
+    ∙ parts s id marks c.in_ok-own.own.items end c.contains.result lives c.requires.shown c.in_ok-own.ensures
+    (c.state_of-state.ensures ∙ ap (λ o. state_of s id o) c.as_slice-2.ensures.value)
+    (c.contains.ensures ∙ c.requires.common.waited id)
     (c.as_slice-3.ensures.value ∙ c.in_ok-lives.ensures ∙ ap lives_of c.as_slice.ensures.value)

@@ -1,0 +1,9 @@
+use Rattle.initview_timeline.proofs.Words.{◌≡◌, ◌||◌, ℕ, List, length, among, is_begun}
+use Rattle.initview_timeline.proofs.sets.begun_ids.Given as goal
+
+-- the ids so far, with those of the marks that are left, are those of all
+abbrev pub invariant-loop-mark : goal.invariant-loop-mark
+invariant-loop-mark l = (id : List ℕ) → (among id l.ids.keys || is_begun id l.rest) ≡ is_begun id l.marks
+
+abbrev pub decreases-loop-mark : goal.decreases-loop-mark
+decreases-loop-mark l = length l.rest
