@@ -4,4 +4,5 @@ pub mod MendingRows
 pub mod NameLemmas
 pub mod NeedLemmas
 pub mod PlanLemmas
+pub mod SetLemmas
 pub mod Words

@@ -14,7 +14,7 @@ pub use Rattle.std.proofs.lemmas.List.{append-nil, drop_all, drop_more, take_all
 pub use Rattle.init_words.specs.declared.levels.Level.{Level}
 pub use Rattle.rc_links.specs.ChangeText.{ChangeText}
 pub use Rattle.rc_links.specs.Changes.{changes_of, is_in_way, is_left_over, is_missing, is_ours, is_stale, making}
-pub use Rattle.rc_links.specs.Changes.{removal, settled, is_removed, targets_of}
+pub use Rattle.rc_links.specs.Changes.{is_numbered, is_taken, removal, settled, targets_of}
 pub use Rattle.rc_links.specs.Entries.{same_entry, entry_of}
 pub use Rattle.rc_links.specs.EntryText.{EntryText}
 pub use Rattle.rc_links.specs.FolderText.{FolderText}
@@ -34,3 +34,5 @@ pub use Rattle.rc_links.specs.Plans.{AreLeast, IsCycleOf, IsPlan, IsProvided, Is
 pub use Rattle.rc_links.specs.Plans.{planned_all}
 pub use Rattle.rc_links.specs.AllLast.{other_names}
 pub use Rattle.rc_links.specs.Tables.{position_in, known_again, HasPlaces, is_known, is_unknown}
+pub use Rattle.rc_links.specs.Sets.{HasEntries, HasLinks, HasNames, HasNamesOf, has_link, is_among, is_entry_of}
+pub use Rattle.rc_links.specs.Sets.{is_gone_by, is_removed_by, is_taken_by, levels_by}

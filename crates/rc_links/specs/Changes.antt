@@ -1,5 +1,5 @@
 -- Which entries of a folder are taken away and made for it to hold just the links of the plan.
-use Rattle.std.specs.Prelude.{ℕ, Vec, Bool, true, false, not, ◌==◌, ◌&&◌, ◌||◌, List, ◌∷◌, ◌++◌, map}
+use Rattle.std.specs.Prelude.{ℕ, Vec, Bool, false, not, ◌==◌, ◌&&◌, ◌||◌, List, ◌∷◌, ◌++◌, map}
 use Rattle.std.specs.Char.{is_ascii_digit}
 use Rattle.std.specs.List.{filter, list_any}
 use Rattle.std.specs.Str.{byte, bytes_eq}
@@ -39,11 +39,6 @@ is_in_way targets planned e = is_stale targets planned e && has_name e.name plan
 -- such a link that can stay until the plan's are made
 abbrev pub is_left_over : List (List ℕ) → List EntryText → EntryText → Bool
 is_left_over targets planned e = is_stale targets planned e && not (has_name e.name planned)
-
--- those that have to go before, or those that can stay
-abbrev pub is_removed : Bool → List (List ℕ) → List EntryText → EntryText → Bool
-is_removed true targets planned e = is_in_way targets planned e
-is_removed false targets planned e = is_left_over targets planned e
 
 -- a link that the folder doesn't hold
 abbrev pub is_missing : List EntryText → EntryText → Bool

@@ -15,4 +15,5 @@ pub mod PlannedText
 pub mod Plans
 pub mod ScriptText
 pub mod Scripts
+pub mod Sets
 pub mod Tables

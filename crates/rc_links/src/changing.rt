@@ -1,15 +1,16 @@
 //! The changes that make the folders hold just the links of the plan, and the names that are taken.
 
-ghost use Rattle.std.specs.Prelude.{◌≡◌, ◌++◌, ℕ, map, flat_map, take, IfOk, OnOk};
-ghost use Rattle.std.specs.List.{AllByRecursion, filter, list_any};
-ghost use Rattle.std.specs.Str.{bytes_eq};
-ghost use Rattle.rc_links.specs.Changes.{changes_of, is_removed, is_missing, is_numbered, is_ours, is_taken, making, removal, targets_of};
+ghost use Rattle.std.specs.Prelude.{◌≡◌, ◌++◌, ℕ, List, not, map, flat_map, take, IfOk, OnOk};
+ghost use Rattle.std.specs.List.{AllByRecursion, filter};
+ghost use Rattle.rc_links.specs.Changes.{changes_of, is_numbered, is_taken, making, removal, targets_of};
 ghost use Rattle.rc_links.specs.Kept.{kept_script};
 ghost use Rattle.rc_links.specs.Mending.{AreApart, IsMended, Stays, behind};
 ghost use Rattle.rc_links.specs.PlannedText.{PlannedText};
+ghost use Rattle.rc_links.specs.Sets.{HasNames, is_entry_of, is_removed_by, is_taken_by, leads_among};
 
-use crate::folder_entries::{FolderEntry, has_entry, has_name};
+use crate::folder_entries::FolderEntry;
 use crate::folders::{Folder, LinkAction, LinkChange};
+use crate::sets::{Entries, Names, entries_in, is_among, is_entry_of, names_in, targets_in};
 use init_words::Memory;
 use std::alloc::Allocator;
 
@@ -25,63 +26,77 @@ pub(crate) fn is_numbered(name: &[u8]) -> bool
     }
 }
 
-/// The place is one of these.
-fn has_target<A: Allocator>(targets: &[Vec<u8, A>], leads: &[u8]) -> bool
-    ensures { result ≡ list_any (bytes_eq leads.now) (targets_of targets.now) }
+/// A numbered link that leads to one of the places of the scripts that are planned.
+fn is_ours<A: Allocator, B: Allocator>(targets: &Names<'_, A>, entry: &FolderEntry<B>) -> bool
+    ensures { result ≡ leads_among targets.now entry.now }
 {
-    for target in targets {
-        if leads == target.as_slice() {
-            return true;
+    is_numbered(entry.name()) && is_among(targets, entry.leads())
+}
+
+/// The entries that have one of the names and are no numbered links to a planned script.
+fn taken_among<'a, A: Allocator>(
+    alloc: A,
+    targets: &Names<'_, A>,
+    names: &Names<'_, A>,
+    entries: &'a [FolderEntry<A>],
+) -> Result<Vec<&'a FolderEntry<A>, A>, Memory>
+    ensures { IfOk result (λ found.
+        map (λ e. e.now) found.items ≡ filter (is_taken_by targets.now names.now) entries.now) }
+{
+    let mut found = Vec::new(alloc);
+    for entry in entries {
+        if is_among(names, entry.name()) && !is_ours(targets, entry) {
+            found.push(entry)?;
         }
     }
-    false
+    Ok(found)
 }
 
-/// A numbered link that leads to one of the places of the scripts that are planned.
-fn is_ours<A: Allocator>(targets: &[Vec<u8, A>], entry: &FolderEntry<A>) -> bool
-    ensures { result ≡ is_ours (targets_of targets.now) entry.now }
-{
-    is_numbered(entry.name()) && has_target(targets, entry.leads())
-}
-
-/// The name of a link of the plan is taken by an entry that is no numbered link to a planned script.
-pub fn is_taken<A: Allocator>(
+/// The entries of a folder by which a name of the plan is taken: they are no numbered links to a planned script.
+pub fn taken<'a, A: Allocator + Copy>(
+    alloc: A,
     targets: &[Vec<u8, A>],
-    planned: &[FolderEntry<A>],
-    entry: &FolderEntry<A>,
-) -> bool
-    ensures { result ≡ is_taken (targets_of targets.now) planned.now entry.now }
+    folder: &'a Folder<A>,
+) -> Result<Vec<&'a FolderEntry<A>, A>, Memory>
+    ensures { IfOk result (λ found. map (λ e. e.now) found.items
+        ≡ filter (is_taken (targets_of targets.now) folder.now.planned) folder.now.held) }
 {
-    has_name(planned, entry.name()) && !is_ours(targets, entry)
+    let targets = targets_in(alloc, targets)?;
+    let names = names_in(alloc, folder.planned())?;
+    let found = taken_among(alloc, &targets, &names, folder.held())?;
+    Ok(found)
 }
 
 /// A numbered link to a planned script, and none of the plan's, whose name one of the plan has, or none has.
-fn is_removed<A: Allocator>(
-    targets: &[Vec<u8, A>],
-    folder: &Folder<A>,
+fn is_removed<A: Allocator, B: Allocator>(
+    targets: &Names<'_, A>,
+    planned: &Entries<'_, A>,
+    names: &Names<'_, A>,
     named: bool,
-    entry: &FolderEntry<A>,
+    entry: &FolderEntry<B>,
 ) -> bool
-    ensures { result ≡ is_removed named (targets_of targets.now) folder.now.planned entry.now }
+    ensures { result ≡ is_removed_by named targets.now planned.now names.now entry.now }
 {
     is_ours(targets, entry)
-        && !has_entry(folder.planned(), entry)
-        && has_name(folder.planned(), entry.name()) == named
+        && !is_entry_of(planned, entry)
+        && is_among(names, entry.name()) == named
 }
 
 /// Adds the removals of such entries.
 fn add_removals<A: Allocator + Copy>(
     alloc: A,
-    targets: &[Vec<u8, A>],
-    folder: &Folder<A>,
+    targets: &Names<'_, A>,
+    planned: &Entries<'_, A>,
+    names: &Names<'_, A>,
     named: bool,
+    folder: &Folder<A>,
     changes: &mut Vec<LinkChange<A>, A>,
 ) -> Result<(), Memory>
     ensures { OnOk result (changes.new.items ≡ changes.old.items ++ map (removal folder.now.level)
-        (filter (is_removed named (targets_of targets.now) folder.now.planned) folder.now.held)) }
+        (filter (is_removed_by named targets.now planned.now names.now) folder.now.held)) }
 {
     for entry in folder.held() {
-        if is_removed(targets, folder, named, entry) {
+        if is_removed(targets, planned, names, named, entry) {
             changes.push(LinkChange::new(LinkAction::Remove, folder.level(), entry.copy(alloc)?))?;
         }
     }
@@ -91,14 +106,15 @@ fn add_removals<A: Allocator + Copy>(
 /// Adds the makings of the plan's links that the folder doesn't hold.
 fn add_makings<A: Allocator + Copy>(
     alloc: A,
+    held: &Entries<'_, A>,
     folder: &Folder<A>,
     changes: &mut Vec<LinkChange<A>, A>,
 ) -> Result<(), Memory>
     ensures { OnOk result (changes.new.items ≡ changes.old.items ++ map (making folder.now.level)
-        (filter (is_missing folder.now.held) folder.now.planned)) }
+        (filter (λ e. not (is_entry_of held.now e)) folder.now.planned)) }
 {
     for link in folder.planned() {
-        if !has_entry(folder.held(), link) {
+        if !is_entry_of(held, link) {
             changes.push(LinkChange::new(LinkAction::Make, folder.level(), link.copy(alloc)?))?;
         }
     }
@@ -108,16 +124,20 @@ fn add_makings<A: Allocator + Copy>(
 /// Adds the changes of a folder.
 fn add_folder<A: Allocator + Copy>(
     alloc: A,
-    targets: &[Vec<u8, A>],
+    targets: &Names<'_, A>,
     folder: &Folder<A>,
     changes: &mut Vec<LinkChange<A>, A>,
 ) -> Result<(), Memory>
-    ensures { OnOk result (changes.new.items
-        ≡ changes.old.items ++ changes_of (targets_of targets.now) folder.now) }
+    ensures { OnOk result ((places : List (List ℕ)) → HasNames targets.now places
+        → changes.new.items ≡ changes.old.items ++ changes_of places folder.now) }
 {
-    add_removals(alloc, targets, folder, true, changes)?;
-    add_makings(alloc, folder, changes)?;
-    add_removals(alloc, targets, folder, false, changes)
+    let planned = entries_in(alloc, folder.planned())?;
+    let names = names_in(alloc, folder.planned())?;
+    let held = entries_in(alloc, folder.held())?;
+    add_removals(alloc, targets, &planned, &names, true, folder, changes)?;
+    add_makings(alloc, &held, folder, changes)?;
+    add_removals(alloc, targets, &planned, &names, false, folder, changes)?;
+    Ok(())
 }
 
 /// The changes by which the folders hold just the links of the plan, of all numbered links that lead to a planned
@@ -140,9 +160,10 @@ pub fn changes<A: Allocator + Copy>(
         → kept_script (map (behind (take count found.items)) folders.now) s
         ≡ kept_script folders.now s) }
 {
+    let targets = targets_in(alloc, targets)?;
     let mut found = Vec::new(alloc);
     for folder in folders {
-        add_folder(alloc, targets, folder, &mut found)?;
+        add_folder(alloc, &targets, folder, &mut found)?;
     }
     Ok(found)
 }

@@ -1,8 +1,7 @@
 //! The entries of a folder, and where symbolic links lead.
 
 ghost use Rattle.std.specs.Prelude.{◌≡◌, IfOk};
-ghost use Rattle.std.specs.List.{list_any};
-ghost use Rattle.rc_links.specs.Entries.{same_entry, has_name, entry_of};
+ghost use Rattle.rc_links.specs.Entries.{same_entry, entry_of};
 
 use std::alloc::{AllocError, Allocator, Global};
 use std::marker::Model;
@@ -61,18 +60,4 @@ pub fn is_same<A: Allocator>(one: &FolderEntry<A>, other: &FolderEntry<A>) -> bo
     ensures { result ≡ same_entry one.now other.now }
 {
     one.name() == other.name() && one.leads() == other.leads()
-}
-
-/// The entry is one of these.
-pub(crate) fn has_entry<A: Allocator>(entries: &[FolderEntry<A>], entry: &FolderEntry<A>) -> bool
-    ensures { result ≡ list_any (same_entry entry.now) entries.now }
-{
-    entries.iter().any(|other| is_same(entry, other))
-}
-
-/// One of the entries has the name.
-pub(crate) fn has_name<A: Allocator>(entries: &[FolderEntry<A>], name: &[u8]) -> bool
-    ensures { result ≡ has_name name.now entries.now }
-{
-    entries.iter().any(|entry| name == entry.name())
 }

@@ -1,26 +1,27 @@
 //! The runlevels of the links that folders hold, in the place of those of the headers; and links whose script is gone.
 
-ghost use Rattle.std.specs.Prelude.{◌≡◌, IfOk};
-ghost use Rattle.std.specs.List.{list_any};
-ghost use Rattle.rc_links.specs.Kept.{begins_with, is_gone, is_link_of, is_nowhere, kept_plan, kept_script, levels_in, target_in};
+ghost use Rattle.std.specs.Prelude.{◌≡◌, List, map, IfOk, OnOk};
+ghost use Rattle.std.specs.List.{filter};
+ghost use Rattle.rc_links.specs.FolderText.{FolderText};
+ghost use Rattle.rc_links.specs.Kept.{is_gone, is_nowhere, kept_plan, kept_script, target_in};
+ghost use Rattle.rc_links.specs.Sets.{AreLinksOf, GainsLink, HasLinks, has_link, is_gone_by, levels_by};
 
 use crate::changing::is_numbered;
-use crate::folder_entries::{FolderEntry, has_name};
+use crate::folder_entries::FolderEntry;
 use crate::folders::Folder;
 use crate::names::is_name;
 use crate::plans::{Plan, Planned};
+use crate::sets::{Names, is_among, names_in};
+use indexmap::IndexSet;
 use init_words::{Level, Memory};
 use std::alloc::Allocator;
+use std::hash::{BuildHasherDefault, FoldHasher};
 
-/// The name begins with the letter.
-fn begins_with(letter: u8, name: &[u8]) -> bool
-    ensures { result ≡ begins_with letter name.now }
-{
-    match name {
-        [first, ..] => *first == letter,
-        [] => false,
-    }
-}
+/// Numbered links, each by its letter and the name of its script.
+type Links<'a, A> = IndexSet<(u8, &'a [u8]), BuildHasherDefault<FoldHasher>, A>;
+
+/// A runlevel, and the numbered links of its folder.
+type LevelLinks<'a, A> = (Level, Links<'a, A>);
 
 /// The name behind `../init.d/`; nothing where the place begins in another way.
 fn target_in(leads: &[u8]) -> &[u8]
@@ -29,36 +30,69 @@ fn target_in(leads: &[u8]) -> &[u8]
     leads.strip_prefix(b"../init.d/").unwrap_or(&[])
 }
 
-/// A link of the letter to the script of a name.
-fn is_link_of<A: Allocator>(letter: u8, name: &[u8], entry: &FolderEntry<A>) -> bool
-    ensures { result ≡ is_link_of letter name.now entry.now }
+/// Adds the letter and the script of an entry that is a numbered link.
+fn add_link<'a, A: Allocator + Copy>(
+    links: &mut Links<'a, A>,
+    entry: &'a FolderEntry<A>,
+) -> Result<(), Memory>
+    ensures { OnOk result (GainsLink links.old links.new entry.now) }
 {
-    begins_with(letter, entry.name())
+    if let [letter, ..] = entry.name()
         && is_numbered(entry.name())
-        && target_in(entry.leads()) == name
+    {
+        links.insert((*letter, target_in(entry.leads())))?;
+    }
+    Ok(())
 }
 
-/// The folder holds such a link.
-fn has_link_of<A: Allocator>(letter: u8, name: &[u8], folder: &Folder<A>) -> bool
-    ensures { result ≡ list_any (is_link_of letter name.now) folder.now.held }
+/// The numbered links of these entries.
+fn links_in<A: Allocator + Copy>(
+    alloc: A,
+    entries: &[FolderEntry<A>],
+) -> Result<Links<'_, A>, Memory>
+    ensures { IfOk result (λ links. HasLinks links entries.now) }
 {
-    let held = folder.held();
-    held.iter().any(|entry| is_link_of(letter, name, entry))
+    let mut links = IndexSet::new(alloc);
+    for entry in entries {
+        add_link(&mut links, entry)?;
+    }
+    Ok(links)
 }
 
-/// The runlevels of the folders that hold such a link.
+/// A link of the letter to the script of a name is there.
+fn has_link<A: Allocator>(links: &Links<'_, A>, letter: u8, name: &[u8]) -> bool
+    ensures { result ≡ has_link letter name.now links.now }
+{
+    links.contains(&(letter, name))
+}
+
+/// The numbered links of each folder.
+fn all_links<A: Allocator + Copy>(
+    alloc: A,
+    folders: &[Folder<A>],
+) -> Result<Vec<LevelLinks<'_, A>, A>, Memory>
+    ensures { IfOk result (λ links. AreLinksOf links.items folders.now) }
+{
+    let mut found = Vec::new(alloc);
+    for folder in folders {
+        found.push((folder.level(), links_in(alloc, folder.held())?))?;
+    }
+    Ok(found)
+}
+
+/// The runlevels where there is such a link.
 fn levels_in<A: Allocator>(
     alloc: A,
     letter: u8,
     name: &[u8],
-    folders: &[Folder<A>],
+    links: &[LevelLinks<'_, A>],
 ) -> Result<Vec<Level, A>, Memory>
-    ensures { IfOk result (λ levels. levels.items ≡ levels_in letter name.now folders.now) }
+    ensures { IfOk result (λ levels. levels.items ≡ levels_by letter name.now links.now) }
 {
     let mut levels = Vec::new(alloc);
-    for folder in folders {
-        if has_link_of(letter, name, folder) {
-            levels.push(folder.level())?;
+    for (level, links) in links {
+        if has_link(links, letter, name) {
+            levels.push(*level)?;
         }
     }
     Ok(levels)
@@ -74,13 +108,14 @@ fn is_nowhere(starts: &[Level], stops: &[Level]) -> bool
 /// The script with the runlevels of its links, where it has some.
 fn kept_script<A: Allocator + Copy>(
     alloc: A,
-    folders: &[Folder<A>],
+    links: &[LevelLinks<'_, A>],
     script: &Planned<A>,
 ) -> Result<Planned<A>, Memory>
-    ensures { IfOk result (λ kept. kept ≡ kept_script folders.now script.now) }
+    ensures { IfOk result (λ kept. (folders : List FolderText) → AreLinksOf links.now folders
+        → kept ≡ kept_script folders script.now) }
 {
-    let starts = levels_in(alloc, b'S', script.name.as_bytes(), folders)?;
-    let stops = levels_in(alloc, b'K', script.name.as_bytes(), folders)?;
+    let starts = levels_in(alloc, b'S', script.name.as_bytes(), links)?;
+    let stops = levels_in(alloc, b'K', script.name.as_bytes(), links)?;
     if is_nowhere(starts.as_slice(), stops.as_slice()) {
         return Ok(script.copy(alloc)?);
     }
@@ -99,18 +134,44 @@ impl<A: Allocator + Copy> Plan<A> {
     pub fn kept(&self, alloc: A, folders: &[Folder<A>]) -> Result<Plan<A>, Memory>
         ensures { IfOk result (λ plan. plan ≡ kept_plan folders.now self.now) }
     {
+        let links = all_links(alloc, folders)?;
         let mut scripts = Vec::new(alloc);
         for script in &self.scripts {
-            scripts.push(kept_script(alloc, folders, script)?)?;
+            scripts.push(kept_script(alloc, links.as_slice(), script)?)?;
         }
         Ok(Plan { scripts })
     }
 }
 
-/// The entry leads to an init script that is none of these entries.
-pub fn is_gone<A: Allocator>(scripts: &[FolderEntry<A>], entry: &FolderEntry<A>) -> bool
-    ensures { result ≡ is_gone scripts.now entry.now }
+/// The entries that lead to an init script that has none of the names.
+fn gone_among<'a, A: Allocator>(
+    alloc: A,
+    names: &Names<'_, A>,
+    entries: &'a [FolderEntry<A>],
+) -> Result<Vec<&'a FolderEntry<A>, A>, Memory>
+    ensures { IfOk result (λ found.
+        map (λ e. e.now) found.items ≡ filter (is_gone_by names.now) entries.now) }
 {
-    let name = target_in(entry.leads());
-    is_name(name) && !has_name(scripts, name)
+    let mut found = Vec::new(alloc);
+    for entry in entries {
+        let name = target_in(entry.leads());
+        if is_name(name) && !is_among(names, name) {
+            found.push(entry)?;
+        }
+    }
+    Ok(found)
+}
+
+/// The entries of a folder that lead to an init script that is none of these.
+pub fn gone<'a, A: Allocator + Copy>(
+    alloc: A,
+    scripts: &[FolderEntry<A>],
+    folder: &'a Folder<A>,
+) -> Result<Vec<&'a FolderEntry<A>, A>, Memory>
+    ensures { IfOk result (λ found.
+        map (λ e. e.now) found.items ≡ filter (is_gone scripts.now) folder.now.held) }
+{
+    let names = names_in(alloc, scripts)?;
+    let found = gone_among(alloc, &names, folder.held())?;
+    Ok(found)
 }

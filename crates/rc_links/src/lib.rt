@@ -14,14 +14,15 @@ mod planning;
 mod plans;
 mod printing;
 mod scripts;
+mod sets;
 mod tables;
 
 pub use all_last::{add_all, has_name};
-pub use changing::{changes, is_taken};
+pub use changing::{changes, taken};
 pub use faults::PlanFault;
 pub use folder_entries::{FolderEntry, is_same};
 pub use folders::{Folder, LinkAction, LinkChange};
-pub use kept::is_gone;
+pub use kept::gone;
 pub use names::{is_name, is_name_byte};
 pub use planning::plan;
 pub use plans::Plan;

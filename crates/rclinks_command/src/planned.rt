@@ -3,7 +3,6 @@
 ghost use Rattle.std.specs.Prelude.{◌≡◌, ◌++◌, true, flat_map, IfOk, OnOk};
 ghost use Rattle.std.specs.List.{list_any};
 ghost use Rattle.rc_links.specs.Changes.{targets_of, is_taken};
-ghost use Rattle.rc_links.specs.Kept.{is_gone};
 ghost use Rattle.rclinks_command.specs.Refusals.{refusal_status};
 ghost use Rattle.rclinks_command.specs.Writing.{AreFolders, AreTargets, InFolders, IsFolder, all_levels, gone_at, has_taken, link_entry, planned_at, target_of, targets_in};
 
@@ -11,7 +10,7 @@ use crate::folders::LinkFolders;
 use crate::report::Refusal;
 use init_words::{Level, Memory};
 use program_io::Reason;
-use rc_links::{Folder, FolderEntry, LEVELS, Plan, is_gone, is_taken, linked_name};
+use rc_links::{Folder, FolderEntry, LEVELS, Plan, gone, linked_name, taken};
 use std::alloc::Global;
 use std::io;
 use std::io::Write;
@@ -163,10 +162,8 @@ fn add_gone_at(
     ensures { OnOk result (targets_of targets.new.items
         ≡ targets_of targets.old.items ++ gone_at scripts.now folder.now) }
 {
-    for entry in folder.held() {
-        if is_gone(scripts, entry) {
-            targets.push(Vec::from_slice(alloc, entry.leads())?)?;
-        }
+    for entry in &gone(alloc, scripts, folder)? {
+        targets.push(Vec::from_slice(alloc, entry.leads())?)?;
     }
     Ok(())
 }
@@ -214,39 +211,43 @@ pub(crate) fn targets_for<F: LinkFolders>(
 }
 
 /// Tells the entries of a folder by which a name of the plan is taken, and whether there is one.
-fn tell_taken_at(dir: &str, targets: &[Vec<u8>], folder: &Folder, report: &mut Vec<u8>) -> bool
-    ensures { result ≡ list_any (is_taken (targets_of targets.now) folder.now.planned)
-        folder.now.held }
+fn tell_taken_at(
+    alloc: Global,
+    dir: &str,
+    targets: &[Vec<u8>],
+    folder: &Folder,
+    report: &mut Vec<u8>,
+) -> Result<bool, Memory>
+    ensures { IfOk result (λ found. found
+        ≡ list_any (is_taken (targets_of targets.now) folder.now.planned) folder.now.held) }
 {
-    let mut found = false;
-    for entry in folder.held() {
-        if is_taken(targets, folder.planned(), entry) {
-            let code = char::from(folder.level().code());
-            let name = std::str::from_utf8(entry.name()).unwrap_or("?");
-            let _ = writeln!(
-                report,
-                "rclinks: {dir}/rc{code}.d/{name}: it is no link to a planned script, and the plan needs the name: move it away; nothing was changed"
-            );
-            found = true;
-        }
+    let found = taken(alloc, targets, folder)?;
+    for entry in &found {
+        let code = char::from(folder.level().code());
+        let name = std::str::from_utf8(entry.name()).unwrap_or("?");
+        let _ = writeln!(
+            report,
+            "rclinks: {dir}/rc{code}.d/{name}: it is no link to a planned script, and the plan needs the name: move it away; nothing was changed"
+        );
     }
-    found
+    Ok(!found.is_empty())
 }
 
 /// Tells the entries by which a name of the plan is taken, and whether there is one.
 pub(crate) fn tell_taken(
+    alloc: Global,
     dir: &str,
     targets: &[Vec<u8>],
     folders: &[Folder],
     report: &mut Vec<u8>,
-) -> bool
-    ensures { result ≡ has_taken (targets_of targets.now) folders.now }
+) -> Result<bool, Memory>
+    ensures { IfOk result (λ found. found ≡ has_taken (targets_of targets.now) folders.now) }
 {
     let mut found = false;
     for folder in folders {
-        if tell_taken_at(dir, targets, folder, report) {
+        if tell_taken_at(alloc, dir, targets, folder, report)? {
             found = true;
         }
     }
-    found
+    Ok(found)
 }

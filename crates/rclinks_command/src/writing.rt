@@ -124,7 +124,7 @@ pub(crate) fn changes_for<F: LinkFolders>(
     let plan = kept_in(folders, alloc, dir, line.keeps, plan)?;
     let read = folders_in(folders, alloc, dir, &plan)?;
     let targets = targets_for(folders, alloc, dir, line.prunes, &plan, read.as_slice())?;
-    if tell_taken(dir, targets.as_slice(), read.as_slice(), report) {
+    if tell_taken(alloc, dir, targets.as_slice(), read.as_slice(), report)? {
         return Ok(None);
     }
     Ok(Some(changes(alloc, targets.as_slice(), read.as_slice())?))

@@ -1,6 +1,6 @@
-use Rattle.rc_links.proofs.Words.{◌≡◌, ◌++◌, drop, levels_in}
+use Rattle.rc_links.proofs.Words.{◌≡◌, ◌++◌, drop, levels_by}
 use Rattle.rc_links.proofs.kept.levels_in.Given as goal
 
-abbrev pub invariant-loop-folder : goal.invariant-loop-folder
-invariant-loop-folder g l =
-    l.levels.items ++ levels_in l.letter l.name (drop l.folder-index l.folders) ≡ levels_in l.letter l.name l.folders
+abbrev pub invariant-loop-level : goal.invariant-loop-level
+invariant-loop-level g l =
+    l.levels.items ++ levels_by l.letter l.name (drop l.level-index l.links) ≡ levels_by l.letter l.name l.links
