@@ -1,6 +1,7 @@
 -- The words of the proofs of this crate.
 pub use Rattle.std.proofs.Common.{◌≡◌, refl, true, ◌≢◌, inl, inr, ℕ, suc, ◌+◌, ◌<◌, Bool, false, ◌&&◌, sym, List, []}
 pub use Rattle.std.proofs.Common.{◌∷◌, length, drop, get_or, arith, ◌⊎◌, ◌++◌, slice_get, unwrap_or, None, Some, ap}
+pub use Rattle.std.proofs.Common.{◌==◌}
 pub use Rattle.std.proofs.Common.{subst, ◌∙◌, append_assoc, map, string_bytes, take, not, Option, codes, ◌||◌, cond}
 pub use Rattle.std.proofs.Common.{flat_map, option_map, IfSome, rules, Result, Ok, Err, IfErr, IfOk}
 pub use Rattle.clap.specs.Words.{is_simple_and_free, found_of, rows_of}

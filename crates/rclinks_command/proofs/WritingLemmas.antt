@@ -3,6 +3,9 @@ use Rattle.rclinks_command.proofs.Words.{◌≡◌, ℕ, Bool, true, false, ◌+
 use Rattle.rclinks_command.proofs.Words.{take, map, Some, sym, ap, ◌∙◌, append_assoc, cut_at, ChangeText, PlannedText}
 use Rattle.rclinks_command.proofs.Words.{Becomes, KnownFolders, KnownScripts, changed_by, changed_in, InFolders}
 use Rattle.rclinks_command.proofs.Words.{IsWritten, Wants}
+use Rattle.rclinks_command.proofs.Words.{◌==◌, filter, list_any, not, refl}
+use Rattle.std.proofs.Math.Dec.{eqb-suc-zero}
+use Rattle.std.proofs.lemmas.List.{length-map}
 use Rattle.rclinks_command.proofs.SettledLemmas.{changed_by-append, settles}
 
 -- what one more of a list gives by two steps, and those after it
@@ -14,6 +17,21 @@ mapped-next f h all position x z old new whole within at is added so_far =
     let rest = map f (map h (drop (position + 1) all)) in
     ap (λ ys. ys ++ rest) added ∙ append_assoc old (z ∷ []) rest ∙ ap (λ y. old ++ y ∷ rest) is
     ∙ ap (λ xs. old ++ map f (map h xs)) (sym (cut_at all position x within at).0) ∙ so_far
+
+any_kept : {Y : Type 0} (p : Y → Bool) (ys : List Y) → not (length (filter p ys) == 0) ≡ list_any p ys
+any_kept p [] = refl
+any_kept p (y ∷ ys) = by (p y) refl (any_kept p ys)
+  where
+    by : (b : Bool) → p y ≡ b → not (length (filter p ys) == 0) ≡ list_any p ys
+        → not (length (filter p (y ∷ ys)) == 0) ≡ list_any p (y ∷ ys)
+    by true at rest = rw at (ap not (eqb-suc-zero (length (filter p ys))))
+    by false at rest = rw at rest
+
+-- those that pass a test are there, where one passes it
+pub any_of_those : {X Y : Type 0} (p : Y → Bool) (f : X → Y) (xs : List X) (ys : List Y)
+    → map f xs ≡ filter p ys → not (length xs == 0) ≡ list_any p ys
+any_of_those p f xs ys are =
+    ap (λ n. not (n == 0)) (sym (length-map xs f) ∙ ap length are) ∙ any_kept p ys
 
 -- one more change was made
 pub changed-next : (old before after : KnownFolders) (dir : List ℕ) (changes : List ChangeText) (position : ℕ)

@@ -222,7 +222,7 @@ fn tell_taken_at(
         ≡ list_any (is_taken (targets_of targets.now) folder.now.planned) folder.now.held) }
 {
     let found = taken(alloc, targets, folder)?;
-    for entry in &found {
+    for entry in found.as_slice() {
         let code = char::from(folder.level().code());
         let name = std::str::from_utf8(entry.name()).unwrap_or("?");
         let _ = writeln!(
@@ -230,7 +230,7 @@ fn tell_taken_at(
             "rclinks: {dir}/rc{code}.d/{name}: it is no link to a planned script, and the plan needs the name: move it away; nothing was changed"
         );
     }
-    Ok(!found.is_empty())
+    Ok(!found.as_slice().is_empty())
 }
 
 /// Tells the entries by which a name of the plan is taken, and whether there is one.

@@ -2,11 +2,12 @@ use Rattle.rclinks_command.proofs.Words.{◌≡◌, ◌∙◌, sym, subst, targe
 use Rattle.rclinks_command.proofs.WritingLemmas.{in_folders}
 use Rattle.rclinks_command.proofs.writing.changes_for.Goals as goal
 
-pub returns-then-tell_taken-clause-taken : goal.returns-then-tell_taken-clause-taken
-returns-then-tell_taken-clause-taken g c = λ _.
+pub returns-then-branch-clause-taken : goal.returns-then-branch-clause-taken
+returns-then-branch-clause-taken g c = λ _.
     let aimed = rw c.as_slice.ensures.value at c.in_ok-targets.ensures in
     let some =
-    sym (rw (c.as_slice-2.ensures.value, c.as_slice-3.ensures.value) at c.tell_taken.ensures) ∙ c.if-tell_taken.true in
+    sym (rw (c.as_slice-2.ensures.value, c.as_slice-3.ensures.value) at c.in_ok-tell_taken.ensures)
+    ∙ c.if-branch.true in
     in_folders c.args.line.now.keeps _ _ _ (λ plan. c.in_ok-plan.plan ≡ plan) _
     (λ plan is. subst (IsTaken (g.F.LinkFolders.held c.args.folders.now)
     (g.F.LinkFolders.scripts_in c.args.folders.now) c.args.line.now.prunes c.args.dir.now) is
@@ -23,7 +24,7 @@ returns-clause-wanted g c =
       are = c.in_ok-read.ensures;
       aimed = rw c.as_slice.ensures.value at c.in_ok-targets.ensures;
       free =
-          sym (rw (c.as_slice-2.ensures.value, c.as_slice-3.ensures.value) at c.tell_taken.ensures)
-          ∙ c.if-tell_taken.false;
+          sym (rw (c.as_slice-2.ensures.value, c.as_slice-3.ensures.value) at c.in_ok-tell_taken.ensures)
+          ∙ c.if-branch.false;
       whole = rw (c.as_slice-4.ensures.value, c.as_slice-5.ensures.value) at c.in_ok-changes.ensures.changes;
     })) c.in_ok-plan.ensures
