@@ -4,6 +4,7 @@ use Rattle.core_records.proofs.Words.{◌≤◌, ◌<◌, List, [], ◌∷◌, �
 use Rattle.core_records.proofs.Words.{count_by, false_from_ne_true, eqb-true, length-map, sum_by-cons, sum_by_push}
 use Rattle.core_records.proofs.Words.{count_by-le-length, values_of, lookup, remove_entry, IndexMap, IsUnique}
 use Rattle.core_records.proofs.Words.{index_map_len, same_id, Counts, RecordState, are_distinct, record_by_id, is_busy}
+use Rattle.core_records.proofs.Words.{is_record_of}
 use Rattle.core_records.proofs.Words.{changed, with_changed, is_stop_due, counts_of, plus, minus, IsWithin, AreSmall}
 use Rattle.std.proofs.Common.{is_some}
 use Rattle.core_records.proofs.Found.{Kept, IsOwn, distinct_in, found_in, others, rest_distinct, unchanged}
@@ -59,11 +60,21 @@ module _ (p : RecordState → Bool) where
   count_same change keeps [] = refl
   count_same change keeps (slot ∷ slots) = grind (arith, count-cons, count_same change keeps slots)
 
+  count_none : (change : RecordState → RecordState) → ((slot : RecordState) → p (change slot) ≡ false)
+      → (slots : List RecordState) → count_by p (map change slots) ≡ 0
+  count_none change none [] = refl
+  count_none change none (slot ∷ slots) = grind (arith, count-cons, count_none change none slots)
+
 -- a record that is found is counted
 pub found_within : (id : List ℕ) (slot : RecordState) (slots : List RecordState) → record_by_id id slots ≡ Some slot
     → IsWithin (counts_of (slot ∷ [])) (counts_of slots)
-found_within id slot slots is =
-    (at (λ s. is_some s.order), at (λ s. is_busy s.order), at (λ s. is_some s.stop), at (λ s. is_stop_due s.stop))
+found_within id slot slots is = (
+  at (λ s. is_some s.order),
+  at (λ s. is_busy s.order),
+  at (λ s. is_some s.stop),
+  at (λ s. is_stop_due s.stop),
+  at (λ s. s.missed),
+)
   where
     at : (p : RecordState → Bool) → count_by p (slot ∷ []) ≤ count_by p slots
     at p = omega (arith, count-one p slot, count_found p id slot slots is)
@@ -82,6 +93,7 @@ recounted id change slot slots distinct is = λ i. record {
   busy = at (λ s. is_busy s.order) i;
   excluded = at (λ s. is_some s.stop) i;
   due = at (λ s. is_stop_due s.stop) i;
+  missed = at (λ s. s.missed) i;
 }
   where
     at : (p : RecordState → Bool) → count_by p slots - count_by p (slot ∷ []) + count_by p (change slot ∷ [])
@@ -124,6 +136,7 @@ removed_counts test slot kept is = λ i. record {
   busy = at (λ s. is_busy s.order) i;
   excluded = at (λ s. is_some s.stop) i;
   due = at (λ s. is_stop_due s.stop) i;
+  missed = at (λ s. s.missed) i;
 }
   where
     at : (p : RecordState → Bool)
@@ -136,21 +149,43 @@ pub pushed_count : {S : Type 0} (n : IndexMap (List ℕ) RecordState S) (slot : 
     → more ≡ counts_of (slot ∷ []) → Recount (slots ++ slot ∷ []) (plus counts more)
 pushed_count n slot slots counts more few is old put = grind (arith, count-one, sum_by_push, length-map, counts_small)
 
--- a change that keeps orders and stops keeps the counts
+-- a change that keeps orders, stops and misses keeps the counts
 pub same_counts : (change : RecordState → RecordState) → ((slot : RecordState) → (change slot).order ≡ slot.order)
-    → ((slot : RecordState) → (change slot).stop ≡ slot.stop) → (slots : List RecordState)
+    → ((slot : RecordState) → (change slot).stop ≡ slot.stop)
+    → ((slot : RecordState) → (change slot).missed ≡ slot.missed) → (slots : List RecordState)
     → counts_of slots ≡ counts_of (map change slots)
-same_counts change orders stops slots = grind (arith, count_same)
+same_counts change orders stops misses slots = grind (arith, count_same)
 
-pub same_changed : (id : List ℕ) (change : RecordState → RecordState) → ((slot : RecordState)
-    → (change slot).order ≡ slot.order) → ((slot : RecordState) → (change slot).stop ≡ slot.stop)
-    → (slots : List RecordState) → counts_of slots ≡ counts_of (with_changed id change slots)
-same_changed id change orders stops slots = grind (arith, same_counts)
+-- a change that keeps orders and stops, after which none is missed
+pub unmissed_counts : (change : RecordState → RecordState)
+    → ((slot : RecordState) → (change slot).order ≡ slot.order)
+    → ((slot : RecordState) → (change slot).stop ≡ slot.stop)
+    → ((slot : RecordState) → (change slot).missed ≡ false) → (slots : List RecordState)
+    → record (counts_of slots) { missed = 0 } ≡ counts_of (map change slots)
+unmissed_counts change orders stops misses slots = grind (arith, count_same, count_none)
 
--- where the stops alone are counted anew
+pub same_changed : (id : List ℕ) (change : RecordState → RecordState)
+    → ((slot : RecordState) → (change slot).order ≡ slot.order)
+    → ((slot : RecordState) → (change slot).stop ≡ slot.stop)
+    → ((slot : RecordState) → (change slot).missed ≡ slot.missed) → (slots : List RecordState)
+    → counts_of slots ≡ counts_of (with_changed id change slots)
+same_changed id change orders stops misses slots =
+    same_counts (changed id change) (keeps (λ s. s.order) orders) (keeps (λ s. s.stop) stops)
+    (keeps (λ s. s.missed) misses) slots
+  where
+    keeps : {X : Type 0} (f : RecordState → X) → ((slot : RecordState) → f (change slot) ≡ f slot)
+        → (slot : RecordState) → f (changed id change slot) ≡ f slot
+    keeps f h slot = at (is_record_of id slot)
+      where
+        at : (b : Bool) → f (cond b (change slot) slot) ≡ f slot
+        at true = h slot
+        at false = refl
+
+-- where the stops and the misses alone are counted anew
 pub judged_counts : (change : RecordState → RecordState) → ((slot : RecordState) → (change slot).order ≡ slot.order)
-    → (slots : List RecordState) (counts : Counts) (excluded due : ℕ) → counts ≡ counts_of slots
+    → (slots : List RecordState) (counts : Counts) (excluded due missed : ℕ) → counts ≡ counts_of slots
     → excluded ≡ count_by (λ (s : RecordState). is_some s.stop) (map change slots)
     → due ≡ count_by (λ (s : RecordState). is_stop_due s.stop) (map change slots)
-    → record counts { excluded = excluded; due = due } ≡ counts_of (map change slots)
-judged_counts change orders slots counts excluded due is stops dues = grind (arith, count_same)
+    → missed ≡ count_by (λ (s : RecordState). s.missed) (map change slots)
+    → record counts { excluded = excluded; due = due; missed = missed } ≡ counts_of (map change slots)
+judged_counts change orders slots counts excluded due missed is stops dues misses = grind (arith, count_same)

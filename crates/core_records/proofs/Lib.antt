@@ -7,6 +7,7 @@ pub mod Indexes
 pub mod Keys
 pub mod Ordered
 pub mod Rebuilt
+pub mod Rounds
 pub mod Sorted
 pub mod Timely
 pub mod Words

@@ -3,7 +3,7 @@ use Rattle.core_records.proofs.Words.{◌≡◌, refl, Bool, true, false, not, �
 use Rattle.core_records.proofs.Words.{length, nat_lt, arith, list_any, insert, slice_index_or, and_parts, and_from}
 use Rattle.core_records.proofs.Words.{or_parts, or_from, not-true, not_from_false, ltb-true, ltb-false, lt-ltb, le-ltb}
 use Rattle.core_records.proofs.Words.{Keyed, are_sorted, sym, ◌∙◌, ap, subst, cond, ◌&&◌, ◌+◌, drop, slice_get, Option}
-use Rattle.core_records.proofs.Words.{Some, None, ◌==◌, get_or, add-one, length-drop, count_by, AllWithin, eqb-true}
+use Rattle.core_records.proofs.Words.{Some, ◌==◌, get_or, add-one, length-drop, count_by, AllWithin, eqb-true}
 use Rattle.core_records.proofs.Words.{eq-eqb, sum_by-cons, get_or-drop, same_id, same_id-self, is_at, IsFound}
 use Rattle.std.specs.List.Sorted.{IsPartitionedBy, IsPartitionPoint}
 use Rattle.std.proofs.lemmas.Bool.{both_ways}

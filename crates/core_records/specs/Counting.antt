@@ -1,4 +1,5 @@
--- How many records have an open order, an open start or signal, a child that is to be stopped, and one without signal.
+-- How many records have an open order, an open start or signal, a child that is to be stopped, such a child without
+-- signal, and a child that the last signal missed.
 use Rattle.std.specs.Prelude.{◌≤◌, ◌<◌, ◌+◌, ◌-◌, ◌^◌, List, is_some}
 use Rattle.std.specs.List.{count_by}
 use Rattle.core_records.specs.declared.counts.Counts.{Counts}
@@ -12,6 +13,7 @@ counts_of slots = record {
   busy = count_by (λ (slot : RecordState). is_busy slot.order) slots;
   excluded = count_by (λ (slot : RecordState). is_some slot.stop) slots;
   due = count_by (λ (slot : RecordState). is_stop_due slot.stop) slots;
+  missed = count_by (λ (slot : RecordState). slot.missed) slots;
 }
 
 -- some more, and some fewer
@@ -21,6 +23,7 @@ plus counts more = record {
   busy = counts.busy + more.busy;
   excluded = counts.excluded + more.excluded;
   due = counts.due + more.due;
+  missed = counts.missed + more.missed;
 }
 
 abbrev pub minus : Counts → Counts → Counts
@@ -29,12 +32,14 @@ minus counts less = record {
   busy = counts.busy - less.busy;
   excluded = counts.excluded - less.excluded;
   due = counts.due - less.due;
+  missed = counts.missed - less.missed;
 }
 
 -- each of the ones is at most that of the others, and each fits a machine's word
 abbrev pub IsWithin : Counts → Counts → Type 0
 IsWithin less counts = (less.orders ≤ counts.orders) × (less.busy ≤ counts.busy)
-    × (less.excluded ≤ counts.excluded) × (less.due ≤ counts.due)
+    × (less.excluded ≤ counts.excluded) × (less.due ≤ counts.due) × (less.missed ≤ counts.missed)
 
 abbrev pub AreSmall : Counts → Type 0
-AreSmall counts = (counts.orders < 2 ^ 64) × (counts.busy < 2 ^ 64) × (counts.excluded < 2 ^ 64) × (counts.due < 2 ^ 64)
+AreSmall counts = (counts.orders < 2 ^ 64) × (counts.busy < 2 ^ 64) × (counts.excluded < 2 ^ 64)
+    × (counts.due < 2 ^ 64) × (counts.missed < 2 ^ 64)

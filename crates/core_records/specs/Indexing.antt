@@ -14,6 +14,7 @@ use Rattle.core_records.specs.declared.index.Keyed.{Keyed}
 use Rattle.core_records.specs.declared.index.Found.{Found}
 use Rattle.core_records.specs.declared.index.Found.TheVariants as found
 use Rattle.core_records.specs.State.{RecordState}
+use Rattle.core_records.specs.Changes.{after_begin_round}
 
 -- the number of the child, and the time of the SIGTERM to it, if that was its last signal
 abbrev pub child_of : RecordState → Option Keyed
@@ -45,6 +46,13 @@ pub record IsIndex {A : Type 0}
   pub sorted : are_sorted v.items ≡ true
   pub those : AreKeysOf key_of slots v.items
   pub room : length slots ≤ vec_capacity v
+
+-- an item of the list is that of the record's id, and the record after a round began, where that is so
+abbrev pub is_among : List Keyed → RecordState → Bool
+is_among cs slot = list_any (λ (c : Keyed). same_id c.id slot.id) cs
+
+abbrev pub begun_among : List Keyed → RecordState → RecordState
+begun_among cs slot = if is_among cs slot then after_begin_round slot else slot
 
 -- how many pass a test: 0 or 1
 abbrev pub passes : (Keyed → Bool) → Option Keyed → ℕ

@@ -19,6 +19,8 @@ pub(crate) struct Counts {
     pub(crate) excluded: usize,
     /// Those of them that got no signal yet.
     pub(crate) due: usize,
+    /// Those that the last signal missed.
+    pub(crate) missed: usize,
 }
 
 impl Counts {
@@ -31,6 +33,7 @@ impl Counts {
             busy: 0,
             excluded: 0,
             due: 0,
+            missed: 0,
         }
     }
 
@@ -43,6 +46,7 @@ impl Counts {
             busy: usize::from(slot.is_busy()),
             excluded: usize::from(slot.stop().is_some()),
             due: usize::from(slot.is_due()),
+            missed: usize::from(slot.missed()),
         }
     }
 
@@ -54,6 +58,7 @@ impl Counts {
         self.busy += more.busy;
         self.excluded += more.excluded;
         self.due += more.due;
+        self.missed += more.missed;
     }
 
     pub(crate) fn subtract(&mut self, less: Counts)
@@ -64,6 +69,7 @@ impl Counts {
         self.busy -= less.busy;
         self.excluded -= less.excluded;
         self.due -= less.due;
+        self.missed -= less.missed;
     }
 }
 
@@ -72,6 +78,13 @@ pub(crate) fn count_excluded(slots: &[Record]) -> usize
     ensures { result ≡ count_by (λ (slot : RecordState). is_some slot.stop) slots.now }
 {
     slots.iter().filter(|slot| slot.stop().is_some()).count()
+}
+
+/// How many children the last signal missed.
+pub(crate) fn count_missed(slots: &[Record]) -> usize
+    ensures { result ≡ count_by (λ (slot : RecordState). slot.missed) slots.now }
+{
+    slots.iter().filter(|slot| slot.missed()).count()
 }
 
 /// How many children that are to be stopped got no signal yet.

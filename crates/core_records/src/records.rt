@@ -1,10 +1,13 @@
 //! All records of init, in the order of the inittab.
 
 ghost use Rattle.std.specs.Prelude.{◌≡◌, ◌≤◌, ◌++◌, [], ◌∷◌, not, is_some, map, length, slice_get, option_copied, IfOk, IfSome, OnOk, OnErr, None, true};
+ghost use Rattle.indexmap.specs.IndexMap.{keys, values};
 ghost use Rattle.init_words.specs.declared.orders.OrderKind.{OrderKind};
 ghost use Rattle.respawn_limit.specs.declared.TheConstants.{CLOCK_LIMIT};
+ghost use Rattle.core_records.specs.Lists.{ids_of_records};
+ghost use Rattle.core_records.specs.Indexing.{begun_among};
 
-use crate::counts::{Counts, count_due, count_excluded};
+use crate::counts::{Counts, count_due, count_excluded, count_missed};
 use crate::index::{
     Found, Keyed, child_of, first_key, forget, index_termed, make_room, moves_child, moves_stop,
     note, put, termed_of, with_key,
@@ -359,10 +362,16 @@ impl<A: Allocator> Records<A> {
         );
     }
 
-    /// A round began: each child is to be looked at.
+    /// A round began: each child is to be looked at, and one that a signal missed may be sent it again.
     pub fn begin_round(&mut self)
         ensures { self.new ≡ map after_begin_round self.old }
     {
+        // A round is for the children alone, where no signal missed one: they are found by the index where they are
+        // few, and in record order, which costs less each, where they aren't.
+        if self.counts.missed == 0 && self.children.len() < self.records.len() / 8 {
+            begin_round_of(&mut self.records, self.children.as_slice());
+            return;
+        }
         self.records.retain(
             |_id: &Id, slot: &mut Record| -> bool
                 ensures { (result ≡ true) × (slot.new ≡ after_begin_round slot.old) }
@@ -371,6 +380,7 @@ impl<A: Allocator> Records<A> {
                 true
             },
         );
+        self.counts.missed = 0;
     }
 
     /// The children are judged by the table and the stage: those that they exclude are to be stopped, and no other.
@@ -389,6 +399,7 @@ impl<A: Allocator> Records<A> {
         let slots = self.records.values().as_slice();
         self.counts.excluded = count_excluded(slots);
         self.counts.due = count_due(slots);
+        self.counts.missed = count_missed(slots);
         index_termed(&mut self.termed, slots);
     }
 
@@ -413,5 +424,21 @@ impl<A: Allocator> Records<A> {
         put(&mut self.children, child);
         put(&mut self.termed, termed);
         Ok(())
+    }
+}
+
+/// A round began for the records of the items.
+fn begin_round_of<A: Allocator>(
+    records: &mut IndexMap<Id, Record, BuildHasherDefault<FoldHasher>, A>,
+    items: &[Keyed],
+)
+    requires { keys records.old ≡ ids_of_records (values records.old) }
+    ensures values { values records.new ≡ map (begun_among items.now) (values records.old) }
+    ensures own { keys records.new ≡ ids_of_records (values records.new) }
+{
+    for item in items {
+        if let Some(slot) = records.get_mut(&item.id) {
+            slot.note_begin_round();
+        }
     }
 }

@@ -13,7 +13,8 @@ invariant_of-self g c =
     (map_same_pairs _ after_enter _ (λ k v b w f t. search rules) _ _ c.retain.ensures.filtered) in (
       left.own,
       left.timely CLOCK_LIMIT (λ s kept. timely_enter CLOCK_LIMIT s kept) (rw c.self.view_is at c.self.invariant.1),
-      c.self.invariant.2 ∙ ap counts_of c.self.view_is ∙ same_counts after_enter (λ s. refl) (λ s. refl) c.args.self.now
+      c.self.invariant.2 ∙ ap counts_of c.self.view_is
+          ∙ same_counts after_enter (λ s. refl) (λ s. refl) (λ s. refl) c.args.self.now
           ∙ sym (ap counts_of left.values),
       same_index child_of after_enter (λ s. refl) c.self.inside.children c.self.view_is left.values c.self.invariant.3,
       same_index termed_of after_enter (λ s. refl) c.self.inside.termed c.self.view_is left.values c.self.invariant.4,

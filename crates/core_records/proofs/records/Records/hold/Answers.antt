@@ -20,7 +20,8 @@ invariant_of-self g c =
     (c.get_mut.follows.holds c.note_hold.new.self) in (
       left.own,
       left.timely CLOCK_LIMIT (λ s kept. kept) (rw c.self.view_is at c.self.invariant.1),
-      c.self.invariant.2 ∙ ap counts_of c.self.view_is ∙ same_changed c.args.id (after_hold c.args.now) (λ s. refl)
+      c.self.invariant.2 ∙ ap counts_of c.self.view_is
+          ∙ same_changed c.args.id (after_hold c.args.now) (λ s. refl) (λ s. refl)
           (λ s. refl) c.args.self.now ∙ sym (ap counts_of left.values),
       same_index_at child_of c.args.id (after_hold c.args.now)
           (λ s. refl) c.self.inside.children c.self.view_is left.values c.self.invariant.3,

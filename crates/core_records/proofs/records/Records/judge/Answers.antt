@@ -17,10 +17,12 @@ invariant_of-self g c =
       left.timely CLOCK_LIMIT (λ s kept. timely_judge CLOCK_LIMIT c.args.table.now c.args.stage s kept)
           (rw c.self.view_is at c.self.invariant.1),
       judged_counts (after_judge c.args.table.now c.args.stage) (λ s. order-after_judge c.args.table.now c.args.stage s)
-          c.args.self.now c.self.inside.counts _ _ (c.self.invariant.2 ∙ ap counts_of c.self.view_is)
+          c.args.self.now c.self.inside.counts _ _ _ (c.self.invariant.2 ∙ ap counts_of c.self.view_is)
           (c.count_excluded-self-inside.ensures ∙ ap (count_by (λ (s : RecordState). is_some s.stop))
           (c.as_slice-slots.ensures ∙ c.values.ensures.rest ∙ left.values))
           (c.count_due-self-inside.ensures ∙ ap (count_by (λ (s : RecordState). is_stop_due s.stop))
+          (c.as_slice-slots.ensures ∙ c.values.ensures.rest ∙ left.values))
+          (c.count_missed-self-inside.ensures ∙ ap (count_by (λ (s : RecordState). s.missed))
           (c.as_slice-slots.ensures ∙ c.values.ensures.rest ∙ left.values)) ∙ sym (ap counts_of left.values),
       same_index child_of (after_judge c.args.table.now c.args.stage) (λ s. child-after_judge c.args.table.now
           c.args.stage s) c.self.inside.children c.self.view_is left.values c.self.invariant.3,
