@@ -1,5 +1,5 @@
 //! What init keeps in mind, what it decides by it, and what each happening makes of it, as definitions; and the laws
-//! that tie them to the trace of a run (init(8)).
+//! that tie them to the trace of a run (init(8)). What keeps and decides so is in `core_steps`.
 //!
 //! A core fits a trace where what it keeps is what the trace says. Then the step that it decides on is the first that
 //! is due, and its children, corrected by the answers under way, are the children that the system has.

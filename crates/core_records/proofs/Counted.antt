@@ -9,7 +9,7 @@ use Rattle.core_records.proofs.Words.{changed, with_changed, is_stop_due, counts
 use Rattle.std.proofs.Common.{is_some}
 use Rattle.core_records.proofs.Found.{Kept, IsOwn, distinct_in, found_in, others, rest_distinct, unchanged}
 
--- there are none where none is found
+-- of any list: the count is 0 exactly where no value passes the test
 module _ {X : Type 0} (p : X → Bool) where
   pub none_counted : (xs : List X) → (count_by p xs == 0) ≡ not (list_any p xs)
   none_counted [] = refl
@@ -29,7 +29,7 @@ module _ {X : Type 0} (p : X → Bool) where
   pub some_counted : (xs : List X) → not (count_by p xs == 0) ≡ list_any p xs
   some_counted xs = grind (arith, none_counted)
 
--- the records of one kind
+-- the count of the records that pass a test, as whether an order is open: of a list with one more, or of one alone
 module _ (p : RecordState → Bool) where
   count-cons : (slot : RecordState) (slots : List RecordState)
       → count_by p (slot ∷ slots) ≡ cond (p slot) 1 0 + count_by p slots
@@ -38,11 +38,13 @@ module _ (p : RecordState → Bool) where
   count-one : (slot : RecordState) → count_by p (slot ∷ []) ≡ cond (p slot) 1 0
   count-one slot = count-cons slot [] ∙ omega arith
 
+  -- the record that an id has is counted
   count_found : (id : List ℕ) (slot : RecordState) (slots : List RecordState) → record_by_id id slots ≡ Some slot
       → cond (p slot) 1 0 ≤ count_by p slots
   count_found id slot [] is = absurd (cc)
   count_found id slot (first ∷ slots) is = grind (arith, count-cons, count_found id slot slots)
 
+  -- where the record of an id is changed, it is counted as it is then, and no more as it was
   count_changed : (id : List ℕ) (change : RecordState → RecordState) (slot : RecordState) (slots : List RecordState)
       → are_distinct slots ≡ true → record_by_id id slots ≡ Some slot
       → count_by p (with_changed id change slots) + cond (p slot) 1 0 ≡ count_by p slots + cond (p (change slot)) 1 0
@@ -50,22 +52,25 @@ module _ (p : RecordState → Bool) where
   count_changed id change slot (first ∷ slots) distinct is =
       grind (arith, rest_distinct, unchanged, others, count-cons, count_changed id change slot slots)
 
+  -- where a map's entry is taken out, its record is counted no more
   count_removed : (test : List ℕ → Bool) (slot : RecordState) (kept : Kept) → lookup test kept ≡ Some slot
       → count_by p (values_of (remove_entry test kept)) + cond (p slot) 1 0 ≡ count_by p (values_of kept)
   count_removed test slot [] is = absurd (cc)
   count_removed test slot (e ∷ kept) is = grind (arith, count-cons, count_removed test slot kept)
 
+  -- a change after which each record passes where it did before keeps the count
   count_same : (change : RecordState → RecordState) → ((slot : RecordState) → p (change slot) ≡ p slot)
       → (slots : List RecordState) → count_by p (map change slots) ≡ count_by p slots
   count_same change keeps [] = refl
   count_same change keeps (slot ∷ slots) = grind (arith, count-cons, count_same change keeps slots)
 
+  -- after a change by which none passes, the count is 0
   count_none : (change : RecordState → RecordState) → ((slot : RecordState) → p (change slot) ≡ false)
       → (slots : List RecordState) → count_by p (map change slots) ≡ 0
   count_none change none [] = refl
   count_none change none (slot ∷ slots) = grind (arith, count-cons, count_none change none slots)
 
--- a record that is found is counted
+-- each of the counts has the record that an id has: to take it off never goes below 0
 pub found_within : (id : List ℕ) (slot : RecordState) (slots : List RecordState) → record_by_id id slots ≡ Some slot
     → IsWithin (counts_of (slot ∷ [])) (counts_of slots)
 found_within id slot slots is = (
@@ -83,7 +88,7 @@ found_within id slot slots is = (
 pub counts_small : (slots : List RecordState) → length slots < 2 ^ 63 → AreSmall (counts_of slots)
 counts_small slots few = grind (arith, count_by-le-length)
 
--- the counts after the record of an id was changed, taken out, or added behind the others
+-- the counts after the record of an id was changed: less what it counted, and with what it counts
 recounted : (id : List ℕ) (change : RecordState → RecordState) (slot : RecordState) (slots : List RecordState)
     → are_distinct slots ≡ true → record_by_id id slots ≡ Some slot
     → plus (minus (counts_of slots) (counts_of (slot ∷ []))) (counts_of (change slot ∷ []))
@@ -106,11 +111,13 @@ recounted id change slot slots distinct is = λ i. record {
       count_changed p id change slot slots distinct is,
     )
 
--- the counts less those of the record that was found, and with those of the record that was left
+-- the counts are those of the records, and none overflows
 pub record Recount (slots : List RecordState) (counts : Counts) : Type 0 where
   pub exact : counts ≡ counts_of slots
   pub small : AreSmall counts
 
+-- `recounted`, as the code has it: of a map `m` with the records `slots`, of which `slot` was found and became `left`;
+-- `less` and `more` are what these count alone
 pub recount : {S : Type 0} (m : IndexMap (List ℕ) RecordState S) (id : List ℕ) (change : RecordState → RecordState)
     (slot left : RecordState) (slots : List RecordState) (counts less fewer more : Counts)
     → IsOwn m.entries → IsUnique same_id m → index_map_len m < 2 ^ 63 → values_of m.entries ≡ slots
@@ -129,6 +136,7 @@ recount m id change slot left slots counts less fewer more own unique few is fou
       small = subst AreSmall (sym exact) (counts_small (with_changed id change slots) (omega arith));
     }
 
+-- the counts less what the record of an id counts are those of the records without it
 pub removed_counts : (test : List ℕ → Bool) (slot : RecordState) (kept : Kept) → lookup test kept ≡ Some slot
     → minus (counts_of (values_of kept)) (counts_of (slot ∷ [])) ≡ counts_of (values_of (remove_entry test kept))
 removed_counts test slot kept is = λ i. record {
@@ -143,6 +151,7 @@ removed_counts test slot kept is = λ i. record {
         → count_by p (values_of kept) - count_by p (slot ∷ []) ≡ count_by p (values_of (remove_entry test kept))
     at p = omega (arith, count-one p slot, count_removed p test slot kept is)
 
+-- the counts with what one record more counts are those of the records with it behind them
 pub pushed_count : {S : Type 0} (n : IndexMap (List ℕ) RecordState S) (slot : RecordState) (slots : List RecordState)
     (counts more : Counts)
     → index_map_len n < 2 ^ 63 → values_of n.entries ≡ slots ++ slot ∷ [] → counts ≡ counts_of slots
@@ -156,7 +165,7 @@ pub same_counts : (change : RecordState → RecordState) → ((slot : RecordStat
     → counts_of slots ≡ counts_of (map change slots)
 same_counts change orders stops misses slots = grind (arith, count_same)
 
--- a change that keeps orders and stops, after which none is missed
+-- a change that keeps orders and stops, and after which no signal has missed, changes the count of misses alone
 pub unmissed_counts : (change : RecordState → RecordState)
     → ((slot : RecordState) → (change slot).order ≡ slot.order)
     → ((slot : RecordState) → (change slot).stop ≡ slot.stop)
@@ -164,6 +173,7 @@ pub unmissed_counts : (change : RecordState → RecordState)
     → record (counts_of slots) { missed = 0 } ≡ counts_of (map change slots)
 unmissed_counts change orders stops misses slots = grind (arith, count_same, count_none)
 
+-- so it does where it changes one record
 pub same_changed : (id : List ℕ) (change : RecordState → RecordState)
     → ((slot : RecordState) → (change slot).order ≡ slot.order)
     → ((slot : RecordState) → (change slot).stop ≡ slot.stop)
@@ -181,7 +191,7 @@ same_changed id change orders stops misses slots =
         at true = h slot
         at false = refl
 
--- where the stops and the misses alone are counted anew
+-- where a change keeps the orders, the stops and the misses alone are counted anew
 pub judged_counts : (change : RecordState → RecordState) → ((slot : RecordState) → (change slot).order ≡ slot.order)
     → (slots : List RecordState) (counts : Counts) (excluded due missed : ℕ) → counts ≡ counts_of slots
     → excluded ≡ count_by (λ (s : RecordState). is_some s.stop) (map change slots)

@@ -25,14 +25,14 @@ use std::time::Duration;
 
 /// What starts processes, waits for them and signals them, has a clock, and reads files.
 ///
-/// A contract sees of it the calls that it was asked, with what it answered. Whoever knows no more of it than this starts,
-/// awaits and signals processes by it alone. A clock and files may be had beside it: the runtime of `OsHost` has them, for
-/// pauses, the channel, the inittab's folder, logs and the text of the state.
+/// A contract sees of it the calls that it was asked, each with its answer. Code that is given a `System` and no
+/// `Processes` has no other way to start, await or signal a process. A clock and files may be had beside it: the runtime
+/// of `OsHost` has them, for pauses, the channel, the inittab's folder, logs and the text of the state.
 pub trait System {
     /// The calls with their answers, the newest first.
     ghost told: { Self → List SystemCall };
 
-    /// What it stands on.
+    /// What it hands its calls on to, as the runtime of a program.
     type Source: Drop;
 
     /// A process that it started.
@@ -88,7 +88,7 @@ pub trait System {
             ≡ send_group signal (number process.old) (is_ok result) ∷ told self.old }
         ensures same { number process.new ≡ number process.old };
 
-    /// The turn is over.
+    /// The turn is over: what was started for it alone, as the shell that sends signals, may end.
     fn end_turn(&mut self)
         ensures { told self.new ≡ told self.old };
 
@@ -120,6 +120,7 @@ pub struct OsSystem<R: Processes + Clock + Files + Drop> {
     rt: R,
     sender: TermSender<R::Started>,
     clock: SteadyClock,
+    /// The calls so far, for proofs alone.
     told: Noted<SystemCallList>,
 }
 
@@ -149,6 +150,7 @@ impl<R: Processes + Clock + Files + Drop> System for OsSystem<R> {
         &mut self,
         command: &mut Command<A>,
     ) -> io::Result<Process<R::Started>> {
+        // Noted as one that fails, until there is a number to note.
         self.told = noted::<_, Spawned>(&self.told, &*command);
         let child = command.spawn(&self.rt)?;
         let number = child.id();
@@ -195,6 +197,7 @@ impl<R: Processes + Clock + Files + Drop> System for OsSystem<R> {
     }
 
     fn end_turn(&mut self) {
+        // The status of the shell tells nothing: each signal was answered.
         let _ = self.sender.end();
     }
 

@@ -1,4 +1,5 @@
-//! The plan of what is left where faulty scripts are left out.
+//! The plan of what is left where faulty scripts are left out, one after the other: since that is asked for (`--skip`),
+//! or to tell all faults of scripts of which nothing is made (`--all`).
 
 ghost use Rattle.std.specs.Prelude.{◌≡◌, ◌<◌, ◌+◌, ◌++◌, [], IfOk, IfErr, OnOk, length, take, drop};
 ghost use Rattle.rc_links.specs.FaultTexts.{fault_text};
@@ -28,7 +29,7 @@ pub(crate) fn refusal_of(fault: &PlanFault) -> Refusal
     }
 }
 
-/// Tells a fault of scripts that have no plan, and who is at fault.
+/// Tells the fault of scripts of which none is left out, and who is at fault.
 pub(crate) fn add_first(
     alloc: Global,
     fault: &PlanFault,
@@ -45,8 +46,9 @@ pub(crate) fn add_first(
     add_why(&mut reading.report, "", why.as_str(), more.as_slice())
 }
 
-/// Tells a fault of scripts that have no plan, and who is at fault with whom: the script at the place. Of what names a
-/// script that is left out nothing is told but where that is asked for.
+/// Tells a fault of scripts that have no plan, and who is at fault with whom: the script at the place, which is left out
+/// next. Where nothing is made of the rest (`skips` is false), a name that is missing only since the script that provides
+/// it was left out is no fault to tell.
 fn tell_fault(
     alloc: Global,
     fault: &PlanFault,
@@ -72,7 +74,7 @@ fn tell_fault(
     Ok(())
 }
 
-/// Takes a script out, with its path, and keeps it among those that are left out.
+/// Takes the script at a place out, with its path, and keeps it among those that are left out.
 fn leave_out(reading: &mut Reading, position: usize) -> Result<(), Memory>
     requires { position < length reading.old.scripts.items }
     ensures { reading.new.scripts.items
@@ -87,7 +89,7 @@ fn leave_out(reading: &mut Reading, position: usize) -> Result<(), Memory>
 }
 
 /// Plans the scripts; where they have no plan, a script at fault is left out and told, and so on until the others have
-/// one. Where none is at fault they have none.
+/// one. Where none is at fault, the fault is told, and there is no plan.
 pub(crate) fn plan_rest(alloc: Global, skips: bool, reading: &mut Reading) -> Result<Plan, Refusal>
     ensures planned { IfOk result (IsPlan reading.new.scripts.items) }
     ensures refused { IfErr result (λ refusal. refusal_status refusal ≡ REFUSED
